@@ -1,7 +1,7 @@
 -- Where a rule ends, where a front ends, and the status numbers there. Each further match shares one character with
 -- the one before it.
-use Rattle.std.specs.Prelude.{◌≡◌, ℕ, ◌-◌, ◌≤◌, true, ◌⊎◌, ◌↔◌, Some, List, length, slice_get, slice_range, Contains}
-use Rattle.std.specs.List.Sorted.{IsStrictlyIncreasing}
+use Rattle.std.specs.Prelude.{◌≡◌, ℕ, ◌-◌, ◌≤◌, true, ◌⊎◌, ◌↔◌, Some, List, length, slice_get, slice_range}
+use Rattle.rbbi_model.specs.Lists.{Member, IsRising}
 use Rattle.rbbi_model.specs.Rules.{Rule, IsWordOf, IsFrontWordOf}
 
 -- the rule with this number, from 0, in the order of the file
@@ -44,5 +44,5 @@ pub record IsTagAt (rules : List Rule) (x : List ℕ) (s e tag : ℕ) : Type 0 w
 
 -- the status numbers of the rules that end at e from s, rising and without repeats, or 0 alone where there are none
 pub record AreTags (rules : List Rule) (x : List ℕ) (s e : ℕ) (tags : List ℕ) : Type 0 where
-  pub rising : IsStrictlyIncreasing tags
-  pub exactly : (tag : ℕ) → Contains tags tag ↔ (IsTagAt rules x s e tag ⊎ ((tag ≡ 0) × ((other : ℕ) → ¬ IsTagAt rules x s e other)))
+  pub rising : IsRising tags
+  pub exactly : (tag : ℕ) → Member tags tag ↔ (IsTagAt rules x s e tag ⊎ ((tag ≡ 0) × ((other : ℕ) → ¬ IsTagAt rules x s e other)))

@@ -1,8 +1,10 @@
 pub mod Words
 pub mod Ranges
+pub mod Lists
 pub mod Spelling
 pub mod Rules
 pub mod Chains
 pub mod Boundaries
 pub mod Scripts
 pub mod Lines
+pub mod Unchained
