@@ -1,0 +1,5 @@
+pub mod Slices
+pub mod Matching
+pub mod Merging
+pub mod Stepping
+pub mod MatchLoops

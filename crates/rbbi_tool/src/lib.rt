@@ -1,0 +1,5 @@
+//! The top call of `rbbi`.
+#![tactic(auto)]
+
+mod ends;
+mod matcher;
