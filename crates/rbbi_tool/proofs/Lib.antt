@@ -3,3 +3,4 @@ pub mod Matching
 pub mod Merging
 pub mod Stepping
 pub mod MatchLoops
+pub mod Longest

@@ -1,5 +1,6 @@
 //! The top call of `rbbi`.
 #![tactic(auto)]
 
+mod boundaries;
 mod ends;
 mod matcher;
