@@ -212,8 +212,7 @@ module _ (x : List ℕ) (rules : List Rule) (plain : (number : ℕ) (r : Rule) �
       let low = p.starts in
       let inside = p.ends in
       let long = length_slice x s e low inside in
-      let further : s < e = ⊎_elim (λ less. less) (λ back. absurd (p.word.0 (nil_from_length (slice_range x s e) (omega arith)))) (cases_lt s e) in
-      (
+      let further : s < e = ⊎_elim (λ less. less) (λ back. absurd (p.word.0 (nil_from_length (slice_range x s e) (omega arith)))) (cases_lt s e) in (
         further,
         record { number = number; rule = word.rule; is_rule = word.is_rule; piece = record { starts = low; ends = inside; word = word_is_front word.rule _ (plain number word.rule word.is_rule) p.word } },
       )
@@ -247,22 +246,22 @@ module _ (x : List ℕ) (rules : List Rule) (plain : (number : ℕ) (r : Rule) �
   next_is_longest s e inside longest =
       ⊎_elim
       (λ further.
-          let same : max e (s + 1) ≡ e = omega arith in
-          let some = longest.found further in
-          let found = match_is_end s e further some in
-          subst (λ k. IsNext rules x s (plain_boundary k)) (sym same) (inr (inl (record {
-            no_look_ahead = no_look_ahead s;
-            ends = (some.number, found);
-            greatest = λ k number ends. longest.greatest k (end_is_match s k number ends).1;
-            statuses = plain_tags s e;
-          }))))
+      let same : max e (s + 1) ≡ e = omega arith in
+      let some = longest.found further in
+      let found = match_is_end s e further some in
+      subst (λ k. IsNext rules x s (plain_boundary k)) (sym same) (inr (inl (record {
+        no_look_ahead = no_look_ahead s;
+        ends = (some.number, found);
+        greatest = λ k number ends. longest.greatest k (end_is_match s k number ends).1;
+        statuses = plain_tags s e;
+      }))))
       (λ back.
-          let same : max e (s + 1) ≡ s + 1 = omega arith in
-          subst (λ k. IsNext rules x s (plain_boundary k)) (sym same) (inr (inr (record {
-            no_end = λ k number ends. let m = end_is_match s k number ends in let high = longest.greatest k m.1 in let further = m.0 in absurd (omega arith);
-            at = refl;
-            statuses = refl;
-          }))))
+      let same : max e (s + 1) ≡ s + 1 = omega arith in
+      subst (λ k. IsNext rules x s (plain_boundary k)) (sym same) (inr (inr (record {
+        no_end = λ k number ends. let m = end_is_match s k number ends in let high = longest.greatest k m.1 in let further = m.0 in absurd (omega arith);
+        at = refl;
+        statuses = refl;
+      }))))
       (cases_lt s e)
 
 -- the boundaries so far and those that follow the last are those of the text

@@ -69,8 +69,8 @@ choosing_turn x whole starts ends more next t left so_far are rising both = reco
   rising = rising;
   all = λ e. (
     ⊎_elim
-    (λ here. ⊎_elim (λ before. (so_far.all e).0 (inl before)) (λ new. (so_far.all e).0 (inr ((match_choice x t left starts e).1 (inl ((are.exact e).0 new))))) ((both e).0 here))
-    (λ later. (so_far.all e).0 (inr ((match_choice x t left starts e).1 (inr later)))),
+        (λ here. ⊎_elim (λ before. (so_far.all e).0 (inl before)) (λ new. (so_far.all e).0 (inr ((match_choice x t left starts e).1 (inl ((are.exact e).0 new))))) ((both e).0 here))
+        (λ later. (so_far.all e).0 (inr ((match_choice x t left starts e).1 (inr later)))),
     λ ends'.
         ⊎_elim
         (λ before. inl ((both e).1 (inl before)))
@@ -80,11 +80,10 @@ choosing_turn x whole starts ends more next t left so_far are rising both = reco
 }
 
 pub choosing_all : (x : List ℕ) (whole : Tree) (starts ends : List ℕ) (left : List Tree) → left ≡ [] → Choosing x whole starts ends left → (e : ℕ) → Member ends e ↔ MatchEnds x whole starts e
-choosing_all x whole starts ends left none so_far e =
-    (
-      λ here. (so_far.all e).0 (inl here),
-      λ ends'. ⊎_elim (λ here. here) (λ rest. absurd (match_never x starts e (subst (λ ts. MatchEnds x (choice_of ts) starts e) none rest))) ((so_far.all e).1 ends'),
-    )
+choosing_all x whole starts ends left none so_far e = (
+  λ here. (so_far.all e).0 (inl here),
+  λ ends'. ⊎_elim (λ here. here) (λ rest. absurd (match_never x starts e (subst (λ ts. MatchEnds x (choice_of ts) starts e) none rest))) ((so_far.all e).1 ends'),
+)
 
 -- Matches of the items left that go on from the ends so far are those of the whole.
 pub record Sequencing (x : List ℕ) (whole : Tree) (starts ends : List ℕ) (left : List Tree) : Type 0 where
@@ -110,11 +109,10 @@ sequencing_turn x whole starts ends next t left so_far are rising = record {
 }
 
 pub sequencing_all : (x : List ℕ) (whole : Tree) (starts ends : List ℕ) (left : List Tree) → left ≡ [] → Sequencing x whole starts ends left → (e : ℕ) → Member ends e ↔ MatchEnds x whole starts e
-sequencing_all x whole starts ends left none so_far e =
-    (
-      λ here. (so_far.all e).0 (subst (λ ts. MatchEnds x (sequence_of ts) ends e) (sym none) (empty_match x ends e (so_far.inside e here) here)),
-      λ ends'. match_empty x ends e (subst (λ ts. MatchEnds x (sequence_of ts) ends e) none ((so_far.all e).1 ends')),
-    )
+sequencing_all x whole starts ends left none so_far e = (
+  λ here. (so_far.all e).0 (subst (λ ts. MatchEnds x (sequence_of ts) ends e) (sym none) (empty_match x ends e (so_far.inside e here) here)),
+  λ ends'. match_empty x ends e (subst (λ ts. MatchEnds x (sequence_of ts) ends e) none ((so_far.all e).1 ends')),
+)
 
 -- the first of the sequences left
 pub seqs_left : (items : List Seq) (i : ℕ) (s : Seq) → i < length items → s ≡ get_or items i s → seq_meanings (drop i items) ≡ seq_meaning (seq_tree s) ∷ seq_meanings (drop (i + 1) items)

@@ -46,8 +46,7 @@ match_then x t u starts e ends =
     let p = ends.piece in
     let cut = slice_cut x ends.s e p.word.0 p.word.1 p.starts p.ends p.word.4 in
     let high = cut.high in
-    let inside = p.ends in
-    (
+    let inside = p.ends in (
       cut.m,
       record { s = ends.s; begins = ends.begins; piece = record { starts = cut.low; ends = omega arith; word = subst (Spells t) cut.left p.word.2 } },
       record { starts = cut.high; ends = p.ends; word = subst (Spells u) cut.right p.word.3 },
@@ -69,31 +68,29 @@ then_match x t u starts m e ends rest =
 
 -- After the first part the matches of a sequence go on from where that part's matches end.
 pub match_sequence : (x : List ℕ) (part : Tree) (parts : List Tree) (starts middles : List ℕ) → ((m : ℕ) → Member middles m ↔ MatchEnds x part starts m) → (e : ℕ) → MatchEnds x (sequence_of (part ∷ parts)) starts e ↔ MatchEnds x (sequence_of parts) middles e
-match_sequence x part parts starts middles exact e =
-    (
-      λ ends.
-        let split = match_then x part (sequence_of parts) starts e (match_same x (sequence_of (part ∷ parts)) (Then part (sequence_of parts)) starts e (λ w. (spells_sequence part parts w).0) ends) in
-        record { s = split.0; begins = (exact split.0).1 split.1; piece = split.2 },
-      λ ends.
-        match_same x (Then part (sequence_of parts)) (sequence_of (part ∷ parts)) starts e (λ w. (spells_sequence part parts w).1) (then_match x part (sequence_of parts) starts ends.s e ((exact ends.s).0 ends.begins) ends.piece),
-    )
+match_sequence x part parts starts middles exact e = (
+  λ ends.
+      let split = match_then x part (sequence_of parts) starts e (match_same x (sequence_of (part ∷ parts)) (Then part (sequence_of parts)) starts e (λ w. (spells_sequence part parts w).0) ends) in
+      record { s = split.0; begins = (exact split.0).1 split.1; piece = split.2 },
+  λ ends.
+      match_same x (Then part (sequence_of parts)) (sequence_of (part ∷ parts)) starts e (λ w. (spells_sequence part parts w).1) (then_match x part (sequence_of parts) starts ends.s e ((exact ends.s).0 ends.begins) ends.piece),
+)
 
 -- a match of a choice is a match of its first part or of the others
 pub match_choice : (x : List ℕ) (part : Tree) (parts : List Tree) (starts : List ℕ) (e : ℕ) → MatchEnds x (choice_of (part ∷ parts)) starts e ↔ (MatchEnds x part starts e ⊎ MatchEnds x (choice_of parts) starts e)
-match_choice x part parts starts e =
-    (
-      λ ends.
-        let either = (spells_choice part parts _).0 ends.piece.word in
-        let low = ends.piece.starts in
-        let high = ends.piece.ends in
-        ⊎_elim
-        (λ word. inl (record { s = ends.s; begins = ends.begins; piece = record { starts = low; ends = high; word = word } }))
-        (λ word. inr (record { s = ends.s; begins = ends.begins; piece = record { starts = low; ends = high; word = word } }))
-        either,
+match_choice x part parts starts e = (
+  λ ends.
+      let either = (spells_choice part parts _).0 ends.piece.word in
+      let low = ends.piece.starts in
+      let high = ends.piece.ends in
       ⊎_elim
+      (λ word. inl (record { s = ends.s; begins = ends.begins; piece = record { starts = low; ends = high; word = word } }))
+      (λ word. inr (record { s = ends.s; begins = ends.begins; piece = record { starts = low; ends = high; word = word } }))
+      either,
+  ⊎_elim
       (match_same x part (choice_of (part ∷ parts)) starts e (λ w spelled. (spells_choice part parts w).1 (inl spelled)))
       (match_same x (choice_of parts) (choice_of (part ∷ parts)) starts e (λ w spelled. (spells_choice part parts w).1 (inr spelled))),
-    )
+)
 
 pub match_never : (x : List ℕ) (starts : List ℕ) (e : ℕ) → ¬ MatchEnds x Never starts e
 match_never x starts e ends = ends.piece.word

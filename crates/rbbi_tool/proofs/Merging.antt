@@ -8,8 +8,7 @@ use Rattle.rbbi_model.proofs.Rising.{rising_tail, less_than_later, not_less_than
 pub member_append : (ms ns : List ℕ) (k : ℕ) → Member (ms ++ ns) k ↔ (Member ms k ⊎ Member ns k)
 member_append [] ns k = (λ here. inr here, ⊎_elim (λ never. absurd never) (λ here. here))
 member_append (m ∷ ms) ns k =
-    let rest = member_append ms ns k in
-    (
+    let rest = member_append ms ns k in (
       ⊎_elim (λ is. inl (inl is)) (λ later. ⊎_elim (λ left. inl (inr left)) (λ right. inr right) (rest.0 later)),
       ⊎_elim (⊎_elim (λ is. inl is) (λ later. inr (rest.1 (inl later)))) (λ right. inr (rest.1 (inr right))),
     )
@@ -112,8 +111,7 @@ pub merges_rest : (left right all ls rs : List ℕ) → Merges left right all ls
 merges_rest left right all [] rs so_far none = record {
   rising = subst IsRising (sym (append_assoc all [] rs)) (rising_append all rs so_far.rising so_far.rises' so_far.below');
   members = λ k.
-      let here : Member (all ++ [] ++ rs) k ↔ (Member all k ⊎ Member rs k) = subst (λ w. Member w k ↔ (Member all k ⊎ Member rs k)) (sym (append_assoc all [] rs)) (member_append all rs k) in
-      (
+      let here : Member (all ++ [] ++ rs) k ↔ (Member all k ⊎ Member rs k) = subst (λ w. Member w k ↔ (Member all k ⊎ Member rs k)) (sym (append_assoc all [] rs)) (member_append all rs k) in (
         λ in_all. ⊎_elim (λ before. so_far.from k (inl before)) (λ rest. so_far.from k (inr (inr rest))) (here.0 in_all),
         λ either. here.1 (⊎_elim (λ before. inl before) (⊎_elim (λ never. absurd never) (λ rest. inr rest)) (so_far.into k either)),
       );
@@ -124,8 +122,7 @@ merges_rest left right all (l ∷ ls) rs so_far none =
     subst (IsMerged left right) (sym joined) (record {
       rising = rising_append all (l ∷ ls) so_far.rising so_far.rises so_far.below;
       members = λ k.
-          let here = member_append all (l ∷ ls) k in
-          (
+          let here = member_append all (l ∷ ls) k in (
             λ in_all. ⊎_elim (λ before. so_far.from k (inl before)) (λ rest. so_far.from k (inr (inl rest))) (here.0 in_all),
             λ either. here.1 (⊎_elim (λ before. inl before) (⊎_elim (λ rest. inr rest) (λ other. absurd (subst (λ w. Member w k) empty other))) (so_far.into k either)),
           );
@@ -142,28 +139,28 @@ merges_turn left right all all' i j i' j' n inside inside' so_far on on' is push
     let opened : Merges left right all (l ∷ drop (i + 1) left) (r ∷ drop (j + 1) right) = subst (λ w. Merges left right all w (r ∷ drop (j + 1) right)) next (subst (λ w. Merges left right all (drop i left) w) next' so_far) in
     ⊎_elim
     (λ low.
-        ⊎_elim
-        (λ high.
-            let same : l ≡ r = omega (arith, low.0, high.0) in
-            let n_is : n ≡ l = omega (arith, is, low.0) in
-            subst (λ k. Merges left right (all ++ n ∷ []) (drop k left) (drop j' right)) (sym low.1)
-            (subst (λ k. Merges left right (all ++ n ∷ []) (drop (i + 1) left) (drop k right)) (sym high.1)
-            (subst (λ k. Merges left right (all ++ k ∷ []) (drop (i + 1) left) (drop (j + 1) right)) (sym n_is)
-            (take_both left right all l r (drop (i + 1) left) (drop (j + 1) right) opened same))))
-        (λ stays.
-            let n_is : n ≡ l = omega (arith, is, low.0) in
-            subst (λ k. Merges left right (all ++ n ∷ []) (drop k left) (drop j' right)) (sym low.1)
-            (subst (λ k. Merges left right (all ++ n ∷ []) (drop (i + 1) left) (drop k right)) (sym stays.1)
-            (subst (λ k. Merges left right (all ++ k ∷ []) (drop (i + 1) left) (drop j right)) (sym n_is)
-            (subst (λ w. Merges left right (all ++ l ∷ []) (drop (i + 1) left) w) (sym next')
-            (take_left left right all l r (drop (i + 1) left) (drop (j + 1) right) opened stays.0)))))
-        on')
+    ⊎_elim
+    (λ high.
+    let same : l ≡ r = omega (arith, low.0, high.0) in
+    let n_is : n ≡ l = omega (arith, is, low.0) in
+    subst (λ k. Merges left right (all ++ n ∷ []) (drop k left) (drop j' right)) (sym low.1)
+    (subst (λ k. Merges left right (all ++ n ∷ []) (drop (i + 1) left) (drop k right)) (sym high.1)
+    (subst (λ k. Merges left right (all ++ k ∷ []) (drop (i + 1) left) (drop (j + 1) right)) (sym n_is)
+    (take_both left right all l r (drop (i + 1) left) (drop (j + 1) right) opened same))))
     (λ stays.
-        let n_is : n ≡ r = omega (arith, is, stays.0) in
-        let j_is : j' ≡ j + 1 = ⊎_elim (λ high. high.1) (λ low. absurd (omega (arith, low.0, stays.0))) on' in
-        subst (λ k. Merges left right (all ++ n ∷ []) (drop k left) (drop j' right)) (sym stays.1)
-        (subst (λ k. Merges left right (all ++ n ∷ []) (drop i left) (drop k right)) (sym j_is)
-        (subst (λ k. Merges left right (all ++ k ∷ []) (drop i left) (drop (j + 1) right)) (sym n_is)
-        (subst (λ w. Merges left right (all ++ r ∷ []) w (drop (j + 1) right)) (sym next)
-        (take_right left right all l r (drop (i + 1) left) (drop (j + 1) right) opened stays.0)))))
+    let n_is : n ≡ l = omega (arith, is, low.0) in
+    subst (λ k. Merges left right (all ++ n ∷ []) (drop k left) (drop j' right)) (sym low.1)
+    (subst (λ k. Merges left right (all ++ n ∷ []) (drop (i + 1) left) (drop k right)) (sym stays.1)
+    (subst (λ k. Merges left right (all ++ k ∷ []) (drop (i + 1) left) (drop j right)) (sym n_is)
+    (subst (λ w. Merges left right (all ++ l ∷ []) (drop (i + 1) left) w) (sym next')
+    (take_left left right all l r (drop (i + 1) left) (drop (j + 1) right) opened stays.0)))))
+    on')
+    (λ stays.
+    let n_is : n ≡ r = omega (arith, is, stays.0) in
+    let j_is : j' ≡ j + 1 = ⊎_elim (λ high. high.1) (λ low. absurd (omega (arith, low.0, stays.0))) on' in
+    subst (λ k. Merges left right (all ++ n ∷ []) (drop k left) (drop j' right)) (sym stays.1)
+    (subst (λ k. Merges left right (all ++ n ∷ []) (drop i left) (drop k right)) (sym j_is)
+    (subst (λ k. Merges left right (all ++ k ∷ []) (drop i left) (drop (j + 1) right)) (sym n_is)
+    (subst (λ w. Merges left right (all ++ r ∷ []) w (drop (j + 1) right)) (sym next)
+    (take_right left right all l r (drop (i + 1) left) (drop (j + 1) right) opened stays.0)))))
     on)

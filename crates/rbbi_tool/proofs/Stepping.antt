@@ -40,10 +40,10 @@ cases false = inr refl
 stepped_more : (c : ℕ) (x : List ℕ) (start : ℕ) (starts : List ℕ) (e : ℕ) → Member (stepped c x (start ∷ starts)) e ↔ (((stands c x start ≡ true) × (start + 1 ≡ e)) ⊎ Member (stepped c x starts) e)
 stepped_more c x start starts e =
     let go : (b : Bool) → Member (cond b ((start + 1) ∷ stepped c x starts) (stepped c x starts)) e ↔ (((b ≡ true) × (start + 1 ≡ e)) ⊎ Member (stepped c x starts) e) =
-        λ b. elim b as (λ b. Member (cond b ((start + 1) ∷ stepped c x starts) (stepped c x starts)) e ↔ (((b ≡ true) × (start + 1 ≡ e)) ⊎ Member (stepped c x starts) e)) [
-          true ↦ (⊎_elim (λ is. inl (refl, is)) (λ later. inr later), ⊎_elim (λ is. inl is.1) (λ later. inr later))
-        | false ↦ (λ later. inr later, ⊎_elim (λ is. absurd (cc)) (λ later. later))
-        ]
+    λ b. elim b as (λ b. Member (cond b ((start + 1) ∷ stepped c x starts) (stepped c x starts)) e ↔ (((b ≡ true) × (start + 1 ≡ e)) ⊎ Member (stepped c x starts) e)) [
+      | true ↦ (⊎_elim (λ is. inl (refl, is)) (λ later. inr later), ⊎_elim (λ is. inl is.1) (λ later. inr later))
+      | false ↦ (λ later. inr later, ⊎_elim (λ is. absurd (cc)) (λ later. later))
+    ]
     in
     go (stands c x start)
 
@@ -66,16 +66,15 @@ stepped_into c x (start ∷ starts) s here is =
 
 -- they are the ends of matches of the character
 pub stepped_exact : (c : ℕ) (x starts : List ℕ) (e : ℕ) → Member (stepped c x starts) e ↔ MatchEnds x (Leaf (only c)) starts e
-stepped_exact c x starts e =
-    (
-      λ here.
-        let found = stepped_from c x starts e here in
-        let there = stands_there c x found.0 found.2 in
-        subst (MatchEnds x (Leaf (only c)) starts) found.3 (character_match x c starts found.0 found.1 there.0 there.1),
-      λ ends.
-        let found = match_character x c starts e ends in
-        subst (Member (stepped c x starts)) (sym found.4) (stepped_into c x starts found.0 found.1 (there_stands c x found.0 found.2 found.3)),
-    )
+stepped_exact c x starts e = (
+  λ here.
+      let found = stepped_from c x starts e here in
+      let there = stands_there c x found.0 found.2 in
+      subst (MatchEnds x (Leaf (only c)) starts) found.3 (character_match x c starts found.0 found.1 there.0 there.1),
+  λ ends.
+      let found = match_character x c starts e ends in
+      subst (Member (stepped c x starts)) (sym found.4) (stepped_into c x starts found.0 found.1 (there_stands c x found.0 found.2 found.3)),
+)
 
 -- a number below all later ones may stand before them
 rising_front : (n : ℕ) (ns : List ℕ) → IsRising ns → ((k : ℕ) → Member ns k → n < k) → IsRising (n ∷ ns)
@@ -88,9 +87,9 @@ stepped_rising c x (start ∷ starts) rising =
     let rest = stepped_rising c x starts (rising_tail start starts rising) in
     let below : (k : ℕ) → Member (stepped c x starts) k → start + 1 < k = λ k here. let found = stepped_from c x starts k here in let less = less_than_later start starts found.0 rising found.1 in omega (arith, found.3) in
     let go : (b : Bool) → IsRising (cond b ((start + 1) ∷ stepped c x starts) (stepped c x starts)) =
-        λ b. elim b as (λ b. IsRising (cond b ((start + 1) ∷ stepped c x starts) (stepped c x starts))) [
-          true ↦ rising_front (start + 1) (stepped c x starts) rest below
-        | false ↦ rest
-        ]
+    λ b. elim b as (λ b. IsRising (cond b ((start + 1) ∷ stepped c x starts) (stepped c x starts))) [
+      | true ↦ rising_front (start + 1) (stepped c x starts) rest below
+      | false ↦ rest
+    ]
     in
     go (stands c x start)

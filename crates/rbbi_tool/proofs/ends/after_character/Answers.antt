@@ -17,6 +17,6 @@ returns-clause-rising g c =
 pub returns-clause-exact : goal.returns-clause-exact
 returns-clause-exact g c =
     λ e.
-        let all = all_stepped c.args.c (g.T.Chars.characters c.args.text.now) c.args.starts.now.items c.deref-start-items.result.now c.loop-start.ends.items c.loop-start.start-index (omega arith) c.loop-start.invariant c.deref-start-items.ensures.value in
-        let exact = stepped_exact c.args.c (g.T.Chars.characters c.args.text.now) c.args.starts.now.items e in
-        (λ here. exact.0 (subst (λ w. Member w e) all here), λ ends. subst (λ w. Member w e) (sym all) (exact.1 ends))
+    let all = all_stepped c.args.c (g.T.Chars.characters c.args.text.now) c.args.starts.now.items c.deref-start-items.result.now c.loop-start.ends.items c.loop-start.start-index (omega arith) c.loop-start.invariant c.deref-start-items.ensures.value in
+    let exact = stepped_exact c.args.c (g.T.Chars.characters c.args.text.now) c.args.starts.now.items e in
+    (λ here. exact.0 (subst (λ w. Member w e) all here), λ ends. subst (λ w. Member w e) (sym all) (exact.1 ends))
