@@ -47,8 +47,11 @@ fault_of OtherCharacter = Some BadChar
 abbrev pub TokenAt : List ℕ → State → ℕ → ℕ → TokenKind → Type 0
 TokenAt x state i j kind = (row : Row) × RowAt x state i row × Spells x row i j kind
 
+-- by this row the place spells no token, and this is the fault
+abbrev pub IsFaultBy : List ℕ → Row → ℕ → Fault → Type 0
+IsFaultBy x row i fault =
+    ((j : ℕ) (kind : TokenKind) → ¬ Spells x row i j kind) × (fault_of row ≡ Some fault)
+
 -- the first row that fits at the place spells no token, and this is its fault
 abbrev pub FaultAt : List ℕ → State → ℕ → Fault → Type 0
-FaultAt x state i fault =
-    (row : Row) × RowAt x state i row × ((j : ℕ) (kind : TokenKind) → ¬ Spells x row i j kind)
-    × (fault_of row ≡ Some fault)
+FaultAt x state i fault = (row : Row) × RowAt x state i row × IsFaultBy x row i fault

@@ -53,7 +53,10 @@ fn is_bare(c: char) -> bool
 fn is_reserved(c: char) -> bool
     ensures { result ≡ is_reserved c }
 {
-    matches!(c, '#' | '=' | '/' | '^' | '*' | '+' | '?' | '.' | '[' | '$' | '{' | '\'' | '\\')
+    matches!(
+        c,
+        '#' | '=' | '/' | '^' | '*' | '+' | '?' | '.' | '[' | '$' | '{' | '\'' | '\\'
+    )
 }
 
 /// The first row that fits at a character with another, or none, behind it.

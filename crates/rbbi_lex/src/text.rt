@@ -1,16 +1,23 @@
 //! The tokens of a whole text.
-ghost use Rattle.std.specs.Prelude.{◌≤◌, length, MatchResult, IfOk};
+ghost use Rattle.std.specs.Prelude.{◌≡◌, ◌≤◌, vec_len, length, MatchResult, IfOk};
 ghost use Rattle.std.specs.Str.{chars};
 ghost use Rattle.rbbi_lex.specs.Lexing.{AreTokens};
 ghost use Rattle.rbbi_lex.specs.Errors.{TellsFault};
 ghost use Rattle.rbbi_lex.specs.Places.{PlacesRise};
 
-use std::alloc::Global;
-
 use crate::error::LexErr;
 use crate::lexer::Lexer;
 use crate::state::State;
 use crate::token::Tokens;
+use std::alloc::{AllocError, Global};
+
+/// The characters of a text, which are at most as many as its bytes.
+fn characters_of(alloc: Global, text: &str) -> Result<Vec<char>, AllocError>
+    ensures characters { IfOk result (λ v. v.items ≡ chars text.now) }
+    ensures short { IfOk result (λ v. vec_len v ≤ length text.now) }
+{
+    text.chars().collect(alloc)
+}
 
 /// The tokens of a rule file, with their places in characters from 0 (ICU User Guide, "Break
 /// Rules"). The text has at most 100,663,296 bytes.
@@ -25,7 +32,7 @@ pub fn lex(alloc: Global, text: &str) -> Result<Tokens, LexErr>
 {
     let mut tokens = Tokens::new(alloc);
     let mut lexer = Lexer {
-        characters: text.chars().collect(alloc)?,
+        characters: characters_of(alloc, text)?,
         place: 0,
         state: State { groups: 0 },
     };
