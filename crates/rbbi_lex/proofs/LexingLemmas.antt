@@ -36,12 +36,12 @@ step_forward x state i j k kind s t =
     let skipped = Skipped-forward x state i j s in
     let read = TokenAt-forward x state j k kind t in omega arith
 
--- how the reading of a text ends
-data Ending : Type 0 where
+-- how the reading of a text ends: at its end, or at a fault
+pub data Ending : Type 0 where
   Finished : Ending
   Stopped : (fault : Fault) (place : ℕ) → Ending
 
-abbrev EndsAs : List ℕ → State → ℕ → Ending → Type 0
+abbrev pub EndsAs : List ℕ → State → ℕ → Ending → Type 0
 EndsAs x state i Finished = Skipped x state i (length x)
 EndsAs x state i (Stopped fault place) = Skipped x state i place × FaultAt x state place fault
 
@@ -99,8 +99,8 @@ pub fault_unique : (x : List ℕ) (f g : Fault) (i j : ℕ) → IsLexFault x f i
 fault_unique x f g i j a b =
     let same = (read_once x start 0 a.0 b.0 a.1 b.1 a.2 b.2 (Stopped f i) (Stopped g j) a.3 (a.4, a.5) b.3 (b.4, b.5)).1 in (cc, cc)
 
-pub tokens_or_fault : (x : List ℕ) (ts : List Token) (f : Fault) (i : ℕ) → AreTokens x ts → IsLexFault x f i → ⊥
-tokens_or_fault x ts f i a b =
+pub not_both : (x : List ℕ) (ts : List Token) (f : Fault) (i : ℕ) → AreTokens x ts → IsLexFault x f i → ⊥
+not_both x ts f i a b =
     let same = (read_once x start 0 ts b.0 a.0 b.1 a.1 b.2 Finished (Stopped f i) a.2 a.3 b.3 (b.4, b.5)).1 in cc
 
 -- the places of tokens rise

@@ -1,5 +1,5 @@
 -- At a place stands one token or one fault, within the text.
-use Rattle.std.proofs.Common.{◌≡◌, ℕ, ◌+◌, ◌<◌, List, length, refl, sym, ap, subst, ◌∙◌, arith, slice_get}
+use Rattle.std.proofs.Common.{◌≡◌, ℕ, ◌+◌, ◌<◌, ◌≤◌, List, length, refl, sym, ap, subst, ◌∙◌, arith, slice_get}
 use Rattle.std.proofs.lemmas.Option.{slice_get_within}
 use Rattle.std.specs.Prelude.{Option, Some, None}
 use Rattle.rbbi_lex.specs.declared.token.TokenKind.{TokenKind}
@@ -36,6 +36,15 @@ Spells-forward x GroupEnd i j kind p = omega arith
 Spells-forward x BareCharacter i j kind p = omega arith
 Spells-forward x OtherCharacter i j kind p = absurd p
 
+Spells-ends : (x : List ℕ) (row : Row) (i j : ℕ) (kind : TokenKind) → i < length x → Spells x row i j kind → j ≤ length x
+Spells-ends x LaterForm i j kind h p = absurd p
+Spells-ends x Semicolon i j kind h p = omega arith
+Spells-ends x VerticalBar i j kind h p = omega arith
+Spells-ends x GroupStart i j kind h p = omega arith
+Spells-ends x GroupEnd i j kind h p = omega arith
+Spells-ends x BareCharacter i j kind h p = omega arith
+Spells-ends x OtherCharacter i j kind h p = absurd p
+
 -- a token goes forward
 pub TokenAt-forward : (x : List ℕ) (state : State) (i j : ℕ) (kind : TokenKind) → TokenAt x state i j kind → i < j
 TokenAt-forward x state i j kind t = Spells-forward x t.0 i j kind t.2
@@ -43,6 +52,11 @@ TokenAt-forward x state i j kind t = Spells-forward x t.0 i j kind t.2
 -- a token stands within the text
 pub TokenAt-within : (x : List ℕ) (state : State) (i j : ℕ) (kind : TokenKind) → TokenAt x state i j kind → i < length x
 TokenAt-within x state i j kind t = slice_get_within x i t.1.0 t.1.1
+
+-- a token ends within the text
+pub TokenAt-ends : (x : List ℕ) (state : State) (i j : ℕ) (kind : TokenKind) → TokenAt x state i j kind → j ≤ length x
+TokenAt-ends x state i j kind t =
+    Spells-ends x t.0 i j kind (TokenAt-within x state i j kind t) t.2
 
 -- a fault stands within the text
 pub FaultAt-within : (x : List ℕ) (state : State) (i : ℕ) (fault : Fault) → FaultAt x state i fault → i < length x

@@ -10,10 +10,14 @@ mod laws;
 mod lexer;
 mod row;
 mod state;
+#[cfg(test)]
+mod tests;
 mod text;
 mod token;
 
 pub use error::LexErr;
-pub use laws::{faults_are_unique, tokens_are_unique, tokens_exclude_faults};
+pub use laws::{
+    faults_are_unique, places_rise, tokens_are_unique, tokens_exclude_faults, tokens_or_fault,
+};
 pub use text::lex;
 pub use token::{Token, TokenKind, Tokens};
