@@ -75,6 +75,7 @@ fn faults(rt: HostRuntime) -> Result<(), Fail> {
         assert!(rt; text.len() < 100);
         match lex(rt.alloc(), text) {
             Ok(_) => assert!(rt; false, "tokens in {text:?}"),
+            Err(LexErr::Memory) => return Err(LexErr::Memory.into()),
             Err(error) => {
                 assert_eq!(rt; error.label(), label, "in {text:?}");
                 assert_eq!(rt; error.place(), Some(place), "in {text:?}");
@@ -99,6 +100,7 @@ fn groups_are_counted(rt: HostRuntime) -> Result<(), Fail> {
     assert!(rt; text.len() == 98);
     match lex(rt.alloc(), text.as_str()) {
         Err(LexErr::Unbuilt(place)) => assert_eq!(rt; place, 97),
+        Err(LexErr::Memory) => return Err(LexErr::Memory.into()),
         _ => assert!(rt; false, "65 groups"),
     }
     Ok(())
