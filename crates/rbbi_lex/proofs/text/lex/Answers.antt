@@ -1,9 +1,7 @@
-use Rattle.std.proofs.Common.{◌≡◌, ℕ, List, length, refl, sym, subst, ◌∙◌, rules, arith, vec_len}
+use Rattle.std.proofs.Common.{◌≡◌, ℕ, List, length, refl, subst, ◌∙◌, arith, vec_len}
 use Rattle.std.proofs.lemmas.Result.{err_from_is_err_and}
 use Rattle.rbbi_lex.specs.Places.{PlacesRise}
 use Rattle.rbbi_lex.specs.Rows.{start}
-use Rattle.rbbi_lex.specs.Skips.{Skipped}
-use Rattle.rbbi_lex.specs.Lexing.{UsesUp, AreTokens}
 use Rattle.rbbi_lex.specs.Errors.{TellsFault}
 use Rattle.rbbi_lex.proofs.LexingLemmas.{UsesUp-push, StopsAt-tells, step_forward, UsesUp-rise}
 use Rattle.rbbi_lex.proofs.text.lex.Goals as goal

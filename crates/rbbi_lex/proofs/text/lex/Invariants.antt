@@ -1,4 +1,4 @@
-use Rattle.std.proofs.Common.{◌≡◌, ℕ, ◌-◌, vec_len}
+use Rattle.std.proofs.Common.{◌≡◌, ◌-◌, vec_len}
 use Rattle.std.specs.Str.{chars}
 use Rattle.rbbi_lex.specs.Rows.{start}
 use Rattle.rbbi_lex.specs.Lexing.{UsesUp}

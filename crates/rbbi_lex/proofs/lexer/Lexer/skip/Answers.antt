@@ -1,4 +1,4 @@
-use Rattle.std.proofs.Common.{◌≡◌, ◌+◌, refl, sym, ◌∙◌, arith}
+use Rattle.std.proofs.Common.{◌+◌, refl, sym, ◌∙◌, arith}
 use Rattle.std.proofs.lemmas.Option.{slice_get_read}
 use Rattle.rbbi_lex.proofs.SkipLemmas.{Skipped-more, Skipped-at_end, Skipped-at_other}
 use Rattle.rbbi_lex.proofs.lexer.Lexer.skip.Goals as goal
