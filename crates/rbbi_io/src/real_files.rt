@@ -1,0 +1,124 @@
+//! The files of the system: an edge that is trusted, a few lines over std's files.
+ghost use Rattle.std.specs.Prelude.{◌≡◌, ◌≤◌, length, IfOk};
+ghost use Rattle.rbbi_io.specs.Counts.{greatest_count};
+
+use crate::{Files, ReadErr, WriteErr};
+use rbbi_text::Raw;
+use std::alloc::Global;
+use std::fs::File;
+use std::io;
+use std::io::{ErrorKind, Read, Write};
+
+/// How many bytes are asked for at once, at most.
+const BLOCK: usize = 262_144;
+
+/// The files of the system. They do not tell what they hold, and keep one count for the failed reads
+/// of all names and one for the failed writes.
+#[derive(Drop)]
+pub struct RealFiles<'a, R> {
+    rt: &'a R,
+    failed_reads: u64,
+    failed_writes: u64,
+    ghost reads_fit: { failed_reads ≤ greatest_count },
+    ghost writes_fit: { failed_writes ≤ greatest_count },
+}
+
+impl<'a, R: std::rt::Files> RealFiles<'a, R> {
+    /// The files of this runtime, with no fault so far.
+    pub fn new(rt: &'a R) -> RealFiles<'a, R> {
+        RealFiles {
+            rt,
+            failed_reads: 0,
+            failed_writes: 0,
+        }
+    }
+}
+
+/// The bytes of a file. It takes at most one byte more than `limit`.
+fn read_file<R: std::rt::Files>(
+    alloc: Global,
+    rt: &R,
+    name: &str,
+    limit: u64,
+) -> Result<Vec<u8>, ReadErr>
+    ensures { IfOk result (λ bytes. length bytes.items ≤ limit) }
+{
+    let mut file = match File::open(rt, name) {
+        Ok(file) => file,
+        Err(fault) => return Err(refused_read(&fault)),
+    };
+    let mut block = vec![in alloc; 0u8; BLOCK]?;
+    let mut bytes = Vec::new(alloc);
+    for _ in 0..u64::MAX {
+        let left = limit - bytes.len() as u64;
+        let wanted = left.min(BLOCK as u64 - 1) as usize + 1;
+        match file.read(&mut block[..wanted]) {
+            Ok(0) => return Ok(bytes),
+            Ok(count) => {
+                if count as u64 > left {
+                    return Err(ReadErr::TooLong);
+                }
+                bytes.extend_from_slice(&block[..count])?;
+            }
+            Err(fault) => {
+                if fault.kind() != ErrorKind::Interrupted {
+                    return Err(refused_read(&fault));
+                }
+            }
+        }
+    }
+    Err(ReadErr::Failed)
+}
+
+/// Want of memory, or a fault.
+fn refused_read(fault: &io::Error) -> ReadErr {
+    if fault.kind() == ErrorKind::OutOfMemory {
+        ReadErr::Memory
+    } else {
+        ReadErr::Failed
+    }
+}
+
+/// Makes the file hold these bytes. Once it is open, whatever goes wrong is a fault, since the file may
+/// then hold anything.
+fn write_file<R: std::rt::Files>(rt: &R, name: &str, bytes: &[u8]) -> Result<(), WriteErr> {
+    let mut file = match File::create(rt, name) {
+        Ok(file) => file,
+        Err(fault) => {
+            if fault.kind() == ErrorKind::OutOfMemory {
+                return Err(WriteErr::Memory);
+            }
+            return Err(WriteErr::Failed);
+        }
+    };
+    match file.write_all(bytes) {
+        Ok(()) => Ok(()),
+        Err(_) => Err(WriteErr::Failed),
+    }
+}
+
+impl<'a, R: std::rt::Files> Files for RealFiles<'a, R> {
+    ghost use Rattle.std.specs.Prelude.{None};
+
+    ghost contents = { λ _. None };
+
+    ghost failed_reads = { λ files _. files.failed_reads };
+
+    ghost failed_writes = { λ files _. files.failed_writes };
+
+    fn read(&mut self, alloc: Global, name: &str, limit: u64) -> Result<Raw, ReadErr> {
+        let outcome = read_file(alloc, self.rt, name, limit);
+        if let Err(ReadErr::Failed) = &outcome {
+            self.failed_reads = self.failed_reads.saturating_add(1);
+        }
+        Ok(Raw::new(outcome?))
+    }
+
+    fn write(&mut self, name: &str, bytes: &[u8]) -> Result<(), WriteErr> {
+        let outcome = write_file(self.rt, name, bytes);
+        if let Err(WriteErr::Failed) = &outcome {
+            self.failed_writes = self.failed_writes.saturating_add(1);
+        }
+        outcome
+    }
+}
