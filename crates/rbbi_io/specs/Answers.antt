@@ -1,5 +1,5 @@
 -- What reads and writes of files answer, by cases on the answer.
-use Rattle.std.specs.Prelude.{◌≡◌, ◌≢◌, ◌<◌, ◌≤◌, ℕ, List, length, Option, Some, None, IfSome, IsSomeAnd, Result, Ok, Err}
+use Rattle.std.specs.Prelude.{◌≡◌, ◌≢◌, ◌<◌, ◌≤◌, ℕ, List, length, Option, IfSome, IsSomeAnd, Result, Ok, Err}
 use Rattle.rbbi_io.specs.declared.error.ReadErr.{ReadErr}
 use Rattle.rbbi_io.specs.declared.error.ReadErr.TheVariants as read
 use Rattle.rbbi_io.specs.declared.error.WriteErr.{WriteErr}

@@ -17,6 +17,10 @@ GoesOn before now = (before ≤ now) × (now ≤ greatest_count)
 abbrev pub one_more : ℕ → ℕ
 one_more count = min (count + 1) greatest_count
 
+-- a count that stops at the greatest number
+abbrev pub capped : ℕ → ℕ
+capped count = min count greatest_count
+
 -- each name's count goes on
 abbrev pub EachGoesOn : (List ℕ → ℕ) → (List ℕ → ℕ) → Type 0
 EachGoesOn before now = (name : List ℕ) → GoesOn (before name) (now name)

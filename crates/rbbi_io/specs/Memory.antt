@@ -1,5 +1,5 @@
 -- Files and sinks in memory.
-use Rattle.std.specs.Prelude.{◌≡◌, ◌≢◌, ◌<◌, ◌≤◌, ◌⊎◌, ◌++◌, ℕ, Bool, true, false, List, [], ◌∷◌, length, Option, Some, None, IfSome, Result, Ok, Err, bytes_eq, if◌then◌else◌, ◌&&◌, unwrap_or, count_by, Contains, slice_index_or}
+use Rattle.std.specs.Prelude.{◌≡◌, ◌≢◌, ◌<◌, ◌≤◌, ◌⊎◌, ◌++◌, ℕ, Bool, true, false, List, [], ◌∷◌, length, Option, Some, None, Result, Ok, Err, bytes_eq, if◌then◌else◌, ◌&&◌, unwrap_or, count_by, Contains, slice_index_or}
 use Rattle.rbbi_io.specs.Counts.{one_more}
 use Rattle.rbbi_io.specs.declared.mem_files.CallKind.{CallKind}
 use Rattle.rbbi_io.specs.declared.mem_files.CallKind.TheVariants.{Read, Write}

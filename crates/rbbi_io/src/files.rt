@@ -1,6 +1,6 @@
 //! Files by their names, read and written whole.
 ghost use Rattle.std.specs.Prelude.{◌≡◌, ◌≤◌, ℕ, List, Option, length, IfOk, IfSome, OnSome, IsErrOf};
-ghost use Rattle.rbbi_io.specs.Counts.{Rose, EachGoesOn, EachStays, OthersStay};
+ghost use Rattle.rbbi_io.specs.Counts.{greatest_count, Rose, EachGoesOn, EachStays, OthersStay};
 ghost use Rattle.rbbi_io.specs.Answers.{AnswersRead, LeavesWritten, WhereTold};
 
 use crate::{ReadErr, WriteErr};
@@ -52,4 +52,10 @@ pub trait Files {
         ensures reads { EachStays (failed_reads self.old) (failed_reads self.new) }
         ensures others { OnSome (contents self.old)
             (OthersStay name.now (failed_writes self.old) (failed_writes self.new)) };
+
+    /// No count of failed reads is past the greatest number.
+    ghost reads_fit: { (files : Self) (name : List ℕ) → failed_reads files name ≤ greatest_count };
+
+    /// No count of failed writes is past the greatest number.
+    ghost writes_fit: { (files : Self) (name : List ℕ) → failed_writes files name ≤ greatest_count };
 }

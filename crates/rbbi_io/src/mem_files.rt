@@ -1,7 +1,8 @@
 //! Files in memory, with calls that fail when they are told to.
-ghost use Rattle.std.specs.Prelude.{◌≡◌, ◌≤◌, ◌↔◌, ◌++◌, [], ◌∷◌, length, IsTrue, OnOk, OnErr, MatchOption, option_copied};
-ghost use Rattle.rbbi_io.specs.Counts.{greatest_count};
-ghost use Rattle.rbbi_io.specs.Memory.{file_of, with_file, called, IsAbsent, IsPlaceOf, IsToFail, ReadsMemory, WritesMemory};
+ghost use Rattle.std.specs.Prelude.{◌≡◌, ◌≤◌, ◌↔◌, ◌++◌, [], ◌∷◌, length, IsTrue, OnOk, OnErr, IsErrOf, MatchOption, option_copied};
+ghost use Rattle.rbbi_io.specs.Counts.{capped, Rose, OthersStay};
+ghost use Rattle.rbbi_io.specs.Answers.{LeavesWritten};
+ghost use Rattle.rbbi_io.specs.Memory.{failed_reads_of, failed_writes_of, held_by, file_of, with_file, called, IsAbsent, IsPlaceOf, IsToFail, ReadsMemory, WritesMemory};
 
 use crate::{Files, ReadErr, WriteErr};
 use rbbi_text::Raw;
@@ -84,8 +85,6 @@ pub struct MemFiles {
 }
 
 impl Model for MemFiles {
-    ghost use Rattle.std.specs.Prelude.{◌≤◌, length};
-    ghost use Rattle.rbbi_io.specs.Counts.{greatest_count};
     ghost use Rattle.rbbi_io.specs.Memory.{FilesInMemory};
 
     ghost Value = { FilesInMemory };
@@ -96,8 +95,6 @@ impl Model for MemFiles {
       failing = memory.failing.items;
       failed = memory.failed.items;
     } };
-
-    ghost invariant = { λ memory. length memory.failed.items ≤ greatest_count };
 }
 
 /// The number of the first file of this name.
@@ -202,8 +199,7 @@ impl MemFiles {
 
     /// A read, with what it leaves.
     fn read_whole(&mut self, alloc: Global, name: &str, limit: u64) -> Result<Raw, ReadErr>
-        ensures exact { ReadsMemory self.old name.now limit result self.new }
-        ensures few { length self.new.failed ≤ greatest_count }
+        ensures { ReadsMemory self.old name.now limit result self.new }
     {
         if self.count_call() {
             self.keep_failure(name, CallKind::Read)?;
@@ -221,8 +217,7 @@ impl MemFiles {
 
     /// A write, with what it leaves.
     fn write_whole(&mut self, name: &str, bytes: &[u8]) -> Result<(), WriteErr>
-        ensures exact { WritesMemory self.old name.now bytes.now result self.new }
-        ensures few { length self.new.failed ≤ greatest_count }
+        ensures { WritesMemory self.old name.now bytes.now result self.new }
     {
         if self.count_call() {
             self.keep_failure(name, CallKind::Write)?;
@@ -235,19 +230,41 @@ impl MemFiles {
 
 impl Files for MemFiles {
     ghost use Rattle.std.specs.Prelude.{Some};
+    ghost use Rattle.rbbi_io.specs.Counts.{capped};
     ghost use Rattle.rbbi_io.specs.Memory.{held_by, failed_reads_of, failed_writes_of};
+    ghost use Rattle.std.proofs.Common.{arith};
 
     ghost contents = { λ memory. Some (held_by memory.files) };
 
-    ghost failed_reads = { λ memory. failed_reads_of memory.failed };
+    ghost failed_reads = { λ memory name. capped (failed_reads_of memory.failed name) };
 
-    ghost failed_writes = { λ memory. failed_writes_of memory.failed };
+    ghost failed_writes = { λ memory name. capped (failed_writes_of memory.failed name) };
 
-    fn read(&mut self, alloc: Global, name: &str, limit: u64) -> Result<Raw, ReadErr> {
+    ghost reads_fit = { λ memory name. Prim.omega arith };
+
+    ghost writes_fit = { λ memory name. Prim.omega arith };
+
+    fn read(&mut self, alloc: Global, name: &str, limit: u64) -> Result<Raw, ReadErr>
+        ensures exact { ReadsMemory self.old name.now limit result self.new }
+        ensures failed { IsErrOf result ReadErr.Failed
+            → Rose (capped (failed_reads_of self.old.failed name.now)) (capped (failed_reads_of self.new.failed name.now)) }
+        ensures others { OthersStay name.now
+            (λ other. capped (failed_reads_of self.old.failed other))
+            (λ other. capped (failed_reads_of self.new.failed other)) }
+    {
         self.read_whole(alloc, name, limit)
     }
 
-    fn write(&mut self, name: &str, bytes: &[u8]) -> Result<(), WriteErr> {
+    fn write(&mut self, name: &str, bytes: &[u8]) -> Result<(), WriteErr>
+        ensures exact { WritesMemory self.old name.now bytes.now result self.new }
+        ensures held { LeavesWritten name.now bytes.now result
+            (held_by self.old.files) (held_by self.new.files) }
+        ensures failed { IsErrOf result WriteErr.Failed
+            → Rose (capped (failed_writes_of self.old.failed name.now)) (capped (failed_writes_of self.new.failed name.now)) }
+        ensures others { OthersStay name.now
+            (λ other. capped (failed_writes_of self.old.failed other))
+            (λ other. capped (failed_writes_of self.new.failed other)) }
+    {
         self.write_whole(name, bytes)
     }
 }

@@ -1,6 +1,5 @@
 //! A sink in memory, with calls that fail when they are told to.
 ghost use Rattle.std.specs.Prelude.{◌≡◌, ◌<◌, ◌≤◌, ◌++◌, [], ◌∷◌, length, take, IfOk, OnOk, OnErr, IsErrOf, MatchResult};
-ghost use Rattle.rbbi_io.specs.Counts.{greatest_count};
 ghost use Rattle.rbbi_io.specs.Sinks.{Takes};
 ghost use Rattle.rbbi_io.specs.Memory.{PutsMemory};
 
@@ -20,8 +19,6 @@ pub struct MemSink {
 }
 
 impl Model for MemSink {
-    ghost use Rattle.std.specs.Prelude.{◌≤◌};
-    ghost use Rattle.rbbi_io.specs.Counts.{greatest_count};
     ghost use Rattle.rbbi_io.specs.Memory.{SinkInMemory};
 
     ghost Value = { SinkInMemory };
@@ -32,8 +29,6 @@ impl Model for MemSink {
       failing = sink.failing.items;
       faults = sink.faults;
     } };
-
-    ghost invariant = { λ sink. sink.faults ≤ greatest_count };
 }
 
 impl MemSink {
@@ -75,14 +70,17 @@ impl MemSink {
 
 impl Sink for MemSink {
     ghost use Rattle.std.specs.Prelude.{Some};
+    ghost use Rattle.rbbi_io.specs.Counts.{capped};
+    ghost use Rattle.std.proofs.Common.{arith};
 
     ghost taken = { λ sink. Some sink.bytes };
 
-    ghost faults = { λ sink. sink.faults };
+    ghost faults = { λ sink. capped sink.faults };
+
+    ghost faults_fit = { λ sink. Prim.omega arith };
 
     fn put(&mut self, piece: &[u8]) -> Result<usize, WriteErr>
         ensures exact { PutsMemory self.old piece.now result self.new }
-        ensures few { (self.old.faults ≤ greatest_count) × (self.new.faults ≤ greatest_count) }
     {
         self.calls = self.calls.saturating_add(1);
         if self.failing.contains(&self.calls) {

@@ -1,10 +1,9 @@
 //! The files of the system: an edge that is trusted, a few lines over std's files.
-ghost use Rattle.std.specs.Prelude.{◌≡◌, ◌≤◌, length, IfOk};
-ghost use Rattle.rbbi_io.specs.Counts.{greatest_count};
+ghost use Rattle.std.specs.Prelude.{◌≡◌, ◌<◌, ◌≤◌, ◌+◌, length, IfOk};
 
 use crate::{Files, ReadErr, WriteErr};
 use rbbi_text::Raw;
-use std::alloc::Global;
+use std::alloc::{AllocError, Global};
 use std::fs::File;
 use std::io;
 use std::io::{ErrorKind, Read, Write};
@@ -19,8 +18,6 @@ pub struct RealFiles<'a, R> {
     rt: &'a R,
     failed_reads: u64,
     failed_writes: u64,
-    ghost reads_fit: { failed_reads ≤ greatest_count },
-    ghost writes_fit: { failed_writes ≤ greatest_count },
 }
 
 impl<'a, R: std::rt::Files> RealFiles<'a, R> {
@@ -32,6 +29,34 @@ impl<'a, R: std::rt::Files> RealFiles<'a, R> {
             failed_writes: 0,
         }
     }
+}
+
+/// This many zeros.
+fn zeros(alloc: Global, count: usize) -> Result<Vec<u8>, AllocError>
+    ensures { IfOk result (λ zeros. length zeros.items ≡ count) }
+{
+    vec![in alloc; 0u8; count]
+}
+
+/// Reads into the start of the block, at most one byte more than `left`. It answers how many bytes
+/// there were, and 0 at the end of the file.
+fn read_some<F: Read>(file: &mut F, block: &mut [u8], left: u64) -> Result<usize, ReadErr>
+    requires { 0 < length block.old }
+    ensures within { IfOk result (λ count. count ≤ length block.new) }
+    ensures most { IfOk result (λ count. count ≤ left + 1) }
+{
+    let wanted = left.min(block.len() as u64 - 1) as usize + 1;
+    for _turn in 0..u64::MAX {
+        match file.read(&mut block[..wanted]) {
+            Ok(count) => return Ok(count),
+            Err(fault) => {
+                if fault.kind() != ErrorKind::Interrupted {
+                    return Err(refused_read(&fault));
+                }
+            }
+        }
+    }
+    Err(ReadErr::Failed)
 }
 
 /// The bytes of a file. It takes at most one byte more than `limit`.
@@ -47,25 +72,18 @@ fn read_file<R: std::rt::Files>(
         Ok(file) => file,
         Err(fault) => return Err(refused_read(&fault)),
     };
-    let mut block = vec![in alloc; 0u8; BLOCK]?;
+    let mut block = zeros(alloc, BLOCK)?;
     let mut bytes = Vec::new(alloc);
-    for _ in 0..u64::MAX {
+    for _turn in 0..u64::MAX {
         let left = limit - bytes.len() as u64;
-        let wanted = left.min(BLOCK as u64 - 1) as usize + 1;
-        match file.read(&mut block[..wanted]) {
-            Ok(0) => return Ok(bytes),
-            Ok(count) => {
-                if count as u64 > left {
-                    return Err(ReadErr::TooLong);
-                }
-                bytes.extend_from_slice(&block[..count])?;
-            }
-            Err(fault) => {
-                if fault.kind() != ErrorKind::Interrupted {
-                    return Err(refused_read(&fault));
-                }
-            }
+        let count = read_some(&mut file, block.as_mut_slice(), left)?;
+        if count == 0 {
+            return Ok(bytes);
         }
+        if count as u64 > left {
+            return Err(ReadErr::TooLong);
+        }
+        bytes.extend_from_slice(&block[..count])?;
     }
     Err(ReadErr::Failed)
 }
@@ -99,12 +117,18 @@ fn write_file<R: std::rt::Files>(rt: &R, name: &str, bytes: &[u8]) -> Result<(),
 
 impl<'a, R: std::rt::Files> Files for RealFiles<'a, R> {
     ghost use Rattle.std.specs.Prelude.{None};
+    ghost use Rattle.rbbi_io.specs.Counts.{capped};
+    ghost use Rattle.std.proofs.Common.{arith};
 
     ghost contents = { λ _. None };
 
-    ghost failed_reads = { λ files _. files.failed_reads };
+    ghost failed_reads = { λ files _. capped files.failed_reads };
 
-    ghost failed_writes = { λ files _. files.failed_writes };
+    ghost failed_writes = { λ files _. capped files.failed_writes };
+
+    ghost reads_fit = { λ files name. Prim.omega arith };
+
+    ghost writes_fit = { λ files name. Prim.omega arith };
 
     fn read(&mut self, alloc: Global, name: &str, limit: u64) -> Result<Raw, ReadErr> {
         let outcome = read_file(alloc, self.rt, name, limit);

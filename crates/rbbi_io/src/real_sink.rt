@@ -1,6 +1,5 @@
 //! A writer as a sink: an edge that is trusted, a few lines over std's writers.
 ghost use Rattle.std.specs.Prelude.{◌<◌, ◌≤◌, length, IfOk};
-ghost use Rattle.rbbi_io.specs.Counts.{greatest_count};
 
 use crate::{Sink, WriteErr};
 use std::io::{ErrorKind, Write};
@@ -10,7 +9,6 @@ use std::io::{ErrorKind, Write};
 pub struct RealSink<W> {
     out: W,
     faults: u64,
-    ghost fits: { faults ≤ greatest_count },
 }
 
 impl<W: Write> RealSink<W> {
@@ -41,10 +39,14 @@ fn write_some<W: Write>(out: &mut W, piece: &[u8]) -> Result<usize, WriteErr>
 
 impl<W: Write> Sink for RealSink<W> {
     ghost use Rattle.std.specs.Prelude.{None};
+    ghost use Rattle.rbbi_io.specs.Counts.{capped};
+    ghost use Rattle.std.proofs.Common.{arith};
 
     ghost taken = { λ _. None };
 
-    ghost faults = { λ sink. sink.faults };
+    ghost faults = { λ sink. capped sink.faults };
+
+    ghost faults_fit = { λ sink. Prim.omega arith };
 
     fn put(&mut self, piece: &[u8]) -> Result<usize, WriteErr> {
         if piece.is_empty() {

@@ -1,6 +1,6 @@
 //! Where output goes.
 ghost use Rattle.std.specs.Prelude.{◌≡◌, ◌<◌, ◌≤◌, ℕ, List, Option, length, take, IfOk, OnOk, OnErr, IsErrOf, MatchResult};
-ghost use Rattle.rbbi_io.specs.Counts.{Rose, GoesOn};
+ghost use Rattle.rbbi_io.specs.Counts.{greatest_count, Rose, GoesOn};
 ghost use Rattle.rbbi_io.specs.Sinks.{Takes, TakesFront};
 
 use crate::WriteErr;
@@ -29,6 +29,9 @@ pub trait Sink {
 
         ensures faults { GoesOn (faults self.old) (faults self.new) }
         ensures failed { IsErrOf result WriteErr.Failed → Rose (faults self.old) (faults self.new) };
+
+    /// The count of faults is not past the greatest number.
+    ghost faults_fit: { (sink : Self) → faults sink ≤ greatest_count };
 }
 
 /// Puts all bytes, in one or more pieces.

@@ -1,5 +1,5 @@
 -- The characters of UTF-8 are a text.
-use Rattle.std.proofs.Common.{◌≡◌, ℕ, ◌<◌, ◌≤◌, ◌&&◌, Bool, true, false, List, [], ◌∷◌, refl, arith, ⊎_elim, inl, inr}
+use Rattle.std.proofs.Common.{◌≡◌, ℕ, ◌<◌, ◌≤◌, ◌&&◌, Bool, true, false, List, [], ◌∷◌, refl, arith, ⊎_elim}
 use Rattle.std.specs.Prelude.{IsUtf8, chars}
 use Rattle.std.specs.Str.{all_scalars}
 use Rattle.std.proofs.Math.Utf8.{scalar, scalar_cases}

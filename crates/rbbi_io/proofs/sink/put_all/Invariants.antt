@@ -1,5 +1,4 @@
-use Rattle.std.proofs.Common.{◌≡◌, ◌≤◌, ◌-◌, length, take}
-use Rattle.rbbi_io.specs.Counts.{GoesOn}
+use Rattle.std.proofs.Common.{◌≤◌, ◌-◌, length, take}
 use Rattle.rbbi_io.specs.Sinks.{Takes}
 use Rattle.rbbi_io.proofs.sink.put_all.Given as goal
 

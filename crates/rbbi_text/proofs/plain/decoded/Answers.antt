@@ -1,8 +1,8 @@
-use Rattle.std.proofs.Common.{◌≡◌, ◌≤◌, length, chars, arith, ap, sym, ◌∙◌, subst}
+use Rattle.std.proofs.Common.{◌≡◌, length, chars, arith, ap, sym, ◌∙◌, subst}
 use Rattle.std.proofs.lemmas.List.{map-id}
 use Rattle.std.proofs.lemmas.Iterator.{YieldsList-from_chars}
 use Rattle.std.proofs.lemmas.Iterator.Consumers.{YieldsList-turn, YieldsList-end}
-use Rattle.rbbi_model.specs.Words.{IsText, most_characters}
+use Rattle.rbbi_model.specs.Words.{IsText}
 use Rattle.rbbi_text.proofs.Characters.{IsText-chars}
 use Rattle.rbbi_text.proofs.plain.decoded.Goals as goal
 
