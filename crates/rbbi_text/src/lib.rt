@@ -9,6 +9,8 @@ mod error;
 mod plain;
 mod raw;
 mod steps;
+#[cfg(test)]
+mod tests;
 mod word;
 
 pub use chars::{Chars, EditText};
