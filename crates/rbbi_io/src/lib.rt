@@ -10,6 +10,8 @@ mod mem_sink;
 mod real_files;
 mod real_sink;
 mod sink;
+#[cfg(test)]
+mod tests;
 
 pub use error::{ReadErr, WriteErr};
 pub use files::Files;
