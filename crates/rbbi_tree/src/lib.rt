@@ -1,0 +1,12 @@
+//! The syntax trees of rule files, and the parser that builds them from tokens.
+#![tactic(auto)]
+
+mod error;
+mod laws;
+mod parser;
+mod syntax;
+
+pub use error::TreeErr;
+pub use laws::at_most_one_reading;
+pub use parser::parse;
+pub use syntax::{Atom, Expr, Item, Seq, Statement, Statements};
