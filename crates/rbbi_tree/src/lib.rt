@@ -3,6 +3,7 @@
 
 mod error;
 mod laws;
+mod level;
 mod parser;
 mod syntax;
 

@@ -74,6 +74,13 @@ impl Statements {
         }
     }
 
+    /// These statements.
+    pub fn from_vec(items: Vec<Statement>) -> Statements
+        ensures { result ≡ items.items }
+    {
+        Statements { items }
+    }
+
     /// The number of statements.
     pub fn len(&self) -> usize
         ensures { result ≡ length self.now }
