@@ -46,17 +46,17 @@ whole level = expr_of (with_sequence level).sequences
 -- an item is read at this place
 abbrev pub item_read : ℕ → ItemTree → Progress → Progress
 item_read place i p =
-  record { statements = p.statements; start = Some (unwrap_or p.start place); groups = p.groups; level = with_item i p.level }
+    record { statements = p.statements; start = Some (unwrap_or p.start place); groups = p.groups; level = with_item i p.level }
 
 -- a group begins at this place
 abbrev pub group_begun : ℕ → Progress → Progress
 group_begun place p =
-  record { statements = p.statements; start = Some (unwrap_or p.start place); groups = record { place = place; outer = p.level } ∷ p.groups; level = empty_level }
+    record { statements = p.statements; start = Some (unwrap_or p.start place); groups = record { place = place; outer = p.level } ∷ p.groups; level = empty_level }
 
 -- the innermost group ends
 abbrev pub group_ended : GroupTree → List GroupTree → Progress → Progress
 group_ended innermost groups p =
-  record { statements = p.statements; start = p.start; groups = groups; level = with_item (placed innermost.place (group (whole p.level))) innermost.outer }
+    record { statements = p.statements; start = p.start; groups = groups; level = with_item (placed innermost.place (group (whole p.level))) innermost.outer }
 
 -- a sequence ends, and another is to follow
 abbrev pub sequence_ended : Progress → Progress

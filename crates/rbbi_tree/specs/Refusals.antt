@@ -1,19 +1,10 @@
--- Why a list of tokens is refused, and the places of tokens.
+-- Why a list of tokens is refused.
 use Rattle.std.specs.Prelude.{ℕ, ◌≡◌, ◌<◌, ◌≤◌, ◌⊎◌, List, [], ◌∷◌, ◌++◌, length, take, slice_get, ◌+◌, Option, Some, None, codes}
 use Rattle.rbbi_lex.specs.declared.token.Token.{Token}
 use Rattle.rbbi_tree.specs.Trees.{StatementTree}
 use Rattle.rbbi_tree.specs.Grammar.{IsFile, IsNoFile}
 use Rattle.rbbi_tree.specs.declared.error.TreeErr.{TreeErr}
 use Rattle.rbbi_tree.specs.declared.error.TreeErr.TheVariants.{Syntax, Memory}
-
--- each place is greater than the one before it, and less than the end
-abbrev pub AreRisingBetween : ℕ → List Token → ℕ → Type 0
-AreRisingBetween low [] end = Unit {0}
-AreRisingBetween low (t ∷ tokens) end = (low ≤ t.place) × (t.place < end) × AreRisingBetween (t.place + 1) tokens end
-
--- the places of the tokens rise strictly, and are less than the end
-abbrev pub AreRisingBelow : List Token → ℕ → Type 0
-AreRisingBelow tokens end = AreRisingBetween 0 tokens end
 
 -- what a refusal says of the tokens: for a fault of syntax, that they are no file
 abbrev pub IsRefusedFor : List Token → TreeErr → Type 0
@@ -28,7 +19,7 @@ BeginsFile tokens = (more : List Token) × (statements : List StatementTree) × 
 -- with all of them, and they are no file
 abbrev pub IsSyntaxAt : List Token → ℕ → Type 0
 IsSyntaxAt tokens k =
-  ((k < length tokens) × BeginsFile (take k tokens) × ¬ BeginsFile (take (k + 1) tokens))
+    ((k < length tokens) × BeginsFile (take k tokens) × ¬ BeginsFile (take (k + 1) tokens))
     ⊎ ((k ≡ length tokens) × BeginsFile tokens × IsNoFile tokens)
 
 -- the place of the token with this number, or the end where there is none

@@ -19,7 +19,7 @@ group_tree g = record { place = g.place; outer = level_tree g.outer }
 -- the file so far that a parser stands for
 abbrev pub progress : Parser → Progress
 progress parser =
-  record { statements = statement_trees parser.statements.items; start = parser.start; groups = reverse (map group_tree parser.groups.items); level = level_tree parser.level }
+    record { statements = statement_trees parser.statements.items; start = parser.start; groups = reverse (map group_tree parser.groups.items); level = level_tree parser.level }
 
 -- what a refusal at a token of this place says of what the machine does: for a fault of syntax, that it is stuck there
 abbrev pub IsStuckAt : ℕ → Option Progress → TreeErr → Type 0

@@ -11,8 +11,8 @@ use std::mem;
 /// An expression so far: the sequences that a bar ended, and the items after the last bar.
 #[derive(Drop)]
 pub struct Level {
-    pub sequences: Vec<Seq>,
-    pub items: Vec<Item>,
+    sequences: Vec<Seq>,
+    items: Vec<Item>,
 }
 
 impl Level {
@@ -54,7 +54,10 @@ impl Level {
     pub fn into_expr(self) -> Result<Expr, AllocError>
         ensures { IfOk result (λ expr. expr_tree expr ≡ whole (level_tree self)) }
     {
-        let Level { mut sequences, items } = self;
+        let Level {
+            mut sequences,
+            items,
+        } = self;
         sequences.push(Seq { items })?;
         Ok(Expr { items: sequences })
     }

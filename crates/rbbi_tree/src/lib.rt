@@ -6,6 +6,8 @@ mod laws;
 mod level;
 mod parser;
 mod syntax;
+#[cfg(test)]
+mod tests;
 
 pub use error::TreeErr;
 pub use laws::at_most_one_reading;

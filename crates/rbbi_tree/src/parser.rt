@@ -1,10 +1,11 @@
 //! The parser: from the tokens of a rule file to its statements.
 ghost use Rattle.std.specs.Prelude.{◌≡◌, [], Some, None, OnOk, IfOk, IfErr};
+ghost use Rattle.rbbi_lex.specs.Places.{PlacesRise};
 ghost use Rattle.rbbi_tree.specs.Grammar.{IsFile};
 ghost use Rattle.rbbi_tree.specs.Values.{statement_trees};
 ghost use Rattle.rbbi_tree.specs.Trees.{placed, character};
-ghost use Rattle.rbbi_tree.specs.Refusals.{AreRisingBelow, IsPlacedIn, IsRefusedFor};
-ghost use Rattle.rbbi_tree.specs.Machine.{between, advance, advance_by, group_begun, at_bar, at_close, at_semi, item_read};
+ghost use Rattle.rbbi_tree.specs.Refusals.{IsPlacedIn, IsRefusedFor};
+ghost use Rattle.rbbi_tree.specs.Machine.{between, advance, advance_by, group_begun, item_read};
 ghost use Rattle.rbbi_tree.specs.States.{progress, IsStuckAt};
 
 use crate::error::TreeErr;
@@ -16,26 +17,26 @@ use std::mem;
 
 /// A group that no bracket has closed yet.
 #[derive(Drop)]
-pub struct OpenGroup {
+struct OpenGroup {
     /// The place of its bracket.
-    pub place: u32,
+    place: u32,
     /// The expression that it stands in.
-    pub outer: Level,
+    outer: Level,
 }
 
 /// A rule file so far: a pushdown machine that builds trees.
 ///
 /// The groups stand in a list of their own and not on the call stack, so nesting is bounded by memory alone.
 #[derive(Drop)]
-pub struct Parser {
+struct Parser {
     /// The statements that ended.
-    pub statements: Vec<Statement>,
+    statements: Vec<Statement>,
     /// The place where a further statement began, if one did.
-    pub start: Option<u32>,
+    start: Option<u32>,
     /// The groups of that statement that are not closed, the outermost first.
-    pub groups: Vec<OpenGroup>,
+    groups: Vec<OpenGroup>,
     /// The innermost expression.
-    pub level: Level,
+    level: Level,
 }
 
 impl Parser {
@@ -149,7 +150,7 @@ impl Parser {
 /// Refuses `Syntax` where the tokens are no file. Its place is that of the first token after which no file
 /// can follow, or `end` where all tokens begin one.
 pub fn parse(alloc: Global, tokens: &Tokens, end: u32) -> Result<Statements, TreeErr>
-    requires { AreRisingBelow tokens.now end }
+    requires { PlacesRise 0 end tokens.now }
     ensures parsed { IfOk result (λ statements. IsFile tokens.now (statement_trees statements)) }
     ensures refused { IfErr result (λ refusal. IsRefusedFor tokens.now refusal) }
     ensures placed { IfErr result (λ refusal. IsPlacedIn tokens.now end refusal) }
