@@ -10,6 +10,6 @@ mod syntax;
 mod tests;
 
 pub use error::TreeErr;
-pub use laws::at_most_one_reading;
+pub use laws::{at_most_one_fault, at_most_one_reading};
 pub use parser::parse;
 pub use syntax::{Atom, Expr, Item, Seq, Statement, Statements};

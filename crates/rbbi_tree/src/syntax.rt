@@ -1,7 +1,6 @@
 //! The syntax trees of a rule file.
-ghost use Rattle.std.specs.Prelude.{◌≡◌, ◌<◌, List, [], length, slice_get};
+ghost use Rattle.std.specs.Prelude.{◌≡◌, ◌<◌, length, slice_get};
 
-use std::alloc::Global;
 use std::marker::Model;
 
 /// Alternatives: one sequence, or several with `|` between them.
@@ -65,17 +64,8 @@ impl Model for Statements {
 }
 
 impl Statements {
-    /// No statements.
-    pub fn new(alloc: Global) -> Statements
-        ensures { result ≡ [] }
-    {
-        Statements {
-            items: Vec::new(alloc),
-        }
-    }
-
     /// These statements.
-    pub fn from_vec(items: Vec<Statement>) -> Statements
+    pub(crate) fn from_vec(items: Vec<Statement>) -> Statements
         ensures { result ≡ items.items }
     {
         Statements { items }
