@@ -1,13 +1,13 @@
 -- Every file is accepted: the machine's run over its tokens ends between statements, after the file's.
-use Rattle.std.proofs.Common.{◌≡◌, ℕ, List, [], ◌∷◌, ◌++◌, Option, Some, None, option_and_then, unwrap_or, refl, sym, ◌∙◌, ap, subst}
+use Rattle.std.proofs.Common.{◌≡◌, ℕ, List, [], ◌∷◌, ◌++◌, Option, Some, None, refl, sym, ◌∙◌, ap, subst}
 use Rattle.std.proofs.lemmas.List.{append_assoc, append-nil}
 use Rattle.rbbi_lex.specs.declared.token.Token.{Token}
 use Rattle.rbbi_lex.specs.declared.token.TokenKind.{TokenKind}
 use Rattle.rbbi_lex.specs.declared.token.TokenKind.TheVariants.{Semi, Bar, ParenOpen, ParenClose, Char}
 use Rattle.rbbi_tree.specs.Trees.{ExprTree, SeqTree, ItemTree, AtomTree, StatementTree, no_alternatives, alternative, no_items, item, placed, character, group, nothing, rule, expr_of, seq_of}
-use Rattle.rbbi_tree.specs.Grammar.{token, BeginsAt, IsExpr, AreMoreAlternatives, IsSeq, AreItems, IsItem, IsAtom, IsStatement, IsFile}
-use Rattle.rbbi_tree.specs.Machine.{LevelTree, GroupTree, Progress, empty_level, between, with_item, with_sequence, whole, advance, run}
-use Rattle.rbbi_tree.proofs.Runs.{run-append, run-on}
+use Rattle.rbbi_tree.specs.Grammar.{token, BeginsAt, IsExpr, AreMoreAlternatives, AreItems, IsItem, IsAtom, IsStatement, IsFile}
+use Rattle.rbbi_tree.specs.Machine.{LevelTree, GroupTree, Progress, empty_level, between, with_item, run}
+use Rattle.rbbi_tree.proofs.Runs.{run-on}
 
 -- within a statement that began at this place
 abbrev pub inside : List StatementTree → ℕ → List GroupTree → LevelTree → Progress

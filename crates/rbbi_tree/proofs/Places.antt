@@ -1,11 +1,10 @@
 -- Where the machine is stuck, no file goes on; and every file so far can be finished.
-use Rattle.std.proofs.Common.{◌≡◌, ℕ, zero, suc, ◌+◌, ◌<◌, List, [], ◌∷◌, ◌++◌, length, take, slice_get, Option, Some, None, option_and_then, refl, sym, ◌∙◌, ap, subst, inl, inr, is_some, true, false, drop, get_or, ◌≤◌, arith}
+use Rattle.std.proofs.Common.{◌≡◌, ℕ, zero, suc, ◌+◌, List, [], ◌∷◌, ◌++◌, length, take, slice_get, Option, Some, None, option_and_then, refl, sym, ◌∙◌, ap, subst, inl, inr, is_some, true, false, drop, ◌≤◌, arith}
 use Rattle.std.proofs.lemmas.List.{append_assoc, take_all, take_more, take-append-drop}
 use Rattle.std.proofs.lemmas.Bool.{cases_order}
 use Rattle.std.proofs.lemmas.Option.{get_or_from_slice_get, slice_get_within, slice_get_past}
 use Rattle.rbbi_lex.specs.declared.token.Token.{Token}
-use Rattle.rbbi_lex.specs.declared.token.TokenKind.{TokenKind}
-use Rattle.rbbi_lex.specs.declared.token.TokenKind.TheVariants.{Semi, Bar, ParenOpen, ParenClose, Char}
+use Rattle.rbbi_lex.specs.declared.token.TokenKind.TheVariants.{Semi, ParenClose, Char}
 use Rattle.rbbi_tree.specs.Trees.{SeqTree, ItemTree, StatementTree, placed, character, group}
 use Rattle.rbbi_tree.specs.Grammar.{token, IsFile, IsNoFile}
 use Rattle.rbbi_tree.specs.Machine.{LevelTree, GroupTree, Progress, between, whole, advance, run}
@@ -126,25 +125,27 @@ parts zero j ts le = (take j ts, refl)
 parts (suc i) zero ts le = absurd (omega arith)
 parts (suc i) (suc j) [] le = ([], refl)
 parts (suc i) (suc j) (t ∷ ts) le =
-  let (rest, is) = parts i j ts (omega arith) in
-  (rest, ap (λ us. t ∷ us) is)
+    let (rest, is) = parts i j ts (omega arith) in
+    (rest, ap (λ us. t ∷ us) is)
 
 -- what begins a file does so up to each of its tokens
 begins_part : (ts : List Token) (i j : ℕ) → i ≤ j → BeginsFile (take j ts) → BeginsFile (take i ts)
 begins_part ts i j le (more, statements, file) =
-  let (rest, is) = parts i j ts le in
-  (rest ++ more, statements, subst (λ us. IsFile us statements) (ap (λ us. us ++ more) is ∙ append_assoc (take i ts) rest more) file)
+    let (rest, is) = parts i j ts le in
+    (rest ++ more, statements, subst (λ us. IsFile us statements) (ap (λ us. us ++ more) is ∙ append_assoc (take i ts) rest more) file)
 
 -- a list of tokens has its fault of syntax at one place at most
 pub fault_is_one : (ts : List Token) (k l : ℕ) → IsSyntaxAt ts k → IsSyntaxAt ts l → k ≡ l
 fault_is_one ts k l (inl (k_in, k_begins, k_stuck)) (inl (l_in, l_begins, l_stuck)) =
-  elim (cases_order k l) [
-    inl same ↦ same
-  | inr apart ↦ elim apart [
-      inl lt ↦ absurd (k_stuck (begins_part ts (k + 1) l (omega arith) l_begins))
-    | inr gt ↦ absurd (l_stuck (begins_part ts (l + 1) k (omega arith) k_begins)) ] ]
+    elim (cases_order k l) [
+      | inl same ↦ same
+      | inr apart ↦ elim apart [
+        | inl lt ↦ absurd (k_stuck (begins_part ts (k + 1) l (omega arith) l_begins))
+        | inr gt ↦ absurd (l_stuck (begins_part ts (l + 1) k (omega arith) k_begins))
+      ]
+    ]
 fault_is_one ts k l (inl (k_in, k_begins, k_stuck)) (inr (l_at, begins, none)) =
-  absurd (k_stuck (begins_part ts (k + 1) l (omega arith) (subst BeginsFile (sym (take_all l ts (omega arith))) begins)))
+    absurd (k_stuck (begins_part ts (k + 1) l (omega arith) (subst BeginsFile (sym (take_all l ts (omega arith))) begins)))
 fault_is_one ts k l (inr (k_at, begins, none)) (inl (l_in, l_begins, l_stuck)) =
-  absurd (l_stuck (begins_part ts (l + 1) k (omega arith) (subst BeginsFile (sym (take_all k ts (omega arith))) begins)))
+    absurd (l_stuck (begins_part ts (l + 1) k (omega arith) (subst BeginsFile (sym (take_all k ts (omega arith))) begins)))
 fault_is_one ts k l (inr (k_at, begins, none)) (inr (l_at, begins', none')) = k_at ∙ sym l_at

@@ -4,9 +4,9 @@ use Rattle.std.proofs.lemmas.List.{append_assoc, append-nil}
 use Rattle.rbbi_lex.specs.declared.token.Token.{Token}
 use Rattle.rbbi_lex.specs.declared.token.TokenKind.{TokenKind}
 use Rattle.rbbi_lex.specs.declared.token.TokenKind.TheVariants.{Semi, Bar, ParenOpen, ParenClose, Char}
-use Rattle.rbbi_tree.specs.Trees.{ExprTree, SeqTree, ItemTree, AtomTree, StatementTree, no_alternatives, alternative, no_items, item, placed, character, group, nothing, rule, expr_of, seq_of}
-use Rattle.rbbi_tree.specs.Grammar.{token, BeginsAt, IsExpr, AreMoreAlternatives, IsSeq, AreItems, IsItem, IsAtom, IsStatement, IsFile}
-use Rattle.rbbi_tree.specs.Machine.{LevelTree, GroupTree, Progress, empty_level, between, with_item, with_sequence, whole, at_bar, at_close, at_end, at_semi, advance_by, advance, run}
+use Rattle.rbbi_tree.specs.Trees.{ExprTree, SeqTree, ItemTree, StatementTree, no_alternatives, alternative, placed, character, group, nothing, rule, expr_of, seq_of}
+use Rattle.rbbi_tree.specs.Grammar.{token, BeginsAt, IsExpr, AreMoreAlternatives, IsSeq, AreItems, IsItem, IsStatement, IsFile}
+use Rattle.rbbi_tree.specs.Machine.{LevelTree, GroupTree, Progress, empty_level, between, with_item, with_sequence, whole, at_bar, at_close, at_semi, advance_by, advance, run}
 
 -- sequences, each with a bar behind it
 abbrev AreEnded : List Token → List SeqTree → Type 0

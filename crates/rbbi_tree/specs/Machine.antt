@@ -3,7 +3,7 @@ use Rattle.std.specs.Prelude.{ℕ, List, [], ◌∷◌, ◌++◌, Option, Some, 
 use Rattle.rbbi_lex.specs.declared.token.Token.{Token}
 use Rattle.rbbi_lex.specs.declared.token.TokenKind.{TokenKind}
 use Rattle.rbbi_lex.specs.declared.token.TokenKind.TheVariants.{Semi, Bar, ParenOpen, ParenClose, Char}
-use Rattle.rbbi_tree.specs.Trees.{ExprTree, SeqTree, ItemTree, AtomTree, StatementTree, placed, character, group, nothing, rule, expr_of, seq_of}
+use Rattle.rbbi_tree.specs.Trees.{ExprTree, SeqTree, ItemTree, StatementTree, placed, character, group, nothing, rule, expr_of, seq_of}
 
 -- an expression so far: the sequences that a bar ended, and the items after the last bar
 pub record LevelTree : Type 0 where

@@ -1,5 +1,5 @@
 -- What the parser's state stands for.
-use Rattle.std.specs.Prelude.{◌≡◌, None, ℕ, List, [], ◌∷◌, map, reverse, Option}
+use Rattle.std.specs.Prelude.{◌≡◌, None, ℕ, map, reverse, Option}
 use Rattle.rbbi_tree.specs.Values.{seq_tree, item_tree, statement_trees}
 use Rattle.rbbi_tree.specs.Machine.{LevelTree, GroupTree, Progress}
 use Rattle.rbbi_tree.specs.declared.error.TreeErr.{TreeErr}

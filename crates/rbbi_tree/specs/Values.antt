@@ -1,13 +1,13 @@
 -- The trees that the values of the code stand for.
-use Rattle.std.specs.Prelude.{ℕ, ◌≡◌, List, [], ◌∷◌, map, refl}
+use Rattle.std.specs.Prelude.{◌≡◌, List, map}
 use Rattle.rbbi_tree.specs.Trees.{ExprTree, SeqTree, ItemTree, AtomTree, StatementTree, placed, character, group, nothing, rule, expr_of, seq_of}
 use Rattle.rbbi_tree.specs.declared.syntax.Expr.{Expr}
 use Rattle.rbbi_tree.specs.declared.syntax.Seq.{Seq}
 use Rattle.rbbi_tree.specs.declared.syntax.Item.{Item}
 use Rattle.rbbi_tree.specs.declared.syntax.Atom.{Atom}
 use Rattle.rbbi_tree.specs.declared.syntax.Atom.TheOpen.{Expr-F, Seq-F, Item-F, Atom-F}
-use Rattle.rbbi_tree.specs.declared.syntax.Atom.TheViews.{out-Expr, out-Seq, out-Item, out-Atom}
-use Rattle.rbbi_tree.specs.declared.syntax.Atom.TheFolds.{fold-Expr, fold-Seq, fold-Item, fold-Atom, fold_out-Expr, fold_out-Seq, fold_out-Item, fold_out-Atom}
+use Rattle.rbbi_tree.specs.declared.syntax.Atom.TheViews.{out-Expr, out-Seq, out-Item}
+use Rattle.rbbi_tree.specs.declared.syntax.Atom.TheFolds.{fold-Expr, fold-Seq, fold-Item, fold-Atom, fold_out-Expr, fold_out-Seq, fold_out-Item}
 use Rattle.rbbi_tree.specs.declared.syntax.Statement.{Statement}
 use Rattle.rbbi_tree.specs.declared.syntax.Statement.TheVariants.{Nothing, Rule}
 

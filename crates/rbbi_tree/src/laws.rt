@@ -12,5 +12,4 @@ pub fn at_most_one_reading()
 /// Law: a list of tokens has a fault of syntax at one token at most, or at its end.
 pub fn at_most_one_fault()
     ensures { (tokens : List Token) (k l : ℕ) → IsSyntaxAt tokens k → IsSyntaxAt tokens l → k ≡ l }
-{
-}
+{}
