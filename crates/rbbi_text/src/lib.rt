@@ -6,6 +6,7 @@
 
 mod chars;
 mod error;
+mod mark;
 mod plain;
 mod raw;
 mod steps;
@@ -15,6 +16,7 @@ mod word;
 
 pub use chars::{Chars, EditText};
 pub use error::{EditErr, RawErr, TextErr};
+pub use mark::without_mark;
 pub use plain::PlainText;
 pub use raw::Raw;
 pub use steps::Steps;
