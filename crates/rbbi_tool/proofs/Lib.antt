@@ -4,3 +4,4 @@ pub mod Merging
 pub mod Stepping
 pub mod MatchLoops
 pub mod Longest
+pub mod LineLoops

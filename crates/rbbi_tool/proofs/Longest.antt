@@ -161,7 +161,7 @@ module _ (x : List ℕ) where
       }
 
 -- the rules of statements in a row
-rules_of-append : (sts others : List StatementTree) → rules_of (sts ++ others) ≡ rules_of sts ++ rules_of others
+pub rules_of-append : (sts others : List StatementTree) → rules_of (sts ++ others) ≡ rules_of sts ++ rules_of others
 rules_of-append [] others = refl
 rules_of-append (nothing ∷ sts) others = rules_of-append sts others
 rules_of-append (rule place front ∷ sts) others = ap (λ rs. plain_rule place front ∷ rs) (rules_of-append sts others)

@@ -76,8 +76,9 @@ fn has_rule(statements: &Statements) -> bool
     ensures { MatchBool result (rules_of (statement_trees statements.now) ≢ []) (rules_of (statement_trees statements.now) ≡ []) }
 {
     for i in 0..statements.len() {
-        if let Statement::Rule { .. } = statements.get(i) {
-            return true;
+        match statements.get(i) {
+            Statement::Rule { .. } => return true,
+            Statement::Nothing => {}
         }
     }
     false

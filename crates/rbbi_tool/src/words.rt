@@ -22,11 +22,12 @@ pub(crate) fn command_of(words: &Vec<String>) -> Option<Breaks<'_>>
         return None;
     }
     let rules = words[1].as_str();
-    if words[0].as_str() != "breaks" || rules.starts_with("--") {
-        return None;
+    if words[0].as_str() == "breaks" && !rules.starts_with("--") {
+        Some(Breaks {
+            rules,
+            text: words[2].as_str(),
+        })
+    } else {
+        None
     }
-    Some(Breaks {
-        rules,
-        text: words[2].as_str(),
-    })
 }
