@@ -5,3 +5,4 @@ pub mod Stepping
 pub mod MatchLoops
 pub mod Longest
 pub mod LineLoops
+pub mod Verdicts

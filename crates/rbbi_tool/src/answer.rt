@@ -105,5 +105,6 @@ pub(crate) fn answered<F: Files, L: Ledger>(
         }
         Err(ReadErr::Memory) => return Err(AllocError),
     };
-    verdict(alloc, &rules, command.text, &text, steps)
+    let answer = verdict(alloc, &rules, command.text, &text, steps)?;
+    Ok(answer)
 }
