@@ -13,3 +13,6 @@ pub mod Tables
 pub mod SafePairs
 pub mod ValidTables
 pub mod Searches
+pub mod SetTrees
+pub mod Answers
+pub mod Runs
