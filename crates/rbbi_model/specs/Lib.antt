@@ -16,3 +16,9 @@ pub mod Searches
 pub mod SetTrees
 pub mod Answers
 pub mod Runs
+pub mod LeafSets
+pub mod Marks
+pub mod Compiled
+pub mod Canonical
+pub mod Costs
+pub mod TableFile

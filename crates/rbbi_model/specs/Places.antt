@@ -11,6 +11,11 @@ abbrev pub greatest_below : (ℕ → Bool) → ℕ → Option ℕ
 greatest_below test zero = None
 greatest_below test (suc high) = if test high then Some high else greatest_below test high
 
+-- how many places below high the test holds at
+abbrev pub count_below : (ℕ → Bool) → ℕ → ℕ
+count_below test zero = 0
+count_below test (suc high) = (if test high then 1 else 0) + count_below test high
+
 -- the largest of the numbers, or 0 where there are none
 abbrev pub largest : List ℕ → ℕ
 largest [] = 0

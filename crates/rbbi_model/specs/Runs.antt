@@ -72,7 +72,6 @@ pub record IsTrueRun (table : Table) (x : List ℕ) (run : Run) : Type 0 where
   pub few : length run.entries ≤ 256
   pub consecutive : AreConsecutive table (fresh table x run.anchor) run.entries
   pub places : AllByRecursion (λ entry. (run.anchor ≡ 0) ⊎ (run.anchor + 2 ≤ entry.at)) run.entries
-  pub lists : AllByRecursion (λ entry. entry.status < length table.lists) run.entries
   pub reach_enough : AllByRecursion (λ entry. farthest_look table x run.anchor entry.at ≤ entry.reach) run.entries
   pub reach_within : AllByRecursion (λ entry. entry.reach ≤ length x + 1) run.entries
   pub reaches_rise : ReachesRise run.entries
