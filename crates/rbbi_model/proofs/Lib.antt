@@ -1,3 +1,9 @@
 pub mod Rising
 pub mod Uniqueness
 pub mod Unchained
+pub mod Worked
+pub mod Categories
+pub mod Found
+pub mod Covering
+pub mod Cursors
+pub mod ReplyCount

@@ -3,6 +3,7 @@ use Rattle.std.specs.Prelude.{ℕ, ◌<◌, Bool, List, [], ◌∷◌, Option, S
 use Rattle.std.specs.List.{last_or}
 use Rattle.rbbi_model.specs.Places.{largest}
 use Rattle.rbbi_model.specs.Boundaries.{Boundary}
+use Rattle.rbbi_model.specs.Cover.{end_of}
 
 -- a question; `Breaks` asks for all boundaries
 pub data Question : Type 0 where
@@ -38,12 +39,6 @@ pub data Reply : Type 0 where
 pub record Answer : Type 0 where
   pub reply : Reply
   pub cursor : ℕ
-
--- the place of the last boundary, which is the text's length
-abbrev pub end_of : List Boundary → ℕ
-end_of [] = 0
-end_of (boundary ∷ []) = boundary.at
-end_of (boundary ∷ next ∷ boundaries) = end_of (next ∷ boundaries)
 
 -- the first boundary that passes the test
 abbrev pub first_place : (ℕ → Bool) → List Boundary → Option ℕ

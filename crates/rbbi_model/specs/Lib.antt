@@ -14,6 +14,7 @@ pub mod SafePairs
 pub mod ValidTables
 pub mod Searches
 pub mod SetTrees
+pub mod Cover
 pub mod Answers
 pub mod Runs
 pub mod LeafSets

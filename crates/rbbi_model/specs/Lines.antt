@@ -30,6 +30,17 @@ IsDigit c = (48 ≤ c) × (c ≤ 57)
 abbrev pub number_of : List ℕ → ℕ
 number_of digits = fold (λ n digit. n * 10 + (digit - 48)) 0 digits
 
+-- there is a first digit, and it isn't 0
+abbrev pub BeginsWithoutZero : List ℕ → Type 0
+BeginsWithoutZero [] = ⊥
+BeginsWithoutZero (digit ∷ digits) = digit ≢ 48
+
+-- the number in decimal without leading zeros
+pub record IsDecimal (n : ℕ) (digits : List ℕ) : Type 0 where
+  pub each : AllByRecursion IsDigit digits
+  pub value : number_of digits ≡ n
+  pub no_zero : (digits ≡ 48 ∷ []) ⊎ BeginsWithoutZero digits
+
 -- the text, and the end of the line
 abbrev pub line : List ℕ → List ℕ
 line text = text ++ 10 ∷ []
