@@ -7,3 +7,4 @@ pub mod Found
 pub mod Covering
 pub mod Cursors
 pub mod ReplyCount
+pub mod Decimals

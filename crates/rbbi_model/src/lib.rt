@@ -1,8 +1,23 @@
-//! The definitions that the crates of `rbbi` share: what break rules mean, apart from any engine.
+//! The definitions that the crates of `rbbi` share: what break rules mean, apart from any engine, and
+//! what a table is, what a search in it finds, and what is kept and read between questions.
 //!
 //! They stand in `specs/`, one idea a file. The functions here carry no code: each states a law of
 //! those definitions as its contract.
 #![tactic(auto)]
+
+mod answers;
+mod lines;
+mod searches;
+mod tables;
+
+pub use answers::{
+    cursor_is_a_boundary, one_reply_for_each_command, one_table_reply_for_each_command,
+};
+pub use lines::decimal_is_the_printed_form;
+pub use searches::{
+    look_end_is_past_the_start, next_boundary_is_past_the_start, table_boundaries_cover_the_text,
+};
+pub use tables::{category_is_within, code_point_has_one_category};
 
 ghost use Rattle.std.specs.Prelude.{◌≡◌, ℕ, ◌↔◌, List};
 ghost use Rattle.rbbi_model.specs.Rules.{Rule};
