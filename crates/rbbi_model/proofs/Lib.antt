@@ -8,3 +8,4 @@ pub mod Covering
 pub mod Cursors
 pub mod ReplyCount
 pub mod Decimals
+pub mod Spelled

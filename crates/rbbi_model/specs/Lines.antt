@@ -5,7 +5,7 @@ use Rattle.std.specs.Fmt.{decimal}
 use Rattle.rbbi_model.specs.Places.{count_below}
 use Rattle.rbbi_model.specs.Boundaries.{Boundary}
 use Rattle.rbbi_model.specs.Tables.{Table}
-use Rattle.rbbi_model.specs.SafePairs.{bit_at}
+use Rattle.rbbi_model.specs.SafePairs.{stored_bit}
 use Rattle.rbbi_model.specs.Answers.{Reply, Place, Done, Yes, No, Largest, AllOf, Listed, Edited, Outside, Inside, TooLong, Characters}
 
 -- status numbers in decimal, joined by commas
@@ -76,7 +76,7 @@ check_line rules slashes leaves =
 
 -- how many pairs of categories are safe
 abbrev pub safe_count : Table → ℕ
-safe_count table = count_below (bit_at table.safe) (table.categories * table.categories)
+safe_count table = count_below (stored_bit table.safe) (table.categories * table.categories)
 
 -- what `compile` prints: the numbers of the table and of its safe pairs
 abbrev pub compile_line : Table → List ℕ

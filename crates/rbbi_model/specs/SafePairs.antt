@@ -13,9 +13,9 @@ IsSafePair table first second =
     (row : ℕ) × ((from : ℕ) → from < length table.rows → IsOpen table from → step table (step table from first) second ≡ row)
 
 -- bit number i of the bytes: eight a byte, the one of least value first
-abbrev pub bit_at : List ℕ → ℕ → Bool
-bit_at bytes i = has_bit (slice_index bytes (i / 8)) (i % 8)
+abbrev pub stored_bit : List ℕ → ℕ → Bool
+stored_bit bytes i = has_bit (slice_index bytes (i / 8)) (i % 8)
 
 -- the bit that the table stores for the pair
 abbrev pub is_safe : Table → ℕ → ℕ → Bool
-is_safe table first second = bit_at table.safe (first * table.categories + second)
+is_safe table first second = stored_bit table.safe (first * table.categories + second)

@@ -6,7 +6,7 @@ use Rattle.rbbi_model.specs.Lists.{IsRising}
 use Rattle.rbbi_model.specs.Rules.{largest_tag}
 use Rattle.rbbi_model.specs.Places.{has_bit}
 use Rattle.rbbi_model.specs.Tables.{Table, CategoryRange, RowHead, head_of, accept_of, fronts_of, list_of, step, row_along}
-use Rattle.rbbi_model.specs.SafePairs.{IsSafePair, bit_at, is_safe}
+use Rattle.rbbi_model.specs.SafePairs.{IsSafePair, stored_bit, is_safe}
 
 -- There is a next row for each row and category and a bit for each pair of categories, and what is stored as a byte is one.
 pub record IsWellFormed (table : Table) : Type 0 where
@@ -111,7 +111,7 @@ AreFronted table =
 -- the stored bits are exactly the safe pairs, and the bits that fill the last byte are 0
 pub record AreValidSafePairs (table : Table) : Type 0 where
   pub exactly : (first second : ℕ) → first < table.categories → second < table.categories → IsTrue (is_safe table first second) ↔ IsSafePair table first second
-  pub filling : (i : ℕ) → table.categories * table.categories ≤ i → i < 8 * length table.safe → ¬ IsTrue (bit_at table.safe i)
+  pub filling : (i : ℕ) → table.categories * table.categories ≤ i → i < 8 * length table.safe → ¬ IsTrue (stored_bit table.safe i)
 
 -- a table all of whose parts are valid
 pub record IsValidTable (table : Table) : Type 0 where

@@ -1,0 +1,131 @@
+-- A table's spelling tells the table.
+use Rattle.std.proofs.Common.{◌≡◌, ℕ, zero, suc, ◌+◌, ◌-◌, ◌*◌, ◌/◌, ◌%◌, ◌^◌, ◌<◌, ◌≤◌, List, [], ◌∷◌, ◌++◌, length, take, drop, get_or, sym, refl, ap, ◌∙◌, subst, append_assoc, length-append, arith}
+use Rattle.std.specs.Prelude.{flat_map}
+use Rattle.std.specs.List.{AllByRecursion}
+use Rattle.std.proofs.lemmas.List.{append_cancel_left, take-append-drop, length-take, length-drop, get_or-take, get_or-drop}
+use Rattle.std.proofs.Math.Nat.{div-add-mod}
+use Rattle.std.proofs.lemmas.Nat.{div-add-mod'}
+use Rattle.rbbi_model.specs.Words.{last_code_point}
+use Rattle.rbbi_model.specs.Rules.{largest_tag}
+use Rattle.rbbi_model.specs.Tables.{Table, CategoryRange, RowHead, head_of, empty_head}
+use Rattle.rbbi_model.specs.ValidTables.{AreApart, IsWithin, IsValidList, IsValidTable}
+use Rattle.rbbi_model.specs.TableFile.{little_endian, u16, u32, magic, counts, range_bytes, list_bytes, head_bytes, row_bytes, spelling}
+
+-- two lists that begin with parts of one length have the same parts
+split_same : {X : Type 0} (a b u v : List X) → length a ≡ length b → a ++ u ≡ b ++ v → (a ≡ b) × (u ≡ v)
+split_same [] [] u v long same = (refl, same)
+split_same [] (y ∷ b) u v long same = absurd (omega (arith, long))
+split_same (x ∷ a) [] u v long same = absurd (omega (arith, long))
+split_same (x ∷ a) (y ∷ b) u v long same =
+    let rest = split_same a b u v (omega (arith, long)) (ap (λ l. drop 1 l) same) in
+    let first : x ≡ y = ap (λ l. get_or l 0 x) same in
+    (ap (λ z. z ∷ a) first ∙ ap (λ l. y ∷ l) rest.0, rest.1)
+
+-- a number in a width of bytes
+
+length_little : (width n : ℕ) → length (little_endian width n) ≡ width
+length_little zero n = refl
+length_little (suc width) n = ap (λ m. suc m) (length_little width (n / 256))
+
+little_same : (width m n : ℕ) → m < 256 ^ width → n < 256 ^ width → little_endian width m ≡ little_endian width n → m ≡ n
+little_same zero m n low high same = omega (arith, low, high)
+little_same (suc width) m n low high same =
+    let first : m % 256 ≡ n % 256 = ap (λ l. get_or l 0 0) same in
+    let low' : m < 256 * 256 ^ width = omega (arith, low) in
+    let high' : n < 256 * 256 ^ width = omega (arith, high) in
+    let rest : m / 256 ≡ n / 256 = little_same width (m / 256) (n / 256) (omega arith) (omega arith) (ap (λ l. drop 1 l) same) in
+    omega arith
+
+-- the number fits the width
+Fits : ℕ → ℕ → Type 0
+Fits width n = n < 256 ^ width
+
+number_tells : (width m n : ℕ) (u v : List ℕ) → Fits width m → Fits width n → little_endian width m ++ u ≡ little_endian width n ++ v → (m ≡ n) × (u ≡ v)
+unfolding Fits
+number_tells width m n u v low high same =
+    let parts = split_same (little_endian width m) (little_endian width n) u v (length_little width m ∙ sym (length_little width n)) same in
+    (little_same width m n low high parts.0, parts.1)
+
+-- bytes that tell each member of a list tell the list, where its length is known
+module _ {X : Type 0} (bytes : X → List ℕ) (Small : X → Type 0) (tells : (a b : X) (u v : List ℕ) → Small a → Small b → bytes a ++ u ≡ bytes b ++ v → (a ≡ b) × (u ≡ v)) where
+  list_tells : (xs ys : List X) (u v : List ℕ) → length xs ≡ length ys → AllByRecursion Small xs → AllByRecursion Small ys → flat_map bytes xs ++ u ≡ flat_map bytes ys ++ v → (xs ≡ ys) × (u ≡ v)
+  list_tells [] [] u v long small small' same = (refl, same)
+  list_tells [] (y ∷ ys) u v long small small' same = absurd (omega (arith, long))
+  list_tells (x ∷ xs) [] u v long small small' same = absurd (omega (arith, long))
+  list_tells (x ∷ xs) (y ∷ ys) u v long small small' same =
+      let first = tells x y (flat_map bytes xs ++ u) (flat_map bytes ys ++ v) small.0 small'.0 (sym (append_assoc (bytes x) (flat_map bytes xs) u) ∙ same ∙ append_assoc (bytes y) (flat_map bytes ys) v) in
+      let rest = list_tells xs ys u v (omega (arith, long)) small.1 small'.1 first.1 in
+      (ap (λ z. z ∷ xs) first.0 ∙ ap (λ l. y ∷ l) rest.0, rest.1)
+
+-- ranges
+
+SmallRange : CategoryRange → Type 0
+SmallRange range = Fits 4 range.start × Fits 2 range.category
+
+range_tells : (a b : CategoryRange) (u v : List ℕ) → SmallRange a → SmallRange b → range_bytes a ++ u ≡ range_bytes b ++ v → (a ≡ b) × (u ≡ v)
+unfolding SmallRange
+range_tells a b u v small small' same =
+    let start = number_tells 4 a.start b.start (u16 a.category ++ u) (u16 b.category ++ v) small.0 small'.0 (sym (append_assoc (u32 a.start) (u16 a.category) u) ∙ same ∙ append_assoc (u32 b.start) (u16 b.category) v) in
+    let category = number_tells 2 a.category b.category u v small.1 small'.1 start.1 in
+    (λ i. record { start = start.0 i; category = category.0 i }, category.1)
+
+-- status lists
+
+SmallList : List ℕ → Type 0
+SmallList statuses = Fits 2 (length statuses) × AllByRecursion (Fits 4) statuses
+
+statuses_tell : (a b : List ℕ) (u v : List ℕ) → SmallList a → SmallList b → list_bytes a ++ u ≡ list_bytes b ++ v → (a ≡ b) × (u ≡ v)
+unfolding SmallList
+statuses_tell a b u v small small' same =
+    let long = number_tells 2 (length a) (length b) (flat_map u32 a ++ u) (flat_map u32 b ++ v) small.0 small'.0 (sym (append_assoc (u16 (length a)) (flat_map u32 a) u) ∙ same ∙ append_assoc (u16 (length b)) (flat_map u32 b) v) in
+    list_tells u32 (Fits 4) (λ m n. number_tells 4 m n) a b u v long.0 small.1 small'.1 long.1
+
+-- rows
+
+SmallHead : RowHead → Type 0
+SmallHead head = Fits 2 head.accept × Fits 4 head.fronts × Fits 2 head.list
+
+head_tells : (a b : RowHead) (u v : List ℕ) → SmallHead a → SmallHead b → head_bytes a ++ u ≡ head_bytes b ++ v → (a ≡ b) × (u ≡ v)
+unfolding SmallHead
+head_tells a b u v small small' same =
+    let nested = append_assoc (u16 a.accept ++ u32 a.fronts) (u16 a.list) u ∙ append_assoc (u16 a.accept) (u32 a.fronts) (u16 a.list ++ u) in
+    let nested' = append_assoc (u16 b.accept ++ u32 b.fronts) (u16 b.list) v ∙ append_assoc (u16 b.accept) (u32 b.fronts) (u16 b.list ++ v) in
+    let accept = number_tells 2 a.accept b.accept (u32 a.fronts ++ (u16 a.list ++ u)) (u32 b.fronts ++ (u16 b.list ++ v)) small.0 small'.0 (sym nested ∙ same ∙ nested') in
+    let fronts = number_tells 4 a.fronts b.fronts (u16 a.list ++ u) (u16 b.list ++ v) small.1 small'.1 accept.1 in
+    let list = number_tells 2 a.list b.list u v small.2 small'.2 fronts.1 in
+    (λ i. record { accept = accept.0 i; fronts = fronts.0 i; list = list.0 i }, list.1)
+
+all_take : {X : Type 0} (P : X → Type 0) (n : ℕ) (xs : List X) → AllByRecursion P xs → AllByRecursion P (take n xs)
+all_take P zero xs all = tt
+all_take P (suc n) [] all = tt
+all_take P (suc n) (x ∷ xs) all = (all.0, all_take P n xs all.1)
+
+all_drop : {X : Type 0} (P : X → Type 0) (n : ℕ) (xs : List X) → AllByRecursion P xs → AllByRecursion P (drop n xs)
+all_drop P zero xs all = all
+all_drop P (suc n) [] all = tt
+all_drop P (suc n) (x ∷ xs) all = all_drop P n xs all.1
+
+rows_tell : (width : ℕ) (rows others : List RowHead) (cells those : List ℕ) (u v : List ℕ) →
+    length rows ≡ length others → length cells ≡ length rows * width → length those ≡ length others * width → AllByRecursion SmallHead rows → AllByRecursion SmallHead others → AllByRecursion (Fits 2) cells → AllByRecursion (Fits 2) those →
+    row_bytes width rows cells ++ u ≡ row_bytes width others those ++ v → (rows ≡ others) × (cells ≡ those) × (u ≡ v)
+rows_tell width [] [] [] [] u v long many many' small small' fit fit' same = (refl, refl, same)
+rows_tell width [] [] [] (d ∷ those) u v long many many' small small' fit fit' same = absurd (omega (arith, many'))
+rows_tell width [] [] (c ∷ cells) those u v long many many' small small' fit fit' same = absurd (omega (arith, many))
+rows_tell width [] (head ∷ others) cells those u v long many many' small small' fit fit' same = absurd (omega (arith, long))
+rows_tell width (head ∷ rows) [] cells those u v long many many' small small' fit fit' same = absurd (omega (arith, long))
+rows_tell width (head ∷ rows) (other ∷ others) cells those u v long many many' small small' fit fit' same =
+    let nested = append_assoc (head_bytes head ++ flat_map u16 (take width cells)) (row_bytes width rows (drop width cells)) u ∙ append_assoc (head_bytes head) (flat_map u16 (take width cells)) (row_bytes width rows (drop width cells) ++ u) in
+    let nested' = append_assoc (head_bytes other ++ flat_map u16 (take width those)) (row_bytes width others (drop width those)) v ∙ append_assoc (head_bytes other) (flat_map u16 (take width those)) (row_bytes width others (drop width those) ++ v) in
+    let first = head_tells head other (flat_map u16 (take width cells) ++ (row_bytes width rows (drop width cells) ++ u)) (flat_map u16 (take width those) ++ (row_bytes width others (drop width those) ++ v)) small.0 small'.0 (sym nested ∙ same ∙ nested') in
+    let long' : length rows ≡ length others = omega (arith, long) in
+    let much : length cells ≡ width + length rows * width = omega (arith, many) in
+    let much' : length those ≡ width + length others * width = omega (arith, many') in
+    let taken : length (take width cells) ≡ width = omega (arith, length-take width cells, much) in
+    let taken' : length (take width those) ≡ width = omega (arith, length-take width those, much') in
+    let next = list_tells u16 (Fits 2) (λ m n. number_tells 2 m n) (take width cells) (take width those) (row_bytes width rows (drop width cells) ++ u) (row_bytes width others (drop width those) ++ v) (taken ∙ sym taken') (all_take (Fits 2) width cells fit) (all_take (Fits 2) width those fit') first.1 in
+    let rest = rows_tell width rows others (drop width cells) (drop width those) u v long' (omega (arith, length-drop width cells, much)) (omega (arith, length-drop width those, much')) small.1 small'.1 (all_drop (Fits 2) width cells fit) (all_drop (Fits 2) width those fit') next.1 in
+    (
+        ap (λ z. z ∷ rows) first.0 ∙ ap (λ l. other ∷ l) rest.0,
+        sym (take-append-drop width cells) ∙ ap (λ l. l ++ drop width cells) next.0 ∙ ap (λ l. take width those ++ l) rest.1 ∙ take-append-drop width those,
+        rest.2
+    )
