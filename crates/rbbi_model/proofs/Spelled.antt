@@ -3,7 +3,7 @@ use Rattle.std.proofs.Common.{◌≡◌, ℕ, zero, suc, ◌+◌, ◌-◌, ◌*�
 use Rattle.std.specs.Prelude.{flat_map}
 use Rattle.std.specs.List.{AllByRecursion}
 use Rattle.std.proofs.lemmas.List.{append_cancel_left, take-append-drop, length-take, length-drop, get_or-take, get_or-drop}
-use Rattle.std.proofs.Math.Nat.{div-add-mod}
+use Rattle.std.proofs.Math.Nat.{pow-le-pow_right, div-lt_iff_lt-mul}
 use Rattle.std.proofs.lemmas.Nat.{div-add-mod'}
 use Rattle.rbbi_model.specs.Words.{last_code_point}
 use Rattle.rbbi_model.specs.Rules.{largest_tag}
@@ -129,3 +129,83 @@ rows_tell width (head ∷ rows) (other ∷ others) cells those u v long many man
         sym (take-append-drop width cells) ∙ ap (λ l. l ++ drop width cells) next.0 ∙ ap (λ l. take width those ++ l) rest.1 ∙ take-append-drop width those,
         rest.2
     )
+
+-- what is valid fits its width
+
+all_by_index : {X : Type 0} (P : X → Type 0) (d : X) (xs : List X) → ((i : ℕ) → i < length xs → P (get_or xs i d)) → AllByRecursion P xs
+all_by_index P d [] each = tt
+all_by_index P d (x ∷ xs) each = (each 0 (omega arith), all_by_index P d xs (λ i short. each (suc i) (omega (arith, short))))
+
+ranges_fit : (categories : ℕ) (ranges : List CategoryRange) → categories ≤ 255 → AllByRecursion (IsWithin categories) ranges → AllByRecursion SmallRange ranges
+unfolding SmallRange Fits
+ranges_fit categories [] few within = tt
+ranges_fit categories (range ∷ ranges) few within = ((omega (arith, within.0.0), omega (arith, within.0.1)), ranges_fit categories ranges few within.1)
+
+range_count : (categories : ℕ) (range : CategoryRange) (ranges : List CategoryRange) → AreApart (range ∷ ranges) → AllByRecursion (IsWithin categories) (range ∷ ranges) → range.start + length (range ∷ ranges) ≤ last_code_point + 1
+range_count categories range [] apart within = omega (arith, within.0.0)
+range_count categories range (next ∷ ranges) apart within = omega (arith, apart.0, range_count categories next ranges apart.2 within.1)
+
+ranges_few : (categories : ℕ) (ranges : List CategoryRange) → AreApart ranges → AllByRecursion (IsWithin categories) ranges → Fits 4 (length ranges)
+unfolding Fits
+ranges_few categories [] apart within = omega arith
+ranges_few categories (range ∷ ranges) apart within = omega (arith, range_count categories range ranges apart within)
+
+statuses_fit : (statuses : List ℕ) → AllByRecursion (λ status. status ≤ largest_tag) statuses → AllByRecursion (Fits 4) statuses
+unfolding Fits
+statuses_fit [] small = tt
+statuses_fit (status ∷ statuses) small = (omega (arith, small.0), statuses_fit statuses small.1)
+
+lists_fit : (lists : List (List ℕ)) → AllByRecursion IsValidList lists → AllByRecursion SmallList lists
+unfolding SmallList Fits
+lists_fit [] valid = tt
+lists_fit (statuses ∷ lists) valid = ((omega (arith, valid.0.few), statuses_fit statuses valid.0.small), lists_fit lists valid.1)
+
+module _ (table : Table) (valid : IsValidTable table) where
+  heads_fit : AllByRecursion SmallHead table.rows
+  unfolding SmallHead Fits
+  heads_fit =
+      all_by_index SmallHead empty_head table.rows
+      (λ row short.
+          let is = valid.rows.each row short in
+          let few = valid.rows.few_slashes in
+          let narrow : 2 ^ table.slashes ≤ 2 ^ 32 = pow-le-pow_right (omega arith) few in
+          (omega (arith, is.accept), omega (arith, is.fronts, narrow), omega (arith, is.list, valid.lists.few)))
+
+  cell_fits : (i : ℕ) → i < length table.cells → Fits 2 (get_or table.cells i 0)
+  unfolding Fits
+  cell_fits i short =
+      let some = valid.ranges.some_categories in
+      let within : i < length table.rows * table.categories = omega (arith, valid.well_formed.cells) in
+      let row : i / table.categories < length table.rows = (div-lt_iff_lt-mul some).1 within in
+      let category : i % table.categories < table.categories = omega arith in
+      let next = (valid.rows.each (i / table.categories) row).next (i % table.categories) category in
+      let few = valid.rows.few in
+      subst (λ j. get_or table.cells j 0 < 65536) (div-add-mod' i table.categories) (omega (arith, next, few))
+
+  cells_fit : AllByRecursion (Fits 2) table.cells
+  cells_fit = all_by_index (Fits 2) 0 table.cells cell_fits
+
+-- the joined parts, from the right
+nested : (a b c d e f : List ℕ) → a ++ b ++ c ++ d ++ e ++ f ≡ a ++ (b ++ (c ++ (d ++ (e ++ f))))
+nested a b c d e f =
+    append_assoc (a ++ b ++ c ++ d) e f ∙ append_assoc (a ++ b ++ c) d (e ++ f) ∙ append_assoc (a ++ b) c (d ++ (e ++ f)) ∙ append_assoc a b (c ++ (d ++ (e ++ f)))
+
+module _ (these those : Table) (valid : IsValidTable these) (valid' : IsValidTable those) where
+  pub spelling_tells : spelling these ≡ spelling those → these ≡ those
+  unfolding Fits
+  spelling_tells same =
+      let rest : Table → List ℕ = λ t. flat_map range_bytes t.ranges ++ (flat_map list_bytes t.lists ++ (row_bytes t.categories t.rows t.cells ++ t.safe)) in
+      let spelled : (t : Table) → spelling t ≡ magic ++ (counts t ++ rest t) = λ t. nested magic (counts t) (flat_map range_bytes t.ranges) (flat_map list_bytes t.lists) (row_bytes t.categories t.rows t.cells) t.safe in
+      let counted = append_cancel_left magic (counts these ++ rest these) (counts those ++ rest those) (sym (spelled these) ∙ same ∙ spelled those) in
+      let by_number : (t : Table) → counts t ++ rest t ≡ u16 t.categories ++ (u32 (length t.ranges) ++ (u16 (length t.lists) ++ (u16 (length t.rows) ++ (u16 t.slashes ++ rest t)))) = λ t. nested (u16 t.categories) (u32 (length t.ranges)) (u16 (length t.lists)) (u16 (length t.rows)) (u16 t.slashes) (rest t) in
+      let categories = number_tells 2 these.categories those.categories _ _ (omega (arith, valid.ranges.few_categories)) (omega (arith, valid'.ranges.few_categories)) (sym (by_number these) ∙ counted ∙ by_number those) in
+      let g = number_tells 4 (length these.ranges) (length those.ranges) _ _ (ranges_few these.categories these.ranges valid.ranges.apart valid.ranges.within) (ranges_few those.categories those.ranges valid'.ranges.apart valid'.ranges.within) categories.1 in
+      let n = number_tells 2 (length these.lists) (length those.lists) _ _ (omega (arith, valid.lists.few)) (omega (arith, valid'.lists.few)) g.1 in
+      let r = number_tells 2 (length these.rows) (length those.rows) _ _ (omega (arith, valid.rows.few)) (omega (arith, valid'.rows.few)) n.1 in
+      let k = number_tells 2 these.slashes those.slashes (rest these) (rest those) (omega (arith, valid.rows.few_slashes)) (omega (arith, valid'.rows.few_slashes)) r.1 in
+      let ranges = list_tells range_bytes SmallRange range_tells these.ranges those.ranges _ _ g.0 (ranges_fit these.categories these.ranges valid.ranges.few_categories valid.ranges.within) (ranges_fit those.categories those.ranges valid'.ranges.few_categories valid'.ranges.within) k.1 in
+      let lists = list_tells list_bytes SmallList statuses_tell these.lists those.lists _ _ n.0 (lists_fit these.lists valid.lists.each) (lists_fit those.lists valid'.lists.each) ranges.1 in
+      let width : length those.cells ≡ length those.rows * these.categories = valid'.well_formed.cells ∙ ap (λ c. length those.rows * c) (sym categories.0) in
+      let last : row_bytes these.categories these.rows these.cells ++ these.safe ≡ row_bytes these.categories those.rows those.cells ++ those.safe = lists.1 ∙ ap (λ c. row_bytes c those.rows those.cells ++ those.safe) (sym categories.0) in
+      let rows = rows_tell these.categories these.rows those.rows these.cells those.cells these.safe those.safe r.0 valid.well_formed.cells width (heads_fit these valid) (heads_fit those valid') (cells_fit these valid) (cells_fit those valid') last in
+      λ i. record { categories = categories.0 i; slashes = k.0 i; ranges = ranges.0 i; lists = lists.0 i; rows = rows.0 i; cells = rows.1 i; safe = rows.2 i }
