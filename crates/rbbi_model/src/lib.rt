@@ -8,6 +8,7 @@
 mod answers;
 mod lines;
 mod searches;
+mod table_file;
 mod tables;
 
 pub use answers::{
@@ -17,6 +18,7 @@ pub use lines::decimal_is_the_printed_form;
 pub use searches::{
     look_end_is_past_the_start, next_boundary_is_past_the_start, table_boundaries_cover_the_text,
 };
+pub use table_file::spelling_tells_the_table;
 pub use tables::{category_is_within, code_point_has_one_category};
 
 ghost use Rattle.std.specs.Prelude.{◌≡◌, ℕ, ◌↔◌, List};
