@@ -116,18 +116,20 @@ abbrev pub is_unkept : Command → Reply → Bool
 is_unkept (Ask (Preceding place)) (Place at) = at == 0
 is_unkept _ _ = false
 
--- the cost of a command after the one before it: nothing where it repeats that one, unless no run is kept for the answer
-abbrev pub charge : Table → State → Option Command → Command → Reply → ℕ
-charge table state before command reply =
-    if repeats before command && not (is_unkept command reply) then 0 else command_cost table state command
+-- How commands are performed and what each costs depends on the unit of places and lengths.
+module _ (perform : State → Command → Turn) (cost : State → Command → ℕ) where
+  -- the cost of a command after the one before it: nothing where it repeats that one, unless no run is kept for the answer
+  abbrev pub charge_by : State → Option Command → Command → ℕ
+  charge_by state before command =
+      if repeats before command && not (is_unkept command (perform state command).reply) then 0 else cost state command
 
--- the sum of the costs of the commands from a state on, after the command before them
-abbrev pub costs_from : Table → State → Option Command → List Command → ℕ
-costs_from table state before [] = 0
-costs_from table state before (command ∷ commands) =
-    let performed = turn (table_boundaries table state.text) state command in
-    charge table state before command performed.reply + costs_from table performed.state (Some command) commands
+  -- the sum of the costs of the commands from a state on, after the command before them
+  abbrev pub costs_by : State → Option Command → List Command → ℕ
+  costs_by state before [] = 0
+  costs_by state before (command ∷ commands) =
+      charge_by state before command + costs_by (perform state command).state (Some command) commands
 
--- the cost of a script, over the text and the cursor of each moment
+-- the cost of a script, by characters, over the text and the cursor of each moment
 abbrev pub script_cost : Table → List ℕ → List Command → ℕ
-script_cost table x commands = costs_from table (opened x) None commands
+script_cost table x commands =
+    costs_by (λ state command. turn (table_boundaries table state.text) state command) (command_cost table) (opened x) None commands

@@ -6,7 +6,9 @@
 #![tactic(auto)]
 
 mod answers;
+mod boundaries;
 mod lines;
+mod runs;
 mod searches;
 mod table_file;
 mod tables;
@@ -14,9 +16,11 @@ mod tables;
 pub use answers::{
     cursor_is_a_boundary, one_reply_for_each_command, one_table_reply_for_each_command,
 };
+pub use boundaries::boundaries_cover_the_text;
 pub use lines::decimal_is_the_printed_form;
+pub use runs::anchors_are_stored;
 pub use searches::{
-    look_end_is_past_the_start, next_boundary_is_past_the_start, table_boundaries_cover_the_text,
+    completed_search_has_a_cut, look_end_is_past_the_start, next_boundary_is_past_the_start, table_boundaries_cover_the_text,
 };
 pub use table_file::spelling_tells_the_table;
 pub use tables::{category_is_within, code_point_has_one_category};
