@@ -12,3 +12,4 @@ pub mod Spelled
 pub mod RulesCover
 pub mod Cuts
 pub mod Anchors
+pub mod WorkedRules

@@ -14,7 +14,7 @@ use Rattle.rbbi_model.specs.TableFile.{spelling}
 use Rattle.rbbi_model.specs.Lines.{all_reply_lines, boundary_lines, compile_line, row_of, column_of}
 
 -- the table of the rules `a;`
-abbrev table_a : Table
+abbrev pub table_a : Table
 table_a =
     record {
         categories = 2;
@@ -48,7 +48,7 @@ unfolding digits
 compiled_a = refl
 
 -- the text `ab`
-abbrev ab : List ℕ
+abbrev pub ab : List ℕ
 ab = codes "ab"
 
 -- the search from 0 reads `b` too, and finds the `a`
@@ -119,7 +119,7 @@ cost_of_scripts : (script_cost table_a ab (Ask (Following 0) ∷ Ask (Following 
 cost_of_scripts = (refl, refl)
 
 -- the table of the rules `a+ / b; b;`
-abbrev table_aab : Table
+abbrev pub table_aab : Table
 table_aab =
     record {
         categories = 3;
