@@ -1,5 +1,5 @@
 -- The rules `a;` and their table, worked by hand: the table is compiled from the rules, and both give the boundaries of `ab`.
-use Rattle.std.proofs.Common.{◌≡◌, ◌≢◌, ℕ, zero, suc, ◌+◌, ◌-◌, ◌<◌, ◌≤◌, ◌⊎◌, ◌↔◌, true, false, Some, None, List, [], ◌∷◌, length, take, drop, get_or, map, sym, refl, ap, ◌∙◌, subst, inl, inr, ⊎_elim, arith}
+use Rattle.std.proofs.Common.{◌≡◌, ◌≢◌, ℕ, zero, suc, ◌+◌, ◌-◌, ◌^◌, ◌<◌, ◌≤◌, ◌⊎◌, ◌↔◌, true, false, not, eqb, Some, None, List, [], ◌∷◌, length, take, drop, get_or, map, sym, refl, ap, ◌∙◌, subst, inl, inr, ⊎_elim, arith}
 use Rattle.std.specs.Prelude.{slice_range, IsTrue, unwrap_or, Option}
 use Rattle.std.specs.List.{AllByRecursion}
 use Rattle.std.proofs.lemmas.Bool.{cases_eq, cases_order, false≢true}
@@ -213,3 +213,145 @@ table_valid =
         fronts = λ way k is completed. absurd (omega (arith, completed, small_accept (row_along table_a 1 way)));
         safe = record { exactly = λ first second f s. (λ _. (0, λ from r is. open_leads first second from f s r), λ _. all_safe first second f s); filling = no_filling }
     }
+
+-- the marks of the rules after a word: an `a` ends, and nothing else
+
+whole : (w : List ℕ) → slice_range w 0 (length w) ≡ w
+whole w = take_all (length w - 0) w (omega arith)
+
+ended_a : (w : List ℕ) (number : ℕ) → EndsAt rules_a w 0 (length w) number → w ≡ 97 ∷ []
+ended_a w number ends = sym (whole w) ∙ (ends_a w 0 (length w) number ends).0
+
+no_bit : (k : ℕ) → IsTrue (has_bit 0 k) → ⊥
+no_bit k is = false≢true (sym (ap (λ m. not (eqb m 0)) (and_zero_l (2 ^ k))) ∙ is)
+
+none_before : (w : List ℕ) → EndedBefore rules_a w → ⊥
+none_before w ended = no_look_ahead w 0 ended.e ended.number ended.ends
+
+no_fronts_here : (w : List ℕ) (k : ℕ) → IsTrue (has_bit 0 k) ↔ HasFront rules_a w k
+no_fronts_here w k = (λ bit. absurd (no_bit k bit), λ front. absurd (no_front w 0 (length w) front.number front.front))
+
+marks_of_a : AreMarks rules_a (97 ∷ []) (record { accept = 1; fronts = 0; statuses = 0 ∷ [] })
+marks_of_a =
+    inr (none_before (97 ∷ []), record {
+        accept = inr (inl (record { number = 0; ends = Word 1 0 rule_a refl (record { starts = omega arith; ends = omega arith; word = is_word_a }); no_look_ahead = λ other. no_look_ahead (97 ∷ []) 0 1 other; is_one = refl }));
+        fronts = λ _ k. no_fronts_here (97 ∷ []) k;
+        no_fronts = λ _. refl;
+        statuses = tags_a (97 ∷ []) 0 1
+    })
+
+marks_of_others : (w : List ℕ) → (w ≡ 97 ∷ [] → ⊥) → AreMarks rules_a w no_marks
+marks_of_others w other =
+    inr (none_before w, record {
+        accept = inr (inr (record { no_end = λ number ends. other (ended_a w number ends); is_zero = refl }));
+        fronts = λ _ k. no_fronts_here w k;
+        no_fronts = λ _. refl;
+        statuses = tags_a w 0 (length w)
+    })
+
+-- the rows of the table after a word
+
+stuck : (w : List ℕ) → row_along table_a 0 (map (category_of table_a.ranges) w) ≡ 0
+stuck [] = refl
+stuck (c ∷ w) =
+    ap (λ row. row_along table_a row (map (category_of table_a.ranges) w)) (stop_leads (category_of table_a.ranges c) (category_within 2 table_a.ranges c ranges_valid)) ∙ stuck w
+
+other_category : (c : ℕ) → IsCodePoint c → (c ≡ 97 → ⊥) → category_of table_a.ranges c ≡ 0
+other_category c small other =
+    ⊎_elim
+    (λ is. absurd (other is))
+    (⊎_elim
+    (λ less. sym ((one_category 2 table_a.ranges c 0 ranges_valid small).0 (inl (omega arith, omega arith, refl))))
+    (λ more. sym ((one_category 2 table_a.ranges c 0 ranges_valid small).0 (inr (inr (omega arith, small, refl))))))
+    (cases_order c 97)
+
+row_of_others : (w : List ℕ) → IsWord w → w ≢ [] → (w ≡ 97 ∷ [] → ⊥) → row_after table_a w ≡ 0
+row_of_others [] is some other = absurd (some refl)
+row_of_others (c ∷ []) is some other = ap (λ k. step table_a 1 k) (other_category c is.0 (λ same. other (ap (λ d. d ∷ []) same)))
+row_of_others (c ∷ d ∷ w) is some other =
+    ap (λ row. row_along table_a row (map (category_of table_a.ranges) w))
+    (open_leads (category_of table_a.ranges c) (category_of table_a.ranges d) 1 (category_within 2 table_a.ranges c ranges_valid) (category_within 2 table_a.ranges d ranges_valid) (omega arith))
+    ∙ stuck w
+
+is_a_or_not : (w : List ℕ) → (w ≡ 97 ∷ []) ⊎ (w ≡ 97 ∷ [] → ⊥)
+is_a_or_not [] = inr (λ same. omega (arith, ap length same))
+is_a_or_not (c ∷ []) = ⊎_elim (λ is. inl (ap (λ d. d ∷ []) is)) (λ isnt. inr (λ same. isnt (ap (λ l. get_or l 0 0) same))) (cases_eq c 97)
+is_a_or_not (c ∷ d ∷ w) = inr (λ same. omega (arith, ap length same))
+
+same_marks : HasSameMarks table_a rules_a
+same_marks =
+    record {
+        slashes = refl;
+        each = λ w is some.
+            ⊎_elim
+            (λ same. subst (λ v. AreMarks rules_a v (marks_of table_a (row_after table_a v))) (sym same) marks_of_a)
+            (λ other. subst (λ row. AreMarks rules_a w (marks_of table_a row)) (sym (row_of_others w is some other)) (marks_of_others w other))
+            (is_a_or_not w)
+    }
+
+-- the table is least
+
+reached : (row : ℕ) → row ≢ 0 → row < 3 → (way : List ℕ) × IsWay table_a way × (row_along table_a 1 way ≡ row)
+reached zero some short = absurd (some refl)
+reached (suc zero) some short = ([], tt, refl)
+reached (suc (suc zero)) some short = (1 ∷ [], (omega arith, tt), refl)
+reached (suc (suc (suc row))) some short = absurd (omega (arith, short))
+
+apart : (this that : ℕ) → this < that → that < 3 → ¬ ((this ≡ 0) × (that ≡ 1)) → (way : List ℕ) × IsWay table_a way × (marks_of table_a (row_along table_a this way) ≢ marks_of table_a (row_along table_a that way))
+apart zero zero less short differ = absurd (omega (arith, less))
+apart zero (suc zero) less short differ = absurd (differ (refl, refl))
+apart zero (suc (suc zero)) less short differ = ([], tt, λ same. omega (arith, ap (λ m. m.accept) same))
+apart (suc zero) (suc (suc zero)) less short differ = ([], tt, λ same. omega (arith, ap (λ m. m.accept) same))
+apart this (suc (suc (suc that))) less short differ = absurd (omega (arith, short))
+apart (suc this) zero less short differ = absurd (omega (arith, less))
+apart (suc this) (suc zero) less short differ = absurd (omega (arith, less))
+apart (suc (suc this)) (suc (suc zero)) less short differ = absurd (omega (arith, less))
+
+least : IsLeast table_a
+least = record { reached = reached; apart = apart; lists = λ list some short. absurd (some (omega (arith, short))) }
+
+-- its categories are the classes of the one set
+
+read_a : (c : ℕ) → IsRead rules_a c → c ≡ 97
+read_a c read = by_place read.0 read.1 read.2 read.3 read.4
+  where
+    by_place : (k : ℕ) (set : List Range) → k < 1 → get_or (set_a ∷ []) k set ≡ set → Has set c → c ≡ 97
+    by_place zero set short same has = in_set_a c (subst (λ s. Has s c) (sym same) has)
+    by_place (suc k) set short same has = absurd (omega (arith, short))
+
+is_read_a : IsRead rules_a 97
+is_read_a = (0, set_a, omega arith, refl, inl (omega arith, omega arith))
+
+category_a : (c : ℕ) → c ≡ 97 → category_of table_a.ranges c ≡ 1
+category_a c is = ap (λ d. category_of table_a.ranges d) is
+
+alike_a : (c d : ℕ) → IsCodePoint c → IsCodePoint d → (category_of table_a.ranges c ≡ category_of table_a.ranges d) ↔ AreAlike rules_a c d
+alike_a c d small small' =
+    ⊎_elim
+    (λ is.
+        ⊎_elim
+        (λ is'. (λ _. ((λ _. subst (λ e. Has set_a e) (sym is') has_a, λ _. subst (λ e. Has set_a e) (sym is) has_a), tt), λ _. category_a c is ∙ sym (category_a d is')))
+        (λ other. (λ same. absurd (omega (arith, category_a c is, other_category d small' other, same)), λ alike. absurd (other (in_set_a d (alike.0.0 (subst (λ e. Has set_a e) (sym is) has_a))))))
+        (cases_eq d 97))
+    (λ other.
+        ⊎_elim
+        (λ is'. (λ same. absurd (omega (arith, category_a d is', other_category c small other, same)), λ alike. absurd (other (in_set_a c (alike.0.1 (subst (λ e. Has set_a e) (sym is') has_a))))))
+        (λ other'. (λ _. ((λ has. absurd (other (in_set_a c has)), λ has. absurd (other' (in_set_a d has))), tt), λ _. other_category c small other ∙ sym (other_category d small' other')))
+        (cases_eq d 97))
+    (cases_eq c 97)
+  where
+    has_a : Has set_a 97
+    has_a = inl (omega arith, omega arith)
+
+classes : AreClasses rules_a table_a.categories table_a.ranges
+classes =
+    record {
+        none = λ c small. (λ is read. omega (arith, is, category_a c (read_a c read)), λ unread. other_category c small (λ is. unread (subst (λ d. IsRead rules_a d) (sym is) is_read_a)));
+        alike = alike_a;
+        used = λ category some short. (97, omega arith, (let is : 1 ≡ category = omega arith in is));
+        numbered = λ category later d some less small is. absurd (omega (arith, category_within 2 table_a.ranges d ranges_valid, is, some, less))
+    }
+
+-- the table of `a;` is compiled from the rules
+compiled : IsCompiled table_a rules_a
+compiled = record { valid = table_valid; same = same_marks; least = least; classes = classes }
