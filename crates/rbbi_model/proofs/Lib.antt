@@ -13,3 +13,4 @@ pub mod RulesCover
 pub mod Cuts
 pub mod Anchors
 pub mod WorkedRules
+pub mod WorkedCanonical

@@ -1,6 +1,6 @@
 -- Worked examples, which try the definitions that compute.
-use Rattle.std.proofs.Common.{◌≡◌, ℕ, ◌*◌, true, false, Some, None, if◌then◌else◌, ◌==◌, slice_index, List, [], ◌∷◌, ◌++◌, length, refl}
-use Rattle.std.specs.Prelude.{codes}
+use Rattle.std.proofs.Common.{◌≡◌, ℕ, ◌*◌, true, false, Some, None, if◌then◌else◌, ◌==◌, slice_index, List, [], ◌∷◌, ◌++◌, length, refl, inl, inr, ⊎_elim, arith}
+use Rattle.std.specs.Prelude.{codes, Option}
 use Rattle.std.specs.Fmt.{digits}
 use lib.Utf8.{encode}
 use Rattle.rbbi_model.specs.Boundaries.{Boundary}
@@ -8,7 +8,9 @@ use Rattle.rbbi_model.specs.Tables.{Table, CategoryRange, RowHead, category_of, 
 use Rattle.rbbi_model.specs.Searches.{Found, search_end, look_end, found, table_boundaries}
 use Rattle.rbbi_model.specs.Answers.{Question, First, Last, Next, Previous, Following, Preceding, IsBoundary, Current, Status, Statuses, Breaks, Reply, Place, Done, Yes, No, Largest, AllOf, Listed, Edited, Outside, TooLong, Characters, Answer, answer}
 use Rattle.rbbi_model.specs.Scripts.{Command, Ask, Replace, ShowText, State, Turn, turn, table_replies, replies_by, edit, opened}
-use Rattle.rbbi_model.specs.Runs.{is_anchor}
+use Rattle.rbbi_model.specs.Ranges.{Range}
+use Rattle.rbbi_model.specs.SetTrees.{SetTree, Join, Add, Minus, Span, SetPart, set_of, InSet}
+use Rattle.rbbi_model.specs.Runs.{is_anchor, Entry, Run, IsTrueRun, ShowsAfter, ShowsBefore}
 use Rattle.rbbi_model.specs.Costs.{forward_cost, tries, back_cost, script_cost}
 use Rattle.rbbi_model.specs.TableFile.{spelling}
 use Rattle.rbbi_model.specs.Lines.{all_reply_lines, boundary_lines, compile_line, row_of, column_of}
@@ -139,3 +141,48 @@ compiled_aab = refl
 boundaries_of_aab : boundary_lines (table_boundaries table_aab (codes "aab")) ≡ codes "0 0\n2 0\n3 0\n"
 unfolding digits
 boundaries_of_aab = refl
+
+-- a run kept over `ab`: both boundaries past the anchor 0, each with how far the searches up to it have looked
+abbrev run_ab : Run
+run_ab = record { anchor = 0; entries = record { at = 1; status = 0; reach = 2 } ∷ record { at = 2; status = 0; reach = 2 } ∷ []; leads = true }
+
+run_ab_true : IsTrueRun table_a ab run_ab
+run_ab_true =
+    record {
+        anchor = inl refl;
+        some = omega arith;
+        few = omega arith;
+        consecutive = record { before = record { at = 0; statuses = 0 ∷ [] } ∷ []; after = []; whole = refl };
+        places = (inl refl, (inl refl, tt));
+        reach_enough = (omega arith, (omega arith, tt));
+        reach_within = (omega arith, (omega arith, tt));
+        reaches_rise = (omega arith, tt);
+        leads = λ _. (λ low. low, (λ low. low, (λ low. omega arith, tt)))
+    }
+
+-- it shows the first boundary past 0, since it leads, that past 1, and the last one before 2
+shows_past_0 : ShowsAfter run_ab 0 1
+shows_past_0 =
+    record { before = []; entry = record { at = 1; status = 0; reach = 2 }; after = record { at = 2; status = 0; reach = 2 } ∷ []; whole = refl; at = refl; past = omega arith; nearest = inr (refl, refl, omega arith) }
+
+shows_past_1 : ShowsAfter run_ab 1 2
+shows_past_1 =
+    record { before = record { at = 1; status = 0; reach = 2 } ∷ []; entry = record { at = 2; status = 0; reach = 2 }; after = []; whole = refl; at = refl; past = omega arith; nearest = inl (omega arith) }
+
+shows_before_2 : ShowsBefore ab run_ab 2 1
+shows_before_2 =
+    record { before = []; entry = record { at = 1; status = 0; reach = 2 }; after = record { at = 2; status = 0; reach = 2 } ∷ []; whole = refl; at = refl; short_of = omega arith; nearest = inl (omega arith) }
+
+-- the set `[[ace][bdf] - [abc][def]]` holds `d`: what is added after the difference stays
+abbrev letters : ℕ → ℕ → SetTree
+letters low high = set_of false (record { join = Add; item = Span (record { low = low; high = high }) } ∷ [])
+
+abbrev d_to_f : SetTree
+d_to_f = set_of false (record { join = Add; item = letters 97 102 } ∷ record { join = Minus; item = letters 97 99 } ∷ record { join = Add; item = letters 100 102 } ∷ [])
+
+d_in_set : (HasProperty : List ℕ → Option (List ℕ) → ℕ → Type 0) → InSet HasProperty d_to_f 100
+d_in_set HasProperty = inr (inr (omega arith, omega arith))
+
+a_not_in_set : (HasProperty : List ℕ → Option (List ℕ) → ℕ → Type 0) → InSet HasProperty d_to_f 97 → ⊥
+a_not_in_set HasProperty here =
+    ⊎_elim (λ left. left.1 (inr (omega arith, omega arith))) (λ right. ⊎_elim (λ none. absurd none) (λ within. omega (arith, within.0)) right) here

@@ -175,7 +175,7 @@ cell_within (suc zero) (suc (suc category)) r c = absurd (omega (arith, c))
 cell_within (suc (suc zero)) (suc (suc category)) r c = absurd (omega (arith, c))
 
 -- no look-ahead rule is completed anywhere
-small_accept : (row : ℕ) → accept_of table_a row ≤ 1
+pub small_accept : (row : ℕ) → accept_of table_a row ≤ 1
 small_accept zero = omega arith
 small_accept (suc zero) = omega arith
 small_accept (suc (suc zero)) = omega arith
@@ -192,7 +192,7 @@ stop_leads zero short = refl
 stop_leads (suc zero) short = refl
 stop_leads (suc (suc category)) short = absurd (omega (arith, short))
 
-ranges_valid : AreValidRanges 2 table_a.ranges
+pub ranges_valid : AreValidRanges 2 table_a.ranges
 ranges_valid =
     record {
         some_categories = omega arith;
@@ -203,7 +203,7 @@ ranges_valid =
         within = ((omega arith, omega arith), ((omega arith, omega arith), ((omega arith, omega arith), tt)))
     }
 
-table_valid : IsValidTable table_a
+pub table_valid : IsValidTable table_a
 table_valid =
     record {
         well_formed = record { cells = refl; safe = refl; bytes = (omega arith, tt) };
@@ -256,7 +256,7 @@ stuck [] = refl
 stuck (c ∷ w) =
     ap (λ row. row_along table_a row (map (category_of table_a.ranges) w)) (stop_leads (category_of table_a.ranges c) (category_within 2 table_a.ranges c ranges_valid)) ∙ stuck w
 
-other_category : (c : ℕ) → IsCodePoint c → (c ≡ 97 → ⊥) → category_of table_a.ranges c ≡ 0
+pub other_category : (c : ℕ) → IsCodePoint c → (c ≡ 97 → ⊥) → category_of table_a.ranges c ≡ 0
 other_category c small other =
     ⊎_elim
     (λ is. absurd (other is))
@@ -307,7 +307,7 @@ apart (suc this) zero less short differ = absurd (omega (arith, less))
 apart (suc this) (suc zero) less short differ = absurd (omega (arith, less))
 apart (suc (suc this)) (suc (suc zero)) less short differ = absurd (omega (arith, less))
 
-least : IsLeast table_a
+pub least : IsLeast table_a
 least = record { reached = reached; apart = apart; lists = λ list some short. absurd (some (omega (arith, short))) }
 
 -- its categories are the classes of the one set
@@ -322,7 +322,7 @@ read_a c read = by_place read.0 read.1 read.2 read.3 read.4
 is_read_a : IsRead rules_a 97
 is_read_a = (0, set_a, omega arith, refl, inl (omega arith, omega arith))
 
-category_a : (c : ℕ) → c ≡ 97 → category_of table_a.ranges c ≡ 1
+pub category_a : (c : ℕ) → c ≡ 97 → category_of table_a.ranges c ≡ 1
 category_a c is = ap (λ d. category_of table_a.ranges d) is
 
 alike_a : (c d : ℕ) → IsCodePoint c → IsCodePoint d → (category_of table_a.ranges c ≡ category_of table_a.ranges d) ↔ AreAlike rules_a c d
