@@ -14,3 +14,5 @@ pub mod Cuts
 pub mod Anchors
 pub mod WorkedRules
 pub mod WorkedCanonical
+pub mod Local
+pub mod LookAheadNumbers

@@ -9,19 +9,19 @@ use Rattle.rbbi_model.specs.Boundaries.{Boundary, IsNext, Follow, AreBoundaries,
 use Rattle.rbbi_model.specs.Cover.{places, end_of, CoverText}
 
 -- a piece that isn't empty ends past its start
-some_piece : (x : List ℕ) (s e : ℕ) → s ≤ e → slice_range x s e ≢ [] → s < e
+pub some_piece : (x : List ℕ) (s e : ℕ) → s ≤ e → slice_range x s e ≢ [] → s < e
 some_piece x s e starts some =
     ⊎_elim (λ less. less) (λ past. absurd (some (let none : e - s ≡ 0 = omega arith in ap (λ n. take n (drop s x)) none))) (cases_lt s e)
 
 module _ (rules : List Rule) (x : List ℕ) (s : ℕ) where
-  ends_lie : (e number : ℕ) → EndsAt rules x s e number → (s < e) × (e ≤ length x)
+  pub ends_lie : (e number : ℕ) → EndsAt rules x s e number → (s < e) × (e ≤ length x)
   ends_lie _ _ (Word e number rule is_rule piece) = (some_piece x s e piece.starts piece.word.0, piece.ends)
   ends_lie _ _ (Chained m before e number rule ends is_rule chained_into piece) =
       let earlier = ends_lie m before ends in
       let further = some_piece x (m - 1) e piece.starts piece.word.0 in
       (omega (arith, earlier.0), piece.ends)
 
-  front_lies : (q number : ℕ) → FrontEndsAt rules x s q number → (s < q) × (q ≤ length x)
+  pub front_lies : (q number : ℕ) → FrontEndsAt rules x s q number → (s < q) × (q ≤ length x)
   front_lies q number ends =
       ⊎_elim
       (λ piece. (some_piece x s q piece.starts piece.word.1, piece.ends))
