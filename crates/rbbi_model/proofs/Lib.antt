@@ -16,3 +16,4 @@ pub mod WorkedRules
 pub mod WorkedCanonical
 pub mod Local
 pub mod LookAheadNumbers
+pub mod SearchFacts
