@@ -17,3 +17,4 @@ pub mod WorkedCanonical
 pub mod Local
 pub mod LookAheadNumbers
 pub mod SearchFacts
+pub mod Gives
