@@ -18,3 +18,4 @@ pub mod Local
 pub mod LookAheadNumbers
 pub mod SearchFacts
 pub mod Gives
+pub mod Tries

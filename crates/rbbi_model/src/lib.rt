@@ -7,6 +7,7 @@
 
 mod answers;
 mod boundaries;
+mod compiled;
 mod lines;
 mod runs;
 mod searches;
@@ -17,6 +18,7 @@ pub use answers::{
     cursor_is_a_boundary, one_reply_for_each_command, one_table_reply_for_each_command,
 };
 pub use boundaries::boundaries_cover_the_text;
+pub use compiled::same_marks_give_the_boundaries;
 pub use lines::decimal_is_the_printed_form;
 pub use runs::anchors_are_stored;
 pub use searches::{
