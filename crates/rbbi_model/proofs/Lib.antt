@@ -19,3 +19,4 @@ pub mod LookAheadNumbers
 pub mod SearchFacts
 pub mod Gives
 pub mod Tries
+pub mod MarksUnique

@@ -8,6 +8,7 @@
 mod answers;
 mod boundaries;
 mod compiled;
+mod costs;
 mod lines;
 mod runs;
 mod searches;
@@ -18,7 +19,8 @@ pub use answers::{
     cursor_is_a_boundary, one_reply_for_each_command, one_table_reply_for_each_command,
 };
 pub use boundaries::boundaries_cover_the_text;
-pub use compiled::same_marks_give_the_boundaries;
+pub use compiled::{marks_are_unique, same_marks_give_the_boundaries};
+pub use costs::tries_end_settled;
 pub use lines::decimal_is_the_printed_form;
 pub use runs::anchors_are_stored;
 pub use searches::{
