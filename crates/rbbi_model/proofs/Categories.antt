@@ -1,5 +1,5 @@
 -- Each code point has one category.
-use Rattle.std.proofs.Common.{◌≡◌, ℕ, ◌+◌, ◌<◌, ◌≤◌, ◌⊎◌, ◌↔◌, cond, leb, List, [], ◌∷◌, sym, refl, ap, ◌∙◌, subst, inl, inr, ⊎_elim, arith}
+use Rattle.std.proofs.Common.{◌≡◌, ℕ, ◌<◌, ◌≤◌, ◌↔◌, leb, List, [], ◌∷◌, sym, refl, ◌∙◌, subst, inl, inr, ⊎_elim, arith}
 use Rattle.std.proofs.lemmas.Bool.{cases_lt, cond-true, cond-false, le-leb, lt-leb}
 use Rattle.rbbi_model.specs.Words.{last_code_point, IsCodePoint}
 use Rattle.rbbi_model.specs.Tables.{CategoryRange, HasCategory, category_from, category_of}
@@ -28,18 +28,17 @@ only_own c category range (next ∷ ranges) apart has =
     ⊎_elim
     (λ own. (own.0, sym own.2 ∙ sym (category_ends range.category c next ranges own.1)))
     (λ later.
-        let found = only_own c category next ranges apart.2 later in
-        (omega (arith, apart.0, found.0), found.1 ∙ sym (category_goes_on range.category c next ranges found.0)))
+    let found = only_own c category next ranges apart.2 later in
+    (omega (arith, apart.0, found.0), found.1 ∙ sym (category_goes_on range.category c next ranges found.0)))
     has
 
 pub one_category : (categories : ℕ) (ranges : List CategoryRange) (c category : ℕ) → AreValidRanges categories ranges → IsCodePoint c → HasCategory ranges c category ↔ (category ≡ category_of ranges c)
 one_category categories [] c category valid small = absurd valid.from_zero
 one_category categories (range ∷ ranges) c category valid small =
     let starts : range.start ≤ c = omega (arith, valid.from_zero) in
-    let own = category_goes_on 0 c range ranges starts in
-    (
-        λ has. (only_own c category range ranges valid.apart has).1 ∙ sym own,
-        λ is. subst (λ k. HasCategory (range ∷ ranges) c k) (sym (is ∙ own)) (has_own c range ranges starts small)
+    let own = category_goes_on 0 c range ranges starts in (
+      λ has. (only_own c category range ranges valid.apart has).1 ∙ sym own,
+      λ is. subst (λ k. HasCategory (range ∷ ranges) c k) (sym (is ∙ own)) (has_own c range ranges starts small),
     )
 
 within_from : (categories before c : ℕ) (ranges : List CategoryRange) → before < categories → AllByRecursion (IsWithin categories) ranges → category_from before ranges c < categories

@@ -5,7 +5,7 @@ use Rattle.rbbi_model.specs.Lists.{IsRising}
 use Rattle.rbbi_model.specs.Boundaries.{Boundary, start}
 use Rattle.rbbi_model.specs.Cover.{places, end_of, CoverText}
 use Rattle.rbbi_model.specs.Tables.{Table}
-use Rattle.rbbi_model.specs.Searches.{next_boundary, follow_by, fresh, table_boundaries}
+use Rattle.rbbi_model.specs.Searches.{next_boundary, follow_by, table_boundaries}
 use Rattle.rbbi_model.proofs.Found.{found_lies}
 
 module _ (next : ℕ → Boundary) (n : ℕ) (lies : (s : ℕ) → s < n → (s < (next s).at) × ((next s).at ≤ n)) where
@@ -21,14 +21,14 @@ module _ (next : ℕ → Boundary) (n : ℕ) (lies : (s : ℕ) → s < n → (s 
   follow_reach (suc most) last low high =
       cond_both (ltb last.at n) (next last.at ∷ follow_by next n most (next last.at)) [] (λ bs. end_of (last ∷ bs) ≡ n)
       (λ is.
-          let lie = lies last.at (ltb-true last.at n is) in
-          follow_reach most (next last.at) lie.1 (omega (arith, lie.0)))
+      let lie = lies last.at (ltb-true last.at n is) in
+      follow_reach most (next last.at) lie.1 (omega (arith, lie.0)))
       (λ isnt. let past = ltb-false last.at n isnt in omega arith)
 
 pub table_covers : (table : Table) (x : List ℕ) → CoverText (length x) (table_boundaries table x)
 table_covers table x =
     record {
-        begin = refl;
-        rise = follow_rise (next_boundary table x) (length x) (λ s short. found_lies table x s short) (length x) start;
-        reach = follow_reach (next_boundary table x) (length x) (λ s short. found_lies table x s short) (length x) start (omega arith) (omega arith)
+      begin = refl;
+      rise = follow_rise (next_boundary table x) (length x) (λ s short. found_lies table x s short) (length x) start;
+      reach = follow_reach (next_boundary table x) (length x) (λ s short. found_lies table x s short) (length x) start (omega arith) (omega arith);
     }

@@ -1,5 +1,5 @@
 -- After each question the cursor is a boundary.
-use Rattle.std.proofs.Common.{◌≡◌, ℕ, ◌⊎◌, Bool, true, cond, ltb, leb, List, [], ◌∷◌, Option, Some, None, sym, refl, ap, ◌∙◌, subst, inl, inr, ⊎_elim, arith}
+use Rattle.std.proofs.Common.{◌≡◌, ℕ, ◌⊎◌, Bool, cond, ltb, leb, List, [], ◌∷◌, Option, Some, None, sym, refl, ap, ◌∙◌, inl, inr, ⊎_elim, arith}
 use Rattle.std.specs.Prelude.{unwrap_or}
 use Rattle.std.proofs.lemmas.Bool.{cases_Bool, cond-true, cond-false}
 use Rattle.rbbi_model.specs.Boundaries.{Boundary}
@@ -25,10 +25,10 @@ last_in test before [] p is = inl is
 last_in test before (b ∷ bs) p is =
     ⊎_elim
     (λ kept.
-        ⊎_elim
-        (λ holds. inr (inl (some_same b.at p (sym (cond-true (test b.at) (Some b.at) before holds) ∙ kept))))
-        (λ fails. inl (sym (cond-false (test b.at) (Some b.at) before fails) ∙ kept))
-        (cases_Bool (test b.at)))
+    ⊎_elim
+    (λ holds. inr (inl (some_same b.at p (sym (cond-true (test b.at) (Some b.at) before holds) ∙ kept))))
+    (λ fails. inl (sym (cond-false (test b.at) (Some b.at) before fails) ∙ kept))
+    (cases_Bool (test b.at)))
     (λ later. inr (inr later))
     (last_in test (cond (test b.at) (Some b.at) before) bs p is)
 

@@ -1,13 +1,13 @@
 -- In a valid table a search that completes a look-ahead rule has a place for its cut.
-use Rattle.std.proofs.Common.{◌≡◌, ◌≢◌, ℕ, zero, suc, ◌+◌, ◌-◌, ◌^◌, ◌<◌, ◌≤◌, ◌⊎◌, Bool, true, false, ◌&&◌, not, cond, eqb, leb, ltb, List, [], ◌∷◌, Option, Some, None, length, take, drop, map, sym, refl, ap, ◌∙◌, subst, ⊎_elim, arith}
+use Rattle.std.proofs.Common.{◌≡◌, ℕ, zero, suc, ◌+◌, ◌-◌, ◌^◌, ◌<◌, Bool, true, ◌&&◌, not, eqb, ltb, List, [], ◌∷◌, Option, Some, None, length, take, drop, map, sym, refl, ap, ◌∙◌, subst, ⊎_elim, arith}
 use Rattle.std.specs.Prelude.{slice_range, IsSome, IsTrue, unwrap_or, bit_and}
 use Rattle.std.specs.List.{AllByRecursion}
-use Rattle.std.proofs.lemmas.Bool.{cases_Bool, cond-true, cond-false, cond_both, cases_lt, cases_eq, and_from, and_parts, lt-ltb, ltb-true, leb-true, false≢true}
-use Rattle.std.proofs.lemmas.List.{length-map, length-take, length-drop, take-take, take-map}
+use Rattle.std.proofs.lemmas.Bool.{cond_both, cases_eq, and_from, and_parts, lt-ltb, ltb-true, leb-true, false≢true}
+use Rattle.std.proofs.lemmas.List.{length-map, length-take, take-take, take-map}
 use Rattle.std.specs.Int.Bits.{and_zero_l}
 use Rattle.rbbi_model.specs.Places.{greatest_below, has_bit}
-use Rattle.rbbi_model.specs.Tables.{Table, accept_of, fronts_of, row_along, row_after, category_of, completes}
-use Rattle.rbbi_model.specs.ValidTables.{IsWay, IsValidTable}
+use Rattle.rbbi_model.specs.Tables.{Table, accept_of, fronts_of, row_along, category_of, completes}
+use Rattle.rbbi_model.specs.ValidTables.{IsValidTable}
 use Rattle.rbbi_model.specs.Searches.{row_at, search_end, cut_place}
 use Rattle.rbbi_model.proofs.Categories.{category_within}
 use Rattle.rbbi_model.proofs.Found.{greatest_lies}
@@ -19,10 +19,10 @@ greatest_is test (suc high) q short holds =
     cond_both (test high) (Some high) (greatest_below test high) (λ o. IsSome o)
     (λ _. refl)
     (λ fails.
-        ⊎_elim
-        (λ same. absurd (false≢true (sym fails ∙ subst (λ p. test p ≡ true) same holds)))
-        (λ other. greatest_is test high q (omega arith) holds)
-        (cases_eq q high))
+    ⊎_elim
+    (λ same. absurd (false≢true (sym fails ∙ subst (λ p. test p ≡ true) same holds)))
+    (λ other. greatest_is test high q (omega arith) holds)
+    (cases_eq q high))
 
 -- 0 has no bit
 no_bit : (n k : ℕ) → n ≡ 0 → has_bit n k ≡ true → ⊥
@@ -50,7 +50,7 @@ module _ (table : Table) (valid : IsValidTable table) (x : List ℕ) (s : ℕ) (
       let long : length (map of w) ≡ length w = length-map w of in
       let within : earlier < z - s = omega (arith, fronted.1, long, length-take (z - s) (drop s x)) in
       let same : take earlier (map of w) ≡ map of (slice_range x s (s + earlier)) =
-          take-map of earlier w ∙ ap (λ l. map of l) (take-take earlier (z - s) (drop s x) (omega arith) ∙ ap (λ n. take n (drop s x)) (let e : earlier ≡ s + earlier - s = omega arith in e)) in
+      take-map of earlier w ∙ ap (λ l. map of l) (take-take earlier (z - s) (drop s x) (omega arith) ∙ ap (λ n. take n (drop s x)) (let e : earlier ≡ s + earlier - s = omega arith in e)) in
       let bit = subst (λ l. IsTrue (has_bit (fronts_of table (row_along table 1 l)) k)) same fronted.2 in
       ⊎_elim
       (λ none. absurd (no_bit (fronts_of table 1) k valid.rows.start.1 (subst (λ n. IsTrue (has_bit (fronts_of table (row_along table 1 (take n (map of w)))) k)) none fronted.2)))

@@ -1,8 +1,8 @@
 -- The printed form of a number.
-use Rattle.std.proofs.Common.{◌≡◌, ◌≢◌, ℕ, ◌+◌, ◌-◌, ◌*◌, ◌/◌, ◌%◌, ◌^◌, ◌<◌, ◌≤◌, ◌⊎◌, List, [], ◌∷◌, ◌++◌, sym, refl, ap, ◌∙◌, subst, inl, inr, ⊎_elim, arith}
+use Rattle.std.proofs.Common.{◌≡◌, ℕ, ◌+◌, ◌-◌, ◌*◌, ◌/◌, ◌%◌, ◌^◌, ◌<◌, ◌≤◌, ◌⊎◌, List, [], ◌∷◌, ◌++◌, refl, ap, ◌∙◌, inl, inr, ⊎_elim, arith}
 use Rattle.std.specs.Prelude.{fold}
 use Rattle.std.specs.List.{AllByRecursion}
-use Rattle.std.proofs.lemmas.Bool.{cases_lt, cases_eq}
+use Rattle.std.proofs.lemmas.Bool.{cases_eq}
 use Rattle.std.proofs.lemmas.Fmt.{decimal_by_steps}
 use Rattle.std.specs.Fmt.{decimal}
 use Rattle.rbbi_model.specs.Lines.{IsDigit, number_of, BeginsWithoutZero, IsDecimal}
@@ -25,21 +25,19 @@ Shown n digits = AllByRecursion IsDigit digits × (number_of digits ≡ n) × ((
 
 one_shown : (n : ℕ) → n < 10 → Shown n ((48 + n) ∷ [])
 unfolding Shown
-one_shown n small =
-    (
-        ((omega arith, omega arith), tt),
-        omega arith,
-        ⊎_elim (λ zero. inl (zero, ap (λ m. (48 + m) ∷ []) zero)) (λ some. inr (λ is. some (omega arith))) (cases_eq n 0)
-    )
+one_shown n small = (
+  ((omega arith, omega arith), tt),
+  omega arith,
+  ⊎_elim (λ zero. inl (zero, ap (λ m. (48 + m) ∷ []) zero)) (λ some. inr (λ is. some (omega arith))) (cases_eq n 0),
+)
 
 more_shown : (n : ℕ) (digits : List ℕ) → 10 ≤ n → Shown (n / 10) digits → Shown n (digits ++ ((48 + n % 10) ∷ []))
 unfolding Shown
-more_shown n digits large shown =
-    (
-        digits_push digits (48 + n % 10) shown.0 (omega arith, omega arith),
-        fold_push 0 digits (48 + n % 10) ∙ (let value = shown.1 in omega arith),
-        inr (without_zero_push digits ((48 + n % 10) ∷ []) (⊎_elim (λ zero. absurd (omega (arith, zero.0))) (λ begins. begins) shown.2))
-    )
+more_shown n digits large shown = (
+  digits_push digits (48 + n % 10) shown.0 (omega arith, omega arith),
+  fold_push 0 digits (48 + n % 10) ∙ (let value = shown.1 in omega arith),
+  inr (without_zero_push digits ((48 + n % 10) ∷ []) (⊎_elim (λ zero. absurd (omega (arith, zero.0))) (λ begins. begins) shown.2)),
+)
 
 all_shown : (n : ℕ) → n < 2 ^ 64 → Shown n (decimal n)
 all_shown n small = decimal_by_steps Shown one_shown more_shown n small

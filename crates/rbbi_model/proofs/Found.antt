@@ -1,10 +1,10 @@
 -- Where a search ends, what it finds, and how far it looks.
-use Rattle.std.proofs.Common.{◌≡◌, ℕ, zero, suc, ◌+◌, ◌-◌, ◌<◌, ◌≤◌, ◌⊎◌, Bool, true, false, ◌&&◌, cond, ltb, eqb, List, Option, Some, None, length, sym, refl, ap, ◌∙◌, subst, ⊎_elim, arith}
+use Rattle.std.proofs.Common.{◌≡◌, ℕ, zero, suc, ◌+◌, ◌-◌, ◌<◌, ◌≤◌, Bool, true, ◌&&◌, ltb, eqb, List, Option, Some, None, length, sym, refl, ap, ◌∙◌, subst, ⊎_elim, arith}
 use Rattle.std.specs.Prelude.{unwrap_or}
 use Rattle.std.proofs.lemmas.Bool.{cases_Bool, cond-true, cond-false, cond_both, and_parts, ltb-true}
 use Rattle.rbbi_model.specs.Places.{least_from, greatest_below, has_bit}
 use Rattle.rbbi_model.specs.Tables.{Table, accept_of, fronts_of, list_of, completes, stops}
-use Rattle.rbbi_model.specs.Searches.{Found, row_at, search_end, look_end, cut_place, longest_place, found_longest, found}
+use Rattle.rbbi_model.specs.Searches.{row_at, search_end, look_end, cut_place, longest_place, found_longest, found}
 
 pub least_lies : (test : ℕ → Bool) (low count : ℕ) → (low ≤ least_from test low count) × (least_from test low count ≤ low + count)
 least_lies test low zero = (omega arith, omega arith)
@@ -24,11 +24,11 @@ greatest_lies test zero q is = absurd (none_some q is)
 greatest_lies test (suc high) q is =
     ⊎_elim
     (λ holds.
-        let same : high ≡ q = some_same high q (sym (cond-true (test high) (Some high) (greatest_below test high) holds) ∙ is) in
-        (omega arith, subst (λ p. test p ≡ true) same holds))
+    let same : high ≡ q = some_same high q (sym (cond-true (test high) (Some high) (greatest_below test high) holds) ∙ is) in
+    (omega arith, subst (λ p. test p ≡ true) same holds))
     (λ fails.
-        let lower = greatest_lies test high q (sym (cond-false (test high) (Some high) (greatest_below test high) fails) ∙ is) in
-        (omega (arith, lower.0), lower.1))
+    let lower = greatest_lies test high q (sym (cond-false (test high) (Some high) (greatest_below test high) fails) ∙ is) in
+    (omega (arith, lower.0), lower.1))
     (cases_Bool (test high))
 
 -- past s, and not past n
@@ -58,9 +58,9 @@ module _ (table : Table) (x : List ℕ) (s : ℕ) (short : s < length x) where
       let test : ℕ → Bool = λ q. ltb s q && has_bit (fronts_of table (row_at table x s q)) k in
       or_next s (length x) (greatest_below test (search_end table x s)) short
       (λ q is.
-          let lies = greatest_lies test (search_end table x s) q is in
-          let past = ltb-true s q (and_parts (ltb s q) (has_bit (fronts_of table (row_at table x s q)) k) lies.1).0 in
-          (past, omega (arith, lies.0, end_lies.1)))
+      let lies = greatest_lies test (search_end table x s) q is in
+      let past = ltb-true s q (and_parts (ltb s q) (has_bit (fronts_of table (row_at table x s q)) k) lies.1).0 in
+      (past, omega (arith, lies.0, end_lies.1)))
 
   longest_lies : (place : Option ℕ) → ((q : ℕ) → place ≡ Some q → Between s (length x) q) → Between s (length x) (found_longest table x s place).at
   unfolding Between

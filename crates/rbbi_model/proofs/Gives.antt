@@ -1,18 +1,16 @@
 -- A valid table with the marks of the rules gives their boundaries.
-use Rattle.std.proofs.Common.{◌≡◌, ◌≢◌, ℕ, zero, suc, ◌+◌, ◌-◌, ◌<◌, ◌≤◌, ◌⊎◌, ◌↔◌, Bool, true, false, ◌&&◌, ◌||◌, leb, ltb, eqb, List, [], ◌∷◌, Option, Some, None, length, take, drop, sym, refl, ap, ◌∙◌, subst, inl, inr, ⊎_elim, arith}
-use Rattle.std.specs.Prelude.{slice_range, slice_index_or, IsTrue, unwrap_or}
-use Rattle.std.specs.List.{AllByRecursion}
+use Rattle.std.proofs.Common.{◌≡◌, ℕ, zero, suc, ◌+◌, ◌-◌, ◌<◌, ◌≤◌, ◌⊎◌, Bool, true, false, ◌&&◌, ltb, eqb, List, [], ◌∷◌, Option, Some, None, length, take, drop, sym, refl, ap, ◌∙◌, subst, inl, inr, ⊎_elim, arith}
+use Rattle.std.specs.Prelude.{slice_range, slice_index_or, unwrap_or}
 use Rattle.std.proofs.lemmas.Bool.{cases_Bool, cases_eq, cases_lt, cases_order, cond-true, cond-false, cond_both, or_parts, or_cases, and_parts, and_from, leb-true, leb-false, ltb-true, ltb-false, lt-ltb, eqb-true, eq-eqb, false≢true}
-use Rattle.rbbi_model.specs.Words.{IsCodePoint, IsCharacter, IsWord, IsText}
+use Rattle.rbbi_model.specs.Words.{IsWord, IsText}
 use Rattle.rbbi_model.specs.Places.{has_bit, greatest_below}
 use Rattle.rbbi_model.specs.Rules.{Rule, LooksAhead}
-use Rattle.rbbi_model.specs.Chains.{EndsAt, FrontEndsAt, AreTags}
-use Rattle.rbbi_model.specs.Boundaries.{Boundary, LookAheadEndsAt, IsLookAheadCut, IsLongestMatch, IsSingleCharacter, IsNext, Follow, AreBoundaries, start}
+use Rattle.rbbi_model.specs.Chains.{EndsAt, FrontEndsAt}
+use Rattle.rbbi_model.specs.Boundaries.{Boundary, LookAheadEndsAt, IsNext, Follow, AreBoundaries, start}
 use Rattle.rbbi_model.specs.Tables.{Table, accept_of, fronts_of, list_of, statuses_of, completes, stops}
 use Rattle.rbbi_model.specs.ValidTables.{IsValidTable, BeginsWithZeroAlone}
 use Rattle.rbbi_model.specs.Searches.{Found, row_at, search_end, cut_place, longest_place, found_longest, found, next_boundary, follow_by, table_boundaries}
-use Rattle.rbbi_model.specs.LeafSets.{EndedBefore}
-use Rattle.rbbi_model.specs.Marks.{Marks, no_marks, look_ahead_number, IsCompleted, IsEnded, IsUnended, HasFront, AreMarksAtEnd, AreMarks, marks_of, HasSameMarks}
+use Rattle.rbbi_model.specs.Marks.{look_ahead_number, IsCompleted, AreMarksAtEnd, AreMarks, marks_of, HasSameMarks}
 use Rattle.rbbi_model.proofs.RulesCover.{ends_lie, front_lies}
 use Rattle.rbbi_model.proofs.Local.{length_piece, look_ahead_from, ends_to_end, ends_from_end, look_ahead_to_end, look_ahead_from_end, front_to_end, front_from_end, tags_from_end}
 use Rattle.rbbi_model.proofs.LookAheadNumbers.{same_number}
@@ -54,8 +52,8 @@ module _ (table : Table) (rules : List Rule) (valid : IsValidTable table) (same 
   marks_at q past within quiet =
       ⊎_elim
       (λ ended.
-          let before = ended.0.before in
-          absurd (quiet (s + ended.0.e) ended.0.number (omega (arith, length_piece x s q within)) (look_ahead_from rules x s q (omega arith) within ended.0.e ended.0.number ended.0.ends)))
+      let before = ended.0.before in
+      absurd (quiet (s + ended.0.e) ended.0.number (omega (arith, length_piece x s q within)) (look_ahead_from rules x s q (omega arith) within ended.0.e ended.0.number ended.0.ends)))
       (λ at. at.1)
       (mark_at q past within)
 
@@ -93,8 +91,8 @@ module _ (table : Table) (rules : List Rule) (valid : IsValidTable table) (same 
       let earlier = quiet_below bound (omega arith) (λ q past below. small q past (omega arith)) in
       ⊎_elim
       (λ is.
-          let past : s < e = (ends_lie rules x s e number ends.ends).0 in
-          small_accept e past (omega arith) (marks_at e past (omega arith) (λ f n below. earlier f n (omega arith))) (small e past (omega arith)) number ends)
+      let past : s < e = (ends_lie rules x s e number ends.ends).0 in
+      small_accept e past (omega arith) (marks_at e past (omega arith) (λ f n below. earlier f n (omega arith))) (small e past (omega arith)) number ends)
       (λ other. earlier e number (omega arith) ends)
       (cases_eq e bound)
 
@@ -138,26 +136,26 @@ module _ (table : Table) (rules : List Rule) (valid : IsValidTable table) (same 
       let is_found : found table x s ≡ record { at = q; list = list_of table last } = cond-true (completes table last) (record { at = q; list = list_of table last }) (found_longest table x s (longest_place table x s z)) is in
       let cut = cut_is table valid x s short is in
       let by_completed : IsCompleted rules (slice_range x s z) (accept_of table last) → IsNext rules x s (record { at = q; statuses = statuses_of table (list_of table last) }) =
-          λ completed.
-              let number : ℕ = completed.number in
-              let ends = look_ahead_from_end rules x s z (omega (arith, lies.0)) lies.1 number completed.ends in
-              let numbered : k ≡ look_ahead_number rules number = omega (arith, completed.numbered, many) in
-              let quiet_at : (p : ℕ) → p ≤ z → Quiet p = λ p below e n less. quiet e n (omega arith) in
-              let at_cut = marks_at q cut.0 (omega (arith, cut.1, lies.1)) (quiet_at q (omega (arith, cut.1))) in
-              let front = (at_cut.fronts (small_before q cut.0 cut.1) k).0 cut.2 in
-              let front_here = front_from_end rules x s q (omega (arith, cut.0)) (omega (arith, cut.1, lies.1)) front.number front.front in
-              let same_rule : front.number ≡ number = same_number rules front.number number front_here.rule ends.rule front_here.is_rule (looks_ahead_of q front.number front_here) ends.is_rule ends.looks_ahead (front.numbered ∙ numbered) in
-              inl (record {
-                  e = z;
-                  number = number;
-                  ends = ends;
-                  least = λ e n other. ⊎_elim (λ less. absurd (quiet e n less other)) (λ past. past) (cases_lt e z);
-                  first = λ n other. completed.first n (look_ahead_to_end rules x s z (omega (arith, lies.0)) lies.1 n other);
-                  before = cut.1;
-                  front = subst (λ n. FrontEndsAt rules x s q n) same_rule front_here;
-                  greatest = λ p less ends_there. greatest_cut p number less numbered quiet ends_there;
-                  statuses = tags_from_end rules x s z (omega (arith, lies.0)) lies.1 (statuses_of table (list_of table last)) at.statuses
-              }) in
+      λ completed.
+      let number : ℕ = completed.number in
+      let ends = look_ahead_from_end rules x s z (omega (arith, lies.0)) lies.1 number completed.ends in
+      let numbered : k ≡ look_ahead_number rules number = omega (arith, completed.numbered, many) in
+      let quiet_at : (p : ℕ) → p ≤ z → Quiet p = λ p below e n less. quiet e n (omega arith) in
+      let at_cut = marks_at q cut.0 (omega (arith, cut.1, lies.1)) (quiet_at q (omega (arith, cut.1))) in
+      let front = (at_cut.fronts (small_before q cut.0 cut.1) k).0 cut.2 in
+      let front_here = front_from_end rules x s q (omega (arith, cut.0)) (omega (arith, cut.1, lies.1)) front.number front.front in
+      let same_rule : front.number ≡ number = same_number rules front.number number front_here.rule ends.rule front_here.is_rule (looks_ahead_of q front.number front_here) ends.is_rule ends.looks_ahead (front.numbered ∙ numbered) in
+      inl (record {
+        e = z;
+        number = number;
+        ends = ends;
+        least = λ e n other. ⊎_elim (λ less. absurd (quiet e n less other)) (λ past. past) (cases_lt e z);
+        first = λ n other. completed.first n (look_ahead_to_end rules x s z (omega (arith, lies.0)) lies.1 n other);
+        before = cut.1;
+        front = subst (λ n. FrontEndsAt rules x s q n) same_rule front_here;
+        greatest = λ p less ends_there. greatest_cut p number less numbered quiet ends_there;
+        statuses = tags_from_end rules x s z (omega (arith, lies.0)) lies.1 (statuses_of table (list_of table last)) at.statuses;
+      }) in
       subst (λ f. IsNext rules x s (record { at = f.at; statuses = statuses_of table f.list })) (sym is_found)
       (⊎_elim by_completed
       (⊎_elim (λ ended. absurd (omega (arith, ended.is_one, many))) (λ unended. absurd (omega (arith, unended.is_zero, many))))
@@ -173,16 +171,16 @@ module _ (table : Table) (rules : List Rule) (valid : IsValidTable table) (same 
       (⊎_elim
       (λ before. small_before q past before)
       (λ after.
-          ⊎_elim
-          (λ stopped.
-              ⊎_elim
-              (λ zero_row.
-                  let row : row_at table x s q ≡ 0 = stays_stopped table valid x s z q (omega arith) (eqb-true (row_at table x s z) 0 zero_row) in
-                  subst (λ r. accept_of table r < 2) (sym row) (omega (arith, valid.rows.stop.0)))
-              (λ completed. absurd (false≢true (sym isnt ∙ completed)))
-              (or_cases (eqb (row_at table x s z) 0) (completes table (row_at table x s z)) stopped))
-          (λ all. absurd (omega (arith, all)))
-          search_stops.1))
+      ⊎_elim
+      (λ stopped.
+      ⊎_elim
+      (λ zero_row.
+      let row : row_at table x s q ≡ 0 = stays_stopped table valid x s z q (omega arith) (eqb-true (row_at table x s z) 0 zero_row) in
+      subst (λ r. accept_of table r < 2) (sym row) (omega (arith, valid.rows.stop.0)))
+      (λ completed. absurd (false≢true (sym isnt ∙ completed)))
+      (or_cases (eqb (row_at table x s z) 0) (completes table (row_at table x s z)) stopped))
+      (λ all. absurd (omega (arith, all)))
+      search_stops.1))
       (cases_order q z)
 
   -- past the end of the search no rule ends
@@ -191,16 +189,16 @@ module _ (table : Table) (rules : List Rule) (valid : IsValidTable table) (same 
       let z : ℕ = search_end table x s in
       ⊎_elim
       (λ after.
-          ⊎_elim
-          (λ stopped.
-              ⊎_elim
-              (λ zero_row.
-                  let row : row_at table x s q ≡ 0 = stays_stopped table valid x s z q (omega arith) (eqb-true (row_at table x s z) 0 zero_row) in
-                  absurd (omega (arith, ap (λ r. accept_of table r) row, one, valid.rows.stop.0)))
-              (λ completed. absurd (false≢true (sym isnt ∙ completed)))
-              (or_cases (eqb (row_at table x s z) 0) (completes table (row_at table x s z)) stopped))
-          (λ all. absurd (omega (arith, all)))
-          search_stops.1)
+      ⊎_elim
+      (λ stopped.
+      ⊎_elim
+      (λ zero_row.
+      let row : row_at table x s q ≡ 0 = stays_stopped table valid x s z q (omega arith) (eqb-true (row_at table x s z) 0 zero_row) in
+      absurd (omega (arith, ap (λ r. accept_of table r) row, one, valid.rows.stop.0)))
+      (λ completed. absurd (false≢true (sym isnt ∙ completed)))
+      (or_cases (eqb (row_at table x s z) 0) (completes table (row_at table x s z)) stopped))
+      (λ all. absurd (omega (arith, all)))
+      search_stops.1)
       (λ before. before)
       (cases_lt z q)
 
@@ -230,11 +228,11 @@ module _ (table : Table) (rules : List Rule) (valid : IsValidTable table) (same 
     unfolding boundary_at
     longest_next None is =
         inr (inr (record {
-            no_end = λ e number ends.
-                let there = passes e number ends in
-                none_passes (λ q. ltb s q && eqb (accept_of table (row_at table x s q)) 1) (search_end table x s + 1) e is there.0 there.1;
-            at = refl;
-            statuses = first_list table.lists valid.lists.first table refl
+          no_end = λ e number ends.
+              let there = passes e number ends in
+              none_passes (λ q. ltb s q && eqb (accept_of table (row_at table x s q)) 1) (search_end table x s + 1) e is there.0 there.1;
+          at = refl;
+          statuses = first_list table.lists valid.lists.first table refl;
         }))
     longest_next (Some q) is =
         let test : ℕ → Bool = λ p. ltb s p && eqb (accept_of table (row_at table x s p)) 1 in
@@ -244,10 +242,10 @@ module _ (table : Table) (rules : List Rule) (valid : IsValidTable table) (same 
         let within : q ≤ length x = omega (arith, lies.0, (end_lies table x s short).1) in
         let at = marks_here q past within in
         inr (inl (record {
-            no_look_ahead = none_ahead;
-            ends = one_ends q past within at (eqb-true (accept_of table (row_at table x s q)) 1 parts.1);
-            greatest = λ e number ends. let there = passes e number ends in greatest_is_most test (search_end table x s + 1) q e is there.0 there.1;
-            statuses = tags_from_end rules x s q (omega arith) within (statuses_of table (list_of table (row_at table x s q))) at.statuses
+          no_look_ahead = none_ahead;
+          ends = one_ends q past within at (eqb-true (accept_of table (row_at table x s q)) 1 parts.1);
+          greatest = λ e number ends. let there = passes e number ends in greatest_is_most test (search_end table x s + 1) q e is there.0 there.1;
+          statuses = tags_from_end rules x s q (omega arith) within (statuses_of table (list_of table (row_at table x s q))) at.statuses;
         }))
 
     plain_next : IsNext rules x s (next_boundary table x s)
@@ -255,7 +253,7 @@ module _ (table : Table) (rules : List Rule) (valid : IsValidTable table) (same 
     plain_next =
         let last : ℕ = row_at table x s (search_end table x s) in
         let is_found : found table x s ≡ found_longest table x s (longest_place table x s (search_end table x s)) =
-            cond-false (completes table last) (record { at = cut_place table x s (search_end table x s) (accept_of table last - 2); list = list_of table last }) (found_longest table x s (longest_place table x s (search_end table x s))) isnt in
+        cond-false (completes table last) (record { at = cut_place table x s (search_end table x s) (accept_of table last - 2); list = list_of table last }) (found_longest table x s (longest_place table x s (search_end table x s))) isnt in
         subst (λ f. IsNext rules x s (record { at = f.at; statuses = statuses_of table f.list })) (sym is_found) (longest_next (longest_place table x s (search_end table x s)) refl)
 
   -- the next boundary by the table is that by the rules
@@ -268,9 +266,9 @@ module _ (table : Table) (rules : List Rule) (valid : IsValidTable table) (same 
   table_follow (suc most) last low high =
       cond_both (ltb last.at (length x)) (next_boundary table x last.at ∷ follow_by (next_boundary table x) (length x) most (next_boundary table x last.at)) [] (λ bs. Follow rules x last bs)
       (λ is.
-          let short = ltb-true last.at (length x) is in
-          let lies = found_lies table x last.at short in
-          (short, table_next table rules valid same x text last.at short, table_follow most (next_boundary table x last.at) lies.1 (omega (arith, lies.0))))
+      let short = ltb-true last.at (length x) is in
+      let lies = found_lies table x last.at short in
+      (short, table_next table rules valid same x text last.at short, table_follow most (next_boundary table x last.at) lies.1 (omega (arith, lies.0))))
       (λ isnt. let past = ltb-false last.at (length x) isnt in omega arith)
 
   pub table_gives : AreBoundaries rules x (table_boundaries table x)

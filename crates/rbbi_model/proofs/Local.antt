@@ -1,10 +1,9 @@
 -- What ends in a text from a place on, ends so in the piece of the text that begins there.
-use Rattle.std.proofs.Common.{◌≡◌, ◌≢◌, ℕ, zero, suc, ◌+◌, ◌-◌, ◌<◌, ◌≤◌, ◌⊎◌, ◌↔◌, List, [], ◌∷◌, length, take, drop, sym, refl, ap, ◌∙◌, subst, inl, inr, ⊎_elim, arith}
+use Rattle.std.proofs.Common.{◌≡◌, ℕ, ◌+◌, ◌-◌, ◌≤◌, List, length, take, drop, sym, ap, ◌∙◌, subst, inl, inr, ⊎_elim, arith}
 use Rattle.std.specs.Prelude.{slice_range}
 use Rattle.std.proofs.lemmas.List.{length-take, length-drop, take-take, drop-take, drop-drop}
 use Rattle.rbbi_model.specs.Rules.{Rule, IsWordOf, IsFrontWordOf}
-use Rattle.rbbi_model.specs.Lists.{Member}
-use Rattle.rbbi_model.specs.Chains.{IsRule, IsPiece, EndsAt, Word, Chained, FrontIsChained, FrontEndsAt, IsTagAt, AreTags}
+use Rattle.rbbi_model.specs.Chains.{IsPiece, EndsAt, Word, Chained, FrontEndsAt, IsTagAt, AreTags}
 use Rattle.rbbi_model.specs.Boundaries.{LookAheadEndsAt}
 use Rattle.rbbi_model.proofs.RulesCover.{some_piece, ends_lie}
 
@@ -29,9 +28,9 @@ piece_to : (Such : List ℕ → Type 0) (x : List ℕ) (s q a b : ℕ) → s ≤
 piece_to Such x s q a b low high within piece =
     let order = piece.starts in
     let same : slice_range (slice_range x s q) (a - s) (b - s) ≡ slice_range x a b =
-        piece_of_piece x s q (a - s) (b - s) (omega arith) (omega arith)
-        ∙ ap (λ n. slice_range x n (s + (b - s))) (let e : s + (a - s) ≡ a = omega arith in e)
-        ∙ ap (λ n. slice_range x a n) (let e : s + (b - s) ≡ b = omega arith in e) in
+    piece_of_piece x s q (a - s) (b - s) (omega arith) (omega arith)
+    ∙ ap (λ n. slice_range x n (s + (b - s))) (let e : s + (a - s) ≡ a = omega arith in e)
+    ∙ ap (λ n. slice_range x a n) (let e : s + (b - s) ≡ b = omega arith in e) in
     record { starts = omega arith; ends = omega (arith, length_piece x s q within); word = subst Such (sym same) piece.word }
 
 piece_from : (Such : List ℕ → Type 0) (x : List ℕ) (s q a b : ℕ) → s ≤ q → q ≤ length x → IsPiece (slice_range x s q) a b Such → IsPiece x (s + a) (s + b) Such
@@ -88,21 +87,21 @@ module _ (rules : List Rule) (x : List ℕ) (s q : ℕ) (order : s ≤ q) (withi
   front_to_end number ends =
       subst (λ r. FrontEndsAt rules (slice_range x s q) 0 r number) (sym at_length)
       (record {
-          rule = ends.rule;
-          is_rule = ends.is_rule;
-          front = ⊎_elim
-              (λ piece. inl (subst (λ a. IsPiece (slice_range x s q) a (q - s) (IsFrontWordOf ends.rule)) (let z : s - s ≡ 0 = omega arith in z) (piece_to (IsFrontWordOf ends.rule) x s q s q (omega arith) (omega arith) within piece)))
-              (λ chained.
-                  let earlier = ends_lie rules x s chained.m chained.before chained.ends in
-                  let further = some_piece x (chained.m - 1) q chained.piece.starts chained.piece.word.1 in
-                  inr (record {
-                      m = chained.m - s;
-                      before = chained.before;
-                      ends = ends_to chained.m chained.before (omega arith) chained.ends;
-                      chained_into = chained.chained_into;
-                      piece = subst (λ a. IsPiece (slice_range x s q) a (q - s) (IsFrontWordOf ends.rule)) (let z : chained.m - 1 - s ≡ chained.m - s - 1 = omega arith in z) (piece_to (IsFrontWordOf ends.rule) x s q (chained.m - 1) q (omega (arith, earlier.0)) (omega arith) within chained.piece)
-                  }))
-              ends.front
+        rule = ends.rule;
+        is_rule = ends.is_rule;
+        front = ⊎_elim
+            (λ piece. inl (subst (λ a. IsPiece (slice_range x s q) a (q - s) (IsFrontWordOf ends.rule)) (let z : s - s ≡ 0 = omega arith in z) (piece_to (IsFrontWordOf ends.rule) x s q s q (omega arith) (omega arith) within piece)))
+            (λ chained.
+            let earlier = ends_lie rules x s chained.m chained.before chained.ends in
+            let further = some_piece x (chained.m - 1) q chained.piece.starts chained.piece.word.1 in
+            inr (record {
+              m = chained.m - s;
+              before = chained.before;
+              ends = ends_to chained.m chained.before (omega arith) chained.ends;
+              chained_into = chained.chained_into;
+              piece = subst (λ a. IsPiece (slice_range x s q) a (q - s) (IsFrontWordOf ends.rule)) (let z : chained.m - 1 - s ≡ chained.m - s - 1 = omega arith in z) (piece_to (IsFrontWordOf ends.rule) x s q (chained.m - 1) q (omega (arith, earlier.0)) (omega arith) within chained.piece);
+            }))
+            ends.front;
       })
 
   pub front_from_end : (number : ℕ) → FrontEndsAt rules (slice_range x s q) 0 (length (slice_range x s q)) number → FrontEndsAt rules x s q number
@@ -110,20 +109,20 @@ module _ (rules : List Rule) (x : List ℕ) (s q : ℕ) (order : s ≤ q) (withi
       let r : ℕ = length (slice_range x s q) in
       subst (λ e. FrontEndsAt rules x s e number) (ap (λ n. s + n) at_length ∙ here)
       (record {
-          rule = ends.rule;
-          is_rule = ends.is_rule;
-          front = ⊎_elim
-              (λ piece. inl (subst (λ a. IsPiece x a (s + r) (IsFrontWordOf ends.rule)) (let z : s + 0 ≡ s = omega arith in z) (piece_from (IsFrontWordOf ends.rule) x s q 0 r order within piece)))
-              (λ chained.
-                  let earlier = ends_lie rules (slice_range x s q) 0 chained.m chained.before chained.ends in
-                  inr (record {
-                      m = s + chained.m;
-                      before = chained.before;
-                      ends = ends_from chained.m chained.before chained.ends;
-                      chained_into = chained.chained_into;
-                      piece = subst (λ a. IsPiece x a (s + r) (IsFrontWordOf ends.rule)) (let z : s + (chained.m - 1) ≡ s + chained.m - 1 = omega (arith, earlier.0) in z) (piece_from (IsFrontWordOf ends.rule) x s q (chained.m - 1) r order within chained.piece)
-                  }))
-              ends.front
+        rule = ends.rule;
+        is_rule = ends.is_rule;
+        front = ⊎_elim
+            (λ piece. inl (subst (λ a. IsPiece x a (s + r) (IsFrontWordOf ends.rule)) (let z : s + 0 ≡ s = omega arith in z) (piece_from (IsFrontWordOf ends.rule) x s q 0 r order within piece)))
+            (λ chained.
+            let earlier = ends_lie rules (slice_range x s q) 0 chained.m chained.before chained.ends in
+            inr (record {
+              m = s + chained.m;
+              before = chained.before;
+              ends = ends_from chained.m chained.before chained.ends;
+              chained_into = chained.chained_into;
+              piece = subst (λ a. IsPiece x a (s + r) (IsFrontWordOf ends.rule)) (let z : s + (chained.m - 1) ≡ s + chained.m - 1 = omega (arith, earlier.0) in z) (piece_from (IsFrontWordOf ends.rule) x s q (chained.m - 1) r order within chained.piece);
+            }))
+            ends.front;
       })
 
   tag_to : (tag : ℕ) → IsTagAt rules x s q tag → IsTagAt rules (slice_range x s q) 0 (length (slice_range x s q)) tag
@@ -135,10 +134,9 @@ module _ (rules : List Rule) (x : List ℕ) (s q : ℕ) (order : s ≤ q) (withi
   pub tags_from_end : (tags : List ℕ) → AreTags rules (slice_range x s q) 0 (length (slice_range x s q)) tags → AreTags rules x s q tags
   tags_from_end tags are =
       record {
-          rising = are.rising;
-          exactly = λ tag.
-              (
-                  λ member. ⊎_elim (λ at. inl (tag_from tag at)) (λ none. inr (none.0, λ other at. none.1 other (tag_to other at))) ((are.exactly tag).0 member),
-                  λ either. (are.exactly tag).1 (⊎_elim (λ at. inl (tag_to tag at)) (λ none. inr (none.0, λ other at. none.1 other (tag_from other at))) either)
-              )
+        rising = are.rising;
+        exactly = λ tag. (
+          λ member. ⊎_elim (λ at. inl (tag_from tag at)) (λ none. inr (none.0, λ other at. none.1 other (tag_to other at))) ((are.exactly tag).0 member),
+          λ either. (are.exactly tag).1 (⊎_elim (λ at. inl (tag_to tag at)) (λ none. inr (none.0, λ other at. none.1 other (tag_from other at))) either),
+        );
       }

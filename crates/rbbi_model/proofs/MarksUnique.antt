@@ -1,5 +1,5 @@
 -- The marks after a word are determined.
-use Rattle.std.proofs.Common.{◌≡◌, ◌≢◌, ℕ, ◌+◌, ◌*◌, ◌/◌, ◌%◌, ◌^◌, ◌<◌, ◌≤◌, ◌⊎◌, ◌↔◌, true, false, not, eqb, List, length, sym, refl, ap, ◌∙◌, subst, ⊎_elim, arith}
+use Rattle.std.proofs.Common.{◌≡◌, ℕ, ◌+◌, ◌*◌, ◌^◌, ◌<◌, not, eqb, List, length, sym, ap, ◌∙◌, ⊎_elim, arith}
 use Rattle.std.specs.Prelude.{IsTrue, bit_and}
 use Rattle.std.specs.Int.{bit_at}
 use Rattle.std.proofs.lemmas.Bool.{cases_eq, cases_lt, ne_eqb, false≢true}
@@ -7,7 +7,7 @@ use Rattle.std.proofs.lemmas.Nat.{pow_pos}
 use Rattle.std.proofs.lemmas.Nat.Bits.{and_pow, same_from_bits}
 use Rattle.rbbi_model.specs.Places.{has_bit}
 use Rattle.rbbi_model.specs.Rules.{Rule}
-use Rattle.rbbi_model.specs.Marks.{Marks, look_ahead_number, IsCompleted, IsEnded, IsUnended, HasFront, AreMarksAtEnd, AreMarks}
+use Rattle.rbbi_model.specs.Marks.{Marks, look_ahead_number, AreMarksAtEnd, AreMarks}
 use Rattle.rbbi_model.proofs.Uniqueness.{same_tags}
 
 -- the bit as a number, and as a test
@@ -16,8 +16,8 @@ bit_is_one : (n k : ℕ) → IsTrue (has_bit n k) → bit_at n k ≡ 1
 bit_is_one n k is =
     ⊎_elim
     (λ none.
-        let nothing : 0 * 2 ^ k ≡ 0 = omega arith in
-        absurd (false≢true (sym (ap (λ m. not (eqb m 0)) (and_pow n k ∙ ap (λ b. b * 2 ^ k) none ∙ nothing)) ∙ is)))
+    let nothing : 0 * 2 ^ k ≡ 0 = omega arith in
+    absurd (false≢true (sym (ap (λ m. not (eqb m 0)) (and_pow n k ∙ ap (λ b. b * 2 ^ k) none ∙ nothing)) ∙ is)))
     (λ some. omega arith)
     (cases_eq (bit_at n k) 0)
 
@@ -30,39 +30,39 @@ same_bits : (m n : ℕ) → ((k : ℕ) → IsTrue (has_bit m k) → IsTrue (has_
 same_bits m n to from =
     same_from_bits m n
     (λ k.
-        ⊎_elim
-        (λ one. one ∙ sym (bit_is_one n k (to k (one_is_bit m k one))))
-        (λ other.
-            ⊎_elim
-            (λ one. absurd (other (bit_is_one m k (from k (one_is_bit n k one)))))
-            (λ other'. omega arith)
-            (cases_eq (bit_at n k) 1))
-        (cases_eq (bit_at m k) 1))
+    ⊎_elim
+    (λ one. one ∙ sym (bit_is_one n k (to k (one_is_bit m k one))))
+    (λ other.
+    ⊎_elim
+    (λ one. absurd (other (bit_is_one m k (from k (one_is_bit n k one)))))
+    (λ other'. omega arith)
+    (cases_eq (bit_at n k) 1))
+    (cases_eq (bit_at m k) 1))
 
 module _ (rules : List Rule) (w : List ℕ) (these those : Marks) where
   same_accept : AreMarksAtEnd rules w these → AreMarksAtEnd rules w those → these.accept ≡ those.accept
   same_accept at at' =
       ⊎_elim
       (λ completed.
-          ⊎_elim
-          (λ completed'.
-              let low = completed.first completed'.number completed'.ends in
-              let high = completed'.first completed.number completed.ends in
-              let same : completed.number ≡ completed'.number = omega arith in
-              completed.numbered ∙ ap (λ n. look_ahead_number rules n + 2) same ∙ sym completed'.numbered)
-          (⊎_elim (λ ended'. absurd (ended'.no_look_ahead completed.number completed.ends)) (λ unended'. absurd (unended'.no_end completed.number completed.ends.ends)))
-          at'.accept)
+      ⊎_elim
+      (λ completed'.
+      let low = completed.first completed'.number completed'.ends in
+      let high = completed'.first completed.number completed.ends in
+      let same : completed.number ≡ completed'.number = omega arith in
+      completed.numbered ∙ ap (λ n. look_ahead_number rules n + 2) same ∙ sym completed'.numbered)
+      (⊎_elim (λ ended'. absurd (ended'.no_look_ahead completed.number completed.ends)) (λ unended'. absurd (unended'.no_end completed.number completed.ends.ends)))
+      at'.accept)
       (⊎_elim
       (λ ended.
-          ⊎_elim
-          (λ completed'. absurd (ended.no_look_ahead completed'.number completed'.ends))
-          (⊎_elim (λ ended'. ended.is_one ∙ sym ended'.is_one) (λ unended'. absurd (unended'.no_end ended.number ended.ends)))
-          at'.accept)
+      ⊎_elim
+      (λ completed'. absurd (ended.no_look_ahead completed'.number completed'.ends))
+      (⊎_elim (λ ended'. ended.is_one ∙ sym ended'.is_one) (λ unended'. absurd (unended'.no_end ended.number ended.ends)))
+      at'.accept)
       (λ unended.
-          ⊎_elim
-          (λ completed'. absurd (unended.no_end completed'.number completed'.ends.ends))
-          (⊎_elim (λ ended'. absurd (unended.no_end ended'.number ended'.ends)) (λ unended'. unended.is_zero ∙ sym unended'.is_zero))
-          at'.accept))
+      ⊎_elim
+      (λ completed'. absurd (unended.no_end completed'.number completed'.ends.ends))
+      (⊎_elim (λ ended'. absurd (unended.no_end ended'.number ended'.ends)) (λ unended'. unended.is_zero ∙ sym unended'.is_zero))
+      at'.accept))
       at.accept
 
   same_fronts : AreMarksAtEnd rules w these → AreMarksAtEnd rules w those → these.fronts ≡ those.fronts
@@ -70,8 +70,8 @@ module _ (rules : List Rule) (w : List ℕ) (these those : Marks) where
       let same = same_accept at at' in
       ⊎_elim
       (λ small.
-          let small' : those.accept < 2 = omega arith in
-          same_bits these.fronts those.fronts (λ k is. (at'.fronts small' k).1 ((at.fronts small k).0 is)) (λ k is. (at.fronts small k).1 ((at'.fronts small' k).0 is)))
+      let small' : those.accept < 2 = omega arith in
+      same_bits these.fronts those.fronts (λ k is. (at'.fronts small' k).1 ((at.fronts small k).0 is)) (λ k is. (at.fronts small k).1 ((at'.fronts small' k).0 is)))
       (λ many. at.no_fronts many ∙ sym (at'.no_fronts (omega arith)))
       (cases_lt these.accept 2)
 

@@ -1,11 +1,11 @@
 -- The boundaries by rules cover the text.
-use Rattle.std.proofs.Common.{◌≡◌, ◌≢◌, ℕ, zero, suc, ◌+◌, ◌-◌, ◌<◌, ◌≤◌, ◌⊎◌, List, [], ◌∷◌, length, take, drop, sym, refl, ap, ◌∙◌, subst, ⊎_elim, arith}
+use Rattle.std.proofs.Common.{◌≡◌, ◌≢◌, ℕ, ◌-◌, ◌<◌, ◌≤◌, List, [], ◌∷◌, length, take, drop, ap, ⊎_elim, arith}
 use Rattle.std.specs.Prelude.{slice_range}
 use Rattle.std.proofs.lemmas.Bool.{cases_lt}
 use Rattle.rbbi_model.specs.Lists.{IsRising}
-use Rattle.rbbi_model.specs.Rules.{Rule, IsWordOf, IsFrontWordOf}
-use Rattle.rbbi_model.specs.Chains.{IsRule, IsPiece, EndsAt, Word, Chained, FrontEndsAt}
-use Rattle.rbbi_model.specs.Boundaries.{Boundary, IsNext, Follow, AreBoundaries, start}
+use Rattle.rbbi_model.specs.Rules.{Rule}
+use Rattle.rbbi_model.specs.Chains.{EndsAt, Word, Chained, FrontEndsAt}
+use Rattle.rbbi_model.specs.Boundaries.{Boundary, IsNext, Follow, AreBoundaries}
 use Rattle.rbbi_model.specs.Cover.{places, end_of, CoverText}
 
 -- a piece that isn't empty ends past its start
@@ -26,9 +26,9 @@ module _ (rules : List Rule) (x : List ℕ) (s : ℕ) where
       ⊎_elim
       (λ piece. (some_piece x s q piece.starts piece.word.1, piece.ends))
       (λ chained.
-          let earlier = ends_lie chained.m chained.before chained.ends in
-          let further = some_piece x (chained.m - 1) q chained.piece.starts chained.piece.word.1 in
-          (omega (arith, earlier.0), chained.piece.ends))
+      let earlier = ends_lie chained.m chained.before chained.ends in
+      let further = some_piece x (chained.m - 1) q chained.piece.starts chained.piece.word.1 in
+      (omega (arith, earlier.0), chained.piece.ends))
       ends.front
 
   next_lies : (b : Boundary) → s < length x → IsNext rules x s b → (s < b.at) × (b.at ≤ length x)

@@ -1,11 +1,10 @@
 -- What the least and the greatest place say of the others, and where a search is after row 0.
-use Rattle.std.proofs.Common.{◌≡◌, ◌≢◌, ℕ, zero, suc, ◌+◌, ◌-◌, ◌<◌, ◌≤◌, ◌⊎◌, Bool, true, false, List, [], ◌∷◌, ◌++◌, Option, Some, None, length, take, drop, map, sym, refl, ap, ◌∙◌, subst, inl, inr, ⊎_elim, arith}
+use Rattle.std.proofs.Common.{◌≡◌, ℕ, zero, suc, ◌+◌, ◌-◌, ◌<◌, ◌≤◌, ◌⊎◌, Bool, true, false, List, [], ◌∷◌, ◌++◌, Some, None, take, drop, map, sym, refl, ap, ◌∙◌, inl, inr, ⊎_elim, arith}
 use Rattle.std.specs.Prelude.{slice_range, unwrap_or}
-use Rattle.std.specs.List.{AllByRecursion}
 use Rattle.std.proofs.lemmas.Bool.{cases_Bool, cases_eq, cond-true, cond-false, false≢true}
 use Rattle.std.proofs.lemmas.List.{map-append, take-append-drop, take-take}
 use Rattle.rbbi_model.specs.Places.{least_from, greatest_below}
-use Rattle.rbbi_model.specs.Tables.{Table, category_of, step, row_along, row_after}
+use Rattle.rbbi_model.specs.Tables.{Table, category_of, step, row_along}
 use Rattle.rbbi_model.specs.ValidTables.{IsValidTable}
 use Rattle.rbbi_model.specs.Searches.{row_at}
 use Rattle.rbbi_model.proofs.Categories.{category_within}
@@ -16,15 +15,14 @@ least_is test low zero = (λ q from to. absurd (omega (arith, from, to)), inr (o
 least_is test low (suc count) =
     ⊎_elim
     (λ holds.
-        let is : least_from test low (suc count) ≡ low = cond-true (test low) low (least_from test (low + 1) count) holds in
-        (λ q from to. absurd (omega (arith, from, to, is)), inl (ap test is ∙ holds)))
+    let is : least_from test low (suc count) ≡ low = cond-true (test low) low (least_from test (low + 1) count) holds in
+    (λ q from to. absurd (omega (arith, from, to, is)), inl (ap test is ∙ holds)))
     (λ fails.
-        let is : least_from test low (suc count) ≡ least_from test (low + 1) count = cond-false (test low) low (least_from test (low + 1) count) fails in
-        let rest = least_is test (low + 1) count in
-        (
-            λ q from to. ⊎_elim (λ first. ap test first ∙ fails) (λ other. rest.0 q (omega arith) (omega (arith, to, is))) (cases_eq q low),
-            ⊎_elim (λ holds. inl (ap test is ∙ holds)) (λ all. inr (omega (arith, is, all))) rest.1
-        ))
+    let is : least_from test low (suc count) ≡ least_from test (low + 1) count = cond-false (test low) low (least_from test (low + 1) count) fails in
+    let rest = least_is test (low + 1) count in (
+      λ q from to. ⊎_elim (λ first. ap test first ∙ fails) (λ other. rest.0 q (omega arith) (omega (arith, to, is))) (cases_eq q low),
+      ⊎_elim (λ holds. inl (ap test is ∙ holds)) (λ all. inr (omega (arith, is, all))) rest.1,
+    ))
     (cases_Bool (test low))
 
 none_some : (q : ℕ) → None ≡ Some q → ⊥
@@ -37,10 +35,10 @@ none_passes test (suc high) q none short holds =
     ⊎_elim
     (λ top. none_some high (sym none ∙ cond-true (test high) (Some high) (greatest_below test high) top))
     (λ fails.
-        ⊎_elim
-        (λ same. false≢true (sym fails ∙ ap test (sym same) ∙ holds))
-        (λ other. none_passes test high q (sym (cond-false (test high) (Some high) (greatest_below test high) fails) ∙ none) (omega arith) holds)
-        (cases_eq q high))
+    ⊎_elim
+    (λ same. false≢true (sym fails ∙ ap test (sym same) ∙ holds))
+    (λ other. none_passes test high q (sym (cond-false (test high) (Some high) (greatest_below test high) fails) ∙ none) (omega arith) holds)
+    (cases_eq q high))
     (cases_Bool (test high))
 
 -- each place at which the test holds is at most the greatest
@@ -49,13 +47,13 @@ greatest_is_most test zero top q is short holds = absurd (omega (arith, short))
 greatest_is_most test (suc high) top q is short holds =
     ⊎_elim
     (λ first.
-        let same : high ≡ top = ap (λ o. unwrap_or o 0) (sym (cond-true (test high) (Some high) (greatest_below test high) first) ∙ is) in
-        omega arith)
+    let same : high ≡ top = ap (λ o. unwrap_or o 0) (sym (cond-true (test high) (Some high) (greatest_below test high) first) ∙ is) in
+    omega arith)
     (λ fails.
-        ⊎_elim
-        (λ same. absurd (false≢true (sym fails ∙ ap test (sym same) ∙ holds)))
-        (λ other. greatest_is_most test high top q (sym (cond-false (test high) (Some high) (greatest_below test high) fails) ∙ is) (omega arith) holds)
-        (cases_eq q high))
+    ⊎_elim
+    (λ same. absurd (false≢true (sym fails ∙ ap test (sym same) ∙ holds)))
+    (λ other. greatest_is_most test high top q (sym (cond-false (test high) (Some high) (greatest_below test high) fails) ∙ is) (omega arith) holds)
+    (cases_eq q high))
     (cases_Bool (test high))
 
 row_along_append : (table : Table) (row : ℕ) (these those : List ℕ) → row_along table row (these ++ those) ≡ row_along table (row_along table row these) those

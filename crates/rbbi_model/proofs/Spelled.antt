@@ -1,13 +1,13 @@
 -- A table's spelling tells the table.
-use Rattle.std.proofs.Common.{◌≡◌, ℕ, zero, suc, ◌+◌, ◌-◌, ◌*◌, ◌/◌, ◌%◌, ◌^◌, ◌<◌, ◌≤◌, List, [], ◌∷◌, ◌++◌, length, take, drop, get_or, sym, refl, ap, ◌∙◌, subst, append_assoc, length-append, arith}
+use Rattle.std.proofs.Common.{◌≡◌, ℕ, zero, suc, ◌+◌, ◌*◌, ◌/◌, ◌%◌, ◌^◌, ◌<◌, ◌≤◌, List, [], ◌∷◌, ◌++◌, length, take, drop, get_or, sym, refl, ap, ◌∙◌, subst, append_assoc, arith}
 use Rattle.std.specs.Prelude.{flat_map}
 use Rattle.std.specs.List.{AllByRecursion}
-use Rattle.std.proofs.lemmas.List.{append_cancel_left, take-append-drop, length-take, length-drop, get_or-take, get_or-drop}
+use Rattle.std.proofs.lemmas.List.{append_cancel_left, take-append-drop, length-take, length-drop}
 use Rattle.std.proofs.Math.Nat.{pow-le-pow_right, div-lt_iff_lt-mul}
 use Rattle.std.proofs.lemmas.Nat.{div-add-mod'}
 use Rattle.rbbi_model.specs.Words.{last_code_point}
 use Rattle.rbbi_model.specs.Rules.{largest_tag}
-use Rattle.rbbi_model.specs.Tables.{Table, CategoryRange, RowHead, head_of, empty_head}
+use Rattle.rbbi_model.specs.Tables.{Table, CategoryRange, RowHead, empty_head}
 use Rattle.rbbi_model.specs.ValidTables.{AreApart, IsWithin, IsValidList, IsValidTable}
 use Rattle.rbbi_model.specs.TableFile.{little_endian, u16, u32, magic, counts, range_bytes, list_bytes, head_bytes, row_bytes, spelling}
 
@@ -123,11 +123,10 @@ rows_tell width (head ∷ rows) (other ∷ others) cells those u v long many man
     let taken : length (take width cells) ≡ width = omega (arith, length-take width cells, much) in
     let taken' : length (take width those) ≡ width = omega (arith, length-take width those, much') in
     let next = list_tells u16 (Fits 2) (λ m n. number_tells 2 m n) (take width cells) (take width those) (row_bytes width rows (drop width cells) ++ u) (row_bytes width others (drop width those) ++ v) (taken ∙ sym taken') (all_take (Fits 2) width cells fit) (all_take (Fits 2) width those fit') first.1 in
-    let rest = rows_tell width rows others (drop width cells) (drop width those) u v long' (omega (arith, length-drop width cells, much)) (omega (arith, length-drop width those, much')) small.1 small'.1 (all_drop (Fits 2) width cells fit) (all_drop (Fits 2) width those fit') next.1 in
-    (
-        ap (λ z. z ∷ rows) first.0 ∙ ap (λ l. other ∷ l) rest.0,
-        sym (take-append-drop width cells) ∙ ap (λ l. l ++ drop width cells) next.0 ∙ ap (λ l. take width those ++ l) rest.1 ∙ take-append-drop width those,
-        rest.2
+    let rest = rows_tell width rows others (drop width cells) (drop width those) u v long' (omega (arith, length-drop width cells, much)) (omega (arith, length-drop width those, much')) small.1 small'.1 (all_drop (Fits 2) width cells fit) (all_drop (Fits 2) width those fit') next.1 in (
+      ap (λ z. z ∷ rows) first.0 ∙ ap (λ l. other ∷ l) rest.0,
+      sym (take-append-drop width cells) ∙ ap (λ l. l ++ drop width cells) next.0 ∙ ap (λ l. take width those ++ l) rest.1 ∙ take-append-drop width those,
+      rest.2,
     )
 
 -- what is valid fits its width
@@ -166,10 +165,10 @@ module _ (table : Table) (valid : IsValidTable table) where
   heads_fit =
       all_by_index SmallHead empty_head table.rows
       (λ row short.
-          let is = valid.rows.each row short in
-          let few = valid.rows.few_slashes in
-          let narrow : 2 ^ table.slashes ≤ 2 ^ 32 = pow-le-pow_right (omega arith) few in
-          (omega (arith, is.accept), omega (arith, is.fronts, narrow), omega (arith, is.list, valid.lists.few)))
+      let is = valid.rows.each row short in
+      let few = valid.rows.few_slashes in
+      let narrow : 2 ^ table.slashes ≤ 2 ^ 32 = pow-le-pow_right (omega arith) few in
+      (omega (arith, is.accept), omega (arith, is.fronts, narrow), omega (arith, is.list, valid.lists.few)))
 
   cell_fits : (i : ℕ) → i < length table.cells → Fits 2 (get_or table.cells i 0)
   unfolding Fits

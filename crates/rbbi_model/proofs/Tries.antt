@@ -1,5 +1,5 @@
 -- The tries back from a place end with one that settles it.
-use Rattle.std.proofs.Common.{◌≡◌, ℕ, zero, suc, ◌+◌, ◌-◌, ◌*◌, ◌<◌, ◌≤◌, ◌⊎◌, Bool, true, false, ◌||◌, eqb, List, [], ◌∷◌, Option, Some, None, length, sym, refl, ap, ◌∙◌, subst, inl, inr, ⊎_elim, arith}
+use Rattle.std.proofs.Common.{◌≡◌, ℕ, zero, suc, ◌+◌, ◌-◌, ◌*◌, ◌<◌, ◌≤◌, ◌⊎◌, true, eqb, List, [], ◌∷◌, Option, Some, None, length, sym, refl, ap, ◌∙◌, inl, inr, ⊎_elim, arith}
 use Rattle.std.specs.Prelude.{unwrap_or, nat_le, nat_lt, ◌&&◌}
 use Rattle.std.specs.List.{list_any}
 use Rattle.std.proofs.lemmas.Bool.{cond_both, or_left, eq-eqb, false≢true}
@@ -36,10 +36,10 @@ module _ (table : Table) (x : List ℕ) (i : ℕ) where
       cond_both (settles table x i q) (q ∷ []) (q ∷ tries_from table x i most (anchor_below table x (2 * q + 1 - i))) (λ l. settles table x i (last_of l) ≡ true)
       (λ holds. holds)
       (λ fails.
-          let next : ℕ = anchor_below table x (2 * q + 1 - i) in
-          let nonzero : 0 < q = pos q (λ is. false≢true (sym fails ∙ settles_zero q is)) in
-          let lower : next < q = ⊎_elim (λ less. omega arith) (λ none. omega arith) (anchor_lies (2 * q + 1 - i)) in
-          ap (λ r. settles table x i r) (last_of_more q (tries_from table x i most next) (some_tries most next)) ∙ settled most next (omega arith) (omega arith))
+      let next : ℕ = anchor_below table x (2 * q + 1 - i) in
+      let nonzero : 0 < q = pos q (λ is. false≢true (sym fails ∙ settles_zero q is)) in
+      let lower : next < q = ⊎_elim (λ less. omega arith) (λ none. omega arith) (anchor_lies (2 * q + 1 - i)) in
+      ap (λ r. settles table x i r) (last_of_more q (tries_from table x i most next) (some_tries most next)) ∙ settled most next (omega arith) (omega arith))
     where
       pos : (n : ℕ) → (n ≡ 0 → ⊥) → 0 < n
       pos zero some = absurd (some refl)

@@ -1,16 +1,15 @@
 -- Worked examples, which try the definitions that compute.
-use Rattle.std.proofs.Common.{◌≡◌, ℕ, ◌*◌, true, false, Some, None, if◌then◌else◌, ◌==◌, slice_index, List, [], ◌∷◌, ◌++◌, length, refl, inl, inr, ⊎_elim, arith}
+use Rattle.std.proofs.Common.{◌≡◌, ℕ, ◌*◌, true, false, if◌then◌else◌, ◌==◌, slice_index, List, [], ◌∷◌, length, refl, inl, inr, ⊎_elim, arith}
 use Rattle.std.specs.Prelude.{codes, Option}
 use Rattle.std.specs.Fmt.{digits}
 use lib.Utf8.{encode}
 use Rattle.rbbi_model.specs.Boundaries.{Boundary}
-use Rattle.rbbi_model.specs.Tables.{Table, CategoryRange, RowHead, category_of, row_after}
-use Rattle.rbbi_model.specs.Searches.{Found, search_end, look_end, found, table_boundaries}
-use Rattle.rbbi_model.specs.Answers.{Question, First, Last, Next, Previous, Following, Preceding, IsBoundary, Current, Status, Statuses, Breaks, Reply, Place, Done, Yes, No, Largest, AllOf, Listed, Edited, Outside, TooLong, Characters, Answer, answer}
-use Rattle.rbbi_model.specs.Scripts.{Command, Ask, Replace, ShowText, State, Turn, turn, table_replies, replies_by, edit, opened}
-use Rattle.rbbi_model.specs.Ranges.{Range}
-use Rattle.rbbi_model.specs.SetTrees.{SetTree, Join, Add, Minus, Span, SetPart, set_of, InSet}
-use Rattle.rbbi_model.specs.Runs.{is_anchor, Entry, Run, IsTrueRun, ShowsAfter, ShowsBefore}
+use Rattle.rbbi_model.specs.Tables.{Table}
+use Rattle.rbbi_model.specs.Searches.{search_end, look_end, found, table_boundaries}
+use Rattle.rbbi_model.specs.Answers.{Last, Next, Previous, Following, Preceding, IsBoundary, Current, Status, Statuses, Breaks}
+use Rattle.rbbi_model.specs.Scripts.{Ask, Replace, ShowText, table_replies, replies_by, edit, opened}
+use Rattle.rbbi_model.specs.SetTrees.{SetTree, Add, Minus, Span, set_of, InSet}
+use Rattle.rbbi_model.specs.Runs.{is_anchor, Run, IsTrueRun, ShowsAfter, ShowsBefore}
 use Rattle.rbbi_model.specs.Costs.{forward_cost, tries, back_cost, script_cost}
 use Rattle.rbbi_model.specs.TableFile.{spelling}
 use Rattle.rbbi_model.specs.Lines.{all_reply_lines, boundary_lines, compile_line, row_of, column_of}
@@ -19,13 +18,13 @@ use Rattle.rbbi_model.specs.Lines.{all_reply_lines, boundary_lines, compile_line
 abbrev pub table_a : Table
 table_a =
     record {
-        categories = 2;
-        slashes = 0;
-        ranges = record { start = 0; category = 0 } ∷ record { start = 0x61; category = 1 } ∷ record { start = 0x62; category = 0 } ∷ [];
-        lists = (0 ∷ []) ∷ [];
-        rows = record { accept = 0; fronts = 0; list = 0 } ∷ record { accept = 0; fronts = 0; list = 0 } ∷ record { accept = 1; fronts = 0; list = 0 } ∷ [];
-        cells = 0 ∷ 0 ∷ 0 ∷ 2 ∷ 0 ∷ 0 ∷ [];
-        safe = 0x0F ∷ []
+      categories = 2;
+      slashes = 0;
+      ranges = record { start = 0; category = 0 } ∷ record { start = 0x61; category = 1 } ∷ record { start = 0x62; category = 0 } ∷ [];
+      lists = (0 ∷ []) ∷ [];
+      rows = record { accept = 0; fronts = 0; list = 0 } ∷ record { accept = 0; fronts = 0; list = 0 } ∷ record { accept = 1; fronts = 0; list = 0 } ∷ [];
+      cells = 0 ∷ 0 ∷ 0 ∷ 2 ∷ 0 ∷ 0 ∷ [];
+      safe = 0x0F ∷ [];
     }
 
 -- its file has these 81 bytes
@@ -90,7 +89,7 @@ abbrev by_hand : List ℕ → List Boundary
 by_hand x = if slice_index x 3 == 45 then after_edit else before_edit
 
 words_script : all_reply_lines (replies_by edit by_hand (opened (codes "can't 32.3.")) (Ask (Following 2) ∷ Ask Status ∷ Ask (Preceding 10) ∷ Ask (IsBoundary 7) ∷ Ask Current ∷ Replace 3 1 (codes "-")
-        ∷ Ask Previous ∷ Ask Next ∷ Ask Status ∷ Ask Next ∷ Ask Statuses ∷ ShowText ∷ Replace 11 1 [] ∷ []))
+    ∷ Ask Previous ∷ Ask Next ∷ Ask Status ∷ Ask Next ∷ Ask Statuses ∷ ShowText ∷ Replace 11 1 [] ∷ []))
     ≡ codes "5\n200\n6\nno\n10\nok 11\ndone\n3\n200\n4\n0\ncan-t 32.3.\noutside\n"
 unfolding digits encode
 words_script = refl
@@ -124,13 +123,13 @@ cost_of_scripts = (refl, refl)
 abbrev pub table_aab : Table
 table_aab =
     record {
-        categories = 3;
-        slashes = 1;
-        ranges = record { start = 0; category = 0 } ∷ record { start = 0x61; category = 1 } ∷ record { start = 0x62; category = 2 } ∷ record { start = 0x63; category = 0 } ∷ [];
-        lists = (0 ∷ []) ∷ [];
-        rows = record { accept = 0; fronts = 0; list = 0 } ∷ record { accept = 0; fronts = 0; list = 0 } ∷ record { accept = 0; fronts = 1; list = 0 } ∷ record { accept = 1; fronts = 0; list = 0 } ∷ record { accept = 2; fronts = 0; list = 0 } ∷ [];
-        cells = 0 ∷ 0 ∷ 0 ∷ 0 ∷ 2 ∷ 3 ∷ 0 ∷ 2 ∷ 4 ∷ 0 ∷ 0 ∷ 0 ∷ 0 ∷ 0 ∷ 0 ∷ [];
-        safe = 0xCF ∷ 0x01 ∷ []
+      categories = 3;
+      slashes = 1;
+      ranges = record { start = 0; category = 0 } ∷ record { start = 0x61; category = 1 } ∷ record { start = 0x62; category = 2 } ∷ record { start = 0x63; category = 0 } ∷ [];
+      lists = (0 ∷ []) ∷ [];
+      rows = record { accept = 0; fronts = 0; list = 0 } ∷ record { accept = 0; fronts = 0; list = 0 } ∷ record { accept = 0; fronts = 1; list = 0 } ∷ record { accept = 1; fronts = 0; list = 0 } ∷ record { accept = 2; fronts = 0; list = 0 } ∷ [];
+      cells = 0 ∷ 0 ∷ 0 ∷ 0 ∷ 2 ∷ 3 ∷ 0 ∷ 2 ∷ 4 ∷ 0 ∷ 0 ∷ 0 ∷ 0 ∷ 0 ∷ 0 ∷ [];
+      safe = 0xCF ∷ 0x01 ∷ [];
     }
 
 compiled_aab : compile_line table_aab ≡ codes "categories 3 rows 5 lists 1 slashes 1 safe 7\n"
@@ -149,15 +148,15 @@ run_ab = record { anchor = 0; entries = record { at = 1; status = 0; reach = 2 }
 run_ab_true : IsTrueRun table_a ab run_ab
 run_ab_true =
     record {
-        anchor = inl refl;
-        some = omega arith;
-        few = omega arith;
-        consecutive = record { before = record { at = 0; statuses = 0 ∷ [] } ∷ []; after = []; whole = refl };
-        places = (inl refl, (inl refl, tt));
-        reach_enough = (omega arith, (omega arith, tt));
-        reach_within = (omega arith, (omega arith, tt));
-        reaches_rise = (omega arith, tt);
-        leads = λ _. (λ low. low, (λ low. low, (λ low. omega arith, tt)))
+      anchor = inl refl;
+      some = omega arith;
+      few = omega arith;
+      consecutive = record { before = record { at = 0; statuses = 0 ∷ [] } ∷ []; after = []; whole = refl };
+      places = (inl refl, (inl refl, tt));
+      reach_enough = (omega arith, (omega arith, tt));
+      reach_within = (omega arith, (omega arith, tt));
+      reaches_rise = (omega arith, tt);
+      leads = λ _. (λ low. low, (λ low. low, (λ low. omega arith, tt)));
     }
 
 -- it shows the first boundary past 0, since it leads, that past 1, and the last one before 2

@@ -1,9 +1,9 @@
 -- The table of the rules `a;` is its own canonical table.
-use Rattle.std.proofs.Common.{◌≡◌, ◌≢◌, ℕ, zero, suc, ◌+◌, ◌<◌, ◌≤◌, ◌⊎◌, ◌↔◌, List, get_or, sym, refl, ap, ◌∙◌, subst, ⊎_elim, arith}
+use Rattle.std.proofs.Common.{◌≡◌, ℕ, zero, suc, ◌<◌, get_or, sym, refl, ap, ◌∙◌, ⊎_elim, arith}
 use Rattle.std.proofs.lemmas.Bool.{cases_eq}
-use Rattle.rbbi_model.specs.Words.{IsCodePoint, IsSurrogate}
-use Rattle.rbbi_model.specs.Tables.{Table, accept_of, fronts_of, step, category_of}
-use Rattle.rbbi_model.specs.Canonical.{LeadAlike, AllowsSlashes, AreNumberedAsMet, IsCanonical}
+use Rattle.rbbi_model.specs.Words.{IsCodePoint}
+use Rattle.rbbi_model.specs.Tables.{fronts_of, step, category_of}
+use Rattle.rbbi_model.specs.Canonical.{LeadAlike, IsCanonical}
 use Rattle.rbbi_model.proofs.Categories.{category_within}
 use Rattle.rbbi_model.proofs.Worked.{table_a}
 use Rattle.rbbi_model.proofs.WorkedRules.{ranges_valid, table_valid, least, small_accept, other_category, category_a}
@@ -39,17 +39,17 @@ same_category c d small small' alike =
 canonical_a : IsCanonical table_a table_a
 canonical_a =
     record {
-        valid = table_valid;
-        same = λ w is. refl;
-        least = least;
-        categories = λ c d small small'. (λ same row short. ap (λ k. step table_a row k) same, same_category c d small small');
-        surrogates = λ c is. other_category c (omega (arith, is.1)) (λ same. omega (arith, is.0, same));
-        used = used_a;
-        numbered = λ category later d some less small is. absurd (omega (arith, category_within 2 table_a.ranges d ranges_valid, is, some, less));
-        rows = λ row later place two less low high is. absurd (omega (arith, cells_small place, is, two, less));
-        slashes = λ row short. (small_accept row, no_fronts row);
-        few_slashes = λ k allowed. omega arith;
-        two_rows = λ same. absurd (omega (arith, same))
+      valid = table_valid;
+      same = λ w is. refl;
+      least = least;
+      categories = λ c d small small'. (λ same row short. ap (λ k. step table_a row k) same, same_category c d small small');
+      surrogates = λ c is. other_category c (omega (arith, is.1)) (λ same. omega (arith, is.0, same));
+      used = used_a;
+      numbered = λ category later d some less small is. absurd (omega (arith, category_within 2 table_a.ranges d ranges_valid, is, some, less));
+      rows = λ row later place two less low high is. absurd (omega (arith, cells_small place, is, two, less));
+      slashes = λ row short. (small_accept row, no_fronts row);
+      few_slashes = λ k allowed. omega arith;
+      two_rows = λ same. absurd (omega (arith, same));
     }
   where
     used_a : (category : ℕ) → category < 2 → (c : ℕ) × IsCodePoint c × (category_of table_a.ranges c ≡ category)

@@ -1,25 +1,23 @@
 -- The rules `a;` and their table, worked by hand: the table is compiled from the rules, and both give the boundaries of `ab`.
-use Rattle.std.proofs.Common.{◌≡◌, ◌≢◌, ℕ, zero, suc, ◌+◌, ◌-◌, ◌^◌, ◌<◌, ◌≤◌, ◌⊎◌, ◌↔◌, true, false, not, eqb, Some, None, List, [], ◌∷◌, length, take, drop, get_or, map, sym, refl, ap, ◌∙◌, subst, inl, inr, ⊎_elim, arith}
-use Rattle.std.specs.Prelude.{slice_range, IsTrue, unwrap_or, Option}
-use Rattle.std.specs.List.{AllByRecursion}
+use Rattle.std.proofs.Common.{◌≡◌, ◌≢◌, ℕ, zero, suc, ◌+◌, ◌-◌, ◌^◌, ◌<◌, ◌≤◌, ◌⊎◌, ◌↔◌, false, not, eqb, Some, None, List, [], ◌∷◌, length, drop, get_or, map, sym, refl, ap, ◌∙◌, subst, inl, inr, ⊎_elim, arith}
+use Rattle.std.specs.Prelude.{slice_range, IsTrue, unwrap_or}
 use Rattle.std.proofs.lemmas.Bool.{cases_eq, cases_order, false≢true}
 use Rattle.std.proofs.lemmas.List.{length-take, length-drop, take_all}
 use Rattle.std.specs.Int.Bits.{and_zero_l}
 use Rattle.rbbi_model.specs.Words.{IsCodePoint, IsWord}
-use Rattle.rbbi_model.specs.Lists.{Member}
 use Rattle.rbbi_model.specs.Ranges.{Range, Has}
 use Rattle.rbbi_model.specs.Places.{has_bit}
-use Rattle.rbbi_model.specs.Spelling.{Leaf, Spells}
+use Rattle.rbbi_model.specs.Spelling.{Leaf}
 use Rattle.rbbi_model.specs.Rules.{Rule, LooksAhead, IsWordOf}
 use Rattle.rbbi_model.specs.Chains.{IsRule, EndsAt, Word, FrontEndsAt, IsTagAt, AreTags}
-use Rattle.rbbi_model.specs.Boundaries.{Boundary, LookAheadEndsAt, IsNext, AreBoundaries}
+use Rattle.rbbi_model.specs.Boundaries.{LookAheadEndsAt, IsNext, AreBoundaries}
 use Rattle.rbbi_model.specs.Unchained.{NoneChainedInto}
-use Rattle.rbbi_model.specs.Tables.{Table, CategoryRange, accept_of, step, row_along, row_after, category_of}
-use Rattle.rbbi_model.specs.SafePairs.{IsOpen, IsSafePair, stored_bit, is_safe}
-use Rattle.rbbi_model.specs.ValidTables.{IsWellFormed, AreValidRanges, AreValidLists, AreValidRows, IsValidRow, IsWay, AreFronted, AreValidSafePairs, IsValidTable}
+use Rattle.rbbi_model.specs.Tables.{accept_of, step, row_along, row_after, category_of}
+use Rattle.rbbi_model.specs.SafePairs.{stored_bit, is_safe}
+use Rattle.rbbi_model.specs.ValidTables.{AreValidRanges, IsValidRow, IsWay, IsValidTable}
 use Rattle.rbbi_model.specs.Searches.{table_boundaries}
-use Rattle.rbbi_model.specs.LeafSets.{EndedBefore, all_sets}
-use Rattle.rbbi_model.specs.Marks.{Marks, no_marks, marks_of, HasFront, AreMarksAtEnd, AreMarks, HasSameMarks}
+use Rattle.rbbi_model.specs.LeafSets.{EndedBefore}
+use Rattle.rbbi_model.specs.Marks.{no_marks, marks_of, HasFront, AreMarks, HasSameMarks}
 use Rattle.rbbi_model.specs.Compiled.{IsLeast, IsRead, AreAlike, AreClasses, IsCompiled}
 use Rattle.rbbi_model.proofs.Unchained.{unchained}
 use Rattle.rbbi_model.proofs.Categories.{one_category, category_within}
@@ -87,34 +85,33 @@ no_tag x s e tag at = no_number tag (ap (λ r. r.tag) (is_rule_a at.number at.ru
 tags_a : (x : List ℕ) (s e : ℕ) → AreTags rules_a x s e (0 ∷ [])
 tags_a x s e =
     record {
-        rising = tt;
-        exactly = λ tag.
-            (
-                λ here. inr (⊎_elim (λ is. sym is) (λ none. absurd none) here, λ other. no_tag x s e other),
-                λ either. inl (⊎_elim (λ at. absurd (no_tag x s e tag at)) (λ is. sym is.0) either)
-            )
+      rising = tt;
+      exactly = λ tag. (
+        λ here. inr (⊎_elim (λ is. sym is) (λ none. absurd none) here, λ other. no_tag x s e other),
+        λ either. inl (⊎_elim (λ at. absurd (no_tag x s e tag at)) (λ is. sym is.0) either),
+      );
     }
 
 -- the boundaries of `ab` by the rules: the longest match, then one character
 longest_in_ab : IsNext rules_a ab 0 (record { at = 1; statuses = 0 ∷ [] })
 longest_in_ab =
     inr (inl (record {
-        no_look_ahead = no_look_ahead ab 0;
-        ends = (0, Word 1 0 rule_a refl (record { starts = omega arith; ends = omega arith; word = is_word_a }));
-        greatest = λ e number ends. omega (arith, one_long ab 0 e number ends);
-        statuses = tags_a ab 0 1
+      no_look_ahead = no_look_ahead ab 0;
+      ends = (0, Word 1 0 rule_a refl (record { starts = omega arith; ends = omega arith; word = is_word_a }));
+      greatest = λ e number ends. omega (arith, one_long ab 0 e number ends);
+      statuses = tags_a ab 0 1;
     }))
 
 single_in_ab : IsNext rules_a ab 1 (record { at = 2; statuses = 0 ∷ [] })
 single_in_ab =
     inr (inr (record {
-        no_end = λ e number ends.
-            let is = ends_a ab 1 e number ends in
-            let at : e ≡ 2 = one_long ab 1 e number ends in
-            let found : 98 ∷ [] ≡ 97 ∷ [] = subst (λ k. slice_range ab 1 k ≡ 97 ∷ []) at is.0 in
-            omega (arith, ap (λ l. get_or l 0 0) found);
-        at = refl;
-        statuses = refl
+      no_end = λ e number ends.
+          let is = ends_a ab 1 e number ends in
+          let at : e ≡ 2 = one_long ab 1 e number ends in
+          let found : 98 ∷ [] ≡ 97 ∷ [] = subst (λ k. slice_range ab 1 k ≡ 97 ∷ []) at is.0 in
+          omega (arith, ap (λ l. get_or l 0 0) found);
+      at = refl;
+      statuses = refl;
     }))
 
 rules_give_ab : AreBoundaries rules_a ab (table_boundaries table_a ab)
@@ -195,23 +192,23 @@ stop_leads (suc (suc category)) short = absurd (omega (arith, short))
 pub ranges_valid : AreValidRanges 2 table_a.ranges
 ranges_valid =
     record {
-        some_categories = omega arith;
-        few_categories = omega arith;
-        some_ranges = omega arith;
-        from_zero = refl;
-        apart = (omega arith, omega arith, (omega arith, omega arith, tt));
-        within = ((omega arith, omega arith), ((omega arith, omega arith), ((omega arith, omega arith), tt)))
+      some_categories = omega arith;
+      few_categories = omega arith;
+      some_ranges = omega arith;
+      from_zero = refl;
+      apart = (omega arith, omega arith, (omega arith, omega arith, tt));
+      within = ((omega arith, omega arith), ((omega arith, omega arith), ((omega arith, omega arith), tt)));
     }
 
 pub table_valid : IsValidTable table_a
 table_valid =
     record {
-        well_formed = record { cells = refl; safe = refl; bytes = (omega arith, tt) };
-        ranges = ranges_valid;
-        lists = record { some = omega arith; few = omega arith; each = (record { some = omega arith; few = omega arith; rising = tt; small = (omega arith, tt) }, tt); first = refl; in_order = tt };
-        rows = record { some = omega arith; few = omega arith; few_slashes = omega arith; each = row_valid; stop = (refl, refl, refl); start = (refl, refl, refl); stop_leads = stop_leads };
-        fronts = λ way k is completed. absurd (omega (arith, completed, small_accept (row_along table_a 1 way)));
-        safe = record { exactly = λ first second f s. (λ _. (0, λ from r is. open_leads first second from f s r), λ _. all_safe first second f s); filling = no_filling }
+      well_formed = record { cells = refl; safe = refl; bytes = (omega arith, tt) };
+      ranges = ranges_valid;
+      lists = record { some = omega arith; few = omega arith; each = (record { some = omega arith; few = omega arith; rising = tt; small = (omega arith, tt) }, tt); first = refl; in_order = tt };
+      rows = record { some = omega arith; few = omega arith; few_slashes = omega arith; each = row_valid; stop = (refl, refl, refl); start = (refl, refl, refl); stop_leads = stop_leads };
+      fronts = λ way k is completed. absurd (omega (arith, completed, small_accept (row_along table_a 1 way)));
+      safe = record { exactly = λ first second f s. (λ _. (0, λ from r is. open_leads first second from f s r), λ _. all_safe first second f s); filling = no_filling };
     }
 
 -- the marks of the rules after a word: an `a` ends, and nothing else
@@ -233,21 +230,27 @@ no_fronts_here w k = (λ bit. absurd (no_bit k bit), λ front. absurd (no_front 
 
 marks_of_a : AreMarks rules_a (97 ∷ []) (record { accept = 1; fronts = 0; statuses = 0 ∷ [] })
 marks_of_a =
-    inr (none_before (97 ∷ []), record {
+    inr (
+      none_before (97 ∷ []),
+      record {
         accept = inr (inl (record { number = 0; ends = Word 1 0 rule_a refl (record { starts = omega arith; ends = omega arith; word = is_word_a }); no_look_ahead = λ other. no_look_ahead (97 ∷ []) 0 1 other; is_one = refl }));
         fronts = λ _ k. no_fronts_here (97 ∷ []) k;
         no_fronts = λ _. refl;
-        statuses = tags_a (97 ∷ []) 0 1
-    })
+        statuses = tags_a (97 ∷ []) 0 1;
+      },
+    )
 
 marks_of_others : (w : List ℕ) → (w ≡ 97 ∷ [] → ⊥) → AreMarks rules_a w no_marks
 marks_of_others w other =
-    inr (none_before w, record {
+    inr (
+      none_before w,
+      record {
         accept = inr (inr (record { no_end = λ number ends. other (ended_a w number ends); is_zero = refl }));
         fronts = λ _ k. no_fronts_here w k;
         no_fronts = λ _. refl;
-        statuses = tags_a w 0 (length w)
-    })
+        statuses = tags_a w 0 (length w);
+      },
+    )
 
 -- the rows of the table after a word
 
@@ -281,12 +284,12 @@ is_a_or_not (c ∷ d ∷ w) = inr (λ same. omega (arith, ap length same))
 same_marks : HasSameMarks table_a rules_a
 same_marks =
     record {
-        slashes = refl;
-        each = λ w is some.
-            ⊎_elim
-            (λ same. subst (λ v. AreMarks rules_a v (marks_of table_a (row_after table_a v))) (sym same) marks_of_a)
-            (λ other. subst (λ row. AreMarks rules_a w (marks_of table_a row)) (sym (row_of_others w is some other)) (marks_of_others w other))
-            (is_a_or_not w)
+      slashes = refl;
+      each = λ w is some.
+          ⊎_elim
+          (λ same. subst (λ v. AreMarks rules_a v (marks_of table_a (row_after table_a v))) (sym same) marks_of_a)
+          (λ other. subst (λ row. AreMarks rules_a w (marks_of table_a row)) (sym (row_of_others w is some other)) (marks_of_others w other))
+          (is_a_or_not w);
     }
 
 -- the table is least
@@ -329,15 +332,15 @@ alike_a : (c d : ℕ) → IsCodePoint c → IsCodePoint d → (category_of table
 alike_a c d small small' =
     ⊎_elim
     (λ is.
-        ⊎_elim
-        (λ is'. (λ _. ((λ _. subst (λ e. Has set_a e) (sym is') has_a, λ _. subst (λ e. Has set_a e) (sym is) has_a), tt), λ _. category_a c is ∙ sym (category_a d is')))
-        (λ other. (λ same. absurd (omega (arith, category_a c is, other_category d small' other, same)), λ alike. absurd (other (in_set_a d (alike.0.0 (subst (λ e. Has set_a e) (sym is) has_a))))))
-        (cases_eq d 97))
+    ⊎_elim
+    (λ is'. (λ _. ((λ _. subst (λ e. Has set_a e) (sym is') has_a, λ _. subst (λ e. Has set_a e) (sym is) has_a), tt), λ _. category_a c is ∙ sym (category_a d is')))
+    (λ other. (λ same. absurd (omega (arith, category_a c is, other_category d small' other, same)), λ alike. absurd (other (in_set_a d (alike.0.0 (subst (λ e. Has set_a e) (sym is) has_a))))))
+    (cases_eq d 97))
     (λ other.
-        ⊎_elim
-        (λ is'. (λ same. absurd (omega (arith, category_a d is', other_category c small other, same)), λ alike. absurd (other (in_set_a c (alike.0.1 (subst (λ e. Has set_a e) (sym is') has_a))))))
-        (λ other'. (λ _. ((λ has. absurd (other (in_set_a c has)), λ has. absurd (other' (in_set_a d has))), tt), λ _. other_category c small other ∙ sym (other_category d small' other')))
-        (cases_eq d 97))
+    ⊎_elim
+    (λ is'. (λ same. absurd (omega (arith, category_a d is', other_category c small other, same)), λ alike. absurd (other (in_set_a c (alike.0.1 (subst (λ e. Has set_a e) (sym is') has_a))))))
+    (λ other'. (λ _. ((λ has. absurd (other (in_set_a c has)), λ has. absurd (other' (in_set_a d has))), tt), λ _. other_category c small other ∙ sym (other_category d small' other')))
+    (cases_eq d 97))
     (cases_eq c 97)
   where
     has_a : Has set_a 97
@@ -346,10 +349,10 @@ alike_a c d small small' =
 classes : AreClasses rules_a table_a.categories table_a.ranges
 classes =
     record {
-        none = λ c small. (λ is read. omega (arith, is, category_a c (read_a c read)), λ unread. other_category c small (λ is. unread (subst (λ d. IsRead rules_a d) (sym is) is_read_a)));
-        alike = alike_a;
-        used = λ category some short. (97, omega arith, (let is : 1 ≡ category = omega arith in is));
-        numbered = λ category later d some less small is. absurd (omega (arith, category_within 2 table_a.ranges d ranges_valid, is, some, less))
+      none = λ c small. (λ is read. omega (arith, is, category_a c (read_a c read)), λ unread. other_category c small (λ is. unread (subst (λ d. IsRead rules_a d) (sym is) is_read_a)));
+      alike = alike_a;
+      used = λ category some short. (97, omega arith, (let is : 1 ≡ category = omega arith in is));
+      numbered = λ category later d some less small is. absurd (omega (arith, category_within 2 table_a.ranges d ranges_valid, is, some, less));
     }
 
 -- the table of `a;` is compiled from the rules

@@ -1,6 +1,5 @@
 -- The questions that a session answers, off a list of boundaries and a cursor.
-use Rattle.std.specs.Prelude.{ℕ, ◌<◌, Bool, List, [], ◌∷◌, Option, Some, None, find, is_some, if◌then◌else◌, ◌==◌, nat_lt, nat_le, option_map, unwrap_or}
-use Rattle.std.specs.List.{last_or}
+use Rattle.std.specs.Prelude.{ℕ, Bool, List, [], ◌∷◌, Option, Some, None, is_some, if◌then◌else◌, ◌==◌, nat_lt, nat_le, unwrap_or}
 use Rattle.rbbi_model.specs.Places.{largest}
 use Rattle.rbbi_model.specs.Boundaries.{Boundary}
 use Rattle.rbbi_model.specs.Cover.{end_of}
@@ -90,8 +89,8 @@ answer boundaries cursor (Following place) = moved (first_after boundaries place
 answer boundaries cursor (Preceding place) = moved (last_before boundaries place) 0
 answer boundaries cursor (IsBoundary place) =
     record {
-        reply = if is_place_of boundaries place then Yes else No;
-        cursor = unwrap_or (first_from boundaries place) (end_of boundaries)
+      reply = if is_place_of boundaries place then Yes else No;
+      cursor = unwrap_or (first_from boundaries place) (end_of boundaries);
     }
 answer boundaries cursor Current = stays cursor (Place cursor)
 answer boundaries cursor Status = stays cursor (Largest (largest (statuses_at boundaries cursor)))

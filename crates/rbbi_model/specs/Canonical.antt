@@ -1,5 +1,5 @@
 -- The canonical table: of all that have the same marks after every word, the one that is written.
-use Rattle.std.specs.Prelude.{◌≡◌, ◌≢◌, ℕ, ◌+◌, ◌^◌, ◌<◌, ◌≤◌, ◌↔◌, List, length, drop, slice_index}
+use Rattle.std.specs.Prelude.{◌≡◌, ℕ, ◌+◌, ◌^◌, ◌<◌, ◌≤◌, ◌↔◌, List, length, slice_index}
 use Rattle.rbbi_model.specs.Words.{IsCodePoint, IsSurrogate, IsWord}
 use Rattle.rbbi_model.specs.Tables.{Table, accept_of, fronts_of, step, row_after, category_of}
 use Rattle.rbbi_model.specs.ValidTables.{IsValidTable}

@@ -2,7 +2,7 @@
 use Rattle.std.specs.Prelude.{◌≡◌, ◌≢◌, ℕ, ◌<◌, ◌≤◌, ◌⊎◌, ◌↔◌, List, [], ◌∷◌, ◌++◌, length, AllPairs}
 use Rattle.std.specs.List.{AllByRecursion, Any}
 use Rattle.rbbi_model.specs.Words.{IsCodePoint, IsWord, IsText}
-use Rattle.rbbi_model.specs.Ranges.{Range, Has}
+use Rattle.rbbi_model.specs.Ranges.{Has}
 use Rattle.rbbi_model.specs.Rules.{Rule}
 use Rattle.rbbi_model.specs.Boundaries.{AreBoundaries}
 use Rattle.rbbi_model.specs.Tables.{Table, CategoryRange, list_of, row_along, category_of}

@@ -1,5 +1,5 @@
 -- Numbers and lines as they are printed. A line is a list of bytes.
-use Rattle.std.specs.Prelude.{◌≡◌, ◌≢◌, ℕ, ◌+◌, ◌*◌, ◌-◌, ◌<◌, ◌≤◌, ◌⊎◌, List, [], ◌∷◌, ◌++◌, length, fold, take, count_by, if◌then◌else◌, ◌==◌, codes, encode_utf8}
+use Rattle.std.specs.Prelude.{◌≡◌, ◌≢◌, ℕ, ◌+◌, ◌*◌, ◌-◌, ◌≤◌, ◌⊎◌, List, [], ◌∷◌, ◌++◌, length, fold, take, count_by, if◌then◌else◌, ◌==◌, codes, encode_utf8}
 use Rattle.std.specs.List.{flat_map, AllByRecursion}
 use Rattle.std.specs.Fmt.{decimal}
 use Rattle.rbbi_model.specs.Places.{count_below}
@@ -82,7 +82,7 @@ safe_count table = count_below (stored_bit table.safe) (table.categories * table
 abbrev pub compile_line : Table → List ℕ
 compile_line table =
     line (codes "categories " ++ decimal table.categories ++ codes " rows " ++ decimal (length table.rows) ++ codes " lists " ++ decimal (length table.lists)
-        ++ codes " slashes " ++ decimal table.slashes ++ codes " safe " ++ decimal (safe_count table))
+    ++ codes " slashes " ++ decimal table.slashes ++ codes " safe " ++ decimal (safe_count table))
 
 -- what `conform` prints of a test that differs: its line, and the place of the first mark that does
 abbrev pub differs_line : ℕ → ℕ → List ℕ

@@ -1,5 +1,5 @@
 -- A search in a table, the next boundary that it finds, and the boundaries of a text by the table.
-use Rattle.std.specs.Prelude.{ℕ, zero, suc, ◌+◌, ◌-◌, Bool, ◌&&◌, List, [], ◌∷◌, length, Option, Some, None, unwrap_or, if◌then◌else◌, ◌==◌, nat_lt, slice_range}
+use Rattle.std.specs.Prelude.{ℕ, zero, suc, ◌+◌, ◌-◌, ◌&&◌, List, [], ◌∷◌, length, Option, Some, None, unwrap_or, if◌then◌else◌, ◌==◌, nat_lt, slice_range}
 use Rattle.rbbi_model.specs.Places.{least_from, greatest_below, has_bit}
 use Rattle.rbbi_model.specs.Boundaries.{Boundary}
 use Rattle.rbbi_model.specs.Tables.{Table, accept_of, fronts_of, list_of, statuses_of, row_after, completes, stops}

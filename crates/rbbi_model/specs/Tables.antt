@@ -1,5 +1,5 @@
 -- Tables: their parts, the category of a code point, and the row that a word leads to.
-use Rattle.std.specs.Prelude.{◌≡◌, ℕ, zero, suc, ◌+◌, ◌-◌, ◌*◌, ◌<◌, ◌≤◌, Bool, ◌||◌, ◌⊎◌, List, [], ◌∷◌, map, length, if◌then◌else◌, ◌==◌, nat_le, slice_index, slice_index_or}
+use Rattle.std.specs.Prelude.{◌≡◌, ℕ, ◌+◌, ◌*◌, ◌<◌, ◌≤◌, Bool, ◌||◌, ◌⊎◌, List, [], ◌∷◌, map, if◌then◌else◌, ◌==◌, nat_le, slice_index, slice_index_or}
 use Rattle.rbbi_model.specs.Words.{last_code_point}
 
 -- a range of code points of one category: it reaches to the code point before the next range's start

@@ -1,5 +1,5 @@
 -- Code points, characters, words and texts.
-use Rattle.std.specs.Prelude.{ℕ, ◌≤◌, ◌<◌, List}
+use Rattle.std.specs.Prelude.{ℕ, ◌≤◌, List}
 use Rattle.std.specs.List.{AllByRecursion}
 
 -- a number from 0 to 0x10FFFF

@@ -15,6 +15,12 @@ mod searches;
 mod table_file;
 mod tables;
 
+ghost use Rattle.std.specs.Prelude.{◌≡◌, ℕ, ◌↔◌, List};
+ghost use Rattle.rbbi_model.specs.Rules.{Rule};
+ghost use Rattle.rbbi_model.specs.Chains.{EndsAt};
+ghost use Rattle.rbbi_model.specs.Boundaries.{Boundary, AreBoundaries};
+ghost use Rattle.rbbi_model.specs.Unchained.{NoneChainedInto, EndsAtWord};
+
 pub use answers::{
     cursor_is_a_boundary, one_reply_for_each_command, one_table_reply_for_each_command,
 };
@@ -24,16 +30,11 @@ pub use costs::tries_end_settled;
 pub use lines::decimal_is_the_printed_form;
 pub use runs::anchors_are_stored;
 pub use searches::{
-    completed_search_has_a_cut, look_end_is_past_the_start, next_boundary_is_past_the_start, table_boundaries_cover_the_text,
+    completed_search_has_a_cut, look_end_is_past_the_start, next_boundary_is_past_the_start,
+    table_boundaries_cover_the_text,
 };
 pub use table_file::spelling_tells_the_table;
 pub use tables::{category_is_within, code_point_has_one_category};
-
-ghost use Rattle.std.specs.Prelude.{◌≡◌, ℕ, ◌↔◌, List};
-ghost use Rattle.rbbi_model.specs.Rules.{Rule};
-ghost use Rattle.rbbi_model.specs.Chains.{EndsAt};
-ghost use Rattle.rbbi_model.specs.Boundaries.{Boundary, AreBoundaries};
-ghost use Rattle.rbbi_model.specs.Unchained.{NoneChainedInto, EndsAtWord};
 
 /// A text has at most one list of boundaries by a list of rules.
 pub fn boundaries_are_unique()
