@@ -29,8 +29,8 @@ pub record Entry : Type 0 where
   pub status : ℕ
   pub reach : ℕ
 
--- A kept run: its anchor, its entries, and whether it leads, which is to say that no true boundary stands between the anchor
--- and the first entry.
+-- A kept run: its anchor, its entries, and whether it leads, which is to say that nothing found from the anchor lies between its
+-- low place and the first entry.
 pub record Run : Type 0 where
   pub anchor : ℕ
   pub entries : List Entry
