@@ -25,7 +25,7 @@ greatest_is test (suc high) q short holds =
     (cases_eq q high))
 
 -- 0 has no bit
-no_bit : (n k : ℕ) → n ≡ 0 → has_bit n k ≡ true → ⊥
+pub no_bit : (n k : ℕ) → n ≡ 0 → has_bit n k ≡ true → ⊥
 no_bit n k none is = false≢true (sym (ap (λ m. not (eqb m 0)) (ap (λ m. bit_and m (2 ^ k)) none ∙ and_zero_l (2 ^ k))) ∙ is)
 
 way_of : (categories : ℕ) (word : List ℕ) (of : ℕ → ℕ) → ((c : ℕ) → of c < categories) → AllByRecursion (λ category. category < categories) (map of word)

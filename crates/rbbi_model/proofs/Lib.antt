@@ -20,3 +20,5 @@ pub mod SearchFacts
 pub mod Gives
 pub mod Tries
 pub mod MarksUnique
+pub mod FoundCases
+pub mod SafeSearch

@@ -56,7 +56,7 @@ greatest_is_most test (suc high) top q is short holds =
     (cases_eq q high))
     (cases_Bool (test high))
 
-row_along_append : (table : Table) (row : ℕ) (these those : List ℕ) → row_along table row (these ++ those) ≡ row_along table (row_along table row these) those
+pub row_along_append : (table : Table) (row : ℕ) (these those : List ℕ) → row_along table row (these ++ those) ≡ row_along table (row_along table row these) those
 row_along_append table row [] those = refl
 row_along_append table row (k ∷ these) those = row_along_append table (step table row k) these those
 
