@@ -22,3 +22,4 @@ pub mod Tries
 pub mod MarksUnique
 pub mod FoundCases
 pub mod SafeSearch
+pub mod FreshTrue

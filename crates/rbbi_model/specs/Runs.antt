@@ -109,3 +109,7 @@ pub record ShowsBefore (x : List ℕ) (run : Run) (i a : ℕ) : Type 0 where
   pub at : entry.at ≡ a
   pub short_of : a < i
   pub nearest : StartsFrom after i ⊎ (a ≡ length x)
+
+-- the boundaries from a place on
+abbrev pub from_place : ℕ → List Boundary → List Boundary
+from_place place boundaries = filter (λ boundary. nat_le place boundary.at) boundaries
