@@ -9,7 +9,7 @@ use Rattle.rbbi_model.specs.Searches.{next_boundary, follow_by, table_boundaries
 use Rattle.rbbi_model.proofs.Found.{found_lies}
 
 module _ (next : ℕ → Boundary) (n : ℕ) (lies : (s : ℕ) → s < n → (s < (next s).at) × ((next s).at ≤ n)) where
-  follow_rise : (most : ℕ) (last : Boundary) → IsRising (places (last ∷ follow_by next n most last))
+  pub follow_rise : (most : ℕ) (last : Boundary) → IsRising (places (last ∷ follow_by next n most last))
   follow_rise zero last = tt
   follow_rise (suc most) last =
       cond_both (ltb last.at n) (next last.at ∷ follow_by next n most (next last.at)) [] (λ bs. IsRising (places (last ∷ bs)))

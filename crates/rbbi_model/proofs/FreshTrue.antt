@@ -36,10 +36,10 @@ module _ (next : ℕ → Boundary) (n : ℕ) (lies : (s : ℕ) → s < n → (s 
       (λ end. done (suc most) last end ∙ sym (done (suc other) that (omega arith)))
       (cases_lt last.at n)
 
-kept : (place : ℕ) (b : Boundary) (bs : List Boundary) → place ≤ b.at → from_place place (b ∷ bs) ≡ b ∷ from_place place bs
+pub kept : (place : ℕ) (b : Boundary) (bs : List Boundary) → place ≤ b.at → from_place place (b ∷ bs) ≡ b ∷ from_place place bs
 kept place b bs from = cond-true (leb place b.at) (b ∷ from_place place bs) (from_place place bs) (le-leb place b.at from)
 
-dropped : (place : ℕ) (b : Boundary) (bs : List Boundary) → b.at < place → from_place place (b ∷ bs) ≡ from_place place bs
+pub dropped : (place : ℕ) (b : Boundary) (bs : List Boundary) → b.at < place → from_place place (b ∷ bs) ≡ from_place place bs
 dropped place b bs before = cond-false (leb place b.at) (b ∷ from_place place bs) (from_place place bs) (lt-leb place b.at before)
 
 module _ (table : Table) (valid : IsValidTable table) (x : List ℕ) (p : ℕ) (room : p + 2 ≤ length x) (safe : IsSafePair table (category_at table x p) (category_at table x (p + 1))) where

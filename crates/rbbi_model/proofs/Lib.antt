@@ -23,3 +23,4 @@ pub mod MarksUnique
 pub mod FoundCases
 pub mod SafeSearch
 pub mod FreshTrue
+pub mod Shown

@@ -14,7 +14,7 @@ less_than_later m (n ∷ ns) k rising later =
     ⊎_elim (λ is. subst (λ j. m < j) is rising.0) (λ further. let next = less_than_later n ns k rising.1 further in omega (arith, rising.0)) later
 
 -- a number of a rising list isn't less than its first one
-not_less_than_first : (m : ℕ) (ns : List ℕ) (k : ℕ) → IsRising (m ∷ ns) → Member (m ∷ ns) k → m ≤ k
+pub not_less_than_first : (m : ℕ) (ns : List ℕ) (k : ℕ) → IsRising (m ∷ ns) → Member (m ∷ ns) k → m ≤ k
 not_less_than_first m ns k rising here =
     ⊎_elim (λ is. omega arith) (λ later. let less = less_than_later m ns k rising later in omega arith) here
 
