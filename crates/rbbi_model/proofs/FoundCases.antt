@@ -1,18 +1,17 @@
 -- What a search finds in a valid table, by cases; and how its rows go on by one character.
-use Rattle.std.proofs.Common.{◌≡◌, ◌≢◌, ℕ, zero, suc, ◌+◌, ◌-◌, ◌<◌, ◌≤◌, ◌⊎◌, Bool, true, false, ◌&&◌, ltb, eqb, leb, List, [], ◌∷◌, ◌++◌, Option, Some, None, length, take, drop, map, get_or, sym, refl, ap, ◌∙◌, subst, inl, inr, ⊎_elim, arith}
-use Rattle.std.specs.Prelude.{slice_range, slice_index, IsTrue, unwrap_or}
-use Rattle.std.specs.List.{AllByRecursion}
-use Rattle.std.proofs.lemmas.Bool.{cases_Bool, cases_cond, cond-true, cond-false, and_parts, and_from, ltb-true, lt-ltb, eqb-true, eq-eqb, leb-true, or_cases, or_parts, leb-false, eqb-false}
+use Rattle.std.proofs.Common.{◌≡◌, ℕ, ◌+◌, ◌-◌, ◌<◌, ◌≤◌, ◌⊎◌, Bool, true, false, ◌&&◌, ltb, eqb, List, [], ◌∷◌, ◌++◌, Option, Some, None, length, take, drop, map, get_or, sym, refl, ap, ◌∙◌, subst, inl, inr, ⊎_elim, arith}
+use Rattle.std.specs.Prelude.{slice_range, IsTrue, unwrap_or}
+use Rattle.std.proofs.lemmas.Bool.{cases_Bool, cond-true, cond-false, and_parts, and_from, ltb-true, lt-ltb, eqb-true, eq-eqb, leb-true, or_cases, or_parts, leb-false, eqb-false}
 use Rattle.std.proofs.lemmas.List.{map-append, take_more, length-drop, get_or-drop}
 use Rattle.rbbi_model.specs.Places.{has_bit, greatest_below}
-use Rattle.rbbi_model.specs.Tables.{Table, accept_of, fronts_of, list_of, category_of, step, row_along, row_after, completes, stops}
+use Rattle.rbbi_model.specs.Tables.{Table, accept_of, fronts_of, list_of, category_of, step, row_along, completes, stops}
 use Rattle.rbbi_model.specs.SafePairs.{IsOpen}
-use Rattle.rbbi_model.specs.ValidTables.{IsWay, IsValidTable}
+use Rattle.rbbi_model.specs.ValidTables.{IsValidTable}
 use Rattle.rbbi_model.specs.Searches.{Found, row_at, search_end, cut_place, longest_place, found_longest, found}
 use Rattle.rbbi_model.specs.Runs.{category_at}
 use Rattle.rbbi_model.proofs.Categories.{category_within}
 use Rattle.rbbi_model.proofs.Found.{end_lies, greatest_lies}
-use Rattle.rbbi_model.proofs.SearchFacts.{least_is, none_passes, greatest_is_most, row_along_append}
+use Rattle.rbbi_model.proofs.SearchFacts.{none_passes, greatest_is_most, row_along_append}
 use Rattle.rbbi_model.proofs.Cuts.{cut_is}
 
 -- what passes is at most the greatest that does
@@ -53,21 +52,21 @@ module _ (table : Table) (valid : IsValidTable table) (x : List ℕ) (s : ℕ) (
   found_longest_is isnt None is =
       let test : ℕ → Bool = λ q. ltb s q && eqb (accept_of table (row_at table x s q)) 1 in
       inr (inr (record {
-          uncompleted = isnt;
-          at = refl;
-          none = λ q past up_to one. none_passes test (search_end table x s + 1) q is (omega arith) (and_from (ltb s q) (eqb (accept_of table (row_at table x s q)) 1) (lt-ltb s q past) (eq-eqb (accept_of table (row_at table x s q)) 1 one))
+        uncompleted = isnt;
+        at = refl;
+        none = λ q past up_to one. none_passes test (search_end table x s + 1) q is (omega arith) (and_from (ltb s q) (eqb (accept_of table (row_at table x s q)) 1) (lt-ltb s q past) (eq-eqb (accept_of table (row_at table x s q)) 1 one));
       }))
   found_longest_is isnt (Some top) is =
       let test : ℕ → Bool = λ q. ltb s q && eqb (accept_of table (row_at table x s q)) 1 in
       let lies = greatest_lies test (search_end table x s + 1) top is in
       let parts = and_parts (ltb s top) (eqb (accept_of table (row_at table x s top)) 1) lies.1 in
       inr (inl (record {
-          uncompleted = isnt;
-          past = ltb-true s top parts.0;
-          up_to = omega (arith, lies.0);
-          one = eqb-true (accept_of table (row_at table x s top)) 1 parts.1;
-          most = λ q past up_to one. greatest_is_most test (search_end table x s + 1) top q is (omega arith) (and_from (ltb s q) (eqb (accept_of table (row_at table x s q)) 1) (lt-ltb s q past) (eq-eqb (accept_of table (row_at table x s q)) 1 one));
-          list = refl
+        uncompleted = isnt;
+        past = ltb-true s top parts.0;
+        up_to = omega (arith, lies.0);
+        one = eqb-true (accept_of table (row_at table x s top)) 1 parts.1;
+        most = λ q past up_to one. greatest_is_most test (search_end table x s + 1) top q is (omega arith) (and_from (ltb s q) (eqb (accept_of table (row_at table x s q)) 1) (lt-ltb s q past) (eq-eqb (accept_of table (row_at table x s q)) 1 one));
+        list = refl;
       }))
 
   found_cut_is : completes table (row_at table x s (search_end table x s)) ≡ true → FoundCut table x s (record { at = cut_place table x s (search_end table x s) (accept_of table (row_at table x s (search_end table x s)) - 2); list = list_of table (row_at table x s (search_end table x s)) })
@@ -77,12 +76,12 @@ module _ (table : Table) (valid : IsValidTable table) (x : List ℕ) (s : ℕ) (
       let cut = cut_is table valid x s short is in
       let test : ℕ → Bool = λ q. ltb s q && has_bit (fronts_of table (row_at table x s q)) k in
       record {
-          completed = is;
-          past = cut.0;
-          before = cut.1;
-          bit = cut.2;
-          most = λ q past before bit. at_most test z q (s + 1) (greatest_below test z) refl before (and_from (ltb s q) (has_bit (fronts_of table (row_at table x s q)) k) (lt-ltb s q past) bit);
-          list = refl
+        completed = is;
+        past = cut.0;
+        before = cut.1;
+        bit = cut.2;
+        most = λ q past before bit. at_most test z q (s + 1) (greatest_below test z) refl before (and_from (ltb s q) (has_bit (fronts_of table (row_at table x s q)) k) (lt-ltb s q past) bit);
+        list = refl;
       }
 
   pub found_is : FoundAs table x s (found table x s)
@@ -113,7 +112,7 @@ row_goes_on table x s q order within =
     let inside : i < length (drop s x) = omega (arith, length-drop s x) in
     let character : get_or (drop s x) i 0 ≡ get_or x q 0 = get_or-drop s x i 0 ∙ ap (λ n. get_or x n 0) (let e : s + i ≡ q = omega arith in e) in
     let longer : slice_range x s (q + 1) ≡ slice_range x s q ++ get_or x q 0 ∷ [] =
-        ap (λ n. take n (drop s x)) (let e : q + 1 - s ≡ i + 1 = omega arith in e) ∙ take_more (drop s x) i 0 inside ∙ ap (λ c. take i (drop s x) ++ c ∷ []) character in
+    ap (λ n. take n (drop s x)) (let e : q + 1 - s ≡ i + 1 = omega arith in e) ∙ take_more (drop s x) i 0 inside ∙ ap (λ c. take i (drop s x) ++ c ∷ []) character in
     ap (λ w. row_along table 1 (map of w)) longer
     ∙ ap (λ l. row_along table 1 l) (map-append of (slice_range x s q) (get_or x q 0 ∷ []))
     ∙ row_along_append table 1 (map of (slice_range x s q)) (of (get_or x q 0) ∷ [])

@@ -1,13 +1,12 @@
 -- From a safe pair of characters on, a search that began there runs along with one that began before.
-use Rattle.std.proofs.Common.{◌≡◌, ◌≢◌, ℕ, zero, suc, ◌+◌, ◌-◌, ◌<◌, ◌≤◌, ◌⊎◌, Bool, true, false, eqb, List, [], length, take, drop, get_or, sym, refl, ap, ◌∙◌, subst, inl, inr, ⊎_elim, arith}
+use Rattle.std.proofs.Common.{◌≡◌, ℕ, zero, suc, ◌+◌, ◌-◌, ◌<◌, ◌≤◌, ◌⊎◌, true, false, eqb, List, length, take, drop, get_or, sym, ap, ◌∙◌, subst, inl, inr, ⊎_elim, arith}
 use Rattle.std.specs.Prelude.{IsTrue}
-use Rattle.std.proofs.lemmas.Bool.{cases_Bool, cases_lt, cases_order, cases_eq, false≢true, or_left, eq-eqb}
+use Rattle.std.proofs.lemmas.Bool.{cases_Bool, cases_lt, cases_eq, false≢true, or_left, eq-eqb}
 use Rattle.rbbi_model.specs.Places.{has_bit}
-use Rattle.rbbi_model.specs.Boundaries.{Boundary}
-use Rattle.rbbi_model.specs.Tables.{Table, accept_of, fronts_of, list_of, statuses_of, step, row_after, completes, stops}
+use Rattle.rbbi_model.specs.Tables.{Table, accept_of, fronts_of, list_of, step, row_after, completes, stops}
 use Rattle.rbbi_model.specs.SafePairs.{IsOpen, IsSafePair}
 use Rattle.rbbi_model.specs.ValidTables.{IsValidTable}
-use Rattle.rbbi_model.specs.Searches.{Found, row_at, search_end, found, next_boundary}
+use Rattle.rbbi_model.specs.Searches.{row_at, search_end, found}
 use Rattle.rbbi_model.specs.Runs.{category_at}
 use Rattle.rbbi_model.proofs.Categories.{category_within}
 use Rattle.rbbi_model.proofs.Found.{end_lies, found_lies}
@@ -134,11 +133,11 @@ module _ (table : Table) (valid : IsValidTable table) (x : List ℕ) where
       far s short past going =
           ⊎_elim
           (λ near.
-              let is : search_end table x s ≡ p + 1 = omega arith in
-              ⊎_elim
-              (λ stopped. absurd (false≢true (sym going ∙ ap (λ q. stops table (row_at table x s q)) (sym is) ∙ stopped)))
-              (λ all. absurd (omega (arith, is, all)))
-              (end_is s short))
+          let is : search_end table x s ≡ p + 1 = omega arith in
+          ⊎_elim
+          (λ stopped. absurd (false≢true (sym going ∙ ap (λ q. stops table (row_at table x s q)) (sym is) ∙ stopped)))
+          (λ all. absurd (omega (arith, is, all)))
+          (end_is s short))
           (λ ok. ok)
           (cases_lt (search_end table x s) (p + 2))
 
@@ -178,12 +177,11 @@ module _ (table : Table) (valid : IsValidTable table) (x : List ℕ) where
           let up_p = (found_lies table x p short_p).1 in
           let same_k = ap (λ row. accept_of table row - 2) same_last in
           let low : p + 2 ≤ fb → fb ≤ fp = λ from.
-              cut'.most fb (omega arith) (omega (arith, cut.before, same_end)) (subst (λ k. IsTrue (has_bit (fronts_of table (row_at table x p fb)) k)) same_k (subst (λ row. IsTrue (has_bit (fronts_of table row) (accept_of table (row_at table x b (search_end table x b)) - 2))) (same_row fb from up_b) cut.bit)) in
+          cut'.most fb (omega arith) (omega (arith, cut.before, same_end)) (subst (λ k. IsTrue (has_bit (fronts_of table (row_at table x p fb)) k)) same_k (subst (λ row. IsTrue (has_bit (fronts_of table row) (accept_of table (row_at table x b (search_end table x b)) - 2))) (same_row fb from up_b) cut.bit)) in
           let high : p + 2 ≤ fp → fp ≤ fb = λ from.
-              cut.most fp (omega arith) (omega (arith, cut'.before, same_end)) (subst (λ k. IsTrue (has_bit (fronts_of table (row_at table x b fp)) k)) (sym same_k) (subst (λ row. IsTrue (has_bit (fronts_of table row) (accept_of table (row_at table x p (search_end table x p)) - 2))) (sym (same_row fp from up_p)) cut'.bit)) in
-          (
-              agree_at fb fp spans past_p low high,
-              λ _. cut'.list ∙ ap (λ row. list_of table row) (sym same_last) ∙ sym cut.list
+          cut.most fp (omega arith) (omega (arith, cut'.before, same_end)) (subst (λ k. IsTrue (has_bit (fronts_of table (row_at table x b fp)) k)) (sym same_k) (subst (λ row. IsTrue (has_bit (fronts_of table row) (accept_of table (row_at table x p (search_end table x p)) - 2))) (sym (same_row fp from up_p)) cut'.bit)) in (
+            agree_at fb fp spans past_p low high,
+            λ _. cut'.list ∙ ap (λ row. list_of table row) (sym same_last) ∙ sym cut.list,
           )
 
       longest_agrees : FoundLongest table x b (found table x b) → FoundLongest table x p (found table x p) → Agree
@@ -195,10 +193,9 @@ module _ (table : Table) (valid : IsValidTable table) (x : List ℕ) where
           let up_p = (found_lies table x p short_p).1 in
           let low : p + 2 ≤ fb → fb ≤ fp = λ from. longest'.most fb (omega arith) (omega (arith, longest.up_to, same_end)) (ap (λ row. accept_of table row) (sym (same_row fb from up_b)) ∙ longest.one) in
           let high : p + 2 ≤ fp → fp ≤ fb = λ from. longest.most fp (omega arith) (omega (arith, longest'.up_to, same_end)) (ap (λ row. accept_of table row) (same_row fp from up_p) ∙ longest'.one) in
-          let same : fp ≡ fb = agree_at fb fp spans past_p low high in
-          (
-              same,
-              λ from. longest'.list ∙ ap (λ q. list_of table (row_at table x p q)) same ∙ ap (λ row. list_of table row) (sym (same_row fb from up_b)) ∙ sym longest.list
+          let same : fp ≡ fb = agree_at fb fp spans past_p low high in (
+            same,
+            λ from. longest'.list ∙ ap (λ q. list_of table (row_at table x p q)) same ∙ ap (λ row. list_of table row) (sym (same_row fb from up_b)) ∙ sym longest.list,
           )
 
       single_agrees : FoundLongest table x b (found table x b) → FoundSingle table x p (found table x p) → Agree
@@ -227,12 +224,12 @@ module _ (table : Table) (valid : IsValidTable table) (x : List ℕ) where
     unfolding Agree
     next_agrees =
         let dead_case : row_at table x b (p + 2) ≡ 0 → ((found table x p).at ≡ (found table x b).at) × (p + 2 ≤ (found table x b).at → (found table x p).list ≡ (found table x b).list) =
-            λ dead. (both_next dead, λ from. absurd (omega (arith, from, found_next b short_b (omega arith) spans dead))) in
+        λ dead. (both_next dead, λ from. absurd (omega (arith, from, found_next b short_b (omega arith) spans dead))) in
         ⊎_elim
         (λ stopped. dead_case (dead_after b (omega arith) stopped))
         (λ going_b.
-            ⊎_elim
-            (λ stopped'. dead_case (from_b ∙ sym from_p ∙ dead_after p (omega arith) stopped'))
-            (λ going_p. going_agree going_b going_p)
-            (cases_Bool (stops table (row_at table x p (p + 1)))))
+        ⊎_elim
+        (λ stopped'. dead_case (from_b ∙ sym from_p ∙ dead_after p (omega arith) stopped'))
+        (λ going_p. going_agree going_b going_p)
+        (cases_Bool (stops table (row_at table x p (p + 1)))))
         (cases_Bool (stops table (row_at table x b (p + 1))))

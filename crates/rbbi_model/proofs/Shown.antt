@@ -1,8 +1,7 @@
 -- What a true run shows is so.
-use Rattle.std.proofs.Common.{◌≡◌, ℕ, ◌+◌, ◌<◌, ◌≤◌, ◌⊎◌, ◌↔◌, Bool, true, false, ltb, leb, eqb, List, [], ◌∷◌, ◌++◌, Option, Some, None, length, map, sym, refl, ap, ◌∙◌, subst, inl, inr, ⊎_elim, append_assoc, arith}
-use Rattle.std.specs.Prelude.{IsTrue, filter}
+use Rattle.std.proofs.Common.{◌≡◌, ℕ, ◌+◌, ◌<◌, ◌≤◌, ◌⊎◌, ltb, eqb, List, [], ◌∷◌, ◌++◌, Option, Some, None, length, map, sym, refl, ap, ◌∙◌, subst, inl, inr, ⊎_elim, append_assoc, arith}
 use Rattle.std.specs.List.{AllByRecursion}
-use Rattle.std.proofs.lemmas.Bool.{cases_lt, cases_eq, cond-true, cond-false, lt-ltb, le-ltb, le-leb, lt-leb, eq-eqb, ne_eqb}
+use Rattle.std.proofs.lemmas.Bool.{cases_lt, cases_eq, cond-true, cond-false, lt-ltb, le-ltb, eq-eqb, ne_eqb}
 use Rattle.std.proofs.lemmas.List.{map-append}
 use Rattle.rbbi_model.specs.Lists.{Member, IsRising}
 use Rattle.rbbi_model.specs.Boundaries.{Boundary, start}
@@ -11,7 +10,7 @@ use Rattle.rbbi_model.specs.Answers.{first_place, last_place, first_after, last_
 use Rattle.rbbi_model.specs.Tables.{Table}
 use Rattle.rbbi_model.specs.ValidTables.{IsValidTable}
 use Rattle.rbbi_model.specs.Searches.{next_boundary, follow_by, fresh, table_boundaries}
-use Rattle.rbbi_model.specs.Runs.{IsAnchor, low, from_place, Entry, Run, boundary_of, AreConsecutive, LeadsTruly, IsTrueRun, EndsUpTo, StartsFrom, ShowsAfter, ShowsBefore}
+use Rattle.rbbi_model.specs.Runs.{low, from_place, Entry, Run, boundary_of, LeadsTruly, IsTrueRun, EndsUpTo, StartsFrom, ShowsAfter, ShowsBefore}
 use Rattle.rbbi_model.proofs.Rising.{rising_tail, less_than_later, not_less_than_first}
 use Rattle.rbbi_model.proofs.Found.{found_lies}
 use Rattle.rbbi_model.proofs.Covering.{follow_rise, table_covers}
@@ -56,13 +55,13 @@ first_after_is [] i a rising here past least = absurd here
 first_after_is (b ∷ bs) i a rising here past least =
     ⊎_elim
     (λ more.
-        let low = least b.at (inl refl) more in
-        let high = not_less_than_first b.at (places bs) a rising here in
-        let same : b.at ≡ a = omega arith in
-        cond-true (ltb i b.at) (Some b.at) (first_place (λ at. ltb i at) bs) (lt-ltb i b.at more) ∙ ap (λ p. Some p) same)
+    let low = least b.at (inl refl) more in
+    let high = not_less_than_first b.at (places bs) a rising here in
+    let same : b.at ≡ a = omega arith in
+    cond-true (ltb i b.at) (Some b.at) (first_place (λ at. ltb i at) bs) (lt-ltb i b.at more) ∙ ap (λ p. Some p) same)
     (λ less.
-        let later : IsPlaceOf bs a = ⊎_elim (λ is. absurd (omega arith)) (λ l. l) here in
-        cond-false (ltb i b.at) (Some b.at) (first_place (λ at. ltb i at) bs) (le-ltb i b.at less) ∙ first_after_is bs i a (rising_tail b.at (places bs) rising) later past (λ k member. least k (inr member)))
+    let later : IsPlaceOf bs a = ⊎_elim (λ is. absurd (omega arith)) (λ l. l) here in
+    cond-false (ltb i b.at) (Some b.at) (first_place (λ at. ltb i at) bs) (le-ltb i b.at less) ∙ first_after_is bs i a (rising_tail b.at (places bs) rising) later past (λ k member. least k (inr member)))
     (cases_lt i b.at)
 
 -- nothing passes any more
@@ -76,15 +75,15 @@ last_before_is [] i a before rising here short most = absurd here
 last_before_is (b ∷ bs) i a before rising here short most =
     let low = not_less_than_first b.at (places bs) a rising here in
     let passed : last_place (λ at. ltb at i) before (b ∷ bs) ≡ last_place (λ at. ltb at i) (Some b.at) bs =
-        ap (λ o. last_place (λ at. ltb at i) o bs) (cond-true (ltb b.at i) (Some b.at) before (lt-ltb b.at i (omega arith))) in
+    ap (λ o. last_place (λ at. ltb at i) o bs) (cond-true (ltb b.at i) (Some b.at) before (lt-ltb b.at i (omega arith))) in
     ⊎_elim
     (λ is.
-        passed
-        ∙ last_stays bs i (Some b.at)
-          (λ k member.
-              let later = less_than_later b.at (places bs) k rising member in
-              ⊎_elim (λ less. let high = most k (inr member) less in absurd (omega arith)) (λ ok. ok) (cases_lt k i))
-        ∙ ap (λ p. Some p) is)
+    passed
+    ∙ last_stays bs i (Some b.at)
+    (λ k member.
+    let later = less_than_later b.at (places bs) k rising member in
+    ⊎_elim (λ less. let high = most k (inr member) less in absurd (omega arith)) (λ ok. ok) (cases_lt k i))
+    ∙ ap (λ p. Some p) is)
     (λ later. passed ∙ last_before_is bs i a (Some b.at) (rising_tail b.at (places bs) rising) later short (λ k member. most k (inr member)))
     here
 
@@ -105,10 +104,10 @@ member_kept place k (b ∷ bs) from here =
     ⊎_elim
     (λ is. subst (λ cs. IsPlaceOf cs k) (sym (kept place b bs (omega arith))) (inl is))
     (λ later.
-        ⊎_elim
-        (λ less. subst (λ cs. IsPlaceOf cs k) (sym (dropped place b bs less)) (member_kept place k bs from later))
-        (λ more. subst (λ cs. IsPlaceOf cs k) (sym (kept place b bs more)) (inr (member_kept place k bs from later)))
-        (cases_lt b.at place))
+    ⊎_elim
+    (λ less. subst (λ cs. IsPlaceOf cs k) (sym (dropped place b bs less)) (member_kept place k bs from later))
+    (λ more. subst (λ cs. IsPlaceOf cs k) (sym (kept place b bs more)) (inr (member_kept place k bs from later)))
+    (cases_lt b.at place))
     here
 
 member_of_kept : (place k : ℕ) (bs : List Boundary) → IsPlaceOf (from_place place bs) k → IsPlaceOf bs k
@@ -195,7 +194,7 @@ module _ (table : Table) (valid : IsValidTable table) (x : List ℕ) (run : Run)
         let left : List ℕ = places is_true.consecutive.before in
         let right : List ℕ = places is_true.consecutive.after in
         let middle : places (map (boundary_of table) run.entries) ≡ map (λ e. e.at) before ++ (entry.at ∷ map (λ e. e.at) after) =
-            places_of_entries table run.entries ∙ ap (λ es. map (λ e. e.at) es) whole ∙ map-append (λ e. e.at) before (entry ∷ after) in
+        places_of_entries table run.entries ∙ ap (λ es. map (λ e. e.at) es) whole ∙ map-append (λ e. e.at) before (entry ∷ after) in
         ap places is_true.consecutive.whole
         ∙ map-append (λ b. b.at) (is_true.consecutive.before ++ map (boundary_of table) run.entries) is_true.consecutive.after
         ∙ ap (λ ks. ks ++ right) (map-append (λ b. b.at) is_true.consecutive.before (map (boundary_of table) run.entries) ∙ ap (λ ks. left ++ ks) middle)
@@ -241,17 +240,17 @@ module _ (table : Table) (valid : IsValidTable table) (x : List ℕ) (run : Run)
   shown_after i a shows =
       let entry : Entry = shows.entry in
       let least : (k : ℕ) → IsPlaceOf (table_boundaries table x) k → i < k → entry.at ≤ k = λ k here past.
-          ⊎_elim
-          (λ ends.
-              let last = last_at (λ e. (run.anchor ≡ 0) ⊎ (run.anchor + 2 ≤ e.at)) shows.before (entry ∷ shows.after) i (subst (λ es. AllByRecursion (λ e. (run.anchor ≡ 0) ⊎ (run.anchor + 2 ≤ e.at)) es) shows.whole is_true.places) ends in
-              let where_is : (run.anchor ≡ 0) ⊎ (run.anchor + 1 ≤ k) = ⊎_elim (λ is. inl is) (λ far. inr (omega (arith, last.2))) last.1 in
-              after_last shows.before entry shows.after shows.whole i ends k past (to_fresh k where_is here))
-          (λ first.
-              let from = low_past run.anchor in
-              let entries : run.entries ≡ entry ∷ shows.after = shows.whole ∙ ap (λ es. es ++ entry ∷ shows.after) first.0 in
-              let truly = subst (λ es. LeadsTruly table x run.anchor es) entries (is_true.leads first.1) in
-              all_members (λ j. low run.anchor ≤ j → entry.at ≤ j) (fresh table x run.anchor) k truly (to_fresh k (inr (omega (arith, first.2))) here) (omega (arith, first.2)))
-          shows.nearest in
+      ⊎_elim
+      (λ ends.
+      let last = last_at (λ e. (run.anchor ≡ 0) ⊎ (run.anchor + 2 ≤ e.at)) shows.before (entry ∷ shows.after) i (subst (λ es. AllByRecursion (λ e. (run.anchor ≡ 0) ⊎ (run.anchor + 2 ≤ e.at)) es) shows.whole is_true.places) ends in
+      let where_is : (run.anchor ≡ 0) ⊎ (run.anchor + 1 ≤ k) = ⊎_elim (λ is. inl is) (λ far. inr (omega (arith, last.2))) last.1 in
+      after_last shows.before entry shows.after shows.whole i ends k past (to_fresh k where_is here))
+      (λ first.
+      let from = low_past run.anchor in
+      let entries : run.entries ≡ entry ∷ shows.after = shows.whole ∙ ap (λ es. es ++ entry ∷ shows.after) first.0 in
+      let truly = subst (λ es. LeadsTruly table x run.anchor es) entries (is_true.leads first.1) in
+      all_members (λ j. low run.anchor ≤ j → entry.at ≤ j) (fresh table x run.anchor) k truly (to_fresh k (inr (omega (arith, first.2))) here) (omega (arith, first.2)))
+      shows.nearest in
       first_after_is (table_boundaries table x) i entry.at true_rises (entry_true shows.before entry shows.after shows.whole) (omega (arith, shows.at, shows.past)) least ∙ ap (λ p. Some p) shows.at
 
   -- what the run shows to be the last boundary before i is so
@@ -259,17 +258,17 @@ module _ (table : Table) (valid : IsValidTable table) (x : List ℕ) (run : Run)
   shown_before i a shows =
       let entry : Entry = shows.entry in
       let most : (k : ℕ) → IsPlaceOf (table_boundaries table x) k → k < i → k ≤ entry.at = λ k here short.
-          ⊎_elim
-          (λ starts.
-              ⊎_elim
-              (λ later.
-                  let where_is : (run.anchor ≡ 0) ⊎ (run.anchor + 1 ≤ k) =
-                      ⊎_elim (λ is. inl is) (λ far. inr (omega arith)) (entry_place shows.before entry shows.after shows.whole) in
-                  before_next shows.before entry shows.after shows.whole i starts k short (to_fresh k where_is here))
-              (λ earlier. earlier)
-              (cases_lt entry.at k))
-          (λ end. omega (arith, within_text k here, shows.at, end))
-          shows.nearest in
+      ⊎_elim
+      (λ starts.
+      ⊎_elim
+      (λ later.
+      let where_is : (run.anchor ≡ 0) ⊎ (run.anchor + 1 ≤ k) =
+      ⊎_elim (λ is. inl is) (λ far. inr (omega arith)) (entry_place shows.before entry shows.after shows.whole) in
+      before_next shows.before entry shows.after shows.whole i starts k short (to_fresh k where_is here))
+      (λ earlier. earlier)
+      (cases_lt entry.at k))
+      (λ end. omega (arith, within_text k here, shows.at, end))
+      shows.nearest in
       last_before_is (table_boundaries table x) i entry.at None true_rises (entry_true shows.before entry shows.after shows.whole) (omega (arith, shows.at, shows.short_of)) most ∙ ap (λ p. Some p) shows.at
     where
       within_text : (k : ℕ) → IsPlaceOf (table_boundaries table x) k → k ≤ length x

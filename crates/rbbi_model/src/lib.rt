@@ -28,7 +28,10 @@ pub use boundaries::boundaries_cover_the_text;
 pub use compiled::{marks_are_unique, same_marks_give_the_boundaries};
 pub use costs::tries_end_settled;
 pub use lines::decimal_is_the_printed_form;
-pub use runs::{anchors_are_stored, anchors_lead_to_the_boundaries};
+pub use runs::{
+    anchors_are_stored, anchors_lead_to_the_boundaries, shown_boundary_is_the_first_after,
+    shown_boundary_is_the_last_before,
+};
 pub use searches::{
     completed_search_has_a_cut, look_end_is_past_the_start, next_boundary_is_past_the_start,
     table_boundaries_cover_the_text,
