@@ -24,3 +24,4 @@ pub mod FoundCases
 pub mod SafeSearch
 pub mod FreshTrue
 pub mod Shown
+pub mod Replies

@@ -1,6 +1,6 @@
 -- Edits of a text, and the replies to the commands of a script.
 use Rattle.std.specs.Prelude.{◌≡◌, ℕ, ◌+◌, ◌-◌, List, [], ◌∷◌, ◌++◌, length, take, drop, if◌then◌else◌, nat_lt}
-use Rattle.rbbi_model.specs.Words.{most_characters}
+use Rattle.rbbi_model.specs.Words.{IsText, most_characters}
 use Rattle.rbbi_model.specs.Rules.{Rule}
 use Rattle.rbbi_model.specs.Boundaries.{Boundary, AreBoundaries}
 use Rattle.rbbi_model.specs.Tables.{Table}
@@ -85,3 +85,9 @@ AreReplies rules x commands replies = AreRepliesBy edit (AreBoundaries rules) (o
 -- the replies to a script's commands over the boundaries by a table
 abbrev pub table_replies : Table → List ℕ → List Command → List Reply
 table_replies table x commands = replies_by edit (table_boundaries table) (opened x) commands
+
+-- what the command puts into the text, if anything, is a text
+abbrev pub InsertsText : Command → Type 0
+InsertsText (Ask question) = Unit {0}
+InsertsText (Replace at removed inserted) = IsText inserted
+InsertsText ShowText = Unit {0}

@@ -23,6 +23,7 @@ ghost use Rattle.rbbi_model.specs.Unchained.{NoneChainedInto, EndsAtWord};
 
 pub use answers::{
     cursor_is_a_boundary, one_reply_for_each_command, one_table_reply_for_each_command,
+    replies_are_unique, table_replies_are_those_of_the_rules,
 };
 pub use boundaries::boundaries_cover_the_text;
 pub use compiled::{marks_are_unique, same_marks_give_the_boundaries};
