@@ -1,7 +1,7 @@
 //! A token, and the list of the tokens of a rule file.
-ghost use Rattle.std.specs.Prelude.{◌≡◌, ◌<◌, List, [], length, slice_get};
+ghost use Rattle.std.specs.Prelude.{◌≡◌, ◌<◌, List, [], ◌∷◌, ◌++◌, length, slice_get, OnOk, OnErr};
 
-use std::alloc::Global;
+use std::alloc::{AllocError, Global};
 use std::marker::Model;
 
 /// What a token is.
@@ -49,6 +49,15 @@ impl Tokens {
         Tokens {
             items: Vec::new(alloc),
         }
+    }
+
+    /// Adds a token at the end, unless memory runs out.
+    pub(crate) fn push(&mut self, token: Token) -> Result<(), AllocError>
+        ensures ok { OnOk result (self.new ≡ self.old ++ token ∷ []) }
+        ensures err { OnErr result (self.new ≡ self.old) }
+    {
+        self.items.push(token)?;
+        Ok(())
     }
 
     /// The number of tokens.

@@ -1,0 +1,6 @@
+pub mod Counts
+pub mod FailedCalls
+pub mod FailingCalls
+pub mod MemoryCalls
+pub mod NamedFiles
+pub mod Puts

@@ -1,0 +1,5 @@
+pub mod Counts
+pub mod Answers
+pub mod Sinks
+pub mod Memory
+pub mod Errors

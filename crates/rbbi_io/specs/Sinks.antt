@@ -1,0 +1,10 @@
+-- What a sink has taken, where it tells it.
+use Rattle.std.specs.Prelude.{◌≡◌, ◌≤◌, ◌++◌, ℕ, List, length, take, Option, option_map}
+
+-- a sink took these bytes between two moments, and nothing else
+abbrev pub Takes : Option (List ℕ) → Option (List ℕ) → List ℕ → Type 0
+Takes before now bytes = now ≡ option_map (λ taken. taken ++ bytes) before
+
+-- a sink took a front of these bytes, and nothing else
+abbrev pub TakesFront : Option (List ℕ) → Option (List ℕ) → List ℕ → Type 0
+TakesFront before now bytes = (n : ℕ) × (n ≤ length bytes) × Takes before now (take n bytes)

@@ -1,0 +1,22 @@
+//! Files and sinks: where bytes come from and go to, with counts of the faults that they had.
+//!
+//! A refusal for a fault is tied to a count, so that no code above can invent one.
+#![tactic(auto)]
+
+mod error;
+mod files;
+mod mem_files;
+mod mem_sink;
+mod real_files;
+mod real_sink;
+mod sink;
+#[cfg(test)]
+mod tests;
+
+pub use error::{ReadErr, WriteErr};
+pub use files::Files;
+pub use mem_files::{CallKind, MemFiles};
+pub use mem_sink::MemSink;
+pub use real_files::RealFiles;
+pub use real_sink::RealSink;
+pub use sink::{Sink, put_all};

@@ -1,0 +1,270 @@
+//! Files in memory, with calls that fail when they are told to.
+ghost use Rattle.std.specs.Prelude.{◌≡◌, ◌≤◌, ◌↔◌, ◌++◌, [], ◌∷◌, length, IsTrue, OnOk, OnErr, IsErrOf, MatchOption, option_copied};
+ghost use Rattle.rbbi_io.specs.Counts.{capped, Rose, OthersStay};
+ghost use Rattle.rbbi_io.specs.Answers.{LeavesWritten};
+ghost use Rattle.rbbi_io.specs.Memory.{failed_reads_of, failed_writes_of, held_by, file_of, with_file, called, IsAbsent, IsPlaceOf, IsToFail, ReadsMemory, WritesMemory};
+
+use crate::{Files, ReadErr, WriteErr};
+use rbbi_text::Raw;
+use std::alloc::{AllocError, Global};
+use std::marker::Model;
+
+/// A call of files: a read or a write.
+#[derive(Debug, Drop)]
+pub enum CallKind {
+    Read,
+    Write,
+}
+
+/// One file in memory. Contracts see its name and its bytes.
+#[derive(Debug, Drop)]
+struct MemFile {
+    name: String,
+    bytes: Vec<u8>,
+}
+
+impl Model for MemFile {
+    ghost use Rattle.std.specs.Prelude.{List, ℕ, string_bytes};
+
+    ghost Value = { List ℕ × List ℕ };
+
+    ghost view = { λ file. (string_bytes file.name, file.bytes.items) };
+}
+
+impl MemFile {
+    /// The name.
+    fn name(&self) -> &str
+        ensures { result.now ≡ self.now.0 }
+    {
+        self.name.as_str()
+    }
+
+    /// The bytes.
+    fn bytes(&self) -> &[u8]
+        ensures { result.now ≡ self.now.1 }
+    {
+        self.bytes.as_slice()
+    }
+
+    /// Holds these bytes in place of its own.
+    fn replace(&mut self, bytes: Vec<u8>)
+        ensures { self.new ≡ (self.old.0, bytes.items) }
+    {
+        self.bytes = bytes;
+    }
+}
+
+/// A call that failed. Contracts see the name and the kind.
+#[derive(Debug, Drop)]
+struct FailedCall {
+    name: String,
+    kind: CallKind,
+}
+
+impl Model for FailedCall {
+    ghost use Rattle.std.specs.Prelude.{List, ℕ, string_bytes};
+    ghost use Rattle.rbbi_io.specs.declared.mem_files.CallKind.{CallKind};
+
+    ghost Value = { List ℕ × CallKind };
+
+    ghost view = { λ call. (string_bytes call.name, call.kind) };
+}
+
+/// Files in memory. They tell what they hold.
+///
+/// Reads and writes are counted together, from 1. A call whose number was given to `fail_at` fails,
+/// and so does a read of a name that is not there; the name and kind of each failed call are kept. A
+/// failing call that finds no room for them answers `Memory`.
+#[derive(Debug, Drop)]
+pub struct MemFiles {
+    alloc: Global,
+    files: Vec<MemFile>,
+    calls: u64,
+    failing: Vec<u64>,
+    failed: Vec<FailedCall>,
+}
+
+impl Model for MemFiles {
+    ghost use Rattle.rbbi_io.specs.Memory.{FilesInMemory};
+
+    ghost Value = { FilesInMemory };
+
+    ghost view = { λ memory. record {
+      files = memory.files.items;
+      calls = memory.calls;
+      failing = memory.failing.items;
+      failed = memory.failed.items;
+    } };
+}
+
+/// The number of the first file of this name.
+fn place_of(files: &[MemFile], name: &str) -> Option<usize>
+    ensures { MatchOption result (IsAbsent files.now name.now) (IsPlaceOf files.now name.now) }
+{
+    for (i, file) in files.iter().enumerate() {
+        if file.name() == name {
+            return Some(i);
+        }
+    }
+    None
+}
+
+/// Puts these bytes under the name: in place of the first file of this name, or else at the end.
+fn store(
+    alloc: Global,
+    files: &mut Vec<MemFile>,
+    name: &str,
+    bytes: Vec<u8>,
+) -> Result<(), AllocError>
+    ensures ok { OnOk result (files.new.items ≡ with_file files.old.items name.now bytes.items) }
+    ensures err { OnErr result (files.new.items ≡ files.old.items) }
+{
+    match place_of(files.as_slice(), name) {
+        Some(place) => files[place].replace(bytes),
+        None => {
+            let name = String::from_str(alloc, name)?;
+            files.push(MemFile { name, bytes })?;
+        }
+    }
+    Ok(())
+}
+
+impl MemFiles {
+    /// Files that hold nothing, with no call that is to fail.
+    pub fn new(alloc: Global) -> MemFiles
+        ensures { result ≡ record { files = []; calls = 0; failing = []; failed = [] } }
+    {
+        MemFiles {
+            alloc,
+            files: Vec::new(alloc),
+            calls: 0,
+            failing: Vec::new(alloc),
+            failed: Vec::new(alloc),
+        }
+    }
+
+    /// How many reads and writes there were.
+    pub fn calls(&self) -> u64
+        ensures { result ≡ self.now.calls }
+    {
+        self.calls
+    }
+
+    /// Lets the call with this number fail, from 1.
+    pub fn fail_at(&mut self, n: u64) -> Result<(), AllocError>
+        ensures ok { OnOk result (self.new ≡ record self.old { failing = self.old.failing ++ n ∷ [] }) }
+        ensures err { OnErr result (self.new ≡ self.old) }
+    {
+        self.failing.push(n)?;
+        Ok(())
+    }
+
+    /// Puts a file there, in place of an older one of this name.
+    pub fn add(&mut self, name: &str, bytes: &[u8]) -> Result<(), AllocError>
+        ensures ok { OnOk result (self.new
+            ≡ record self.old { files = with_file self.old.files name.now bytes.now }) }
+        ensures err { OnErr result (self.new ≡ self.old) }
+    {
+        let bytes = bytes.to_vec(self.alloc)?;
+        store(self.alloc, &mut self.files, name, bytes)
+    }
+
+    /// The bytes of a file, or nothing where there is no such name.
+    pub fn get(&self, name: &str) -> Option<&[u8]>
+        ensures { option_copied result ≡ file_of self.now.files name.now }
+    {
+        let place = place_of(self.files.as_slice(), name)?;
+        Some(self.files[place].bytes())
+    }
+
+    /// Counts a call, and tells whether it is to fail.
+    fn count_call(&mut self) -> bool
+        ensures counted { self.new ≡ called self.old }
+        ensures fails { IsTrue result ↔ IsToFail self.old.failing self.old.calls }
+    {
+        self.calls = self.calls.saturating_add(1);
+        self.failing.contains(&self.calls)
+    }
+
+    /// Keeps the name and the kind of a failed call.
+    fn keep_failure(&mut self, name: &str, kind: CallKind) -> Result<(), AllocError>
+        ensures ok { OnOk result (self.new
+            ≡ record self.old { failed = self.old.failed ++ (name.now, kind) ∷ [] }) }
+        ensures err { OnErr result (self.new ≡ self.old) }
+    {
+        let name = String::from_str(self.alloc, name)?;
+        self.failed.push(FailedCall { name, kind })?;
+        Ok(())
+    }
+
+    /// A read, with what it leaves.
+    fn read_whole(&mut self, alloc: Global, name: &str, limit: u64) -> Result<Raw, ReadErr>
+        ensures { ReadsMemory self.old name.now limit result self.new }
+    {
+        if self.count_call() {
+            self.keep_failure(name, CallKind::Read)?;
+            return Err(ReadErr::Failed);
+        }
+        let Some(bytes) = self.get(name) else {
+            self.keep_failure(name, CallKind::Read)?;
+            return Err(ReadErr::Failed);
+        };
+        if bytes.len() as u64 > limit {
+            return Err(ReadErr::TooLong);
+        }
+        Ok(Raw::new(bytes.to_vec(alloc)?))
+    }
+
+    /// A write, with what it leaves.
+    fn write_whole(&mut self, name: &str, bytes: &[u8]) -> Result<(), WriteErr>
+        ensures { WritesMemory self.old name.now bytes.now result self.new }
+    {
+        if self.count_call() {
+            self.keep_failure(name, CallKind::Write)?;
+            return Err(WriteErr::Failed);
+        }
+        self.add(name, bytes)?;
+        Ok(())
+    }
+}
+
+impl Files for MemFiles {
+    ghost use Rattle.std.specs.Prelude.{Some};
+    ghost use Rattle.rbbi_io.specs.Counts.{capped};
+    ghost use Rattle.rbbi_io.specs.Memory.{held_by, failed_reads_of, failed_writes_of};
+    ghost use Rattle.std.proofs.Common.{arith};
+
+    ghost contents = { λ memory. Some (held_by memory.files) };
+
+    ghost failed_reads = { λ memory name. capped (failed_reads_of memory.failed name) };
+
+    ghost failed_writes = { λ memory name. capped (failed_writes_of memory.failed name) };
+
+    ghost reads_fit = { λ memory name. Prim.omega arith };
+
+    ghost writes_fit = { λ memory name. Prim.omega arith };
+
+    fn read(&mut self, alloc: Global, name: &str, limit: u64) -> Result<Raw, ReadErr>
+        ensures exact { ReadsMemory self.old name.now limit result self.new }
+        ensures failed { IsErrOf result ReadErr.Failed
+            → Rose (capped (failed_reads_of self.old.failed name.now)) (capped (failed_reads_of self.new.failed name.now)) }
+        ensures others { OthersStay name.now
+            (λ other. capped (failed_reads_of self.old.failed other))
+            (λ other. capped (failed_reads_of self.new.failed other)) }
+    {
+        self.read_whole(alloc, name, limit)
+    }
+
+    fn write(&mut self, name: &str, bytes: &[u8]) -> Result<(), WriteErr>
+        ensures exact { WritesMemory self.old name.now bytes.now result self.new }
+        ensures held { LeavesWritten name.now bytes.now result
+            (held_by self.old.files) (held_by self.new.files) }
+        ensures failed { IsErrOf result WriteErr.Failed
+            → Rose (capped (failed_writes_of self.old.failed name.now)) (capped (failed_writes_of self.new.failed name.now)) }
+        ensures others { OthersStay name.now
+            (λ other. capped (failed_writes_of self.old.failed other))
+            (λ other. capped (failed_writes_of self.new.failed other)) }
+    {
+        self.write_whole(name, bytes)
+    }
+}

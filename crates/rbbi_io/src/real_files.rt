@@ -1,0 +1,148 @@
+//! The files of the system: an edge that is trusted, a few lines over std's files.
+ghost use Rattle.std.specs.Prelude.{◌≡◌, ◌<◌, ◌≤◌, ◌+◌, length, IfOk};
+
+use crate::{Files, ReadErr, WriteErr};
+use rbbi_text::Raw;
+use std::alloc::{AllocError, Global};
+use std::fs::File;
+use std::io;
+use std::io::{ErrorKind, Read, Write};
+
+/// How many bytes are asked for at once, at most.
+const BLOCK: usize = 262_144;
+
+/// The files of the system. They do not tell what they hold, and keep one count for the failed reads
+/// of all names and one for the failed writes.
+#[derive(Drop)]
+pub struct RealFiles<'a, R> {
+    rt: &'a R,
+    failed_reads: u64,
+    failed_writes: u64,
+}
+
+impl<'a, R: std::rt::Files> RealFiles<'a, R> {
+    /// The files of this runtime, with no fault so far.
+    pub fn new(rt: &'a R) -> RealFiles<'a, R> {
+        RealFiles {
+            rt,
+            failed_reads: 0,
+            failed_writes: 0,
+        }
+    }
+}
+
+/// This many zeros.
+fn zeros(alloc: Global, count: usize) -> Result<Vec<u8>, AllocError>
+    ensures { IfOk result (λ zeros. length zeros.items ≡ count) }
+{
+    vec![in alloc; 0u8; count]
+}
+
+/// Reads into the start of the block, at most one byte more than `left`. It answers how many bytes
+/// there were, and 0 at the end of the file.
+fn read_some<F: Read>(file: &mut F, block: &mut [u8], left: u64) -> Result<usize, ReadErr>
+    requires { 0 < length block.old }
+    ensures within { IfOk result (λ count. count ≤ length block.new) }
+    ensures most { IfOk result (λ count. count ≤ left + 1) }
+{
+    let wanted = left.min(block.len() as u64 - 1) as usize + 1;
+    for _turn in 0..u64::MAX {
+        match file.read(&mut block[..wanted]) {
+            Ok(count) => return Ok(count),
+            Err(fault) => {
+                if fault.kind() != ErrorKind::Interrupted {
+                    return Err(refused_read(&fault));
+                }
+            }
+        }
+    }
+    Err(ReadErr::Failed)
+}
+
+/// The bytes of a file. It takes at most one byte more than `limit`.
+fn read_file<R: std::rt::Files>(
+    alloc: Global,
+    rt: &R,
+    name: &str,
+    limit: u64,
+) -> Result<Vec<u8>, ReadErr>
+    ensures { IfOk result (λ bytes. length bytes.items ≤ limit) }
+{
+    let mut file = match File::open(rt, name) {
+        Ok(file) => file,
+        Err(fault) => return Err(refused_read(&fault)),
+    };
+    let mut block = zeros(alloc, BLOCK)?;
+    let mut bytes = Vec::new(alloc);
+    for _turn in 0..u64::MAX {
+        let left = limit - bytes.len() as u64;
+        let count = read_some(&mut file, block.as_mut_slice(), left)?;
+        if count == 0 {
+            return Ok(bytes);
+        }
+        if count as u64 > left {
+            return Err(ReadErr::TooLong);
+        }
+        bytes.extend_from_slice(&block[..count])?;
+    }
+    Err(ReadErr::Failed)
+}
+
+/// Want of memory, or a fault.
+fn refused_read(fault: &io::Error) -> ReadErr {
+    if fault.kind() == ErrorKind::OutOfMemory {
+        ReadErr::Memory
+    } else {
+        ReadErr::Failed
+    }
+}
+
+/// Makes the file hold these bytes. Once it is open, whatever goes wrong is a fault, since the file may
+/// then hold anything.
+fn write_file<R: std::rt::Files>(rt: &R, name: &str, bytes: &[u8]) -> Result<(), WriteErr> {
+    let mut file = match File::create(rt, name) {
+        Ok(file) => file,
+        Err(fault) => {
+            if fault.kind() == ErrorKind::OutOfMemory {
+                return Err(WriteErr::Memory);
+            }
+            return Err(WriteErr::Failed);
+        }
+    };
+    match file.write_all(bytes) {
+        Ok(()) => Ok(()),
+        Err(_) => Err(WriteErr::Failed),
+    }
+}
+
+impl<'a, R: std::rt::Files> Files for RealFiles<'a, R> {
+    ghost use Rattle.std.specs.Prelude.{None};
+    ghost use Rattle.rbbi_io.specs.Counts.{capped};
+    ghost use Rattle.std.proofs.Common.{arith};
+
+    ghost contents = { λ _. None };
+
+    ghost failed_reads = { λ files _. capped files.failed_reads };
+
+    ghost failed_writes = { λ files _. capped files.failed_writes };
+
+    ghost reads_fit = { λ files name. Prim.omega arith };
+
+    ghost writes_fit = { λ files name. Prim.omega arith };
+
+    fn read(&mut self, alloc: Global, name: &str, limit: u64) -> Result<Raw, ReadErr> {
+        let outcome = read_file(alloc, self.rt, name, limit);
+        if let Err(ReadErr::Failed) = &outcome {
+            self.failed_reads = self.failed_reads.saturating_add(1);
+        }
+        Ok(Raw::new(outcome?))
+    }
+
+    fn write(&mut self, name: &str, bytes: &[u8]) -> Result<(), WriteErr> {
+        let outcome = write_file(self.rt, name, bytes);
+        if let Err(WriteErr::Failed) = &outcome {
+            self.failed_writes = self.failed_writes.saturating_add(1);
+        }
+        outcome
+    }
+}

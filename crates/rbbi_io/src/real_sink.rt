@@ -1,0 +1,61 @@
+//! A writer as a sink: an edge that is trusted, a few lines over std's writers.
+ghost use Rattle.std.specs.Prelude.{◌<◌, ◌≤◌, length, IfOk};
+
+use crate::{Sink, WriteErr};
+use std::io::{ErrorKind, Write};
+
+/// A writer as a sink, as the standard output. It does not tell what it took.
+#[derive(Drop)]
+pub struct RealSink<W> {
+    out: W,
+    faults: u64,
+}
+
+impl<W: Write> RealSink<W> {
+    /// A sink over this writer, with no fault so far.
+    pub fn new(out: W) -> RealSink<W> {
+        RealSink { out, faults: 0 }
+    }
+}
+
+/// Writes a front of a piece that is not empty. A write that takes nothing is a fault.
+fn write_some<W: Write>(out: &mut W, piece: &[u8]) -> Result<usize, WriteErr>
+    ensures some { IfOk result (λ n. 0 < n) }
+    ensures within { IfOk result (λ n. n ≤ length piece.now) }
+{
+    for _ in 0..u64::MAX {
+        match out.write(piece) {
+            Ok(0) => return Err(WriteErr::Failed),
+            Ok(count) => return Ok(count),
+            Err(fault) => match fault.kind() {
+                ErrorKind::Interrupted => {}
+                ErrorKind::OutOfMemory => return Err(WriteErr::Memory),
+                _ => return Err(WriteErr::Failed),
+            },
+        }
+    }
+    Err(WriteErr::Failed)
+}
+
+impl<W: Write> Sink for RealSink<W> {
+    ghost use Rattle.std.specs.Prelude.{None};
+    ghost use Rattle.rbbi_io.specs.Counts.{capped};
+    ghost use Rattle.std.proofs.Common.{arith};
+
+    ghost taken = { λ _. None };
+
+    ghost faults = { λ sink. capped sink.faults };
+
+    ghost faults_fit = { λ sink. Prim.omega arith };
+
+    fn put(&mut self, piece: &[u8]) -> Result<usize, WriteErr> {
+        if piece.is_empty() {
+            return Ok(0);
+        }
+        let outcome = write_some(&mut self.out, piece);
+        if let Err(WriteErr::Failed) = &outcome {
+            self.faults = self.faults.saturating_add(1);
+        }
+        outcome
+    }
+}

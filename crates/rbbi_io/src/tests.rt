@@ -1,0 +1,173 @@
+//! Each public call once, calls that fail in mid-stream, and the system's files and writers.
+ghost use Rattle.std.specs.Prelude.{◌≡◌, ◌<◌};
+
+use crate::{Files, MemFiles, MemSink, ReadErr, RealFiles, RealSink, WriteErr, put_all};
+use rbbi_text::{Raw, Steps};
+use std::alloc::{AllocError, Global};
+use std::fs::File;
+use std::io;
+use std::io::{ErrorKind, Write};
+use std::marker::Brand;
+use std::sync::ledger::{Blank, Ledger};
+use std::test::Fail;
+
+/// The bytes of a file, as a copy.
+fn copied<L: Ledger>(alloc: Global, raw: &Raw, blank: Blank) -> Result<Vec<u8>, AllocError>
+    requires name { blank.name ≡ L.name }
+    requires parts { blank.parts ≡ L.parts }
+    requires some { 0 < blank.parts }
+{
+    let mut steps = Steps::<L>::new(blank);
+    raw.bytes(&mut steps).to_vec(alloc)
+}
+
+fn bytes_of(alloc: Global, raw: &Raw) -> Result<Vec<u8>, AllocError> {
+    copied::<Brand>(alloc, raw, Blank::new(1))
+}
+
+#[test]
+fn files_in_memory(rt: HostRuntime) -> Result<(), Fail> {
+    let alloc = rt.alloc();
+    let mut files = MemFiles::new(alloc);
+    files.add("a", b"one")?;
+    files.add("b", b"")?;
+    files.add("a", b"three")?;
+    assert_eq!(rt; files.get("a"), Some(b"three".as_slice()));
+    assert_eq!(rt; files.get("c"), None);
+    files.write("c", b"two")?;
+    files.write("b", b"four")?;
+    for (name, bytes) in [("a", b"three".as_slice()), ("b", b"four"), ("c", b"two")] {
+        let raw = files.read(alloc, name, bytes.len() as u64)?;
+        assert_eq!(rt; bytes_of(alloc, &raw)?.as_slice(), bytes, "of {name}");
+    }
+    assert!(rt; matches!(files.read(alloc, "a", 4), Err(ReadErr::TooLong)));
+    assert!(rt; matches!(files.read(alloc, "d", 4), Err(ReadErr::Failed)));
+    assert_eq!(rt; files.calls(), 7);
+    Ok(())
+}
+
+#[test]
+fn calls_that_fail(rt: HostRuntime) -> Result<(), Fail> {
+    let alloc = rt.alloc();
+    let mut files = MemFiles::new(alloc);
+    files.add("a", b"one")?;
+    files.fail_at(2)?;
+    files.fail_at(4)?;
+    assert!(rt; files.read(alloc, "a", 9).is_ok());
+    assert!(rt; matches!(files.read(alloc, "a", 9), Err(ReadErr::Failed)));
+    assert!(rt; files.read(alloc, "a", 9).is_ok());
+    assert!(rt; matches!(files.write("a", b"two"), Err(WriteErr::Failed)));
+    assert!(rt; files.write("b", b"two").is_ok());
+    assert_eq!(rt; files.get("a"), Some(b"one".as_slice()));
+    assert_eq!(rt; files.get("b"), Some(b"two".as_slice()));
+    assert_eq!(rt; files.calls(), 5);
+    Ok(())
+}
+
+#[test]
+fn puts_that_fail(rt: HostRuntime) -> Result<(), Fail> {
+    let mut sink = MemSink::new(rt.alloc());
+    sink.fail_at(2)?;
+    assert!(rt; put_all(&mut sink, b"ab").is_ok());
+    assert!(rt; matches!(put_all(&mut sink, b"cd"), Err(WriteErr::Failed)));
+    assert!(rt; put_all(&mut sink, b"").is_ok());
+    assert!(rt; put_all(&mut sink, b"ef").is_ok());
+    assert_eq!(rt; sink.taken(), b"abef".as_slice());
+    assert_eq!(rt; sink.calls(), 3);
+    Ok(())
+}
+
+/// A writer that answers in turn what it is told, and keeps what it takes.
+#[derive(Drop)]
+struct Told {
+    answers: Vec<Option<usize>>,
+    fault: ErrorKind,
+    taken: Vec<u8>,
+}
+
+impl Write for Told {
+    fn write(&mut self, buf: &[u8]) -> io::Result<usize> {
+        match self.answers.pop() {
+            Some(Some(count)) => {
+                let count = count.min(buf.len());
+                self.taken.extend_from_slice(&buf[..count])?;
+                Ok(count)
+            }
+            Some(None) => Err(io::Error::from(self.fault)),
+            None => Ok(0),
+        }
+    }
+
+    fn flush(&mut self) -> io::Result<()> {
+        Ok(())
+    }
+}
+
+#[test]
+fn writers_as_sinks(rt: HostRuntime) -> Result<(), Fail> {
+    let alloc = rt.alloc();
+    // In pieces to the end; an interrupted write is tried again; one that takes nothing is a fault;
+    // want of memory is none.
+    let rows: [(&[Option<usize>], ErrorKind, &str); 4] = [
+        (&[Some(9), Some(1), Some(3)], ErrorKind::Other, "Ok"),
+        (&[Some(9), None, Some(1)], ErrorKind::Interrupted, "Ok"),
+        (&[Some(2), Some(1)], ErrorKind::Other, "Failed"),
+        (&[None, Some(1)], ErrorKind::OutOfMemory, "Memory"),
+    ];
+    for (answers, fault, wanted) in rows {
+        let told = Told {
+            answers: answers.to_vec(alloc)?,
+            fault,
+            taken: Vec::new(alloc),
+        };
+        let mut sink = RealSink::new(told);
+        let label = match put_all(&mut sink, b"abcdef") {
+            Ok(()) => "Ok",
+            Err(WriteErr::Failed) => "Failed",
+            Err(WriteErr::Memory) => "Memory",
+        };
+        assert_eq!(rt; label, wanted);
+    }
+    Ok(())
+}
+
+#[test]
+fn files_of_the_system(rt: HostRuntime) -> Result<(), Fail> {
+    let alloc = rt.alloc();
+    let name = "rbbi_io_real_files.tmp";
+    let mut bytes = Vec::new(alloc);
+    bytes.resize(600_000, b'x')?;
+    let mut files = RealFiles::new(&rt);
+    files.write(name, b"longer than the next")?;
+    files.write(name, bytes.as_slice())?;
+    let raw = files.read(alloc, name, 600_000)?;
+    assert_eq!(rt; bytes_of(alloc, &raw)?.as_slice(), bytes.as_slice());
+    assert!(rt; matches!(files.read(alloc, name, 599_999), Err(ReadErr::TooLong)));
+    assert!(rt; matches!(files.read(alloc, "no/such/file", 9), Err(ReadErr::Failed)));
+    assert!(rt; matches!(files.write("no/such/file", b"a"), Err(WriteErr::Failed)));
+    std::fs::remove_file(&rt, name)?;
+    Ok(())
+}
+
+#[test]
+fn a_file_as_a_sink(rt: HostRuntime) -> Result<(), Fail> {
+    let name = "rbbi_io_real_sink.tmp";
+    let mut sink = RealSink::new(File::create(&rt, name)?);
+    put_all(&mut sink, b"one ")?;
+    put_all(&mut sink, b"two")?;
+    let text = std::fs::read_to_string(&rt, name)?;
+    assert_eq!(rt; text.as_str(), "one two");
+    std::fs::remove_file(&rt, name)?;
+    Ok(())
+}
+
+#[test]
+fn names_of_refusals(rt: HostRuntime) {
+    assert_eq!(rt; ReadErr::Failed.label(), "Failed");
+    assert_eq!(rt; ReadErr::TooLong.label(), "TooLong");
+    assert_eq!(rt; ReadErr::Memory.label(), "Memory");
+    assert_eq!(rt; ReadErr::Failed.place(), None);
+    assert_eq!(rt; WriteErr::Failed.label(), "Failed");
+    assert_eq!(rt; WriteErr::Memory.label(), "Memory");
+    assert_eq!(rt; WriteErr::Memory.place(), None);
+}

@@ -1,0 +1,4 @@
+pub mod PointLemmas
+pub mod SkipLemmas
+pub mod LexingLemmas
+pub mod Totality

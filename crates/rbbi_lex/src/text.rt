@@ -1,0 +1,43 @@
+//! The tokens of a whole text.
+ghost use Rattle.std.specs.Prelude.{◌≡◌, ◌≤◌, vec_len, length, MatchResult, IfOk};
+ghost use Rattle.std.specs.Str.{chars};
+ghost use Rattle.rbbi_lex.specs.Lexing.{AreTokens};
+ghost use Rattle.rbbi_lex.specs.Errors.{TellsFault};
+ghost use Rattle.rbbi_lex.specs.Places.{PlacesRise};
+
+use crate::error::LexErr;
+use crate::lexer::Lexer;
+use crate::state::State;
+use crate::token::Tokens;
+use std::alloc::{AllocError, Global};
+
+/// The characters of a text, which are at most as many as its bytes.
+fn characters_of(alloc: Global, text: &str) -> Result<Vec<char>, AllocError>
+    ensures characters { IfOk result (λ v. v.items ≡ chars text.now) }
+    ensures short { IfOk result (λ v. vec_len v ≤ length text.now) }
+{
+    text.chars().collect(alloc)
+}
+
+/// The tokens of a rule file, with their places in characters from 0 (ICU User Guide, "Break
+/// Rules"). The text has at most 100,663,296 bytes.
+///
+/// Refuses the first fault from the left: `BadChar` where the first row that fits takes no
+/// character, and `Unbuilt` where a form begins that is not built yet. `Memory` tells nothing of the
+/// text.
+pub fn lex(alloc: Global, text: &str) -> Result<Tokens, LexErr>
+    requires { length text.now ≤ 100663296 }
+    ensures exact { MatchResult result (AreTokens (chars text.now)) (TellsFault (chars text.now)) }
+    ensures places { IfOk result (PlacesRise 0 (length (chars text.now))) }
+{
+    let mut tokens = Tokens::new(alloc);
+    let mut lexer = Lexer {
+        characters: characters_of(alloc, text)?,
+        place: 0,
+        state: State { groups: 0 },
+    };
+    while let Some(token) = lexer.next_token()? {
+        tokens.push(token)?;
+    }
+    Ok(tokens)
+}

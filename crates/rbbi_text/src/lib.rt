@@ -1,0 +1,23 @@
+//! Texts, words and the bytes of files, and a counter of the characters and bytes that are read.
+//!
+//! A text is seen as its list of characters, a file as its list of bytes. Characters come from
+//! [`Chars::char_at`] alone and bytes from [`Raw::bytes`] alone, and both count what they give.
+#![tactic(auto)]
+
+mod chars;
+mod error;
+mod mark;
+mod plain;
+mod raw;
+mod steps;
+#[cfg(test)]
+mod tests;
+mod word;
+
+pub use chars::{Chars, EditText};
+pub use error::{EditErr, RawErr, TextErr};
+pub use mark::without_mark;
+pub use plain::PlainText;
+pub use raw::Raw;
+pub use steps::Steps;
+pub use word::Word;

@@ -1,0 +1,96 @@
+//! A text in one flat list.
+ghost use Rattle.std.specs.Prelude.{◌≡◌, ◌<◌, ◌≤◌, IfOk, MatchOption, length, chars};
+ghost use Rattle.rbbi_model.specs.Words.{most_characters};
+ghost use Rattle.rbbi_text.specs.Texts.{IsShortText};
+ghost use Rattle.rbbi_text.specs.Answers.{TakesText, ReadsText};
+
+use crate::{Chars, Raw, RawErr, Steps, TextErr};
+use std::alloc::{AllocError, Global};
+use std::marker::Model;
+use std::sync::ledger::Ledger;
+
+/// The most characters that a text may have.
+const MOST_CHARACTERS: usize = 16_777_216;
+
+/// A text in one flat list of characters. Contracts see it as that list.
+///
+/// It takes four bytes a character. A character is found in one step, and a change copies all that
+/// stands behind it.
+#[derive(Debug, Drop)]
+pub struct PlainText {
+    items: Vec<char>,
+}
+
+impl Model for PlainText {
+    ghost use Rattle.std.specs.Prelude.{List, ℕ};
+    ghost use Rattle.rbbi_text.specs.Texts.{IsShortText};
+
+    ghost Value = { List ℕ };
+
+    ghost view = { λ text. text.items.items };
+
+    ghost invariant = { λ text. IsShortText text.items.items };
+}
+
+/// The characters of a string, or nothing where they are more than a text may have.
+fn decoded(alloc: Global, text: &str) -> Result<Option<Vec<char>>, AllocError>
+    ensures { IfOk result (λ found. MatchOption found
+        (most_characters < length (chars text.now))
+        (λ items. (items.items ≡ chars text.now) × IsShortText items.items)) }
+{
+    let room = text.len().min(MOST_CHARACTERS);
+    let mut items = Vec::with_capacity(alloc, room)?;
+    for c in text.chars() {
+        if items.len() == MOST_CHARACTERS {
+            return Ok(None);
+        }
+        items.push(c)?;
+    }
+    Ok(Some(items))
+}
+
+impl PlainText {
+    /// The text of this string.
+    ///
+    /// Refuses `TooManyChars` where it has more than 16,777,216 characters.
+    pub fn new(alloc: Global, text: &str) -> Result<PlainText, TextErr>
+        ensures { TakesText (chars text.now) result }
+    {
+        match decoded(alloc, text)? {
+            Some(items) => Ok(PlainText { items }),
+            None => Err(TextErr::TooManyChars),
+        }
+    }
+
+    /// The text that the bytes spell in UTF-8. It counts no step. A U+FEFF at the start is a
+    /// character of the text.
+    ///
+    /// Refuses `NotUtf8` where the bytes are not UTF-8, at the first byte past the longest valid
+    /// front; otherwise `TooManyChars` where they spell more than 16,777,216 characters.
+    pub fn from_raw(alloc: Global, raw: &Raw) -> Result<PlainText, RawErr>
+        requires { length raw.now ≤ 100663296 }
+        ensures { ReadsText raw.now result }
+    {
+        let text = match simdutf8::compat::from_utf8(raw.uncounted()) {
+            Ok(text) => text,
+            Err(fault) => return Err(RawErr::NotUtf8(fault.valid_up_to() as u32)),
+        };
+        match decoded(alloc, text)? {
+            Some(items) => Ok(PlainText { items }),
+            None => Err(RawErr::TooManyChars),
+        }
+    }
+}
+
+impl Chars for PlainText {
+    ghost characters = { λ text. text };
+
+    fn len(&self) -> u32 {
+        self.items.len() as u32
+    }
+
+    fn char_at<L: Ledger>(&self, i: u32, steps: &mut Steps<L>) -> char {
+        steps.tick();
+        self.items[i as usize]
+    }
+}

@@ -1,0 +1,45 @@
+//! The bytes of a file.
+ghost use Rattle.std.specs.Prelude.{◌≡◌, ◌+◌, length};
+
+use crate::Steps;
+use std::marker::Model;
+use std::sync::ledger::Ledger;
+
+/// The bytes of a file. Contracts see it as their list. Outside of this crate only `bytes` gives them.
+#[derive(Debug, Drop)]
+pub struct Raw {
+    bytes: Vec<u8>,
+}
+
+impl Model for Raw {
+    ghost use Rattle.std.specs.Prelude.{List, ℕ};
+
+    ghost Value = { List ℕ };
+
+    ghost view = { λ raw. raw.bytes.items };
+}
+
+impl Raw {
+    /// Holds these bytes.
+    pub fn new(bytes: Vec<u8>) -> Raw
+        ensures { result ≡ bytes.items }
+    {
+        Raw { bytes }
+    }
+
+    /// The bytes. It counts one step for each of them.
+    pub fn bytes<L: Ledger>(&self, steps: &mut Steps<L>) -> &[u8]
+        ensures bytes { result.now ≡ self.now }
+        ensures steps { steps.new ≡ steps.old + length self.now }
+    {
+        steps.add(self.bytes.len() as u64);
+        self.bytes.as_slice()
+    }
+
+    /// The bytes, for a text that is made of them. It counts nothing.
+    pub(crate) fn uncounted(&self) -> &[u8]
+        ensures { result.now ≡ self.now }
+    {
+        self.bytes.as_slice()
+    }
+}

@@ -1,0 +1,108 @@
+//! Each public call once, on values from outside.
+ghost use Rattle.std.specs.Prelude.{◌≡◌, ◌<◌, IfOk};
+
+use crate::{Chars, EditErr, PlainText, Raw, RawErr, Steps, TextErr, Word};
+use std::alloc::{AllocError, Global};
+use std::marker::Brand;
+use std::sync::ledger::{Blank, Ledger};
+use std::test::Fail;
+
+/// The characters of a text, read one by one.
+fn shown<L: Ledger>(alloc: Global, text: &PlainText, blank: Blank) -> Result<String, AllocError>
+    requires name { blank.name ≡ L.name }
+    requires parts { blank.parts ≡ L.parts }
+    requires some { 0 < blank.parts }
+{
+    let mut steps = Steps::<L>::new(blank);
+    let mut shown = String::new(alloc);
+    for i in 0..text.len() {
+        shown.push(text.char_at(i, &mut steps))?;
+    }
+    Ok(shown)
+}
+
+/// The bytes of a file, as a copy.
+fn copied<L: Ledger>(alloc: Global, raw: &Raw, blank: Blank) -> Result<Vec<u8>, AllocError>
+    requires name { blank.name ≡ L.name }
+    requires parts { blank.parts ≡ L.parts }
+    requires some { 0 < blank.parts }
+{
+    let mut steps = Steps::<L>::new(blank);
+    raw.bytes(&mut steps).to_vec(alloc)
+}
+
+fn raw_of(alloc: Global, bytes: &[u8]) -> Result<Raw, AllocError>
+    ensures { IfOk result (λ raw. raw ≡ bytes.now) }
+{
+    Ok(Raw::new(bytes.to_vec(alloc)?))
+}
+
+#[test]
+fn texts_of_strings(rt: HostRuntime) -> Result<(), Fail> {
+    let alloc = rt.alloc();
+    for text in ["", "a", "caf\u{e9}", "\u{feff}\u{4e00}\u{1f1e6}b"] {
+        let plain = PlainText::new(alloc, text)?;
+        assert_eq!(rt; plain.len() as usize, text.chars().count(), "of {text:?}");
+        let shown = shown::<Brand>(alloc, &plain, Blank::new(1))?;
+        assert_eq!(rt; shown.as_str(), text);
+    }
+    Ok(())
+}
+
+#[test]
+fn texts_of_bytes(rt: HostRuntime) -> Result<(), Fail> {
+    let alloc = rt.alloc();
+    let text = "\u{feff}a\u{e9}\u{4e00}\u{1f1e6}";
+    let raw = raw_of(alloc, text.as_bytes())?;
+    let plain = PlainText::from_raw(alloc, &raw)?;
+    let shown = shown::<Brand>(alloc, &plain, Blank::new(1))?;
+    assert_eq!(rt; shown.as_str(), text);
+    let bytes = copied::<Brand>(alloc, &raw, Blank::new(1))?;
+    assert_eq!(rt; bytes.as_slice(), text.as_bytes());
+    Ok(())
+}
+
+#[test]
+fn bytes_that_are_no_text(rt: HostRuntime) -> Result<(), Fail> {
+    let alloc = rt.alloc();
+    // A byte that begins no character, a character cut short, one written too long, a surrogate, and
+    // a number past the last code point.
+    let rows: [(&[u8], u32); 6] = [
+        (b"a\xff", 1),
+        (b"\xe2\x82", 0),
+        (b"ab\xc0\xaf", 2),
+        (b"\xc3\xa9\xed\xa0\x80", 2),
+        (b"abc\xf4\x90\x80\x80", 3),
+        (b"\x80", 0),
+    ];
+    for (bytes, place) in rows {
+        let raw = raw_of(alloc, bytes)?;
+        match PlainText::from_raw(alloc, &raw) {
+            Err(RawErr::NotUtf8(at)) => assert_eq!(rt; at, place),
+            _ => assert!(rt; false, "{bytes:?} is no text"),
+        }
+    }
+    Ok(())
+}
+
+#[test]
+fn words(rt: HostRuntime) -> Result<(), Fail> {
+    let alloc = rt.alloc();
+    for text in ["", "rbbi", "\u{e9}\u{1f1e6}"] {
+        assert_eq!(rt; Word::new(alloc, text)?.as_str(), text);
+    }
+    Ok(())
+}
+
+#[test]
+fn names_of_refusals(rt: HostRuntime) {
+    assert_eq!(rt; RawErr::NotUtf8(7).label(), "NotUtf8");
+    assert_eq!(rt; RawErr::NotUtf8(7).place(), Some(7));
+    assert_eq!(rt; RawErr::TooManyChars.label(), "TooManyChars");
+    assert_eq!(rt; RawErr::Memory.place(), None);
+    assert_eq!(rt; TextErr::TooManyChars.label(), "TooManyChars");
+    assert_eq!(rt; TextErr::Memory.place(), None);
+    assert_eq!(rt; EditErr::Outside.label(), "Outside");
+    assert_eq!(rt; EditErr::TooLong.label(), "TooLong");
+    assert_eq!(rt; EditErr::Memory.place(), None);
+}

@@ -1,0 +1,16 @@
+//! The top call of `rbbi`: from the words of the command line to the bytes that go out.
+#![tactic(auto)]
+
+mod answer;
+mod boundaries;
+mod ends;
+mod laws;
+mod lines;
+mod matcher;
+mod rule_file;
+mod run;
+mod words;
+
+pub use laws::outcomes_are_unique;
+pub use rule_file::{RuleFault, RulesRefusal};
+pub use run::rbbi;

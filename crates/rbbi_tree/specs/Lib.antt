@@ -1,0 +1,6 @@
+pub mod Trees
+pub mod Values
+pub mod Grammar
+pub mod Refusals
+pub mod Machine
+pub mod States
