@@ -25,3 +25,4 @@ pub mod SafeSearch
 pub mod FreshTrue
 pub mod Shown
 pub mod Replies
+pub mod WorkedChains

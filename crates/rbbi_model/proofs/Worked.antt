@@ -6,13 +6,13 @@ use lib.Utf8.{encode}
 use Rattle.rbbi_model.specs.Boundaries.{Boundary}
 use Rattle.rbbi_model.specs.Tables.{Table}
 use Rattle.rbbi_model.specs.Searches.{search_end, look_end, found, table_boundaries}
-use Rattle.rbbi_model.specs.Answers.{Last, Next, Previous, Following, Preceding, IsBoundary, Current, Status, Statuses, Breaks}
+use Rattle.rbbi_model.specs.Answers.{Characters, Last, Next, Previous, Following, Preceding, IsBoundary, Current, Status, Statuses, Breaks}
 use Rattle.rbbi_model.specs.Scripts.{Ask, Replace, ShowText, table_replies, replies_by, edit, opened}
 use Rattle.rbbi_model.specs.SetTrees.{SetTree, Add, Minus, Span, set_of, InSet}
 use Rattle.rbbi_model.specs.Runs.{is_anchor, Run, IsTrueRun, ShowsAfter, ShowsBefore}
 use Rattle.rbbi_model.specs.Costs.{forward_cost, tries, back_cost, script_cost}
 use Rattle.rbbi_model.specs.TableFile.{spelling}
-use Rattle.rbbi_model.specs.Lines.{all_reply_lines, boundary_lines, compile_line, row_of, column_of}
+use Rattle.rbbi_model.specs.Lines.{reply_lines, fault_line_at, fault_line_in, fault_line_within, rules_name, table_name, all_reply_lines, boundary_lines, compile_line, row_of, column_of}
 
 -- the table of the rules `a;`
 abbrev pub table_a : Table
@@ -185,3 +185,13 @@ d_in_set HasProperty = inr (inr (omega arith, omega arith))
 a_not_in_set : (HasProperty : List ℕ → Option (List ℕ) → ℕ → Type 0) → InSet HasProperty d_to_f 97 → ⊥
 a_not_in_set HasProperty here =
     ⊎_elim (λ left. left.1 (inr (omega arith, omega arith))) (λ right. ⊎_elim (λ none. absurd none) (λ within. omega (arith, within.0)) right) here
+
+-- in the reply to `text` a line end and a backslash are written with a backslash
+escapes : reply_lines (Characters (97 ∷ 10 ∷ 92 ∷ [])) ≡ 97 ∷ 92 ∷ 110 ∷ 92 ∷ 92 ∷ 10 ∷ []
+unfolding encode
+escapes = refl
+
+-- lines of faults
+fault_lines : (fault_line_within rules_name 1 13 (codes "Redefined") ≡ codes "rules:1:13: Redefined\n") × (fault_line_at table_name (codes "Short") 7 ≡ codes "table: Short 7\n") × (fault_line_in (codes "t.txt") 3 (codes "BadLine") ≡ codes "t.txt:3: BadLine\n")
+unfolding digits
+fault_lines = (refl, refl, refl)
