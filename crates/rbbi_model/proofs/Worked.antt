@@ -7,7 +7,7 @@ use Rattle.rbbi_model.specs.Boundaries.{Boundary}
 use Rattle.rbbi_model.specs.Tables.{Table}
 use Rattle.rbbi_model.specs.Searches.{search_end, look_end, found, table_boundaries}
 use Rattle.rbbi_model.specs.Answers.{Characters, Last, Next, Previous, Following, Preceding, IsBoundary, Current, Status, Statuses, Breaks}
-use Rattle.rbbi_model.specs.Scripts.{Ask, Replace, ShowText, table_replies, replies_by, edit, opened}
+use Rattle.rbbi_model.specs.Scripts.{Accepted, Ask, Replace, ShowText, table_replies, replies_by, edit, opened}
 use Rattle.rbbi_model.specs.SetTrees.{SetTree, Add, Minus, Span, set_of, InSet}
 use Rattle.rbbi_model.specs.Runs.{is_anchor, Run, IsTrueRun, ShowsAfter, ShowsBefore}
 use Rattle.rbbi_model.specs.Costs.{forward_cost, tries, back_cost, script_cost}
@@ -195,3 +195,7 @@ escapes = refl
 fault_lines : (fault_line_within rules_name 1 13 (codes "Redefined") ≡ codes "rules:1:13: Redefined\n") × (fault_line_at table_name (codes "Short") 7 ≡ codes "table: Short 7\n") × (fault_line_in (codes "t.txt") 3 (codes "BadLine") ≡ codes "t.txt:3: BadLine\n")
 unfolding digits
 fault_lines = (refl, refl, refl)
+
+-- the new length of an edit counts what is left and what is put there
+new_length : edit (97 ∷ 98 ∷ 99 ∷ []) 1 2 (100 ∷ 101 ∷ []) ≡ Accepted (97 ∷ 100 ∷ 101 ∷ []) 3
+new_length = refl
