@@ -1,16 +1,11 @@
 -- After each question the cursor is a boundary.
-use Rattle.std.proofs.Common.{◌≡◌, ℕ, ◌⊎◌, Bool, cond, ltb, leb, List, [], ◌∷◌, Option, Some, None, sym, refl, ap, ◌∙◌, inl, inr, ⊎_elim, arith}
+use Rattle.std.proofs.Common.{◌≡◌, ℕ, ◌⊎◌, Bool, cond, ltb, leb, List, [], ◌∷◌, Option, Some, None, sym, refl, ◌∙◌, inl, inr, ⊎_elim}
 use Rattle.std.specs.Prelude.{unwrap_or}
 use Rattle.std.proofs.lemmas.Bool.{cases_Bool, cond-true, cond-false}
 use Rattle.rbbi_model.specs.Boundaries.{Boundary}
 use Rattle.rbbi_model.specs.Cover.{IsPlaceOf, BeginAtZero, end_of}
+use Rattle.rbbi_model.proofs.Found.{some_same, none_some}
 use Rattle.rbbi_model.specs.Answers.{Question, First, Last, Next, Previous, Following, Preceding, IsBoundary, Current, Status, Statuses, Breaks, first_place, last_place, first_after, last_before, first_from, moved, answer}
-
-some_same : (m n : ℕ) → Some m ≡ Some n → m ≡ n
-some_same m n is = ap (λ o. unwrap_or o 0) is
-
-none_some : (n : ℕ) → None ≡ Some n → ⊥
-none_some n is = grind arith
 
 first_in : (test : ℕ → Bool) (bs : List Boundary) (p : ℕ) → first_place test bs ≡ Some p → IsPlaceOf bs p
 first_in test [] p is = absurd (none_some p is)

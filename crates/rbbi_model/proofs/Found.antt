@@ -13,10 +13,10 @@ least_lies test low (suc count) =
     (λ _. (omega arith, omega arith))
     (λ _. let further = least_lies test (low + 1) count in (omega (arith, further.0), omega (arith, further.1)))
 
-some_same : (m n : ℕ) → Some m ≡ Some n → m ≡ n
+pub some_same : (m n : ℕ) → Some m ≡ Some n → m ≡ n
 some_same m n is = ap (λ o. unwrap_or o 0) is
 
-none_some : (n : ℕ) → None ≡ Some n → ⊥
+pub none_some : (n : ℕ) → None ≡ Some n → ⊥
 none_some n is = grind arith
 
 pub greatest_lies : (test : ℕ → Bool) (high q : ℕ) → greatest_below test high ≡ Some q → (q < high) × (test q ≡ true)

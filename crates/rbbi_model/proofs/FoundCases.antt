@@ -1,6 +1,6 @@
 -- What a search finds in a valid table, by cases; and how its rows go on by one character.
 use Rattle.std.proofs.Common.{◌≡◌, ℕ, ◌+◌, ◌-◌, ◌<◌, ◌≤◌, ◌⊎◌, Bool, true, false, ◌&&◌, ltb, eqb, List, [], ◌∷◌, ◌++◌, Option, Some, None, length, take, drop, map, get_or, sym, refl, ap, ◌∙◌, subst, inl, inr, ⊎_elim, arith}
-use Rattle.std.specs.Prelude.{slice_range, IsTrue, unwrap_or}
+use Rattle.std.specs.Prelude.{slice_range, IsTrue}
 use Rattle.std.proofs.lemmas.Bool.{cases_Bool, cond-true, cond-false, and_parts, and_from, ltb-true, lt-ltb, eqb-true, eq-eqb, leb-true, or_cases, or_parts, leb-false, eqb-false}
 use Rattle.std.proofs.lemmas.List.{map-append, take_more, length-drop, get_or-drop}
 use Rattle.rbbi_model.specs.Places.{has_bit, greatest_below}
@@ -11,13 +11,8 @@ use Rattle.rbbi_model.specs.Searches.{Found, row_at, search_end, cut_place, long
 use Rattle.rbbi_model.specs.Runs.{category_at}
 use Rattle.rbbi_model.proofs.Categories.{category_within}
 use Rattle.rbbi_model.proofs.Found.{end_lies, greatest_lies}
-use Rattle.rbbi_model.proofs.SearchFacts.{none_passes, greatest_is_most, row_along_append}
+use Rattle.rbbi_model.proofs.SearchFacts.{at_most, none_passes, greatest_is_most, row_along_append}
 use Rattle.rbbi_model.proofs.Cuts.{cut_is}
-
--- what passes is at most the greatest that does
-at_most : (test : ℕ → Bool) (high p otherwise : ℕ) (place : Option ℕ) → greatest_below test high ≡ place → p < high → test p ≡ true → p ≤ unwrap_or place otherwise
-at_most test high p otherwise None is less holds = absurd (none_passes test high p is less holds)
-at_most test high p otherwise (Some top) is less holds = greatest_is_most test high top p is less holds
 
 -- the cut of a look-ahead rule that is completed at the end of the search
 pub record FoundCut (table : Table) (x : List ℕ) (s : ℕ) (f : Found) : Type 0 where

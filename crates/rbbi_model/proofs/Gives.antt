@@ -1,8 +1,8 @@
 -- A valid table with the marks of the rules gives their boundaries.
-use Rattle.std.proofs.Common.{◌≡◌, ℕ, zero, suc, ◌+◌, ◌-◌, ◌<◌, ◌≤◌, ◌⊎◌, Bool, true, false, ◌&&◌, ltb, eqb, List, [], ◌∷◌, Option, Some, None, length, take, drop, sym, refl, ap, ◌∙◌, subst, inl, inr, ⊎_elim, arith}
-use Rattle.std.specs.Prelude.{slice_range, slice_index_or, unwrap_or}
+use Rattle.std.proofs.Common.{◌≡◌, ℕ, zero, suc, ◌+◌, ◌-◌, ◌<◌, ◌≤◌, ◌⊎◌, Bool, true, false, ◌&&◌, ltb, eqb, List, [], ◌∷◌, Option, Some, None, length, drop, sym, refl, ap, ◌∙◌, subst, inl, inr, ⊎_elim, arith}
+use Rattle.std.specs.Prelude.{slice_range, slice_index_or}
 use Rattle.std.proofs.lemmas.Bool.{cases_Bool, cases_eq, cases_lt, cases_order, cond-true, cond-false, cond_both, or_parts, or_cases, and_parts, and_from, leb-true, leb-false, ltb-true, ltb-false, lt-ltb, eqb-true, eq-eqb, false≢true}
-use Rattle.rbbi_model.specs.Words.{IsWord, IsText}
+use Rattle.rbbi_model.specs.Words.{IsText}
 use Rattle.rbbi_model.specs.Places.{has_bit, greatest_below}
 use Rattle.rbbi_model.specs.Rules.{Rule, LooksAhead}
 use Rattle.rbbi_model.specs.Chains.{EndsAt, FrontEndsAt}
@@ -11,31 +11,17 @@ use Rattle.rbbi_model.specs.Tables.{Table, accept_of, fronts_of, list_of, status
 use Rattle.rbbi_model.specs.ValidTables.{IsValidTable, BeginsWithZeroAlone}
 use Rattle.rbbi_model.specs.Searches.{Found, row_at, search_end, cut_place, longest_place, found_longest, found, next_boundary, follow_by, table_boundaries}
 use Rattle.rbbi_model.specs.Marks.{look_ahead_number, IsCompleted, AreMarksAtEnd, AreMarks, marks_of, HasSameMarks}
+use Rattle.rbbi_model.proofs.Texts.{word_take, text_drop}
 use Rattle.rbbi_model.proofs.RulesCover.{ends_lie, front_lies}
 use Rattle.rbbi_model.proofs.Local.{length_piece, look_ahead_from, ends_to_end, ends_from_end, look_ahead_to_end, look_ahead_from_end, front_to_end, front_from_end, tags_from_end}
 use Rattle.rbbi_model.proofs.LookAheadNumbers.{same_number}
 use Rattle.rbbi_model.proofs.Found.{end_lies, greatest_lies, found_lies}
-use Rattle.rbbi_model.proofs.SearchFacts.{least_is, none_passes, greatest_is_most, stays_stopped}
+use Rattle.rbbi_model.proofs.SearchFacts.{at_most, least_is, none_passes, greatest_is_most, stays_stopped}
 use Rattle.rbbi_model.proofs.Cuts.{cut_is}
-
-word_take : (n : ℕ) (x : List ℕ) → IsText x → IsWord (take n x)
-word_take zero x text = tt
-word_take (suc n) [] text = tt
-word_take (suc n) (c ∷ x) text = (text.0.0, word_take n x text.1)
-
-text_drop : (n : ℕ) (x : List ℕ) → IsText x → IsText (drop n x)
-text_drop zero x text = text
-text_drop (suc n) [] text = tt
-text_drop (suc n) (c ∷ x) text = text_drop n x text.1
 
 first_list : (lists : List (List ℕ)) → BeginsWithZeroAlone lists → (table : Table) → table.lists ≡ lists → statuses_of table 0 ≡ 0 ∷ []
 first_list [] begins table same = absurd begins
 first_list (statuses ∷ lists) begins table same = ap (λ l. slice_index_or l 0 []) same ∙ begins
-
--- what passes is at most the greatest that does
-at_most : (test : ℕ → Bool) (high p otherwise : ℕ) (place : Option ℕ) → greatest_below test high ≡ place → p < high → test p ≡ true → p ≤ unwrap_or place otherwise
-at_most test high p otherwise None is less holds = absurd (none_passes test high p is less holds)
-at_most test high p otherwise (Some top) is less holds = greatest_is_most test high top p is less holds
 
 module _ (table : Table) (rules : List Rule) (valid : IsValidTable table) (same : HasSameMarks table rules) (x : List ℕ) (text : IsText x) (s : ℕ) (short : s < length x) where
   -- the marks at a place of the search are those of the rules

@@ -26,3 +26,4 @@ pub mod FreshTrue
 pub mod Shown
 pub mod Replies
 pub mod WorkedChains
+pub mod Texts

@@ -1,5 +1,5 @@
 -- The replies to a script are determined, and a table that gives the boundaries by the rules gives the replies too.
-use Rattle.std.proofs.Common.{◌≡◌, ℕ, zero, suc, ◌+◌, ◌-◌, cond, ltb, List, [], ◌∷◌, ◌++◌, length, take, drop, sym, refl, ap, ◌∙◌, subst}
+use Rattle.std.proofs.Common.{◌≡◌, ℕ, ◌+◌, ◌-◌, cond, ltb, List, [], ◌∷◌, ◌++◌, length, take, drop, sym, refl, ap, ◌∙◌, subst}
 use Rattle.std.specs.List.{AllByRecursion}
 use Rattle.std.proofs.lemmas.Bool.{cond_both}
 use Rattle.rbbi_model.specs.Words.{IsText, most_characters}
@@ -10,23 +10,8 @@ use Rattle.rbbi_model.specs.Searches.{table_boundaries}
 use Rattle.rbbi_model.specs.Compiled.{GivesBoundaries}
 use Rattle.rbbi_model.specs.Answers.{Reply, Outside, TooLong}
 use Rattle.rbbi_model.specs.Scripts.{Command, Ask, Replace, ShowText, Edit, Refused, Accepted, State, splice, edit, edited, opened, turn_by, AreRepliesBy, replies_by, AreReplies, table_replies, InsertsText}
+use Rattle.rbbi_model.proofs.Texts.{text_take, text_drop, text_append}
 use Rattle.rbbi_model.proofs.Uniqueness.{same_boundaries}
-
--- texts stay texts
-
-text_take : (n : ℕ) (x : List ℕ) → IsText x → IsText (take n x)
-text_take zero x text = tt
-text_take (suc n) [] text = tt
-text_take (suc n) (c ∷ x) text = (text.0, text_take n x text.1)
-
-text_drop : (n : ℕ) (x : List ℕ) → IsText x → IsText (drop n x)
-text_drop zero x text = text
-text_drop (suc n) [] text = tt
-text_drop (suc n) (c ∷ x) text = text_drop n x text.1
-
-text_append : (x y : List ℕ) → IsText x → IsText y → IsText (x ++ y)
-text_append [] y text text' = text'
-text_append (c ∷ x) y text text' = (text.0, text_append x y text.1 text')
 
 edited_text : (state : State) (at removed : ℕ) (inserted : List ℕ) → IsText state.text → IsText inserted → IsText (edited state (edit state.text at removed inserted)).state.text
 edited_text state at removed inserted text text' =

@@ -1,5 +1,5 @@
 -- What the least and the greatest place say of the others, and where a search is after row 0.
-use Rattle.std.proofs.Common.{◌≡◌, ℕ, zero, suc, ◌+◌, ◌-◌, ◌<◌, ◌≤◌, ◌⊎◌, Bool, true, false, List, [], ◌∷◌, ◌++◌, Some, None, take, drop, map, sym, refl, ap, ◌∙◌, inl, inr, ⊎_elim, arith}
+use Rattle.std.proofs.Common.{Option, ◌≡◌, ℕ, zero, suc, ◌+◌, ◌-◌, ◌<◌, ◌≤◌, ◌⊎◌, Bool, true, false, List, [], ◌∷◌, ◌++◌, Some, None, take, drop, map, sym, refl, ap, ◌∙◌, inl, inr, ⊎_elim, arith}
 use Rattle.std.specs.Prelude.{slice_range, unwrap_or}
 use Rattle.std.proofs.lemmas.Bool.{cases_Bool, cases_eq, cond-true, cond-false, false≢true}
 use Rattle.std.proofs.lemmas.List.{map-append, take-append-drop, take-take}
@@ -7,6 +7,7 @@ use Rattle.rbbi_model.specs.Places.{least_from, greatest_below}
 use Rattle.rbbi_model.specs.Tables.{Table, category_of, step, row_along}
 use Rattle.rbbi_model.specs.ValidTables.{IsValidTable}
 use Rattle.rbbi_model.specs.Searches.{row_at}
+use Rattle.rbbi_model.proofs.Found.{none_some}
 use Rattle.rbbi_model.proofs.Categories.{category_within}
 
 -- the test fails at each place before the least, and holds there, or there is none
@@ -24,9 +25,6 @@ least_is test low (suc count) =
       ⊎_elim (λ holds. inl (ap test is ∙ holds)) (λ all. inr (omega (arith, is, all))) rest.1,
     ))
     (cases_Bool (test low))
-
-none_some : (q : ℕ) → None ≡ Some q → ⊥
-none_some q is = grind arith
 
 -- where there is none, the test fails at each place
 pub none_passes : (test : ℕ → Bool) (high q : ℕ) → greatest_below test high ≡ None → q < high → test q ≡ true → ⊥
@@ -55,6 +53,11 @@ greatest_is_most test (suc high) top q is short holds =
     (λ other. greatest_is_most test high top q (sym (cond-false (test high) (Some high) (greatest_below test high) fails) ∙ is) (omega arith) holds)
     (cases_eq q high))
     (cases_Bool (test high))
+
+-- what passes is at most the greatest that does
+pub at_most : (test : ℕ → Bool) (high p otherwise : ℕ) (place : Option ℕ) → greatest_below test high ≡ place → p < high → test p ≡ true → p ≤ unwrap_or place otherwise
+at_most test high p otherwise None is less holds = absurd (none_passes test high p is less holds)
+at_most test high p otherwise (Some top) is less holds = greatest_is_most test high top p is less holds
 
 pub row_along_append : (table : Table) (row : ℕ) (these those : List ℕ) → row_along table row (these ++ those) ≡ row_along table (row_along table row these) those
 row_along_append table row [] those = refl

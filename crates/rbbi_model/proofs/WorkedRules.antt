@@ -1,9 +1,8 @@
 -- The rules `a;` and their table, worked by hand: the table is compiled from the rules, and both give the boundaries of `ab`.
-use Rattle.std.proofs.Common.{◌≡◌, ◌≢◌, ℕ, zero, suc, ◌+◌, ◌-◌, ◌^◌, ◌<◌, ◌≤◌, ◌⊎◌, ◌↔◌, false, not, eqb, Some, None, List, [], ◌∷◌, length, drop, get_or, map, sym, refl, ap, ◌∙◌, subst, inl, inr, ⊎_elim, arith}
+use Rattle.std.proofs.Common.{◌≡◌, ◌≢◌, ℕ, zero, suc, ◌+◌, ◌-◌, ◌<◌, ◌≤◌, ◌⊎◌, ◌↔◌, false, Some, None, List, [], ◌∷◌, length, drop, get_or, map, sym, refl, ap, ◌∙◌, subst, inl, inr, ⊎_elim, arith}
 use Rattle.std.specs.Prelude.{slice_range, IsTrue, unwrap_or}
 use Rattle.std.proofs.lemmas.Bool.{cases_eq, cases_order, false≢true}
 use Rattle.std.proofs.lemmas.List.{length-take, length-drop, take_all}
-use Rattle.std.specs.Int.Bits.{and_zero_l}
 use Rattle.rbbi_model.specs.Words.{IsCodePoint, IsWord}
 use Rattle.rbbi_model.specs.Ranges.{Range, Has}
 use Rattle.rbbi_model.specs.Places.{has_bit}
@@ -20,6 +19,7 @@ use Rattle.rbbi_model.specs.LeafSets.{EndedBefore}
 use Rattle.rbbi_model.specs.Marks.{no_marks, marks_of, HasFront, AreMarks, HasSameMarks}
 use Rattle.rbbi_model.specs.Compiled.{IsLeast, IsRead, AreAlike, AreClasses, IsCompiled}
 use Rattle.rbbi_model.proofs.Unchained.{unchained}
+use Rattle.rbbi_model.proofs.Cuts.{no_bit}
 use Rattle.rbbi_model.proofs.Categories.{one_category, category_within}
 use Rattle.rbbi_model.proofs.Worked.{table_a, ab}
 
@@ -219,14 +219,11 @@ whole w = take_all (length w - 0) w (omega arith)
 ended_a : (w : List ℕ) (number : ℕ) → EndsAt rules_a w 0 (length w) number → w ≡ 97 ∷ []
 ended_a w number ends = sym (whole w) ∙ (ends_a w 0 (length w) number ends).0
 
-no_bit : (k : ℕ) → IsTrue (has_bit 0 k) → ⊥
-no_bit k is = false≢true (sym (ap (λ m. not (eqb m 0)) (and_zero_l (2 ^ k))) ∙ is)
-
 none_before : (w : List ℕ) → EndedBefore rules_a w → ⊥
 none_before w ended = no_look_ahead w 0 ended.e ended.number ended.ends
 
 no_fronts_here : (w : List ℕ) (k : ℕ) → IsTrue (has_bit 0 k) ↔ HasFront rules_a w k
-no_fronts_here w k = (λ bit. absurd (no_bit k bit), λ front. absurd (no_front w 0 (length w) front.number front.front))
+no_fronts_here w k = (λ bit. absurd (no_bit 0 k refl bit), λ front. absurd (no_front w 0 (length w) front.number front.front))
 
 marks_of_a : AreMarks rules_a (97 ∷ []) (record { accept = 1; fronts = 0; statuses = 0 ∷ [] })
 marks_of_a =
