@@ -1,8 +1,8 @@
 -- Where no rule may be chained into, a rule ends where one of its words ends.
-use Rattle.std.proofs.Common.{◌≡◌, ◌≢◌, ℕ, true, false, ◌↔◌, List, sym, refl, ap, ◌∙◌, subst}
+use Rattle.std.proofs.Common.{ℕ, ◌↔◌, List, sym, ◌∙◌}
 use Rattle.std.proofs.lemmas.Bool.{false≢true}
-use Rattle.rbbi_model.specs.Rules.{Rule, IsWordOf}
-use Rattle.rbbi_model.specs.Chains.{IsRule, IsPiece, EndsAt, Word, Chained}
+use Rattle.rbbi_model.specs.Rules.{Rule}
+use Rattle.rbbi_model.specs.Chains.{EndsAt, Word, Chained}
 use Rattle.rbbi_model.specs.Unchained.{NoneChainedInto, EndsAtWord}
 
 unchained_word : (rules : List Rule) (x : List ℕ) (s e number : ℕ) → NoneChainedInto rules → EndsAt rules x s e number → EndsAtWord rules x s e number

@@ -1,9 +1,8 @@
 -- A text has one list of boundaries.
-use Rattle.std.proofs.Common.{◌≡◌, ℕ, ◌<◌, ◌≤◌, ◌⊎◌, List, [], ◌∷◌, length, sym, refl, ap, ◌∙◌, subst, inl, inr, ⊎_elim, arith}
+use Rattle.std.proofs.Common.{◌≡◌, ℕ, List, [], ◌∷◌, sym, refl, ap, ◌∙◌, subst, ⊎_elim, arith}
 use Rattle.rbbi_model.specs.Rules.{Rule}
-use Rattle.rbbi_model.specs.Lists.{Member}
-use Rattle.rbbi_model.specs.Chains.{AreTags, IsTagAt, FrontEndsAt}
-use Rattle.rbbi_model.specs.Boundaries.{Boundary, LookAheadEndsAt, IsLookAheadCut, IsLongestMatch, IsSingleCharacter, IsNext, Follow, AreBoundaries, start}
+use Rattle.rbbi_model.specs.Chains.{AreTags, FrontEndsAt}
+use Rattle.rbbi_model.specs.Boundaries.{Boundary, LookAheadEndsAt, IsLookAheadCut, IsLongestMatch, IsNext, Follow, AreBoundaries}
 use Rattle.rbbi_model.proofs.Rising.{rising_same}
 
 module _ (rules : List Rule) (x : List ℕ) where

@@ -1,6 +1,7 @@
 pub mod Words
 pub mod Ranges
 pub mod Lists
+pub mod Places
 pub mod Spelling
 pub mod Rules
 pub mod Chains
@@ -8,3 +9,17 @@ pub mod Boundaries
 pub mod Scripts
 pub mod Lines
 pub mod Unchained
+pub mod Tables
+pub mod SafePairs
+pub mod ValidTables
+pub mod Searches
+pub mod SetTrees
+pub mod Cover
+pub mod Answers
+pub mod Runs
+pub mod LeafSets
+pub mod Marks
+pub mod Compiled
+pub mod Canonical
+pub mod Costs
+pub mod TableFile

@@ -1,9 +1,9 @@
 -- Rules, their words and front words, and the lists of rules that are lawful.
-use Rattle.std.specs.Prelude.{◌≡◌, ◌≢◌, ℕ, ◌+◌, ◌≤◌, Bool, Option, Some, None, List, [], ◌∷◌, ◌++◌, length, filter, sum_by, is_some, slice_get, IsSome, IfSome, MatchOption}
+use Rattle.std.specs.Prelude.{◌≡◌, ◌≢◌, ℕ, ◌+◌, ◌≤◌, Bool, Option, List, [], ◌++◌, length, filter, sum_by, is_some, IsSome, IfSome, MatchOption}
 use Rattle.std.specs.List.{AllByRecursion}
 use Rattle.std.specs.Option.{option_map_or}
-use Rattle.rbbi_model.specs.Words.{IsCharacter, IsSurrogate}
-use Rattle.rbbi_model.specs.Ranges.{Range, Has}
+use Rattle.rbbi_model.specs.Words.{IsCharacter}
+use Rattle.rbbi_model.specs.Ranges.{Has}
 use Rattle.rbbi_model.specs.Spelling.{Tree, Leaf, Empty, Never, Then, Either, Repeat, Spells}
 
 -- A rule has a front, perhaps a rest after the look-ahead sign, a mark whether it may be chained into, perhaps a

@@ -1,5 +1,5 @@
 -- Code points, characters, words and texts.
-use Rattle.std.specs.Prelude.{ℕ, ◌≤◌, ◌<◌, List}
+use Rattle.std.specs.Prelude.{ℕ, ◌≤◌, List}
 use Rattle.std.specs.List.{AllByRecursion}
 
 -- a number from 0 to 0x10FFFF
@@ -25,3 +25,7 @@ IsText x = AllByRecursion IsCharacter x
 -- the most characters that a text may have, also after edits
 abbrev pub most_characters : ℕ
 most_characters = 16777216
+
+-- the greatest code point
+abbrev pub last_code_point : ℕ
+last_code_point = 0x10FFFF
