@@ -6,3 +6,4 @@ pub mod MatchLoops
 pub mod Longest
 pub mod LineLoops
 pub mod Verdicts
+pub mod OneOutcome

@@ -10,4 +10,5 @@ pub fn outcomes_are_unique()
     rbbi_lex::tokens_are_unique();
     rbbi_lex::faults_are_unique();
     rbbi_lex::tokens_exclude_faults();
+    rbbi_tree::at_most_one_reading();
 }
