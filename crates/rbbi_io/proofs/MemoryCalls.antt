@@ -7,7 +7,7 @@ use Rattle.rbbi_io.specs.declared.error.WriteErr.{WriteErr}
 use Rattle.rbbi_io.specs.declared.error.WriteErr.TheVariants as write
 use Rattle.rbbi_io.specs.Counts.{Rose, capped, greatest_count}
 use Rattle.rbbi_io.specs.Answers.{LeavesWritten}
-use Rattle.rbbi_io.specs.Memory.{FilesInMemory, ReadsMemory, WritesMemory, failed_reads_of, failed_writes_of, held_by}
+use Rattle.rbbi_io.specs.Memory.{FilesInMemory, ReadsMemory, WritesMemory, failed_reads_of, failed_writes_of, reads_failed, writes_failed, held_by}
 use Rattle.rbbi_io.proofs.FailedCalls.{failed_reads_of-read, failed_reads_of-other, failed_writes_of-write, failed_writes_of-other}
 use Rattle.rbbi_io.proofs.NamedFiles.{held_by-with_file, held_by-with_other}
 
@@ -19,44 +19,36 @@ Rose-one before now e =
     (λ (h : greatest_count ≤ before). inr (omega (arith, h, e)))
     (cases_lt before greatest_count)
 
--- how often reads of a name failed
-abbrev reads_of : List ℕ → FilesInMemory → ℕ
-reads_of name memory = failed_reads_of memory.failed name
-
--- how often writes of a name failed
-abbrev writes_of : List ℕ → FilesInMemory → ℕ
-writes_of name memory = failed_writes_of memory.failed name
-
 module _ (old new : FilesInMemory) (name : List ℕ) where
   -- a read that failed is counted
-  pub ReadsMemory-failed : (limit : ℕ) (result : Result (List ℕ) ReadErr) → ReadsMemory old name limit result new → result ≡ Err read.Failed → Rose (capped (reads_of name old)) (capped (reads_of name new))
+  pub ReadsMemory-failed : (limit : ℕ) (result : Result (List ℕ) ReadErr) → ReadsMemory old name limit result new → result ≡ Err read.Failed → Rose (reads_failed old name) (reads_failed new name)
   ReadsMemory-failed limit (Ok bytes) h e = cc
   ReadsMemory-failed limit (Err read.Failed) h e =
-      Rose-one (reads_of name old) (reads_of name new) (ap (reads_of name) h.1 ∙ failed_reads_of-read old.failed name)
+      Rose-one (failed_reads_of old.failed name) (failed_reads_of new.failed name) (ap (λ m. failed_reads_of m.failed name) h.1 ∙ failed_reads_of-read old.failed name)
   ReadsMemory-failed limit (Err read.TooLong) h e = cc
   ReadsMemory-failed limit (Err read.Memory) h e = cc
 
   -- no other name's count changes by a read
-  pub ReadsMemory-others : (limit : ℕ) (result : Result (List ℕ) ReadErr) → ReadsMemory old name limit result new → (other : List ℕ) → other ≢ name → capped (reads_of other new) ≡ capped (reads_of other old)
-  ReadsMemory-others limit (Ok bytes) h other ne = ap (λ m. capped (reads_of other m)) h.3
+  pub ReadsMemory-others : (limit : ℕ) (result : Result (List ℕ) ReadErr) → ReadsMemory old name limit result new → (other : List ℕ) → other ≢ name → reads_failed new other ≡ reads_failed old other
+  ReadsMemory-others limit (Ok bytes) h other ne = ap (λ m. reads_failed m other) h.3
   ReadsMemory-others limit (Err read.Failed) h other ne =
-      ap (λ m. capped (reads_of other m)) h.1 ∙ ap capped (failed_reads_of-other old.failed name other ne)
-  ReadsMemory-others limit (Err read.TooLong) h other ne = ap (λ m. capped (reads_of other m)) h.2
-  ReadsMemory-others limit (Err read.Memory) h other ne = ap (λ m. capped (reads_of other m)) h
+      ap (λ m. reads_failed m other) h.1 ∙ ap capped (failed_reads_of-other old.failed name other ne)
+  ReadsMemory-others limit (Err read.TooLong) h other ne = ap (λ m. reads_failed m other) h.2
+  ReadsMemory-others limit (Err read.Memory) h other ne = ap (λ m. reads_failed m other) h
 
   -- a write that failed is counted
-  pub WritesMemory-failed : {T : Type 0} (bytes : List ℕ) (result : Result T WriteErr) → WritesMemory old name bytes result new → result ≡ Err write.Failed → Rose (capped (writes_of name old)) (capped (writes_of name new))
+  pub WritesMemory-failed : {T : Type 0} (bytes : List ℕ) (result : Result T WriteErr) → WritesMemory old name bytes result new → result ≡ Err write.Failed → Rose (writes_failed old name) (writes_failed new name)
   WritesMemory-failed bytes (Ok _) h e = cc
   WritesMemory-failed bytes (Err write.Failed) h e =
-      Rose-one (writes_of name old) (writes_of name new) (ap (writes_of name) h.1 ∙ failed_writes_of-write old.failed name)
+      Rose-one (failed_writes_of old.failed name) (failed_writes_of new.failed name) (ap (λ m. failed_writes_of m.failed name) h.1 ∙ failed_writes_of-write old.failed name)
   WritesMemory-failed bytes (Err write.Memory) h e = cc
 
   -- no other name's count changes by a write
-  pub WritesMemory-others : {T : Type 0} (bytes : List ℕ) (result : Result T WriteErr) → WritesMemory old name bytes result new → (other : List ℕ) → other ≢ name → capped (writes_of other new) ≡ capped (writes_of other old)
-  WritesMemory-others bytes (Ok _) h other ne = ap (λ m. capped (writes_of other m)) h.1
+  pub WritesMemory-others : {T : Type 0} (bytes : List ℕ) (result : Result T WriteErr) → WritesMemory old name bytes result new → (other : List ℕ) → other ≢ name → writes_failed new other ≡ writes_failed old other
+  WritesMemory-others bytes (Ok _) h other ne = ap (λ m. writes_failed m other) h.1
   WritesMemory-others bytes (Err write.Failed) h other ne =
-      ap (λ m. capped (writes_of other m)) h.1 ∙ ap capped (failed_writes_of-other old.failed name other ne)
-  WritesMemory-others bytes (Err write.Memory) h other ne = ap (λ m. capped (writes_of other m)) h
+      ap (λ m. writes_failed m other) h.1 ∙ ap capped (failed_writes_of-other old.failed name other ne)
+  WritesMemory-others bytes (Err write.Memory) h other ne = ap (λ m. writes_failed m other) h
 
   -- what the names hold after a write
   pub WritesMemory-held : {T : Type 0} (bytes : List ℕ) (result : Result T WriteErr) → WritesMemory old name bytes result new → LeavesWritten name bytes result (held_by old.files) (held_by new.files)

@@ -2,6 +2,7 @@
 use Rattle.std.proofs.Common.{◌≡◌, ◌≢◌, ℕ, zero, suc, Bool, true, false, cond, List, [], ◌∷◌, ◌++◌, get_or, set, Some, None, Option, refl, sym, ap, ◌∙◌, arith}
 use Rattle.std.specs.Prelude.{bytes_eq, unwrap_or}
 use Rattle.std.proofs.lemmas.Slice.Eq.{bytes_eq-Decides}
+use Rattle.std.proofs.lemmas.List.{get_or_read}
 use Rattle.rbbi_io.specs.Memory.{file_of, with_file, held_by, IsPlaceOf, IsAbsent}
 
 false_unless : (b : Bool) → ¬ (b ≡ true) → b ≡ false
@@ -50,6 +51,12 @@ with_file-place (file ∷ files) name bytes zero h =
 with_file-place (file ∷ files) name bytes (suc place) h =
     ap (λ b. cond b ((file.0, bytes) ∷ files) (file ∷ with_file files name bytes)) (other_name file.0 name (h.first 0 (omega arith)))
     ∙ ap (λ rest. file ∷ rest) (with_file-place files name bytes place (IsPlaceOf-tail file files name place h))
+
+-- the same, as it is written: the file at the place is read, and its bytes are changed
+pub set-place : (files : List (List ℕ × List ℕ)) (name bytes : List ℕ) (place : ℕ) (file changed : List ℕ × List ℕ) → IsPlaceOf files name place → file ≡ get_or files place file → changed ≡ (file.0, bytes) → set files place changed ≡ with_file files name bytes
+set-place files name bytes place file changed at read change =
+    ap (λ f. set files place f) (change ∙ ap (λ f. (f.0, bytes)) (get_or_read files place file at.within read ([], [])))
+    ∙ sym (with_file-place files name bytes place at)
 
 -- a file of a new name stands at the end
 pub with_file-absent : (files : List (List ℕ × List ℕ)) (name bytes : List ℕ) → IsAbsent files name → with_file files name bytes ≡ files ++ (name, bytes) ∷ []

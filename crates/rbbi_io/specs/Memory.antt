@@ -1,6 +1,6 @@
 -- Files and sinks in memory.
 use Rattle.std.specs.Prelude.{◌≡◌, ◌≢◌, ◌<◌, ◌≤◌, ◌⊎◌, ◌++◌, ℕ, Bool, true, false, List, [], ◌∷◌, length, Option, Some, None, Result, Ok, Err, bytes_eq, if◌then◌else◌, ◌&&◌, unwrap_or, count_by, Contains, slice_index_or}
-use Rattle.rbbi_io.specs.Counts.{one_more}
+use Rattle.rbbi_io.specs.Counts.{capped, one_more}
 use Rattle.rbbi_io.specs.declared.mem_files.CallKind.{CallKind}
 use Rattle.rbbi_io.specs.declared.mem_files.CallKind.TheVariants.{Read, Write}
 use Rattle.rbbi_io.specs.declared.error.ReadErr.{ReadErr}
@@ -61,6 +61,14 @@ failed_reads_of failed name = count_by (λ call. is_read call.1 && bytes_eq call
 -- how many writes of this name failed
 abbrev pub failed_writes_of : List (List ℕ × CallKind) → List ℕ → ℕ
 failed_writes_of failed name = count_by (λ call. is_write call.1 && bytes_eq call.0 name) failed
+
+-- how many reads of each name failed, as far as the count goes
+abbrev pub reads_failed : FilesInMemory → List ℕ → ℕ
+reads_failed memory name = capped (failed_reads_of memory.failed name)
+
+-- how many writes of each name failed, as far as the count goes
+abbrev pub writes_failed : FilesInMemory → List ℕ → ℕ
+writes_failed memory name = capped (failed_writes_of memory.failed name)
 
 -- the next call is one of those that are to fail
 abbrev pub IsToFail : List ℕ → ℕ → Type 0

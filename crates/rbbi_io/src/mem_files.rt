@@ -1,8 +1,8 @@
 //! Files in memory, with calls that fail when they are told to.
 ghost use Rattle.std.specs.Prelude.{◌≡◌, ◌≤◌, ◌↔◌, ◌++◌, [], ◌∷◌, length, IsTrue, OnOk, OnErr, IsErrOf, MatchOption, option_copied};
-ghost use Rattle.rbbi_io.specs.Counts.{capped, Rose, OthersStay};
+ghost use Rattle.rbbi_io.specs.Counts.{Rose, OthersStay};
 ghost use Rattle.rbbi_io.specs.Answers.{LeavesWritten};
-ghost use Rattle.rbbi_io.specs.Memory.{failed_reads_of, failed_writes_of, held_by, file_of, with_file, called, IsAbsent, IsPlaceOf, IsToFail, ReadsMemory, WritesMemory};
+ghost use Rattle.rbbi_io.specs.Memory.{reads_failed, writes_failed, held_by, file_of, with_file, called, IsAbsent, IsPlaceOf, IsToFail, ReadsMemory, WritesMemory};
 
 use crate::{Files, ReadErr, WriteErr};
 use rbbi_text::Raw;
@@ -230,15 +230,14 @@ impl MemFiles {
 
 impl Files for MemFiles {
     ghost use Rattle.std.specs.Prelude.{Some};
-    ghost use Rattle.rbbi_io.specs.Counts.{capped};
-    ghost use Rattle.rbbi_io.specs.Memory.{held_by, failed_reads_of, failed_writes_of};
+    ghost use Rattle.rbbi_io.specs.Memory.{held_by, reads_failed, writes_failed};
     ghost use Rattle.std.proofs.Common.{arith};
 
     ghost contents = { λ memory. Some (held_by memory.files) };
 
-    ghost failed_reads = { λ memory name. capped (failed_reads_of memory.failed name) };
+    ghost failed_reads = { reads_failed };
 
-    ghost failed_writes = { λ memory name. capped (failed_writes_of memory.failed name) };
+    ghost failed_writes = { writes_failed };
 
     ghost reads_fit = { λ memory name. Prim.omega arith };
 
@@ -247,10 +246,8 @@ impl Files for MemFiles {
     fn read(&mut self, alloc: Global, name: &str, limit: u64) -> Result<Raw, ReadErr>
         ensures exact { ReadsMemory self.old name.now limit result self.new }
         ensures failed { IsErrOf result ReadErr.Failed
-            → Rose (capped (failed_reads_of self.old.failed name.now)) (capped (failed_reads_of self.new.failed name.now)) }
-        ensures others { OthersStay name.now
-            (λ other. capped (failed_reads_of self.old.failed other))
-            (λ other. capped (failed_reads_of self.new.failed other)) }
+            → Rose (reads_failed self.old name.now) (reads_failed self.new name.now) }
+        ensures others { OthersStay name.now (reads_failed self.old) (reads_failed self.new) }
     {
         self.read_whole(alloc, name, limit)
     }
@@ -260,10 +257,8 @@ impl Files for MemFiles {
         ensures held { LeavesWritten name.now bytes.now result
             (held_by self.old.files) (held_by self.new.files) }
         ensures failed { IsErrOf result WriteErr.Failed
-            → Rose (capped (failed_writes_of self.old.failed name.now)) (capped (failed_writes_of self.new.failed name.now)) }
-        ensures others { OthersStay name.now
-            (λ other. capped (failed_writes_of self.old.failed other))
-            (λ other. capped (failed_writes_of self.new.failed other)) }
+            → Rose (writes_failed self.old name.now) (writes_failed self.new name.now) }
+        ensures others { OthersStay name.now (writes_failed self.old) (writes_failed self.new) }
     {
         self.write_whole(name, bytes)
     }

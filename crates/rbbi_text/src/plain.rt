@@ -6,6 +6,7 @@ ghost use Rattle.rbbi_text.specs.Answers.{TakesText, ReadsText};
 
 use crate::{Chars, Raw, RawErr, Steps, TextErr};
 use std::alloc::{AllocError, Global};
+use std::fmt;
 use std::marker::Model;
 use std::sync::ledger::Ledger;
 
@@ -16,7 +17,7 @@ const MOST_CHARACTERS: usize = 16_777_216;
 ///
 /// It takes four bytes a character. A character is found in one step, and a change copies all that
 /// stands behind it.
-#[derive(Debug, Drop)]
+#[derive(Drop)]
 pub struct PlainText {
     items: Vec<char>,
 }
@@ -30,6 +31,13 @@ impl Model for PlainText {
     ghost view = { λ text. text.items.items };
 
     ghost invariant = { λ text. IsShortText text.items.items };
+}
+
+/// It writes the type's name and none of the characters, which only `char_at` gives.
+impl fmt::Debug for PlainText {
+    fn fmt<W: fmt::Write>(&self, f: &mut fmt::Formatter<W>) -> fmt::Result {
+        f.write_str("PlainText")
+    }
 }
 
 /// The characters of a string, or nothing where they are more than a text may have.

@@ -2,11 +2,12 @@
 ghost use Rattle.std.specs.Prelude.{◌≡◌, ◌+◌, length};
 
 use crate::Steps;
+use std::fmt;
 use std::marker::Model;
 use std::sync::ledger::Ledger;
 
 /// The bytes of a file. Contracts see it as their list. Outside of this crate only `bytes` gives them.
-#[derive(Debug, Drop)]
+#[derive(Drop)]
 pub struct Raw {
     bytes: Vec<u8>,
 }
@@ -17,6 +18,13 @@ impl Model for Raw {
     ghost Value = { List ℕ };
 
     ghost view = { λ raw. raw.bytes.items };
+}
+
+/// It writes the type's name and none of the bytes, which only `bytes` gives.
+impl fmt::Debug for Raw {
+    fn fmt<W: fmt::Write>(&self, f: &mut fmt::Formatter<W>) -> fmt::Result {
+        f.write_str("Raw")
+    }
 }
 
 impl Raw {

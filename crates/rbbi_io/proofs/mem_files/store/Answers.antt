@@ -1,7 +1,6 @@
-use Rattle.std.proofs.Common.{List, ℕ, [], ◌∷◌, ◌++◌, set, ◌∙◌, ap, sym, subst}
-use Rattle.std.proofs.lemmas.List.{get_or_read}
+use Rattle.std.proofs.Common.{List, ℕ, [], ◌∷◌, ◌++◌, ◌∙◌, ap, sym, subst}
 use Rattle.rbbi_io.specs.Memory.{IsPlaceOf, IsAbsent}
-use Rattle.rbbi_io.proofs.NamedFiles.{with_file-place, with_file-absent}
+use Rattle.rbbi_io.proofs.NamedFiles.{set-place, with_file-absent}
 use Rattle.rbbi_io.proofs.mem_files.store.Goals as goal
 
 -- in the place of an older file
@@ -12,9 +11,7 @@ returns-in-Some-clause-ok c =
     let bytes = c.args.bytes.items in
     let place = c.in-Some.place in
     let at : IsPlaceOf files name place = subst (λ (fs : List (List ℕ × List ℕ)). IsPlaceOf fs name place) c.as_slice.ensures.value c.in-Some.ensures in
-    ap (λ (f : List ℕ × List ℕ). set files place f)
-    (c.replace.ensures ∙ ap (λ (f : List ℕ × List ℕ). (f.0, bytes)) (get_or_read files place c.index_mut.result.now at.within c.index_mut.ensures.value ([], [])))
-    ∙ sym (with_file-place files name bytes place at)
+    set-place files name bytes place c.index_mut.result.now c.replace.new.self at c.index_mut.ensures.value c.replace.ensures
 
 -- at the end
 pub returns-in_ok-push-in-None-clause-ok : goal.returns-in_ok-push-in-None-clause-ok
