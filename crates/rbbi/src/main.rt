@@ -1,0 +1,46 @@
+//! The program `rbbi`: the top call over the system's files and its standard output.
+#![tactic(auto)]
+
+ghost use Rattle.std.specs.Prelude.{◌≡◌, ◌<◌};
+
+use rbbi_io::{RealFiles, RealSink};
+use rbbi_text::Steps;
+use rbbi_tool::rbbi;
+use std::alloc::Global;
+use std::env;
+use std::io;
+use std::io::ErrorKind;
+use std::marker::Brand;
+use std::process::ExitCode;
+use std::rt::{Env, Files};
+use std::sync::ledger::{Blank, Ledger};
+
+/// The words after the program's name.
+fn words<R: Env + AllocGlobal>(rt: &R) -> io::Result<Vec<String>> {
+    let mut words = Vec::new(rt.alloc());
+    for word in env::args(rt)?.skip(1) {
+        words.push(word)?;
+    }
+    Ok(words)
+}
+
+/// Runs the top call with a counter of its own. It counts nothing at run time.
+fn run<R: Files + Print + AllocGlobal, L: Ledger>(rt: &R, words: &Vec<String>, blank: Blank) -> u8
+    requires name { blank.name ≡ L.name }
+    requires parts { blank.parts ≡ L.parts }
+    requires some { 0 < blank.parts }
+{
+    let mut files = RealFiles::new(rt);
+    let mut out = RealSink::new(io::writer(rt));
+    let mut steps = Steps::<L>::new(blank);
+    rbbi(rt.alloc(), words, &mut files, &mut out, &mut steps)
+}
+
+fn main(rt: HostRuntime) -> ExitCode {
+    let status = match words(&rt) {
+        Ok(words) => run::<HostRuntime, Brand>(&rt, &words, Blank::new(1)),
+        Err(fault) if fault.kind() == ErrorKind::OutOfMemory => 8,
+        Err(_) => 9,
+    };
+    ExitCode::from(status)
+}
