@@ -30,7 +30,7 @@ lines_turn places lines first second i place all inside is so_far pushed pushed'
     let line : List ℕ = 32 ∷ 48 ∷ 10 ∷ [] in
     let whole : second ≡ lines ++ (decimal place ++ line) = pushed' ∙ ap (λ w. w ++ line) pushed ∙ append_assoc lines (decimal place) line in
     let next : boundary_lines (plain_boundaries (drop i places)) ≡ (decimal place ++ line) ++ rest =
-        ap (λ w. boundary_lines (plain_boundaries w)) (drop_more places i 0 inside ∙ ap (λ p. p ∷ drop (i + 1) places) (sym is)) ∙ ap (λ w. w ++ rest) (plain_line place) in
+    ap (λ w. boundary_lines (plain_boundaries w)) (drop_more places i 0 inside ∙ ap (λ p. p ∷ drop (i + 1) places) (sym is)) ∙ ap (λ w. w ++ rest) (plain_line place) in
     ap (λ w. w ++ rest) whole ∙ append_assoc lines (decimal place ++ line) rest ∙ ap (λ w. lines ++ w) (sym next) ∙ so_far
 
 -- a rule among statements

@@ -9,6 +9,8 @@ mod lines;
 mod matcher;
 mod rule_file;
 mod run;
+#[cfg(test)]
+mod tests;
 mod words;
 
 pub use laws::outcomes_are_unique;
