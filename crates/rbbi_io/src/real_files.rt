@@ -7,12 +7,13 @@ use std::alloc::{AllocError, Global};
 use std::fs::File;
 use std::io;
 use std::io::{ErrorKind, Read, Write};
+use std::marker::Model;
 
 /// How many bytes are asked for at once, at most.
 const BLOCK: usize = 262_144;
 
 /// The files of the system. They do not tell what they hold, and keep one count for the failed reads
-/// of all names and one for the failed writes.
+/// of all names and one for the failed writes. Contracts see these two counts.
 #[derive(Drop)]
 pub struct RealFiles<'a, R> {
     rt: &'a R,
@@ -20,9 +21,19 @@ pub struct RealFiles<'a, R> {
     failed_writes: u64,
 }
 
+impl<'a, R> Model for RealFiles<'a, R> {
+    ghost use Rattle.rbbi_io.specs.Counts.{FaultCounts};
+
+    ghost Value = { FaultCounts };
+
+    ghost view = { λ files. record { reads = files.failed_reads; writes = files.failed_writes } };
+}
+
 impl<'a, R: std::rt::Files> RealFiles<'a, R> {
     /// The files of this runtime, with no fault so far.
-    pub fn new(rt: &'a R) -> RealFiles<'a, R> {
+    pub fn new(rt: &'a R) -> RealFiles<'a, R>
+        ensures { result ≡ record { reads = 0; writes = 0 } }
+    {
         RealFiles {
             rt,
             failed_reads: 0,
@@ -122,13 +133,13 @@ impl<'a, R: std::rt::Files> Files for RealFiles<'a, R> {
 
     ghost contents = { λ _. None };
 
-    ghost failed_reads = { λ files _. capped files.failed_reads };
+    ghost failed_reads = { λ counts _. capped counts.reads };
 
-    ghost failed_writes = { λ files _. capped files.failed_writes };
+    ghost failed_writes = { λ counts _. capped counts.writes };
 
-    ghost reads_fit = { λ files name. Prim.omega arith };
+    ghost reads_fit = { λ counts name. Prim.omega arith };
 
-    ghost writes_fit = { λ files name. Prim.omega arith };
+    ghost writes_fit = { λ counts name. Prim.omega arith };
 
     fn read(&mut self, alloc: Global, name: &str, limit: u64) -> Result<Raw, ReadErr> {
         let outcome = read_file(alloc, self.rt, name, limit);

@@ -1,19 +1,31 @@
 //! A writer as a sink: an edge that is trusted, a few lines over std's writers.
-ghost use Rattle.std.specs.Prelude.{◌<◌, ◌≤◌, length, IfOk};
+ghost use Rattle.std.specs.Prelude.{◌≡◌, ◌<◌, ◌≤◌, length, IfOk};
 
 use crate::{Sink, WriteErr};
 use std::io::{ErrorKind, Write};
+use std::marker::Model;
 
-/// A writer as a sink, as the standard output. It does not tell what it took.
+/// A writer as a sink, as the standard output. It does not tell what it took. Contracts see its count
+/// of faults.
 #[derive(Drop)]
 pub struct RealSink<W> {
     out: W,
     faults: u64,
 }
 
+impl<W> Model for RealSink<W> {
+    ghost use Rattle.std.specs.Prelude.{ℕ};
+
+    ghost Value = { ℕ };
+
+    ghost view = { λ sink. sink.faults };
+}
+
 impl<W: Write> RealSink<W> {
     /// A sink over this writer, with no fault so far.
-    pub fn new(out: W) -> RealSink<W> {
+    pub fn new(out: W) -> RealSink<W>
+        ensures { result ≡ 0 }
+    {
         RealSink { out, faults: 0 }
     }
 }
@@ -44,7 +56,7 @@ impl<W: Write> Sink for RealSink<W> {
 
     ghost taken = { λ _. None };
 
-    ghost faults = { λ sink. capped sink.faults };
+    ghost faults = { capped };
 
     ghost faults_fit = { λ sink. Prim.omega arith };
 
