@@ -46,7 +46,7 @@ covers-none [] c h = refl
 covers-none (x ∷ xs) c h =
     let rest : covers xs c ≡ false = covers-none xs c (λ k d l. h (suc k) d (omega arith)) in
     elim (h 0 x (omega arith)) [
-        inl below ↦ ap (λ b. b || covers xs c) (is_between-below x.low x.high c below) ∙ rest
+      | inl below ↦ ap (λ b. b || covers xs c) (is_between-below x.low x.high c below) ∙ rest
       | inr above ↦ ap (λ b. b || covers xs c) (is_between-above x.low x.high c above) ∙ rest
     ]
 

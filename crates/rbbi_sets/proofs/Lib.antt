@@ -3,3 +3,7 @@ pub mod Rise
 pub mod Joining
 pub mod Places
 pub mod Sweeping
+pub mod Meanings
+pub mod Determined
+pub mod Sorting
+pub mod Search

@@ -20,20 +20,21 @@ covers-gap xs at next c d r h n l g = covers-none xs c outside where
   outside : (k : ℕ) (e : Range) → k < length xs → (c < (get_or xs k e).low) ⊎ ((get_or xs k e).high < c)
   outside k e m =
       elim (cases_order k next) [
-          inl same ↦ inl (omega (arith, ap (λ (x : Range). x.low) (read k e same)))
+        | inl same ↦ inl (omega (arith, ap (λ (x : Range). x.low) (read k e same)))
         | inr other ↦ elim other [
-              inl before ↦ inr (omega (arith, h.0 k e (omega arith) before))
-            | inr after ↦
-                let inside = rising-range 0 xs r next e n in
-                let same : (get_or xs next e).low ≡ (get_or xs next d).low = ap (λ (x : Range). x.low) (default e) in
-                inl (omega (arith, rising-apart 0 xs r next k e after m, inside.0, same))
-          ]
+          | inl before ↦ inr (omega (arith, h.0 k e (omega arith) before))
+          | inr after ↦
+              let inside = rising-range 0 xs r next e n in
+              let same : (get_or xs next e).low ≡ (get_or xs next d).low = ap (λ (x : Range). x.low) (default e) in
+              inl (omega (arith, rising-apart 0 xs r next k e after m, inside.0, same))
+        ]
       ]
     where
-    default : (e : Range) → get_or xs next e ≡ get_or xs next d
-    default e = get_or_default xs next e d n
-    read : (k : ℕ) (e : Range) → k ≡ next → get_or xs k e ≡ get_or xs next d
-    read k e same = ap (λ i. get_or xs i e) same ∙ default e
+      default : (e : Range) → get_or xs next e ≡ get_or xs next d
+      default e = get_or_default xs next e d n
+
+      read : (k : ℕ) (e : Range) → k ≡ next → get_or xs k e ≡ get_or xs next d
+      read k e same = ap (λ i. get_or xs i e) same ∙ default e
 
 -- the next range still ends at a later code point or past it
 pub next_stays : (xs : List Range) (at next : ℕ) (d : Range) → AreRising xs → AllWithin (λ (range : Range). range.high < at) xs 0 next → next < length xs → at ≤ (get_or xs next d).high → IsNextRange xs at next
@@ -41,7 +42,7 @@ next_stays xs at next d r h n l = (h, later) where
   later : (k : ℕ) (e : Range) → next ≤ k → k < length xs → at ≤ (get_or xs k e).high
   later k e m b =
       elim (cases_eq k next) [
-          inl same ↦ subst (λ (x : Range). at ≤ x.high) (sym (ap (λ i. get_or xs i e) same ∙ get_or_default xs next e d n)) l
+        | inl same ↦ subst (λ (x : Range). at ≤ x.high) (sym (ap (λ i. get_or xs i e) same ∙ get_or_default xs next e d n)) l
         | inr other ↦
             let inside = rising-range 0 xs r k e b in
             let first : (get_or xs next e).high ≡ (get_or xs next d).high = ap (λ (x : Range). x.high) (get_or_default xs next e d n) in
@@ -54,9 +55,10 @@ next_moves xs at next d r h n l m = (ended, later) where
   ended : (k : ℕ) (e : Range) → 0 ≤ k → k < next + 1 → (get_or xs k e).high < at
   ended k e z b =
       elim (cases_eq k next) [
-          inl same ↦ subst (λ (x : Range). x.high < at) (sym (ap (λ i. get_or xs i e) same ∙ get_or_default xs next e d n)) l
+        | inl same ↦ subst (λ (x : Range). x.high < at) (sym (ap (λ i. get_or xs i e) same ∙ get_or_default xs next e d n)) l
         | inr other ↦ h k e z (omega arith)
       ]
+
   later : (k : ℕ) (e : Range) → next + 1 ≤ k → k < length xs → at ≤ (get_or xs k e).high
   later k e a b =
       let inside = rising-range 0 xs r k e b in

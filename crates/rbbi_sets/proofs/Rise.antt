@@ -85,5 +85,5 @@ or_absorbed false false h = refl
 pub covers-inside : (xs : List Range) (k : ℕ) (d : Range) (low high c : ℕ) → k < length xs → (get_or xs k d).low ≤ low → high ≤ (get_or xs k d).high → covers xs c ≡ (covers xs c || is_between low high c)
 covers-inside xs k d low high c l a b =
     or_absorbed _ _ (λ t.
-        let inside : (low ≤ c) × (c ≤ high) = (Decides-is_between low high c).0 t in
-        covers-at xs k d c l (omega (arith, inside.0)) (omega (arith, inside.1)))
+    let inside : (low ≤ c) × (c ≤ high) = (Decides-is_between low high c).0 t in
+    covers-at xs k d c l (omega (arith, inside.0)) (omega (arith, inside.1)))

@@ -73,21 +73,21 @@ IsSwept-more operation left right kept more next_left next_right after_left afte
       ∙ h.above c (omega arith);
 }
   where
-  below : (c : ℕ) → c < end → covers more c ≡ keeps operation (covers left c) (covers right c)
-  below c l =
-      elim (cases_lt c at) [
-          inl before ↦
-            joins.members c
-            ∙ or-false (covers kept c) _ (and-false is_kept _ (is_between-below at (end - 1) c before))
-            ∙ h.below c before
-        | inr from ↦
-            joins.members c
-            ∙ ap (λ b. b || (is_kept && is_between at (end - 1) c)) (h.above c from)
-            ∙ and-true is_kept _ (is_between-true at (end - 1) c from (omega arith))
-            ∙ kept_is
-            ∙ ap (λ b. keeps operation b in_right) (sym (same_left c from l))
-            ∙ ap (λ b. keeps operation (covers left c) b) (sym (same_right c from l))
-      ]
+    below : (c : ℕ) → c < end → covers more c ≡ keeps operation (covers left c) (covers right c)
+    below c l =
+        elim (cases_lt c at) [
+          | inl before ↦
+              joins.members c
+              ∙ or-false (covers kept c) _ (and-false is_kept _ (is_between-below at (end - 1) c before))
+              ∙ h.below c before
+          | inr from ↦
+              joins.members c
+              ∙ ap (λ b. b || (is_kept && is_between at (end - 1) c)) (h.above c from)
+              ∙ and-true is_kept _ (is_between-true at (end - 1) c from (omega arith))
+              ∙ kept_is
+              ∙ ap (λ b. keeps operation b in_right) (sym (same_left c from l))
+              ∙ ap (λ b. keeps operation (covers left c) b) (sym (same_right c from l))
+        ]
 
 keeps_nothing : (operation : Operation) → keeps operation false false ≡ false
 keeps_nothing Union = refl
@@ -97,7 +97,7 @@ keeps_nothing Minus = refl
 pub IsSwept-all : (operation : Operation) (left right kept : List Range) (next_left next_right at : ℕ) → IsSwept operation left right kept next_left next_right at → length left ≤ next_left → length right ≤ next_right → (c : ℕ) → covers kept c ≡ keeps operation (covers left c) (covers right c)
 IsSwept-all operation left right kept next_left next_right at h l r c =
     elim (cases_lt c at) [
-        inl before ↦ h.below c before
+      | inl before ↦ h.below c before
       | inr from ↦
           let no_left : covers left c ≡ false = covers-past left at next_left c h.left_place (omega (arith, h.left_within)) from in
           let no_right : covers right c ≡ false = covers-past right at next_right c h.right_place (omega (arith, h.right_within)) from in

@@ -9,11 +9,7 @@ use std::alloc::AllocError;
 
 /// Adds the code points from `low` to `high` at the end. A last range that overlaps or touches them
 /// takes them in.
-pub(crate) fn join_last(
-    ranges: &mut Vec<CodeRange>,
-    low: u32,
-    high: u32,
-) -> Result<(), AllocError>
+pub(crate) fn join_last(ranges: &mut Vec<CodeRange>, low: u32, high: u32) -> Result<(), AllocError>
     requires range { low ≤ high }
     requires code_points { high ≤ 0x10FFFF }
     requires rising { AreRising ranges.old.items }

@@ -5,5 +5,4 @@ ghost use Rattle.rbbi_sets.specs.Laws.{MembersDetermine};
 /// determined by what its contract says of the members.
 pub fn members_determine()
     ensures { MembersDetermine }
-{
-}
+{}

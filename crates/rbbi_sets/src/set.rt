@@ -24,7 +24,7 @@ const SURROGATES: [CodeRange; 1] = [CodeRange {
 
 /// A set of code points. Contracts see it as its list of ranges, which rise and neither overlap nor
 /// touch.
-#[derive(Debug, Drop)]
+#[derive(Clone, Debug, Drop)]
 pub struct CodeSet {
     ranges: Vec<CodeRange>,
 }
@@ -72,8 +72,7 @@ impl CodeSet {
         let mut sorted = ranges;
         sorted.sort_unstable_by_key(|range| range.low);
         let mut joined = Vec::new(alloc);
-        'ranges: for index in 0..sorted.len() {
-            let range = sorted[index];
+        for range in &sorted {
             join_last(&mut joined, range.low, range.high)?;
         }
         Ok(CodeSet { ranges: joined })

@@ -35,9 +35,9 @@ pub returns-then-at-range-clause-short : goal.returns-then-at-range-clause-short
 returns-then-at-range-clause-short c =
     let read = ap (λ (r : Range). r.low) (c.range.view_is ∙ c.index-ranges-next.is) in
     λ d l.
-        let inside = rising-range 0 c.args.ranges.now c.requires.rising c.args.next d l in
-        let same = ap (λ (r : Range). r.low) (get_or_default c.args.ranges.now c.args.next c.index-ranges-next.result d l) in
-        omega (arith, read, inside.0, same)
+    let inside = rising-range 0 c.args.ranges.now c.requires.rising c.args.next d l in
+    let same = ap (λ (r : Range). r.low) (get_or_default c.args.ranges.now c.args.next c.index-ranges-next.result d l) in
+    omega (arith, read, inside.0, same)
 
 pub returns-else-at-range-clause-bound : goal.returns-else-at-range-clause-bound
 returns-else-at-range-clause-bound c =

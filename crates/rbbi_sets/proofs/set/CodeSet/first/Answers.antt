@@ -1,11 +1,12 @@
-use Rattle.std.proofs.Common.{rules, ◌≡◌, ◌≤◌, ◌↔◌, ◌⊎◌, ◌∷◌, [], ℕ, IfOk, IfSome, IsNone, IsTrue, ◌+◌, ◌-◌, ◌*◌, ◌<◌, length, ◌/◌, ◌%◌, Bool, true, false, nat_eq, nat_lt, List, ◌++◌, slice_index_or, slice_set, bit_and, bit_or, Fits, w8, w32, w64, Bor, MutBor}
-use Rattle.std.specs.List.{All}
-use Rattle.rbbi_model.specs.Words.{IsSurrogate}
-use Rattle.rbbi_model.specs.Ranges.{Has}
-use Rattle.rbbi_sets.specs.Rising.{AreRising, IsRange}
-use Rattle.rbbi_sets.specs.Covers.{covers}
+-- The first range's first code point is the least member.
+use Rattle.std.proofs.Common.{◌≤◌, ap, sym, subst, ◌∙◌, arith}
+use Rattle.rbbi_model.specs.Ranges.{Range, Has}
+use Rattle.rbbi_sets.proofs.Meanings.{first_is_least}
 use Rattle.rbbi_sets.proofs.set.CodeSet.first.Goals as goal
 
--- src/set.rt:141:5
 pub returns-clause-least : goal.returns-clause-least
-returns-clause-least c = ?
+returns-clause-least c =
+    let read = ap (λ (r : Range). r.low) (c.range.view_is ∙ c.index-range.ensures) in
+    λ code h.
+    let least = first_is_least c.self.inside.ranges.items c.index-range.result.now code c.self.invariant (rw c.self.view_is h) in
+    omega (arith, read, least)

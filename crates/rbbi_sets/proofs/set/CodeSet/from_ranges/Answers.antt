@@ -1,43 +1,54 @@
-use Rattle.std.proofs.Common.{rules, ◌≡◌, ◌≤◌, ◌↔◌, ◌⊎◌, ◌∷◌, [], ℕ, IfOk, IfSome, IsNone, IsTrue, ◌+◌, ◌-◌, ◌*◌, ◌<◌, length, ◌/◌, ◌%◌, Bool, true, false, nat_eq, nat_lt, List, ◌++◌, slice_index_or, slice_set, bit_and, bit_or, Fits, w8, w32, w64, Bor, MutBor}
+-- The sorted ranges are the given ones in another order, and each is joined in turn.
+use Rattle.std.proofs.Common.{◌≡◌, ◌+◌, ◌≤◌, ◌<◌, length, get_or, take, ap, sym, subst, ◌∙◌, arith, rules}
 use Rattle.std.specs.List.{All}
-use Rattle.rbbi_model.specs.Words.{IsSurrogate}
-use Rattle.rbbi_model.specs.Ranges.{Has}
-use Rattle.rbbi_sets.specs.Rising.{AreRising, IsRange}
+use Rattle.std.specs.List.Sorted.{IsNonDecreasingBy}
+use Rattle.std.proofs.lemmas.List.{take_all}
+use Rattle.std.proofs.lemmas.List.Elements.{All-get_or}
+use Rattle.std.proofs.lemmas.List.Sorted.{All-permutation, IsNonDecreasingBy-from_sort_by_key}
+use Rattle.rbbi_model.specs.Ranges.{Range, Has}
 use Rattle.rbbi_sets.specs.Covers.{covers}
+use Rattle.rbbi_sets.specs.Rising.{IsRange}
+use Rattle.rbbi_sets.proofs.Meanings.{same_members}
+use Rattle.rbbi_sets.proofs.Sorting.{IsJoined-more, permuted_members}
 use Rattle.rbbi_sets.proofs.set.CodeSet.from_ranges.Goals as goal
 
--- src/set.rt:75:9
-pub ranges-2-init : goal.ranges-2-init
-ranges-2-init c = ?
-
--- src/set.rt:77:13
 pub join_last-requires-clause-range : goal.join_last-requires-clause-range
-join_last-requires-clause-range c = ?
+join_last-requires-clause-range c =
+    let sorted = c.sort_unstable_by_key.new.self.items in
+    let all : All IsRange sorted = All-permutation IsRange c.args.ranges.items sorted c.sort_unstable_by_key.ensures.permutation c.requires in
+    let items = c.deref-range-items.ensures.value in
+    let i = c.loop-range.range-index in
+    let here = rw items at c.range-item.is in
+    let low = ap (λ (r : Range). r.low) (c.range.view_is ∙ here) in
+    let high = ap (λ (r : Range). r.high) (c.range.view_is ∙ here) in
+    omega (arith, low, high, (all i c.range-item.result (omega (arith, ap length items))).0)
 
--- src/set.rt:77:13
 pub join_last-requires-clause-code_points : goal.join_last-requires-clause-code_points
-join_last-requires-clause-code_points c = ?
+join_last-requires-clause-code_points c =
+    let sorted = c.sort_unstable_by_key.new.self.items in
+    let all : All IsRange sorted = All-permutation IsRange c.args.ranges.items sorted c.sort_unstable_by_key.ensures.permutation c.requires in
+    let items = c.deref-range-items.ensures.value in
+    let i = c.loop-range.range-index in
+    let here = rw items at c.range-item.is in
+    let high = ap (λ (r : Range). r.high) (c.range.view_is ∙ here) in
+    omega (arith, high, (all i c.range-item.result (omega (arith, ap length items))).1)
 
--- src/set.rt:77:13
-pub join_last-requires-clause-rising : goal.join_last-requires-clause-rising
-join_last-requires-clause-rising c = ?
+pub loop-range-preserved : goal.loop-range-preserved
+loop-range-preserved c =
+    let sorted = c.sort_unstable_by_key.new.self.items in
+    let up : IsNonDecreasingBy (λ (r : Range). r.low) sorted =
+    IsNonDecreasingBy-from_sort_by_key (λ (r : Range). r.low) sorted c.sort_unstable_by_key.ensures.sorted (λ a r q k. search rules) in
+    let items = c.deref-range-items.ensures.value in
+    let low = ap (λ (r : Range). r.low) (c.range.view_is ∙ c.range-item.is) in
+    let high = ap (λ (r : Range). r.high) (c.range.view_is ∙ c.range-item.is) in
+    IsJoined-more c.deref-range-items.result.now c.loop-range.joined.items c.join_last.new.ranges.items c.loop-range.range-index c.range-item.result c.range.inside.low c.range.inside.high
+    (rw items up) (omega arith) low high c.loop-range.invariant c.in_ok-join_last.ensures
 
--- src/set.rt:77:13
-pub join_last-requires-clause-begin : goal.join_last-requires-clause-begin
-join_last-requires-clause-begin c = ?
-
--- src/set.rt:75:9
-pub ranges-2-preserved : goal.ranges-2-preserved
-ranges-2-preserved c = ?
-
--- src/set.rt:79:9
-pub invariant_of-result : goal.invariant_of-result
-invariant_of-result c = ?
-
--- src/set.rt:67:5
 pub returns-clause-members : goal.returns-clause-members
-returns-clause-members c = ?
-
--- src/set.rt:67:5
-pub returns-clause-form : goal.returns-clause-form
-returns-clause-form c = ?
+returns-clause-members c = λ code.
+    let sorted = c.sort_unstable_by_key.new.self.items in
+    let items = c.deref-range-items.ensures.value in
+    let whole = take_all c.loop-range.range-index c.deref-range-items.result.now (omega arith) ∙ items in
+    let joined = same_members c.loop-range.joined.items sorted code (c.loop-range.invariant.members code ∙ ap (λ ranges. covers ranges code) whole) in
+    let moved = permuted_members c.args.ranges.items sorted code c.sort_unstable_by_key.ensures.permutation in
+    (λ h. moved.0 (joined.0 h), λ h. joined.1 (moved.1 h))
