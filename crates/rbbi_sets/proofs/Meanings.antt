@@ -1,7 +1,7 @@
 -- What the members of a set are, from what its list of ranges covers.
-use Rattle.std.proofs.Common.{◌≡◌, ℕ, ◌+◌, ◌<◌, ◌≤◌, Bool, true, false, not, ◌&&◌, ◌||◌, List, [], ◌∷◌, length, get_or, refl, sym, ◌∙◌, inl, inr, arith, ◌⊎◌, ◌↔◌, Decides}
+use Rattle.std.proofs.Common.{◌≡◌, ℕ, ◌+◌, ◌≤◌, Bool, not, ◌&&◌, ◌||◌, List, [], ◌∷◌, get_or, sym, ◌∙◌, inl, inr, arith, ◌⊎◌, ◌↔◌, Decides}
 use Rattle.std.proofs.lemmas.Bool.Decides.{Decides-and, Decides-or, Decides-not}
-use Rattle.rbbi_model.specs.Ranges.{Range, InRange, Has}
+use Rattle.rbbi_model.specs.Ranges.{Range, Has}
 use Rattle.rbbi_sets.specs.Covers.{covers}
 use Rattle.rbbi_sets.specs.Rising.{AreRisingFrom, AreRising}
 use Rattle.rbbi_sets.proofs.Coverage.{Decides-covers}

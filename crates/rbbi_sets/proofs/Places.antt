@@ -1,12 +1,12 @@
 -- What the number of the first range that doesn't end before a code point tells.
-use Rattle.std.proofs.Common.{◌≡◌, ℕ, ◌+◌, ◌<◌, ◌≤◌, Bool, true, false, List, [], ◌∷◌, length, get_or, refl, ap, sym, ◌∙◌, subst, inl, inr, arith, ◌⊎◌}
+use Rattle.std.proofs.Common.{◌≡◌, ℕ, ◌+◌, ◌<◌, ◌≤◌, false, List, length, get_or, ap, sym, ◌∙◌, subst, inl, inr, arith, ◌⊎◌}
 use Rattle.std.specs.List.{AllWithin}
 use Rattle.std.proofs.lemmas.Bool.{cases_order, cases_eq}
 use Rattle.std.proofs.lemmas.List.{get_or_default}
 use Rattle.rbbi_model.specs.Ranges.{Range}
 use Rattle.rbbi_sets.specs.Covers.{covers}
 use Rattle.rbbi_sets.specs.Rising.{AreRising, IsNextRange}
-use Rattle.rbbi_sets.proofs.Coverage.{covers-none, covers-at}
+use Rattle.rbbi_sets.proofs.Coverage.{covers-none}
 use Rattle.rbbi_sets.proofs.Rise.{rising-range, rising-apart}
 
 -- where all ranges end before

@@ -1,12 +1,11 @@
 -- Lists of ranges that rise, and neither overlap nor touch.
-use Rattle.std.proofs.Common.{◌≡◌, ℕ, ◌+◌, ◌-◌, ◌<◌, ◌≤◌, suc, zero, Bool, true, false, ◌&&◌, ◌||◌, List, [], ◌∷◌, ◌++◌, length, get_or, set, take, refl, ap, sym, ◌∙◌, subst, inl, inr, arith, ◌⊎◌, ◌↔◌}
-use Rattle.std.proofs.lemmas.Bool.{cases_lt, cases_Bool, or_right}
+use Rattle.std.proofs.Common.{◌≡◌, ℕ, ◌+◌, ◌<◌, ◌≤◌, suc, zero, Bool, true, false, ◌||◌, List, [], ◌∷◌, ◌++◌, length, get_or, set, take, refl, ap, sym, ◌∙◌, arith}
 use Rattle.std.proofs.lemmas.List.{set_split, drop_all, take_more, take_all}
-use Rattle.std.proofs.lemmas.Bool.Decides.{nat_tests, same_from_decides}
-use Rattle.rbbi_model.specs.Ranges.{Range, InRange, Has}
+use Rattle.std.proofs.lemmas.Bool.Decides.{nat_tests}
+use Rattle.rbbi_model.specs.Ranges.{Range}
 use Rattle.rbbi_sets.specs.Covers.{is_between, covers}
-use Rattle.rbbi_sets.specs.Rising.{AreRisingFrom, AreRising, BeginUpTo}
-use Rattle.rbbi_sets.proofs.Coverage.{is_between-true, Decides-is_between, covers-at, covers-none, covers-append, covers-push}
+use Rattle.rbbi_sets.specs.Rising.{AreRisingFrom, BeginUpTo}
+use Rattle.rbbi_sets.proofs.Coverage.{Decides-is_between, covers-at, covers-push}
 
 pub rising-bound : (bound : ℕ) (xs : List Range) → AreRisingFrom bound xs → (k : ℕ) (d : Range) → k < length xs → bound ≤ (get_or xs k d).low
 rising-bound bound [] h k d l = absurd (omega arith)

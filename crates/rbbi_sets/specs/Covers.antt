@@ -1,5 +1,5 @@
 -- Membership in a list of ranges, as a test that computes.
-use Rattle.std.specs.Prelude.{◌≡◌, ℕ, Bool, false, ◌&&◌, ◌||◌, nat_le, List, [], ◌∷◌}
+use Rattle.std.specs.Prelude.{ℕ, Bool, false, ◌&&◌, ◌||◌, nat_le, List, [], ◌∷◌}
 use Rattle.rbbi_model.specs.Ranges.{Range}
 
 -- whether the code point lies from one to another, both counted

@@ -1,9 +1,7 @@
 -- Each return by its case, and that the last range's end is a code point.
-use Rattle.std.proofs.Common.{◌≡◌, ◌+◌, ◌-◌, ◌≤◌, length, get_or, ap, sym, ◌∙◌, subst, arith, rules}
+use Rattle.std.proofs.Common.{◌≡◌, ◌-◌, get_or, ap, ◌∙◌, arith}
 use Rattle.std.proofs.lemmas.List.{nil_from_length}
 use Rattle.rbbi_model.specs.Ranges.{Range}
-use Rattle.rbbi_sets.specs.Covers.{is_between}
-use Rattle.rbbi_sets.specs.Joins.{Joins}
 use Rattle.rbbi_sets.proofs.Rise.{rising-range}
 use Rattle.rbbi_sets.proofs.Joining.{Joins-first, Joins-push, Joins-joined, Joins-inside}
 use Rattle.rbbi_sets.proofs.join.join_last.Goals as goal

@@ -1,5 +1,5 @@
 -- The next range stays or moves by one.
-use Rattle.std.proofs.Common.{◌≡◌, ◌+◌, ◌<◌, ◌≤◌, length, slice_index_or, ap, ◌∙◌, arith}
+use Rattle.std.proofs.Common.{◌≡◌, ◌<◌, length, slice_index_or, ap, ◌∙◌, arith}
 use Rattle.rbbi_model.specs.Ranges.{Range}
 use Rattle.rbbi_sets.proofs.Places.{next_stays, next_moves}
 use Rattle.rbbi_sets.proofs.sweep.skip_ended.Goals as goal

@@ -1,5 +1,5 @@
 -- A step of the sweep, and its end.
-use Rattle.std.proofs.Common.{◌<◌, length, arith}
+use Rattle.std.proofs.Common.{arith}
 use Rattle.rbbi_sets.proofs.Places.{code_point_left}
 use Rattle.rbbi_sets.proofs.Sweeping.{IsSwept-more, IsSwept-all}
 use Rattle.rbbi_sets.proofs.sweep.sweep.Goals as goal

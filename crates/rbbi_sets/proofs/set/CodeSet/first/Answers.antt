@@ -1,6 +1,6 @@
 -- The first range's first code point is the least member.
-use Rattle.std.proofs.Common.{◌≤◌, ap, sym, subst, ◌∙◌, arith}
-use Rattle.rbbi_model.specs.Ranges.{Range, Has}
+use Rattle.std.proofs.Common.{ap, ◌∙◌, arith}
+use Rattle.rbbi_model.specs.Ranges.{Range}
 use Rattle.rbbi_sets.proofs.Meanings.{first_is_least}
 use Rattle.rbbi_sets.proofs.set.CodeSet.first.Goals as goal
 

@@ -1,11 +1,10 @@
 -- The sorted ranges are the given ones in another order, and each is joined in turn.
-use Rattle.std.proofs.Common.{◌≡◌, ◌+◌, ◌≤◌, ◌<◌, length, get_or, take, ap, sym, subst, ◌∙◌, arith, rules}
+use Rattle.std.proofs.Common.{length, ap, ◌∙◌, arith, rules}
 use Rattle.std.specs.List.{All}
 use Rattle.std.specs.List.Sorted.{IsNonDecreasingBy}
 use Rattle.std.proofs.lemmas.List.{take_all}
-use Rattle.std.proofs.lemmas.List.Elements.{All-get_or}
 use Rattle.std.proofs.lemmas.List.Sorted.{All-permutation, IsNonDecreasingBy-from_sort_by_key}
-use Rattle.rbbi_model.specs.Ranges.{Range, Has}
+use Rattle.rbbi_model.specs.Ranges.{Range}
 use Rattle.rbbi_sets.specs.Covers.{covers}
 use Rattle.rbbi_sets.specs.Rising.{IsRange}
 use Rattle.rbbi_sets.proofs.Meanings.{same_members}

@@ -1,5 +1,3 @@
-use Rattle.std.proofs.Common.{◌≡◌, ℕ, ◌≤◌, ◌<◌, length, get_or, take}
-use Rattle.rbbi_model.specs.Ranges.{Range}
 use Rattle.rbbi_sets.proofs.Sorting.{IsJoined}
 use Rattle.rbbi_sets.proofs.set.CodeSet.from_ranges.Given as goal
 

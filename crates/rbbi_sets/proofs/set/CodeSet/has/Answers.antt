@@ -1,5 +1,5 @@
 -- The first range that ends at the code point or past it decides.
-use Rattle.std.proofs.Common.{◌≡◌, ◌<◌, ◌≤◌, length, ltb, ap, sym, ◌∙◌, arith, rules}
+use Rattle.std.proofs.Common.{length, ltb, ap, ◌∙◌, arith, rules}
 use Rattle.std.proofs.lemmas.Bool.{ltb-true}
 use Rattle.std.proofs.lemmas.List.Sorted.{IsPartitionPoint-from_clause, IsPartitionedBy-ltb}
 use Rattle.rbbi_model.specs.Ranges.{Range}
