@@ -39,11 +39,15 @@ code_point_of text = if is_code_point text then Some (hex_value text) else None
 abbrev pub span_of : ℕ → ℕ → Option Range
 span_of low high = if nat_le low high then Some (record { low = low; high = high }) else None
 
--- the range that a field writes: one code point, or two joined by two dots, where the parts are those between dots
-abbrev pub range_of_parts : List (List ℕ) → Option Range
-range_of_parts (low ∷ []) = option_and_then (λ c. span_of c c) (code_point_of low)
-range_of_parts (low ∷ [] ∷ high ∷ []) =
+-- the range between two texts, each of them a code point
+abbrev pub span_between : List ℕ → List ℕ → Option Range
+span_between low high =
     option_and_then (λ first. option_and_then (λ last. span_of first last) (code_point_of high)) (code_point_of low)
+
+-- the range of the parts between dots: one code point, or two with two dots between
+abbrev pub range_of_parts : List (List ℕ) → Option Range
+range_of_parts (only ∷ []) = span_between only only
+range_of_parts (low ∷ [] ∷ high ∷ []) = span_between low high
 range_of_parts _ = None
 
 -- the range that a field writes

@@ -3,6 +3,7 @@
 
 mod error;
 mod loose;
+mod row;
 mod text;
 
 pub use error::PropErr;
