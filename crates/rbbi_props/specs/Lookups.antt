@@ -15,10 +15,13 @@ use Rattle.rbbi_props.specs.LooseForms.{loose, is_well_formed}
 abbrev pub rows_under : List ℕ → File → List Row
 rows_under name file = if bytes_eq file.name name then file.rows else []
 
+-- the ranges of the rows that have the value
+abbrev pub ranges_of : List Row → List ℕ → List Range
+ranges_of rows value = map (λ row. row.range) (filter (λ row. bytes_eq row.value value) rows)
+
 -- the ranges of all rows that have the value, in all files of the name, both loose
 abbrev pub ranges_with : List File → List ℕ → List ℕ → List Range
-ranges_with files name value =
-    map (λ row. row.range) (filter (λ row. bytes_eq row.value value) (flat_map (rows_under name) files))
+ranges_with files name value = ranges_of (flat_map (rows_under name) files) value
 
 -- a single name: a binary property, a general category or a script of the Unicode Character Database
 abbrev pub single : List ℕ → Option (ℕ → Bool)
@@ -27,7 +30,7 @@ single name = if is_well_formed name then option_map in_set (by_name (normalize 
 -- whether a loose name is that of the general category or of the script
 abbrev pub is_category_or_script : List ℕ → Bool
 is_category_or_script name =
-    (bytes_eq name (codes "gc") || bytes_eq name (codes "generalcategory")) || (bytes_eq name (codes "sc") || bytes_eq name (codes "script"))
+    ((bytes_eq name (codes "gc") || bytes_eq name (codes "generalcategory")) || bytes_eq name (codes "sc")) || bytes_eq name (codes "script")
 
 -- what rows of files give, or else what the value gives as a single name
 abbrev pub of_ranges : List Range → Bool → List ℕ → Option (ℕ → Bool)

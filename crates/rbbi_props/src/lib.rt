@@ -2,8 +2,12 @@
 #![tactic(auto)]
 
 mod error;
+mod file;
 mod loose;
 mod row;
+mod single;
+mod table;
 mod text;
 
 pub use error::PropErr;
+pub use table::PropTable;
