@@ -35,8 +35,8 @@ hex_is_no_dot b h e = grind (arith, nat_tests)
 dotted : (xs : List ℕ) → position_or_len (λ b. eqb b 46) xs < length xs → code_point_of xs ≡ None
 dotted xs l =
     let no_digits : list_all is_ascii_hexdigit xs ≡ false =
-          false_from_ne_true (list_all is_ascii_hexdigit xs) (λ t.
-              hex_is_no_dot _ (AllPass-from_list_all is_ascii_hexdigit xs t (position_or_len (λ b. eqb b 46) xs) 0 l) (passes_at_first (λ b. eqb b 46) xs 0 l)) in
+    false_from_ne_true (list_all is_ascii_hexdigit xs) (λ t.
+    hex_is_no_dot _ (AllPass-from_list_all is_ascii_hexdigit xs t (position_or_len (λ b. eqb b 46) xs) 0 l) (passes_at_first (λ b. eqb b 46) xs 0 l)) in
     let no_point : is_code_point xs ≡ false = and_left _ _ (and_left _ _ no_digits) in
     ap (λ t. cond t (Some (hex_value xs)) None) no_point
 
@@ -54,7 +54,7 @@ no_span low high e =
 two_parts : (low high : List ℕ) → range_of_parts (low ∷ [] ∷ slice_split (λ b. eqb b 46) high) ≡ span_between low high
 two_parts low high =
     elim (cases_lt (position_or_len (λ b. eqb b 46) high) (length high)) [
-        inl dots ↦
+      | inl dots ↦
           let parts = split_cons (λ b. eqb b 46) (after_first (λ b. eqb b 46) high) in
           ap (λ ps. range_of_parts (low ∷ [] ∷ ps)) (split_some (λ b. eqb b 46) high dots ∙ ap (λ ps. before_first (λ b. eqb b 46) high ∷ ps) parts.2)
           ∙ sym (no_span low high (dotted high dots))

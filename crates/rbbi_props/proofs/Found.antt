@@ -42,29 +42,31 @@ set_members pairs test ranges set exactly e same c l =
 pub single_none : (name : List ℕ) → by_name (normalize (chars name)) ≡ None → IsSetOf None (single name)
 single_none name e =
     subst (λ o. IsSetOf None (cond (is_well_formed name) (option_map in_set o) None)) (sym e) (nothing (is_well_formed name)) where
-  nothing : (b : Bool) → IsSetOf None (cond b (option_map in_set None) None)
-  nothing true = tt
-  nothing false = tt
+      nothing : (b : Bool) → IsSetOf None (cond b (option_map in_set None) None)
+      nothing true = tt
+      nothing false = tt
 
 pub single_some : (name : List ℕ) (test : ℕ → Bool) (found : List Range) → is_well_formed name ≡ true → option_map in_set (by_name (normalize (chars name))) ≡ Some test → AreRising found → ((c : ℕ) → c ≤ 0x10FFFF → Has found c ↔ (test c ≡ true)) → IsSetOf (Some found) (single name)
 single_some name test found formed e rising members =
     subst (λ o. IsSetOf (Some found) (cond (is_well_formed name) o None)) (sym e)
-        (subst (λ b. IsSetOf (Some found) (cond b (Some test) None)) (sym formed) (rising, members))
+    (subst (λ b. IsSetOf (Some found) (cond b (Some test) None)) (sym formed) (rising, members))
 
 filled_ranges : (ranges set : List Range) (is_single : Bool) (value : List ℕ) → 0 < length ranges → AreRising set → ((c : ℕ) → Has set c ↔ Has ranges c) → IsSetOf (Some set) (of_ranges ranges is_single value)
 filled_ranges [] set is_single value l rising same = absurd (omega arith)
-filled_ranges (range ∷ ranges) set is_single value l rising same =
-    (rising, λ c m.
-        let decides = Decides-covers (range ∷ ranges) c in
-        (λ h. decides.1 ((same c).0 h), λ t. (same c).1 (decides.0 t)))
+filled_ranges (range ∷ ranges) set is_single value l rising same = (
+  rising,
+  λ c m.
+      let decides = Decides-covers (range ∷ ranges) c in
+      (λ h. decides.1 ((same c).0 h), λ t. (same c).1 (decides.0 t)),
+)
 
 -- rows of files are found
 pub lookup_rows : (files : List File) (name value : List ℕ) (ranges set : List Range) → is_well_formed name ≡ true → is_well_formed value ≡ true → ranges ≡ ranges_with files (loose name) (loose value) → 0 < length ranges → AreRising set → ((c : ℕ) → Has set c ↔ Has ranges c) → IsSetOf (Some set) (lookup files name (Some value))
 lookup_rows files name value ranges set name_formed value_formed e l rising same =
     subst (λ b. IsSetOf (Some set) (cond b (of_ranges (ranges_with files (loose name) (loose value)) (is_category_or_script (loose name)) value) None))
-        (sym (and_from (is_well_formed name) (is_well_formed value) name_formed value_formed))
-        (subst (λ rs. IsSetOf (Some set) (of_ranges rs (is_category_or_script (loose name)) value)) e
-            (filled_ranges ranges set (is_category_or_script (loose name)) value l rising same))
+    (sym (and_from (is_well_formed name) (is_well_formed value) name_formed value_formed))
+    (subst (λ rs. IsSetOf (Some set) (of_ranges rs (is_category_or_script (loose name)) value)) e
+    (filled_ranges ranges set (is_category_or_script (loose name)) value l rising same))
 
 row_kept : (rows : List Row) (i : ℕ) (d : Row) (value : List ℕ) → i < length rows → ranges_of (take (i + 1) rows) value ≡ ranges_of (take i rows) value ++ map (λ (row : Row). row.range) (cond (bytes_eq (get_or rows i d).value value) (get_or rows i d ∷ []) [])
 row_kept rows i d value l =

@@ -13,7 +13,7 @@ pub split_cons : (p : ℕ → Bool) (xs : List ℕ) → (part : List ℕ) × (pa
 split_cons p [] = ([], [], refl)
 split_cons p (x ∷ xs) =
     elim (cases_Bool (p x)) [
-        inl passes ↦ ([], slice_split p xs, ap (λ b. cond b ([] ∷ slice_split p xs) (onto_first x (slice_split p xs))) passes)
+      | inl passes ↦ ([], slice_split p xs, ap (λ b. cond b ([] ∷ slice_split p xs) (onto_first x (slice_split p xs))) passes)
       | inr fails ↦
           let rest = split_cons p xs in
           (x ∷ rest.0, rest.1, ap (λ b. cond b ([] ∷ slice_split p xs) (onto_first x (slice_split p xs))) fails ∙ ap (λ ps. onto_first x ps) rest.2)

@@ -32,7 +32,7 @@ position-next p x xs e =
     let place : position_or_len p (x ∷ xs) ≡ 1 + position_or_len p xs = ap (λ b. cond (not b) (1 + position_or_len p xs) 0) e in
     ap (λ n. cond (ltb n (length (x ∷ xs))) (Some n) None) place
     ∙ elim (cases_lt (position_or_len p xs) (length xs)) [
-        inl found ↦
+      | inl found ↦
           ap (λ b. cond b (Some (1 + position_or_len p xs)) None) (lt-ltb (1 + position_or_len p xs) (length (x ∷ xs)) (omega arith))
           ∙ sym (ap (λ b. option_map (λ k. 1 + k) (cond b (Some (position_or_len p xs)) None)) (lt-ltb (position_or_len p xs) (length xs) found))
       | inr none ↦
@@ -53,32 +53,32 @@ mapped_twice n (Some k) = ap Some (omega arith)
 pub IsReading-more : (text rest after line : List ℕ) (rows more : List Row) (number : ℕ) → IsReading text rest rows number → lines rest ≡ line ∷ lines after → length after < length rest → more ≡ rows ++ filter_map row_of (line ∷ []) → is_bad line ≡ false → IsReading text after more (number + 1)
 IsReading-more text rest after line rows more number h first shorter rows_are good = record {
   rows_so_far =
-    ap (λ rs. rs ++ filter_map row_of (lines after)) rows_are
-    ∙ append_assoc rows (filter_map row_of (line ∷ [])) (filter_map row_of (lines after))
-    ∙ ap (λ rs. rows ++ rs) (sym (filter_map-append row_of (line ∷ []) (lines after)))
-    ∙ ap (λ ls. rows ++ filter_map row_of ls) (sym first)
-    ∙ h.rows_so_far;
+      ap (λ rs. rs ++ filter_map row_of (lines after)) rows_are
+      ∙ append_assoc rows (filter_map row_of (line ∷ [])) (filter_map row_of (lines after))
+      ∙ ap (λ rs. rows ++ rs) (sym (filter_map-append row_of (line ∷ []) (lines after)))
+      ∙ ap (λ ls. rows ++ filter_map row_of ls) (sym first)
+      ∙ h.rows_so_far;
   bad_ones =
-    h.bad_ones
-    ∙ ap (λ ls. option_map (λ k. number + k) (position is_bad ls)) first
-    ∙ ap (λ o. option_map (λ k. number + k) o) (position-next is_bad line (lines after) good)
-    ∙ mapped_twice number (position is_bad (lines after));
+      h.bad_ones
+      ∙ ap (λ ls. option_map (λ k. number + k) (position is_bad ls)) first
+      ∙ ap (λ o. option_map (λ k. number + k) o) (position-next is_bad line (lines after) good)
+      ∙ mapped_twice number (position is_bad (lines after));
   count = omega (arith, h.count);
 }
 
 -- at the end
 pub IsReading-all : (text rest : List ℕ) (rows : List Row) (number : ℕ) → IsReading text rest rows number → rest ≡ [] → (rows ≡ filter_map row_of (lines text)) × (position is_bad (lines text) ≡ None)
-IsReading-all text rest rows number h e =
-    ( sym (append-nil rows) ∙ ap (λ xs. rows ++ filter_map row_of (lines xs)) (sym e) ∙ h.rows_so_far
-    , h.bad_ones ∙ ap (λ xs. option_map (λ k. number + k) (position is_bad (lines xs))) e
-    )
+IsReading-all text rest rows number h e = (
+  sym (append-nil rows) ∙ ap (λ xs. rows ++ filter_map row_of (lines xs)) (sym e) ∙ h.rows_so_far,
+  h.bad_ones ∙ ap (λ xs. option_map (λ k. number + k) (position is_bad (lines xs))) e,
+)
 
 -- at a bad line
 pub IsReading-bad : (text rest after line : List ℕ) (rows : List Row) (number bad : ℕ) → IsReading text rest rows number → lines rest ≡ line ∷ lines after → is_bad line ≡ true → bad ≡ number + 1 → IsBadRow (lines text) bad
-IsReading-bad text rest after line rows number bad h first is e =
-    ( number + 0
-    , h.bad_ones
+IsReading-bad text rest after line rows number bad h first is e = (
+  number + 0,
+  h.bad_ones
       ∙ ap (λ ls. option_map (λ k. number + k) (position is_bad ls)) first
-      ∙ ap (λ o. option_map (λ k. number + k) o) (position-here is_bad line (lines after) is)
-    , omega (arith, e)
-    )
+      ∙ ap (λ o. option_map (λ k. number + k) o) (position-here is_bad line (lines after) is),
+  omega (arith, e),
+)

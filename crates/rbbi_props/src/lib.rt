@@ -7,6 +7,8 @@ mod loose;
 mod row;
 mod single;
 mod table;
+#[cfg(test)]
+mod tests;
 mod text;
 
 pub use error::PropErr;

@@ -162,11 +162,7 @@ fn push_file(
 }
 
 /// Adds the ranges of the rows with this value.
-fn push_rows(
-    ranges: &mut Vec<CodeRange>,
-    rows: &[PropRow],
-    value: &[u8],
-) -> Result<(), AllocError>
+fn push_rows(ranges: &mut Vec<CodeRange>, rows: &[PropRow], value: &[u8]) -> Result<(), AllocError>
     requires { All IsRange ranges.old.items }
     ensures ranges { OnOk result
         (ranges.new.items ≡ ranges.old.items ++ spec.ranges_of rows.now value.now) }

@@ -19,16 +19,16 @@ returns-then-is_empty-clause-value c =
     let place = c.place_or_len-end.ensures.place in
     let found : position_or_len (λ b. eqb b 46) xs < length xs = omega (arith, place, c.place_or_len-end.ensures.bound) in
     let tail : take (length xs - (i + 1)) (drop (i + 1) xs) ≡ after_first (λ b. eqb b 46) xs =
-          take_rest xs (i + 1) ∙ ap (λ n. drop (n + 1) xs) place in
+    take_rest xs (i + 1) ∙ ap (λ n. drop (n + 1) xs) place in
     let lone : eqb (get_or (after_first (λ b. eqb b 46) xs) 0 0) 46 ≡ false =
-          elim c.then-is_empty.branch [
-              then-is_empty-via-then-is_empty w ↦
-                let none : after_first (λ b. eqb b 46) xs ≡ [] =
-                      sym tail ∙ nil_from_length _ (eqb-true _ _ (sym c.is_empty.ensures ∙ w.if-is_empty.true)) in
-                subst (λ (r : List ℕ). eqb (get_or r 0 0) 46 ≡ false) (sym none) refl
-            | then-is_empty-via-else-is_empty+then-rest-ne46 w ↦
-                ne_eqb _ _ (λ h. w.if-rest-ne46.true (ap (λ (r : List ℕ). get_or r 0 0) tail ∙ h))
-          ] in
+    elim c.then-is_empty.branch [
+      | then-is_empty-via-then-is_empty w ↦
+          let none : after_first (λ b. eqb b 46) xs ≡ [] =
+          sym tail ∙ nil_from_length _ (eqb-true _ _ (sym c.is_empty.ensures ∙ w.if-is_empty.true)) in
+          subst (λ (r : List ℕ). eqb (get_or r 0 0) 46 ≡ false) (sym none) refl
+      | then-is_empty-via-else-is_empty+then-rest-ne46 w ↦
+          ne_eqb _ _ (λ h. w.if-rest-ne46.true (ap (λ (r : List ℕ). get_or r 0 0) tail ∙ h))
+    ] in
     sym (range_of-lone xs found lone)
 
 pub returns-clause-value : goal.returns-clause-value
@@ -38,12 +38,12 @@ returns-clause-value c =
     let place = c.place_or_len-end.ensures.place in
     let found : position_or_len (λ b. eqb b 46) xs < length xs = omega (arith, place, c.place_or_len-end.ensures.bound) in
     let tail : take (length xs - (i + 1)) (drop (i + 1) xs) ≡ after_first (λ b. eqb b 46) xs =
-          take_rest xs (i + 1) ∙ ap (λ n. drop (n + 1) xs) place in
+    take_rest xs (i + 1) ∙ ap (λ n. drop (n + 1) xs) place in
     let rest = take (length xs - (i + 1)) (drop (i + 1) xs) in
     let filled : length rest ≡ 0 → ⊥ = eqb-false _ _ (sym c.is_empty.ensures ∙ c.if-is_empty.false) in
     let more : 0 < length (after_first (λ b. eqb b 46) xs) = omega (arith, ap length tail, filled) in
     let two : eqb (get_or (after_first (λ b. eqb b 46) xs) 0 0) 46 ≡ true =
-          eq-eqb _ _ (ap (λ (r : List ℕ). get_or r 0 0) (sym tail) ∙ c.if-rest-ne46.false) in
+    eq-eqb _ _ (ap (λ (r : List ℕ). get_or r 0 0) (sym tail) ∙ c.if-rest-ne46.false) in
     c.span_between-2.ensures.value
     ∙ ap (λ (high : List ℕ). span_between (take i xs) high) (take_rest rest 1)
     ∙ ap (λ (r : List ℕ). span_between (take i xs) (drop 1 r)) tail

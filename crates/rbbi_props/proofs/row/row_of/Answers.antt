@@ -18,14 +18,14 @@ returns c =
     let place = c.place_or_len-end.ensures.place in
     let found : position_or_len (λ b. eqb b 59) fields < length fields = omega (arith, place, c.place_or_len-end.ensures.bound) in
     let tail : take (length fields - (i + 1)) (drop (i + 1) fields) ≡ after_first (λ b. eqb b 59) fields =
-          take_rest fields (i + 1) ∙ ap (λ n. drop (n + 1) fields) place in
+    take_rest fields (i + 1) ∙ ap (λ n. drop (n + 1) fields) place in
     let range : c.range_of-range.result ≡ range_of (trim (before_first (λ b. eqb b 59) fields)) =
-          c.range_of-range.ensures.value ∙ ap range_of (c.trim.ensures ∙ ap (λ n. trim (take n fields)) place) in
+    c.range_of-range.ensures.value ∙ ap range_of (c.trim.ensures ∙ ap (λ n. trim (take n fields)) place) in
     let value : c.trim-value.result.now ≡ trim (last_part (slice_split (λ b. eqb b 59) (after_first (λ b. eqb b 59) fields))) =
-          c.trim-value.ensures ∙ ap trim (c.after_last.ensures ∙ ap (λ (r : List ℕ). last_part (slice_split (λ b. eqb b 59) r)) tail) in
+    c.trim-value.ensures ∙ ap trim (c.after_last.ensures ∙ ap (λ (r : List ℕ). last_part (slice_split (λ b. eqb b 59) r)) tail) in
     let whole : row_with c.range_of-range.result c.trim-value.result.now ≡ row_of c.args.line.now =
-          ap (λ o. row_with o c.trim-value.result.now) range
-          ∙ ap (λ v. row_with (range_of (trim (before_first (λ b. eqb b 59) fields))) v) value
-          ∙ sym (row_of_fields-more fields found)
-          ∙ ap (λ (f : List ℕ). row_of_fields (slice_split (λ b. eqb b 59) f)) c.before-fields.ensures in
+    ap (λ o. row_with o c.trim-value.result.now) range
+    ∙ ap (λ v. row_with (range_of (trim (before_first (λ b. eqb b 59) fields))) v) value
+    ∙ sym (row_of_fields-more fields found)
+    ∙ ap (λ (f : List ℕ). row_of_fields (slice_split (λ b. eqb b 59) f)) c.before-fields.ensures in
     IfOk-weaker c.row_with.result _ _ (λ row h. h ∙ whole) c.row_with.ensures

@@ -12,6 +12,6 @@ pub returns-clause-members : goal.returns-clause-members
 returns-clause-members c =
     let pairs = c.in_ok-pairs.pairs.items in
     IfOk-weaker c.from_ranges.result _ _
-        (λ found same. set_members pairs (in_set c.args.set) c.in_ok-ranges.ranges.items found c.in_ok-pairs.ensures.members
-            (rw c.deref.ensures.value at c.in_ok-ranges.ensures) same)
-        c.from_ranges.ensures.members
+    (λ found same. set_members pairs (in_set c.args.set) c.in_ok-ranges.ranges.items found c.in_ok-pairs.ensures.members
+    (rw c.deref.ensures.value at c.in_ok-ranges.ensures) same)
+    c.from_ranges.ensures.members

@@ -12,7 +12,7 @@ returns-in_default c =
 pub returns : goal.returns
 returns c =
     let formed : is_well_formed c.args.name.now ≡ true =
-          sym (c.is_well_formed.ensures ∙ ap is_well_formed c.as_bytes.ensures.value) ∙ c.if-not-is_well_formed.false in
+    sym (c.is_well_formed.ensures ∙ ap is_well_formed c.as_bytes.ensures.value) ∙ c.if-not-is_well_formed.false in
     let found = sym (ap by_name (c.deref.ensures.value ∙ c.in_ok-normal.ensures)) ∙ c.in-Ok.ensures.found in
     single_some c.args.name.now (in_set c.in-Ok.set) c.in_ok-found.found formed (ap (option_map in_set) found)
-        c.in_ok-found.ensures.form c.in_ok-found.ensures.members
+    c.in_ok-found.ensures.form c.in_ok-found.ensures.members

@@ -19,20 +19,20 @@ loop-row-preserved c =
     let read = c.row.view_is ∙ c.row-item.is in
     let value_is = c.as_slice.ensures.value ∙ ap (λ (r : Row). r.value) read in
     let test : bytes_eq (get_or rows i d).value value ≡ c.eq.result =
-          sym (ap (λ v. bytes_eq v value) value_is) ∙ sym c.eq.ensures in
+    sym (ap (λ v. bytes_eq v value) value_is) ∙ sym c.eq.ensures in
     elim c.if-eq.branch [
-        then-eq+in_ok-push w ↦
-          rw (w.ranges-is, w.in_ok-push.ensures.items)
-            ( ap (λ rs. rs ++ c.row.inside.range ∷ []) c.loop-row.invariant.0
-              ∙ append_assoc c.args.ranges.now.items (ranges_of (take i rows) value) (c.row.inside.range ∷ [])
-              ∙ ap (λ rs. c.args.ranges.now.items ++ rs)
-                  (sym (ranges_of-yes rows i d value c.row.inside.range c.loop-row-test.true (test ∙ w.if-eq.true) (ap (λ (r : Row). r.range) read)))
-            , All-push IsRange c.loop-row.ranges.items c.row.inside.range c.loop-row.invariant.1 c.row.invariant
-            )
+      | then-eq+in_ok-push w ↦
+          rw (w.ranges-is, w.in_ok-push.ensures.items) (
+            ap (λ rs. rs ++ c.row.inside.range ∷ []) c.loop-row.invariant.0
+                ∙ append_assoc c.args.ranges.now.items (ranges_of (take i rows) value) (c.row.inside.range ∷ [])
+                ∙ ap (λ rs. c.args.ranges.now.items ++ rs)
+                (sym (ranges_of-yes rows i d value c.row.inside.range c.loop-row-test.true (test ∙ w.if-eq.true) (ap (λ (r : Row). r.range) read))),
+            All-push IsRange c.loop-row.ranges.items c.row.inside.range c.loop-row.invariant.1 c.row.invariant,
+          )
       | else-eq w ↦
-          rw w.ranges-is
-            ( c.loop-row.invariant.0
-              ∙ ap (λ rs. c.args.ranges.now.items ++ rs) (sym (ranges_of-no rows i d value c.loop-row-test.true (test ∙ w.if-eq.false)))
-            , c.loop-row.invariant.1
-            )
+          rw w.ranges-is (
+            c.loop-row.invariant.0
+                ∙ ap (λ rs. c.args.ranges.now.items ++ rs) (sym (ranges_of-no rows i d value c.loop-row-test.true (test ∙ w.if-eq.false))),
+            c.loop-row.invariant.1,
+          )
     ]

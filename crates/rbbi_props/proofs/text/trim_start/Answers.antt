@@ -9,8 +9,8 @@ use Rattle.rbbi_props.proofs.text.trim_start.Goals.{then-loop-start-test+else-is
 pub returns : goal.returns
 returns c =
     let counted = prefix_len_is is_blank c.args.text.now c.loop-start.start 0 c.loop-start.invariant.0 c.loop-start.invariant.1
-          (λ l. elim c.loop-start-test.branch [
-              then-loop-start-test+else-is_blank w ↦ sym w.is_blank.ensures ∙ w.if-is_blank.false
-            | else-loop-start-test w ↦ absurd (omega arith)
-          ]) in
+    (λ l. elim c.loop-start-test.branch [
+      | then-loop-start-test+else-is_blank w ↦ sym w.is_blank.ensures ∙ w.if-is_blank.false
+      | else-loop-start-test w ↦ absurd (omega arith)
+    ]) in
     take_rest c.args.text.now c.loop-start.start ∙ ap (λ n. drop n c.args.text.now) (sym counted)
