@@ -3,7 +3,7 @@ ghost use Rattle.std.specs.Prelude.{IfOk};
 ghost use Rattle.std.specs.List.{All};
 ghost use Rattle.rbbi_sets.specs.Rising.{IsRange};
 
-use crate::{CodeRange, CodeSet};
+use crate::{CodeRange, CodeSet, members_determine};
 use std::alloc::{AllocError, Global};
 use std::test::Fail;
 
@@ -194,5 +194,6 @@ fn members(rt: HostRuntime) -> Result<(), Fail> {
     let empty = CodeSet::empty(rt.alloc());
     assert!(rt; !empty.has(0));
     assert_eq!(rt; empty.first(), None);
+    members_determine();
     Ok(())
 }
