@@ -1,12 +1,11 @@
 -- What the fields of a line write, part by part.
-use Rattle.std.proofs.Common.{◌≡◌, ℕ, ◌+◌, ◌<◌, ◌≤◌, Bool, true, false, not, cond, eqb, leb, ◌&&◌, ◌||◌, List, [], ◌∷◌, length, get_or, take, drop, Option, Some, None, option_and_then, refl, ap, sym, ◌∙◌, subst, inl, inr, arith}
+use Rattle.std.proofs.Common.{◌≡◌, ℕ, ◌<◌, true, false, not, cond, eqb, List, [], ◌∷◌, length, get_or, drop, Option, Some, None, option_and_then, refl, ap, sym, ◌∙◌, inl, inr, arith}
 use Rattle.std.specs.List.{position_or_len, before_first, after_first, slice_split, onto_first, list_all}
 use Rattle.std.specs.Char.{is_ascii_hexdigit}
-use Rattle.std.proofs.lemmas.Bool.{cases_Bool, cases_lt, and_left, and_parts, false_from_ne_true, ne_eqb, false≢true}
+use Rattle.std.proofs.lemmas.Bool.{cases_lt, and_left, false_from_ne_true}
 use Rattle.std.proofs.lemmas.Bool.Decides.{nat_tests}
 use Rattle.std.proofs.lemmas.List.Sums.{passes_at_first, AllPass-from_list_all, prefix_len-le-length}
 use Rattle.rbbi_model.specs.Ranges.{Range}
-use Rattle.rbbi_props.specs.Rows.{Row}
 use Rattle.rbbi_props.specs.RowLines.{is_code_point, code_point_of, span_of, span_between, range_of_parts, range_of, last_part, row_with, row_of_fields, hex_value, trim}
 use Rattle.rbbi_props.proofs.Pieces.{split_cons, split_none, split_some}
 

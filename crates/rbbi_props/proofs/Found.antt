@@ -1,8 +1,8 @@
 -- What a look-up finds, from the ranges that are collected.
-use Rattle.std.proofs.Common.{◌≡◌, ℕ, ◌+◌, ◌<◌, ◌≤◌, Bool, true, false, cond, ◌&&◌, ◌||◌, leb, List, [], ◌∷◌, ◌++◌, length, get_or, take, map, filter, bytes_eq, Option, Some, None, option_map, refl, ap, sym, ◌∙◌, subst, inl, inr, arith, ◌↔◌}
-use Rattle.std.specs.List.{All, flat_map}
+use Rattle.std.proofs.Common.{◌≡◌, ℕ, ◌+◌, ◌<◌, ◌≤◌, Bool, true, false, cond, ◌||◌, List, [], ◌∷◌, ◌++◌, length, get_or, take, map, filter, bytes_eq, Some, None, option_map, refl, ap, sym, ◌∙◌, subst, arith, ◌↔◌}
+use Rattle.std.specs.List.{All}
 use Rattle.std.specs.Str.{chars}
-use Rattle.std.proofs.lemmas.Bool.{and_parts, leb-true, cond-true, and_from}
+use Rattle.std.proofs.lemmas.Bool.{and_parts, leb-true, and_from}
 use Rattle.std.proofs.lemmas.List.{map-append, append-nil}
 use Rattle.std.proofs.lemmas.List.Elements.{All-nil, All-cons, filter_more}
 use Rattle.unicode.specs.Rows.{in_ranges, HasExactly, AreRanges}

@@ -1,6 +1,6 @@
 -- What a property stands for, a set of code points given as a test.
-use Rattle.std.specs.Prelude.{ℕ, ◌≤◌, ◌↔◌, Bool, false, true, ◌&&◌, ◌||◌, List, [], ◌∷◌, map, filter, bytes_eq, codes, Option, Some, None, option_map, if◌then◌else◌, IsTrue}
-use Rattle.std.specs.List.{flat_map, list_any}
+use Rattle.std.specs.Prelude.{ℕ, ◌≤◌, ◌↔◌, Bool, ◌&&◌, ◌||◌, List, [], ◌∷◌, map, filter, bytes_eq, codes, Option, Some, None, option_map, if◌then◌else◌, IsTrue}
+use Rattle.std.specs.List.{flat_map}
 use Rattle.std.specs.Str.{chars}
 use Rattle.unicode.specs.Lookup.{by_name}
 use Rattle.unicode.specs.Loose.{normalize}

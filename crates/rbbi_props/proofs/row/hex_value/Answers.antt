@@ -1,5 +1,5 @@
 -- Six hexadecimal digits write less than 16 ^ 6.
-use Rattle.std.proofs.Common.{ℕ, ◌+◌, ◌<◌, ◌≤◌, ◌^◌, suc, zero, arith}
+use Rattle.std.proofs.Common.{ℕ, ◌<◌, ◌≤◌, ◌^◌, suc, zero, arith}
 use Rattle.rbbi_props.proofs.row.hex_value.Goals as goal
 
 pow_bound : (n : ℕ) → n < 6 → 16 ^ n ≤ 16 ^ 5

@@ -1,9 +1,9 @@
 -- A field with no dot, with a lone one, and with two in a row.
-use Rattle.std.proofs.Common.{◌≡◌, ℕ, ◌+◌, ◌-◌, ◌<◌, List, [], true, false, eqb, length, get_or, take, drop, length-drop, refl, ap, sym, subst, ◌∙◌, arith}
+use Rattle.std.proofs.Common.{◌≡◌, ℕ, ◌+◌, ◌-◌, ◌<◌, List, [], true, false, eqb, length, get_or, take, drop, refl, ap, sym, subst, ◌∙◌, arith}
 use Rattle.std.specs.List.{after_first, position_or_len}
 use Rattle.std.proofs.lemmas.Bool.{eq-eqb, ne_eqb, eqb-true, eqb-false}
 use Rattle.std.proofs.lemmas.List.{take_rest, nil_from_length}
-use Rattle.rbbi_props.specs.RowLines.{range_of, span_between}
+use Rattle.rbbi_props.specs.RowLines.{span_between}
 use Rattle.rbbi_props.proofs.Fields.{range_of-one, range_of-lone, range_of-pair}
 use Rattle.rbbi_props.proofs.row.range_of.Goals as goal
 use Rattle.rbbi_props.proofs.row.range_of.Goals.{then-is_empty-via-then-is_empty, then-is_empty-via-else-is_empty+then-rest-ne46}

@@ -1,4 +1,3 @@
-use Rattle.std.proofs.Common.{◌≡◌, ap, sym, ◌∙◌, map}
 use Rattle.std.proofs.lemmas.Result.{IfOk-weaker}
 use Rattle.unicode.specs.Sets.{in_set}
 use Rattle.rbbi_props.proofs.Found.{valid_pairs, set_members}

@@ -1,8 +1,6 @@
 -- A row with the value adds its range, and another adds nothing.
-use Rattle.std.proofs.Common.{◌≡◌, ◌+◌, ◌++◌, ◌∷◌, [], Bool, true, false, bytes_eq, get_or, take, append_assoc, ap, sym, ◌∙◌}
-use Rattle.std.specs.List.{All}
+use Rattle.std.proofs.Common.{◌≡◌, ◌++◌, ◌∷◌, [], bytes_eq, get_or, take, append_assoc, ap, sym, ◌∙◌}
 use Rattle.std.proofs.lemmas.List.Elements.{All-push}
-use Rattle.rbbi_model.specs.Ranges.{Range}
 use Rattle.rbbi_sets.specs.Rising.{IsRange}
 use Rattle.rbbi_props.specs.Rows.{Row}
 use Rattle.rbbi_props.specs.Lookups.{ranges_of}

@@ -1,7 +1,6 @@
-use Rattle.std.proofs.Common.{◌≡◌, ◌∙◌, ◌-◌, length, take, drop, ap, sym, arith}
+use Rattle.std.proofs.Common.{◌∙◌, drop, ap, sym, arith}
 use Rattle.std.proofs.lemmas.List.{take_rest}
 use Rattle.std.proofs.lemmas.List.Sums.{prefix_len_is}
-use Rattle.std.specs.List.{prefix_len}
 use Rattle.rbbi_props.specs.RowLines.{is_blank}
 use Rattle.rbbi_props.proofs.text.trim_start.Goals as goal
 use Rattle.rbbi_props.proofs.text.trim_start.Goals.{then-loop-start-test+else-is_blank, else-loop-start-test}
