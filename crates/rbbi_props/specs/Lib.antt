@@ -1,0 +1,6 @@
+pub mod Rows
+pub mod LooseForms
+pub mod RowLines
+pub mod Files
+pub mod Lookups
+pub mod Refusals

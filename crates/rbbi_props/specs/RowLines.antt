@@ -1,0 +1,88 @@
+-- The row that a line of a property file writes. 9 is a tab, 32 a space, 35 is `#`, 46 is `.` and 59 is `;`.
+use Rattle.std.specs.Prelude.{ℕ, ◌+◌, ◌-◌, ◌*◌, Bool, not, ◌&&◌, ◌||◌, ◌==◌, nat_le, List, [], ◌∷◌, length, take, drop, fold, Option, Some, None, option_map, option_and_then, is_none, if◌then◌else◌}
+use Rattle.std.specs.List.{list_all, prefix_len, suffix_len, before_first, slice_split}
+use Rattle.std.specs.Char.{digit_value, is_ascii_hexdigit}
+use Rattle.rbbi_model.specs.Ranges.{Range}
+use Rattle.rbbi_props.specs.Rows.{Row}
+use Rattle.rbbi_props.specs.LooseForms.{loose, has_letter_or_digit}
+
+-- a space or a tab
+abbrev pub is_blank : ℕ → Bool
+is_blank byte = (byte == 32) || (byte == 9)
+
+-- the text without the spaces and tabs at its start
+abbrev pub trim_start : List ℕ → List ℕ
+trim_start text = drop (prefix_len is_blank text) text
+
+-- the text without the spaces and tabs at its end
+abbrev pub trim_end : List ℕ → List ℕ
+trim_end text = take (length text - suffix_len is_blank text) text
+
+-- the text without the spaces and tabs round it
+abbrev pub trim : List ℕ → List ℕ
+trim text = trim_end (trim_start text)
+
+-- the number that hexadecimal digits of either case write
+abbrev pub hex_value : List ℕ → ℕ
+hex_value digits = fold (λ value digit. 16 * value + digit_value digit) 0 digits
+
+-- whether a text is a code point: four to six hexadecimal digits, at most 10FFFF
+abbrev pub is_code_point : List ℕ → Bool
+is_code_point text =
+    (list_all is_ascii_hexdigit text && (nat_le 4 (length text) && nat_le (length text) 6)) && nat_le (hex_value text) 0x10FFFF
+
+-- the code point that a text writes
+abbrev pub code_point_of : List ℕ → Option ℕ
+code_point_of text = if is_code_point text then Some (hex_value text) else None
+
+-- the range from one code point to another, where it isn't the lesser
+abbrev pub span_of : ℕ → ℕ → Option Range
+span_of low high = if nat_le low high then Some (record { low = low; high = high }) else None
+
+-- the range between two texts, each of them a code point
+abbrev pub span_between : List ℕ → List ℕ → Option Range
+span_between low high =
+    option_and_then (λ first. option_and_then (λ last. span_of first last) (code_point_of high)) (code_point_of low)
+
+-- the range of the parts between dots: one code point, or two with two dots between
+abbrev pub range_of_parts : List (List ℕ) → Option Range
+range_of_parts (only ∷ []) = span_between only only
+range_of_parts (low ∷ [] ∷ high ∷ []) = span_between low high
+range_of_parts _ = None
+
+-- the range that a field writes
+abbrev pub range_of : List ℕ → Option Range
+range_of field = range_of_parts (slice_split (λ byte. byte == 46) field)
+
+-- the last of the parts
+abbrev pub last_part : List (List ℕ) → List ℕ
+last_part [] = []
+last_part (part ∷ []) = part
+last_part (part ∷ next ∷ parts) = last_part (next ∷ parts)
+
+-- the row of a range and a value, which has a letter or digit
+abbrev pub row_with : Option Range → List ℕ → Option Row
+row_with range value =
+    if has_letter_or_digit value then option_map (λ r. record { value = loose value; range = r }) range else None
+
+-- the row of the fields between `;`: two or more, of which the first is the range and the last the value
+abbrev pub row_of_fields : List (List ℕ) → Option Row
+row_of_fields [] = None
+row_of_fields (only ∷ []) = None
+row_of_fields (first ∷ second ∷ fields) = row_with (range_of (trim first)) (trim (last_part (second ∷ fields)))
+
+-- the line before its first `#`
+abbrev pub before_comment : List ℕ → List ℕ
+before_comment line = before_first (λ byte. byte == 35) line
+
+-- the row that a line writes, and None where it isn't of the form
+abbrev pub row_of : List ℕ → Option Row
+row_of line = row_of_fields (slice_split (λ byte. byte == 59) (before_comment line))
+
+-- whether a line is skipped: nothing but spaces and tabs stands before its first `#`
+abbrev pub is_skipped : List ℕ → Bool
+is_skipped line = list_all is_blank (before_comment line)
+
+-- whether a line is neither skipped nor of the form of a row
+abbrev pub is_bad : List ℕ → Bool
+is_bad line = not (is_skipped line) && is_none (row_of line)

@@ -1,0 +1,86 @@
+//! A property file.
+ghost use Rattle.std.specs.Prelude.{◌≡◌, ◌≤◌, ◌<◌, ◌∷◌, [], ◌++◌, false, length, None, IfOk, IfErr, OnOk, IsUtf8, filter_map};
+ghost use Rattle.std.specs.List.{position};
+ghost use Rattle.std.specs.Str.Lines.{lines};
+ghost use Rattle.rbbi_props.specs.RowLines.{row_of, is_bad};
+ghost use Rattle.rbbi_props.specs.Files.{file_of};
+ghost use Rattle.rbbi_props.specs.Refusals.{HasRowsAlone, IsCause, IsLineCause, IsOneLineCause};
+
+use crate::error::PropErr;
+use crate::loose::loose;
+use crate::row::{PropRow, is_skipped, row_of};
+use crate::text::{next_line, skip_mark};
+use std::alloc::Global;
+use std::marker::Model;
+
+/// A property file: its name in loose form, and its rows in order.
+#[derive(Debug, Drop)]
+pub(crate) struct PropFile {
+    pub(crate) name: Vec<u8>,
+    pub(crate) rows: Vec<PropRow>,
+}
+
+impl Model for PropFile {
+    ghost use Rattle.rbbi_props.specs.Rows.{File};
+
+    ghost Value = { File };
+
+    ghost view = { λ file. record { name = file.name.items; rows = file.rows.items } };
+}
+
+/// The file of these bytes under a name.
+pub(crate) fn read_file(alloc: Global, name: &str, bytes: &[u8]) -> Result<PropFile, PropErr>
+    requires { length bytes.now ≤ 100663296 }
+    ensures utf8 { OnOk result (IsUtf8 bytes.now) }
+    ensures rows { OnOk result (HasRowsAlone bytes.now) }
+    ensures file { IfOk result (λ file. file ≡ file_of name.now bytes.now) }
+    ensures cause { IfErr result (λ e. IsCause e bytes.now) }
+{
+    if let Err(error) = simdutf8::compat::from_utf8(bytes) {
+        return Err(PropErr::NotUtf8(error.valid_up_to() as u32));
+    }
+    let rows = read_rows(alloc, skip_mark(bytes))?;
+    let name = loose(alloc, name.as_bytes())?;
+    Ok(PropFile { name, rows })
+}
+
+/// The rows that the lines of a text write.
+fn read_rows(alloc: Global, text: &[u8]) -> Result<Vec<PropRow>, PropErr>
+    requires { length text.now ≤ 100663296 }
+    ensures rows { IfOk result (λ rows. rows.items ≡ filter_map row_of (lines text.now)) }
+    ensures alone { OnOk result (position is_bad (lines text.now) ≡ None) }
+    ensures cause { IfErr result (λ e. IsLineCause e (lines text.now)) }
+{
+    let mut rows = Vec::new(alloc);
+    let mut rest = text;
+    let mut number = 0;
+    while !rest.is_empty() {
+        let (line, after) = next_line(rest);
+        number += 1;
+        read_line(&mut rows, alloc, line, number)?;
+        rest = after;
+    }
+    Ok(rows)
+}
+
+/// Adds the row of a line, which has this number. A line that is skipped adds none.
+fn read_line(
+    rows: &mut Vec<PropRow>,
+    alloc: Global,
+    line: &[u8],
+    number: u32,
+) -> Result<(), PropErr>
+    ensures row { OnOk result
+        (rows.new.items ≡ rows.old.items ++ filter_map row_of (line.now ∷ [])) }
+    ensures good { OnOk result (is_bad line.now ≡ false) }
+    ensures cause { IfErr result (λ e. IsOneLineCause e line.now number) }
+{
+    let Some(row) = row_of(alloc, line)? else {
+        if is_skipped(line) {
+            return Ok(());
+        }
+        return Err(PropErr::BadRow(number));
+    };
+    rows.push(row)?;
+    Ok(())
+}

@@ -1,0 +1,15 @@
+//! Property files that a caller hands in, and what the name and value of a property stand for.
+#![tactic(auto)]
+
+mod error;
+mod file;
+mod loose;
+mod row;
+mod single;
+mod table;
+#[cfg(test)]
+mod tests;
+mod text;
+
+pub use error::PropErr;
+pub use table::PropTable;

@@ -1,0 +1,151 @@
+//! A row of a property file.
+ghost use Rattle.std.specs.Prelude.{◌≡◌, ◌<◌, ◌≤◌, length, IfOk, IfSome, IsTrue};
+ghost use Rattle.std.specs.List.{list_all};
+ghost use Rattle.std.specs.Char.{digit_value, is_ascii_hexdigit};
+ghost use Rattle.rbbi_sets.specs.Rising.{IsRange};
+ghost use Rattle.rbbi_props.specs.RowLines as spec;
+
+use crate::loose::{has_letter_or_digit, loose};
+use crate::text::{after_last, before, is_blank, place_or_len, trim};
+use rbbi_sets::CodeRange;
+use std::alloc::{AllocError, Global};
+use std::marker::Model;
+
+/// The greatest code point.
+const LAST: u32 = 0x10_FFFF;
+
+/// A row of a property file: a value, and the code points that have it.
+#[derive(Debug, Drop)]
+pub(crate) struct PropRow {
+    /// The value in loose form, which is computed once, since each look-up compares it. It is bytes,
+    /// since it is only compared.
+    pub(crate) value: Vec<u8>,
+    /// The code points.
+    pub(crate) range: CodeRange,
+}
+
+impl Model for PropRow {
+    ghost use Rattle.rbbi_sets.specs.Rising.{IsRange};
+    ghost use Rattle.rbbi_props.specs.Rows.{Row};
+
+    ghost Value = { Row };
+
+    ghost view = { λ row. record { value = row.value.items; range = row.range } };
+
+    ghost invariant = { λ row. IsRange row.range };
+}
+
+/// The row that a line writes, and None where it isn't of the form.
+pub(crate) fn row_of(alloc: Global, line: &[u8]) -> Result<Option<PropRow>, AllocError>
+    ensures { IfOk result (λ row. row ≡ spec.row_of line.now) }
+{
+    let fields = before(line, b'#');
+    let end = place_or_len(fields, b';');
+    if end == fields.len() {
+        return Ok(None);
+    }
+    let range = range_of(trim(&fields[..end]));
+    let value = trim(after_last(&fields[end + 1..], b';'));
+    row_with(alloc, range, value)
+}
+
+/// The row of a range and a value, which has a letter or digit.
+fn row_with(
+    alloc: Global,
+    range: Option<CodeRange>,
+    value: &[u8],
+) -> Result<Option<PropRow>, AllocError>
+    requires { IfSome range IsRange }
+    ensures { IfOk result (λ row. row ≡ spec.row_with range value.now) }
+{
+    if !has_letter_or_digit(value) {
+        return Ok(None);
+    }
+    let Some(range) = range else {
+        return Ok(None);
+    };
+    let value = loose(alloc, value)?;
+    Ok(Some(PropRow { value, range }))
+}
+
+/// Whether nothing but spaces and tabs stands before the first `#` of a line.
+pub(crate) fn is_skipped(line: &[u8]) -> bool
+    ensures { result ≡ spec.is_skipped line.now }
+{
+    are_blank(before(line, b'#'))
+}
+
+fn are_blank(text: &[u8]) -> bool
+    ensures { result ≡ list_all spec.is_blank text.now }
+{
+    text.iter().all(|byte| is_blank(*byte))
+}
+
+/// The range that a field writes: one code point, or two joined by `..`, the first not greater than
+/// the second.
+fn range_of(field: &[u8]) -> Option<CodeRange>
+    ensures value { result ≡ spec.range_of field.now }
+    ensures form { IfSome result IsRange }
+{
+    let end = place_or_len(field, b'.');
+    if end == field.len() {
+        return span_between(field, field);
+    }
+    let rest = &field[end + 1..];
+    if rest.is_empty() || rest[0] != b'.' {
+        return None;
+    }
+    span_between(&field[..end], &rest[1..])
+}
+
+/// The range between two code points, where the first isn't greater than the second.
+fn span_between(low: &[u8], high: &[u8]) -> Option<CodeRange>
+    ensures value { result ≡ spec.span_between low.now high.now }
+    ensures form { IfSome result IsRange }
+{
+    let low = code_point_of(low)?;
+    let high = code_point_of(high)?;
+    if low > high {
+        return None;
+    }
+    Some(CodeRange { low, high })
+}
+
+/// The code point that four to six hexadecimal digits write.
+fn code_point_of(text: &[u8]) -> Option<u32>
+    ensures value { result ≡ spec.code_point_of text.now }
+    ensures bound { IfSome result (λ c. c ≤ 0x10FFFF) }
+{
+    if text.len() < 4 || text.len() > 6 || !are_hex_digits(text) {
+        return None;
+    }
+    let value = hex_value(text);
+    (value <= LAST).then_some(value)
+}
+
+fn are_hex_digits(text: &[u8]) -> bool
+    ensures { result ≡ list_all is_ascii_hexdigit text.now }
+{
+    text.iter().all(|byte| byte.is_ascii_hexdigit())
+}
+
+/// The number that up to six hexadecimal digits write.
+fn hex_value(digits: &[u8]) -> u32
+    requires short { length digits.now ≤ 6 }
+    requires digits { IsTrue (list_all is_ascii_hexdigit digits.now) }
+    ensures { result ≡ spec.hex_value digits.now }
+{
+    let mut value = 0u32;
+    for byte in digits {
+        value = 16 * value + hex_digit(*byte);
+    }
+    value
+}
+
+/// The number that a hexadecimal digit of either case writes, and less than 16 for any byte.
+fn hex_digit(byte: u8) -> u32
+    ensures value { IsTrue (is_ascii_hexdigit byte) → result ≡ digit_value byte }
+    ensures bound { result < 16 }
+{
+    (byte as char).to_digit(16).unwrap_or(0)
+}

@@ -1,0 +1,9 @@
+pub mod Coverage
+pub mod Rise
+pub mod Joining
+pub mod Places
+pub mod Sweeping
+pub mod Meanings
+pub mod Determined
+pub mod Sorting
+pub mod Search

@@ -1,0 +1,27 @@
+-- The form of a set's list of ranges.
+use Rattle.std.specs.Prelude.{ℕ, ◌+◌, ◌<◌, ◌≤◌, List, [], ◌∷◌}
+use Rattle.std.specs.List.Sorted.{IsPartitionPoint}
+use Rattle.rbbi_model.specs.Ranges.{Range}
+
+-- the range has a first code point and a last one, in this order
+abbrev pub IsRange : Range → Type 0
+IsRange range = (range.low ≤ range.high) × (range.high ≤ 0x10FFFF)
+
+-- the ranges begin at this number or past it, rise, and neither overlap nor touch
+abbrev pub AreRisingFrom : ℕ → List Range → Type 0
+AreRisingFrom bound [] = Unit {0}
+AreRisingFrom bound (range ∷ ranges) =
+    (bound ≤ range.low) × (range.low ≤ range.high) × (range.high ≤ 0x10FFFF) × AreRisingFrom (range.high + 2) ranges
+
+-- the ranges rise, and neither overlap nor touch
+abbrev pub AreRising : List Range → Type 0
+AreRising ranges = AreRisingFrom 0 ranges
+
+-- each range begins at this code point or before it
+abbrev pub BeginUpTo : List Range → ℕ → Type 0
+BeginUpTo [] c = Unit {0}
+BeginUpTo (range ∷ ranges) c = (range.low ≤ c) × BeginUpTo ranges c
+
+-- the number is that of the first range that doesn't end before the code point
+abbrev pub IsNextRange : List Range → ℕ → ℕ → Type 0
+IsNextRange ranges c next = IsPartitionPoint (λ range. range.high < c) (λ range. c ≤ range.high) ranges next
