@@ -7,13 +7,12 @@ use rbbi_io::{RealFiles, RealSink};
 use rbbi_text::Steps;
 use rbbi_tool::rbbi;
 use std::alloc::Global;
-use std::env;
-use std::io;
 use std::io::ErrorKind;
 use std::marker::Brand;
 use std::process::ExitCode;
 use std::rt::{Env, Files};
 use std::sync::ledger::{Blank, Ledger};
+use std::{env, io};
 
 /// The words after the program's name.
 fn words<R: Env + AllocGlobal>(rt: &R) -> io::Result<Vec<String>> {
