@@ -4,15 +4,19 @@ use Rattle.rbbi_lex.specs.declared.token.Token.{Token}
 use Rattle.rbbi_lex.specs.declared.token.TokenKind.{TokenKind}
 use Rattle.rbbi_lex.specs.declared.state.State.{State}
 use Rattle.rbbi_lex.specs.Rows.{start, state_after}
-use Rattle.rbbi_lex.specs.Points.{Fault, TokenAt, FaultAt}
+use Rattle.rbbi_lex.specs.Spellings.{TokenAt}
+use Rattle.rbbi_lex.specs.Faults.{Fault, FaultAt}
+use Rattle.rbbi_lex.specs.Faults as Faults
 use Rattle.rbbi_lex.specs.Skips.{Skipped}
 use Rattle.rbbi_lex.specs.declared.error.LexErr.{LexErr}
-use Rattle.rbbi_lex.specs.declared.error.LexErr.TheVariants.{BadChar, Unbuilt, Memory}
-use Rattle.rbbi_lex.specs.Errors.{TellsFault}
+use Rattle.rbbi_lex.specs.declared.error.LexErr.TheVariants.{BadChar, BadEscape, OpenQuote, OpenProperty, BadTag, BadName, Memory}
+use Rattle.rbbi_lex.specs.Errors.{error_of, Tells, TellsFault}
 use Rattle.rbbi_lex.specs.Steps.{StopsAt}
 use Rattle.rbbi_lex.specs.Lexing.{UsesUp, AreTokens, IsLexFault}
 use Rattle.rbbi_lex.specs.Places.{PlacesRise}
-use Rattle.rbbi_lex.proofs.PointLemmas.{TokenAt-forward, TokenAt-within, FaultAt-within, TokenAt-unique, FaultAt-unique, TokenAt-no_fault}
+use Rattle.rbbi_lex.specs.WellMade.{AreWellMade}
+use Rattle.rbbi_lex.proofs.WellMadeLemmas.{Spells-well_made}
+use Rattle.rbbi_lex.proofs.SpellingLemmas.{TokenAt-forward, TokenAt-within, FaultAt-within, TokenAt-unique, FaultAt-unique, TokenAt-no_fault}
 use Rattle.rbbi_lex.proofs.SkipLemmas.{Skipped-forward, Skipped-unique}
 
 -- one more token at the end
@@ -24,11 +28,29 @@ UsesUp-push x from i [] to j t k u s at =
 UsesUp-push x from i (first ∷ ts) to j t k u s at =
     (u.0, u.1, u.2, UsesUp-push x (state_after from first.kind) u.0 ts to j t k u.3 s at)
 
+-- what an error tells, by what follows from it
+pub Tells-map : (P Q : Fault → ℕ → Type 0) (e : LexErr) → ((fault : Fault) (place : ℕ) → P fault place → Q fault place) → Tells P e → Tells Q e
+Tells-map P Q (BadChar place) f h = f Faults.BadChar place h
+Tells-map P Q (BadEscape place) f h = f Faults.BadEscape place h
+Tells-map P Q (OpenQuote place) f h = f Faults.OpenQuote place h
+Tells-map P Q (OpenProperty place) f h = f Faults.OpenProperty place h
+Tells-map P Q (BadTag place) f h = f Faults.BadTag place h
+Tells-map P Q (BadName place) f h = f Faults.BadName place h
+Tells-map P Q Memory f h = tt
+
+-- the error for a fault tells it
+pub error_of-tells : (P : Fault → ℕ → Type 0) (fault : Fault) (place : ℕ) → P fault place → Tells P (error_of fault place)
+error_of-tells P Faults.BadChar place h = h
+error_of-tells P Faults.BadEscape place h = h
+error_of-tells P Faults.OpenQuote place h = h
+error_of-tells P Faults.OpenProperty place h = h
+error_of-tells P Faults.BadTag place h = h
+error_of-tells P Faults.BadName place h = h
+
 -- the fault at which the reading stops is the first
 pub StopsAt-tells : (x : List ℕ) (ts : List Token) (to : State) (j : ℕ) (e : LexErr) → UsesUp x start 0 ts to j → StopsAt x to j e → TellsFault x e
-StopsAt-tells x ts to j (BadChar place) u s = (ts, to, j, u, s.0, s.1)
-StopsAt-tells x ts to j (Unbuilt place) u s = (ts, to, j, u, s.0, s.1)
-StopsAt-tells x ts to j Memory u s = tt
+StopsAt-tells x ts to j e u s =
+    Tells-map (λ fault place. Skipped x to j place × FaultAt x to place fault) (IsLexFault x) e (λ fault place h. (ts, to, j, u, h.0, h.1)) s
 
 -- a step that reads a token goes forward
 pub step_forward : (x : List ℕ) (state : State) (i j k : ℕ) (kind : TokenKind) → Skipped x state i j → TokenAt x state j k kind → i < k
@@ -110,3 +132,9 @@ UsesUp-rise x from low i (t ∷ ts) to j h u =
     let skipped = Skipped-forward x from i t.place u.1 in
     let forward = TokenAt-forward x from t.place u.0 t.kind u.2 in
     (omega arith, TokenAt-within x from t.place u.0 t.kind u.2, UsesUp-rise x (state_after from t.kind) (t.place + 1) u.0 ts to j (omega arith) u.3)
+
+-- the tokens of a text are well made
+pub UsesUp-well_made : (x : List ℕ) (from : State) (i : ℕ) (ts : List Token) (to : State) (j : ℕ) → UsesUp x from i ts to j → AreWellMade ts
+UsesUp-well_made x from i [] to j u = tt
+UsesUp-well_made x from i (t ∷ ts) to j u =
+    (Spells-well_made x u.2.0 t.place u.0 t.kind u.2.2, UsesUp-well_made x (state_after from t.kind) u.0 ts to j u.3)

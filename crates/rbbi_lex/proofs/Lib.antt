@@ -1,4 +1,11 @@
+pub mod RunLemmas
+pub mod LongestRuns
 pub mod PointLemmas
+pub mod SpellingLemmas
+pub mod Decisions
 pub mod SkipLemmas
+pub mod WellMadeLemmas
 pub mod LexingLemmas
 pub mod Totality
+pub mod TextLemmas
+pub mod WordLemmas

@@ -1,81 +1,123 @@
--- At a place stands one token or one fault, within the text.
-use Rattle.std.proofs.Common.{◌≡◌, ℕ, ◌+◌, ◌<◌, ◌≤◌, List, length, sym, ap, subst, ◌∙◌, arith, slice_get}
+-- At a place one row decides, and what it spells is determined.
+use Rattle.std.proofs.Common.{◌≡◌, ℕ, ◌+◌, ◌<◌, ◌≤◌, inl, inr, true, false, List, [], ◌∷◌, length, refl, sym, ap, subst, ◌∙◌, arith, slice_get}
+use Rattle.std.proofs.lemmas.Bool.{false≢true}
 use Rattle.std.proofs.lemmas.Option.{slice_get_within}
-use Rattle.std.specs.Prelude.{Some}
+use Rattle.std.specs.Prelude.{Option, Some, ◌==◌}
 use Rattle.rbbi_lex.specs.declared.token.TokenKind.{TokenKind}
 use Rattle.rbbi_lex.specs.declared.state.State.{State}
+use Rattle.rbbi_lex.specs.declared.escape.Form.{Form}
+use Rattle.rbbi_lex.specs.declared.escape.Form.TheVariants.{FourDigits, EightDigits, BracedDigits, FewDigits, StandsFor, Unknown}
 use Rattle.rbbi_lex.specs.declared.row.Row.{Row}
-use Rattle.rbbi_lex.specs.declared.row.Row.TheVariants.{LaterForm, Semicolon, VerticalBar, GroupStart, GroupEnd, BareCharacter, OtherCharacter}
+use Rattle.rbbi_lex.specs.declared.row.Row.TheVariants.{Sign, SetSign, BracketedProperty, SetStart, Variable, ControlName, StatusNumber, QuotePair, Quotation, BracedProperty, Escape, Brace, BareCharacter, SetCharacter, OtherCharacter}
+use Rattle.rbbi_lex.specs.Characters.{is_sign}
 use Rattle.rbbi_lex.specs.Rows.{first_row}
-use Rattle.rbbi_lex.specs.Points.{Fault, CharacterAt, RowAt, Spells, TokenAt, FaultAt, fault_of}
+use Rattle.rbbi_lex.specs.Points.{CharacterAt, is_at, RowAt}
+use Rattle.rbbi_lex.specs.Escapes.{form_of, EscapeGoesOn, IsEscape}
+use Rattle.rbbi_lex.specs.Quotations.{IsQuoted, QuotesUpTo}
+use Rattle.rbbi_lex.specs.Spellings.{Spells}
+use Rattle.rbbi_lex.proofs.RunLemmas.{is_at-within}
 
 pub CharacterAt-unique : (x : List ℕ) (i c d : ℕ) → CharacterAt x i c → CharacterAt x i d → c ≡ d
 CharacterAt-unique x i c d p q = let e : Some c ≡ Some d = sym p ∙ q in cc
 
-RowAt-unique : (x : List ℕ) (state : State) (i : ℕ) (r s : Row) → RowAt x state i r → RowAt x state i s → r ≡ s
+pub RowAt-unique : (x : List ℕ) (state : State) (i : ℕ) (r s : Row) → RowAt x state i r → RowAt x state i s → r ≡ s
 RowAt-unique x state i r s p q =
-    let same = ap (λ c. first_row state c (slice_get x (i + 1))) (CharacterAt-unique x i p.0 q.0 p.1 q.1) in
+    let same = ap (λ c. first_row state c (slice_get x (i + 1)) (slice_get x (i + 2))) (CharacterAt-unique x i p.0 q.0 p.1 q.1) in
     let e : Some r ≡ Some s = sym p.2 ∙ same ∙ q.2 in cc
 
-Spells-unique : (x : List ℕ) (row : Row) (i j k : ℕ) (a b : TokenKind) → Spells x row i j a → Spells x row i k b → (j ≡ k) × (a ≡ b)
-Spells-unique x LaterForm i j k a b p q = absurd p
-Spells-unique x Semicolon i j k a b p q = (cc, cc)
-Spells-unique x VerticalBar i j k a b p q = (cc, cc)
-Spells-unique x GroupStart i j k a b p q = (cc, cc)
-Spells-unique x GroupEnd i j k a b p q = (cc, cc)
-Spells-unique x BareCharacter i j k a b p q =
-    let same = CharacterAt-unique x i p.1.0 q.1.0 p.1.1 q.1.1 in (cc, cc)
+-- a character that stands at a place is this one where this one stands there
+pub is_at-same : (x : List ℕ) (i c sign : ℕ) → CharacterAt x i c → is_at x i sign ≡ (c == sign)
+is_at-same x i c sign at = ap (λ o. is_sign o sign) at
+
+EscapeGoesOn-unique : (x : List ℕ) (form : Form) (i j k c d : ℕ) → EscapeGoesOn x form i j c → EscapeGoesOn x form i k d → (j ≡ k) × (c ≡ d)
+EscapeGoesOn-unique x FourDigits i j k c d p q = (p.1 ∙ sym q.1, p.2.0 ∙ sym q.2.0)
+EscapeGoesOn-unique x EightDigits i j k c d p q = (p.1 ∙ sym q.1, p.2.0 ∙ sym q.2.0)
+EscapeGoesOn-unique x BracedDigits i j k c d p q = (p.3 ∙ sym q.3, p.4.0 ∙ sym q.4.0)
+EscapeGoesOn-unique x FewDigits i j k c d p q = (p.1 ∙ sym q.1, p.2.0 ∙ sym q.2.0)
+EscapeGoesOn-unique x (StandsFor e) i j k c d p q = (p.0 ∙ sym q.0, p.1 ∙ sym q.1)
+EscapeGoesOn-unique x Unknown i j k c d p q = absurd p
+
+IsEscape-unique : (x : List ℕ) (i j k c d : ℕ) → IsEscape x i j c → IsEscape x i k d → (j ≡ k) × (c ≡ d)
+IsEscape-unique x i j k c d p q =
+    let same = CharacterAt-unique x (i + 1) q.0 p.0 q.1 p.1 in
+    let q' = subst (λ (e : ℕ). EscapeGoesOn x (form_of e (slice_get x (i + 2))) (i + 2) k d) same q.2 in
+    EscapeGoesOn-unique x (form_of p.0 (slice_get x (i + 2))) (i + 2) j k c d p.2 q'
+
+-- a quote within quotes is the first of a pair
+pub IsQuoted-pair : (x : List ℕ) (i j c : ℕ) → IsQuoted x i j c → is_at x i 39 ≡ true → is_at x (i + 1) 39 ≡ true
+IsQuoted-pair x i j c (inl p) h = p.1
+IsQuoted-pair x i j c (inr p) h =
+    absurd (false≢true (sym p.1 ∙ sym (is_at-same x i c 39 p.0) ∙ h))
+
+-- at a quote that is not the first of a pair, the sequence doesn't go on
+pub IsQuoted-closed : (x : List ℕ) (i j c : ℕ) → IsQuoted x i j c → is_at x i 39 ≡ true → is_at x (i + 1) 39 ≡ false → ⊥
+IsQuoted-closed x i j c p h g = false≢true (sym g ∙ IsQuoted-pair x i j c p h)
+
+pub IsQuoted-unique : (x : List ℕ) (i j k c d : ℕ) → IsQuoted x i j c → IsQuoted x i k d → (j ≡ k) × (c ≡ d)
+IsQuoted-unique x i j k c d (inl p) (inl q) = (p.2 ∙ sym q.2, p.3 ∙ sym q.3)
+IsQuoted-unique x i j k c d (inl p) (inr q) =
+    absurd (false≢true (sym q.1 ∙ sym (is_at-same x i d 39 q.0) ∙ p.0))
+IsQuoted-unique x i j k c d (inr p) (inl q) =
+    absurd (false≢true (sym p.1 ∙ sym (is_at-same x i c 39 p.0) ∙ q.0))
+IsQuoted-unique x i j k c d (inr p) (inr q) =
+    (p.3 ∙ sym q.3, CharacterAt-unique x i c d p.0 q.0)
+
+pub IsQuoted-forward : (x : List ℕ) (i j c : ℕ) → IsQuoted x i j c → i < j
+IsQuoted-forward x i j c (inl p) = omega (arith, p.2)
+IsQuoted-forward x i j c (inr p) = omega (arith, p.3)
+
+-- within quotes a character is written within the text
+pub IsQuoted-within : (x : List ℕ) (i j c : ℕ) → IsQuoted x i j c → i < length x
+IsQuoted-within x i j c (inl p) = is_at-within x i 39 p.0
+IsQuoted-within x i j c (inr p) = slice_get_within x i c p.0
+
+-- behind a character that is written, the rest of the sequence is
+pub QuotesUpTo-rest : (x : List ℕ) (i j c : ℕ) (word : List ℕ) (end : ℕ) → IsQuoted x i j c → QuotesUpTo x i word end → (left : List ℕ) × QuotesUpTo x j left end
+QuotesUpTo-rest x i j c [] end q p =
+    absurd (IsQuoted-closed x i j c q (subst (λ (n : ℕ). is_at x n 39 ≡ true) (sym p.0) p.1) (subst (λ (n : ℕ). is_at x (n + 1) 39 ≡ false) (sym p.0) p.2))
+QuotesUpTo-rest x i j c (d ∷ word) end q p =
+    (word, subst (λ (n : ℕ). QuotesUpTo x n word end) (IsQuoted-unique x i p.0 j d c p.1 q).0 p.2)
+
+pub QuotesUpTo-unique : (x : List ℕ) (i j k : ℕ) (w v : List ℕ) → QuotesUpTo x i w j → QuotesUpTo x i v k → (j ≡ k) × (w ≡ v)
+QuotesUpTo-unique x i j k [] [] p q = (sym p.0 ∙ q.0, refl)
+QuotesUpTo-unique x i j k [] (d ∷ v) p q =
+    absurd (IsQuoted-closed x i q.0 d q.1 (subst (λ (n : ℕ). is_at x n 39 ≡ true) (sym p.0) p.1) (subst (λ (n : ℕ). is_at x (n + 1) 39 ≡ false) (sym p.0) p.2))
+QuotesUpTo-unique x i j k (c ∷ w) [] p q =
+    absurd (IsQuoted-closed x i p.0 c p.1 (subst (λ (n : ℕ). is_at x n 39 ≡ true) (sym q.0) q.1) (subst (λ (n : ℕ). is_at x (n + 1) 39 ≡ false) (sym q.0) q.2))
+QuotesUpTo-unique x i j k (c ∷ w) (d ∷ v) p q =
+    let same = IsQuoted-unique x i q.0 p.0 d c q.1 p.1 in
+    let rest = QuotesUpTo-unique x p.0 j k w v p.2 (subst (λ (n : ℕ). QuotesUpTo x n v k) same.0 q.2) in
+    (rest.0, cc)
+
+pub QuotesUpTo-forward : (x : List ℕ) (i j : ℕ) (w : List ℕ) → QuotesUpTo x i w j → i ≤ j
+QuotesUpTo-forward x i j [] p = omega (arith, p.0)
+QuotesUpTo-forward x i j (c ∷ w) p =
+    let first = IsQuoted-forward x i p.0 c p.1 in
+    let rest = QuotesUpTo-forward x p.0 j w p.2 in omega arith
+
+-- the quote that closes
+pub QuotesUpTo-close : (x : List ℕ) (i j : ℕ) (w : List ℕ) → QuotesUpTo x i w j → is_at x j 39 ≡ true
+QuotesUpTo-close x i j [] p = p.1
+QuotesUpTo-close x i j (c ∷ w) p = QuotesUpTo-close x p.0 j w p.2
+
+same_Some : (a b : TokenKind) (o : Option TokenKind) → o ≡ Some a → o ≡ Some b → a ≡ b
+same_Some a b o p q = let e : Some a ≡ Some b = sym p ∙ q in cc
+
+pub Spells-unique : (x : List ℕ) (row : Row) (i j k : ℕ) (a b : TokenKind) → Spells x row i j a → Spells x row i k b → (j ≡ k) × (a ≡ b)
+Spells-unique x Sign i j k a b p q = (p.1 ∙ sym q.1, same_Some a b _ p.0 q.0)
+Spells-unique x SetSign i j k a b p q = (p.1 ∙ sym q.1, same_Some a b _ p.0 q.0)
+Spells-unique x BracketedProperty i j k a b p q = (p.2 ∙ sym q.2, p.3 ∙ sym q.3)
+Spells-unique x SetStart i j k a b p q = (p.0 ∙ sym q.0, p.1 ∙ sym q.1)
+Spells-unique x Variable i j k a b p q = (p.1 ∙ sym q.1, p.2 ∙ sym q.2)
+Spells-unique x ControlName i j k a b p q = (p.1 ∙ sym q.1, p.2 ∙ sym q.2)
+Spells-unique x StatusNumber i j k a b p q = (p.3 ∙ sym q.3, p.4 ∙ sym q.4)
+Spells-unique x QuotePair i j k a b p q = (p.1 ∙ sym q.1, p.2 ∙ sym q.2)
+Spells-unique x Quotation i j k a b p q =
+    let same = QuotesUpTo-unique x (i + 1) p.1.1 q.1.1 p.1.0 q.1.0 p.1.2 q.1.2 in (cc, cc)
+Spells-unique x BracedProperty i j k a b p q = (p.1 ∙ sym q.1, p.2 ∙ sym q.2)
+Spells-unique x Escape i j k a b p q =
+    let same = IsEscape-unique x i j k p.0 q.0 p.1 q.1 in (same.0, cc)
+Spells-unique x Brace i j k a b p q = absurd p
+Spells-unique x BareCharacter i j k a b p q = (p.1 ∙ sym q.1, same_Some a b _ p.0 q.0)
+Spells-unique x SetCharacter i j k a b p q = (p.1 ∙ sym q.1, same_Some a b _ p.0 q.0)
 Spells-unique x OtherCharacter i j k a b p q = absurd p
-
-Spells-forward : (x : List ℕ) (row : Row) (i j : ℕ) (kind : TokenKind) → Spells x row i j kind → i < j
-Spells-forward x LaterForm i j kind p = absurd p
-Spells-forward x Semicolon i j kind p = omega arith
-Spells-forward x VerticalBar i j kind p = omega arith
-Spells-forward x GroupStart i j kind p = omega arith
-Spells-forward x GroupEnd i j kind p = omega arith
-Spells-forward x BareCharacter i j kind p = omega arith
-Spells-forward x OtherCharacter i j kind p = absurd p
-
-Spells-ends : (x : List ℕ) (row : Row) (i j : ℕ) (kind : TokenKind) → i < length x → Spells x row i j kind → j ≤ length x
-Spells-ends x LaterForm i j kind h p = absurd p
-Spells-ends x Semicolon i j kind h p = omega arith
-Spells-ends x VerticalBar i j kind h p = omega arith
-Spells-ends x GroupStart i j kind h p = omega arith
-Spells-ends x GroupEnd i j kind h p = omega arith
-Spells-ends x BareCharacter i j kind h p = omega arith
-Spells-ends x OtherCharacter i j kind h p = absurd p
-
--- a token goes forward
-pub TokenAt-forward : (x : List ℕ) (state : State) (i j : ℕ) (kind : TokenKind) → TokenAt x state i j kind → i < j
-TokenAt-forward x state i j kind t = Spells-forward x t.0 i j kind t.2
-
--- a token stands within the text
-pub TokenAt-within : (x : List ℕ) (state : State) (i j : ℕ) (kind : TokenKind) → TokenAt x state i j kind → i < length x
-TokenAt-within x state i j kind t = slice_get_within x i t.1.0 t.1.1
-
--- a token ends within the text
-pub TokenAt-ends : (x : List ℕ) (state : State) (i j : ℕ) (kind : TokenKind) → TokenAt x state i j kind → j ≤ length x
-TokenAt-ends x state i j kind t =
-    Spells-ends x t.0 i j kind (TokenAt-within x state i j kind t) t.2
-
--- a fault stands within the text
-pub FaultAt-within : (x : List ℕ) (state : State) (i : ℕ) (fault : Fault) → FaultAt x state i fault → i < length x
-FaultAt-within x state i fault f = slice_get_within x i f.1.0 f.1.1
-
--- at a place stands at most one token
-pub TokenAt-unique : (x : List ℕ) (state : State) (i j k : ℕ) (a b : TokenKind) → TokenAt x state i j a → TokenAt x state i k b → (j ≡ k) × (a ≡ b)
-TokenAt-unique x state i j k a b t u =
-    let same = RowAt-unique x state i u.0 t.0 u.1 t.1 in
-    Spells-unique x t.0 i j k a b t.2 (subst (λ (row : Row). Spells x row i k b) same u.2)
-
--- at a place stands at most one fault
-pub FaultAt-unique : (x : List ℕ) (state : State) (i : ℕ) (f g : Fault) → FaultAt x state i f → FaultAt x state i g → f ≡ g
-FaultAt-unique x state i f g p q =
-    let same = ap fault_of (RowAt-unique x state i p.0 q.0 p.1 q.1) in
-    let e : Some f ≡ Some g = sym p.2.1 ∙ same ∙ q.2.1 in cc
-
--- where a token stands, there is no fault
-pub TokenAt-no_fault : (x : List ℕ) (state : State) (i j : ℕ) (kind : TokenKind) (fault : Fault) → TokenAt x state i j kind → FaultAt x state i fault → ⊥
-TokenAt-no_fault x state i j kind fault t f =
-    let same = RowAt-unique x state i t.0 f.0 t.1 f.1 in
-    f.2.0 j kind (subst (λ (row : Row). Spells x row i j kind) same t.2)

@@ -1,15 +1,44 @@
 -- What is skipped from a place on is determined, and goes forward.
-use Rattle.std.proofs.Common.{◌≡◌, ℕ, zero, suc, ◌≤◌, List, length, false, refl, sym, ap, subst, ◌∙◌, arith}
-use Rattle.std.proofs.lemmas.Bool.{false≢true}
-use Rattle.std.proofs.lemmas.Option.{slice_get_within}
+use Rattle.std.proofs.Common.{◌≡◌, ℕ, zero, suc, ◌+◌, ◌≤◌, ◌<◌, ◌⊎◌, inl, inr, false, List, length, refl, sym, ap, subst, ◌∙◌, arith, slice_get}
+use Rattle.std.proofs.lemmas.Bool.{false≢true, eqb-true, cases_Bool, cases_lt}
+use Rattle.std.specs.Prelude.{Option, None, Some, IsTrue}
 use Rattle.rbbi_lex.specs.declared.state.State.{State}
-use Rattle.rbbi_lex.specs.Characters.{is_white_space}
-use Rattle.rbbi_lex.specs.Points.{CharacterAt}
+use Rattle.rbbi_lex.specs.declared.run.Run.TheVariants.{CommentText}
+use Rattle.rbbi_lex.specs.Characters.{is_white_space, is_sign, passes}
+use Rattle.rbbi_lex.specs.Runs.{run_end}
+use Rattle.rbbi_lex.specs.Points.{is_at}
 use Rattle.rbbi_lex.specs.Skips.{Piece, SkippedIn, Skipped}
-use Rattle.rbbi_lex.proofs.PointLemmas.{CharacterAt-unique}
+use Rattle.rbbi_lex.proofs.RunLemmas.{run_end-within, is_at-within, passes-within}
+
+-- `#` isn't white space
+white_sign : (o : Option ℕ) → IsTrue (passes is_white_space o) → IsTrue (is_sign o 35) → ⊥
+white_sign None w s = false≢true w
+white_sign (Some c) w s =
+    let e : c ≡ 35 = eqb-true c 35 s in
+    false≢true (sym (ap is_white_space e) ∙ w)
 
 Piece-unique : (x : List ℕ) (state : State) (i j k : ℕ) → Piece x state i j → Piece x state i k → j ≡ k
-Piece-unique x state i j k p q = p.3 ∙ sym q.3
+Piece-unique x state i j k (inl p) (inl q) = p.1 ∙ sym q.1
+Piece-unique x state i j k (inl p) (inr q) = absurd (white_sign (slice_get x i) p.0 q.1)
+Piece-unique x state i j k (inr p) (inl q) = absurd (white_sign (slice_get x i) q.0 p.1)
+Piece-unique x state i j k (inr p) (inr q) = p.2 ∙ sym q.2
+
+Piece-within : (x : List ℕ) (state : State) (i j : ℕ) → Piece x state i j → i < length x
+Piece-within x state i j (inl p) = passes-within is_white_space x i p.0
+Piece-within x state i j (inr p) = is_at-within x i 35 p.1
+
+-- a piece goes forward
+pub Piece-forward : (x : List ℕ) (state : State) (i j : ℕ) → Piece x state i j → i < j
+Piece-forward x state i j (inl p) = omega (arith, p.1)
+Piece-forward x state i j (inr p) = omega (arith, p.2)
+
+-- a piece ends within the text
+pub Piece-ends : (x : List ℕ) (state : State) (i j : ℕ) → Piece x state i j → j ≤ length x
+Piece-ends x state i j (inl p) =
+    let within = passes-within is_white_space x i p.0 in omega (arith, p.1)
+Piece-ends x state i j (inr p) =
+    let within = is_at-within x i 35 p.1 in
+    let ends = run_end-within CommentText x (i + 1) (omega arith) in omega (arith, p.2, ends)
 
 -- where no piece begins, nothing is skipped
 pub Skipped-none : (x : List ℕ) (state : State) (i : ℕ) → ((j : ℕ) → ¬ Piece x state i j) → Skipped x state i i
@@ -18,12 +47,29 @@ Skipped-none x state i none = (zero, (refl, none))
 -- nothing is skipped at the end
 pub Skipped-at_end : (x : List ℕ) (state : State) (i : ℕ) → length x ≤ i → Skipped x state i i
 Skipped-at_end x state i h =
-    Skipped-none x state i (λ j p. let within = slice_get_within x i p.0 p.1 in omega arith)
+    Skipped-none x state i (λ j p. let within = Piece-within x state i j p in omega arith)
 
--- nothing is skipped at a character that is no white space
-pub Skipped-at_other : (x : List ℕ) (state : State) (i c : ℕ) → CharacterAt x i c → is_white_space c ≡ false → Skipped x state i i
-Skipped-at_other x state i c at plain =
-    Skipped-none x state i (λ j p. false≢true (sym plain ∙ ap is_white_space (CharacterAt-unique x i c p.0 at p.1) ∙ p.2))
+-- nothing is skipped at a character that is no white space and begins no comment
+pub no_piece : (x : List ℕ) (state : State) (i j : ℕ) → passes is_white_space (slice_get x i) ≡ false → ((0 < state.depth) ⊎ (is_at x i 35 ≡ false)) → Piece x state i j → ⊥
+no_piece x state i j plain other (inl p) = false≢true (sym plain ∙ p.0)
+no_piece x state i j plain (inl inside) (inr p) = absurd (omega (arith, inside, p.0))
+no_piece x state i j plain (inr other) (inr p) = false≢true (sym other ∙ p.1)
+
+-- a piece begins at a place, or none
+pub decide_piece : (x : List ℕ) (state : State) (i : ℕ) → ((j : ℕ) × Piece x state i j) ⊎ ((j : ℕ) → ¬ Piece x state i j)
+decide_piece x state i =
+    elim (cases_Bool (passes is_white_space (slice_get x i))) [
+      | inl white ↦ inl (i + 1, inl (white, refl))
+      | inr plain ↦
+          elim (cases_lt 0 state.depth) [
+            | inl inside ↦ inr (λ j p. no_piece x state i j plain (inl inside) p)
+            | inr outside ↦
+                elim (cases_Bool (is_at x i 35)) [
+                  | inl sign ↦ inl (run_end CommentText x (i + 1), inr (omega arith, sign, refl))
+                  | inr other ↦ inr (λ j p. no_piece x state i j plain (inr other) p)
+                ]
+          ]
+    ]
 
 -- a piece more in front
 pub Skipped-more : (x : List ℕ) (state : State) (i j k : ℕ) → Piece x state i j → Skipped x state j k → Skipped x state i k
@@ -33,7 +79,7 @@ SkippedIn-forward : (x : List ℕ) (state : State) (n i k : ℕ) → SkippedIn x
 SkippedIn-forward x state zero i k s = omega arith
 SkippedIn-forward x state (suc n) i k s =
     let rest = SkippedIn-forward x state n s.0 k s.2 in
-    let step = s.1.3 in omega arith
+    let step = Piece-forward x state i s.0 s.1 in omega arith
 
 -- skipping goes forward
 pub Skipped-forward : (x : List ℕ) (state : State) (i k : ℕ) → Skipped x state i k → i ≤ k

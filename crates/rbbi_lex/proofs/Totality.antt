@@ -1,66 +1,68 @@
 -- Each text has tokens or a fault.
-use Rattle.std.proofs.Common.{◌≡◌, ◌⊎◌, inl, inr, ℕ, zero, suc, ◌+◌, ◌<◌, ◌≤◌, List, [], ◌∷◌, length, get_or, Bool, true, false, cond, refl, subst, arith, slice_get}
-use Rattle.std.proofs.lemmas.Bool.{cases_lt, cases_Bool}
+use Rattle.std.proofs.Common.{◌≡◌, ◌⊎◌, inl, inr, ℕ, zero, suc, ◌+◌, ◌<◌, ◌≤◌, List, [], ◌∷◌, length, get_or, Bool, true, false, cond, eqb, refl, ap, ◌++◌, subst, arith, slice_get}
+use Rattle.std.proofs.lemmas.Bool.{cases_lt}
 use Rattle.std.proofs.lemmas.Option.{slice_get-get_or}
 use Rattle.std.specs.Prelude.{Option, Some}
+use Rattle.std.specs.List.{find}
 use Rattle.rbbi_lex.specs.declared.token.Token.{Token}
 use Rattle.rbbi_lex.specs.declared.token.TokenKind.{TokenKind}
-use Rattle.rbbi_lex.specs.declared.token.TokenKind.TheVariants.{Semi, Bar, ParenOpen, ParenClose, Char}
 use Rattle.rbbi_lex.specs.declared.state.State.{State}
 use Rattle.rbbi_lex.specs.declared.row.Row.{Row}
-use Rattle.rbbi_lex.specs.declared.row.Row.TheVariants.{LaterForm, Semicolon, VerticalBar, GroupStart, GroupEnd, BareCharacter, OtherCharacter}
-use Rattle.rbbi_lex.specs.Characters.{is_white_space}
-use Rattle.rbbi_lex.specs.Rows.{start, state_after, fits, first_row}
-use Rattle.rbbi_lex.specs.Points.{Fault, BadChar, Unbuilt, CharacterAt, RowAt, TokenAt, FaultAt}
+use Rattle.rbbi_lex.specs.declared.row.Row.TheVariants.{Sign, SetSign, BracketedProperty, SetStart, Variable, ControlName, StatusNumber, QuotePair, Quotation, BracedProperty, Escape, Brace, BareCharacter, SetCharacter, OtherCharacter}
+use Rattle.rbbi_lex.specs.Rows.{start, state_after, fits, outer_rows, inner_rows, first_row}
+use Rattle.rbbi_lex.specs.Points.{CharacterAt, RowAt}
+use Rattle.rbbi_lex.specs.Spellings.{Spells, TokenAt}
+use Rattle.rbbi_lex.specs.Faults.{Fault, fault_of, FaultAt}
 use Rattle.rbbi_lex.specs.Skips.{Skipped}
 use Rattle.rbbi_lex.specs.Lexing.{UsesUp, AreTokens, IsLexFault}
-use Rattle.rbbi_lex.proofs.SkipLemmas.{Skipped-more, Skipped-at_end, Skipped-at_other, Skipped-forward}
-use Rattle.rbbi_lex.proofs.PointLemmas.{TokenAt-forward, TokenAt-ends}
+use Rattle.rbbi_lex.proofs.SkipLemmas.{Skipped-none, Skipped-more, Skipped-at_end, Skipped-forward, Piece-forward, Piece-ends, decide_piece}
+use Rattle.rbbi_lex.proofs.SpellingLemmas.{TokenAt-forward, TokenAt-ends}
+use Rattle.rbbi_lex.proofs.Decisions.{Decided, decide}
 use Rattle.rbbi_lex.proofs.LexingLemmas.{Ending, Finished, Stopped, EndsAs}
 
 tried : (b : Bool) (row : Row) (others : Option Row) → ((found : Row) × (others ≡ Some found)) → (found : Row) × (cond b (Some row) others ≡ Some found)
 tried true row others h = (row, refl)
 tried false row others h = h
 
+-- a row fits where the last one always does
+some_fit : (test : Row → Bool) (rows : List Row) (last : Row) → test last ≡ true → (found : Row) × (find test (rows ++ last ∷ []) ≡ Some found)
+some_fit test [] last h = (last, ap (λ b. cond b (Some last) (find test [])) h)
+some_fit test (row ∷ rows) last h =
+    tried (test row) row (find test (rows ++ last ∷ [])) (some_fit test rows last h)
+
+chosen : (b : Bool) (outer inner : Option Row) → ((found : Row) × (outer ≡ Some found)) → ((found : Row) × (inner ≡ Some found)) → (found : Row) × (cond b outer inner ≡ Some found)
+chosen true outer inner p q = p
+chosen false outer inner p q = q
+
 -- some row fits
-some_row : (state : State) (c : ℕ) (next : Option ℕ) → (row : Row) × (first_row state c next ≡ Some row)
-some_row state c next =
-    tried (fits state c next LaterForm) LaterForm _ (tried (fits state c next Semicolon) Semicolon _ (tried (fits state c next VerticalBar) VerticalBar _ (tried (fits state c next GroupStart) GroupStart _ (tried (fits state c next GroupEnd) GroupEnd _ (tried (fits state c next BareCharacter) BareCharacter _ (OtherCharacter, refl))))))
+some_row : (state : State) (c : ℕ) (next third : Option ℕ) → (row : Row) × (first_row state c next third ≡ Some row)
+some_row state c next third =
+    chosen (eqb state.depth 0) (find (fits c next third) outer_rows) (find (fits c next third) inner_rows) (some_fit (fits c next third) (Sign ∷ BracketedProperty ∷ SetStart ∷ Variable ∷ ControlName ∷ StatusNumber ∷ QuotePair ∷ Quotation ∷ BracedProperty ∷ Escape ∷ BareCharacter ∷ []) OtherCharacter refl) (some_fit (fits c next third) (SetSign ∷ BracketedProperty ∷ SetStart ∷ Variable ∷ Brace ∷ BracedProperty ∷ Escape ∷ []) SetCharacter refl)
 
 abbrev AtPoint : List ℕ → State → ℕ → Type 0
 AtPoint x state i =
     ((j : ℕ) × (kind : TokenKind) × TokenAt x state i j kind) ⊎ ((fault : Fault) × FaultAt x state i fault)
 
-by_row : (x : List ℕ) (state : State) (i c : ℕ) → CharacterAt x i c → (row : Row) → RowAt x state i row → AtPoint x state i
-by_row x state i c at LaterForm r = inr (Unbuilt, (LaterForm, r, (λ j kind h. h, refl)))
-by_row x state i c at Semicolon r = inl (i + 1, Semi, (Semicolon, r, (refl, refl)))
-by_row x state i c at VerticalBar r = inl (i + 1, Bar, (VerticalBar, r, (refl, refl)))
-by_row x state i c at GroupStart r = inl (i + 1, ParenOpen, (GroupStart, r, (refl, refl)))
-by_row x state i c at GroupEnd r = inl (i + 1, ParenClose, (GroupEnd, r, (refl, refl)))
-by_row x state i c at BareCharacter r =
-    inl (i + 1, Char c true, (BareCharacter, r, (refl, (c, at, refl))))
-by_row x state i c at OtherCharacter r = inr (BadChar, (OtherCharacter, r, (λ j kind h. h, refl)))
+by_row : (x : List ℕ) (state : State) (i : ℕ) (row : Row) → RowAt x state i row → Decided (Spells x row i) → AtPoint x state i
+by_row x state i row r (inl t) = inl (t.0, t.1, (row, r, t.2))
+by_row x state i row r (inr none) = inr (fault_of row, (row, r, none, refl))
 
 -- at each place of the text stands a token or a fault
 at_point : (x : List ℕ) (state : State) (i : ℕ) → i < length x → AtPoint x state i
 at_point x state i h =
     let at : CharacterAt x i (get_or x i 0) = slice_get-get_or x i 0 h in
-    let row = some_row state (get_or x i 0) (slice_get x (i + 1)) in
-    by_row x state i (get_or x i 0) at row.0 (get_or x i 0, at, row.1)
+    let row = some_row state (get_or x i 0) (slice_get x (i + 1)) (slice_get x (i + 2)) in
+    by_row x state i row.0 (get_or x i 0, at, row.1) (decide x row.0 i)
 
 some_skipped : (n : ℕ) (x : List ℕ) (state : State) (i : ℕ) → i ≤ length x → length x ≤ i + n → (k : ℕ) × Skipped x state i k × (k ≤ length x)
 some_skipped zero x state i h l = (i, Skipped-at_end x state i (omega arith), h)
 some_skipped (suc n) x state i h l =
-    elim (cases_lt i (length x)) [
-      | inr past ↦ (i, Skipped-at_end x state i past, h)
-      | inl within ↦
-          let at : CharacterAt x i (get_or x i 0) = slice_get-get_or x i 0 within in
-          elim (cases_Bool (is_white_space (get_or x i 0))) [
-            | inr plain ↦ (i, Skipped-at_other x state i (get_or x i 0) at plain, h)
-            | inl white ↦
-                let rest = some_skipped n x state (i + 1) (omega arith) (omega arith) in
-                (rest.0, Skipped-more x state i (i + 1) rest.0 (get_or x i 0, at, white, refl) rest.1, rest.2)
-          ]
+    elim (decide_piece x state i) [
+      | inr none ↦ (i, Skipped-none x state i none, h)
+      | inl piece ↦
+          let forward = Piece-forward x state i piece.0 piece.1 in
+          let rest = some_skipped n x state piece.0 (Piece-ends x state i piece.0 piece.1) (omega arith) in
+          (rest.0, Skipped-more x state i piece.0 rest.0 piece.1 rest.1, rest.2)
     ]
 
 abbrev Read : List ℕ → State → ℕ → Type 0

@@ -2,25 +2,50 @@
 use Rattle.std.specs.Prelude.{ℕ, List, codes}
 use Rattle.std.specs.Prelude.{Option, None, Some}
 use Rattle.rbbi_lex.specs.declared.error.LexErr.{LexErr}
-use Rattle.rbbi_lex.specs.declared.error.LexErr.TheVariants.{BadChar, Unbuilt, Memory}
-use Rattle.rbbi_lex.specs.Points.{Fault}
-use Rattle.rbbi_lex.specs.Points as Points
+use Rattle.rbbi_lex.specs.declared.error.LexErr.TheVariants.{BadChar, BadEscape, OpenQuote, OpenProperty, BadTag, BadName, Memory}
+use Rattle.rbbi_lex.specs.Faults.{Fault}
+use Rattle.rbbi_lex.specs.Faults as Faults
 use Rattle.rbbi_lex.specs.Lexing.{IsLexFault}
 
--- the error tells the first fault of the text; want of memory tells nothing
+-- the error for a fault at a place
+abbrev pub error_of : Fault → ℕ → LexErr
+error_of Faults.BadChar place = BadChar place
+error_of Faults.BadEscape place = BadEscape place
+error_of Faults.OpenQuote place = OpenQuote place
+error_of Faults.OpenProperty place = OpenProperty place
+error_of Faults.BadTag place = BadTag place
+error_of Faults.BadName place = BadName place
+
+-- the error tells of a fault and a place that this holds; want of memory tells nothing
+abbrev pub Tells : (Fault → ℕ → Type 0) → LexErr → Type 0
+Tells P (BadChar place) = P Faults.BadChar place
+Tells P (BadEscape place) = P Faults.BadEscape place
+Tells P (OpenQuote place) = P Faults.OpenQuote place
+Tells P (OpenProperty place) = P Faults.OpenProperty place
+Tells P (BadTag place) = P Faults.BadTag place
+Tells P (BadName place) = P Faults.BadName place
+Tells P Memory = Unit {0}
+
+-- the error tells the first fault of the text
 abbrev pub TellsFault : List ℕ → LexErr → Type 0
-TellsFault x (BadChar place) = IsLexFault x Points.BadChar place
-TellsFault x (Unbuilt place) = IsLexFault x Points.Unbuilt place
-TellsFault x Memory = Unit {0}
+TellsFault x e = Tells (IsLexFault x) e
 
 -- the name of the error
 abbrev pub label_of : LexErr → List ℕ
 label_of (BadChar place) = codes "BadChar"
-label_of (Unbuilt place) = codes "Unbuilt"
+label_of (BadEscape place) = codes "BadEscape"
+label_of (OpenQuote place) = codes "OpenQuote"
+label_of (OpenProperty place) = codes "OpenProperty"
+label_of (BadTag place) = codes "BadTag"
+label_of (BadName place) = codes "BadName"
 label_of Memory = codes "Memory"
 
 -- the place that the error carries
 abbrev pub place_of : LexErr → Option ℕ
 place_of (BadChar place) = Some place
-place_of (Unbuilt place) = Some place
+place_of (BadEscape place) = Some place
+place_of (OpenQuote place) = Some place
+place_of (OpenProperty place) = Some place
+place_of (BadTag place) = Some place
+place_of (BadName place) = Some place
 place_of Memory = None

@@ -1,8 +1,15 @@
 pub mod Characters
+pub mod Runs
 pub mod Rows
 pub mod Points
+pub mod Escapes
+pub mod Quotations
+pub mod Properties
+pub mod Spellings
+pub mod Faults
 pub mod Skips
 pub mod Lexing
 pub mod Errors
 pub mod Places
+pub mod WellMade
 pub mod Steps

@@ -1,12 +1,24 @@
 -- What is skipped between tokens.
-use Rattle.std.specs.Prelude.{ℕ, zero, suc, ◌≡◌, ◌+◌, IsTrue, List}
+use Rattle.std.specs.Prelude.{ℕ, zero, suc, ◌≡◌, ◌+◌, ◌⊎◌, IsTrue, List, slice_get}
 use Rattle.rbbi_lex.specs.declared.state.State.{State}
-use Rattle.rbbi_lex.specs.Characters.{is_white_space}
-use Rattle.rbbi_lex.specs.Points.{CharacterAt}
+use Rattle.rbbi_lex.specs.declared.run.Run.TheVariants.{CommentText}
+use Rattle.rbbi_lex.specs.Characters.{is_white_space, passes}
+use Rattle.rbbi_lex.specs.Runs.{run_end}
+use Rattle.rbbi_lex.specs.Points.{is_at}
 
--- the characters from one place to another are skipped at once: one character of white space
+-- one character of white space
+abbrev pub IsWhite : List ℕ → ℕ → ℕ → Type 0
+IsWhite x i j = IsTrue (passes is_white_space (slice_get x i)) × (j ≡ i + 1)
+
+-- a comment, outside of sets: `#` and what follows up to a line terminator, which isn't part of it,
+-- or the end
+abbrev pub IsComment : List ℕ → State → ℕ → ℕ → Type 0
+IsComment x state i j =
+    (state.depth ≡ 0) × IsTrue (is_at x i 35) × (j ≡ run_end CommentText x (i + 1))
+
+-- the characters from one place to another are skipped at once
 abbrev pub Piece : List ℕ → State → ℕ → ℕ → Type 0
-Piece x state i j = (c : ℕ) × CharacterAt x i c × IsTrue (is_white_space c) × (j ≡ i + 1)
+Piece x state i j = IsWhite x i j ⊎ IsComment x state i j
 
 -- so many pieces lie between the places, and none begins at the second
 abbrev pub SkippedIn : List ℕ → State → ℕ → ℕ → ℕ → Type 0

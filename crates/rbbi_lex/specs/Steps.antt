@@ -3,32 +3,40 @@ use Rattle.std.specs.Prelude.{ℕ, ◌≡◌, List, length}
 use Rattle.std.specs.Prelude.{Option, None, Some}
 use Rattle.std.specs.Prelude.{Result, Ok, Err}
 use Rattle.rbbi_lex.specs.declared.token.Token.{Token}
-use Rattle.rbbi_lex.specs.declared.token.TokenKind.{TokenKind}
 use Rattle.rbbi_lex.specs.declared.state.State.{State}
 use Rattle.rbbi_lex.specs.declared.row.Row.{Row}
+use Rattle.rbbi_lex.specs.declared.spelled.Spelled.{Spelled}
+use Rattle.rbbi_lex.specs.declared.escape.Escaped.{Escaped}
 use Rattle.rbbi_lex.specs.declared.error.LexErr.{LexErr}
-use Rattle.rbbi_lex.specs.declared.error.LexErr.TheVariants.{BadChar, Unbuilt, Memory}
 use Rattle.rbbi_lex.specs.Rows.{state_after}
-use Rattle.rbbi_lex.specs.Points.{Fault, Spells, IsFaultBy, TokenAt, FaultAt}
-use Rattle.rbbi_lex.specs.Points as Points
-use Rattle.rbbi_lex.specs.Skips.{Skipped}
+use Rattle.rbbi_lex.specs.Spellings.{Spells, TokenAt}
+use Rattle.rbbi_lex.specs.Quotations.{IsQuoted}
+use Rattle.rbbi_lex.specs.Faults.{SpellsNone, FaultAt}
+use Rattle.rbbi_lex.specs.Errors.{Tells}
+use Rattle.rbbi_lex.specs.Skips.{Skipped, Piece}
 
--- by this row no token is spelled from the place on, and the error tells why
-abbrev pub FailsBy : List ℕ → Row → ℕ → LexErr → Type 0
-FailsBy x row i (BadChar place) = (place ≡ i) × IsFaultBy x row i Points.BadChar
-FailsBy x row i (Unbuilt place) = (place ≡ i) × IsFaultBy x row i Points.Unbuilt
-FailsBy x row i Memory = Unit {0}
+-- what the row spells from the place on, or nothing where it spells no token
+abbrev pub IsSpelling : List ℕ → Row → ℕ → Option Spelled → Type 0
+IsSpelling x row i None = SpellsNone x row i
+IsSpelling x row i (Some spelled) = Spells x row i spelled.end spelled.kind
 
--- what the reading by a row gives: a kind, with the place behind the token, or an error
-abbrev pub IsReading : List ℕ → Row → ℕ → ℕ → Result TokenKind LexErr → Type 0
-IsReading x row i j (Ok kind) = Spells x row i j kind
-IsReading x row i j (Err e) = FailsBy x row i e
+-- a character and the place behind it that are so related, or nothing where there are none
+abbrev pub IsRestBy : (ℕ → ℕ → Type 0) → Option Escaped → Type 0
+IsRestBy P None = (j c : ℕ) → ¬ P j c
+IsRestBy P (Some escaped) = P escaped.end escaped.character
+
+-- the next character within quotes, or nothing where none is written at the place
+abbrev pub IsNextQuoted : List ℕ → ℕ → Option Escaped → Type 0
+IsNextQuoted x i found = IsRestBy (λ j c. IsQuoted x i j c) found
+
+-- where the piece that begins at the place ends, or nothing where none does
+abbrev pub IsPieceEnd : List ℕ → State → ℕ → Option ℕ → Type 0
+IsPieceEnd x state i None = (j : ℕ) → ¬ Piece x state i j
+IsPieceEnd x state i (Some j) = Piece x state i j
 
 -- pieces are skipped, and then stands the fault that the error tells
 abbrev pub StopsAt : List ℕ → State → ℕ → LexErr → Type 0
-StopsAt x from i (BadChar place) = Skipped x from i place × FaultAt x from place Points.BadChar
-StopsAt x from i (Unbuilt place) = Skipped x from i place × FaultAt x from place Points.Unbuilt
-StopsAt x from i Memory = Unit {0}
+StopsAt x from i e = Tells (λ fault place. Skipped x from i place × FaultAt x from place fault) e
 
 -- from one state and place to another a token is read, or the end or a fault is reached
 abbrev pub IsStep : List ℕ → State → ℕ → Result (Option Token) LexErr → State → ℕ → Type 0

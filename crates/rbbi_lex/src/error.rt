@@ -12,9 +12,21 @@ pub enum LexErr {
     /// No token begins with the character at this place.
     #[error("no token begins at character {0}")]
     BadChar(u32),
-    /// A form of the language that is not built yet begins at this place, or the 65th `(`.
-    #[error("what begins at character {0} is not built yet")]
-    Unbuilt(u32),
+    /// The `\` at this place begins no escape.
+    #[error("no escape begins at character {0}")]
+    BadEscape(u32),
+    /// The quoted sequence that begins at this place isn't closed in its line.
+    #[error("the quote at character {0} is not closed")]
+    OpenQuote(u32),
+    /// The property that begins at this place isn't closed in its line.
+    #[error("the property at character {0} is not closed")]
+    OpenProperty(u32),
+    /// The `{` at this place begins no status number, or one past 2,147,483,647.
+    #[error("no status number stands at character {0}")]
+    BadTag(u32),
+    /// No name follows the `$` or `!!` at this place.
+    #[error("no name follows at character {0}")]
+    BadName(u32),
     /// Memory ran out.
     #[error("out of memory")]
     Memory,
@@ -35,7 +47,11 @@ impl LexErr {
     {
         match self {
             LexErr::BadChar(_) => "BadChar",
-            LexErr::Unbuilt(_) => "Unbuilt",
+            LexErr::BadEscape(_) => "BadEscape",
+            LexErr::OpenQuote(_) => "OpenQuote",
+            LexErr::OpenProperty(_) => "OpenProperty",
+            LexErr::BadTag(_) => "BadTag",
+            LexErr::BadName(_) => "BadName",
             LexErr::Memory => "Memory",
         }
     }
@@ -45,7 +61,12 @@ impl LexErr {
         ensures { result ≡ place_of self.now }
     {
         match self {
-            LexErr::BadChar(place) | LexErr::Unbuilt(place) => Some(*place),
+            LexErr::BadChar(place)
+            | LexErr::BadEscape(place)
+            | LexErr::OpenQuote(place)
+            | LexErr::OpenProperty(place)
+            | LexErr::BadTag(place)
+            | LexErr::BadName(place) => Some(*place),
             LexErr::Memory => None,
         }
     }

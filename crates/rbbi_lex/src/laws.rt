@@ -2,7 +2,9 @@
 //! its contract.
 ghost use Rattle.std.specs.Prelude.{◌≡◌, ℕ, List, ◌⊎◌, length};
 ghost use Rattle.rbbi_lex.specs.declared.token.Token.{Token};
-ghost use Rattle.rbbi_lex.specs.Points.{Fault};
+ghost use Rattle.rbbi_lex.specs.declared.run.Run.{Run};
+ghost use Rattle.rbbi_lex.specs.Runs.{run_end, IsLongestRun};
+ghost use Rattle.rbbi_lex.specs.Faults.{Fault};
 ghost use Rattle.rbbi_lex.specs.Lexing.{AreTokens, IsLexFault};
 ghost use Rattle.rbbi_lex.specs.Places.{PlacesRise};
 
@@ -33,4 +35,9 @@ pub fn tokens_or_fault()
 /// characters.
 pub fn places_rise()
     ensures { (x : List ℕ) (ts : List Token) → AreTokens x ts → PlacesRise 0 (length x) ts }
+{}
+
+/// A run ends at the first place, from where it begins on, at which it doesn't go on.
+pub fn runs_are_longest()
+    ensures { (run : Run) (x : List ℕ) (i : ℕ) → IsLongestRun run x i (run_end run x i) }
 {}

@@ -1,23 +1,35 @@
 //! The tokens of the rule language.
 //!
-//! A rule file is cut into tokens by a table of rows (ICU User Guide, "Break Rules"): at each point
-//! white space is skipped, and the first row that fits decides. So far the table knows `;`, `|`,
-//! `(`, `)` and bare characters. All else that the language has is refused as not built yet.
+//! A rule file is cut into tokens by two tables of rows, one outside and one inside of sets (ICU User
+//! Guide, "Break Rules"; UTS #18, "Unicode Regular Expressions", for escapes and properties): at each
+//! point white space and comments are skipped, and the first row that fits decides.
 #![tactic(auto)]
 
+mod character;
 mod error;
+mod escape;
 mod laws;
 mod lexer;
+mod name;
+mod property;
+mod quotation;
 mod row;
+mod run;
+mod sign;
+mod spell;
+mod spelled;
 mod state;
+mod tag;
 #[cfg(test)]
 mod tests;
 mod text;
 mod token;
+mod words;
 
 pub use error::LexErr;
 pub use laws::{
-    faults_are_unique, places_rise, tokens_are_unique, tokens_exclude_faults, tokens_or_fault,
+    faults_are_unique, places_rise, runs_are_longest, tokens_are_unique, tokens_exclude_faults,
+    tokens_or_fault,
 };
 pub use text::lex;
 pub use token::{Token, TokenKind, Tokens};

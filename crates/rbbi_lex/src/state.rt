@@ -7,18 +7,20 @@ use crate::token::TokenKind;
 /// What the lexer remembers of the tokens that it has read.
 #[derive(Drop)]
 pub(crate) struct State {
-    /// How many `(` there were, closed or not.
-    pub groups: usize,
+    /// How many square brackets are open.
+    pub depth: usize,
 }
 
 impl State {
     /// Counts in one more token.
     pub fn note(&mut self, kind: &TokenKind)
-        requires { self.old.groups < 100663296 }
+        requires { self.old.depth < 100663296 }
         ensures { self.new ≡ state_after self.old kind.now }
     {
-        if let TokenKind::ParenOpen = kind {
-            self.groups += 1;
+        match kind {
+            TokenKind::SetOpen => self.depth += 1,
+            TokenKind::SetClose => self.depth = self.depth.saturating_sub(1),
+            _ => {}
         }
     }
 }

@@ -4,6 +4,7 @@ ghost use Rattle.std.specs.Str.{chars};
 ghost use Rattle.rbbi_lex.specs.Lexing.{AreTokens};
 ghost use Rattle.rbbi_lex.specs.Errors.{TellsFault};
 ghost use Rattle.rbbi_lex.specs.Places.{PlacesRise};
+ghost use Rattle.rbbi_lex.specs.WellMade.{AreWellMade};
 
 use crate::error::LexErr;
 use crate::lexer::Lexer;
@@ -22,21 +23,25 @@ fn characters_of(alloc: Global, text: &str) -> Result<Vec<char>, AllocError>
 /// The tokens of a rule file, with their places in characters from 0 (ICU User Guide, "Break
 /// Rules"). The text has at most 100,663,296 bytes.
 ///
-/// Refuses the first fault from the left: `BadChar` where the first row that fits takes no
-/// character, and `Unbuilt` where a form begins that is not built yet. `Memory` tells nothing of the
-/// text.
+/// At each place the first row that fits decides, inside of sets by a table of their own. Refuses
+/// the first place at which it spells no token: `BadEscape` at a `\` that begins no escape,
+/// `OpenQuote` at the quote and `OpenProperty` at the `\p`, `\P` or `[:` that isn't closed in its
+/// line, `BadTag` at a `{` that begins no status number up to 2,147,483,647, `BadName` at a `$` or
+/// `!!` that no name follows, and `BadChar` at a character that begins nothing. `Memory` tells nothing
+/// of the text.
 pub fn lex(alloc: Global, text: &str) -> Result<Tokens, LexErr>
     requires { length text.now ≤ 100663296 }
     ensures exact { MatchResult result (AreTokens (chars text.now)) (TellsFault (chars text.now)) }
     ensures places { IfOk result (PlacesRise 0 (length (chars text.now))) }
+    ensures well_made { IfOk result AreWellMade }
 {
     let mut tokens = Tokens::new(alloc);
     let mut lexer = Lexer {
         characters: characters_of(alloc, text)?,
         place: 0,
-        state: State { groups: 0 },
+        state: State { depth: 0 },
     };
-    while let Some(token) = lexer.next_token()? {
+    while let Some(token) = lexer.next_token(alloc)? {
         tokens.push(token)?;
     }
     Ok(tokens)

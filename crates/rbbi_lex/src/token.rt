@@ -1,6 +1,7 @@
 //! A token, and the list of the tokens of a rule file.
 ghost use Rattle.std.specs.Prelude.{◌≡◌, ◌<◌, List, [], ◌∷◌, ◌++◌, length, slice_get, OnOk, OnErr};
 
+use rbbi_text::Word;
 use std::alloc::{AllocError, Global};
 use std::marker::Model;
 
@@ -9,14 +10,53 @@ use std::marker::Model;
 pub enum TokenKind {
     /// `;`, the end of a statement.
     Semi,
+    /// `=`, after a name that is assigned.
+    Equals,
     /// `|`, between alternatives.
     Bar,
+    /// `/`, between a rule's front and its rest.
+    Slash,
+    /// `^`, at the start of a rule or of a set.
+    Caret,
+    /// `*`, any number of times.
+    Star,
+    /// `+`, once or more.
+    Plus,
+    /// `?`, once or not at all.
+    Quest,
+    /// `.`, any character.
+    Dot,
     /// `(`, the start of a group.
     ParenOpen,
     /// `)`, the end of a group.
     ParenClose,
+    /// `[`, the start of a set.
+    SetOpen,
+    /// `]`, the end of a set.
+    SetClose,
+    /// `-`, in a set.
+    Hyphen,
+    /// `&`, in a set.
+    Amp,
     /// A character that stands for itself. It is bare where it is written without a quote or an escape.
-    Char { c: char, bare: bool },
+    Char {
+        c: char,
+        bare: bool,
+    },
+    /// A quoted sequence, the characters between its quotes.
+    Quoted(Word),
+    /// A variable, its name without `$`.
+    Name(Word),
+    /// A control, its name without `!!`.
+    Control(Word),
+    /// A status number in braces.
+    Tag(u32),
+    /// A property: its name, and its value where there is one.
+    Prop {
+        negated: bool,
+        name: Word,
+        value: Option<Word>,
+    },
 }
 
 /// A token and its place: that of its first character, in characters from 0.

@@ -3,7 +3,7 @@ use Rattle.std.proofs.lemmas.Result.{err_from_is_err_and}
 use Rattle.rbbi_lex.specs.Places.{PlacesRise}
 use Rattle.rbbi_lex.specs.Rows.{start}
 use Rattle.rbbi_lex.specs.Errors.{TellsFault}
-use Rattle.rbbi_lex.proofs.LexingLemmas.{UsesUp-push, StopsAt-tells, step_forward, UsesUp-rise}
+use Rattle.rbbi_lex.proofs.LexingLemmas.{UsesUp-push, StopsAt-tells, step_forward, UsesUp-rise, UsesUp-well_made}
 use Rattle.rbbi_lex.proofs.text.lex.Goals as goal
 
 pub loop-lexer-init : goal.loop-lexer-init
@@ -48,3 +48,8 @@ returns-clause-places c =
     let lexer = c.loop-lexer.lexer in
     let rise = UsesUp-rise lexer.characters.items start 0 0 c.loop-lexer.tokens lexer.state lexer.place (omega arith) c.loop-lexer.invariant.read in
     subst (λ (x : List ℕ). PlacesRise 0 (length x) c.loop-lexer.tokens) c.loop-lexer.invariant.characters rise
+
+pub returns-clause-well_made : goal.returns-clause-well_made
+returns-clause-well_made c =
+    let lexer = c.loop-lexer.lexer in
+    UsesUp-well_made lexer.characters.items start 0 c.loop-lexer.tokens lexer.state lexer.place c.loop-lexer.invariant.read

@@ -1,25 +1,35 @@
-use Rattle.std.proofs.Common.{◌+◌, refl, sym, ◌∙◌, arith}
-use Rattle.std.proofs.lemmas.Option.{slice_get_read}
-use Rattle.rbbi_lex.proofs.SkipLemmas.{Skipped-more, Skipped-at_end, Skipped-at_other}
+use Rattle.std.proofs.Common.{ℕ, List, subst, arith}
+use Rattle.rbbi_lex.specs.Skips.{Piece}
+use Rattle.rbbi_lex.proofs.SkipLemmas.{Skipped-none, Skipped-more, Piece-forward, Piece-ends}
 use Rattle.rbbi_lex.proofs.lexer.Lexer.skip.Goals as goal
 
-pub loop-self-preserved : goal.loop-self-preserved
-loop-self-preserved c =
-    let self = c.loop-self.self in
-    let at = slice_get_read self.characters.items _ self.place c.index.result.now refl (omega arith) c.index.ensures in
+pub invariant_of-self : goal.invariant_of-self
+invariant_of-self c =
+    let self = c.loop-end.self in
+    let piece = subst (λ (x : List ℕ). Piece x self.state self.place c.in-Some.end) c.as_slice.ensures.value c.in-Some.ensures in
+    let forward = Piece-forward self.characters.items self.state self.place c.in-Some.end piece in
+    let ends = Piece-ends self.characters.items self.state self.place c.in-Some.end piece in
+    record { within = omega arith; few_sets = omega arith; short = omega arith }
+
+pub loop-end-smaller : goal.loop-end-smaller
+loop-end-smaller c =
+    let self = c.loop-end.self in
+    let piece = subst (λ (x : List ℕ). Piece x self.state self.place c.in-Some.end) c.as_slice.ensures.value c.in-Some.ensures in
+    let forward = Piece-forward self.characters.items self.state self.place c.in-Some.end piece in
+    let ends = Piece-ends self.characters.items self.state self.place c.in-Some.end piece in omega arith
+
+pub loop-end-preserved : goal.loop-end-preserved
+loop-end-preserved c =
+    let self = c.loop-end.self in
+    let piece = subst (λ (x : List ℕ). Piece x self.state self.place c.in-Some.end) c.as_slice.ensures.value c.in-Some.ensures in
     record {
-      characters = c.loop-self.invariant.characters;
-      state = c.loop-self.invariant.state;
-      skipped = λ k s. c.loop-self.invariant.skipped k (Skipped-more self.characters.items self.state self.place (self.place + 1) k (c.index.result.now, at, sym c.is_white_space.ensures ∙ c.if-is_white_space.true, refl) s);
+      characters = c.loop-end.invariant.characters;
+      state = c.loop-end.invariant.state;
+      skipped = λ k s. c.loop-end.invariant.skipped k (Skipped-more self.characters.items self.state self.place c.in-Some.end k piece s);
     }
 
-pub returns-else-is_white_space-clause-skipped : goal.returns-else-is_white_space-clause-skipped
-returns-else-is_white_space-clause-skipped c =
-    let self = c.loop-self.self in
-    let at = slice_get_read self.characters.items _ self.place c.index.result.now refl (omega arith) c.index.ensures in
-    c.loop-self.invariant.skipped self.place (Skipped-at_other self.characters.items self.state self.place c.index.result.now at (sym c.is_white_space.ensures ∙ c.if-is_white_space.false))
-
-pub returns-after-loop-self-clause-skipped : goal.returns-after-loop-self-clause-skipped
-returns-after-loop-self-clause-skipped c =
-    let self = c.loop-self.self in
-    c.loop-self.invariant.skipped self.place (Skipped-at_end self.characters.items self.state self.place (omega arith))
+pub returns-clause-skipped : goal.returns-clause-skipped
+returns-clause-skipped c =
+    let self = c.loop-end.self in
+    let none = subst (λ (x : List ℕ). (j : ℕ) → ¬ Piece x self.state self.place j) c.as_slice.ensures.value c.in_default.ensures in
+    c.loop-end.invariant.skipped self.place (Skipped-none self.characters.items self.state self.place none)

@@ -1,0 +1,75 @@
+-- What a row spells is well made.
+use Rattle.std.proofs.Common.{◌≡◌, ℕ, ◌+◌, ◌<◌, Bool, true, false, cond, List, [], ◌∷◌, length, sym, ap, subst, ◌∙◌, arith, slice_get}
+use Rattle.std.proofs.lemmas.Bool.{false≢true}
+use Rattle.std.specs.Prelude.{Option, None, Some, option_and_then, option_map}
+use Rattle.rbbi_lex.specs.declared.token.TokenKind.{TokenKind}
+use Rattle.rbbi_lex.specs.declared.token.TokenKind.TheVariants.{Semi, Equals, Bar, Slash, Caret, Star, Plus, Quest, Dot, ParenOpen, ParenClose, SetClose, Hyphen, Amp, Char}
+use Rattle.rbbi_lex.specs.declared.row.Row.{Row}
+use Rattle.rbbi_lex.specs.declared.row.Row.TheVariants.{Sign, SetSign, BracketedProperty, SetStart, Variable, ControlName, StatusNumber, QuotePair, Quotation, BracedProperty, Escape, Brace, BareCharacter, SetCharacter, OtherCharacter}
+use Rattle.rbbi_lex.specs.Rows.{outer_sign, inner_sign}
+use Rattle.rbbi_lex.specs.Points.{is_at}
+use Rattle.rbbi_lex.specs.Quotations.{QuotesUpTo}
+use Rattle.rbbi_lex.specs.Spellings.{Spells}
+use Rattle.rbbi_lex.specs.WellMade.{IsWellMade}
+
+-- where there is a kind, it is well made
+HasWellMade : Option TokenKind → Type 0
+HasWellMade None = Unit {0}
+HasWellMade (Some kind) = IsWellMade kind
+
+none : HasWellMade None
+unfolding HasWellMade
+none = tt
+
+made : (kind : TokenKind) → HasWellMade (Some kind) → IsWellMade kind
+unfolding HasWellMade
+made kind h = h
+
+choice : (b : Bool) (kind : TokenKind) (others : Option TokenKind) → IsWellMade kind → HasWellMade others → HasWellMade (cond b (Some kind) others)
+unfolding HasWellMade
+choice true kind others h g = h
+choice false kind others h g = g
+
+outer : (c : ℕ) → HasWellMade (outer_sign c)
+unfolding outer_sign
+outer c =
+    choice _ Semi _ tt (choice _ Equals _ tt (choice _ Bar _ tt (choice _ Slash _ tt (choice _ Caret _ tt (choice _ Star _ tt (choice _ Plus _ tt (choice _ Quest _ tt (choice _ Dot _ tt (choice _ ParenOpen _ tt (choice _ ParenClose _ tt none))))))))))
+
+inner : (c : ℕ) → HasWellMade (inner_sign c)
+unfolding inner_sign
+inner c = choice _ SetClose _ tt (choice _ Caret _ tt (choice _ Hyphen _ tt (choice _ Amp _ tt none)))
+
+at_sign : (signs : ℕ → Option TokenKind) (o : Option ℕ) → ((c : ℕ) → HasWellMade (signs c)) → HasWellMade (option_and_then signs o)
+at_sign signs None h = none
+at_sign signs (Some c) h = h c
+
+at_bare : (o : Option ℕ) → HasWellMade (option_map (λ c. Char c true) o)
+unfolding HasWellMade
+at_bare None = tt
+at_bare (Some c) = tt
+
+quoted_some : (x : List ℕ) (i : ℕ) (word : List ℕ) (close : ℕ) → is_at x i 39 ≡ false → QuotesUpTo x i word close → 0 < length word
+quoted_some x i [] close single q =
+    absurd (false≢true (sym single ∙ ap (λ k. is_at x k 39) q.0 ∙ q.1))
+quoted_some x i (c ∷ word) close single q = omega arith
+
+-- what a row spells is well made
+pub Spells-well_made : (x : List ℕ) (row : Row) (i j : ℕ) (kind : TokenKind) → Spells x row i j kind → IsWellMade kind
+Spells-well_made x Sign i j kind p =
+    made kind (subst HasWellMade p.0 (at_sign outer_sign (slice_get x i) outer))
+Spells-well_made x SetSign i j kind p =
+    made kind (subst HasWellMade p.0 (at_sign inner_sign (slice_get x i) inner))
+Spells-well_made x BracketedProperty i j kind p = subst IsWellMade (sym p.3) tt
+Spells-well_made x SetStart i j kind p = subst IsWellMade (sym p.1) tt
+Spells-well_made x Variable i j kind p = subst IsWellMade (sym p.2) tt
+Spells-well_made x ControlName i j kind p = subst IsWellMade (sym p.2) tt
+Spells-well_made x StatusNumber i j kind p = subst IsWellMade (sym p.4) p.2
+Spells-well_made x QuotePair i j kind p = subst IsWellMade (sym p.2) tt
+Spells-well_made x Quotation i j kind p =
+    subst IsWellMade (sym p.1.4) (quoted_some x (i + 1) p.1.0 p.1.1 p.0 p.1.2)
+Spells-well_made x BracedProperty i j kind p = subst IsWellMade (sym p.2) tt
+Spells-well_made x Escape i j kind p = subst IsWellMade (sym p.2) tt
+Spells-well_made x Brace i j kind p = absurd p
+Spells-well_made x BareCharacter i j kind p = made kind (subst HasWellMade p.0 (at_bare (slice_get x i)))
+Spells-well_made x SetCharacter i j kind p = made kind (subst HasWellMade p.0 (at_bare (slice_get x i)))
+Spells-well_made x OtherCharacter i j kind p = absurd p

@@ -1,0 +1,37 @@
+-- Runs: the longest pieces of a text whose characters belong together.
+use Rattle.std.specs.Prelude.{ℕ, false, true, ◌<◌, ◌≤◌, ◌≡◌, Bool, ◌||◌, ◌&&◌, ◌==◌, not, if◌then◌else◌, ◌+◌, List, [], ◌∷◌, drop, slice_get}
+use Rattle.std.specs.Prelude.{Option}
+use Rattle.rbbi_lex.specs.declared.run.Run.{Run}
+use Rattle.rbbi_lex.specs.declared.run.Run.TheVariants.{WhiteSpace, CommentText, NameText, ControlText, Digits, HexadecimalDigits, BracedBody, BracedName, BracketedBody, BracketedName}
+use Rattle.rbbi_lex.specs.Characters.{is_white_space, is_line_end, is_name_character, is_word_character, is_digit, is_hexadecimal_digit, is_sign, passes}
+
+-- the run goes on with this character, with that one, or none, behind it
+abbrev pub goes_on : Run → ℕ → Option ℕ → Bool
+goes_on WhiteSpace c next = is_white_space c
+goes_on CommentText c next = not (is_line_end c)
+goes_on NameText c next = is_name_character c
+goes_on ControlText c next = is_word_character c
+goes_on Digits c next = is_digit c
+goes_on HexadecimalDigits c next = is_hexadecimal_digit c
+goes_on BracedBody c next = not (is_line_end c || c == 125)
+goes_on BracedName c next = not (is_line_end c || c == 125 || c == 61)
+goes_on BracketedBody c next = not (is_line_end c || (c == 58 && is_sign next 93))
+goes_on BracketedName c next = not (is_line_end c || (c == 58 && is_sign next 93) || c == 61)
+
+-- how many characters from the front on belong to the run
+abbrev pub run_len : Run → List ℕ → ℕ
+run_len run [] = 0
+run_len run (c ∷ x) = if goes_on run c (slice_get x 0) then run_len run x + 1 else 0
+
+-- the place at which the run from this place on ends
+abbrev pub run_end : Run → List ℕ → ℕ → ℕ
+run_end run x i = i + run_len run (drop i x)
+
+-- whether the run goes on at a place
+abbrev pub goes_on_at : Run → List ℕ → ℕ → Bool
+goes_on_at run x k = passes (λ c. goes_on run c (slice_get x (k + 1))) (slice_get x k)
+
+-- the run goes on at each place from the first up to the second, and not at that one
+abbrev pub IsLongestRun : Run → List ℕ → ℕ → ℕ → Type 0
+IsLongestRun run x i j =
+    (i ≤ j) × ((k : ℕ) → i ≤ k → k < j → goes_on_at run x k ≡ true) × (goes_on_at run x j ≡ false)

@@ -1,0 +1,63 @@
+//! Quoted sequences.
+ghost use Rattle.std.specs.Prelude.{◌<◌, length, IfOk};
+ghost use Rattle.rbbi_lex.specs.declared.row.Row.TheVariants.{Quotation};
+ghost use Rattle.rbbi_lex.specs.Steps.{IsNextQuoted, IsSpelling};
+
+use crate::character::{character_at, is_line_end, stands_at};
+use crate::escape::Escaped;
+use crate::spelled::Spelled;
+use crate::token::TokenKind;
+use crate::words::push_character;
+use rbbi_text::Word;
+use std::alloc::{AllocError, Global};
+
+/// The next character within quotes: `''` is one quote, and each other character but a line
+/// terminator stands for itself.
+fn next_quoted(text: &[char], at: usize) -> Option<Escaped>
+    ensures { IsNextQuoted text.now at result }
+{
+    let c = character_at(text, at)?;
+    if c == '\'' {
+        if stands_at(text, at + 1, '\'') {
+            return Some(Escaped {
+                character: c,
+                end: at + 2,
+            });
+        }
+        return None;
+    }
+    if is_line_end(c) {
+        return None;
+    }
+    Some(Escaped {
+        character: c,
+        end: at + 1,
+    })
+}
+
+/// The quoted sequence that opens at a place, if it isn't empty and is closed in its line.
+pub(crate) fn quotation(
+    alloc: Global,
+    text: &[char],
+    at: usize,
+) -> Result<Option<Spelled>, AllocError>
+    requires { at < length text.now }
+    ensures { IfOk result (IsSpelling text.now Quotation at) }
+{
+    if stands_at(text, at + 1, '\'') {
+        return Ok(None);
+    }
+    let mut word = String::new(alloc);
+    let mut close = at + 1;
+    while let Some(next) = next_quoted(text, close) {
+        let character = next.character;
+        push_character(&mut word, character)?;
+        close = next.end;
+    }
+    if !stands_at(text, close, '\'') {
+        return Ok(None);
+    }
+    let kind = TokenKind::Quoted(Word::new(alloc, word.as_str())?);
+    let end = close + 1;
+    Ok(Some(Spelled { kind, end }))
+}

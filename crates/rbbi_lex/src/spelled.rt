@@ -1,0 +1,9 @@
+//! A token as a row of the table spells it.
+use crate::token::TokenKind;
+
+/// What a row of the table spells, and the place behind it.
+#[derive(Drop)]
+pub(crate) struct Spelled {
+    pub kind: TokenKind,
+    pub end: usize,
+}

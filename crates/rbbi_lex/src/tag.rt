@@ -1,0 +1,34 @@
+//! Status numbers in braces.
+ghost use Rattle.std.specs.Prelude.{◌<◌, length};
+ghost use Rattle.rbbi_lex.specs.declared.row.Row.TheVariants.{StatusNumber};
+ghost use Rattle.rbbi_lex.specs.Steps.{IsSpelling};
+
+use crate::character::stands_at;
+use crate::run::{Run, run_end};
+use crate::spelled::Spelled;
+use crate::token::TokenKind;
+use crate::words::number_between;
+
+/// The greatest status number.
+const MOST_TAG: u32 = 2_147_483_647;
+
+/// The status number behind the `{` at a place, if one is there, isn't too great, and is closed.
+pub(crate) fn tag(text: &[char], at: usize) -> Option<Spelled>
+    requires { at < length text.now }
+    ensures { IsSpelling text.now StatusNumber at result }
+{
+    let start = run_end(Run::WhiteSpace, text, at + 1);
+    let end = run_end(Run::Digits, text, start);
+    let close = run_end(Run::WhiteSpace, text, end);
+    if start == end || !stands_at(text, close, '}') {
+        return None;
+    }
+    let number = number_between(text, 10, start, end);
+    if number > MOST_TAG {
+        return None;
+    }
+    Some(Spelled {
+        kind: TokenKind::Tag(number),
+        end: close + 1,
+    })
+}
