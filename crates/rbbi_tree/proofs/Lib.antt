@@ -1,0 +1,10 @@
+pub mod Backs
+pub mod Rolls
+pub mod Runs
+pub mod CompleteSets
+pub mod Complete
+pub mod SoundSets
+pub mod Sound
+pub mod Finish
+pub mod Depth
+pub mod Places

@@ -1,0 +1,46 @@
+-- How many brackets are open after tokens.
+use Rattle.std.specs.Prelude.{ℕ, ◌≡◌, ◌<◌, ◌≤◌, List, [], ◌∷◌, length, take, ◌+◌, ◌-◌}
+use Rattle.rbbi_lex.specs.declared.token.Token.{Token}
+use Rattle.rbbi_lex.specs.declared.token.TokenKind.{TokenKind}
+use Rattle.rbbi_lex.specs.declared.token.TokenKind.TheVariants.{Semi, Equals, Bar, Slash, Caret, Star, Plus, Quest, Dot, ParenOpen, ParenClose, SetOpen, SetClose, Hyphen, Amp, Char, Quoted, Name, Control, Tag, Prop}
+
+-- how many brackets, round and square, are open after a token, where so many were open before it
+abbrev pub open_after : TokenKind → ℕ → ℕ
+open_after ParenOpen open_ones = open_ones + 1
+open_after SetOpen open_ones = open_ones + 1
+open_after ParenClose open_ones = open_ones - 1
+open_after SetClose open_ones = open_ones - 1
+open_after Semi open_ones = open_ones
+open_after Equals open_ones = open_ones
+open_after Bar open_ones = open_ones
+open_after Slash open_ones = open_ones
+open_after Caret open_ones = open_ones
+open_after Star open_ones = open_ones
+open_after Plus open_ones = open_ones
+open_after Quest open_ones = open_ones
+open_after Dot open_ones = open_ones
+open_after Hyphen open_ones = open_ones
+open_after Amp open_ones = open_ones
+open_after (Char c bare) open_ones = open_ones
+open_after (Quoted word) open_ones = open_ones
+open_after (Name word) open_ones = open_ones
+open_after (Control word) open_ones = open_ones
+open_after (Tag status) open_ones = open_ones
+open_after (Prop negated word value) open_ones = open_ones
+
+-- how many brackets are open after the tokens, where so many were open before them
+abbrev pub open_from : ℕ → List Token → ℕ
+open_from open_ones [] = open_ones
+open_from open_ones (t ∷ tokens) = open_from (open_after t.kind open_ones) tokens
+
+-- no bracket among the tokens before this number makes more than 64 open ones
+abbrev pub IsShallowBefore : List Token → ℕ → Type 0
+IsShallowBefore tokens k = (j : ℕ) → j < k → open_from 0 (take (j + 1) tokens) ≤ 64
+
+-- the token with this number is the first bracket, round or square, that makes 65 open ones
+abbrev pub IsDeepAt : List Token → ℕ → Type 0
+IsDeepAt tokens k = (k < length tokens) × (open_from 0 (take (k + 1) tokens) ≡ 65) × IsShallowBefore tokens k
+
+-- no token is the first bracket that makes 65 open ones
+abbrev pub IsShallow : List Token → Type 0
+IsShallow tokens = (k : ℕ) → ¬ IsDeepAt tokens k

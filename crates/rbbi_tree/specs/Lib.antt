@@ -1,0 +1,9 @@
+pub mod Trees
+pub mod Values
+pub mod Grammar
+pub mod Brackets
+pub mod Refusals
+pub mod SetMachine
+pub mod Machine
+pub mod SetStates
+pub mod States

@@ -1,0 +1,22 @@
+-- What the state of a set that is being read stands for.
+use Rattle.std.specs.Prelude.{◌≡◌, None, ℕ, map, reverse, Option}
+use Rattle.rbbi_tree.specs.Values.{part_tree}
+use Rattle.rbbi_tree.specs.SetMachine.{SetLevelTree, OuterSetTree}
+use Rattle.rbbi_tree.specs.declared.error.TreeErr.{TreeErr}
+use Rattle.rbbi_tree.specs.declared.error.TreeErr.TheVariants.{Syntax, TooDeep, Memory}
+use Rattle.rbbi_tree.specs.declared.set_level.SetLevel.{SetLevel}
+use Rattle.rbbi_tree.specs.declared.set_level.OuterSet.{OuterSet}
+
+-- the set so far that a value stands for
+abbrev pub set_level_tree : SetLevel → SetLevelTree
+set_level_tree s = record { place = s.place; negated = s.negated; parts = reverse (map part_tree s.parts.items); state = s.state }
+
+-- the outer set that a value stands for
+abbrev pub outer_set_tree : OuterSet → OuterSetTree
+outer_set_tree o = record { place = o.place; negated = o.negated; parts = reverse (map part_tree o.parts.items); join = o.join }
+
+-- what a refusal at a token of this place says of what the machine does: for a fault of syntax, that it is stuck there
+abbrev pub IsStuckAt : {A : Type 0} → ℕ → Option A → TreeErr → Type 0
+IsStuckAt at after (Syntax place) = (after ≡ None) × (place ≡ at)
+IsStuckAt at after (TooDeep place) = ⊥
+IsStuckAt at after Memory = Unit {0}

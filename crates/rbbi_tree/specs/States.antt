@@ -1,0 +1,42 @@
+-- What the parser's state stands for.
+use Rattle.std.specs.Prelude.{Some, None, map, reverse, Option}
+use Rattle.rbbi_tree.specs.Values.{expr_tree, seq_tree, item_tree, statement_tree, statement_trees}
+use Rattle.rbbi_tree.specs.SetMachine.{SetsTree}
+use Rattle.rbbi_tree.specs.Machine.{LevelTree, GroupTree, HeadTree, between, assigning, ruling, resting, ended, Progress}
+use Rattle.rbbi_tree.specs.SetStates.{set_level_tree, outer_set_tree}
+use Rattle.rbbi_tree.specs.declared.level.Level.{Level}
+use Rattle.rbbi_tree.specs.declared.parser.OpenGroup.{OpenGroup}
+use Rattle.rbbi_tree.specs.declared.parser.OpenSets.{OpenSets}
+use Rattle.rbbi_tree.specs.declared.parser.Head.{Head}
+use Rattle.rbbi_tree.specs.declared.parser.Head.TheVariants.{Between, Assign, Rule, Rest, Whole}
+use Rattle.rbbi_tree.specs.declared.parser.Parser.{Parser}
+
+-- the expression so far that a level stands for
+abbrev pub level_tree : Level → LevelTree
+level_tree level = record { sequences = reverse (map seq_tree level.sequences.items); items = reverse (map item_tree level.items.items) }
+
+-- the open group that a value stands for
+abbrev pub group_tree : OpenGroup → GroupTree
+group_tree g = record { place = g.place; outer = level_tree g.outer }
+
+-- the open sets that a value stands for
+abbrev pub sets_tree : OpenSets → SetsTree
+sets_tree sets = record { innermost = set_level_tree sets.innermost; outers = reverse (map outer_set_tree sets.outers.items) }
+
+-- the same, where sets are open
+abbrev pub open_sets_tree : Option OpenSets → Option SetsTree
+open_sets_tree None = None
+open_sets_tree (Some sets) = Some (sets_tree sets)
+
+-- the head that a value stands for
+abbrev pub head_tree : Head → HeadTree
+head_tree Between = between
+head_tree (Assign name place) = assigning name place
+head_tree (Rule place no_chain_in) = ruling place no_chain_in
+head_tree (Rest place no_chain_in front slash) = resting place no_chain_in (expr_tree front) slash
+head_tree (Whole statement) = ended (statement_tree statement)
+
+-- the file so far that a parser stands for
+abbrev pub progress : Parser → Progress
+progress parser =
+    record { statements = statement_trees parser.statements.items; head = head_tree parser.head; groups = reverse (map group_tree parser.groups.items); level = level_tree parser.level; sets = open_sets_tree parser.sets }

@@ -1,0 +1,121 @@
+//! An expression that is being read.
+ghost use Rattle.std.specs.Prelude.{◌≡◌, ◌==◌, Some, OnOk, IfOk, IfErr, length};
+ghost use Rattle.rbbi_tree.specs.Values.{item_tree, expr_tree};
+ghost use Rattle.rbbi_tree.specs.Machine.{empty_level, with_item, with_sequence, whole, quantified, name_of};
+ghost use Rattle.rbbi_tree.specs.SetStates.{IsStuckAt};
+ghost use Rattle.rbbi_tree.specs.States.{level_tree};
+
+use crate::error::TreeErr;
+use crate::syntax::{Atom, Expr, Item, Quant, Seq};
+use rbbi_text::Word;
+use std::alloc::{AllocError, Global};
+use std::mem;
+
+/// An expression so far: the sequences that a bar ended, and the items after the last bar.
+#[derive(Drop)]
+pub struct Level {
+    sequences: Vec<Seq>,
+    items: Vec<Item>,
+}
+
+impl Level {
+    /// An expression before its first token.
+    pub fn new(alloc: Global) -> Level
+        ensures { level_tree result ≡ empty_level }
+    {
+        Level {
+            sequences: Vec::new(alloc),
+            items: Vec::new(alloc),
+        }
+    }
+
+    /// Whether no item stands after the last bar.
+    pub fn lacks_item(&self) -> bool
+        ensures { result ≡ (length self.now.items.items == 0) }
+    {
+        self.items.is_empty()
+    }
+
+    /// Whether there is no bar.
+    pub fn lacks_bar(&self) -> bool
+        ensures { result ≡ (length self.now.sequences.items == 0) }
+    {
+        self.sequences.is_empty()
+    }
+
+    /// One more item.
+    pub fn push(&mut self, item: Item) -> Result<(), AllocError>
+        ensures { OnOk result (level_tree self.new ≡ with_item (item_tree item) (level_tree self.old)) }
+    {
+        self.items.push(item)?;
+        Ok(())
+    }
+
+    /// Says how often the last item stands, which must not have been said before.
+    pub fn quantify(&mut self, place: u32, quant: Quant) -> Result<(), TreeErr>
+        ensures read { OnOk result (quantified quant (level_tree self.old).items ≡ Some ((level_tree self.new).items)) }
+        ensures same { OnOk result ((level_tree self.new).sequences ≡ (level_tree self.old).sequences) }
+        ensures stuck { IfErr result (λ e. IsStuckAt place (quantified quant (level_tree self.old).items) e) }
+    {
+        let Some(item) = self.items.pop() else {
+            return Err(TreeErr::Syntax(place));
+        };
+        let Item {
+            place: at,
+            atom,
+            quant: former,
+        } = item;
+        match former {
+            Quant::Once => {}
+            Quant::Star | Quant::Plus | Quant::Quest => return Err(TreeErr::Syntax(place)),
+        }
+        self.items.push(Item {
+            place: at,
+            atom,
+            quant,
+        })?;
+        Ok(())
+    }
+
+    /// Makes the items a sequence.
+    pub fn end_sequence(&mut self, alloc: Global) -> Result<(), AllocError>
+        ensures { OnOk result (level_tree self.new ≡ with_sequence (level_tree self.old)) }
+    {
+        let items = mem::replace(&mut self.items, Vec::new(alloc));
+        self.sequences.push(Seq { items })?;
+        Ok(())
+    }
+
+    /// The expression of the sequences and the items.
+    pub fn into_expr(self) -> Result<Expr, AllocError>
+        ensures { IfOk result (λ expr. expr_tree expr ≡ whole (level_tree self)) }
+    {
+        let Level {
+            mut sequences,
+            items,
+        } = self;
+        sequences.push(Seq { items })?;
+        Ok(Expr { items: sequences })
+    }
+
+    /// The name that is all of this expression, for an equals sign at this place.
+    pub fn into_name(mut self, place: u32) -> Result<Word, TreeErr>
+        ensures read { IfOk result (λ word. name_of (level_tree self).sequences (level_tree self).items ≡ Some word) }
+        ensures stuck { IfErr result (λ e. IsStuckAt place (name_of (level_tree self).sequences (level_tree self).items) e) }
+    {
+        if !self.sequences.is_empty() {
+            return Err(TreeErr::Syntax(place));
+        }
+        let Some(item) = self.items.pop() else {
+            return Err(TreeErr::Syntax(place));
+        };
+        if !self.items.is_empty() {
+            return Err(TreeErr::Syntax(place));
+        }
+        let Item { atom, quant, .. } = item;
+        match (atom, quant) {
+            (Atom::Name(word), Quant::Once) => Ok(word),
+            _ => Err(TreeErr::Syntax(place)),
+        }
+    }
+}

@@ -1,0 +1,20 @@
+//! The syntax trees of rule files, and the parser that builds them from tokens.
+#![tactic(auto)]
+
+mod copies;
+mod error;
+mod file;
+mod laws;
+mod level;
+mod parser;
+mod set_level;
+mod syntax;
+#[cfg(test)]
+mod tests;
+
+pub use error::TreeErr;
+pub use file::parse;
+pub use laws::{at_most_one_deep, at_most_one_fault, at_most_one_reading};
+pub use syntax::{
+    Atom, Expr, Item, Join, Parts, Quant, Seq, SetExpr, SetItem, SetPart, Statement, Statements,
+};

@@ -1,0 +1,489 @@
+//! The parser: what each token of a rule file makes of what was read before it.
+ghost use Rattle.std.specs.Prelude.{◌≡◌, [], Some, None, OnOk, IfOk, IfErr, IsTrue};
+ghost use Rattle.rbbi_tree.specs.Values.{atom_tree, statement_tree, statement_trees};
+ghost use Rattle.rbbi_tree.specs.Machine.{after, between, ended, fresh, with_sets, with_statement, begun, atom_read, advance, advance_outside, advance_inside, at_atom, at_open, at_set_open, at_quant, quantified, at_bar, at_close, at_slash, at_caret, at_control, at_equals, at_semi, statement_at, statement_read, at_inner_open, at_inner_close};
+ghost use Rattle.rbbi_tree.specs.SetMachine.{join_in, ended_parts};
+ghost use Rattle.rbbi_tree.specs.SetStates.{IsStuckAt};
+ghost use Rattle.rbbi_tree.specs.States.{progress, sets_tree};
+
+use crate::copies::{copy_of, copy_of_option};
+use crate::error::TreeErr;
+use crate::level::Level;
+use crate::set_level::{OuterSet, SetLevel};
+use crate::syntax::{Atom, Expr, Item, Quant, Statement, Statements};
+use rbbi_lex::{Token, TokenKind};
+use rbbi_text::Word;
+use std::alloc::{AllocError, Global};
+use std::mem;
+
+/// What was read of a statement before the expression that is being read. Places are in characters from 0.
+#[derive(Drop)]
+enum Head {
+    /// Nothing of a statement.
+    Between,
+    /// A name and an equals sign.
+    Assign {
+        name: Word,
+        place: u32,
+    },
+    /// Perhaps a `^`, and the place of the rule's first token.
+    Rule {
+        place: u32,
+        no_chain_in: bool,
+    },
+    /// The same, the rule's front, and the place of the `/` behind it.
+    Rest {
+        place: u32,
+        no_chain_in: bool,
+        front: Expr,
+        slash: u32,
+    },
+    /// The whole statement but its `;`.
+    Whole(Statement),
+}
+
+/// A group that no bracket has closed yet.
+#[derive(Drop)]
+struct OpenGroup {
+    /// The place of its bracket.
+    place: u32,
+    /// The expression that it stands in.
+    outer: Level,
+}
+
+/// The sets that are open.
+#[derive(Drop)]
+struct OpenSets {
+    innermost: SetLevel,
+    /// The others, from the outermost on.
+    outers: Vec<OuterSet>,
+}
+
+/// A rule file so far: a pushdown machine that builds trees.
+///
+/// The groups and sets stand in lists of their own and not on the call stack.
+#[derive(Drop)]
+pub struct Parser {
+    /// The statements that ended.
+    statements: Vec<Statement>,
+    /// What came before the expression of a further statement.
+    head: Head,
+    /// The groups of that statement that are not closed, the outermost first.
+    groups: Vec<OpenGroup>,
+    /// The innermost expression.
+    level: Level,
+    /// The sets that are open there.
+    sets: Option<OpenSets>,
+}
+
+impl Parser {
+    /// A parser before the first token.
+    pub fn new(alloc: Global) -> Parser
+        ensures { progress result ≡ after [] }
+    {
+        Parser {
+            statements: Vec::new(alloc),
+            head: Head::Between,
+            groups: Vec::new(alloc),
+            level: Level::new(alloc),
+            sets: None,
+        }
+    }
+
+    /// Begins a rule at this place, where no statement has begun. No atom may follow a whole statement.
+    fn begin(&mut self, place: u32) -> Result<(), TreeErr>
+        ensures read { OnOk result (begun place (progress self.old).head (progress self.old) ≡ Some (progress self.new)) }
+        ensures stuck { IfErr result (λ e. IsStuckAt place (begun place (progress self.old).head (progress self.old)) e) }
+    {
+        match &self.head {
+            Head::Between => {}
+            Head::Assign { .. } | Head::Rule { .. } | Head::Rest { .. } => return Ok(()),
+            Head::Whole(_) => return Err(TreeErr::Syntax(place)),
+        }
+        self.head = Head::Rule {
+            place,
+            no_chain_in: false,
+        };
+        Ok(())
+    }
+
+    /// Adds an atom that begins at this place.
+    fn push_atom(&mut self, place: u32, atom: Atom) -> Result<(), AllocError>
+        ensures { OnOk result (progress self.new ≡ atom_read place (atom_tree atom) (progress self.old)) }
+    {
+        self.level.push(Item {
+            place,
+            atom,
+            quant: Quant::Once,
+        })
+    }
+
+    /// Reads an atom of one token.
+    fn read_atom(&mut self, place: u32, atom: Atom) -> Result<(), TreeErr>
+        ensures read { OnOk result (at_atom place (atom_tree atom) (progress self.old) ≡ Some (progress self.new)) }
+        ensures stuck { IfErr result (λ e. IsStuckAt place (at_atom place (atom_tree atom) (progress self.old)) e) }
+    {
+        self.begin(place)?;
+        self.push_atom(place, atom)?;
+        Ok(())
+    }
+
+    /// Reads an opening round bracket.
+    fn begin_group(&mut self, alloc: Global, place: u32) -> Result<(), TreeErr>
+        ensures read { OnOk result (at_open place (progress self.old) ≡ Some (progress self.new)) }
+        ensures stuck { IfErr result (λ e. IsStuckAt place (at_open place (progress self.old)) e) }
+    {
+        self.begin(place)?;
+        let outer = mem::replace(&mut self.level, Level::new(alloc));
+        self.groups.push(OpenGroup { place, outer })?;
+        Ok(())
+    }
+
+    /// Reads an opening square bracket, outside of sets.
+    fn begin_set(&mut self, alloc: Global, place: u32) -> Result<(), TreeErr>
+        ensures read { OnOk result (at_set_open place (progress self.old) ≡ Some (progress self.new)) }
+        ensures stuck { IfErr result (λ e. IsStuckAt place (at_set_open place (progress self.old)) e) }
+    {
+        self.begin(place)?;
+        self.sets = Some(OpenSets {
+            innermost: SetLevel::new(alloc, place),
+            outers: Vec::new(alloc),
+        });
+        Ok(())
+    }
+
+    /// Reads a closing round bracket. It needs an item before it, and an open group.
+    fn end_group(&mut self, place: u32) -> Result<(), TreeErr>
+        ensures read { OnOk result (at_close (progress self.old).level.items (progress self.old).groups (progress self.old) ≡ Some (progress self.new)) }
+        ensures stuck { IfErr result (λ e. IsStuckAt place (at_close (progress self.old).level.items (progress self.old).groups (progress self.old)) e) }
+    {
+        if self.level.lacks_item() {
+            return Err(TreeErr::Syntax(place));
+        }
+        let Some(group) = self.groups.pop() else {
+            return Err(TreeErr::Syntax(place));
+        };
+        let inner = mem::replace(&mut self.level, group.outer);
+        let atom = Atom::Group(inner.into_expr()?);
+        self.push_atom(group.place, atom)?;
+        Ok(())
+    }
+
+    /// Reads a sign how often an atom stands. It needs an atom right before it.
+    fn read_quant(&mut self, place: u32, quant: Quant) -> Result<(), TreeErr>
+        ensures read { OnOk result (at_quant (quantified quant (progress self.old).level.items) (progress self.old) ≡ Some (progress self.new)) }
+        ensures stuck { IfErr result (λ e. IsStuckAt place (at_quant (quantified quant (progress self.old).level.items) (progress self.old)) e) }
+    {
+        self.level.quantify(place, quant)
+    }
+
+    /// Reads a bar. It needs an item before it, and stands beside no slash.
+    fn read_bar(&mut self, alloc: Global, place: u32) -> Result<(), TreeErr>
+        ensures read { OnOk result (at_bar (progress self.old).level.items (progress self.old).groups (progress self.old) ≡ Some (progress self.new)) }
+        ensures stuck { IfErr result (λ e. IsStuckAt place (at_bar (progress self.old).level.items (progress self.old).groups (progress self.old)) e) }
+    {
+        if self.level.lacks_item() {
+            return Err(TreeErr::Syntax(place));
+        }
+        if self.groups.is_empty() && matches!(&self.head, Head::Rest { .. }) {
+            return Err(TreeErr::Syntax(place));
+        }
+        self.level.end_sequence(alloc)?;
+        Ok(())
+    }
+
+    /// Reads a slash. It needs a front of one sequence before it, and no open group.
+    fn read_slash(&mut self, alloc: Global, place: u32) -> Result<(), TreeErr>
+        ensures read { OnOk result (at_slash place (progress self.old).level.items (progress self.old).level.sequences (progress self.old).groups (progress self.old) ≡ Some (progress self.new)) }
+        ensures stuck { IfErr result (λ e. IsStuckAt place (at_slash place (progress self.old).level.items (progress self.old).level.sequences (progress self.old).groups (progress self.old)) e) }
+    {
+        if self.level.lacks_item() || !self.level.lacks_bar() || !self.groups.is_empty() {
+            return Err(TreeErr::Syntax(place));
+        }
+        let Head::Rule {
+            place: at,
+            no_chain_in,
+        } = self.head
+        else {
+            return Err(TreeErr::Syntax(place));
+        };
+        let level = mem::replace(&mut self.level, Level::new(alloc));
+        let front = level.into_expr()?;
+        self.head = Head::Rest {
+            place: at,
+            no_chain_in,
+            front,
+            slash: place,
+        };
+        Ok(())
+    }
+
+    /// Reads a `^` outside of sets. It begins a rule.
+    fn read_caret(&mut self, place: u32) -> Result<(), TreeErr>
+        ensures read { OnOk result (at_caret place (progress self.old).head (progress self.old) ≡ Some (progress self.new)) }
+        ensures stuck { IfErr result (λ e. IsStuckAt place (at_caret place (progress self.old).head (progress self.old)) e) }
+    {
+        let Head::Between = &self.head else {
+            return Err(TreeErr::Syntax(place));
+        };
+        self.head = Head::Rule {
+            place,
+            no_chain_in: true,
+        };
+        Ok(())
+    }
+
+    /// Reads a control. It begins a statement.
+    fn read_control(&mut self, alloc: Global, place: u32, name: &Word) -> Result<(), TreeErr>
+        ensures read { OnOk result (at_control name.now place (progress self.old).head (progress self.old) ≡ Some (progress self.new)) }
+        ensures stuck { IfErr result (λ e. IsStuckAt place (at_control name.now place (progress self.old).head (progress self.old)) e) }
+    {
+        let Head::Between = &self.head else {
+            return Err(TreeErr::Syntax(place));
+        };
+        let name = copy_of(alloc, name)?;
+        self.head = Head::Whole(Statement::Control { name, place });
+        Ok(())
+    }
+
+    /// Reads an equals sign. A name must be all that was read of the statement.
+    fn read_equals(&mut self, alloc: Global, place: u32) -> Result<(), TreeErr>
+        ensures read { OnOk result (at_equals (progress self.old).head (progress self.old).groups (progress self.old) ≡ Some (progress self.new)) }
+        ensures stuck { IfErr result (λ e. IsStuckAt place (at_equals (progress self.old).head (progress self.old).groups (progress self.old)) e) }
+    {
+        let Head::Rule {
+            place: at,
+            no_chain_in: false,
+        } = self.head
+        else {
+            return Err(TreeErr::Syntax(place));
+        };
+        if !self.groups.is_empty() {
+            return Err(TreeErr::Syntax(place));
+        }
+        let level = mem::replace(&mut self.level, Level::new(alloc));
+        let name = level.into_name(place)?;
+        self.head = Head::Assign { name, place: at };
+        Ok(())
+    }
+
+    /// Takes the statement that the expression and the tag end. It needs an item at the end, and no open group;
+    /// an assignment takes no tag.
+    fn take_statement(
+        &mut self,
+        alloc: Global,
+        place: u32,
+        tag: Option<u32>,
+    ) -> Result<Statement, TreeErr>
+        ensures read { IfOk result (λ s. statement_at (progress self.old).level.items (progress self.old).groups tag (progress self.old) ≡ Some (statement_tree s)) }
+        ensures fresh { OnOk result (progress self.new ≡ fresh between (progress self.old)) }
+        ensures stuck { IfErr result (λ e. IsStuckAt place (statement_at (progress self.old).level.items (progress self.old).groups tag (progress self.old)) e) }
+    {
+        if self.level.lacks_item() || !self.groups.is_empty() {
+            return Err(TreeErr::Syntax(place));
+        }
+        let level = mem::replace(&mut self.level, Level::new(alloc));
+        let expr = level.into_expr()?;
+        match mem::replace(&mut self.head, Head::Between) {
+            Head::Between | Head::Whole(_) => Err(TreeErr::Syntax(place)),
+            Head::Assign { name, place: at } => match tag {
+                None => Ok(Statement::Assign {
+                    name,
+                    place: at,
+                    expr,
+                }),
+                Some(_) => Err(TreeErr::Syntax(place)),
+            },
+            Head::Rule {
+                place: at,
+                no_chain_in,
+            } => Ok(Statement::Rule {
+                place: at,
+                no_chain_in,
+                front: expr,
+                slash: None,
+                rest: None,
+                tag,
+            }),
+            Head::Rest {
+                place: at,
+                no_chain_in,
+                front,
+                slash,
+            } => Ok(Statement::Rule {
+                place: at,
+                no_chain_in,
+                front,
+                slash: Some(slash),
+                rest: Some(expr),
+                tag,
+            }),
+        }
+    }
+
+    /// Reads a tag. It needs a rule before it.
+    fn read_tag(&mut self, alloc: Global, place: u32, status: u32) -> Result<(), TreeErr>
+        ensures read { OnOk result (statement_read (statement_at (progress self.old).level.items (progress self.old).groups (Some status) (progress self.old)) (progress self.old) ≡ Some (progress self.new)) }
+        ensures stuck { IfErr result (λ e. IsStuckAt place (statement_read (statement_at (progress self.old).level.items (progress self.old).groups (Some status) (progress self.old)) (progress self.old)) e) }
+    {
+        let statement = self.take_statement(alloc, place, Some(status))?;
+        self.head = Head::Whole(statement);
+        Ok(())
+    }
+
+    /// Takes the statement that a semicolon ends.
+    fn take_ended(&mut self, alloc: Global, place: u32) -> Result<Statement, TreeErr>
+        ensures read { IfOk result (λ s. at_semi (progress self.old).head (progress self.old) ≡ Some (with_statement (statement_tree s) (progress self.new))) }
+        ensures between { OnOk result ((progress self.new).head ≡ between) }
+        ensures stuck { IfErr result (λ e. IsStuckAt place (at_semi (progress self.old).head (progress self.old)) e) }
+    {
+        match mem::replace(&mut self.head, Head::Between) {
+            Head::Between => Ok(Statement::Nothing),
+            Head::Whole(statement) => Ok(statement),
+            head => {
+                self.head = head;
+                self.take_statement(alloc, place, None)
+            }
+        }
+    }
+
+    /// Reads a semicolon.
+    fn end_statement(&mut self, alloc: Global, place: u32) -> Result<(), TreeErr>
+        ensures read { OnOk result (at_semi (progress self.old).head (progress self.old) ≡ Some (progress self.new)) }
+        ensures stuck { IfErr result (λ e. IsStuckAt place (at_semi (progress self.old).head (progress self.old)) e) }
+    {
+        let statement = self.take_ended(alloc, place)?;
+        self.statements.push(statement)?;
+        Ok(())
+    }
+
+    /// Reads a token outside of sets.
+    fn read_outside(&mut self, alloc: Global, token: &Token) -> Result<(), TreeErr>
+        ensures read { OnOk result (advance_outside token.now.kind token.now.place (progress self.old) ≡ Some (progress self.new)) }
+        ensures stuck { IfErr result (λ e. IsStuckAt token.now.place (advance_outside token.now.kind token.now.place (progress self.old)) e) }
+    {
+        let place = token.place;
+        match &token.kind {
+            TokenKind::Semi => self.end_statement(alloc, place),
+            TokenKind::Equals => self.read_equals(alloc, place),
+            TokenKind::Bar => self.read_bar(alloc, place),
+            TokenKind::Slash => self.read_slash(alloc, place),
+            TokenKind::Caret => self.read_caret(place),
+            TokenKind::Star => self.read_quant(place, Quant::Star),
+            TokenKind::Plus => self.read_quant(place, Quant::Plus),
+            TokenKind::Quest => self.read_quant(place, Quant::Quest),
+            TokenKind::Dot => self.read_atom(place, Atom::Any),
+            TokenKind::ParenOpen => self.begin_group(alloc, place),
+            TokenKind::ParenClose => self.end_group(place),
+            TokenKind::SetOpen => self.begin_set(alloc, place),
+            TokenKind::SetClose | TokenKind::Hyphen | TokenKind::Amp => {
+                Err(TreeErr::Syntax(place))
+            }
+            TokenKind::Char { c, bare } => {
+                let atom = Atom::Char { c: *c, bare: *bare };
+                self.read_atom(place, atom)
+            }
+            TokenKind::Quoted(word) => self.read_atom(place, Atom::Quoted(copy_of(alloc, word)?)),
+            TokenKind::Name(name) => self.read_atom(place, Atom::Name(copy_of(alloc, name)?)),
+            TokenKind::Control(name) => self.read_control(alloc, place, name),
+            TokenKind::Tag(status) => self.read_tag(alloc, place, *status),
+            TokenKind::Prop {
+                negated,
+                name,
+                value,
+            } => {
+                let atom = Atom::Prop {
+                    negated: *negated,
+                    name: copy_of(alloc, name)?,
+                    value: copy_of_option(alloc, value)?,
+                };
+                self.read_atom(place, atom)
+            }
+        }
+    }
+
+    /// Reads an opening square bracket within a set. It needs a place where an operand may stand.
+    fn begin_inner_set(&mut self, alloc: Global, sets: OpenSets, place: u32) -> Result<(), TreeErr>
+        ensures read { OnOk result (at_inner_open place (join_in sets.innermost.state) (sets_tree sets) (with_sets (Some (sets_tree sets)) (progress self.old)) ≡ Some (progress self.new)) }
+        ensures stuck { IfErr result (λ e. IsStuckAt place (at_inner_open place (join_in sets.innermost.state) (sets_tree sets) (with_sets (Some (sets_tree sets)) (progress self.old))) e) }
+    {
+        let OpenSets {
+            innermost,
+            mut outers,
+        } = sets;
+        let outer = innermost.into_outer(place)?;
+        outers.push(outer)?;
+        self.sets = Some(OpenSets {
+            innermost: SetLevel::new(alloc, place),
+            outers,
+        });
+        Ok(())
+    }
+
+    /// Reads a closing square bracket. It needs an operand after a `&`.
+    fn end_set(&mut self, sets: OpenSets, place: u32) -> Result<(), TreeErr>
+        requires { self.old.sets ≡ None }
+        ensures read { OnOk result (at_inner_close (ended_parts sets.innermost.state (sets_tree sets).innermost.parts) (sets_tree sets) (with_sets (Some (sets_tree sets)) (progress self.old)) ≡ Some (progress self.new)) }
+        ensures stuck { IfErr result (λ e. IsStuckAt place (at_inner_close (ended_parts sets.innermost.state (sets_tree sets).innermost.parts) (sets_tree sets) (with_sets (Some (sets_tree sets)) (progress self.old))) e) }
+    {
+        let OpenSets {
+            innermost,
+            mut outers,
+        } = sets;
+        let at = innermost.place();
+        let set = innermost.into_set(place)?;
+        let Some(outer) = outers.pop() else {
+            self.push_atom(at, Atom::Set(set))?;
+            return Ok(());
+        };
+        self.sets = Some(OpenSets {
+            innermost: outer.resumed(set, at)?,
+            outers,
+        });
+        Ok(())
+    }
+
+    /// Reads a token within sets.
+    fn read_inside(&mut self, alloc: Global, sets: OpenSets, token: &Token) -> Result<(), TreeErr>
+        requires { self.old.sets ≡ None }
+        ensures read { OnOk result (advance_inside token.now.kind token.now.place (sets_tree sets) (with_sets (Some (sets_tree sets)) (progress self.old)) ≡ Some (progress self.new)) }
+        ensures stuck { IfErr result (λ e. IsStuckAt token.now.place (advance_inside token.now.kind token.now.place (sets_tree sets) (with_sets (Some (sets_tree sets)) (progress self.old))) e) }
+    {
+        match &token.kind {
+            TokenKind::SetOpen => self.begin_inner_set(alloc, sets, token.place),
+            TokenKind::SetClose => self.end_set(sets, token.place),
+            _ => {
+                let mut sets = sets;
+                sets.innermost.read(alloc, token)?;
+                self.sets = Some(sets);
+                Ok(())
+            }
+        }
+    }
+
+    /// Reads a token. Refuses `Syntax` at its place where no file can go on like this.
+    pub fn read(&mut self, alloc: Global, token: &Token) -> Result<(), TreeErr>
+        ensures read { OnOk result (advance token.now (progress self.old) ≡ Some (progress self.new)) }
+        ensures stuck { IfErr result (λ e. IsStuckAt token.now.place (advance token.now (progress self.old)) e) }
+    {
+        match mem::replace(&mut self.sets, None) {
+            None => self.read_outside(alloc, token),
+            Some(sets) => self.read_inside(alloc, sets, token),
+        }
+    }
+
+    /// Whether no statement has begun that did not end.
+    pub fn is_between(&self) -> bool
+        ensures is { IsTrue result → (progress self.now).head ≡ between }
+        ensures not { (progress self.now).head ≡ between → IsTrue result }
+    {
+        matches!(&self.head, Head::Between)
+    }
+
+    /// The statements that ended.
+    pub fn into_statements(self) -> Statements
+        ensures { statement_trees result ≡ (progress self).statements }
+    {
+        Statements::from_vec(self.statements)
+    }
+}

@@ -1,0 +1,363 @@
+//! A set that is being read.
+ghost use Rattle.std.specs.Prelude.{◌≡◌, ◌∷◌, List, Some, OnOk, IfOk, IfErr};
+ghost use Rattle.rbbi_tree.specs.Grammar.{hyphen_at};
+ghost use Rattle.rbbi_tree.specs.Trees.{PartTree, joined};
+ghost use Rattle.rbbi_tree.specs.Values.{set_item_tree, set_tree};
+ghost use Rattle.rbbi_tree.specs.SetMachine.{opened, level_with, settled, at_set_caret, at_set_hyphen, at_set_amp, at_set_character, at_set_operand, at_set_token, join_in, ended_parts, set_from, outer_set, set_resumed};
+ghost use Rattle.rbbi_tree.specs.SetStates.{set_level_tree, outer_set_tree, IsStuckAt};
+
+use crate::copies::{copy_of, copy_of_option};
+use crate::error::TreeErr;
+use crate::syntax::{Join, Parts, SetExpr, SetItem, SetPart};
+use rbbi_lex::{Token, TokenKind};
+use std::alloc::{AllocError, Global};
+
+/// What was read last in a set, as far as it decides what may follow. Places are in characters from 0.
+#[derive(Clone, Copy)]
+pub enum SetState {
+    /// The bracket.
+    Opened,
+    /// The bracket and a `^`.
+    Begun,
+    /// A range, or a hyphen that stands for itself: a hyphen here must be the last part.
+    Apart,
+    /// A character that may begin a range, and its place. It is no part yet.
+    Character { c: char, place: u32 },
+    /// Such a character, and a hyphen at this place.
+    Ranging { c: char, place: u32, hyphen: u32 },
+    /// An operand: a hyphen or `&` here joins another.
+    Operand,
+    /// An operand and `&`.
+    Both,
+    /// An operand and a hyphen at this place.
+    Minus { hyphen: u32 },
+    /// A hyphen at this place that stands for itself, right before the end.
+    Last { hyphen: u32 },
+}
+
+/// A set so far.
+#[derive(Drop)]
+pub struct SetLevel {
+    /// The place of its bracket.
+    place: u32,
+    negated: bool,
+    /// Its parts, from first to last.
+    parts: Vec<SetPart>,
+    /// What was read last.
+    state: SetState,
+}
+
+/// A set in which another one is being read.
+#[derive(Drop)]
+pub struct OuterSet {
+    /// The place of its bracket.
+    place: u32,
+    negated: bool,
+    /// Its parts, from first to last.
+    parts: Vec<SetPart>,
+    /// How the inner set is joined to them.
+    join: Join,
+}
+
+impl SetLevel {
+    /// A set right after its bracket.
+    pub fn new(alloc: Global, place: u32) -> SetLevel
+        ensures { set_level_tree result ≡ opened place }
+    {
+        SetLevel {
+            place,
+            negated: false,
+            parts: Vec::new(alloc),
+            state: SetState::Opened,
+        }
+    }
+
+    /// The place of its bracket.
+    pub fn place(&self) -> u32
+        ensures { result ≡ self.now.place }
+    {
+        self.place
+    }
+
+    /// Adds a part, and leaves this as what was read last.
+    fn push(
+        &mut self,
+        place: u32,
+        join: Join,
+        item: SetItem,
+        state: SetState,
+    ) -> Result<(), AllocError>
+        ensures { OnOk result (set_level_tree self.new ≡ level_with (set_level_tree self.old) (joined place join (set_item_tree item) ∷ (set_level_tree self.old).parts) state) }
+    {
+        self.parts.push(SetPart { place, join, item })?;
+        self.state = state;
+        Ok(())
+    }
+
+    /// Adds the character that was read last, where there is one that no range has taken.
+    fn settle(&mut self) -> Result<(), AllocError>
+        ensures { OnOk result (set_level_tree self.new ≡ level_with (set_level_tree self.old) (settled self.old.state (set_level_tree self.old).parts) self.new.state) }
+    {
+        if let SetState::Character { c, place } = self.state {
+            self.push(place, Join::Add, SetItem::Char(c), SetState::Apart)?;
+        }
+        Ok(())
+    }
+
+    /// Adds a hyphen that stands for itself.
+    fn push_hyphen(&mut self, place: u32) -> Result<(), AllocError>
+        ensures { OnOk result (set_level_tree self.new ≡ level_with (set_level_tree self.old) (hyphen_at place ∷ (set_level_tree self.old).parts) SetState.Apart) }
+    {
+        self.push(place, Join::Add, SetItem::Char('-'), SetState::Apart)
+    }
+
+    /// Reads a `^`. It must stand right after the bracket.
+    fn read_caret(&mut self, place: u32) -> Result<(), TreeErr>
+        ensures read { OnOk result (at_set_caret self.old.state (set_level_tree self.old) ≡ Some (set_level_tree self.new)) }
+        ensures stuck { IfErr result (λ e. IsStuckAt place (at_set_caret self.old.state (set_level_tree self.old)) e) }
+    {
+        match self.state {
+            SetState::Opened => {
+                self.negated = true;
+                self.state = SetState::Begun;
+                Ok(())
+            }
+            SetState::Begun
+            | SetState::Apart
+            | SetState::Character { .. }
+            | SetState::Ranging { .. }
+            | SetState::Operand
+            | SetState::Both
+            | SetState::Minus { .. }
+            | SetState::Last { .. } => Err(TreeErr::Syntax(place)),
+        }
+    }
+
+    /// Reads a hyphen: the character where it stands right after the opening, or else the sign of a range or
+    /// of a difference, or the character right before the end.
+    fn read_hyphen(&mut self, place: u32) -> Result<(), TreeErr>
+        ensures read { OnOk result (at_set_hyphen place self.old.state (set_level_tree self.old) ≡ Some (set_level_tree self.new)) }
+        ensures stuck { IfErr result (λ e. IsStuckAt place (at_set_hyphen place self.old.state (set_level_tree self.old)) e) }
+    {
+        match self.state {
+            SetState::Opened | SetState::Begun => self.push_hyphen(place)?,
+            SetState::Apart => self.state = SetState::Last { hyphen: place },
+            SetState::Character { c, place: first } => {
+                self.state = SetState::Ranging {
+                    c,
+                    place: first,
+                    hyphen: place,
+                };
+            }
+            SetState::Operand => self.state = SetState::Minus { hyphen: place },
+            SetState::Ranging { .. }
+            | SetState::Both
+            | SetState::Minus { .. }
+            | SetState::Last { .. } => return Err(TreeErr::Syntax(place)),
+        }
+        Ok(())
+    }
+
+    /// Reads a `&`. It must stand right after an operand.
+    fn read_amp(&mut self, place: u32) -> Result<(), TreeErr>
+        ensures read { OnOk result (at_set_amp self.old.state (set_level_tree self.old) ≡ Some (set_level_tree self.new)) }
+        ensures stuck { IfErr result (λ e. IsStuckAt place (at_set_amp self.old.state (set_level_tree self.old)) e) }
+    {
+        match self.state {
+            SetState::Operand => {
+                self.state = SetState::Both;
+                Ok(())
+            }
+            SetState::Opened
+            | SetState::Begun
+            | SetState::Apart
+            | SetState::Character { .. }
+            | SetState::Ranging { .. }
+            | SetState::Both
+            | SetState::Minus { .. }
+            | SetState::Last { .. } => Err(TreeErr::Syntax(place)),
+        }
+    }
+
+    /// Reads a character, which may begin or end a range.
+    fn read_char(&mut self, place: u32, c: char) -> Result<(), TreeErr>
+        ensures read { OnOk result (at_set_character c place self.old.state (set_level_tree self.old) ≡ Some (set_level_tree self.new)) }
+        ensures stuck { IfErr result (λ e. IsStuckAt place (at_set_character c place self.old.state (set_level_tree self.old)) e) }
+    {
+        match self.state {
+            SetState::Opened | SetState::Begun | SetState::Apart | SetState::Operand => {
+                self.state = SetState::Character { c, place };
+            }
+            SetState::Character {
+                c: lone,
+                place: first,
+            } => self.push(
+                first,
+                Join::Add,
+                SetItem::Char(lone),
+                SetState::Character { c, place },
+            )?,
+            SetState::Ranging {
+                c: low,
+                place: first,
+                ..
+            } => self.push(first, Join::Add, SetItem::Range(low, c), SetState::Apart)?,
+            SetState::Both | SetState::Minus { .. } | SetState::Last { .. } => {
+                return Err(TreeErr::Syntax(place));
+            }
+        }
+        Ok(())
+    }
+
+    /// How an operand is joined here, if one may stand here.
+    fn join(&self) -> Option<Join>
+        ensures { result ≡ join_in self.now.state }
+    {
+        match self.state {
+            SetState::Opened
+            | SetState::Begun
+            | SetState::Apart
+            | SetState::Character { .. }
+            | SetState::Operand => Some(Join::Add),
+            SetState::Both => Some(Join::Both),
+            SetState::Minus { .. } => Some(Join::Minus),
+            SetState::Ranging { .. } | SetState::Last { .. } => None,
+        }
+    }
+
+    /// Reads an operand of one token.
+    fn read_operand(&mut self, place: u32, item: SetItem) -> Result<(), TreeErr>
+        ensures read { OnOk result (at_set_operand place (set_item_tree item) (join_in self.old.state) (set_level_tree self.old) ≡ Some (set_level_tree self.new)) }
+        ensures stuck { IfErr result (λ e. IsStuckAt place (at_set_operand place (set_item_tree item) (join_in self.old.state) (set_level_tree self.old)) e) }
+    {
+        let Some(join) = self.join() else {
+            return Err(TreeErr::Syntax(place));
+        };
+        self.settle()?;
+        self.push(place, join, item, SetState::Operand)?;
+        Ok(())
+    }
+
+    /// Reads a token that neither begins nor ends a set.
+    pub fn read(&mut self, alloc: Global, token: &Token) -> Result<(), TreeErr>
+        ensures read { OnOk result (at_set_token token.now.kind token.now.place (set_level_tree self.old) ≡ Some (set_level_tree self.new)) }
+        ensures stuck { IfErr result (λ e. IsStuckAt token.now.place (at_set_token token.now.kind token.now.place (set_level_tree self.old)) e) }
+    {
+        let place = token.place;
+        match &token.kind {
+            TokenKind::Caret => self.read_caret(place),
+            TokenKind::Hyphen => self.read_hyphen(place),
+            TokenKind::Amp => self.read_amp(place),
+            TokenKind::Char { c, .. } => self.read_char(place, *c),
+            TokenKind::Name(name) => {
+                self.read_operand(place, SetItem::Name(copy_of(alloc, name)?))
+            }
+            TokenKind::Prop {
+                negated,
+                name,
+                value,
+            } => {
+                let name = copy_of(alloc, name)?;
+                let value = copy_of_option(alloc, value)?;
+                self.read_operand(
+                    place,
+                    SetItem::Prop {
+                        negated: *negated,
+                        name,
+                        value,
+                    },
+                )
+            }
+            _ => Err(TreeErr::Syntax(place)),
+        }
+    }
+
+    /// Makes this an outer set, in which another one begins at this place.
+    pub fn into_outer(mut self, place: u32) -> Result<OuterSet, TreeErr>
+        ensures read { IfOk result (λ o. (j : Join) × (join_in self.state ≡ Some j) × (outer_set_tree o ≡ outer_set (set_level_tree self) j)) }
+        ensures stuck { IfErr result (λ e. IsStuckAt place (join_in self.state) e) }
+    {
+        let Some(join) = self.join() else {
+            return Err(TreeErr::Syntax(place));
+        };
+        self.settle()?;
+        let SetLevel {
+            place,
+            negated,
+            parts,
+            ..
+        } = self;
+        Ok(OuterSet {
+            place,
+            negated,
+            parts,
+            join,
+        })
+    }
+
+    /// The set that ends with a bracket at this place, which needs no operand before it.
+    pub fn into_set(mut self, place: u32) -> Result<SetExpr, TreeErr>
+        ensures read { IfOk result (λ s. (parts : List PartTree) × (ended_parts self.state (set_level_tree self).parts ≡ Some parts) × (set_tree s ≡ set_from (set_level_tree self) parts)) }
+        ensures stuck { IfErr result (λ e. IsStuckAt place (ended_parts self.state (set_level_tree self).parts) e) }
+    {
+        self.end(place)?;
+        let SetLevel {
+            place,
+            negated,
+            parts,
+            ..
+        } = self;
+        Ok(SetExpr {
+            place,
+            negated,
+            parts: Parts { items: parts },
+        })
+    }
+
+    /// Adds what was read last and is no part yet, where the set may end.
+    fn end(&mut self, place: u32) -> Result<(), TreeErr>
+        ensures read { OnOk result (ended_parts self.old.state (set_level_tree self.old).parts ≡ Some ((set_level_tree self.new).parts)) }
+        ensures same { OnOk result ((self.new.place ≡ self.old.place) × (self.new.negated ≡ self.old.negated)) }
+        ensures stuck { IfErr result (λ e. IsStuckAt place (ended_parts self.old.state (set_level_tree self.old).parts) e) }
+    {
+        match self.state {
+            SetState::Opened | SetState::Begun | SetState::Apart | SetState::Operand => {}
+            SetState::Character { c, place: first } => {
+                self.push(first, Join::Add, SetItem::Char(c), SetState::Apart)?;
+            }
+            SetState::Ranging {
+                c,
+                place: first,
+                hyphen,
+            } => {
+                self.push(first, Join::Add, SetItem::Char(c), SetState::Apart)?;
+                self.push_hyphen(hyphen)?;
+            }
+            SetState::Minus { hyphen } | SetState::Last { hyphen } => self.push_hyphen(hyphen)?,
+            SetState::Both => return Err(TreeErr::Syntax(place)),
+        }
+        Ok(())
+    }
+}
+
+impl OuterSet {
+    /// The set after one that ended in it.
+    pub fn resumed(self, inner: SetExpr, place: u32) -> Result<SetLevel, AllocError>
+        ensures { IfOk result (λ s. set_level_tree s ≡ set_resumed place (set_tree inner) (outer_set_tree self)) }
+    {
+        let OuterSet {
+            place: bracket,
+            negated,
+            mut parts,
+            join,
+        } = self;
+        let item = SetItem::Set(inner);
+        parts.push(SetPart { place, join, item })?;
+        Ok(SetLevel {
+            place: bracket,
+            negated,
+            parts,
+            state: SetState::Operand,
+        })
+    }
+}
