@@ -1,0 +1,11 @@
+pub mod Slices
+pub mod Matching
+pub mod Merging
+pub mod Stepping
+pub mod MatchLoops
+pub mod Longest
+pub mod LineLoops
+pub mod Verdicts
+pub mod BuiltLoops
+pub mod Positions
+pub mod OneOutcome

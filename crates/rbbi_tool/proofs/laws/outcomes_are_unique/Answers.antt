@@ -1,0 +1,14 @@
+use Rattle.rbbi_tool.proofs.OneOutcome.{same_outcome}
+use Rattle.rbbi_tool.proofs.laws.outcomes_are_unique.Goals as goal
+
+pub returns : goal.returns
+returns c =
+    same_outcome (record {
+      tokens = c.tokens_are_unique.ensures;
+      faults = c.faults_are_unique.ensures;
+      apart = c.tokens_exclude_faults.ensures;
+      readings = c.at_most_one_reading.ensures;
+      syntax = c.at_most_one_fault.ensures;
+      deep = c.at_most_one_deep.ensures;
+      boundaries = c.boundaries_are_unique.ensures;
+    })

@@ -1,0 +1,11 @@
+pub mod Matches
+pub mod Meaning
+pub mod Built
+pub mod Plain
+pub mod Words
+pub mod RuleFiles
+pub mod Rules
+pub mod TextFiles
+pub mod Refusals
+pub mod Outcomes
+pub mod Causes

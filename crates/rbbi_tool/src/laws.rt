@@ -1,0 +1,16 @@
+//! Laws of what the program answers. The functions carry no code: each states a law as its contract.
+ghost use Rattle.std.specs.Prelude.{ℕ, List};
+ghost use Rattle.rbbi_tool.specs.Causes.{HasOneOutcome};
+
+/// To words over files that tell what they hold there is one outcome: one status, and one text.
+pub fn outcomes_are_unique()
+    ensures { (words : List (List ℕ)) (held : List ℕ → List ℕ) → HasOneOutcome words held }
+{
+    rbbi_model::boundaries_are_unique();
+    rbbi_lex::tokens_are_unique();
+    rbbi_lex::faults_are_unique();
+    rbbi_lex::tokens_exclude_faults();
+    rbbi_tree::at_most_one_reading();
+    rbbi_tree::at_most_one_fault();
+    rbbi_tree::at_most_one_deep();
+}

@@ -1,0 +1,35 @@
+//! Lines and columns of places in a text.
+ghost use Rattle.std.specs.Prelude.{◌≡◌, ◌≤◌, length};
+ghost use Rattle.std.specs.Str.{chars};
+ghost use Rattle.rbbi_model.specs.Lines.{row_of, column_of};
+
+/// A line and a column, each counted from 1.
+#[derive(Clone, Copy)]
+pub(crate) struct Position {
+    pub(crate) row: u32,
+    pub(crate) column: u32,
+}
+
+/// Where a place of the text stands, in characters from 0. A line ends at LF.
+pub(crate) fn position_of(text: &str, place: u32) -> Position
+    requires { length text.now ≤ 100663296 }
+    ensures row { result.row ≡ row_of (chars text.now) place }
+    ensures column { result.column ≡ column_of (chars text.now) place }
+{
+    let mut row = 1;
+    let mut column = 1;
+    let mut left = place;
+    for c in text.chars() {
+        if left == 0 {
+            return Position { row, column };
+        }
+        left -= 1;
+        if c == '\n' {
+            row += 1;
+            column = 1;
+        } else {
+            column += 1;
+        }
+    }
+    Position { row, column }
+}

@@ -1,0 +1,79 @@
+//! The top call.
+ghost use Rattle.std.specs.Prelude.{◌≡◌, ◌≢◌, ◌∷◌, [], map, IfSome};
+ghost use Rattle.std.specs.String.{string_bytes};
+ghost use Rattle.rbbi_model.specs.Lists.{Member};
+ghost use Rattle.rbbi_io.specs.Counts.{Rose, GoesOn, EachGoesOn, EachStays};
+ghost use Rattle.rbbi_io.specs.Sinks.{Takes};
+ghost use Rattle.rbbi_model.specs.Lines.{usage_line};
+ghost use Rattle.rbbi_tool.specs.Causes.{AreNoForm, NoReadFailed, TakesOutcome, TakesFailedRead, TakesPart};
+
+use crate::answer::answered;
+use rbbi_io::{Files, Sink, WriteErr, put_all};
+use rbbi_text::Steps;
+use std::alloc::Global;
+use std::sync::ledger::Ledger;
+
+/// Runs the command that the words ask for, over the files, and puts what it answers into `out`.
+/// `words` are the words after the program's name. The result is the exit status.
+///
+/// | status | comes | what is written |
+/// |---|---|---|
+/// | 0 | the boundaries are told | a line for each |
+/// | 2 | the words are of no stated form | how to call the program |
+/// | 3 | the rule file is too long, isn't UTF-8 or has a fault | the fault |
+/// | 5 | the text file is too long, isn't UTF-8 or has too many characters | the fault |
+/// | 6 | a read of one of the two files failed | the file |
+/// | 7 | a put failed | a front of what was to be written |
+/// | 8 | memory ran out | a front of what was to be written |
+///
+/// The words are looked at first, then the files are read in the order of the words; then comes the
+/// rule file, and then the text. No file is written.
+pub fn rbbi<F: Files, K: Sink, L: Ledger>(
+    alloc: Global,
+    words: &Vec<String>,
+    files: &mut F,
+    out: &mut K,
+    steps: &mut Steps<L>,
+) -> u8
+    ensures statuses { Member (0 ∷ 2 ∷ 3 ∷ 5 ∷ 6 ∷ 7 ∷ 8 ∷ []) result }
+
+    // 2 comes exactly where the words are of no form, but for a line that can't be put and want of memory.
+    ensures usage { result ≡ 2 → AreNoForm (map string_bytes words.now.items)
+        × Takes (K.taken out.old) (K.taken out.new) usage_line }
+    ensures no_form { AreNoForm (map string_bytes words.now.items) → Member (2 ∷ 7 ∷ 8 ∷ []) result }
+
+    // 0, 2, 3 and 5 are the one outcome of the words and of what the files hold.
+    ensures outcome { Member (0 ∷ 2 ∷ 3 ∷ 5 ∷ []) result → IfSome (F.contents files.old) (λ held.
+        TakesOutcome (map string_bytes words.now.items) held result (K.taken out.old) (K.taken out.new)) }
+
+    // 6 and 7 come only with a fault that the files or the sink counted.
+    ensures read_failed { result ≡ 6 → TakesFailedRead (map string_bytes words.now.items)
+        (F.failed_reads files.old) (F.failed_reads files.new) (K.taken out.old) (K.taken out.new) }
+    ensures put_failed { result ≡ 7 → Rose (K.faults out.old) (K.faults out.new) }
+
+    // After 7 and 8 a front of what was to be written was taken.
+    ensures front { Member (7 ∷ 8 ∷ []) result → IfSome (F.contents files.old) (λ held.
+        TakesPart (map string_bytes words.now.items) held (F.failed_reads files.old)
+        (F.failed_reads files.new) (K.taken out.old) (K.taken out.new)) }
+
+    // Where no fault was counted, there is the outcome or want of memory.
+    ensures complete { NoReadFailed (map string_bytes words.now.items) (F.failed_reads files.old)
+        (F.failed_reads files.new) → ¬ Rose (K.faults out.old) (K.faults out.new) → result ≢ 8
+        → IfSome (F.contents files.old) (λ held. TakesOutcome (map string_bytes words.now.items)
+        held result (K.taken out.old) (K.taken out.new)) }
+
+    // Every file holds what it held, and no count falls.
+    ensures contents { F.contents files.new ≡ F.contents files.old }
+    ensures reads { EachGoesOn (F.failed_reads files.old) (F.failed_reads files.new) }
+    ensures writes { EachStays (F.failed_writes files.old) (F.failed_writes files.new) }
+    ensures faults { GoesOn (K.faults out.old) (K.faults out.new) }
+{
+    let Ok(answer) = answered(alloc, words, files, steps) else {
+        return 8;
+    };
+    match put_all(out, &answer.line) {
+        Ok(()) => answer.status,
+        Err(WriteErr::Failed) => 7,
+        Err(WriteErr::Memory) => 8,
+    }
+}
