@@ -8,4 +8,5 @@ pub mod LineLoops
 pub mod Verdicts
 pub mod BuiltLoops
 pub mod Positions
+pub mod OneFault
 pub mod OneOutcome

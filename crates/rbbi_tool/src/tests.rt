@@ -66,12 +66,7 @@ fn answers_by_the_rules(rt: HostRuntime) -> Result<(), Fail> {
         // a character that no rule takes
         (b"ab;", b"ba", 0, "0 0\n1 0\n2 0\n"),
         // a comment is skipped; an escape and a doubled quote are characters
-        (
-            b"# none\n\\x61''; # and none",
-            b"a'a",
-            0,
-            "0 0\n2 0\n3 0\n",
-        ),
+        (b"# none\n\\x61''; # and none", b"a'a", 0, "0 0\n2 0\n3 0\n"),
         // places count characters and not bytes; white space in a rule is skipped
         (
             "\u{e9} \u{4e00};".as_bytes(),

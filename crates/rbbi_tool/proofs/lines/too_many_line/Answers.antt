@@ -9,6 +9,6 @@ pub returns : goal.returns
 returns c =
     IfOk-weaker c.joined.result (λ line. line.items ≡ c.as_bytes.result.now ++ codes ": TooManyChars\n") (λ line. line.items ≡ spec.too_many_line c.args.name.now)
     (λ line is.
-        is ∙ ap (λ name. name ++ codes ": TooManyChars\n") c.as_bytes.ensures.value
-        ∙ sym (append_assoc c.args.name.now (codes ": ") (codes "TooManyChars\n"))
-        ∙ sym (append_assoc (c.args.name.now ++ codes ": ") (codes "TooManyChars") (codes "\n"))) c.joined.ensures
+    is ∙ ap (λ name. name ++ codes ": TooManyChars\n") c.as_bytes.ensures.value
+    ∙ sym (append_assoc c.args.name.now (codes ": ") (codes "TooManyChars\n"))
+    ∙ sym (append_assoc (c.args.name.now ++ codes ": ") (codes "TooManyChars") (codes "\n"))) c.joined.ensures
