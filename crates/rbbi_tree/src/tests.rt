@@ -335,7 +335,6 @@ fn faults(rt: HostRuntime) -> Result<(), Fail> {
         ("[[a]&];", 5),
         ("[[a]&-];", 5),
         ("[a-", 3),
-        ("a]", 1),
     ] {
         assert!(rt; text.len() < 1000);
         match parse_text(rt.alloc(), text)? {
