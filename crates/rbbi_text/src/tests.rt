@@ -1,7 +1,7 @@
 //! Each public call once, on values from outside.
 ghost use Rattle.std.specs.Prelude.{◌≡◌, ◌<◌, IfOk};
 
-use crate::{Chars, EditErr, PlainText, Raw, RawErr, Steps, TextErr, Word};
+use crate::{Chars, EditErr, PlainText, Raw, RawErr, Steps, TextErr, Word, without_mark};
 use std::alloc::{AllocError, Global};
 use std::marker::Brand;
 use std::sync::ledger::{Blank, Ledger};
@@ -92,6 +92,20 @@ fn words(rt: HostRuntime) -> Result<(), Fail> {
         assert_eq!(rt; Word::new(alloc, text)?.as_str(), text);
     }
     Ok(())
+}
+
+#[test]
+fn marks(rt: HostRuntime) {
+    for (text, rest) in [
+        ("", ""),
+        ("a", "a"),
+        ("\u{feff}", ""),
+        ("\u{feff}a", "a"),
+        ("\u{feff}\u{feff}a", "\u{feff}a"),
+        ("a\u{feff}", "a\u{feff}"),
+    ] {
+        assert_eq!(rt; without_mark(text), rest, "of {text:?}");
+    }
 }
 
 #[test]
