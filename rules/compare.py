@@ -23,7 +23,8 @@ import subprocess
 import sys
 import tempfile
 
-import models
+sys.dont_write_bytecode = True
+import models  # noqa: E402
 
 HERE = os.path.dirname(os.path.abspath(__file__))
 LINE_FEED = 10
