@@ -1,0 +1,119 @@
+// Breaks texts by rules with ICU's RuleBasedBreakIterator, for comparison with rbbi.
+//
+//   icu compile RULES ROUNDS       milliseconds for compiling the rules once
+//   icu scan RULES TEXT ROUNDS     boundaries, and seconds for finding all of them once
+//   icu breaks RULES TEXT          a line `PLACE STATUS,..` for each boundary, as `rbbi breaks` has it
+//
+// RULES is in ICU's own syntax, and both files are UTF-8. A time is the least of ROUNDS rounds.
+#include <unicode/rbbi.h>
+#include <unicode/unistr.h>
+
+#include <algorithm>
+#include <cstdint>
+#include <cstdio>
+#include <cstdlib>
+#include <ctime>
+#include <fstream>
+#include <iterator>
+#include <limits>
+#include <memory>
+#include <string>
+#include <vector>
+
+using icu::BreakIterator;
+using icu::RuleBasedBreakIterator;
+using icu::UnicodeString;
+
+static UnicodeString read_file(const char *name) {
+    std::ifstream file(name, std::ios::binary);
+    if (!file) {
+        std::fprintf(stderr, "cannot read %s\n", name);
+        std::exit(6);
+    }
+    std::string bytes((std::istreambuf_iterator<char>(file)), std::istreambuf_iterator<char>());
+    return UnicodeString::fromUTF8(bytes);
+}
+
+static std::unique_ptr<RuleBasedBreakIterator> compile(const UnicodeString &rules) {
+    UErrorCode status = U_ZERO_ERROR;
+    UParseError fault;
+    std::unique_ptr<RuleBasedBreakIterator> made(new RuleBasedBreakIterator(rules, fault, status));
+    if (U_FAILURE(status)) {
+        std::fprintf(stderr, "%d:%d: %s\n", fault.line, fault.offset, u_errorName(status));
+        std::exit(3);
+    }
+    return made;
+}
+
+// The seconds that a processor has worked for this process.
+static double seconds() {
+    timespec now;
+    clock_gettime(CLOCK_PROCESS_CPUTIME_ID, &now);
+    return now.tv_sec + now.tv_nsec / 1e9;
+}
+
+template <typename Work>
+static double least_seconds(int rounds, Work work) {
+    double least = std::numeric_limits<double>::infinity();
+    for (int round = 0; round < rounds; round++) {
+        double start = seconds();
+        work();
+        least = std::min(least, seconds() - start);
+    }
+    return least;
+}
+
+// ICU counts UTF-16 units; a place is told in characters.
+static void print_boundaries(RuleBasedBreakIterator &breaks, const UnicodeString &text) {
+    std::string out;
+    std::vector<int32_t> statuses(64);
+    int32_t unit = 0;
+    int64_t place = 0;
+    for (int32_t at = breaks.first(); at != BreakIterator::DONE; at = breaks.next()) {
+        place += text.countChar32(unit, at - unit);
+        unit = at;
+        out += std::to_string(place);
+        UErrorCode status = U_ZERO_ERROR;
+        int32_t count = breaks.getRuleStatusVec(statuses.data(), 64, status);
+        for (int32_t i = 0; i < count; i++) {
+            out += i == 0 ? ' ' : ',';
+            out += std::to_string(statuses[i]);
+        }
+        out += '\n';
+        if (out.size() > 60000) {
+            std::fwrite(out.data(), 1, out.size(), stdout);
+            out.clear();
+        }
+    }
+    std::fwrite(out.data(), 1, out.size(), stdout);
+}
+
+int main(int count, char **words) {
+    std::string command = count > 2 ? words[1] : "";
+    if (command == "compile" && count == 4) {
+        UnicodeString rules = read_file(words[2]);
+        std::printf("%.3f\n", 1000 * least_seconds(std::atoi(words[3]), [&] { compile(rules); }));
+        return 0;
+    }
+    if (command == "scan" && count == 5) {
+        auto breaks = compile(read_file(words[2]));
+        UnicodeString text = read_file(words[3]);
+        int64_t found = 0;
+        double passed = least_seconds(std::atoi(words[4]), [&] {
+            breaks->setText(text);  // without it, a later round would find the boundaries kept
+            found = 0;
+            for (int32_t at = breaks->first(); at != BreakIterator::DONE; at = breaks->next()) found++;
+        });
+        std::printf("%lld %.6f\n", static_cast<long long>(found), passed);
+        return 0;
+    }
+    if (command == "breaks" && count == 4) {
+        auto breaks = compile(read_file(words[2]));
+        UnicodeString text = read_file(words[3]);
+        breaks->setText(text);
+        print_boundaries(*breaks, text);
+        return 0;
+    }
+    std::fprintf(stderr, "usage: icu compile RULES ROUNDS | scan RULES TEXT ROUNDS | breaks RULES TEXT\n");
+    return 2;
+}

@@ -1,0 +1,241 @@
+"""The lines of the table, in groups: what is measured, and the target of each line that has one."""
+import os
+import subprocess
+
+import inputs
+from harness import MIB, Line, both_verdicts, rate_text, size_text, time_text, verdict
+from measure import measure
+
+ONE_MILLION, TWELVE_MILLION = inputs.SIZES.values()
+
+
+def start(bench):
+    yield Line('start and end of the program, with no words', time_text(bench.seconds([])))
+
+
+def texts(bench):
+    """Each rule file over each text. Reading and printing are in the characters a second; the start
+    of the program and the compiling of the rules aren't, since two sizes are compared."""
+    for name in ('letters', 'words', 'grapheme', 'word', 'sentence', 'line'):
+        path, props, theirs = bench.rules(name)
+        words = ['breaks'] + props + [path]
+        lacking = bench.lacking(words + [bench.tiny()])
+        for kind in inputs.TEXTS:
+            paths = [inputs.make_text(bench.folder, kind, size) for size in bench.sizes]
+            line = Line(f'`breaks`, {name}.rules, {kind}, {bench.sizes[-1] // 1_000_000} M', lacking)
+            rate = None
+            if not lacking:
+                results = [bench.run(words + [text]) for text in paths]
+                rate = bench.rate(results)
+                line.time, line.rate = time_text(results[-1].seconds), rate_text(rate)
+                line.peak = size_text(results[-1].peak)
+            if bench.icu:
+                icu = bench.rate([bench.best([bench.icu, 'breaks', theirs, text]) for text in paths])
+                alone = bench.icu_answer(['scan', theirs, paths[0], '5'])[1]
+                loop = rate_text(bench.sizes[0] / max(alone, 1e-9))
+                line.icu = f'{rate_text(icu)} (loop alone {loop})'
+                line.ratio = f'{rate / icu:.2f}' if rate else ''
+            yield line
+
+
+def printing(bench):
+    """Many boundaries, and the memory that a character takes."""
+    rules = bench.file('z.rules', 'z;\n')
+    text = inputs.make_text(bench.folder, 'letters', TWELVE_MILLION)
+    yield bench.below('`breaks` of 12 M boundaries', ['breaks', rules, text], 1.0)
+    for name in ('letters', 'word'):
+        path, props, _ = bench.rules(name)
+        words = ['breaks'] + props + [path]
+        line = Line(f'`breaks`, {name}.rules: memory a character, beside the file and the output',
+                    bench.lacking(words + [bench.tiny()]), target='4.5 bytes')
+        if not line.time:
+            held = []
+            for size in (ONE_MILLION, TWELVE_MILLION):
+                text = inputs.make_text(bench.folder, 'prose', size)
+                out = os.path.join(bench.folder, 'printed')
+                result = measure(bench.program + words + [text], out)
+                held.append(result.peak - os.path.getsize(text) - os.path.getsize(out))
+            each = (held[1] - held[0]) / (TWELVE_MILLION - ONE_MILLION)
+            line.peak, line.verdict = f'{each:.1f} bytes', verdict(each, 4.5)
+        yield line
+
+
+def compiling(bench):
+    """Rules to a table, without the reading of property files, and the table's loading."""
+    one = bench.file('one.rules', 'a;\n')
+    for name, target in (('words', None), ('grapheme', None), ('word', 0.020), ('sentence', None),
+                         ('line', 0.060)):
+        path, props, theirs = bench.rules(name)
+        table = os.path.join(bench.folder, f'{name}.table')
+        words = ['compile'] + props + [path, table]
+        line = Line(f'`compile`, {name}.rules, property files apart', bench.lacking(words),
+                    target=time_text(target) if target else '')
+        seconds = None
+        if not line.time:
+            result = bench.run(words)
+            seconds = max(result.seconds - bench.seconds(['check'] + props + [one]), 1e-6)
+            line.what += f', a table of {os.path.getsize(table):,} bytes'
+            line.time, line.peak = time_text(seconds), size_text(result.peak)
+            line.verdict = verdict(seconds, target) if target else ''
+        yield bench.beside_icu(line, theirs, 5, seconds)
+    yield loading(bench, table)
+
+
+def loading(bench, table):
+    """The time for a table of 64 rows and 39 categories, on a text that is broken in no time."""
+    words = ['breaks', '--table', table, bench.tiny()]
+    line = Line('`breaks --table`, the table of line.rules, the start of the program apart',
+                bench.lacking(words) if os.path.exists(table) else bench.lacking(['compile']),
+                target='1.0 ms')
+    if not line.time:
+        seconds = bench.seconds(words) - bench.seconds([])
+        line.time, line.verdict = time_text(seconds), verdict(seconds, 0.001)
+    return line
+
+
+def front(bench):
+    """Rule files of 1 MiB. Where there is no `check`, `breaks` reads them: those with a form that
+    doesn't run yet are refused behind the grammar."""
+    empty = bench.file('empty.txt', '')
+    command, more = 'check', []
+    if bench.lacking(['check', bench.file('one.rules', 'a;\n')]):
+        command, more = 'breaks', [empty]
+    for name, (make, said) in inputs.FRONT.items():
+        path = inputs.make_rules(bench.folder, f'front-{name}', make)
+        memory = 200_000_000 if name == 'statements' else 200 * MIB
+        result = bench.run([command, path] + more)
+        yield Line(f'`{command}`, {said}', time_text(result.seconds), peak=size_text(result.peak),
+                   target=f'1.00 s, {size_text(memory)}', verdict=both_verdicts(result, 1.0, memory))
+
+
+def limits(bench):
+    """The rule files at the limits of the language."""
+    table = os.path.join(bench.folder, 'limit.table')
+    for name, (make, said) in inputs.LIMITS.items():
+        path = inputs.make_rules(bench.folder, f'limit-{name}', make)
+        if name in ('doubling15', 'doubling60'):
+            yield bench.below(f'`check`, {said}', ['check', path], 0.050)
+        elif name != 'onelookahead':
+            theirs = None if 'refused' in said else path
+            yield bench.below(f'`compile`, {said}', ['compile', path, table], 5.0, 256 * MIB, theirs)
+    yield lookaheads(bench)
+
+
+def lookaheads(bench):
+    """A search isn't slower for look-ahead rules that it doesn't meet."""
+    text = inputs.make_text(bench.folder, 'letters', bench.sizes[-1])
+    many, one = (os.path.join(bench.folder, f'limit-{name}.rules')
+                 for name in ('lookaheads', 'onelookahead'))
+    line = Line('`breaks`, 32 look-ahead rules over 1, each character a segment',
+                bench.lacking(['breaks', many, bench.tiny()]), target='1.1 times')
+    if not line.time:
+        times = bench.seconds(['breaks', many, text]) / bench.seconds(['breaks', one, text])
+        line.time, line.verdict = f'{times:.2f} times', verdict(times, 1.1)
+    return line
+
+
+def tables(bench):
+    path = inputs.make_big_table(bench.folder)
+    what = f'`breaks --table`, a table of {size_text(os.path.getsize(path))}, checked whole'
+    yield bench.below(what, ['breaks', '--table', path, bench.tiny()], 3.0)
+
+
+def loop(bench):
+    """The loop over one long segment: an edit at its start, and `last`, which scans it anew."""
+    path, _, _ = bench.rules('words')
+    text = inputs.make_text(bench.folder, 'letters', bench.sizes[-1])
+    few, many = (bench.file(f'last-{count}', 'replace 0 1 a\nlast\n' * count) for count in (1, 11))
+    line = Line('`run`, the scan of one long segment, against the bare loop over the same table',
+                bench.lacking(['run', path, bench.tiny(), few]), target='0.5 of the bare loop')
+    if not line.time:
+        passed = bench.seconds(['run', path, text, many]) - bench.seconds(['run', path, text, few])
+        rate = 10 * bench.sizes[-1] / max(passed, 1e-9)
+        line.rate = rate_text(rate)
+        table = os.path.join(bench.folder, 'words.table')
+        bare = bare_rate(bench, table, text)
+        if bare:
+            line.what += f' ({rate_text(bare)})'
+            line.verdict = 'met' if rate >= bare / 2 else f'{rate / bare:.2f} of the bare loop'
+    yield line
+
+
+def bare_rate(bench, table, text):
+    """The characters a second of the bare loop, or None where it can't be had."""
+    if bench.bare is None or not os.path.exists(table):
+        return None
+    run = subprocess.run([bench.bare, table, text, '5'], stdout=subprocess.PIPE, check=False)
+    return bench.sizes[-1] / float(run.stdout.split()[1]) if run.returncode == 0 else None
+
+
+def sessions(bench):
+    """What an edit costs, and an edit with a question behind it, by the length of the text."""
+    path, _, _ = bench.rules('words')
+    lacking = bench.lacking(['run', path, bench.tiny(), bench.file('one.script', 'next\n')])
+    each = {}
+    for asked, target in ((False, 20e-6), (True, 30e-6)):
+        for size in (ONE_MILLION, TWELVE_MILLION):
+            does = 'a replaced character and a question' if asked else 'a replaced character'
+            line = Line(f'`run`, words.rules, prose, {size // 1_000_000} M: {does}', lacking,
+                        target=time_text(target) if size == TWELVE_MILLION else '')
+            if not lacking:
+                text = inputs.make_text(bench.folder, 'prose', size)
+                few, many = (bench.file(f'edits-{count}', inputs.edit_script(size, count, asked))
+                             for count in (1000, 21000))
+                passed = (bench.seconds(['run', path, text, many])
+                          - bench.seconds(['run', path, text, few])) / 20000
+                each[asked, size] = max(passed, 1e-9)
+                line.time = time_text(passed)
+                line.verdict = verdict(passed, target) if line.target else ''
+            yield line
+    line = Line('an edit and a question in 12 M over the same in 1 M', lacking, target='2 times')
+    if not lacking:
+        times = each[True, TWELVE_MILLION] / each[True, ONE_MILLION]
+        line.time, line.verdict = f'{times:.1f} times', verdict(times, 2)
+    yield line
+
+
+def nexts(bench):
+    """`next` through flags, of which no pair of categories is safe: the time grows as the count."""
+    path, props, _ = bench.rules('grapheme')
+    few, many = (bench.file(f'next-{count}', 'next\n' * count) for count in (100_000, 200_000))
+    words = ['run'] + props + [path]
+    line = Line('`run`, grapheme.rules, flags, 1 M: 200,000 times `next` over 100,000 times',
+                bench.lacking(words + [bench.tiny(), few]), target='2.5 times')
+    if not line.time:
+        text = inputs.make_text(bench.folder, 'flags', ONE_MILLION)
+        times = bench.seconds(words + [text, many]) / bench.seconds(words + [text, few])
+        line.time, line.verdict = f'{times:.2f} times', verdict(times, 2.5)
+    yield line
+
+
+def tests(bench):
+    path, props, _ = bench.rules('line')
+    with open(os.path.join(bench.data, 'auxiliary/LineBreakTest.txt'), encoding='utf-8') as file:
+        found = [line for line in file if line.startswith(('÷', '×'))]
+    many = bench.file('many.tests', ''.join((found * 2)[:10_000]))
+    one = bench.file('one.tests', found[0])
+    words = ['conform'] + props + [path]
+    line = Line('`conform`, line.rules, 10,000 tests over 1', bench.lacking(words + [one]),
+                target='200.0 ms')
+    if not line.time:
+        seconds = bench.seconds(words + [many]) - bench.seconds(words + [one])
+        line.time, line.verdict = time_text(seconds), verdict(seconds, 0.2)
+    yield line
+
+
+def demo(bench):
+    yield bench.below('`demo 1000000`', ['demo', '1000000'], 5.0)
+
+
+def parts(_):
+    """Targets of parts that no command runs alone."""
+    for what, target in (
+            ('the categories of 8,192 leaves, sets of scripts and categories', '500.0 ms'),
+            ('the positions of a rule with 8,192 leaves', '500.0 ms, 16 MiB'),
+            ('a table of 96 MiB, written', '3.00 s'),
+            ('a million `char_at` at random places of 12 M characters', '50.0 ms')):
+        yield Line(what, 'not measured: it wants a program of its own', target=target)
+
+
+GROUPS = [start, texts, printing, compiling, front, limits, tables, loop, sessions, nexts, tests, demo,
+          parts]
