@@ -8,13 +8,13 @@ use std::sync::ledger::{Blank, Ledger};
 use std::test::Fail;
 
 /// The characters of a text, read one by one.
-fn shown<L: Ledger>(alloc: Global, text: &PlainText, blank: Blank) -> Result<String, AllocError>
+fn shown<L: Ledger>(rt: &HostRuntime, text: &PlainText, blank: Blank) -> Result<String, AllocError>
     requires name { blank.name ≡ L.name }
     requires parts { blank.parts ≡ L.parts }
     requires some { 0 < blank.parts }
 {
-    let mut steps = Steps::<L>::new(blank);
-    let mut shown = String::new(alloc);
+    let mut steps = Steps::<L>::new(rt, blank);
+    let mut shown = String::new(rt.alloc());
     for i in 0..text.len() {
         shown.push(text.char_at(i, &mut steps))?;
     }
@@ -22,13 +22,13 @@ fn shown<L: Ledger>(alloc: Global, text: &PlainText, blank: Blank) -> Result<Str
 }
 
 /// The bytes of a file, as a copy.
-fn copied<L: Ledger>(alloc: Global, raw: &Raw, blank: Blank) -> Result<Vec<u8>, AllocError>
+fn copied<L: Ledger>(rt: &HostRuntime, raw: &Raw, blank: Blank) -> Result<Vec<u8>, AllocError>
     requires name { blank.name ≡ L.name }
     requires parts { blank.parts ≡ L.parts }
     requires some { 0 < blank.parts }
 {
-    let mut steps = Steps::<L>::new(blank);
-    raw.bytes(&mut steps).to_vec(alloc)
+    let mut steps = Steps::<L>::new(rt, blank);
+    raw.bytes(&mut steps).to_vec(rt.alloc())
 }
 
 fn raw_of(alloc: Global, bytes: &[u8]) -> Result<Raw, AllocError>
@@ -43,7 +43,7 @@ fn texts_of_strings(rt: HostRuntime) -> Result<(), Fail> {
     for text in ["", "a", "caf\u{e9}", "\u{feff}\u{4e00}\u{1f1e6}b"] {
         let plain = PlainText::new(alloc, text)?;
         assert_eq!(rt; plain.len() as usize, text.chars().count(), "of {text:?}");
-        let shown = shown::<Brand>(alloc, &plain, Blank::new(1))?;
+        let shown = shown::<Brand>(&rt, &plain, Blank::new(1))?;
         assert_eq!(rt; shown.as_str(), text);
     }
     Ok(())
@@ -55,9 +55,9 @@ fn texts_of_bytes(rt: HostRuntime) -> Result<(), Fail> {
     let text = "\u{feff}a\u{e9}\u{4e00}\u{1f1e6}";
     let raw = raw_of(alloc, text.as_bytes())?;
     let plain = PlainText::from_raw(alloc, &raw)?;
-    let shown = shown::<Brand>(alloc, &plain, Blank::new(1))?;
+    let shown = shown::<Brand>(&rt, &plain, Blank::new(1))?;
     assert_eq!(rt; shown.as_str(), text);
-    let bytes = copied::<Brand>(alloc, &raw, Blank::new(1))?;
+    let bytes = copied::<Brand>(&rt, &raw, Blank::new(1))?;
     assert_eq!(rt; bytes.as_slice(), text.as_bytes());
     Ok(())
 }
