@@ -1,10 +1,11 @@
 //! A text in one flat list.
 ghost use Rattle.std.specs.Prelude.{◌≡◌, ◌<◌, ◌≤◌, IfOk, MatchOption, length, chars};
 ghost use Rattle.rbbi_model.specs.Words.{most_characters};
+ghost use Rattle.rbbi_text.specs.Bytes.{most_bytes};
 ghost use Rattle.rbbi_text.specs.Texts.{IsShortText};
 ghost use Rattle.rbbi_text.specs.Answers.{TakesText, ReadsText};
 
-use crate::{Chars, Raw, RawErr, Steps, TextErr};
+use crate::{Chars, Raw, RawErr, Steps, TextErr, utf8_text};
 use std::alloc::{AllocError, Global};
 use std::fmt;
 use std::marker::Model;
@@ -76,12 +77,12 @@ impl PlainText {
     /// Refuses `NotUtf8` where the bytes are not UTF-8, at the first byte past the longest valid
     /// front; otherwise `TooManyChars` where they spell more than 16,777,216 characters.
     pub fn from_raw(alloc: Global, raw: &Raw) -> Result<PlainText, RawErr>
-        requires { length raw.now ≤ 100663296 }
+        requires { length raw.now ≤ most_bytes }
         ensures { ReadsText raw.now result }
     {
-        let text = match simdutf8::compat::from_utf8(raw.uncounted()) {
+        let text = match utf8_text(raw.uncounted()) {
             Ok(text) => text,
-            Err(fault) => return Err(RawErr::NotUtf8(fault.valid_up_to() as u32)),
+            Err(at) => return Err(RawErr::NotUtf8(at)),
         };
         match decoded(alloc, text)? {
             Some(items) => Ok(PlainText { items }),

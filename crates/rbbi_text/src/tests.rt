@@ -1,7 +1,10 @@
 //! Each public call once, on values from outside.
 ghost use Rattle.std.specs.Prelude.{◌≡◌, ◌<◌, IfOk};
 
-use crate::{Chars, EditErr, PlainText, Raw, RawErr, Steps, TextErr, Word, without_mark};
+use crate::{
+    Chars, EditErr, PlainText, Raw, RawErr, Steps, TextErr, Word, decimal, hexadecimal,
+    without_mark,
+};
 use std::alloc::{AllocError, Global};
 use std::marker::Brand;
 use std::sync::ledger::{Blank, Ledger};
@@ -105,6 +108,25 @@ fn marks(rt: HostRuntime) {
         ("a\u{feff}", "a\u{feff}"),
     ] {
         assert_eq!(rt; without_mark(text), rest, "of {text:?}");
+    }
+}
+
+#[test]
+fn numbers(rt: HostRuntime) {
+    let rows: [(&[u8], Option<u32>, Option<u32>); 9] = [
+        (b"", None, None),
+        (b"0", Some(0), None),
+        (b"0041", Some(41), Some(0x41)),
+        (b"10fFfF", None, Some(0x10FFFF)),
+        (b"110000", Some(110_000), None),
+        (b"4294967295", Some(u32::MAX), None),
+        (b"4294967296", None, None),
+        (b"36893488147419103232", None, None),
+        (b"+41", None, None),
+    ];
+    for (text, ten, sixteen) in rows {
+        assert_eq!(rt; decimal(text, u32::MAX), ten, "of {text:?}");
+        assert_eq!(rt; hexadecimal(text, 4, 6, 0x10FFFF), sixteen, "of {text:?}");
     }
 }
 
