@@ -7,3 +7,4 @@ pub mod SetMachine
 pub mod Machine
 pub mod SetStates
 pub mod States
+pub mod WellMade

@@ -5,6 +5,7 @@ use Rattle.rbbi_tree.specs.States.{progress}
 use Rattle.rbbi_tree.proofs.Places.{refused_stuck, refused_deep, refused_within, run_more, run_whole}
 use Rattle.rbbi_tree.proofs.Depth.{counted_more, opens_one, shallow_more}
 use Rattle.rbbi_tree.proofs.Sound.{run_is_file}
+use Rattle.rbbi_tree.proofs.WellMadeTrees.{file_made}
 use Rattle.rbbi_tree.proofs.file.parse.Goals as goal
 
 pub returns-in_err-read-clause-refused : goal.returns-in_err-read-clause-refused
@@ -53,3 +54,12 @@ returns-clause-parsed c =
     rw c.into_statements.ensures
     (run_is_file ts (progress c.loop-i.parser) (run_whole ts c.loop-i.i (progress c.loop-i.parser) all c.loop-i.invariant.ran)
     (c.is_between.ensures.is c.if-not-is_between.false))
+
+pub returns-clause-well_made : goal.returns-clause-well_made
+returns-clause-well_made c =
+    let ts = c.args.tokens.now in
+    let all : length ts ≤ c.loop-i.i = omega (arith, c.len-i-end.ensures) in
+    rw c.into_statements.ensures
+    (file_made (progress c.loop-i.parser).statements ts
+    (run_is_file ts (progress c.loop-i.parser) (run_whole ts c.loop-i.i (progress c.loop-i.parser) all c.loop-i.invariant.ran)
+    (c.is_between.ensures.is c.if-not-is_between.false)) c.requires.well_made)
