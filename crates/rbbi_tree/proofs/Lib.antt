@@ -9,3 +9,4 @@ pub mod Finish
 pub mod Depth
 pub mod Places
 pub mod WellMadeTrees
+pub mod Totality

@@ -88,7 +88,7 @@ parts (suc i) (suc j) (t ∷ ts) le =
     (rest, ap (λ us. t ∷ us) is)
 
 -- what begins a file does so up to each of its tokens
-begins_part : (ts : List Token) (i j : ℕ) → i ≤ j → BeginsFile (take j ts) → BeginsFile (take i ts)
+pub begins_part : (ts : List Token) (i j : ℕ) → i ≤ j → BeginsFile (take j ts) → BeginsFile (take i ts)
 begins_part ts i j le (more, statements, file) =
     let (rest, is) = parts i j ts le in
     (rest ++ more, statements, subst (λ us. IsFile us statements) (ap (λ us. us ++ more) is ∙ append_assoc (take i ts) rest more) file)
