@@ -15,7 +15,8 @@ use Rattle.rbbi_lex.specs.Characters.{is_name_start, is_line_end, is_sign, passe
 use Rattle.rbbi_lex.specs.Runs.{run_end}
 use Rattle.rbbi_lex.specs.Rows.{outer_sign, inner_sign}
 use Rattle.rbbi_lex.specs.Points.{CharacterAt, is_at}
-use Rattle.rbbi_lex.specs.Escapes.{number, form_of, braced_end, few_end, WritesCharacter, FixedDigits, DigitsInBraces, OneOrTwoDigits, EscapeGoesOn}
+use Rattle.rbbi_text.specs.Numbers.{number}
+use Rattle.rbbi_lex.specs.Escapes.{form_of, braced_end, few_end, WritesCharacter, FixedDigits, DigitsInBraces, OneOrTwoDigits, EscapeGoesOn}
 use Rattle.rbbi_lex.specs.Quotations.{IsQuoted, QuotesUpTo}
 use Rattle.rbbi_lex.specs.Properties.{property, body_start, SpellsBraced, SpellsBracketed}
 use Rattle.rbbi_lex.specs.Spellings.{most_tag, digits_start, digits_end, tag_close, tag_number, SpellsName, SpellsControl, SpellsTag, SpellsQuotePair, SpellsQuotation, SpellsEscape, Spells}

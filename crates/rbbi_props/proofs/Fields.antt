@@ -6,7 +6,8 @@ use Rattle.std.proofs.lemmas.Bool.{cases_lt, and_left, false_from_ne_true}
 use Rattle.std.proofs.lemmas.Bool.Decides.{nat_tests}
 use Rattle.std.proofs.lemmas.List.Sums.{passes_at_first, AllPass-from_list_all, prefix_len-le-length}
 use Rattle.rbbi_model.specs.Ranges.{Range}
-use Rattle.rbbi_props.specs.RowLines.{is_code_point, code_point_of, span_of, span_between, range_of_parts, range_of, last_part, row_with, row_of_fields, hex_value, trim}
+use Rattle.rbbi_text.specs.Numbers.{number, at_most}
+use Rattle.rbbi_props.specs.RowLines.{code_point_of, span_of, span_between, range_of_parts, range_of, last_part, row_with, row_of_fields, trim}
 use Rattle.rbbi_props.proofs.Pieces.{split_cons, split_none, split_some}
 
 -- a field with no dot
@@ -36,8 +37,7 @@ dotted xs l =
     let no_digits : list_all is_ascii_hexdigit xs ≡ false =
     false_from_ne_true (list_all is_ascii_hexdigit xs) (λ t.
     hex_is_no_dot _ (AllPass-from_list_all is_ascii_hexdigit xs t (position_or_len (λ b. eqb b 46) xs) 0 l) (passes_at_first (λ b. eqb b 46) xs 0 l)) in
-    let no_point : is_code_point xs ≡ false = and_left _ _ (and_left _ _ no_digits) in
-    ap (λ t. cond t (Some (hex_value xs)) None) no_point
+    ap (λ t. cond t (at_most 0x10FFFF (number 16 xs)) None) (and_left _ _ no_digits)
 
 abbrev nothing : ℕ → Option Range
 nothing c = None

@@ -1,5 +1,5 @@
 //! The numbers that digits write.
-ghost use Rattle.std.specs.Prelude.{◌≡◌, ◌+◌, ◌*◌, ◌<◌, ◌≤◌, ℕ, min};
+ghost use Rattle.std.specs.Prelude.{◌≡◌, ◌+◌, ◌*◌, ◌<◌, ◌≤◌, ℕ, min, IfSome};
 ghost use Rattle.std.specs.List.{list_all};
 ghost use Rattle.std.specs.Char.{digit_value, is_ascii_digit, is_ascii_hexdigit};
 ghost use Rattle.rbbi_text.specs.Numbers.{number, at_most, decimal, hexadecimal};
@@ -20,6 +20,7 @@ fn with_digit(value: u64, base: u32, c: char) -> u64
 /// A number, where it is at most this.
 fn at_most(value: u64, most: u32) -> Option<u32>
     ensures exact { result ≡ at_most most value }
+    ensures bound { IfSome result (λ n. n ≤ most) }
     ensures cut { (n : ℕ) → value ≡ min n 4294967296 → result ≡ at_most most n }
 {
     if value <= most as u64 {
@@ -48,7 +49,8 @@ pub fn number_of_characters(digits: &[char], base: u32, most: u32) -> Option<u32
 fn number_of_bytes(digits: &[u8], base: u32, most: u32) -> Option<u32>
     requires some_base { 0 < base }
     requires base { base ≤ 36 }
-    ensures { result ≡ at_most most (number base digits.now) }
+    ensures value { result ≡ at_most most (number base digits.now) }
+    ensures bound { IfSome result (λ n. n ≤ most) }
 {
     let mut value = 0;
     for digit in digits {
@@ -59,7 +61,8 @@ fn number_of_bytes(digits: &[u8], base: u32, most: u32) -> Option<u32>
 
 /// The number that one decimal digit or more write, where it is at most this. None for any other text.
 pub fn decimal(text: &[u8], most: u32) -> Option<u32>
-    ensures { result ≡ decimal most text.now }
+    ensures value { result ≡ decimal most text.now }
+    ensures bound { IfSome result (λ n. n ≤ most) }
 {
     if are_digits(text) && text.len() > 0 {
         number_of_bytes(text, 10, most)
@@ -77,7 +80,8 @@ fn are_digits(text: &[u8]) -> bool
 /// The number that hexadecimal digits of either case write, where it is at most this and the digits
 /// are `fewest` to `longest`. None for any other text.
 pub fn hexadecimal(text: &[u8], fewest: usize, longest: usize, most: u32) -> Option<u32>
-    ensures { result ≡ hexadecimal fewest longest most text.now }
+    ensures value { result ≡ hexadecimal fewest longest most text.now }
+    ensures bound { IfSome result (λ n. n ≤ most) }
 {
     if are_hexadecimal_digits(text) && fewest <= text.len() && text.len() <= longest {
         number_of_bytes(text, 16, most)
