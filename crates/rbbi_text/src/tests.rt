@@ -2,7 +2,7 @@
 ghost use Rattle.std.specs.Prelude.{◌≡◌, ◌<◌, IfOk};
 
 use crate::{
-    Chars, EditErr, PlainText, Raw, RawErr, Steps, TextErr, Word, decimal, hexadecimal,
+    Chars, EditErr, EditText, PlainText, Raw, RawErr, Steps, TextErr, Word, decimal, hexadecimal,
     without_mark,
 };
 use std::alloc::{AllocError, Global};
@@ -62,6 +62,38 @@ fn texts_of_bytes(rt: HostRuntime) -> Result<(), Fail> {
     assert_eq!(rt; shown.as_str(), text);
     let bytes = copied::<Brand>(&rt, &raw, Blank::new(1))?;
     assert_eq!(rt; bytes.as_slice(), text.as_bytes());
+    Ok(())
+}
+
+/// What an edit answers.
+fn edited(plain: &mut PlainText, at: u32, remove: u32, insert: &str) -> &'static str {
+    match plain.replace(at, remove, insert) {
+        Ok(()) => "Ok",
+        Err(EditErr::Outside) => "Outside",
+        Err(EditErr::TooLong) => "TooLong",
+        Err(EditErr::Memory) => "Memory",
+    }
+}
+
+#[test]
+fn edits(rt: HostRuntime) -> Result<(), Fail> {
+    let alloc = rt.alloc();
+    let mut plain = PlainText::new(alloc, "ab\u{e9}cd")?;
+    let rows: [(u32, u32, &str, &str, &str); 8] = [
+        (0, 0, "", "Ok", "ab\u{e9}cd"),
+        (5, 1, "x", "Outside", "ab\u{e9}cd"),
+        (6, 0, "", "Outside", "ab\u{e9}cd"),
+        (u32::MAX, u32::MAX, "x", "Outside", "ab\u{e9}cd"),
+        (5, 0, "e", "Ok", "ab\u{e9}cde"),
+        (1, 4, "\u{1f1e6}", "Ok", "a\u{1f1e6}e"),
+        (0, 1, "xyz", "Ok", "xyz\u{1f1e6}e"),
+        (0, 5, "", "Ok", ""),
+    ];
+    for (at, remove, insert, answer, after) in rows {
+        assert_eq!(rt; edited(&mut plain, at, remove, insert), answer, "at {at}");
+        let shown = shown::<Brand>(&rt, &plain, Blank::new(1))?;
+        assert_eq!(rt; shown.as_str(), after, "at {at}");
+    }
     Ok(())
 }
 
