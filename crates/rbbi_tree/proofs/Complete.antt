@@ -9,7 +9,7 @@ use Rattle.rbbi_tree.specs.declared.syntax.Quant.TheVariants.{Once, Star, Plus, 
 use Rattle.rbbi_tree.specs.Trees.{set_of, ExprTree, SeqTree, ItemTree, AtomTree, StatementTree, no_alternatives, alternative, no_items, item, placed}
 use Rattle.rbbi_tree.specs.Trees.{character, quoted, any, name, property, set, group, nothing, control, assign, rule}
 use Rattle.rbbi_tree.specs.Grammar.{token, BeginsAt, IsCaret, IsQuant, IsTag, IsExpr, AreMoreAlternatives, IsSeq, AreItems, IsItem, IsAtom, IsOneSeq, IsMatcher, IsStatement, IsFile}
-use Rattle.rbbi_tree.specs.Machine.{LevelTree, GroupTree, HeadTree, assigning, ruling, resting, Progress, empty_level, after, items_back, sequences_back, with_item, with_sequence, whole, begun, atom_read, group_begun, set_begun, at_bar, run}
+use Rattle.rbbi_tree.specs.Machine.Statements.{LevelTree, GroupTree, HeadTree, assigning, ruling, resting, Progress, empty_level, after, items_back, sequences_back, with_item, with_sequence, whole, begun, atom_read, group_begun, set_begun, at_bar, run}
 use Rattle.rbbi_tree.proofs.Runs.{run-on}
 use Rattle.rbbi_tree.proofs.CompleteSets.{run_set}
 

@@ -11,8 +11,8 @@ use Rattle.rbbi_tree.specs.declared.syntax.Quant.TheVariants.{Once, Star, Plus, 
 use Rattle.rbbi_tree.specs.Trees.{SetTree, PartTree, ExprTree, SeqTree, ItemTree, AtomTree, StatementTree, no_alternatives, alternative, no_items, item, placed}
 use Rattle.rbbi_tree.specs.Trees.{character, quoted, any, name, property, set, group, nothing, control}
 use Rattle.rbbi_tree.specs.Grammar.{token, BeginsAt, IsCaret, IsQuant, IsTag, IsSet, IsExpr, AreMoreAlternatives, IsSeq, AreItems, IsItem, IsAtom, IsOneSeq, IsStatement, IsFile}
-use Rattle.rbbi_tree.specs.SetMachine.{SetLevelTree, OuterSetTree, SetsTree, join_in, ended_parts, set_from, at_set_token}
-use Rattle.rbbi_tree.specs.Machine.{LevelTree, GroupTree, HeadTree, between, assigning, ruling, resting, ended, Progress, empty_level, after, items_back, sequences_back, with_item, with_sequence, whole, begun, atom_read, group_begun, quantified, at_atom, at_open, at_set_open, at_quant, at_bar, at_close, at_slash, at_caret, at_control, name_of, name_assigned, at_equals, statement_of, statement_at, statement_read, statement_ended, at_semi, advance_outside, set_kept, at_inner_open, set_ended, at_inner_close, advance_inside, advance_by, advance, run}
+use Rattle.rbbi_tree.specs.Machine.Sets.{SetLevelTree, OuterSetTree, SetsTree, join_in, ended_parts, set_from, at_set_token}
+use Rattle.rbbi_tree.specs.Machine.Statements.{LevelTree, GroupTree, HeadTree, between, assigning, ruling, resting, ended, Progress, empty_level, after, items_back, sequences_back, with_item, with_sequence, whole, begun, atom_read, group_begun, quantified, at_atom, at_open, at_set_open, at_quant, at_bar, at_close, at_slash, at_caret, at_control, name_of, name_assigned, at_equals, statement_of, statement_at, statement_read, statement_ended, at_semi, advance_outside, set_kept, at_inner_open, set_ended, at_inner_close, advance_inside, advance_by, advance, run}
 use Rattle.rbbi_tree.proofs.SoundSets.{IsSetRead, IsOuterRead, IsStillSet, reads_token, ends_set, opens_set, opens_inner, resumes}
 
 -- items, the latest first
