@@ -54,7 +54,8 @@ Skipped-at_end x state i h =
     Skipped-none x state i (λ j p. let within = Piece-within x state i j p in omega arith)
 
 -- nothing is skipped at a character that is no white space and begins no comment
-pub no_piece : (x : List ℕ) (state : State) (i j : ℕ) → passes is_pattern_white_space (slice_get x i) ≡ false → ((0 < state.depth) ⊎ (is_at x i 35 ≡ false)) → Piece x state i j → ⊥
+pub no_piece : (x : List ℕ) (state : State) (i j : ℕ) → passes is_pattern_white_space (slice_get x i) ≡ false → ((0 < state.depth) ⊎ (is_at x i 35 ≡ false)) →
+    Piece x state i j → ⊥
 no_piece x state i j plain other (inl p) = false≢true (sym plain ∙ p.0)
 no_piece x state i j plain (inl inside) (inr p) = absurd (omega (arith, inside, p.0))
 no_piece x state i j plain (inr other) (inr p) = false≢true (sym other ∙ p.1)

@@ -1,5 +1,6 @@
 -- Pieces of a text, character by character.
-use Rattle.std.proofs.Common.{◌≡◌, ℕ, ◌+◌, ◌-◌, ◌<◌, ◌≤◌, List, [], ◌∷◌, ◌++◌, length, get_or, take, drop, sym, ap, ◌∙◌, arith, length-drop, get_or-drop, slice_range}
+use Rattle.std.proofs.Common.{◌≡◌, ℕ, ◌+◌, ◌-◌, ◌<◌, ◌≤◌, List, [], ◌∷◌, ◌++◌, length, get_or, take, drop, sym, ap, ◌∙◌, arith, length-drop, get_or-drop}
+use Rattle.std.proofs.Common.{slice_range}
 use Rattle.std.proofs.lemmas.List.{take_more}
 
 -- an empty piece
@@ -12,4 +13,6 @@ slice_range-more x i j c le lt at =
     let left = length-drop i x in
     let more : (j + 1) - i ≡ (j - i) + 1 = omega arith in
     let back : i + (j - i) ≡ j = omega arith in
-    ap (λ n. take n (drop i x)) more ∙ take_more (drop i x) (j - i) c (omega arith) ∙ ap (λ d. take (j - i) (drop i x) ++ d ∷ []) (get_or-drop i x (j - i) c ∙ ap (λ k. get_or x k c) back ∙ sym at)
+    ap (λ n. take n (drop i x)) more
+    ∙ take_more (drop i x) (j - i) c (omega arith)
+    ∙ ap (λ d. take (j - i) (drop i x) ++ d ∷ []) (get_or-drop i x (j - i) c ∙ ap (λ k. get_or x k c) back ∙ sym at)

@@ -3,7 +3,8 @@ use Rattle.std.specs.Prelude.{ℕ, ◌≡◌, ◌+◌, ◌<◌, ◌≤◌, min, 
 use Rattle.std.specs.Prelude.{Option}
 use Rattle.std.specs.Char.{IsScalar, is_ascii_alphanumeric}
 use Rattle.rbbi_text.specs.Numbers.{number}
-use Rattle.rbbi_lex.specs.Signs.{backspace, bell, brace_close, brace_open, capital_u, carriage_return, escape_character, form_feed, letter_a, letter_b, letter_e, letter_f, letter_n, letter_r, letter_t, letter_u, letter_v, letter_x, line_feed, tab, vertical_tab}
+use Rattle.rbbi_lex.specs.Signs.{backspace, bell, brace_close, brace_open, capital_u, carriage_return, escape_character, form_feed, letter_a, letter_b}
+use Rattle.rbbi_lex.specs.Signs.{letter_e, letter_f, letter_n, letter_r, letter_t, letter_u, letter_v, letter_x, line_feed, tab, vertical_tab}
 use Rattle.rbbi_lex.specs.declared.escape.Form.{Form}
 use Rattle.rbbi_lex.specs.declared.escape.Form.TheVariants.{FourDigits, EightDigits, BracedDigits, FewDigits, StandsFor, Unknown}
 use Rattle.rbbi_lex.specs.declared.run.Run.TheVariants.{HexadecimalDigits}

@@ -2,12 +2,16 @@
 use Rattle.std.specs.Prelude.{ℕ, Bool, true, ◌||◌, ◌&&◌, ◌==◌, if◌then◌else◌, ◌+◌, ◌-◌, List, [], ◌∷◌}
 use Rattle.std.specs.Prelude.{Option, None, Some, is_some}
 use Rattle.std.specs.List.{find}
-use Rattle.rbbi_lex.specs.Signs.{ampersand, asterisk, backslash, brace_close, brace_open, bracket_close, bracket_open, capital_p, caret, colon, dollar_sign, equals_sign, exclamation_mark, full_stop, hyphen, letter_p, paren_close, paren_open, plus_sign, question_mark, quote, semicolon, slash, vertical_bar}
+use Rattle.rbbi_lex.specs.Signs.{ampersand, asterisk, backslash, brace_close, brace_open, bracket_close, bracket_open, capital_p, caret, colon, dollar_sign}
+use Rattle.rbbi_lex.specs.Signs.{equals_sign, exclamation_mark, full_stop, hyphen, letter_p, paren_close, paren_open, plus_sign, question_mark, quote}
+use Rattle.rbbi_lex.specs.Signs.{semicolon, slash, vertical_bar}
 use Rattle.rbbi_lex.specs.declared.token.TokenKind.{TokenKind}
-use Rattle.rbbi_lex.specs.declared.token.TokenKind.TheVariants.{Semi, Equals, Bar, Slash, Caret, Star, Plus, Quest, Dot, ParenOpen, ParenClose, SetOpen, SetClose, Hyphen, Amp}
+use Rattle.rbbi_lex.specs.declared.token.TokenKind.TheVariants.{Semi, Equals, Bar, Slash, Caret, Star, Plus, Quest, Dot, ParenOpen, ParenClose, SetOpen}
+use Rattle.rbbi_lex.specs.declared.token.TokenKind.TheVariants.{SetClose, Hyphen, Amp}
 use Rattle.rbbi_lex.specs.declared.state.State.{State}
 use Rattle.rbbi_lex.specs.declared.row.Row.{Row}
-use Rattle.rbbi_lex.specs.declared.row.Row.TheVariants.{Sign, SetSign, BracketedProperty, SetStart, Variable, ControlName, StatusNumber, QuotePair, Quotation, BracedProperty, Escape, Brace, BareCharacter, SetCharacter, OtherCharacter}
+use Rattle.rbbi_lex.specs.declared.row.Row.TheVariants.{Sign, SetSign, BracketedProperty, SetStart, Variable, ControlName, StatusNumber, QuotePair, Quotation}
+use Rattle.rbbi_lex.specs.declared.row.Row.TheVariants.{BracedProperty, Escape, Brace, BareCharacter, SetCharacter, OtherCharacter}
 use Rattle.rbbi_lex.specs.Characters.{is_bare, is_sign}
 
 -- where no token has been read: outside of sets

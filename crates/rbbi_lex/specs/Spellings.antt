@@ -7,7 +7,8 @@ use Rattle.rbbi_lex.specs.declared.token.TokenKind.TheVariants.{SetOpen, Char, Q
 use Rattle.rbbi_lex.specs.declared.state.State.{State}
 use Rattle.rbbi_lex.specs.declared.run.Run.TheVariants.{WhiteSpace, NameText, ControlText, Digits}
 use Rattle.rbbi_lex.specs.declared.row.Row.{Row}
-use Rattle.rbbi_lex.specs.declared.row.Row.TheVariants.{Sign, SetSign, BracketedProperty, SetStart, Variable, ControlName, StatusNumber, QuotePair, Quotation, BracedProperty, Escape, Brace, BareCharacter, SetCharacter, OtherCharacter}
+use Rattle.rbbi_lex.specs.declared.row.Row.TheVariants.{Sign, SetSign, BracketedProperty, SetStart, Variable, ControlName, StatusNumber, QuotePair, Quotation}
+use Rattle.rbbi_lex.specs.declared.row.Row.TheVariants.{BracedProperty, Escape, Brace, BareCharacter, SetCharacter, OtherCharacter}
 use Rattle.rbbi_lex.specs.Characters.{is_name_start, passes}
 use Rattle.rbbi_lex.specs.Runs.{run_end}
 use Rattle.rbbi_lex.specs.Rows.{outer_sign, inner_sign}

@@ -46,7 +46,8 @@ impl Lexer {
     fn skip(&mut self)
         ensures characters { self.new.characters ≡ self.old.characters }
         ensures state { self.new.state ≡ self.old.state }
-        ensures skipped { Skipped self.old.characters.items self.old.state self.old.place self.new.place }
+        ensures skipped { Skipped self.old.characters.items self.old.state self.old.place
+            self.new.place }
     {
         while let Some(end) = piece_end(self.characters.as_slice(), &self.state, self.place) {
             self.place = end;

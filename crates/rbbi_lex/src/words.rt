@@ -6,7 +6,8 @@ use std::alloc::{AllocError, Global};
 
 /// Adds a character at the end of a string.
 pub(crate) fn push_character(string: &mut String, c: char) -> Result<(), AllocError>
-    ensures { OnOk result (chars (string_bytes string.new) ≡ chars (string_bytes string.old) ++ c ∷ []) }
+    ensures { OnOk result
+        (chars (string_bytes string.new) ≡ chars (string_bytes string.old) ++ c ∷ []) }
 {
     string.push(c)
 }

@@ -29,7 +29,8 @@ split_some p xs l = slice_split_first p xs 0 l
 pub last_none : (p : ℕ → Bool) (xs : List ℕ) → position_or_len p xs ≡ length xs → last_part (slice_split p xs) ≡ xs
 last_none p xs e = ap last_part (split_none p xs e)
 
-last_cons : (part : List ℕ) (parts : List (List ℕ)) (next : List ℕ) (others : List (List ℕ)) → parts ≡ next ∷ others → last_part (part ∷ parts) ≡ last_part parts
+last_cons : (part : List ℕ) (parts : List (List ℕ)) (next : List ℕ) (others : List (List ℕ)) → parts ≡ next ∷ others →
+    last_part (part ∷ parts) ≡ last_part parts
 last_cons part parts next others e =
     ap (λ ps. last_part (part ∷ ps)) e ∙ sym (ap last_part e)
 
@@ -46,7 +47,8 @@ length-split : (p : ℕ → Bool) (xs : List ℕ) → length (slice_split p xs) 
 length-split p [] = omega arith
 length-split p (x ∷ xs) = both (p x) (length-split p xs)
   where
-    both : (b : Bool) → length (slice_split p xs) ≤ length xs + 1 → length (cond b ([] ∷ slice_split p xs) (onto_first x (slice_split p xs))) ≤ length (x ∷ xs) + 1
+    both : (b : Bool) → length (slice_split p xs) ≤ length xs + 1 →
+        length (cond b ([] ∷ slice_split p xs) (onto_first x (slice_split p xs))) ≤ length (x ∷ xs) + 1
     both true short = omega arith
     both false short = omega (arith, length-onto_first x (slice_split p xs))
 

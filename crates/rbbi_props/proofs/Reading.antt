@@ -1,5 +1,6 @@
 -- What holds in the middle of the lines of a file, how a line keeps it, and what it gives at the end.
-use Rattle.std.proofs.Common.{◌≡◌, ℕ, ◌+◌, ◌<◌, ◌≤◌, false, cond, List, [], ◌∷◌, ◌++◌, length, take, get_or, Some, None, filter_map, ltb, ap, sym, ◌∙◌, arith, below_more}
+use Rattle.std.proofs.Common.{◌≡◌, ℕ, ◌+◌, ◌<◌, ◌≤◌, false, cond, List, [], ◌∷◌, ◌++◌, length, take, get_or, Some, None, filter_map, ltb, ap, sym, ◌∙◌, arith}
+use Rattle.std.proofs.Common.{below_more}
 use Rattle.std.specs.List.{position}
 use Rattle.std.proofs.lemmas.Bool.{lt-ltb, le-ltb}
 use Rattle.std.proofs.lemmas.List.{take_more, take_all, get_or_default}
@@ -20,7 +21,8 @@ pub IsReading-none : (lines : List (List ℕ)) (rows : List Row) → rows ≡ []
 IsReading-none lines rows none = record { rows_so_far = none; none_bad = λ k below. absurd (omega arith) }
 
 -- one line more, which isn't bad
-pub IsReading-more : (lines : List (List ℕ)) (rows more : List Row) (number i : ℕ) (line : List ℕ) → IsReading lines rows number → number ≡ i → i < length lines → line ≡ get_or lines i [] →
+pub IsReading-more : (lines : List (List ℕ)) (rows more : List Row) (number i : ℕ) (line : List ℕ) → IsReading lines rows number → number ≡ i →
+    i < length lines → line ≡ get_or lines i [] →
     more ≡ rows ++ filter_map row_of (line ∷ []) → is_bad line ≡ false → IsReading lines more (number + 1)
 IsReading-more lines rows more number i line h here below at_i rows_are good =
     let within : number < length lines = omega arith in
@@ -36,7 +38,8 @@ IsReading-more lines rows more number i line h here below at_i rows_are good =
     }
 
 -- at the end
-pub IsReading-all : (lines : List (List ℕ)) (rows : List Row) (number : ℕ) → IsReading lines rows number → length lines ≤ number → (rows ≡ filter_map row_of lines) × (position is_bad lines ≡ None)
+pub IsReading-all : (lines : List (List ℕ)) (rows : List Row) (number : ℕ) → IsReading lines rows number → length lines ≤ number →
+    (rows ≡ filter_map row_of lines) × (position is_bad lines ≡ None)
 IsReading-all lines rows number h all = (
   h.rows_so_far ∙ ap (filter_map row_of) (take_all number lines all),
   ap (λ n. cond (ltb n (length lines)) (Some n) None) (position_or_len_is is_bad lines (length lines) [] (omega arith) (λ k l. h.none_bad k (omega arith)) (λ l. absurd (omega arith)))
@@ -44,7 +47,8 @@ IsReading-all lines rows number h all = (
 )
 
 -- at a line that is refused
-pub IsLineCause-from_line : (lines : List (List ℕ)) (rows : List Row) (number i : ℕ) (line : List ℕ) (e : PropErr) → IsReading lines rows number → number ≡ i → i < length lines → line ≡ get_or lines i [] →
+pub IsLineCause-from_line : (lines : List (List ℕ)) (rows : List Row) (number i : ℕ) (line : List ℕ) (e : PropErr) → IsReading lines rows number → number ≡ i →
+    i < length lines → line ≡ get_or lines i [] →
     IsOneLineCause e line (number + 1) → IsLineCause e lines
 IsLineCause-from_line lines rows number i line (NotUtf8 at) h here below at_i cause = absurd cause
 IsLineCause-from_line lines rows number i line Memory h here below at_i cause = tt

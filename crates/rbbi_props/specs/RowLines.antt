@@ -1,5 +1,6 @@
 -- The row that a line of a property file writes. 9 is a tab, 32 a space, 35 is `#`, 46 is `.` and 59 is `;`.
-use Rattle.std.specs.Prelude.{ℕ, ◌-◌, Bool, not, ◌&&◌, ◌||◌, ◌==◌, nat_le, List, [], ◌∷◌, length, take, drop, Option, Some, None, option_map, option_and_then, is_none, if◌then◌else◌}
+use Rattle.std.specs.Prelude.{ℕ, ◌-◌, Bool, not, ◌&&◌, ◌||◌, ◌==◌, nat_le, List, [], ◌∷◌, length, take, drop, Option, Some, None, option_map, option_and_then}
+use Rattle.std.specs.Prelude.{is_none, if◌then◌else◌}
 use Rattle.std.specs.List.{list_all, prefix_len, suffix_len, before_first, slice_split}
 use Rattle.rbbi_model.specs.Ranges.{Range}
 use Rattle.rbbi_text.specs.Numbers.{hexadecimal}

@@ -20,9 +20,9 @@ pub fn utf8_text(bytes: &[u8]) -> Result<&str, u32>
     }
 }
 
-/// The text without the one U+FEFF at its start, if it begins with one. A second one stays. Its lines
-/// are those of `str::lines`: a line ends at LF, one CR before the LF isn't part of it, and an empty
-/// rest after the last LF is none.
+/// The text without the one U+FEFF at its start, if it begins with one. A second one stays. Its
+/// lines are those of `str::lines`: a line ends at LF, one CR before the LF isn't part of it, and
+/// an empty rest after the last LF is none.
 pub fn without_mark(text: &str) -> &str
     ensures text { result.now ≡ without_mark text.now }
     ensures no_longer { length result.now ≤ length text.now }

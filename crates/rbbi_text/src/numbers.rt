@@ -30,8 +30,8 @@ fn at_most(value: u64, most: u32) -> Option<u32>
     }
 }
 
-/// The number that characters write in a base from 1 to 36, where it is at most this. No digits write
-/// 0. A letter of either case is a digit from 10 on.
+/// The number that characters write in a base from 1 to 36, where it is at most this. No digits
+/// write 0. A letter of either case is a digit from 10 on.
 pub fn number_of_characters(digits: &[char], base: u32, most: u32) -> Option<u32>
     requires some_base { 0 < base }
     requires base { base ≤ 36 }
@@ -59,7 +59,8 @@ fn number_of_bytes(digits: &[u8], base: u32, most: u32) -> Option<u32>
     at_most(value, most)
 }
 
-/// The number that one decimal digit or more write, where it is at most this. None for any other text.
+/// The number that one decimal digit or more write, where it is at most this. None for any other
+/// text.
 pub fn decimal(text: &[u8], most: u32) -> Option<u32>
     ensures value { result ≡ decimal most text.now }
     ensures bound { IfSome result (λ n. n ≤ most) }

@@ -100,8 +100,8 @@ fn edits(rt: HostRuntime) -> Result<(), Fail> {
 #[test]
 fn bytes_that_are_no_text(rt: HostRuntime) -> Result<(), Fail> {
     let alloc = rt.alloc();
-    // A byte that begins no character, a character cut short, one written too long, a surrogate, and
-    // a number past the last code point.
+    // A byte that begins no character, a character cut short, one written too long, a surrogate,
+    // and a number past the last code point.
     let rows: [(&[u8], u32); 6] = [
         (b"a\xff", 1),
         (b"\xe2\x82", 0),

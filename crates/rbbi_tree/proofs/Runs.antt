@@ -8,7 +8,8 @@ pub run-append : (a b : List Token) (p : Progress) → run (a ++ b) p ≡ option
 run-append [] b p = refl
 run-append (t ∷ a) b p = go (advance t p) (λ q. run-append a b q)
   where
-    go : (o : Option Progress) → ((q : Progress) → run (a ++ b) q ≡ option_and_then (run b) (run a q)) → option_and_then (run (a ++ b)) o ≡ option_and_then (run b) (option_and_then (run a) o)
+    go : (o : Option Progress) → ((q : Progress) → run (a ++ b) q ≡ option_and_then (run b) (run a q)) →
+        option_and_then (run (a ++ b)) o ≡ option_and_then (run b) (option_and_then (run a) o)
     go None each = refl
     go (Some q) each = each q
 

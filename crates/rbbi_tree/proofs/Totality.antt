@@ -1,5 +1,6 @@
 -- A list of tokens is a file, or has one fault.
-use Rattle.std.proofs.Common.{◌≡◌, ℕ, zero, suc, ◌+◌, ◌<◌, ◌≤◌, List, [], ◌∷◌, ◌++◌, length, take, slice_get, Option, Some, None, IsSome, ◌⊎◌, inl, inr, refl, sym, ◌∙◌, ap, subst, arith}
+use Rattle.std.proofs.Common.{◌≡◌, ℕ, zero, suc, ◌+◌, ◌<◌, ◌≤◌, List, [], ◌∷◌, ◌++◌, length, take, slice_get, Option, Some, None, IsSome, ◌⊎◌, inl, inr, refl}
+use Rattle.std.proofs.Common.{sym, ◌∙◌, ap, subst, arith}
 use Rattle.std.proofs.lemmas.Bool.{cases_lt, cases_order}
 use Rattle.std.proofs.lemmas.List.{append-nil, take_all}
 use Rattle.std.proofs.lemmas.Option.{slice_get_cases}
@@ -22,7 +23,8 @@ IsRead ts i = (p : Progress) × (run (take i ts) (after []) ≡ Some p) × IsSha
 abbrev HasFault : List Token → ℕ → Type 0
 HasFault ts end = (e : TreeErr) × IsFaultOf ts end e
 
-read_token : (ts : List Token) (end i : ℕ) (t : Token) (p : Progress) (after_t : Option Progress) → slice_get ts i ≡ Some t → run (take i ts) (after []) ≡ Some p →
+read_token : (ts : List Token) (end i : ℕ) (t : Token) (p : Progress) (after_t : Option Progress) → slice_get ts i ≡ Some t →
+    run (take i ts) (after []) ≡ Some p →
     IsShallowBefore ts i → open_from 0 (take i ts) ≤ 64 → advance t p ≡ after_t → IsRead ts (i + 1) ⊎ HasFault ts end
 read_token ts end i t p None at ran shallow few stuck = inr (Syntax t.place, (refused_stuck ts end i t p (Syntax t.place) at ran shallow (stuck, refl), refl))
 read_token ts end i t p (Some q) at ran shallow few step =
@@ -52,7 +54,8 @@ read_up_to ts end (suc i) within =
 abbrev IsFine : List Token → Type 0
 IsFine ts = (statements : List StatementTree) × IsFile ts statements × IsShallow ts
 
-at_end : (ts : List Token) (end : ℕ) (head : HeadTree) (p : Progress) → run ts (after []) ≡ Some p → IsShallowBefore ts (length ts) → p.head ≡ head → IsFine ts ⊎ HasFault ts end
+at_end : (ts : List Token) (end : ℕ) (head : HeadTree) (p : Progress) → run ts (after []) ≡ Some p → IsShallowBefore ts (length ts) → p.head ≡ head →
+    IsFine ts ⊎ HasFault ts end
 at_end ts end between p ran shallow h = inl (p.statements, run_is_file ts p ran h, all_shallow ts (length ts) (omega arith) shallow)
 at_end ts end (assigning word at) p ran shallow h = inr (Syntax end, (refused_within ts end p ran (λ e. cc) shallow, refl))
 at_end ts end (ruling at no_chain_in) p ran shallow h = inr (Syntax end, (refused_within ts end p ran (λ e. cc) shallow, refl))
@@ -69,11 +72,13 @@ file_or_fault ts end =
 -- a fault of syntax is none of a file
 no_syntax : (ts : List Token) (k : ℕ) (statements : List StatementTree) → IsFile ts statements → IsSyntaxAt ts k → ⊥
 no_syntax ts k statements file (inl (within, begins, stuck)) =
-    let whole : BeginsFile (take (length ts) ts) = ([], statements, subst (λ us. IsFile us statements) (sym (append-nil _ ∙ take_all (length ts) ts (omega arith))) file) in
+    let whole : BeginsFile (take (length ts) ts) =
+    ([], statements, subst (λ us. IsFile us statements) (sym (append-nil _ ∙ take_all (length ts) ts (omega arith))) file) in
     stuck (begins_part ts (k + 1) (length ts) (omega arith) whole)
 no_syntax ts k statements file (inr (at, begins, none)) = none statements file
 
-pub file_excludes_fault : (ts : List Token) (end : ℕ) (statements : List StatementTree) (e : TreeErr) → IsFile ts statements → IsShallow ts → IsFaultOf ts end e → ⊥
+pub file_excludes_fault : (ts : List Token) (end : ℕ) (statements : List StatementTree) (e : TreeErr) → IsFile ts statements → IsShallow ts →
+    IsFaultOf ts end e → ⊥
 file_excludes_fault ts end statements (Syntax place) file shallow ((k, syntax_at, place_is, others), placed) = no_syntax ts k statements file syntax_at
 file_excludes_fault ts end statements (TooDeep place) file shallow ((k, deep, place_is, others), placed) = shallow k deep
 file_excludes_fault ts end statements Memory file shallow (refused, placed) = cc
@@ -90,8 +95,10 @@ after_deep ts k j (inr (at, begins, no_file)) deep read none = none j (omega (ar
 pub fault_is_one_of : (ts : List Token) (end : ℕ) (e f : TreeErr) → IsFaultOf ts end e → IsFaultOf ts end f → e ≡ f
 fault_is_one_of ts end (Syntax e) (Syntax f) ((k, k_at, e_is, k_none), placed) ((l, l_at, f_is, l_none), placed') =
     ap Syntax (e_is ∙ ap (λ n. place_or_end (slice_get ts n) end) (fault_is_one ts k l k_at l_at) ∙ sym f_is)
-fault_is_one_of ts end (Syntax e) (TooDeep f) ((k, k_at, e_is, k_none), placed) ((l, l_at, f_is, l_read), placed') = absurd (after_deep ts k l k_at l_at l_read k_none)
-fault_is_one_of ts end (TooDeep e) (Syntax f) ((k, k_at, e_is, k_read), placed) ((l, l_at, f_is, l_none), placed') = absurd (after_deep ts l k l_at k_at k_read l_none)
+fault_is_one_of ts end (Syntax e) (TooDeep f) ((k, k_at, e_is, k_none), placed) ((l, l_at, f_is, l_read), placed') =
+    absurd (after_deep ts k l k_at l_at l_read k_none)
+fault_is_one_of ts end (TooDeep e) (Syntax f) ((k, k_at, e_is, k_read), placed) ((l, l_at, f_is, l_none), placed') =
+    absurd (after_deep ts l k l_at k_at k_read l_none)
 fault_is_one_of ts end (TooDeep e) (TooDeep f) ((k, k_at, e_is, k_read), placed) ((l, l_at, f_is, l_read), placed') =
     ap TooDeep (e_is ∙ ap (λ n. place_or_end (slice_get ts n) end) (deep_is_one ts k l k_at l_at) ∙ sym f_is)
 fault_is_one_of ts end Memory f (refused, placed) other = cc

@@ -1,7 +1,8 @@
 -- What a reader of statements may rely on.
 use Rattle.std.specs.Prelude.{◌<◌, ◌≤◌, ℕ, List, length, Option, Some, None, IfSome}
 use Rattle.std.specs.List.{AllByRecursion}
-use Rattle.rbbi_tree.specs.Trees.{ExprTree, SeqTree, ItemTree, AtomTree, no_alternatives, alternative, no_items, item, placed, character, quoted, any, name, property, set, group}
+use Rattle.rbbi_tree.specs.Trees.{ExprTree, SeqTree, ItemTree, AtomTree, no_alternatives, alternative, no_items, item, placed, character, quoted, any, name}
+use Rattle.rbbi_tree.specs.Trees.{property, set, group}
 use Rattle.rbbi_tree.specs.Trees.{StatementTree, nothing, control, assign, rule}
 
 -- an expression has a sequence

@@ -2,7 +2,13 @@
 ghost use Rattle.std.specs.Prelude.{◌≡◌, ◌==◌, OnOk, IfOk, length};
 ghost use Rattle.rbbi_tree.specs.Values.{item_tree, expr_tree};
 ghost use Rattle.rbbi_tree.specs.Machine.Statements.{
-    empty_level, with_item, with_sequence, whole, quantified, name_of};
+  empty_level,
+  with_item,
+  with_sequence,
+  whole,
+  quantified,
+  name_of,
+};
 ghost use Rattle.rbbi_tree.specs.Machine.SetStates.{Reads};
 ghost use Rattle.rbbi_tree.specs.Machine.States.{level_tree};
 

@@ -1,9 +1,22 @@
 //! The parser: what each token of a rule file makes of what was read before it.
+mod sets;
+
 ghost use Rattle.std.specs.Prelude.{◌≡◌, [], None, OnOk, IfOk, IsTrue};
 ghost use Rattle.rbbi_tree.specs.Values.{atom_tree, statement_tree, statement_trees};
 ghost use Rattle.rbbi_tree.specs.Machine.Statements.{
-    after, between, fresh, with_statement, begun, atom_read, advance, at_atom, at_quant, quantified,
-    at_semi, statement_at};
+  after,
+  between,
+  fresh,
+  with_statement,
+  begun,
+  atom_read,
+  advance,
+  at_atom,
+  at_quant,
+  quantified,
+  at_semi,
+  statement_at,
+};
 ghost use Rattle.rbbi_tree.specs.Machine.SetStates.{Reads};
 ghost use Rattle.rbbi_tree.specs.Machine.States.{progress, ReadsOutside, ReadsInside};
 
@@ -17,7 +30,8 @@ use rbbi_text::Word;
 use std::alloc::{AllocError, Global};
 use std::mem;
 
-/// What was read of a statement before the expression that is being read. Places are in characters from 0.
+/// What was read of a statement before the expression that is being read. Places are in characters
+/// from 0.
 #[derive(Drop)]
 enum Head {
     /// Nothing of a statement.
@@ -32,7 +46,7 @@ enum Head {
         place: u32,
         no_chain_in: bool,
     },
-    /// The same, the rule's front, and the place of the `/` behind it.
+    /// Perhaps a `^`, the place of the rule's first token, its front, and the place of the `/` behind it.
     Rest {
         place: u32,
         no_chain_in: bool,
@@ -91,7 +105,8 @@ impl Parser {
         }
     }
 
-    /// Begins a rule at this place, where no statement has begun. No atom may follow a whole statement.
+    /// Begins a rule at this place, where no statement has begun. No atom may follow a whole
+    /// statement.
     fn begin(&mut self, place: u32) -> Result<(), TreeErr>
         ensures { let p = progress self.old in
             Reads place (begun place p.head p) (λ _. progress self.new) result }
@@ -171,7 +186,8 @@ impl Parser {
     /// Reads a sign how often an atom stands. It needs an atom right before it.
     fn read_quant(&mut self, place: u32, quant: Quant) -> Result<(), TreeErr>
         ensures { let p = progress self.old in
-            Reads place (at_quant (quantified quant p.level.items) p) (λ _. progress self.new) result }
+            Reads place (at_quant (quantified quant p.level.items) p)
+            (λ _. progress self.new) result }
     {
         self.level.quantify(place, quant)
     }
@@ -261,8 +277,8 @@ impl Parser {
         Ok(())
     }
 
-    /// Takes the statement that the expression and the tag end. It needs an item at the end, and no open group;
-    /// an assignment takes no tag.
+    /// Takes the statement that the expression and the tag end. It needs an item at the end, and no
+    /// open group; an assignment takes no tag.
     fn take_statement(
         &mut self,
         alloc: Global,
@@ -389,62 +405,6 @@ impl Parser {
                     value: copy_of_option(alloc, value)?,
                 };
                 self.read_atom(place, atom)
-            }
-        }
-    }
-
-    /// Reads an opening square bracket within a set. It needs a place where an operand may stand.
-    fn begin_inner_set(&mut self, alloc: Global, sets: OpenSets, place: u32) -> Result<(), TreeErr>
-        ensures { ReadsInside TokenKind.SetOpen place sets self.old result self.new }
-    {
-        let OpenSets {
-            innermost,
-            mut outers,
-        } = sets;
-        let outer = innermost.into_outer(place)?;
-        outers.push(outer)?;
-        self.sets = Some(OpenSets {
-            innermost: SetLevel::new(alloc, place),
-            outers,
-        });
-        Ok(())
-    }
-
-    /// Reads a closing square bracket. It needs an operand after a `&`.
-    fn end_set(&mut self, sets: OpenSets, place: u32) -> Result<(), TreeErr>
-        requires { self.old.sets ≡ None }
-        ensures { ReadsInside TokenKind.SetClose place sets self.old result self.new }
-    {
-        let OpenSets {
-            innermost,
-            mut outers,
-        } = sets;
-        let at = innermost.place();
-        let set = innermost.into_set(place)?;
-        let Some(outer) = outers.pop() else {
-            self.push_atom(at, Atom::Set(set))?;
-            return Ok(());
-        };
-        self.sets = Some(OpenSets {
-            innermost: outer.resumed(set, at)?,
-            outers,
-        });
-        Ok(())
-    }
-
-    /// Reads a token within sets.
-    fn read_inside(&mut self, alloc: Global, sets: OpenSets, token: &Token) -> Result<(), TreeErr>
-        requires { self.old.sets ≡ None }
-        ensures { ReadsInside token.now.kind token.now.place sets self.old result self.new }
-    {
-        match &token.kind {
-            TokenKind::SetOpen => self.begin_inner_set(alloc, sets, token.place),
-            TokenKind::SetClose => self.end_set(sets, token.place),
-            _ => {
-                let mut sets = sets;
-                sets.innermost.read(alloc, token)?;
-                self.sets = Some(sets);
-                Ok(())
             }
         }
     }

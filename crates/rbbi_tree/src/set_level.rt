@@ -4,10 +4,28 @@ ghost use Rattle.rbbi_tree.specs.Grammar.{hyphen_at};
 ghost use Rattle.rbbi_tree.specs.Trees.{PartTree, joined};
 ghost use Rattle.rbbi_tree.specs.Values.{set_item_tree, set_tree};
 ghost use Rattle.rbbi_tree.specs.Machine.Sets.{
-    opened, level_with, settled, at_set_caret, at_set_hyphen, at_set_amp, at_set_character,
-    at_set_operand, at_set_token, join_in, ended_parts, set_from, outer_set, set_resumed};
+  opened,
+  level_with,
+  settled,
+  at_set_caret,
+  at_set_hyphen,
+  at_set_amp,
+  at_set_character,
+  at_set_operand,
+  at_set_token,
+  join_in,
+  ended_parts,
+  set_from,
+  outer_set,
+  set_resumed,
+};
 ghost use Rattle.rbbi_tree.specs.Machine.SetStates.{
-    set_level_tree, outer_set_tree, IsStuckAt, Reads, ReadsInSet};
+  set_level_tree,
+  outer_set_tree,
+  IsStuckAt,
+  Reads,
+  ReadsInSet,
+};
 
 use crate::copies::{copy_of, copy_of_option};
 use crate::error::TreeErr;
@@ -15,7 +33,8 @@ use crate::syntax::{Join, Parts, SetExpr, SetItem, SetPart};
 use rbbi_lex::{Token, TokenKind};
 use std::alloc::{AllocError, Global};
 
-/// What was read last in a set, as far as it decides what may follow. Places are in characters from 0.
+/// What was read last in a set, as far as it decides what may follow. Places are in characters from
+/// 0.
 #[derive(Clone, Copy)]
 pub enum SetState {
     /// The bracket.
@@ -119,7 +138,8 @@ impl SetLevel {
 
     /// Reads a `^`. It must stand right after the bracket.
     fn read_caret(&mut self, place: u32) -> Result<(), TreeErr>
-        ensures { let s = set_level_tree self.old in ReadsInSet place (at_set_caret s.state s) result self.new }
+        ensures { let s = set_level_tree self.old in
+            ReadsInSet place (at_set_caret s.state s) result self.new }
     {
         match self.state {
             SetState::Opened => {
@@ -138,8 +158,8 @@ impl SetLevel {
         }
     }
 
-    /// Reads a hyphen: the character where it stands right after the opening, or else the sign of a range or
-    /// of a difference, or the character right before the end.
+    /// Reads a hyphen: the character where it stands right after the opening, or else the sign of a
+    /// range or of a difference, or the character right before the end.
     fn read_hyphen(&mut self, place: u32) -> Result<(), TreeErr>
         ensures { let s = set_level_tree self.old in
             ReadsInSet place (at_set_hyphen place s.state s) result self.new }
@@ -165,7 +185,8 @@ impl SetLevel {
 
     /// Reads a `&`. It must stand right after an operand.
     fn read_amp(&mut self, place: u32) -> Result<(), TreeErr>
-        ensures { let s = set_level_tree self.old in ReadsInSet place (at_set_amp s.state s) result self.new }
+        ensures { let s = set_level_tree self.old in
+            ReadsInSet place (at_set_amp s.state s) result self.new }
     {
         match self.state {
             SetState::Operand => {
@@ -245,7 +266,8 @@ impl SetLevel {
     /// Reads a token that neither begins nor ends a set.
     pub fn read(&mut self, alloc: Global, token: &Token) -> Result<(), TreeErr>
         ensures { ReadsInSet token.now.place
-            (at_set_token token.now.kind token.now.place (set_level_tree self.old)) result self.new }
+            (at_set_token token.now.kind token.now.place (set_level_tree self.old))
+            result self.new }
     {
         let place = token.place;
         match &token.kind {
@@ -280,7 +302,7 @@ impl SetLevel {
     pub fn into_outer(mut self, place: u32) -> Result<OuterSet, TreeErr>
         ensures { MatchResult result
             (λ o. (j : Join) × (join_in self.state ≡ Some j)
-                × (outer_set_tree o ≡ outer_set (set_level_tree self) j))
+            × (outer_set_tree o ≡ outer_set (set_level_tree self) j))
             (IsStuckAt place (join_in self.state)) }
     {
         let Some(join) = self.join() else {
@@ -305,7 +327,7 @@ impl SetLevel {
     pub fn into_set(mut self, place: u32) -> Result<SetExpr, TreeErr>
         ensures { let s = set_level_tree self in MatchResult result
             (λ set. (parts : List PartTree) × (ended_parts s.state s.parts ≡ Some parts)
-                × (set_tree set ≡ set_from s parts))
+            × (set_tree set ≡ set_from s parts))
             (IsStuckAt place (ended_parts s.state s.parts)) }
     {
         self.end(place)?;

@@ -26,6 +26,6 @@ IsStuckAt at after Memory = Unit {0}
 abbrev pub Reads : {A V : Type 0} → ℕ → Option A → (V → A) → Result V TreeErr → Type 0
 Reads at made tree result = MatchResult result (λ value. made ≡ Some (tree value)) (IsStuckAt at made)
 
--- the same in a set, which the machine makes this, and the set after it
+-- what reading something in a set answers, where the machine makes it this set, and the set after it
 abbrev pub ReadsInSet : ℕ → Option SetLevelTree → Result (Unit {0}) TreeErr → SetLevel → Type 0
 ReadsInSet at made result after = Reads at made (λ _. set_level_tree after) result

@@ -2,7 +2,8 @@
 use Rattle.std.specs.Prelude.{ℕ, Bool, true, false, List, [], ◌∷◌, ◌++◌, Option, Some, None, option_map, option_and_then}
 use Rattle.rbbi_lex.specs.declared.token.Token.{Token}
 use Rattle.rbbi_lex.specs.declared.token.TokenKind.{TokenKind}
-use Rattle.rbbi_lex.specs.declared.token.TokenKind.TheVariants.{Semi, Equals, Bar, Slash, Caret, Star, Plus, Quest, Dot, ParenOpen, ParenClose, SetOpen, SetClose, Hyphen, Amp, Char, Quoted, Name, Control, Tag, Prop}
+use Rattle.rbbi_lex.specs.declared.token.TokenKind.TheVariants.{Semi, Equals, Bar, Slash, Caret, Star, Plus, Quest, Dot, ParenOpen, ParenClose, SetOpen}
+use Rattle.rbbi_lex.specs.declared.token.TokenKind.TheVariants.{SetClose, Hyphen, Amp, Char, Quoted, Name, Control, Tag, Prop}
 use Rattle.rbbi_tree.specs.declared.syntax.Join.{Join}
 use Rattle.rbbi_tree.specs.declared.syntax.Quant.{Quant}
 use Rattle.rbbi_tree.specs.declared.syntax.Quant.TheVariants as quant
@@ -68,23 +69,23 @@ with_sequence level = record { sequences = items_back level.items no_items ∷ l
 abbrev pub whole : LevelTree → ExprTree
 whole level = sequences_back (with_sequence level).sequences no_alternatives
 
--- the same with another head
+-- the file so far with another head
 abbrev pub with_head : HeadTree → Progress → Progress
 with_head head p = record { statements = p.statements; head = head; groups = p.groups; level = p.level; sets = p.sets }
 
--- the same with another head and an empty level
+-- the file so far with another head and an empty level
 abbrev pub fresh : HeadTree → Progress → Progress
 fresh head p = record { statements = p.statements; head = head; groups = p.groups; level = empty_level; sets = p.sets }
 
--- the same with another level
+-- the file so far with another level
 abbrev pub with_level : LevelTree → Progress → Progress
 with_level level p = record { statements = p.statements; head = p.head; groups = p.groups; level = level; sets = p.sets }
 
--- the same with other open sets
+-- the file so far with other open sets
 abbrev pub with_sets : Option SetsTree → Progress → Progress
 with_sets sets p = record { statements = p.statements; head = p.head; groups = p.groups; level = p.level; sets = sets }
 
--- the same with one more statement, and none begun
+-- the file so far with one more statement, and none begun
 abbrev pub with_statement : StatementTree → Progress → Progress
 with_statement s p = record { statements = p.statements ++ s ∷ []; head = between; groups = p.groups; level = p.level; sets = p.sets }
 
@@ -214,7 +215,7 @@ statement_of (ruling at no_chain_in) e tag = Some (rule at no_chain_in e None No
 statement_of (resting at no_chain_in front slash) e tag = Some (rule at no_chain_in front (Some slash) (Some e) tag)
 statement_of (ended s) e tag = None
 
--- the same, where there are items at the end and no group is open
+-- the statement that ends with this tag, where there are items at the end and no group is open
 abbrev pub statement_at : List ItemTree → List GroupTree → Option ℕ → Progress → Option StatementTree
 statement_at [] groups tag p = None
 statement_at (i ∷ is) [] tag p = statement_of p.head (whole p.level) tag

@@ -3,7 +3,8 @@ use Rattle.std.specs.Prelude.{ℕ, Some, None, map, reverse, Option, Result}
 use Rattle.rbbi_lex.specs.declared.token.TokenKind.{TokenKind}
 use Rattle.rbbi_tree.specs.Values.{expr_tree, seq_tree, item_tree, statement_tree, statement_trees}
 use Rattle.rbbi_tree.specs.Machine.Sets.{SetsTree}
-use Rattle.rbbi_tree.specs.Machine.Statements.{LevelTree, GroupTree, HeadTree, between, assigning, ruling, resting, ended, Progress, with_sets, advance_outside, advance_inside}
+use Rattle.rbbi_tree.specs.Machine.Statements.{LevelTree, GroupTree, HeadTree, between, assigning, ruling, resting, ended, Progress, with_sets, advance_outside}
+use Rattle.rbbi_tree.specs.Machine.Statements.{advance_inside}
 use Rattle.rbbi_tree.specs.Machine.SetStates.{set_level_tree, outer_set_tree, Reads}
 use Rattle.rbbi_tree.specs.declared.error.TreeErr.{TreeErr}
 use Rattle.rbbi_tree.specs.declared.level.Level.{Level}
@@ -25,7 +26,7 @@ group_tree g = record { place = g.place; outer = level_tree g.outer }
 abbrev pub sets_tree : OpenSets → SetsTree
 sets_tree sets = record { innermost = set_level_tree sets.innermost; outers = reverse (map outer_set_tree sets.outers.items) }
 
--- the same, where sets are open
+-- the open sets that a value stands for, where some are open
 abbrev pub open_sets_tree : Option OpenSets → Option SetsTree
 open_sets_tree None = None
 open_sets_tree (Some sets) = Some (sets_tree sets)
@@ -47,7 +48,8 @@ progress parser =
 abbrev pub ReadsOutside : TokenKind → ℕ → Parser → Result (Unit {0}) TreeErr → Parser → Type 0
 ReadsOutside kind place before result after = Reads place (advance_outside kind place (progress before)) (λ _. progress after) result
 
--- the same within these sets, which are taken out of the parser before it
+-- what reading a token of this kind at this place within these sets answers, and the parser before it, which they were
+-- taken out of, and after it
 abbrev pub ReadsInside : TokenKind → ℕ → OpenSets → Parser → Result (Unit {0}) TreeErr → Parser → Type 0
 ReadsInside kind place sets before result after =
     Reads place (advance_inside kind place (sets_tree sets) (with_sets (Some (sets_tree sets)) (progress before))) (λ _. progress after) result

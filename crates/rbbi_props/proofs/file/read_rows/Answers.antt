@@ -13,13 +13,15 @@ loop-line-init c = (refl, IsReading-none (lines c.args.text.now) c.new-rows.resu
 
 pub overflow_add-number : goal.overflow_add-number
 overflow_add-number c =
-    let road = YieldsList-from_lines c.args.text.now (ap (λ s. s.rest.now) c.into_iter-line-iterator.ensures.into_iter_gives ∙ c.lines-line-items.ensures.rest) in
+    let road =
+    YieldsList-from_lines c.args.text.now (ap (λ s. s.rest.now) c.into_iter-line-iterator.ensures.into_iter_gives ∙ c.lines-line-items.ensures.rest) in
     let turn = YieldsList-turn road c.loop-line.yielded _ c.loop-line.yielded_by _ _ c.in-Some.line c.in-Some.is c.next.ensures.steps in
     omega (arith, turn.0, length-lines c.args.text.now, c.loop-line.invariant.0)
 
 pub loop-line-preserved : goal.loop-line-preserved
 loop-line-preserved c =
-    let road = YieldsList-from_lines c.args.text.now (ap (λ s. s.rest.now) c.into_iter-line-iterator.ensures.into_iter_gives ∙ c.lines-line-items.ensures.rest) in
+    let road =
+    YieldsList-from_lines c.args.text.now (ap (λ s. s.rest.now) c.into_iter-line-iterator.ensures.into_iter_gives ∙ c.lines-line-items.ensures.rest) in
     let turn = YieldsList-turn road c.loop-line.yielded _ c.loop-line.yielded_by _ _ c.in-Some.line c.in-Some.is c.next.ensures.steps in (
       omega (arith, c.loop-line.invariant.0, length-append c.loop-line.yielded (c.in-Some.line ∷ [])),
       IsReading-more (lines c.args.text.now) c.loop-line.rows.items c.read_line.new.rows.items c.loop-line.number (length c.loop-line.yielded) c.as_bytes.result.now c.loop-line.invariant.1 c.loop-line.invariant.0
@@ -28,7 +30,8 @@ loop-line-preserved c =
 
 pub returns-in_err-read_line-clause-cause : goal.returns-in_err-read_line-clause-cause
 returns-in_err-read_line-clause-cause c =
-    let road = YieldsList-from_lines c.args.text.now (ap (λ s. s.rest.now) c.into_iter-line-iterator.ensures.into_iter_gives ∙ c.lines-line-items.ensures.rest) in
+    let road =
+    YieldsList-from_lines c.args.text.now (ap (λ s. s.rest.now) c.into_iter-line-iterator.ensures.into_iter_gives ∙ c.lines-line-items.ensures.rest) in
     let turn = YieldsList-turn road c.loop-line.yielded _ c.loop-line.yielded_by _ _ c.in-Some.line c.in-Some.is c.next.ensures.steps in
     let told = err_from_is_err_and c.from_residual.result c.from_residual.ensures.1 in
     rw (told.1, told.2)
@@ -37,12 +40,14 @@ returns-in_err-read_line-clause-cause c =
 
 pub returns-clause-rows : goal.returns-clause-rows
 returns-clause-rows c =
-    let road = YieldsList-from_lines c.args.text.now (ap (λ s. s.rest.now) c.into_iter-line-iterator.ensures.into_iter_gives ∙ c.lines-line-items.ensures.rest) in
+    let road =
+    YieldsList-from_lines c.args.text.now (ap (λ s. s.rest.now) c.into_iter-line-iterator.ensures.into_iter_gives ∙ c.lines-line-items.ensures.rest) in
     let end = YieldsList-end road c.loop-line.yielded _ c.loop-line.yielded_by _ _ c.in-None.is c.next.ensures.steps in
     (IsReading-all (lines c.args.text.now) c.loop-line.rows.items c.loop-line.number c.loop-line.invariant.1 (omega (arith, end.1, c.loop-line.invariant.0))).0
 
 pub returns-clause-alone : goal.returns-clause-alone
 returns-clause-alone c =
-    let road = YieldsList-from_lines c.args.text.now (ap (λ s. s.rest.now) c.into_iter-line-iterator.ensures.into_iter_gives ∙ c.lines-line-items.ensures.rest) in
+    let road =
+    YieldsList-from_lines c.args.text.now (ap (λ s. s.rest.now) c.into_iter-line-iterator.ensures.into_iter_gives ∙ c.lines-line-items.ensures.rest) in
     let end = YieldsList-end road c.loop-line.yielded _ c.loop-line.yielded_by _ _ c.in-None.is c.next.ensures.steps in
     (IsReading-all (lines c.args.text.now) c.loop-line.rows.items c.loop-line.number c.loop-line.invariant.1 (omega (arith, end.1, c.loop-line.invariant.0))).1

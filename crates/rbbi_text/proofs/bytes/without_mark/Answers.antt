@@ -13,7 +13,8 @@ abbrev Stripped : List ℕ → Option (Bor (List ℕ)) → Type 0
 Stripped bs found =
     MatchOption found (FindsCharPrefix 0xFEFF bs None) (λ x. (n : ℕ) × FindsCharPrefix 0xFEFF bs (Some n) × (x.now ≡ drop n bs) × (length x.now + n ≡ length bs))
 
-stripped : (bs : List ℕ) (found : Option (Bor (List ℕ))) (whole : Bor (List ℕ)) → whole.now ≡ bs → Stripped bs found → (unwrap_or found whole).now ≡ without_mark bs
+stripped : (bs : List ℕ) (found : Option (Bor (List ℕ))) (whole : Bor (List ℕ)) → whole.now ≡ bs → Stripped bs found →
+    (unwrap_or found whole).now ≡ without_mark bs
 unfolding lib.Utf8.encode
 stripped bs None whole same none =
     let starts = starts_is Decides-eqb bs byte_order_mark (starts_with nat_eq bs byte_order_mark) refl in
@@ -28,7 +29,8 @@ pub returns-clause-text : goal.returns-clause-text
 returns-clause-text c =
     ap (λ r. r.now) c.unwrap_or.ensures ∙ stripped c.args.text.now c.strip_prefix.result c.args.text refl c.strip_prefix.ensures.cases
 
-no_longer : (bs : List ℕ) (found : Option (Bor (List ℕ))) (whole : Bor (List ℕ)) → whole.now ≡ bs → Stripped bs found → length (unwrap_or found whole).now ≤ length bs
+no_longer : (bs : List ℕ) (found : Option (Bor (List ℕ))) (whole : Bor (List ℕ)) → whole.now ≡ bs → Stripped bs found →
+    length (unwrap_or found whole).now ≤ length bs
 no_longer bs None whole same none = let long = ap length same in omega arith
 no_longer bs (Some x) whole same some = let long = some.3 in omega arith
 

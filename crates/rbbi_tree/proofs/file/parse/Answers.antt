@@ -18,7 +18,8 @@ pub returns-then-depth-gt-DEEPEST-clause-refused : goal.returns-then-depth-gt-DE
 returns-then-depth-gt-DEEPEST-clause-refused c =
     let ts = c.args.tokens.now in
     let t = c.get-token.result.now in
-    let counted : open_after t.kind c.loop-i.depth ≡ open_from 0 (take (c.loop-i.i + 1) ts) = counted_more ts c.loop-i.i c.loop-i.depth t c.get-token.ensures c.loop-i.invariant.counted in
+    let counted : open_after t.kind c.loop-i.depth ≡ open_from 0 (take (c.loop-i.i + 1) ts) =
+    counted_more ts c.loop-i.i c.loop-i.depth t c.get-token.ensures c.loop-i.invariant.counted in
     let one : open_after t.kind c.loop-i.depth ≤ c.loop-i.depth + 1 = opens_one t.kind c.loop-i.depth in
     let few : c.loop-i.depth ≤ 64 = c.loop-i.invariant.few in
     let result : c.count_open-depth.result ≡ open_after t.kind c.loop-i.depth = c.count_open-depth.ensures in
@@ -30,7 +31,8 @@ pub loop-i-preserved : goal.loop-i-preserved
 loop-i-preserved c =
     let ts = c.args.tokens.now in
     let t = c.get-token.result.now in
-    let counted : open_after t.kind c.loop-i.depth ≡ open_from 0 (take (c.loop-i.i + 1) ts) = counted_more ts c.loop-i.i c.loop-i.depth t c.get-token.ensures c.loop-i.invariant.counted in
+    let counted : open_after t.kind c.loop-i.depth ≡ open_from 0 (take (c.loop-i.i + 1) ts) =
+    counted_more ts c.loop-i.i c.loop-i.depth t c.get-token.ensures c.loop-i.invariant.counted in
     let result : c.count_open-depth.result ≡ open_after t.kind c.loop-i.depth = c.count_open-depth.ensures in
     record {
       ran = run_more ts c.loop-i.i t (progress c.loop-i.parser) (progress c.read.new.self) c.get-token.ensures c.loop-i.invariant.ran c.in_ok-read.ensures;

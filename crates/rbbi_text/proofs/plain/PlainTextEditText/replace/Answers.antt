@@ -1,4 +1,5 @@
-use Rattle.std.proofs.Common.{◌≡◌, ◌+◌, ◌-◌, ◌≤◌, ℕ, List, length, length-append, length-take, length-drop, take, drop, ap, arith, subst, sym, ◌++◌, ◌∙◌, chars, refl, append_assoc}
+use Rattle.std.proofs.Common.{◌≡◌, ◌+◌, ◌-◌, ◌≤◌, ℕ, List, length, length-append, length-take, length-drop, take, drop, ap, arith, subst, sym, ◌++◌, ◌∙◌, chars}
+use Rattle.std.proofs.Common.{refl, append_assoc}
 use Rattle.rbbi_model.specs.Words.{IsText, most_characters}
 use Rattle.rbbi_model.specs.Scripts.{splice}
 use Rattle.rbbi_model.proofs.Texts.{text_take, text_drop, text_append}
@@ -36,6 +37,7 @@ returns c =
     let x = c.self.inside.items.items in
     let w = chars c.args.insert.now in
     let within : c.args.at + c.args.remove ≤ length x = omega (arith, c.if-end-len.false, c.len-len.ensures) in
-    let edited : c.put.new.items.items ≡ splice x c.args.at c.args.remove w = c.in_ok-put.ensures.ok ∙ sym (append_assoc (take c.args.at x) w (drop (c.args.at + c.args.remove) x)) in
+    let edited : c.put.new.items.items ≡ splice x c.args.at c.args.remove w =
+    c.in_ok-put.ensures.ok ∙ sym (append_assoc (take c.args.at x) w (drop (c.args.at + c.args.remove) x)) in
     subst (λ y. (c.args.at + c.args.remove ≤ length y) × (length (splice y c.args.at c.args.remove w) ≤ most_characters) × (c.put.new.items.items ≡ splice y c.args.at c.args.remove w)) c.self.view_is
     (within, omega (arith, length-splice x w c.args.at c.args.remove within, c.if-count-len.false, c.count.ensures, c.len-len.ensures), edited)
