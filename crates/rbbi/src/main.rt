@@ -10,7 +10,7 @@ use std::alloc::Global;
 use std::io::ErrorKind;
 use std::marker::Brand;
 use std::process::ExitCode;
-use std::rt::{Env, Files};
+use std::rt::Env;
 use std::sync::ledger::{Blank, Ledger};
 use std::{env, io};
 
@@ -24,20 +24,20 @@ fn words<R: Env + AllocGlobal>(rt: &R) -> io::Result<Vec<String>> {
 }
 
 /// Runs the top call with a counter of its own. It counts nothing at run time.
-fn run<R: Files + Print + AllocGlobal, L: Ledger>(rt: &R, words: &Vec<String>, blank: Blank) -> u8
+fn run<L: Ledger>(rt: &HostRuntime, words: &Vec<String>, blank: Blank) -> u8
     requires name { blank.name ≡ L.name }
     requires parts { blank.parts ≡ L.parts }
     requires some { 0 < blank.parts }
 {
     let mut files = RealFiles::new(rt);
     let mut out = RealSink::new(io::writer(rt));
-    let mut steps = Steps::<L>::new(blank);
+    let mut steps = Steps::<L>::new(rt, blank);
     rbbi(rt.alloc(), words, &mut files, &mut out, &mut steps)
 }
 
 fn main(rt: HostRuntime) -> ExitCode {
     let status = match words(&rt) {
-        Ok(words) => run::<HostRuntime, Brand>(&rt, &words, Blank::new(1)),
+        Ok(words) => run::<Brand>(&rt, &words, Blank::new(1)),
         Err(fault) if fault.kind() == ErrorKind::OutOfMemory => 8,
         Err(_) => 9,
     };

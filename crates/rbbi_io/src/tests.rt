@@ -3,7 +3,7 @@ ghost use Rattle.std.specs.Prelude.{◌≡◌, ◌<◌};
 
 use crate::{Files, MemFiles, MemSink, ReadErr, RealFiles, RealSink, WriteErr, put_all};
 use rbbi_text::{Raw, Steps};
-use std::alloc::{AllocError, Global};
+use std::alloc::AllocError;
 use std::fs::File;
 use std::io;
 use std::io::{ErrorKind, Write};
@@ -12,17 +12,17 @@ use std::sync::ledger::{Blank, Ledger};
 use std::test::Fail;
 
 /// The bytes of a file, as a copy.
-fn copied<L: Ledger>(alloc: Global, raw: &Raw, blank: Blank) -> Result<Vec<u8>, AllocError>
+fn copied<L: Ledger>(rt: &HostRuntime, raw: &Raw, blank: Blank) -> Result<Vec<u8>, AllocError>
     requires name { blank.name ≡ L.name }
     requires parts { blank.parts ≡ L.parts }
     requires some { 0 < blank.parts }
 {
-    let mut steps = Steps::<L>::new(blank);
-    raw.bytes(&mut steps).to_vec(alloc)
+    let mut steps = Steps::<L>::new(rt, blank);
+    raw.bytes(&mut steps).to_vec(rt.alloc())
 }
 
-fn bytes_of(alloc: Global, raw: &Raw) -> Result<Vec<u8>, AllocError> {
-    copied::<Brand>(alloc, raw, Blank::new(1))
+fn bytes_of(rt: &HostRuntime, raw: &Raw) -> Result<Vec<u8>, AllocError> {
+    copied::<Brand>(rt, raw, Blank::new(1))
 }
 
 #[test]
@@ -38,7 +38,7 @@ fn files_in_memory(rt: HostRuntime) -> Result<(), Fail> {
     files.write("b", b"four")?;
     for (name, bytes) in [("a", b"three".as_slice()), ("b", b"four"), ("c", b"two")] {
         let raw = files.read(alloc, name, bytes.len() as u64)?;
-        assert_eq!(rt; bytes_of(alloc, &raw)?.as_slice(), bytes, "of {name}");
+        assert_eq!(rt; bytes_of(&rt, &raw)?.as_slice(), bytes, "of {name}");
     }
     assert!(rt; matches!(files.read(alloc, "a", 4), Err(ReadErr::TooLong)));
     assert!(rt; matches!(files.read(alloc, "d", 4), Err(ReadErr::Failed)));
@@ -141,7 +141,7 @@ fn files_of_the_system(rt: HostRuntime) -> Result<(), Fail> {
     files.write(name, b"longer than the next")?;
     files.write(name, bytes.as_slice())?;
     let raw = files.read(alloc, name, 600_000)?;
-    assert_eq!(rt; bytes_of(alloc, &raw)?.as_slice(), bytes.as_slice());
+    assert_eq!(rt; bytes_of(&rt, &raw)?.as_slice(), bytes.as_slice());
     assert!(rt; matches!(files.read(alloc, name, 599_999), Err(ReadErr::TooLong)));
     assert!(rt; matches!(files.read(alloc, "no/such/file", 9), Err(ReadErr::Failed)));
     assert!(rt; matches!(files.write("no/such/file", b"a"), Err(WriteErr::Failed)));

@@ -1,5 +1,6 @@
 -- By each row a place spells a token, or none.
-use Rattle.std.proofs.Common.{◌≡◌, ℕ, zero, suc, ◌+◌, ◌≤◌, ◌⊎◌, inl, inr, true, false, List, [], ◌∷◌, length, refl, sym, ap, subst, ◌∙◌, arith, slice_get, slice_range}
+use Rattle.std.proofs.Common.{◌≡◌, ℕ, zero, suc, ◌+◌, ◌≤◌, ◌⊎◌, inl, inr, true, false, List, [], ◌∷◌, length, refl, sym, ap, subst, ◌∙◌, arith, slice_get}
+use Rattle.std.proofs.Common.{slice_range}
 use Rattle.std.proofs.Math.Utf8.{scalar}
 use Rattle.std.proofs.lemmas.Bool.{false≢true, cases_Bool, cases_lt}
 use Rattle.std.proofs.lemmas.Option.{slice_get_past}
@@ -10,15 +11,18 @@ use Rattle.rbbi_lex.specs.declared.escape.Form.{Form}
 use Rattle.rbbi_lex.specs.declared.escape.Form.TheVariants.{FourDigits, EightDigits, BracedDigits, FewDigits, StandsFor, Unknown}
 use Rattle.rbbi_lex.specs.declared.run.Run.TheVariants.{NameText, ControlText, HexadecimalDigits, BracedBody, BracedName, BracketedBody, BracketedName}
 use Rattle.rbbi_lex.specs.declared.row.Row.{Row}
-use Rattle.rbbi_lex.specs.declared.row.Row.TheVariants.{Sign, SetSign, BracketedProperty, SetStart, Variable, ControlName, StatusNumber, QuotePair, Quotation, BracedProperty, Escape, Brace, BareCharacter, SetCharacter, OtherCharacter}
+use Rattle.rbbi_lex.specs.declared.row.Row.TheVariants.{Sign, SetSign, BracketedProperty, SetStart, Variable, ControlName, StatusNumber, QuotePair, Quotation}
+use Rattle.rbbi_lex.specs.declared.row.Row.TheVariants.{BracedProperty, Escape, Brace, BareCharacter, SetCharacter, OtherCharacter}
 use Rattle.rbbi_lex.specs.Characters.{is_name_start, is_line_end, is_sign, passes}
 use Rattle.rbbi_lex.specs.Runs.{run_end}
 use Rattle.rbbi_lex.specs.Rows.{outer_sign, inner_sign}
 use Rattle.rbbi_lex.specs.Points.{CharacterAt, is_at}
-use Rattle.rbbi_lex.specs.Escapes.{number, form_of, braced_end, few_end, WritesCharacter, FixedDigits, DigitsInBraces, OneOrTwoDigits, EscapeGoesOn}
+use Rattle.rbbi_text.specs.Numbers.{number}
+use Rattle.rbbi_lex.specs.Escapes.{form_of, braced_end, few_end, WritesCharacter, FixedDigits, DigitsInBraces, OneOrTwoDigits, EscapeGoesOn}
 use Rattle.rbbi_lex.specs.Quotations.{IsQuoted, QuotesUpTo}
 use Rattle.rbbi_lex.specs.Properties.{property, body_start, SpellsBraced, SpellsBracketed}
-use Rattle.rbbi_lex.specs.Spellings.{most_tag, digits_start, digits_end, tag_close, tag_number, SpellsName, SpellsControl, SpellsTag, SpellsQuotePair, SpellsQuotation, SpellsEscape, Spells}
+use Rattle.rbbi_lex.specs.Spellings.{most_tag, digits_start, digits_end, tag_close, tag_number, SpellsName, SpellsControl, SpellsTag, SpellsQuotePair}
+use Rattle.rbbi_lex.specs.Spellings.{SpellsQuotation, SpellsEscape, Spells}
 use Rattle.rbbi_lex.proofs.PointLemmas.{CharacterAt-unique, is_at-same, IsQuoted-closed, IsQuoted-unique, IsQuoted-forward}
 
 -- some token is spelled so, or none
@@ -168,7 +172,8 @@ no_close x i fails none [] close p = false≢true (sym fails ∙ ap (λ k. is_at
 no_close x i fails none (c ∷ word) close p = none p.0 c p.1
 
 -- a sequence isn't closed that goes on with a character and isn't closed behind it
-pub not_closed : (x : List ℕ) (i next d : ℕ) → IsQuoted x i next d → ((word : List ℕ) (close : ℕ) → ¬ QuotesUpTo x next word close) → (word : List ℕ) (close : ℕ) → QuotesUpTo x i word close → ⊥
+pub not_closed : (x : List ℕ) (i next d : ℕ) → IsQuoted x i next d → ((word : List ℕ) (close : ℕ) → ¬ QuotesUpTo x next word close) →
+    (word : List ℕ) (close : ℕ) → QuotesUpTo x i word close → ⊥
 not_closed x i next d q fails [] close p =
     IsQuoted-closed x i next d q (ap (λ k. is_at x k 39) p.0 ∙ p.1) (ap (λ k. is_at x (k + 1) 39) p.0 ∙ p.2)
 not_closed x i next d q fails (c ∷ word) close p =

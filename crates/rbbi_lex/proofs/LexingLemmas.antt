@@ -20,7 +20,8 @@ use Rattle.rbbi_lex.proofs.SpellingLemmas.{TokenAt-forward, TokenAt-within, Faul
 use Rattle.rbbi_lex.proofs.SkipLemmas.{Skipped-forward, Skipped-unique}
 
 -- one more token at the end
-pub UsesUp-push : (x : List ℕ) (from : State) (i : ℕ) (ts : List Token) (to : State) (j : ℕ) (t : Token) (k : ℕ) → UsesUp x from i ts to j → Skipped x to j t.place → TokenAt x to t.place k t.kind → UsesUp x from i (ts ++ t ∷ []) (state_after to t.kind) k
+pub UsesUp-push : (x : List ℕ) (from : State) (i : ℕ) (ts : List Token) (to : State) (j : ℕ) (t : Token) (k : ℕ) → UsesUp x from i ts to j →
+    Skipped x to j t.place → TokenAt x to t.place k t.kind → UsesUp x from i (ts ++ t ∷ []) (state_after to t.kind) k
 UsesUp-push x from i [] to j t k u s at =
     let back = sym u.0 in
     let s' = subst (λ (v : ℕ). Skipped x from v t.place) (sym u.1) (subst (λ (v : State). Skipped x v j t.place) back s) in
@@ -80,7 +81,8 @@ EndsAs-unique x state i (Stopped f k) (Stopped g l) p q =
     let fault = FaultAt-unique x state k f g p.1 (subst (λ (v : ℕ). FaultAt x state v g) same q.1) in cc
 
 -- where the reading ends, no token stands
-EndsAs-no_token : (x : List ℕ) (state : State) (i : ℕ) (e : Ending) (k j : ℕ) (kind : TokenKind) → EndsAs x state i e → Skipped x state i k → TokenAt x state k j kind → ⊥
+EndsAs-no_token : (x : List ℕ) (state : State) (i : ℕ) (e : Ending) (k j : ℕ) (kind : TokenKind) → EndsAs x state i e → Skipped x state i k →
+    TokenAt x state k j kind → ⊥
 EndsAs-no_token x state i Finished k j kind p s t =
     let same = Skipped-unique x state i (length x) k p s in
     let within = TokenAt-within x state k j kind t in omega arith
@@ -98,7 +100,8 @@ moved x from to i j e s p h =
     subst (λ (v : ℕ). EndsAs x from v e) (sym p) (subst (λ (v : State). EndsAs x v j e) (sym s) h)
 
 -- a text is read in one way
-read_once : (x : List ℕ) (from : State) (i : ℕ) (ts us : List Token) (to to' : State) (j j' : ℕ) (d e : Ending) → UsesUp x from i ts to j → EndsAs x to j d → UsesUp x from i us to' j' → EndsAs x to' j' e → (ts ≡ us) × (d ≡ e)
+read_once : (x : List ℕ) (from : State) (i : ℕ) (ts us : List Token) (to to' : State) (j j' : ℕ) (d e : Ending) → UsesUp x from i ts to j → EndsAs x to j d →
+    UsesUp x from i us to' j' → EndsAs x to' j' e → (ts ≡ us) × (d ≡ e)
 read_once x from i [] [] to to' j j' d e u p v q =
     (refl, EndsAs-unique x from i d e (moved x from to i j d u.0 u.1 p) (moved x from to' i j' e v.0 v.1 q))
 read_once x from i [] (b ∷ us) to to' j j' d e u p v q =
@@ -108,7 +111,8 @@ read_once x from i (a ∷ ts) [] to to' j j' d e u p v q =
 read_once x from i (a ∷ ts) (b ∷ us) to to' j j' d e u p v q =
     let place = Skipped-unique x from i b.place a.place v.1 u.1 in
     let same = TokenAt-unique x from a.place v.0 u.0 b.kind a.kind (subst (λ (n : ℕ). TokenAt x from n v.0 b.kind) place v.2) u.2 in
-    let v' = subst (λ (kind : TokenKind). UsesUp x (state_after from kind) u.0 us to' j') same.1 (subst (λ (n : ℕ). UsesUp x (state_after from b.kind) n us to' j') same.0 v.3) in
+    let v' =
+    subst (λ (kind : TokenKind). UsesUp x (state_after from kind) u.0 us to' j') same.1 (subst (λ (n : ℕ). UsesUp x (state_after from b.kind) n us to' j') same.0 v.3) in
     let rest = read_once x (state_after from a.kind) u.0 ts us to to' j j' d e u.3 p v' q in
     let token = Token-equal a b (sym same.1) (sym place) in
     (cc, rest.1)
@@ -126,7 +130,8 @@ not_both x ts f i a b =
     let same = (read_once x start 0 ts b.0 a.0 b.1 a.1 b.2 Finished (Stopped f i) a.2 a.3 b.3 (b.4, b.5)).1 in cc
 
 -- the places of tokens rise
-pub UsesUp-rise : (x : List ℕ) (from : State) (low i : ℕ) (ts : List Token) (to : State) (j : ℕ) → low ≤ i → UsesUp x from i ts to j → PlacesRise low (length x) ts
+pub UsesUp-rise : (x : List ℕ) (from : State) (low i : ℕ) (ts : List Token) (to : State) (j : ℕ) → low ≤ i → UsesUp x from i ts to j →
+    PlacesRise low (length x) ts
 UsesUp-rise x from low i [] to j h u = tt
 UsesUp-rise x from low i (t ∷ ts) to j h u =
     let skipped = Skipped-forward x from i t.place u.1 in

@@ -8,7 +8,8 @@ use Rattle.rbbi_lex.specs.declared.state.State.{State}
 use Rattle.rbbi_lex.specs.declared.escape.Form.{Form}
 use Rattle.rbbi_lex.specs.declared.escape.Form.TheVariants.{FourDigits, EightDigits, BracedDigits, FewDigits, StandsFor, Unknown}
 use Rattle.rbbi_lex.specs.declared.row.Row.{Row}
-use Rattle.rbbi_lex.specs.declared.row.Row.TheVariants.{Sign, SetSign, BracketedProperty, SetStart, Variable, ControlName, StatusNumber, QuotePair, Quotation, BracedProperty, Escape, Brace, BareCharacter, SetCharacter, OtherCharacter}
+use Rattle.rbbi_lex.specs.declared.row.Row.TheVariants.{Sign, SetSign, BracketedProperty, SetStart, Variable, ControlName, StatusNumber, QuotePair, Quotation}
+use Rattle.rbbi_lex.specs.declared.row.Row.TheVariants.{BracedProperty, Escape, Brace, BareCharacter, SetCharacter, OtherCharacter}
 use Rattle.rbbi_lex.specs.Characters.{is_sign}
 use Rattle.rbbi_lex.specs.Rows.{first_row}
 use Rattle.rbbi_lex.specs.Points.{CharacterAt, is_at, RowAt}
@@ -72,7 +73,8 @@ IsQuoted-within x i j c (inl p) = is_at-within x i 39 p.0
 IsQuoted-within x i j c (inr p) = slice_get_within x i c p.0
 
 -- behind a character that is written, the rest of the sequence is
-pub QuotesUpTo-rest : (x : List ℕ) (i j c : ℕ) (word : List ℕ) (end : ℕ) → IsQuoted x i j c → QuotesUpTo x i word end → (left : List ℕ) × QuotesUpTo x j left end
+pub QuotesUpTo-rest : (x : List ℕ) (i j c : ℕ) (word : List ℕ) (end : ℕ) → IsQuoted x i j c → QuotesUpTo x i word end →
+    (left : List ℕ) × QuotesUpTo x j left end
 QuotesUpTo-rest x i j c [] end q p =
     absurd (IsQuoted-closed x i j c q (subst (λ (n : ℕ). is_at x n 39 ≡ true) (sym p.0) p.1) (subst (λ (n : ℕ). is_at x (n + 1) 39 ≡ false) (sym p.0) p.2))
 QuotesUpTo-rest x i j c (d ∷ word) end q p =

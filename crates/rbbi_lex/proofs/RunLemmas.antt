@@ -1,5 +1,6 @@
 -- Where runs end.
-use Rattle.std.proofs.Common.{◌≡◌, ℕ, zero, suc, ◌+◌, ◌<◌, ◌≤◌, Bool, true, false, cond, List, [], ◌∷◌, length, get_or, drop, refl, sym, ap, ◌∙◌, arith, slice_get, length-drop}
+use Rattle.std.proofs.Common.{◌≡◌, ℕ, zero, suc, ◌+◌, ◌<◌, ◌≤◌, Bool, true, false, cond, List, [], ◌∷◌, length, get_or, drop, refl, sym, ap, ◌∙◌, arith}
+use Rattle.std.proofs.Common.{slice_get, length-drop}
 use Rattle.std.proofs.lemmas.Bool.{false≢true}
 use Rattle.std.proofs.lemmas.List.{at_drop_more, at_drop_all}
 use Rattle.std.proofs.lemmas.Option.{slice_get_within}
@@ -45,12 +46,14 @@ left : (b : Bool) (m n : ℕ) → b ≡ false → m ≡ cond b (n + 1) 0 → m �
 left true m n h e = absurd (false≢true (sym h))
 left false m n h e = e
 
-tested : (run : Run) (x : List ℕ) (i c : ℕ) (b : Bool) → c ≡ get_or x i c → goes_on run c (slice_get x (i + 1)) ≡ b → goes_on run (get_or x i c) (slice_get (drop (i + 1) x) 0) ≡ b
+tested : (run : Run) (x : List ℕ) (i c : ℕ) (b : Bool) → c ≡ get_or x i c → goes_on run c (slice_get x (i + 1)) ≡ b →
+    goes_on run (get_or x i c) (slice_get (drop (i + 1) x) 0) ≡ b
 tested run x i c b at test =
     ap (λ d. goes_on run d (slice_get (drop (i + 1) x) 0)) (sym at) ∙ ap (goes_on run c) (slice_get-drop (i + 1) x) ∙ test
 
 -- one more character of a run
-pub run_end-more : (run : Run) (x : List ℕ) (i c : ℕ) → i < length x → c ≡ get_or x i c → goes_on run c (slice_get x (i + 1)) ≡ true → run_end run x i ≡ run_end run x (i + 1)
+pub run_end-more : (run : Run) (x : List ℕ) (i c : ℕ) → i < length x → c ≡ get_or x i c → goes_on run c (slice_get x (i + 1)) ≡ true →
+    run_end run x i ≡ run_end run x (i + 1)
 run_end-more run x i c h at holds =
     let e = at_drop_more (run_len run) x i c h in
     let n = picked (goes_on run (get_or x i c) (slice_get (drop (i + 1) x) 0)) (run_len run (drop i x)) (run_len run (drop (i + 1) x)) (tested run x i c true at holds) e in omega arith

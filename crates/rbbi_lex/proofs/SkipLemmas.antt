@@ -2,20 +2,24 @@
 use Rattle.std.proofs.Common.{◌≡◌, ℕ, zero, suc, ◌+◌, ◌≤◌, ◌<◌, ◌⊎◌, inl, inr, false, List, length, refl, sym, ap, subst, ◌∙◌, arith, slice_get}
 use Rattle.std.proofs.lemmas.Bool.{false≢true, eqb-true, cases_Bool, cases_lt}
 use Rattle.std.specs.Prelude.{Option, None, Some, IsTrue}
+use Rattle.ucd_props.specs.Binary.{is_pattern_white_space}
+use Rattle.ucd_props.specs.Ranges.{pattern_white_space_ranges}
+use Rattle.ucd_table.specs.Rows.{in_ranges}
 use Rattle.rbbi_lex.specs.declared.state.State.{State}
 use Rattle.rbbi_lex.specs.declared.run.Run.TheVariants.{CommentText}
-use Rattle.rbbi_lex.specs.Characters.{is_white_space, is_sign, passes}
+use Rattle.rbbi_lex.specs.Characters.{is_sign, passes}
 use Rattle.rbbi_lex.specs.Runs.{run_end}
 use Rattle.rbbi_lex.specs.Points.{is_at}
 use Rattle.rbbi_lex.specs.Skips.{Piece, SkippedIn, Skipped}
 use Rattle.rbbi_lex.proofs.RunLemmas.{run_end-within, is_at-within, passes-within}
 
 -- `#` isn't white space
-white_sign : (o : Option ℕ) → IsTrue (passes is_white_space o) → IsTrue (is_sign o 35) → ⊥
+white_sign : (o : Option ℕ) → IsTrue (passes is_pattern_white_space o) → IsTrue (is_sign o 35) → ⊥
+unfolding is_pattern_white_space in_ranges pattern_white_space_ranges
 white_sign None w s = false≢true w
 white_sign (Some c) w s =
     let e : c ≡ 35 = eqb-true c 35 s in
-    false≢true (sym (ap is_white_space e) ∙ w)
+    false≢true (sym (ap is_pattern_white_space e) ∙ w)
 
 Piece-unique : (x : List ℕ) (state : State) (i j k : ℕ) → Piece x state i j → Piece x state i k → j ≡ k
 Piece-unique x state i j k (inl p) (inl q) = p.1 ∙ sym q.1
@@ -24,7 +28,7 @@ Piece-unique x state i j k (inr p) (inl q) = absurd (white_sign (slice_get x i) 
 Piece-unique x state i j k (inr p) (inr q) = p.2 ∙ sym q.2
 
 Piece-within : (x : List ℕ) (state : State) (i j : ℕ) → Piece x state i j → i < length x
-Piece-within x state i j (inl p) = passes-within is_white_space x i p.0
+Piece-within x state i j (inl p) = passes-within is_pattern_white_space x i p.0
 Piece-within x state i j (inr p) = is_at-within x i 35 p.1
 
 -- a piece goes forward
@@ -35,7 +39,7 @@ Piece-forward x state i j (inr p) = omega (arith, p.2)
 -- a piece ends within the text
 pub Piece-ends : (x : List ℕ) (state : State) (i j : ℕ) → Piece x state i j → j ≤ length x
 Piece-ends x state i j (inl p) =
-    let within = passes-within is_white_space x i p.0 in omega (arith, p.1)
+    let within = passes-within is_pattern_white_space x i p.0 in omega (arith, p.1)
 Piece-ends x state i j (inr p) =
     let within = is_at-within x i 35 p.1 in
     let ends = run_end-within CommentText x (i + 1) (omega arith) in omega (arith, p.2, ends)
@@ -50,7 +54,8 @@ Skipped-at_end x state i h =
     Skipped-none x state i (λ j p. let within = Piece-within x state i j p in omega arith)
 
 -- nothing is skipped at a character that is no white space and begins no comment
-pub no_piece : (x : List ℕ) (state : State) (i j : ℕ) → passes is_white_space (slice_get x i) ≡ false → ((0 < state.depth) ⊎ (is_at x i 35 ≡ false)) → Piece x state i j → ⊥
+pub no_piece : (x : List ℕ) (state : State) (i j : ℕ) → passes is_pattern_white_space (slice_get x i) ≡ false → ((0 < state.depth) ⊎ (is_at x i 35 ≡ false)) →
+    Piece x state i j → ⊥
 no_piece x state i j plain other (inl p) = false≢true (sym plain ∙ p.0)
 no_piece x state i j plain (inl inside) (inr p) = absurd (omega (arith, inside, p.0))
 no_piece x state i j plain (inr other) (inr p) = false≢true (sym other ∙ p.1)
@@ -58,7 +63,7 @@ no_piece x state i j plain (inr other) (inr p) = false≢true (sym other ∙ p.1
 -- a piece begins at a place, or none
 pub decide_piece : (x : List ℕ) (state : State) (i : ℕ) → ((j : ℕ) × Piece x state i j) ⊎ ((j : ℕ) → ¬ Piece x state i j)
 decide_piece x state i =
-    elim (cases_Bool (passes is_white_space (slice_get x i))) [
+    elim (cases_Bool (passes is_pattern_white_space (slice_get x i))) [
       | inl white ↦ inl (i + 1, inl (white, refl))
       | inr plain ↦
           elim (cases_lt 0 state.depth) [

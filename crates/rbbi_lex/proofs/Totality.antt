@@ -1,5 +1,6 @@
 -- Each text has tokens or a fault.
-use Rattle.std.proofs.Common.{◌≡◌, ◌⊎◌, inl, inr, ℕ, zero, suc, ◌+◌, ◌<◌, ◌≤◌, List, [], ◌∷◌, length, get_or, Bool, true, false, cond, eqb, refl, ap, ◌++◌, subst, arith, slice_get}
+use Rattle.std.proofs.Common.{◌≡◌, ◌⊎◌, inl, inr, ℕ, zero, suc, ◌+◌, ◌<◌, ◌≤◌, List, [], ◌∷◌, length, get_or, Bool, true, false, cond, eqb, refl, ap, ◌++◌}
+use Rattle.std.proofs.Common.{subst, arith, slice_get}
 use Rattle.std.proofs.lemmas.Bool.{cases_lt}
 use Rattle.std.proofs.lemmas.Option.{slice_get-get_or}
 use Rattle.std.specs.Prelude.{Option, Some}
@@ -8,7 +9,8 @@ use Rattle.rbbi_lex.specs.declared.token.Token.{Token}
 use Rattle.rbbi_lex.specs.declared.token.TokenKind.{TokenKind}
 use Rattle.rbbi_lex.specs.declared.state.State.{State}
 use Rattle.rbbi_lex.specs.declared.row.Row.{Row}
-use Rattle.rbbi_lex.specs.declared.row.Row.TheVariants.{Sign, SetSign, BracketedProperty, SetStart, Variable, ControlName, StatusNumber, QuotePair, Quotation, BracedProperty, Escape, Brace, BareCharacter, SetCharacter, OtherCharacter}
+use Rattle.rbbi_lex.specs.declared.row.Row.TheVariants.{Sign, SetSign, BracketedProperty, SetStart, Variable, ControlName, StatusNumber, QuotePair, Quotation}
+use Rattle.rbbi_lex.specs.declared.row.Row.TheVariants.{BracedProperty, Escape, Brace, BareCharacter, SetCharacter, OtherCharacter}
 use Rattle.rbbi_lex.specs.Rows.{start, state_after, fits, outer_rows, inner_rows, first_row}
 use Rattle.rbbi_lex.specs.Points.{CharacterAt, RowAt}
 use Rattle.rbbi_lex.specs.Spellings.{Spells, TokenAt}
@@ -30,7 +32,8 @@ some_fit test [] last h = (last, ap (λ b. cond b (Some last) (find test [])) h)
 some_fit test (row ∷ rows) last h =
     tried (test row) row (find test (rows ++ last ∷ [])) (some_fit test rows last h)
 
-chosen : (b : Bool) (outer inner : Option Row) → ((found : Row) × (outer ≡ Some found)) → ((found : Row) × (inner ≡ Some found)) → (found : Row) × (cond b outer inner ≡ Some found)
+chosen : (b : Bool) (outer inner : Option Row) → ((found : Row) × (outer ≡ Some found)) → ((found : Row) × (inner ≡ Some found)) →
+    (found : Row) × (cond b outer inner ≡ Some found)
 chosen true outer inner p q = p
 chosen false outer inner p q = q
 

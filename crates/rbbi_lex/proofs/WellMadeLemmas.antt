@@ -3,9 +3,11 @@ use Rattle.std.proofs.Common.{◌≡◌, ℕ, ◌+◌, ◌<◌, Bool, true, fals
 use Rattle.std.proofs.lemmas.Bool.{false≢true}
 use Rattle.std.specs.Prelude.{Option, None, Some, option_and_then, option_map}
 use Rattle.rbbi_lex.specs.declared.token.TokenKind.{TokenKind}
-use Rattle.rbbi_lex.specs.declared.token.TokenKind.TheVariants.{Semi, Equals, Bar, Slash, Caret, Star, Plus, Quest, Dot, ParenOpen, ParenClose, SetClose, Hyphen, Amp, Char}
+use Rattle.rbbi_lex.specs.declared.token.TokenKind.TheVariants.{Semi, Equals, Bar, Slash, Caret, Star, Plus, Quest, Dot, ParenOpen, ParenClose, SetClose}
+use Rattle.rbbi_lex.specs.declared.token.TokenKind.TheVariants.{Hyphen, Amp, Char}
 use Rattle.rbbi_lex.specs.declared.row.Row.{Row}
-use Rattle.rbbi_lex.specs.declared.row.Row.TheVariants.{Sign, SetSign, BracketedProperty, SetStart, Variable, ControlName, StatusNumber, QuotePair, Quotation, BracedProperty, Escape, Brace, BareCharacter, SetCharacter, OtherCharacter}
+use Rattle.rbbi_lex.specs.declared.row.Row.TheVariants.{Sign, SetSign, BracketedProperty, SetStart, Variable, ControlName, StatusNumber, QuotePair, Quotation}
+use Rattle.rbbi_lex.specs.declared.row.Row.TheVariants.{BracedProperty, Escape, Brace, BareCharacter, SetCharacter, OtherCharacter}
 use Rattle.rbbi_lex.specs.Rows.{outer_sign, inner_sign}
 use Rattle.rbbi_lex.specs.Points.{is_at}
 use Rattle.rbbi_lex.specs.Quotations.{QuotesUpTo}

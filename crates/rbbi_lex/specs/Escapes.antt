@@ -1,34 +1,32 @@
 -- Escapes, by their table: what the characters behind a `\` stand for.
-use Rattle.std.specs.Prelude.{ℕ, ◌≡◌, ◌+◌, ◌*◌, ◌<◌, ◌≤◌, min, ◌==◌, if◌then◌else◌, IsTrue, List, slice_get, slice_range}
+use Rattle.std.specs.Prelude.{ℕ, ◌≡◌, ◌+◌, ◌<◌, ◌≤◌, min, ◌==◌, if◌then◌else◌, IsTrue, List, slice_get, slice_range}
 use Rattle.std.specs.Prelude.{Option}
-use Rattle.std.specs.List.{fold}
-use Rattle.std.specs.Char.{IsScalar, digit_value}
+use Rattle.std.specs.Char.{IsScalar, is_ascii_alphanumeric}
+use Rattle.rbbi_text.specs.Numbers.{number}
+use Rattle.rbbi_lex.specs.Signs.{backspace, bell, brace_close, brace_open, capital_u, carriage_return, escape_character, form_feed, letter_a, letter_b}
+use Rattle.rbbi_lex.specs.Signs.{letter_e, letter_f, letter_n, letter_r, letter_t, letter_u, letter_v, letter_x, line_feed, tab, vertical_tab}
 use Rattle.rbbi_lex.specs.declared.escape.Form.{Form}
 use Rattle.rbbi_lex.specs.declared.escape.Form.TheVariants.{FourDigits, EightDigits, BracedDigits, FewDigits, StandsFor, Unknown}
 use Rattle.rbbi_lex.specs.declared.run.Run.TheVariants.{HexadecimalDigits}
-use Rattle.rbbi_lex.specs.Characters.{is_letter_or_digit, is_sign}
+use Rattle.rbbi_lex.specs.Characters.{is_sign}
 use Rattle.rbbi_lex.specs.Runs.{run_end}
 use Rattle.rbbi_lex.specs.Points.{CharacterAt, is_at}
-
--- the number that these digits write in this base
-abbrev pub number : ℕ → List ℕ → ℕ
-number base digits = fold (λ value c. base * value + digit_value c) 0 digits
 
 -- the form of an escape, by the character behind the `\` and the next one
 unfoldable pub form_of : ℕ → Option ℕ → Form
 form_of c next =
-    if c == 117 then FourDigits else
-    (if c == 85 then EightDigits else
-    (if c == 120 then (if is_sign next 123 then BracedDigits else FewDigits) else
-    (if c == 97 then StandsFor 0x7 else
-    (if c == 98 then StandsFor 0x8 else
-    (if c == 101 then StandsFor 0x1B else
-    (if c == 102 then StandsFor 0xC else
-    (if c == 110 then StandsFor 0xA else
-    (if c == 114 then StandsFor 0xD else
-    (if c == 116 then StandsFor 0x9 else
-    (if c == 118 then StandsFor 0xB else
-    (if is_letter_or_digit c then Unknown else StandsFor c)))))))))))
+    if c == letter_u then FourDigits else
+    (if c == capital_u then EightDigits else
+    (if c == letter_x then (if is_sign next brace_open then BracedDigits else FewDigits) else
+    (if c == letter_a then StandsFor bell else
+    (if c == letter_b then StandsFor backspace else
+    (if c == letter_e then StandsFor escape_character else
+    (if c == letter_f then StandsFor form_feed else
+    (if c == letter_n then StandsFor line_feed else
+    (if c == letter_r then StandsFor carriage_return else
+    (if c == letter_t then StandsFor tab else
+    (if c == letter_v then StandsFor vertical_tab else
+    (if is_ascii_alphanumeric c then Unknown else StandsFor c)))))))))))
 
 -- the digits from one place to another write this character
 abbrev pub WritesCharacter : List ℕ → ℕ → ℕ → ℕ → Type 0
@@ -46,7 +44,7 @@ braced_end x i = run_end HexadecimalDigits x (i + 1)
 -- one to six digits in braces
 abbrev pub DigitsInBraces : List ℕ → ℕ → ℕ → ℕ → Type 0
 DigitsInBraces x i j c =
-    (i + 1 < braced_end x i) × (braced_end x i ≤ i + 7) × IsTrue (is_at x (braced_end x i) 125)
+    (i + 1 < braced_end x i) × (braced_end x i ≤ i + 7) × IsTrue (is_at x (braced_end x i) brace_close)
     × (j ≡ braced_end x i + 1) × WritesCharacter x (i + 1) (braced_end x i) c
 
 -- the place behind the longer of one or two digits

@@ -1,3 +1,4 @@
+pub mod Signs
 pub mod Characters
 pub mod Runs
 pub mod Rows

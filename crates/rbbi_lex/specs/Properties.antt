@@ -1,6 +1,7 @@
 -- Properties, in both spellings.
 use Rattle.std.specs.Prelude.{ℕ, ◌≡◌, ◌+◌, Bool, nat_lt, if◌then◌else◌, IsTrue, List, slice_range}
 use Rattle.std.specs.Prelude.{Option, None, Some}
+use Rattle.rbbi_lex.specs.Signs.{brace_close, bracket_close, capital_p, caret, colon}
 use Rattle.rbbi_lex.specs.declared.token.TokenKind.{TokenKind}
 use Rattle.rbbi_lex.specs.declared.token.TokenKind.TheVariants.{Prop}
 use Rattle.rbbi_lex.specs.declared.run.Run.TheVariants.{BracedBody, BracedName, BracketedBody, BracketedName}
@@ -21,18 +22,18 @@ property x negated i name_end body_end =
 -- name to the first `=`, in one line
 abbrev pub SpellsBraced : List ℕ → ℕ → ℕ → TokenKind → Type 0
 SpellsBraced x i j kind =
-    IsTrue (is_at x (run_end BracedBody x (i + 3)) 125) × (j ≡ run_end BracedBody x (i + 3) + 1)
-    × (kind ≡ property x (is_at x (i + 1) 80) (i + 3) (run_end BracedName x (i + 3)) (run_end BracedBody x (i + 3)))
+    IsTrue (is_at x (run_end BracedBody x (i + 3)) brace_close) × (j ≡ run_end BracedBody x (i + 3) + 1)
+    × (kind ≡ property x (is_at x (i + 1) capital_p) (i + 3) (run_end BracedName x (i + 3)) (run_end BracedBody x (i + 3)))
 
 -- where the body of `[:BODY:]` at the place begins, behind a `^`
 abbrev pub body_start : List ℕ → ℕ → ℕ
-body_start x i = if is_at x (i + 2) 94 then i + 3 else i + 2
+body_start x i = if is_at x (i + 2) caret then i + 3 else i + 2
 
 -- `[:BODY:]` stands from one place to another: the body goes to the first `:]`, and its name to the
 -- first `=`, in one line
 abbrev pub SpellsBracketed : List ℕ → ℕ → ℕ → TokenKind → Type 0
 SpellsBracketed x i j kind =
-    IsTrue (is_at x (run_end BracketedBody x (i + 2)) 58)
-    × IsTrue (is_at x (run_end BracketedBody x (i + 2) + 1) 93)
+    IsTrue (is_at x (run_end BracketedBody x (i + 2)) colon)
+    × IsTrue (is_at x (run_end BracketedBody x (i + 2) + 1) bracket_close)
     × (j ≡ run_end BracketedBody x (i + 2) + 2)
-    × (kind ≡ property x (is_at x (i + 2) 94) (body_start x i) (run_end BracketedName x (body_start x i)) (run_end BracketedBody x (i + 2)))
+    × (kind ≡ property x (is_at x (i + 2) caret) (body_start x i) (run_end BracketedName x (body_start x i)) (run_end BracketedBody x (i + 2)))

@@ -2,11 +2,16 @@
 use Rattle.std.specs.Prelude.{ℕ, Bool, true, ◌||◌, ◌&&◌, ◌==◌, if◌then◌else◌, ◌+◌, ◌-◌, List, [], ◌∷◌}
 use Rattle.std.specs.Prelude.{Option, None, Some, is_some}
 use Rattle.std.specs.List.{find}
+use Rattle.rbbi_lex.specs.Signs.{ampersand, asterisk, backslash, brace_close, brace_open, bracket_close, bracket_open, capital_p, caret, colon, dollar_sign}
+use Rattle.rbbi_lex.specs.Signs.{equals_sign, exclamation_mark, full_stop, hyphen, letter_p, paren_close, paren_open, plus_sign, question_mark, quote}
+use Rattle.rbbi_lex.specs.Signs.{semicolon, slash, vertical_bar}
 use Rattle.rbbi_lex.specs.declared.token.TokenKind.{TokenKind}
-use Rattle.rbbi_lex.specs.declared.token.TokenKind.TheVariants.{Semi, Equals, Bar, Slash, Caret, Star, Plus, Quest, Dot, ParenOpen, ParenClose, SetOpen, SetClose, Hyphen, Amp}
+use Rattle.rbbi_lex.specs.declared.token.TokenKind.TheVariants.{Semi, Equals, Bar, Slash, Caret, Star, Plus, Quest, Dot, ParenOpen, ParenClose, SetOpen}
+use Rattle.rbbi_lex.specs.declared.token.TokenKind.TheVariants.{SetClose, Hyphen, Amp}
 use Rattle.rbbi_lex.specs.declared.state.State.{State}
 use Rattle.rbbi_lex.specs.declared.row.Row.{Row}
-use Rattle.rbbi_lex.specs.declared.row.Row.TheVariants.{Sign, SetSign, BracketedProperty, SetStart, Variable, ControlName, StatusNumber, QuotePair, Quotation, BracedProperty, Escape, Brace, BareCharacter, SetCharacter, OtherCharacter}
+use Rattle.rbbi_lex.specs.declared.row.Row.TheVariants.{Sign, SetSign, BracketedProperty, SetStart, Variable, ControlName, StatusNumber, QuotePair, Quotation}
+use Rattle.rbbi_lex.specs.declared.row.Row.TheVariants.{BracedProperty, Escape, Brace, BareCharacter, SetCharacter, OtherCharacter}
 use Rattle.rbbi_lex.specs.Characters.{is_bare, is_sign}
 
 -- where no token has been read: outside of sets
@@ -22,40 +27,40 @@ state_after state _ = state
 -- outside of sets the character is a token of this kind by itself
 unfoldable pub outer_sign : ℕ → Option TokenKind
 outer_sign c =
-    if c == 59 then Some Semi else
-    (if c == 61 then Some Equals else
-    (if c == 124 then Some Bar else
-    (if c == 47 then Some Slash else
-    (if c == 94 then Some Caret else
-    (if c == 42 then Some Star else
-    (if c == 43 then Some Plus else
-    (if c == 63 then Some Quest else
-    (if c == 46 then Some Dot else
-    (if c == 40 then Some ParenOpen else
-    (if c == 41 then Some ParenClose else None))))))))))
+    if c == semicolon then Some Semi else
+    (if c == equals_sign then Some Equals else
+    (if c == vertical_bar then Some Bar else
+    (if c == slash then Some Slash else
+    (if c == caret then Some Caret else
+    (if c == asterisk then Some Star else
+    (if c == plus_sign then Some Plus else
+    (if c == question_mark then Some Quest else
+    (if c == full_stop then Some Dot else
+    (if c == paren_open then Some ParenOpen else
+    (if c == paren_close then Some ParenClose else None))))))))))
 
 -- inside of sets the character is a token of this kind by itself
 unfoldable pub inner_sign : ℕ → Option TokenKind
 inner_sign c =
-    if c == 93 then Some SetClose else
-    (if c == 94 then Some Caret else
-    (if c == 45 then Some Hyphen else
-    (if c == 38 then Some Amp else None)))
+    if c == bracket_close then Some SetClose else
+    (if c == caret then Some Caret else
+    (if c == hyphen then Some Hyphen else
+    (if c == ampersand then Some Amp else None)))
 
 -- the row fits where this character stands, with these two behind it
 abbrev pub fits : ℕ → Option ℕ → Option ℕ → Row → Bool
 fits c next third Sign = is_some (outer_sign c)
 fits c next third SetSign = is_some (inner_sign c)
-fits c next third BracketedProperty = c == 91 && is_sign next 58
-fits c next third SetStart = c == 91
-fits c next third Variable = c == 36
-fits c next third ControlName = c == 33 && is_sign next 33
-fits c next third StatusNumber = c == 123
-fits c next third QuotePair = c == 39 && is_sign next 39
-fits c next third Quotation = c == 39
-fits c next third BracedProperty = c == 92 && (is_sign next 112 || is_sign next 80) && is_sign third 123
-fits c next third Escape = c == 92
-fits c next third Brace = c == 123 || c == 125
+fits c next third BracketedProperty = c == bracket_open && is_sign next colon
+fits c next third SetStart = c == bracket_open
+fits c next third Variable = c == dollar_sign
+fits c next third ControlName = c == exclamation_mark && is_sign next exclamation_mark
+fits c next third StatusNumber = c == brace_open
+fits c next third QuotePair = c == quote && is_sign next quote
+fits c next third Quotation = c == quote
+fits c next third BracedProperty = c == backslash && (is_sign next letter_p || is_sign next capital_p) && is_sign third brace_open
+fits c next third Escape = c == backslash
+fits c next third Brace = c == brace_open || c == brace_close
 fits c next third BareCharacter = is_bare c
 fits c next third SetCharacter = true
 fits c next third OtherCharacter = true

@@ -1,22 +1,26 @@
 -- Runs: the longest pieces of a text whose characters belong together.
 use Rattle.std.specs.Prelude.{ℕ, false, true, ◌<◌, ◌≤◌, ◌≡◌, Bool, ◌||◌, ◌&&◌, ◌==◌, not, if◌then◌else◌, ◌+◌, List, [], ◌∷◌, drop, slice_get}
 use Rattle.std.specs.Prelude.{Option}
+use Rattle.rbbi_lex.specs.Signs.{brace_close, bracket_close, colon, equals_sign}
+use Rattle.std.specs.Char.{is_ascii_digit, is_ascii_hexdigit}
+use Rattle.unicode.specs.Binary.{is_pattern_white_space}
 use Rattle.rbbi_lex.specs.declared.run.Run.{Run}
-use Rattle.rbbi_lex.specs.declared.run.Run.TheVariants.{WhiteSpace, CommentText, NameText, ControlText, Digits, HexadecimalDigits, BracedBody, BracedName, BracketedBody, BracketedName}
-use Rattle.rbbi_lex.specs.Characters.{is_white_space, is_line_end, is_name_character, is_word_character, is_digit, is_hexadecimal_digit, is_sign, passes}
+use Rattle.rbbi_lex.specs.declared.run.Run.TheVariants.{WhiteSpace, CommentText, NameText, ControlText, Digits, HexadecimalDigits, BracedBody, BracedName}
+use Rattle.rbbi_lex.specs.declared.run.Run.TheVariants.{BracketedBody, BracketedName}
+use Rattle.rbbi_lex.specs.Characters.{is_line_end, is_name_character, is_word_character, is_sign, passes}
 
 -- the run goes on with this character, with that one, or none, behind it
 abbrev pub goes_on : Run → ℕ → Option ℕ → Bool
-goes_on WhiteSpace c next = is_white_space c
+goes_on WhiteSpace c next = is_pattern_white_space c
 goes_on CommentText c next = not (is_line_end c)
 goes_on NameText c next = is_name_character c
 goes_on ControlText c next = is_word_character c
-goes_on Digits c next = is_digit c
-goes_on HexadecimalDigits c next = is_hexadecimal_digit c
-goes_on BracedBody c next = not (is_line_end c || c == 125)
-goes_on BracedName c next = not (is_line_end c || c == 125 || c == 61)
-goes_on BracketedBody c next = not (is_line_end c || (c == 58 && is_sign next 93))
-goes_on BracketedName c next = not (is_line_end c || (c == 58 && is_sign next 93) || c == 61)
+goes_on Digits c next = is_ascii_digit c
+goes_on HexadecimalDigits c next = is_ascii_hexdigit c
+goes_on BracedBody c next = not (is_line_end c || c == brace_close)
+goes_on BracedName c next = not (is_line_end c || c == brace_close || c == equals_sign)
+goes_on BracketedBody c next = not (is_line_end c || (c == colon && is_sign next bracket_close))
+goes_on BracketedName c next = not (is_line_end c || (c == colon && is_sign next bracket_close) || c == equals_sign)
 
 -- how many characters from the front on belong to the run
 abbrev pub run_len : Run → List ℕ → ℕ

@@ -1,20 +1,22 @@
 -- What is skipped between tokens.
 use Rattle.std.specs.Prelude.{ℕ, zero, suc, ◌≡◌, ◌+◌, ◌⊎◌, IsTrue, List, slice_get}
+use Rattle.rbbi_lex.specs.Signs.{number_sign}
+use Rattle.unicode.specs.Binary.{is_pattern_white_space}
 use Rattle.rbbi_lex.specs.declared.state.State.{State}
 use Rattle.rbbi_lex.specs.declared.run.Run.TheVariants.{CommentText}
-use Rattle.rbbi_lex.specs.Characters.{is_white_space, passes}
+use Rattle.rbbi_lex.specs.Characters.{passes}
 use Rattle.rbbi_lex.specs.Runs.{run_end}
 use Rattle.rbbi_lex.specs.Points.{is_at}
 
 -- one character of white space
 abbrev pub IsWhite : List ℕ → ℕ → ℕ → Type 0
-IsWhite x i j = IsTrue (passes is_white_space (slice_get x i)) × (j ≡ i + 1)
+IsWhite x i j = IsTrue (passes is_pattern_white_space (slice_get x i)) × (j ≡ i + 1)
 
 -- a comment, outside of sets: `#` and what follows up to a line terminator, which isn't part of it,
 -- or the end
 abbrev pub IsComment : List ℕ → State → ℕ → ℕ → Type 0
 IsComment x state i j =
-    (state.depth ≡ 0) × IsTrue (is_at x i 35) × (j ≡ run_end CommentText x (i + 1))
+    (state.depth ≡ 0) × IsTrue (is_at x i number_sign) × (j ≡ run_end CommentText x (i + 1))
 
 -- the characters from one place to another are skipped at once
 abbrev pub Piece : List ℕ → State → ℕ → ℕ → Type 0

@@ -1,17 +1,20 @@
 -- What a row of the table spells from a place on, one definition for each row, and the token at a place.
 use Rattle.std.specs.Prelude.{ℕ, ◌≡◌, ◌+◌, ◌<◌, ◌≤◌, true, false, IsTrue, List, slice_get, slice_range}
 use Rattle.std.specs.Prelude.{Option, Some, option_map, option_and_then}
+use Rattle.rbbi_lex.specs.Signs.{brace_close, quote}
 use Rattle.rbbi_lex.specs.declared.token.TokenKind.{TokenKind}
 use Rattle.rbbi_lex.specs.declared.token.TokenKind.TheVariants.{SetOpen, Char, Quoted, Name, Control, Tag}
 use Rattle.rbbi_lex.specs.declared.state.State.{State}
 use Rattle.rbbi_lex.specs.declared.run.Run.TheVariants.{WhiteSpace, NameText, ControlText, Digits}
 use Rattle.rbbi_lex.specs.declared.row.Row.{Row}
-use Rattle.rbbi_lex.specs.declared.row.Row.TheVariants.{Sign, SetSign, BracketedProperty, SetStart, Variable, ControlName, StatusNumber, QuotePair, Quotation, BracedProperty, Escape, Brace, BareCharacter, SetCharacter, OtherCharacter}
+use Rattle.rbbi_lex.specs.declared.row.Row.TheVariants.{Sign, SetSign, BracketedProperty, SetStart, Variable, ControlName, StatusNumber, QuotePair, Quotation}
+use Rattle.rbbi_lex.specs.declared.row.Row.TheVariants.{BracedProperty, Escape, Brace, BareCharacter, SetCharacter, OtherCharacter}
 use Rattle.rbbi_lex.specs.Characters.{is_name_start, passes}
 use Rattle.rbbi_lex.specs.Runs.{run_end}
 use Rattle.rbbi_lex.specs.Rows.{outer_sign, inner_sign}
 use Rattle.rbbi_lex.specs.Points.{is_at, RowAt}
-use Rattle.rbbi_lex.specs.Escapes.{number, IsEscape}
+use Rattle.rbbi_text.specs.Numbers.{number}
+use Rattle.rbbi_lex.specs.Escapes.{IsEscape}
 use Rattle.rbbi_lex.specs.Quotations.{QuotesUpTo}
 use Rattle.rbbi_lex.specs.Properties.{SpellsBraced, SpellsBracketed}
 
@@ -56,17 +59,17 @@ tag_number x i = number 10 (slice_range x (digits_start x i) (digits_end x i))
 -- `{`, white space, digits, white space and `}`
 abbrev pub SpellsTag : List ℕ → ℕ → ℕ → TokenKind → Type 0
 SpellsTag x i j kind =
-    (digits_start x i < digits_end x i) × IsTrue (is_at x (tag_close x i) 125)
+    (digits_start x i < digits_end x i) × IsTrue (is_at x (tag_close x i) brace_close)
     × (tag_number x i ≤ most_tag) × (j ≡ tag_close x i + 1) × (kind ≡ Tag (tag_number x i))
 
 -- `''`, which is one quote
 abbrev pub SpellsQuotePair : List ℕ → ℕ → ℕ → TokenKind → Type 0
-SpellsQuotePair x i j kind = IsTrue (is_at x (i + 1) 39) × (j ≡ i + 2) × (kind ≡ Char 39 false)
+SpellsQuotePair x i j kind = IsTrue (is_at x (i + 1) quote) × (j ≡ i + 2) × (kind ≡ Char quote false)
 
 -- a quote that no other follows, characters, and the quote that closes
 abbrev pub SpellsQuotation : List ℕ → ℕ → ℕ → TokenKind → Type 0
 SpellsQuotation x i j kind =
-    (is_at x (i + 1) 39 ≡ false)
+    (is_at x (i + 1) quote ≡ false)
     × ((word : List ℕ) × (close : ℕ) × QuotesUpTo x (i + 1) word close × (j ≡ close + 1) × (kind ≡ Quoted word))
 
 -- an escaped character

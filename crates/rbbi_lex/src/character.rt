@@ -1,19 +1,15 @@
 //! Tests of a character.
 ghost use Rattle.std.specs.Prelude.{◌≡◌, ◌<◌, IsTrue, length, slice_get};
-ghost use Rattle.std.specs.Char.{digit_value};
-ghost use Rattle.rbbi_lex.specs.Characters.{is_bare, is_digit, is_hexadecimal_digit, is_line_end, is_name_character, is_name_start, is_sign, is_white_space, is_word_character};
+ghost use Rattle.rbbi_lex.specs.Characters.{
+  is_bare,
+  is_line_end,
+  is_name_character,
+  is_name_start,
+  is_sign,
+  is_word_character,
+};
 
-use unicode::properties::{GeneralCategory, GeneralCategoryGroup};
-
-/// Whether a character is Pattern_White_Space (UAX #31).
-pub(crate) fn is_white_space(c: char) -> bool
-    ensures { result ≡ is_white_space c }
-{
-    matches!(
-        c,
-        '\t'..='\r' | ' ' | '\u{85}' | '\u{200e}'..='\u{200f}' | '\u{2028}'..='\u{2029}'
-    )
-}
+use unicode::properties::{GeneralCategory, GeneralCategoryGroup, is_pattern_white_space};
 
 /// Whether a character ends a line: LF, CR, U+0085 or U+2028.
 pub(crate) fn is_line_end(c: char) -> bool
@@ -22,25 +18,11 @@ pub(crate) fn is_line_end(c: char) -> bool
     matches!(c, '\n' | '\r' | '\u{85}' | '\u{2028}')
 }
 
-/// Whether a character is an ASCII digit.
-pub(crate) fn is_digit(c: char) -> bool
-    ensures { result ≡ is_digit c }
-{
-    matches!(c, '0'..='9')
-}
-
-/// Whether a character is a hexadecimal digit, of either case.
-pub(crate) fn is_hexadecimal_digit(c: char) -> bool
-    ensures { result ≡ is_hexadecimal_digit c }
-{
-    matches!(c, '0'..='9' | 'A'..='F' | 'a'..='f')
-}
-
 /// Whether a character is an ASCII letter, a digit or `_`.
 pub(crate) fn is_word_character(c: char) -> bool
     ensures { result ≡ is_word_character c }
 {
-    matches!(c, '0'..='9' | 'A'..='Z' | 'a'..='z' | '_')
+    c.is_ascii_alphanumeric() || c == '_'
 }
 
 /// Whether a character stands for itself without a quote or an escape: an ASCII letter or digit, a
@@ -48,10 +30,9 @@ pub(crate) fn is_word_character(c: char) -> bool
 pub(crate) fn is_bare(c: char) -> bool
     ensures { result ≡ is_bare c }
 {
-    matches!(
-        c,
-        '0'..='9' | 'A'..='Z' | 'a'..='z' | '\0'..='\u{8}' | '\u{e}'..='\u{1f}' | '\u{7f}'..
-    )
+    c.is_ascii_alphanumeric()
+        || (c.is_ascii_control() && !is_pattern_white_space(c))
+        || c >= '\u{80}'
 }
 
 /// Whether a name begins with a character: `_`, or one of the general category L.
@@ -66,20 +47,6 @@ pub(crate) fn is_name_character(c: char) -> bool
     ensures { result ≡ is_name_character c }
 {
     is_name_start(c) || GeneralCategoryGroup::Number.contains(GeneralCategory::for_char(c))
-}
-
-/// The value of a digit or a letter, from 0 for `0` to 35 for `Z` and `z`, and 36 for any other
-/// character.
-pub(crate) fn digit_value(c: char) -> u64
-    ensures { result ≡ digit_value c }
-{
-    let code = c as u64;
-    match c {
-        '0'..='9' => code - 48,
-        'A'..='Z' => code - 55,
-        'a'..='z' => code - 87,
-        _ => 36,
-    }
 }
 
 /// Whether a character is there, and is this one.

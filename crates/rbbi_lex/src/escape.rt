@@ -2,15 +2,25 @@
 ghost use Rattle.std.specs.Prelude.{◌≡◌, ◌+◌, ◌<◌, ◌≤◌, length};
 ghost use Rattle.std.specs.Char.{IsScalar};
 ghost use Rattle.std.specs.Prelude.{SomeIff, slice_range};
+ghost use Rattle.rbbi_text.specs.Numbers.{number};
 ghost use Rattle.rbbi_lex.specs.declared.row.Row.TheVariants.{Escape};
-ghost use Rattle.rbbi_lex.specs.Escapes.{number, form_of, FixedDigits, DigitsInBraces, OneOrTwoDigits, EscapeGoesOn};
+ghost use Rattle.rbbi_lex.specs.Escapes.{
+  form_of,
+  FixedDigits,
+  DigitsInBraces,
+  OneOrTwoDigits,
+  EscapeGoesOn,
+};
 ghost use Rattle.rbbi_lex.specs.Steps.{IsRestBy, IsSpelling};
 
 use crate::character::{character_at, is_sign, stands_at};
 use crate::run::{Run, run_end};
 use crate::spelled::Spelled;
 use crate::token::TokenKind;
-use crate::words::number_between;
+use rbbi_text::number_of_characters;
+
+/// The greatest code point.
+const MOST_CODE_POINT: u32 = 0x10_FFFF;
 
 /// The form of an escape, by what stands behind its `\`.
 #[derive(Clone, Copy)]
@@ -63,9 +73,10 @@ fn form_of(c: char, next: Option<char>) -> Form
 fn character_between(text: &[char], from: usize, to: usize) -> Option<char>
     requires forward { from ≤ to }
     requires within { to ≤ length text.now }
-    ensures { SomeIff result (IsScalar (number 16 (slice_range text.now from to))) (number 16 (slice_range text.now from to)) }
+    ensures { let n = number 16 (slice_range text.now from to) in SomeIff result (IsScalar n) n }
 {
-    char::from_u32(number_between(text, 16, from, to))
+    let number = number_of_characters(&text[from..to], 16, MOST_CODE_POINT)?;
+    char::from_u32(number)
 }
 
 /// The character that an escape of so many digits stands for, if they are there.

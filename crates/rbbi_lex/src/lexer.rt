@@ -1,10 +1,11 @@
 //! Reads a text token by token.
 ghost use Rattle.std.specs.Prelude.{◌≡◌, ◌≤◌, ◌<◌, vec_len, length};
+ghost use Rattle.rbbi_text.specs.Bytes.{most_bytes};
 ghost use Rattle.rbbi_lex.specs.Points.{RowAt};
 ghost use Rattle.rbbi_lex.specs.Skips.{Skipped};
 ghost use Rattle.rbbi_lex.specs.Steps.{IsPieceEnd, IsStep};
 
-use crate::character::{character_at, is_white_space};
+use crate::character::character_at;
 use crate::error::LexErr;
 use crate::row::{Row, row_of};
 use crate::run::{Run, run_end};
@@ -12,6 +13,7 @@ use crate::spell::spell;
 use crate::state::State;
 use crate::token::Token;
 use std::alloc::Global;
+use unicode::properties::is_pattern_white_space;
 
 /// The characters of a rule file, and how far they are read.
 #[derive(Drop)]
@@ -21,7 +23,7 @@ pub(crate) struct Lexer {
     pub(crate) state: State,
     ghost within: { place ≤ vec_len characters },
     ghost few_sets: { state.depth ≤ place },
-    ghost short: { vec_len characters ≤ 100663296 },
+    ghost short: { vec_len characters ≤ most_bytes },
 }
 
 /// The place behind the piece that begins at a place and is skipped, if one does: a character of
@@ -30,7 +32,7 @@ fn piece_end(text: &[char], state: &State, at: usize) -> Option<usize>
     ensures { IsPieceEnd text.now state.now at result }
 {
     let c = character_at(text, at)?;
-    if is_white_space(c) {
+    if is_pattern_white_space(c) {
         return Some(at + 1);
     }
     if c == '#' && state.depth == 0 {
@@ -44,7 +46,8 @@ impl Lexer {
     fn skip(&mut self)
         ensures characters { self.new.characters ≡ self.old.characters }
         ensures state { self.new.state ≡ self.old.state }
-        ensures skipped { Skipped self.old.characters.items self.old.state self.old.place self.new.place }
+        ensures skipped { Skipped self.old.characters.items self.old.state self.old.place
+            self.new.place }
     {
         while let Some(end) = piece_end(self.characters.as_slice(), &self.state, self.place) {
             self.place = end;

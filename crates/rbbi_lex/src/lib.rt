@@ -1,8 +1,8 @@
 //! The tokens of the rule language.
 //!
-//! A rule file is cut into tokens by two tables of rows, one outside and one inside of sets (ICU User
-//! Guide, "Break Rules"; UTS #18, "Unicode Regular Expressions", for escapes and properties): at each
-//! point white space and comments are skipped, and the first row that fits decides.
+//! A rule file is cut into tokens by two tables of rows, one outside and one inside of sets (ICU
+//! User Guide, "Break Rules"; UTS #18, "Unicode Regular Expressions", for escapes and properties):
+//! at each point white space and comments are skipped, and the first row that fits decides.
 #![tactic(auto)]
 
 mod character;

@@ -2,10 +2,8 @@
 ghost use Rattle.std.specs.Prelude.{◌≡◌, ◌≤◌, max, length};
 ghost use Rattle.rbbi_lex.specs.Runs.{goes_on, run_end};
 
-use crate::character::{
-    character_at, is_digit, is_hexadecimal_digit, is_line_end, is_name_character, is_sign,
-    is_white_space, is_word_character,
-};
+use crate::character::{character_at, is_line_end, is_name_character, is_sign, is_word_character};
+use unicode::properties::is_pattern_white_space;
 
 /// A kind of run, named for its characters.
 #[derive(Clone, Copy)]
@@ -34,12 +32,12 @@ fn goes_on(run: Run, c: char, next: Option<char>) -> bool
     ensures { result ≡ goes_on run c next }
 {
     match run {
-        Run::WhiteSpace => is_white_space(c),
+        Run::WhiteSpace => is_pattern_white_space(c),
         Run::CommentText => !is_line_end(c),
         Run::NameText => is_name_character(c),
         Run::ControlText => is_word_character(c),
-        Run::Digits => is_digit(c),
-        Run::HexadecimalDigits => is_hexadecimal_digit(c),
+        Run::Digits => c.is_ascii_digit(),
+        Run::HexadecimalDigits => c.is_ascii_hexdigit(),
         Run::BracedBody => !(is_line_end(c) || c == '}'),
         Run::BracedName => !(is_line_end(c) || c == '}' || c == '='),
         Run::BracketedBody => !(is_line_end(c) || (c == ':' && is_sign(next, ']'))),

@@ -1,5 +1,6 @@
 //! What the lexer remembers of the tokens that it has read.
 ghost use Rattle.std.specs.Prelude.{◌≡◌, ◌<◌};
+ghost use Rattle.rbbi_text.specs.Bytes.{most_bytes};
 ghost use Rattle.rbbi_lex.specs.Rows.{state_after};
 
 use crate::token::TokenKind;
@@ -14,7 +15,7 @@ pub(crate) struct State {
 impl State {
     /// Counts in one more token.
     pub fn note(&mut self, kind: &TokenKind)
-        requires { self.old.depth < 100663296 }
+        requires { self.old.depth < most_bytes }
         ensures { self.new ≡ state_after self.old kind.now }
     {
         match kind {

@@ -7,7 +7,7 @@ use crate::character::stands_at;
 use crate::run::{Run, run_end};
 use crate::spelled::Spelled;
 use crate::token::TokenKind;
-use crate::words::number_between;
+use rbbi_text::number_of_characters;
 
 /// The greatest status number.
 const MOST_TAG: u32 = 2_147_483_647;
@@ -23,10 +23,7 @@ pub(crate) fn tag(text: &[char], at: usize) -> Option<Spelled>
     if start == end || !stands_at(text, close, '}') {
         return None;
     }
-    let number = number_between(text, 10, start, end);
-    if number > MOST_TAG {
-        return None;
-    }
+    let number = number_of_characters(&text[start..end], 10, MOST_TAG)?;
     Some(Spelled {
         kind: TokenKind::Tag(number),
         end: close + 1,

@@ -1,6 +1,7 @@
 //! The tokens of a whole text.
 ghost use Rattle.std.specs.Prelude.{◌≡◌, ◌≤◌, vec_len, length, MatchResult, IfOk};
 ghost use Rattle.std.specs.Str.{chars};
+ghost use Rattle.rbbi_text.specs.Bytes.{most_bytes};
 ghost use Rattle.rbbi_lex.specs.Lexing.{AreTokens};
 ghost use Rattle.rbbi_lex.specs.Errors.{TellsFault};
 ghost use Rattle.rbbi_lex.specs.Places.{PlacesRise};
@@ -27,10 +28,10 @@ fn characters_of(alloc: Global, text: &str) -> Result<Vec<char>, AllocError>
 /// the first place at which it spells no token: `BadEscape` at a `\` that begins no escape,
 /// `OpenQuote` at the quote and `OpenProperty` at the `\p`, `\P` or `[:` that isn't closed in its
 /// line, `BadTag` at a `{` that begins no status number up to 2,147,483,647, `BadName` at a `$` or
-/// `!!` that no name follows, and `BadChar` at a character that begins nothing. `Memory` tells nothing
-/// of the text.
+/// `!!` that no name follows, and `BadChar` at a character that begins nothing. `Memory` tells
+/// nothing of the text.
 pub fn lex(alloc: Global, text: &str) -> Result<Tokens, LexErr>
-    requires { length text.now ≤ 100663296 }
+    requires { length text.now ≤ most_bytes }
     ensures exact { MatchResult result (AreTokens (chars text.now)) (TellsFault (chars text.now)) }
     ensures places { IfOk result (PlacesRise 0 (length (chars text.now))) }
     ensures well_made { IfOk result AreWellMade }

@@ -38,7 +38,8 @@ pub enum TokenKind {
     Hyphen,
     /// `&`, in a set.
     Amp,
-    /// A character that stands for itself. It is bare where it is written without a quote or an escape.
+    /// A character that stands for itself. It is bare where it is written without a quote or an
+    /// escape.
     Char {
         c: char,
         bare: bool,

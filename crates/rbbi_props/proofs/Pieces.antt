@@ -1,8 +1,8 @@
 -- The parts of a text between bytes, taken off one by one.
-use Rattle.std.proofs.Common.{◌≡◌, ℕ, ◌<◌, Bool, cond, eqb, List, [], ◌∷◌, length, refl, ap, sym, ◌∙◌, inl, inr, arith}
+use Rattle.std.proofs.Common.{◌≡◌, ℕ, ◌<◌, ◌+◌, ◌≤◌, Bool, true, false, cond, eqb, List, [], ◌∷◌, length, refl, ap, sym, ◌∙◌, inl, inr, arith}
 use Rattle.std.specs.List.{position_or_len, before_first, after_first, slice_split, onto_first}
-use Rattle.std.specs.Str.Lines.{lines, lines_of_parts, strip_carriage_return}
-use Rattle.std.proofs.lemmas.Bool.{cases_Bool, ne_eqb}
+use Rattle.std.specs.Str.Lines.{lines, lines_of_parts}
+use Rattle.std.proofs.lemmas.Bool.{cases_Bool}
 use Rattle.std.proofs.lemmas.List.Sums.{fails_before_first}
 use Rattle.std.proofs.lemmas.List.Splits.{slice_split_none, slice_split_first}
 use Rattle.rbbi_props.specs.RowLines.{last_part}
@@ -29,7 +29,8 @@ split_some p xs l = slice_split_first p xs 0 l
 pub last_none : (p : ℕ → Bool) (xs : List ℕ) → position_or_len p xs ≡ length xs → last_part (slice_split p xs) ≡ xs
 last_none p xs e = ap last_part (split_none p xs e)
 
-last_cons : (part : List ℕ) (parts : List (List ℕ)) (next : List ℕ) (others : List (List ℕ)) → parts ≡ next ∷ others → last_part (part ∷ parts) ≡ last_part parts
+last_cons : (part : List ℕ) (parts : List (List ℕ)) (next : List ℕ) (others : List (List ℕ)) → parts ≡ next ∷ others →
+    last_part (part ∷ parts) ≡ last_part parts
 last_cons part parts next others e =
     ap (λ ps. last_part (part ∷ ps)) e ∙ sym (ap last_part e)
 
@@ -38,18 +39,28 @@ last_some p xs l =
     let rest = split_cons p (after_first p xs) in
     ap last_part (split_some p xs l) ∙ last_cons (before_first p xs) (slice_split p (after_first p xs)) rest.0 rest.1 rest.2
 
--- the lines of a text with no line feed, and of one that has one
-pub lines_none : (xs : List ℕ) → position_or_len (λ b. eqb b 10) xs ≡ length xs → 0 < length xs → lines xs ≡ xs ∷ []
-lines_none xs e l =
-    ap lines_of_parts (split_none (λ b. eqb b 10) xs e)
-    ∙ ap (λ b. cond b [] (xs ∷ [])) (ne_eqb (length xs) 0 (λ z. absurd (omega arith)))
+length-onto_first : (x : ℕ) (parts : List (List ℕ)) → length (onto_first x parts) ≤ length parts + 1
+length-onto_first x [] = omega arith
+length-onto_first x (part ∷ parts) = omega arith
 
-lines_cons : (part : List ℕ) (parts : List (List ℕ)) (next : List ℕ) (others : List (List ℕ)) → parts ≡ next ∷ others → lines_of_parts (part ∷ parts) ≡ strip_carriage_return part ∷ lines_of_parts parts
-lines_cons part parts next others e =
-    ap (λ ps. lines_of_parts (part ∷ ps)) e ∙ ap (λ ps. strip_carriage_return part ∷ lines_of_parts ps) (sym e)
+length-split : (p : ℕ → Bool) (xs : List ℕ) → length (slice_split p xs) ≤ length xs + 1
+length-split p [] = omega arith
+length-split p (x ∷ xs) = both (p x) (length-split p xs)
+  where
+    both : (b : Bool) → length (slice_split p xs) ≤ length xs + 1 →
+        length (cond b ([] ∷ slice_split p xs) (onto_first x (slice_split p xs))) ≤ length (x ∷ xs) + 1
+    both true short = omega arith
+    both false short = omega (arith, length-onto_first x (slice_split p xs))
 
-pub lines_some : (xs : List ℕ) → position_or_len (λ b. eqb b 10) xs < length xs → lines xs ≡ strip_carriage_return (before_first (λ b. eqb b 10) xs) ∷ lines (after_first (λ b. eqb b 10) xs)
-lines_some xs l =
-    let rest = split_cons (λ b. eqb b 10) (after_first (λ b. eqb b 10) xs) in
-    ap lines_of_parts (split_some (λ b. eqb b 10) xs l)
-    ∙ lines_cons (before_first (λ b. eqb b 10) xs) (slice_split (λ b. eqb b 10) (after_first (λ b. eqb b 10) xs)) rest.0 rest.1 rest.2
+length-lines_of_parts : (parts : List (List ℕ)) → length (lines_of_parts parts) ≤ length parts
+length-lines_of_parts [] = omega arith
+length-lines_of_parts (x ∷ []) = both (eqb (length x) 0)
+  where
+    both : (b : Bool) → length (cond b [] (x ∷ [])) ≤ 1
+    both true = omega arith
+    both false = omega arith
+length-lines_of_parts (x ∷ y ∷ more) = omega (arith, length-lines_of_parts (y ∷ more))
+
+-- a text has at most one line more than bytes
+pub length-lines : (xs : List ℕ) → length (lines xs) ≤ length xs + 1
+length-lines xs = omega (arith, length-lines_of_parts (slice_split (λ b. eqb b 10) xs), length-split (λ b. eqb b 10) xs)

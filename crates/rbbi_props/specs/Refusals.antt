@@ -1,11 +1,10 @@
 -- Why a property file is refused.
 use Rattle.std.specs.Prelude.{◌≡◌, ℕ, ◌+◌, true, Option, Some, None, List, IsUtf8, codes}
 use Rattle.std.specs.List.{position}
-use Rattle.std.specs.Str.{IsValidUpTo}
+use Rattle.rbbi_text.specs.Bytes.{IsNotUtf8At, file_lines}
 use Rattle.rbbi_props.specs.declared.error.PropErr.{PropErr}
 use Rattle.rbbi_props.specs.declared.error.PropErr.TheVariants.{NotUtf8, BadRow, Memory}
 use Rattle.rbbi_props.specs.RowLines.{is_bad}
-use Rattle.rbbi_props.specs.Files.{file_lines}
 
 -- each line of the file is skipped or a row
 abbrev pub HasRowsAlone : List ℕ → Type 0
@@ -27,9 +26,9 @@ IsOneLineCause (NotUtf8 at) line number = ⊥
 IsOneLineCause (BadRow bad) line number = (is_bad line ≡ true) × (bad ≡ number)
 IsOneLineCause Memory line number = Unit {0}
 
--- why a file is refused: its bytes aren't UTF-8, and their longest valid front ends here; or else this is its first bad line; or memory ran out
+-- why a file is refused: its bytes aren't UTF-8 from this one on; or else this is its first bad line; or memory ran out
 abbrev pub IsCause : PropErr → List ℕ → Type 0
-IsCause (NotUtf8 at) bytes = (¬ IsUtf8 bytes) × IsValidUpTo bytes at
+IsCause (NotUtf8 at) bytes = IsNotUtf8At bytes at
 IsCause (BadRow line) bytes = IsUtf8 bytes × IsBadRow (file_lines bytes) line
 IsCause Memory bytes = Unit {0}
 

@@ -1,8 +1,9 @@
 -- The row that a line of a property file writes. 9 is a tab, 32 a space, 35 is `#`, 46 is `.` and 59 is `;`.
-use Rattle.std.specs.Prelude.{ℕ, ◌+◌, ◌-◌, ◌*◌, Bool, not, ◌&&◌, ◌||◌, ◌==◌, nat_le, List, [], ◌∷◌, length, take, drop, fold, Option, Some, None, option_map, option_and_then, is_none, if◌then◌else◌}
+use Rattle.std.specs.Prelude.{ℕ, ◌-◌, Bool, not, ◌&&◌, ◌||◌, ◌==◌, nat_le, List, [], ◌∷◌, length, take, drop, Option, Some, None, option_map, option_and_then}
+use Rattle.std.specs.Prelude.{is_none, if◌then◌else◌}
 use Rattle.std.specs.List.{list_all, prefix_len, suffix_len, before_first, slice_split}
-use Rattle.std.specs.Char.{digit_value, is_ascii_hexdigit}
 use Rattle.rbbi_model.specs.Ranges.{Range}
+use Rattle.rbbi_text.specs.Numbers.{hexadecimal}
 use Rattle.rbbi_props.specs.Rows.{Row}
 use Rattle.rbbi_props.specs.LooseForms.{loose, has_letter_or_digit}
 
@@ -22,18 +23,9 @@ trim_end text = take (length text - suffix_len is_blank text) text
 abbrev pub trim : List ℕ → List ℕ
 trim text = trim_end (trim_start text)
 
--- the number that hexadecimal digits of either case write
-abbrev pub hex_value : List ℕ → ℕ
-hex_value digits = fold (λ value digit. 16 * value + digit_value digit) 0 digits
-
--- whether a text is a code point: four to six hexadecimal digits, at most 10FFFF
-abbrev pub is_code_point : List ℕ → Bool
-is_code_point text =
-    (list_all is_ascii_hexdigit text && (nat_le 4 (length text) && nat_le (length text) 6)) && nat_le (hex_value text) 0x10FFFF
-
--- the code point that a text writes
+-- the code point that a text writes: four to six hexadecimal digits, at most 10FFFF
 abbrev pub code_point_of : List ℕ → Option ℕ
-code_point_of text = if is_code_point text then Some (hex_value text) else None
+code_point_of text = hexadecimal 4 6 0x10FFFF text
 
 -- the range from one code point to another, where it isn't the lesser
 abbrev pub span_of : ℕ → ℕ → Option Range

@@ -2,6 +2,7 @@
 ghost use Rattle.std.specs.Prelude.{◌≡◌, ◌≤◌, ◌<◌, ◌∷◌, [], ◌++◌, false, length, None, IfOk, IfErr, OnOk, IsUtf8, filter_map};
 ghost use Rattle.std.specs.List.{position};
 ghost use Rattle.std.specs.Str.Lines.{lines};
+ghost use Rattle.rbbi_text.specs.Bytes.{most_bytes};
 ghost use Rattle.rbbi_props.specs.RowLines.{row_of, is_bad};
 ghost use Rattle.rbbi_props.specs.Files.{file_of};
 ghost use Rattle.rbbi_props.specs.Refusals.{HasRowsAlone, IsCause, IsLineCause, IsOneLineCause};
@@ -9,7 +10,7 @@ ghost use Rattle.rbbi_props.specs.Refusals.{HasRowsAlone, IsCause, IsLineCause, 
 use crate::error::PropErr;
 use crate::loose::loose;
 use crate::row::{PropRow, is_skipped, row_of};
-use crate::text::{next_line, skip_mark};
+use rbbi_text::{utf8_text, without_mark};
 use std::alloc::Global;
 use std::marker::Model;
 
@@ -30,35 +31,33 @@ impl Model for PropFile {
 
 /// The file of these bytes under a name.
 pub(crate) fn read_file(alloc: Global, name: &str, bytes: &[u8]) -> Result<PropFile, PropErr>
-    requires { length bytes.now ≤ 100663296 }
+    requires { length bytes.now ≤ most_bytes }
     ensures utf8 { OnOk result (IsUtf8 bytes.now) }
     ensures rows { OnOk result (HasRowsAlone bytes.now) }
     ensures file { IfOk result (λ file. file ≡ file_of name.now bytes.now) }
     ensures cause { IfErr result (λ e. IsCause e bytes.now) }
 {
-    if let Err(error) = simdutf8::compat::from_utf8(bytes) {
-        return Err(PropErr::NotUtf8(error.valid_up_to() as u32));
-    }
-    let rows = read_rows(alloc, skip_mark(bytes))?;
+    let text = match utf8_text(bytes) {
+        Ok(text) => text,
+        Err(at) => return Err(PropErr::NotUtf8(at)),
+    };
+    let rows = read_rows(alloc, without_mark(text))?;
     let name = loose(alloc, name.as_bytes())?;
     Ok(PropFile { name, rows })
 }
 
 /// The rows that the lines of a text write.
-fn read_rows(alloc: Global, text: &[u8]) -> Result<Vec<PropRow>, PropErr>
-    requires { length text.now ≤ 100663296 }
+fn read_rows(alloc: Global, text: &str) -> Result<Vec<PropRow>, PropErr>
+    requires { length text.now ≤ most_bytes }
     ensures rows { IfOk result (λ rows. rows.items ≡ filter_map row_of (lines text.now)) }
     ensures alone { OnOk result (position is_bad (lines text.now) ≡ None) }
     ensures cause { IfErr result (λ e. IsLineCause e (lines text.now)) }
 {
     let mut rows = Vec::new(alloc);
-    let mut rest = text;
     let mut number = 0;
-    while !rest.is_empty() {
-        let (line, after) = next_line(rest);
+    for line in text.lines() {
         number += 1;
-        read_line(&mut rows, alloc, line, number)?;
-        rest = after;
+        read_line(&mut rows, alloc, line.as_bytes(), number)?;
     }
     Ok(rows)
 }

@@ -5,8 +5,8 @@ ghost use Rattle.rbbi_props.specs.LooseForms as spec;
 
 use std::alloc::{AllocError, Global};
 
-/// The loose form of a text: its letters in lower case, and no spaces, `_` and `-` (UAX #44, section
-/// 5.9, names the idea).
+/// The loose form of a text: its letters in lower case, and no spaces, `_` and `-` (UAX #44,
+/// section 5.9, names the idea).
 pub(crate) fn loose(alloc: Global, text: &[u8]) -> Result<Vec<u8>, AllocError>
     ensures { IfOk result (λ form. form.items ≡ spec.loose text.now) }
 {

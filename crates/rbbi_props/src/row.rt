@@ -1,13 +1,13 @@
 //! A row of a property file.
 ghost use Rattle.std.specs.Prelude.{◌≡◌, ◌<◌, ◌≤◌, length, IfOk, IfSome, IsTrue};
 ghost use Rattle.std.specs.List.{list_all};
-ghost use Rattle.std.specs.Char.{digit_value, is_ascii_hexdigit};
 ghost use Rattle.rbbi_sets.specs.Rising.{IsRange};
 ghost use Rattle.rbbi_props.specs.RowLines as spec;
 
 use crate::loose::{has_letter_or_digit, loose};
 use crate::text::{after_last, before, is_blank, place_or_len, trim};
 use rbbi_sets::CodeRange;
+use rbbi_text::hexadecimal;
 use std::alloc::{AllocError, Global};
 use std::marker::Model;
 
@@ -17,8 +17,8 @@ const LAST: u32 = 0x10_FFFF;
 /// A row of a property file: a value, and the code points that have it.
 #[derive(Debug, Drop)]
 pub(crate) struct PropRow {
-    /// The value in loose form, which is computed once, since each look-up compares it. It is bytes,
-    /// since it is only compared.
+    /// The value in loose form, which is computed once, since each look-up compares it. It is
+    /// bytes, since it is only compared.
     pub(crate) value: Vec<u8>,
     /// The code points.
     pub(crate) range: CodeRange,
@@ -98,54 +98,16 @@ fn range_of(field: &[u8]) -> Option<CodeRange>
     span_between(&field[..end], &rest[1..])
 }
 
-/// The range between two code points, where the first isn't greater than the second.
+/// The range between two code points, each of four to six hexadecimal digits, where the first isn't
+/// greater than the second.
 fn span_between(low: &[u8], high: &[u8]) -> Option<CodeRange>
     ensures value { result ≡ spec.span_between low.now high.now }
     ensures form { IfSome result IsRange }
 {
-    let low = code_point_of(low)?;
-    let high = code_point_of(high)?;
+    let low = hexadecimal(low, 4, 6, LAST)?;
+    let high = hexadecimal(high, 4, 6, LAST)?;
     if low > high {
         return None;
     }
     Some(CodeRange { low, high })
-}
-
-/// The code point that four to six hexadecimal digits write.
-fn code_point_of(text: &[u8]) -> Option<u32>
-    ensures value { result ≡ spec.code_point_of text.now }
-    ensures bound { IfSome result (λ c. c ≤ 0x10FFFF) }
-{
-    if text.len() < 4 || text.len() > 6 || !are_hex_digits(text) {
-        return None;
-    }
-    let value = hex_value(text);
-    (value <= LAST).then_some(value)
-}
-
-fn are_hex_digits(text: &[u8]) -> bool
-    ensures { result ≡ list_all is_ascii_hexdigit text.now }
-{
-    text.iter().all(|byte| byte.is_ascii_hexdigit())
-}
-
-/// The number that up to six hexadecimal digits write.
-fn hex_value(digits: &[u8]) -> u32
-    requires short { length digits.now ≤ 6 }
-    requires digits { IsTrue (list_all is_ascii_hexdigit digits.now) }
-    ensures { result ≡ spec.hex_value digits.now }
-{
-    let mut value = 0u32;
-    for byte in digits {
-        value = 16 * value + hex_digit(*byte);
-    }
-    value
-}
-
-/// The number that a hexadecimal digit of either case writes, and less than 16 for any byte.
-fn hex_digit(byte: u8) -> u32
-    ensures value { IsTrue (is_ascii_hexdigit byte) → result ≡ digit_value byte }
-    ensures bound { result < 16 }
-{
-    (byte as char).to_digit(16).unwrap_or(0)
 }

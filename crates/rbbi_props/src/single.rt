@@ -12,8 +12,8 @@ use rbbi_sets::{CodeRange, CodeSet};
 use std::alloc::{AllocError, Global};
 use unicode::sets::{Set, by_name, normalize};
 
-/// The set that a name stands for on its own: a binary property, a general category or a script. None
-/// where the name isn't well formed or nothing has it.
+/// The set that a name stands for on its own: a binary property, a general category or a script.
+/// None where the name isn't well formed or nothing has it.
 pub(crate) fn single(alloc: Global, name: &str) -> Result<Option<CodeSet>, AllocError>
     ensures { IfOk result (λ found. spec.IsSetOf found (spec.single name.now)) }
 {
@@ -45,7 +45,8 @@ fn characters(alloc: Global, text: &str) -> Result<Vec<char>, AllocError>
 /// The members of a set of the Unicode Character Database.
 fn set_of(alloc: Global, set: Set) -> Result<CodeSet, AllocError>
     ensures form { IfOk result (λ found. AreRising found) }
-    ensures members { IfOk result (λ found. (c : ℕ) → c ≤ 0x10FFFF → Has found c ↔ IsTrue (in_set set c)) }
+    ensures members { IfOk result (λ found. (c : ℕ) → c ≤ 0x10FFFF →
+        Has found c ↔ IsTrue (in_set set c)) }
 {
     let pairs = set.ranges(alloc)?;
     let ranges = code_ranges(alloc, &pairs)?;

@@ -44,15 +44,15 @@ impl PropTable {
 
     /// Adds the rows of a property file under a name. Files of one loose name are asked together.
     ///
-    /// The file has at most 100,663,296 bytes. One U+FEFF at its start isn't part of it. A line is cut
-    /// before its first `#`, and skipped where only spaces and tabs are left. Otherwise its fields
-    /// between `;` are two or more: the first is one code point or two joined by `..`, each of four to
-    /// six hexadecimal digits, at most 10FFFF, the first not greater than the second; the last is the
-    /// value, which has a letter or digit of ASCII. Fields between are ignored, as the files of the
-    /// Unicode Character Database have them (UAX #44, section 4.2).
+    /// The file has at most 100,663,296 bytes. One U+FEFF at its start isn't part of it. A line is
+    /// cut before its first `#`, and skipped where only spaces and tabs are left. Otherwise its
+    /// fields between `;` are two or more: the first is one code point or two joined by `..`, each
+    /// of four to six hexadecimal digits, at most 10FFFF, the first not greater than the second;
+    /// the last is the value, which has a letter or digit of ASCII. Fields between are ignored, as
+    /// the files of the Unicode Character Database have them (UAX #44, section 4.2).
     ///
-    /// Refuses `NotUtf8` with the first byte past the longest valid front, `BadRow` with the first line
-    /// that is neither skipped nor of this form, and `Memory`. The table is then as before.
+    /// Refuses `NotUtf8` with the first byte past the longest valid front, `BadRow` with the first
+    /// line that is neither skipped nor of this form, and `Memory`. The table is then as before.
     pub fn add(&mut self, name: &str, bytes: &[u8]) -> Result<(), PropErr>
         requires { length bytes.now ≤ 100663296 }
         ensures utf8 { OnOk result (IsUtf8 bytes.now) }
@@ -67,13 +67,14 @@ impl PropTable {
         Ok(())
     }
 
-    /// The set that a single name, or a name and a value, stand for, and None where nothing is found.
+    /// The set that a single name, or a name and a value, stand for, and None where nothing is
+    /// found.
     ///
-    /// Where a name or value isn't well formed, nothing is. For a name and a value the code points of
-    /// all rows of files of this name with this value, both compared in loose form, are found first;
-    /// then, where the name is that of the general category or of the script, what the value gives as
-    /// a single name. A single name is a binary property, a general category or a script of the
-    /// Unicode Character Database; files aren't asked for it.
+    /// Where a name or value isn't well formed, nothing is. For a name and a value the code points
+    /// of all rows of files of this name with this value, both compared in loose form, are found
+    /// first; then, where the name is that of the general category or of the script, what the value
+    /// gives as a single name. A single name is a binary property, a general category or a script
+    /// of the Unicode Character Database; files aren't asked for it.
     pub fn lookup(
         &self,
         alloc: Global,

@@ -1,10 +1,8 @@
 //! Pieces of a text, as bytes.
 ghost use Rattle.std.specs.Prelude.{◌≡◌, ◌==◌, ◌+◌, ◌<◌, ◌≤◌, ◌∷◌, length};
 ghost use Rattle.std.specs.List.{position_or_len, slice_split, before_first};
-ghost use Rattle.std.specs.Str.Lines.{lines, strip_carriage_return};
 ghost use Rattle.rbbi_props.specs.RowLines.{last_part};
 ghost use Rattle.rbbi_props.specs.RowLines as spec;
-ghost use Rattle.rbbi_props.specs.Files.{without_mark};
 
 /// The first place of the byte, and the length where it has none.
 pub(crate) fn place_or_len(text: &[u8], byte: u8) -> usize
@@ -37,42 +35,6 @@ pub(crate) fn after_last(text: &[u8], byte: u8) -> &[u8]
             return rest;
         }
         rest = &rest[place + 1..];
-    }
-}
-
-/// The first line of a text that isn't empty, and what follows it.
-pub(crate) fn next_line(text: &[u8]) -> (&[u8], &[u8])
-    requires { 0 < length text.now }
-    ensures first { lines text.now ≡ result.0.now ∷ lines result.1.now }
-    ensures shorter { length result.1.now < length text.now }
-{
-    let end = place_or_len(text, b'\n');
-    if end == text.len() {
-        return (text, &text[end..]);
-    }
-    (without_return(&text[..end]), &text[end + 1..])
-}
-
-/// A line without one carriage return at its end.
-fn without_return(line: &[u8]) -> &[u8]
-    ensures { result.now ≡ strip_carriage_return line.now }
-{
-    let len = line.len();
-    if len > 0 && line[len - 1] == b'\r' {
-        &line[..len - 1]
-    } else {
-        line
-    }
-}
-
-/// The bytes of a file without one U+FEFF at their start.
-pub(crate) fn skip_mark(bytes: &[u8]) -> &[u8]
-    ensures { result.now ≡ without_mark bytes.now }
-{
-    if bytes.starts_with(b"\xEF\xBB\xBF") {
-        &bytes[3..]
-    } else {
-        bytes
     }
 }
 

@@ -1,5 +1,6 @@
 -- What a list of ranges covers.
-use Rattle.std.proofs.Common.{◌≡◌, ℕ, ◌<◌, ◌≤◌, suc, zero, Bool, true, false, ◌||◌, List, [], ◌∷◌, ◌++◌, length, get_or, refl, ap, ◌∙◌, inl, inr, arith, ◌⊎◌, Decides}
+use Rattle.std.proofs.Common.{◌≡◌, ℕ, ◌<◌, ◌≤◌, suc, zero, Bool, true, false, ◌||◌, List, [], ◌∷◌, ◌++◌, length, get_or, refl, ap, ◌∙◌, inl, inr, arith, ◌⊎◌}
+use Rattle.std.proofs.Common.{Decides}
 use Rattle.std.proofs.lemmas.Bool.{false≢true, leb-true, le-leb, lt-leb, and_left, and_right, and_from, or_left, or_right}
 use Rattle.std.proofs.lemmas.Bool.Decides.{Decides-and, Decides-or}
 use Rattle.rbbi_model.specs.Ranges.{Range, Has}
@@ -41,7 +42,8 @@ pub covers-push : (xs : List Range) (y : Range) (c : ℕ) → covers (xs ++ y �
 covers-push xs y c = covers-append xs (y ∷ []) c ∙ ap (λ b. covers xs c || b) (or-false (is_between y.low y.high c))
 
 -- no range holds the code point
-pub covers-none : (xs : List Range) (c : ℕ) → ((k : ℕ) (d : Range) → k < length xs → (c < (get_or xs k d).low) ⊎ ((get_or xs k d).high < c)) → covers xs c ≡ false
+pub covers-none : (xs : List Range) (c : ℕ) → ((k : ℕ) (d : Range) → k < length xs → (c < (get_or xs k d).low) ⊎ ((get_or xs k d).high < c)) →
+    covers xs c ≡ false
 covers-none [] c h = refl
 covers-none (x ∷ xs) c h =
     let rest : covers xs c ≡ false = covers-none xs c (λ k d l. h (suc k) d (omega arith)) in

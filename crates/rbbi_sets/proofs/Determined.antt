@@ -15,7 +15,8 @@ low_le bound x y xs ys r n h =
     members_from y.low (y ∷ ys) x.low (omega arith, r.1, r.2, r.3) (h x.low (inl (omega arith, n)))
 
 -- a first range is no longer than that of another list that has the same first code point and its members
-high_le : (bound other : ℕ) (x y : Range) (xs ys : List Range) → AreRisingFrom bound (x ∷ xs) → AreRisingFrom other (y ∷ ys) → x.low ≡ y.low → SameMembers (y ∷ ys) (x ∷ xs) → y.high ≤ x.high
+high_le : (bound other : ℕ) (x y : Range) (xs ys : List Range) → AreRisingFrom bound (x ∷ xs) → AreRisingFrom other (y ∷ ys) → x.low ≡ y.low →
+    SameMembers (y ∷ ys) (x ∷ xs) → y.high ≤ x.high
 unfolding SameMembers
 high_le bound other x y xs ys r s e h =
     elim (cases_order x.high y.high) [

@@ -5,7 +5,8 @@ use Rattle.rbbi_sets.specs.Covers.{is_between, covers}
 use Rattle.rbbi_sets.specs.Joins.{Joins}
 use Rattle.rbbi_sets.specs.Rising.{AreRising, BeginUpTo}
 use Rattle.rbbi_sets.proofs.Coverage.{covers-push}
-use Rattle.rbbi_sets.proofs.Rise.{rising-range, last_split, last_set, rising-joined, rising-push, begin-push, begin-joined, begin-at, covers-joined, covers-inside}
+use Rattle.rbbi_sets.proofs.Rise.{rising-range, last_split, last_set, rising-joined, rising-push, begin-push, begin-joined, begin-at, covers-joined}
+use Rattle.rbbi_sets.proofs.Rise.{covers-inside}
 
 -- where the list had no range
 pub Joins-first : (xs : List Range) (y : Range) → xs ≡ [] → y.low ≤ y.high → y.high ≤ 0x10FFFF → Joins xs (xs ++ y ∷ []) (is_between y.low y.high) y.low
@@ -13,7 +14,8 @@ Joins-first xs y e a b =
     subst (λ zs. Joins zs (zs ++ y ∷ []) (is_between y.low y.high) y.low) (sym e)
     (record { members = covers-push [] y; rising = (omega arith, a, b, tt); begin = (omega arith, tt) })
 
-push_split : (xs : List Range) (l y : Range) → AreRising (xs ++ l ∷ []) → BeginUpTo (xs ++ l ∷ []) y.low → l.high + 2 ≤ y.low → y.low ≤ y.high → y.high ≤ 0x10FFFF → Joins (xs ++ l ∷ []) ((xs ++ l ∷ []) ++ y ∷ []) (is_between y.low y.high) y.low
+push_split : (xs : List Range) (l y : Range) → AreRising (xs ++ l ∷ []) → BeginUpTo (xs ++ l ∷ []) y.low → l.high + 2 ≤ y.low → y.low ≤ y.high →
+    y.high ≤ 0x10FFFF → Joins (xs ++ l ∷ []) ((xs ++ l ∷ []) ++ y ∷ []) (is_between y.low y.high) y.low
 push_split xs l y h g e a b = record {
   members = covers-push (xs ++ l ∷ []) y;
   rising = rising-push 0 xs l y h e a b;
@@ -21,13 +23,15 @@ push_split xs l y h g e a b = record {
 }
 
 -- where a gap follows the last range
-pub Joins-push : (xs : List Range) (n : ℕ) (l y : Range) → n + 1 ≡ length xs → l ≡ get_or xs n l → AreRising xs → BeginUpTo xs y.low → l.high + 2 ≤ y.low → y.low ≤ y.high → y.high ≤ 0x10FFFF → Joins xs (xs ++ y ∷ []) (is_between y.low y.high) y.low
+pub Joins-push : (xs : List Range) (n : ℕ) (l y : Range) → n + 1 ≡ length xs → l ≡ get_or xs n l → AreRising xs → BeginUpTo xs y.low → l.high + 2 ≤ y.low →
+    y.low ≤ y.high → y.high ≤ 0x10FFFF → Joins xs (xs ++ y ∷ []) (is_between y.low y.high) y.low
 Joins-push xs n l y e i h g f a b =
     let split : xs ≡ take n xs ++ l ∷ [] = last_split xs n l e ∙ ap (λ r. take n xs ++ r ∷ []) (sym i) in
     subst (λ zs. Joins zs (zs ++ y ∷ []) (is_between y.low y.high) y.low) (sym split)
     (push_split (take n xs) l y (subst AreRising split h) (subst (λ zs. BeginUpTo zs y.low) split g) f a b)
 
-joined_split : (xs : List Range) (l y : Range) (low : ℕ) → AreRising (xs ++ l ∷ []) → BeginUpTo (xs ++ l ∷ []) low → y.low ≡ l.low → l.low ≤ low → l.low ≤ l.high → low ≤ l.high + 1 → l.high ≤ y.high → y.high ≤ 0x10FFFF → Joins (xs ++ l ∷ []) (xs ++ y ∷ []) (is_between low y.high) low
+joined_split : (xs : List Range) (l y : Range) (low : ℕ) → AreRising (xs ++ l ∷ []) → BeginUpTo (xs ++ l ∷ []) low → y.low ≡ l.low → l.low ≤ low →
+    l.low ≤ l.high → low ≤ l.high + 1 → l.high ≤ y.high → y.high ≤ 0x10FFFF → Joins (xs ++ l ∷ []) (xs ++ y ∷ []) (is_between low y.high) low
 joined_split xs l y low h g e a r f b m = record {
   members = λ c. covers-joined xs l y low c e a f b r;
   rising = rising-joined 0 xs l y h e b m;
@@ -35,7 +39,8 @@ joined_split xs l y low h g e a r f b m = record {
 }
 
 -- where the last range is overlapped or touched, and ends later now
-pub Joins-joined : (xs : List Range) (n : ℕ) (l y : Range) (low : ℕ) → n + 1 ≡ length xs → l ≡ get_or xs n l → AreRising xs → BeginUpTo xs low → y.low ≡ l.low → low ≤ l.high + 1 → l.high ≤ y.high → y.high ≤ 0x10FFFF → Joins xs (set xs n y) (is_between low y.high) low
+pub Joins-joined : (xs : List Range) (n : ℕ) (l y : Range) (low : ℕ) → n + 1 ≡ length xs → l ≡ get_or xs n l → AreRising xs → BeginUpTo xs low →
+    y.low ≡ l.low → low ≤ l.high + 1 → l.high ≤ y.high → y.high ≤ 0x10FFFF → Joins xs (set xs n y) (is_between low y.high) low
 Joins-joined xs n l y low e i h g s f b m =
     let split : xs ≡ take n xs ++ l ∷ [] = last_split xs n l e ∙ ap (λ r. take n xs ++ r ∷ []) (sym i) in
     let inside = rising-range 0 xs h n l (omega arith) in
@@ -48,7 +53,8 @@ Joins-joined xs n l y low e i h g s f b m =
     subst (λ zs. Joins xs zs (is_between low y.high) low) (sym (last_set xs n y e)) of_old
 
 -- where the last range holds all that is added
-pub Joins-inside : (xs : List Range) (n : ℕ) (l : Range) (low high : ℕ) → n + 1 ≡ length xs → l ≡ get_or xs n l → AreRising xs → BeginUpTo xs low → high ≤ l.high → Joins xs xs (is_between low high) low
+pub Joins-inside : (xs : List Range) (n : ℕ) (l : Range) (low high : ℕ) → n + 1 ≡ length xs → l ≡ get_or xs n l → AreRising xs → BeginUpTo xs low →
+    high ≤ l.high → Joins xs xs (is_between low high) low
 Joins-inside xs n l low high e i h g f = record {
   members = λ c. covers-inside xs n l low high c (omega arith) (begin-at xs low g n l (omega arith)) (subst (λ r. high ≤ r.high) i f);
   rising = h;
@@ -60,13 +66,15 @@ or-false true = refl
 or-false false = refl
 
 -- where nothing is added
-pub Joins-nothing : (xs : List Range) (kept : Bool) (low high : ℕ) → kept ≡ false → AreRising xs → BeginUpTo xs low → Joins xs xs (λ c. kept && is_between low high c) low
+pub Joins-nothing : (xs : List Range) (kept : Bool) (low high : ℕ) → kept ≡ false → AreRising xs → BeginUpTo xs low →
+    Joins xs xs (λ c. kept && is_between low high c) low
 Joins-nothing xs kept low high e h g =
     subst (λ b. Joins xs xs (λ c. b && is_between low high c) low) (sym e)
     (record { members = λ c. or-false (covers xs c); rising = h; begin = g })
 
 -- where the added code points are kept
-pub Joins-kept : (xs ys : List Range) (kept : Bool) (low high : ℕ) → kept ≡ true → Joins xs ys (is_between low high) low → Joins xs ys (λ c. kept && is_between low high c) low
+pub Joins-kept : (xs ys : List Range) (kept : Bool) (low high : ℕ) → kept ≡ true → Joins xs ys (is_between low high) low →
+    Joins xs ys (λ c. kept && is_between low high c) low
 Joins-kept xs ys kept low high e h =
     subst (λ b. Joins xs ys (λ c. b && is_between low high c) low) (sym e)
     (record { members = h.members; rising = h.rising; begin = h.begin })

@@ -28,13 +28,15 @@ minus_members xs ys zs e c =
 pub one_members : (low high c : ℕ) → Has (record { low = low; high = high } ∷ []) c ↔ ((low ≤ c) × (c ≤ high))
 one_members low high c = (λ h. elim h [ inl inside ↦ inside | inr none ↦ absurd none ], λ h. inl h)
 
-pub complement_members : (ys zs : List Range) → ((c : ℕ) → covers zs c ≡ (covers (record { low = 0; high = 0x10FFFF } ∷ []) c && not (covers ys c))) → (c : ℕ) → Has zs c ↔ ((c ≤ 0x10FFFF) × ¬ Has ys c)
+pub complement_members : (ys zs : List Range) → ((c : ℕ) → covers zs c ≡ (covers (record { low = 0; high = 0x10FFFF } ∷ []) c && not (covers ys c))) →
+    (c : ℕ) → Has zs c ↔ ((c ≤ 0x10FFFF) × ¬ Has ys c)
 complement_members ys zs e c =
     let minus = minus_members (record { low = 0; high = 0x10FFFF } ∷ []) ys zs e c in
     let one = one_members 0 0x10FFFF c in
     (λ h. ((one.0 (minus.0 h).0).1, (minus.0 h).1), λ h. minus.1 (one.1 (omega arith, h.0), h.1))
 
-pub without_members : (low high : ℕ) (xs zs : List Range) → ((c : ℕ) → covers zs c ≡ (covers xs c && not (covers (record { low = low; high = high } ∷ []) c))) → (c : ℕ) → Has zs c ↔ (Has xs c × ¬ ((low ≤ c) × (c ≤ high)))
+pub without_members : (low high : ℕ) (xs zs : List Range) →
+    ((c : ℕ) → covers zs c ≡ (covers xs c && not (covers (record { low = low; high = high } ∷ []) c))) → (c : ℕ) → Has zs c ↔ (Has xs c × ¬ ((low ≤ c) × (c ≤ high)))
 without_members low high xs zs e c =
     let minus = minus_members xs (record { low = low; high = high } ∷ []) zs e c in
     let one = one_members low high c in

@@ -15,7 +15,8 @@ covers-past xs at next c h e l =
     covers-none xs c (λ k d m. inr (omega (arith, h.0 k d (omega arith) (omega arith))))
 
 -- between the code point and the next range
-pub covers-gap : (xs : List Range) (at next c : ℕ) (d : Range) → AreRising xs → IsNextRange xs at next → next < length xs → at ≤ c → c < (get_or xs next d).low → covers xs c ≡ false
+pub covers-gap : (xs : List Range) (at next c : ℕ) (d : Range) → AreRising xs → IsNextRange xs at next → next < length xs → at ≤ c →
+    c < (get_or xs next d).low → covers xs c ≡ false
 covers-gap xs at next c d r h n l g = covers-none xs c outside where
   outside : (k : ℕ) (e : Range) → k < length xs → (c < (get_or xs k e).low) ⊎ ((get_or xs k e).high < c)
   outside k e m =
@@ -37,7 +38,8 @@ covers-gap xs at next c d r h n l g = covers-none xs c outside where
       read k e same = ap (λ i. get_or xs i e) same ∙ default e
 
 -- the next range still ends at a later code point or past it
-pub next_stays : (xs : List Range) (at next : ℕ) (d : Range) → AreRising xs → AllWithin (λ (range : Range). range.high < at) xs 0 next → next < length xs → at ≤ (get_or xs next d).high → IsNextRange xs at next
+pub next_stays : (xs : List Range) (at next : ℕ) (d : Range) → AreRising xs → AllWithin (λ (range : Range). range.high < at) xs 0 next → next < length xs →
+    at ≤ (get_or xs next d).high → IsNextRange xs at next
 next_stays xs at next d r h n l = (h, later) where
   later : (k : ℕ) (e : Range) → next ≤ k → k < length xs → at ≤ (get_or xs k e).high
   later k e m b =
@@ -50,7 +52,8 @@ next_stays xs at next d r h n l = (h, later) where
       ]
 
 -- the next range ends right before a later code point, so the one after it is the next
-pub next_moves : (xs : List Range) (at next : ℕ) (d : Range) → AreRising xs → AllWithin (λ (range : Range). range.high < at) xs 0 next → next < length xs → (get_or xs next d).high < at → at ≤ (get_or xs next d).high + 1 → IsNextRange xs at (next + 1)
+pub next_moves : (xs : List Range) (at next : ℕ) (d : Range) → AreRising xs → AllWithin (λ (range : Range). range.high < at) xs 0 next → next < length xs →
+    (get_or xs next d).high < at → at ≤ (get_or xs next d).high + 1 → IsNextRange xs at (next + 1)
 next_moves xs at next d r h n l m = (ended, later) where
   ended : (k : ℕ) (e : Range) → 0 ≤ k → k < next + 1 → (get_or xs k e).high < at
   ended k e z b =

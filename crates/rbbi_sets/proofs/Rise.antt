@@ -1,5 +1,6 @@
 -- Lists of ranges that rise, and neither overlap nor touch.
-use Rattle.std.proofs.Common.{◌≡◌, ℕ, ◌+◌, ◌<◌, ◌≤◌, suc, zero, Bool, true, false, ◌||◌, List, [], ◌∷◌, ◌++◌, length, get_or, set, take, refl, ap, sym, ◌∙◌, arith}
+use Rattle.std.proofs.Common.{◌≡◌, ℕ, ◌+◌, ◌<◌, ◌≤◌, suc, zero, Bool, true, false, ◌||◌, List, [], ◌∷◌, ◌++◌, length, get_or, set, take, refl, ap, sym, ◌∙◌}
+use Rattle.std.proofs.Common.{arith}
 use Rattle.std.proofs.lemmas.List.{set_split, drop_all, take_more, take_all}
 use Rattle.std.proofs.lemmas.Bool.Decides.{nat_tests}
 use Rattle.rbbi_model.specs.Ranges.{Range}
@@ -14,12 +15,14 @@ rising-bound bound (x ∷ xs) h (suc k) d l =
     let rest : x.high + 2 ≤ (get_or xs k d).low = rising-bound (x.high + 2) xs h.3 k d (omega arith) in
     omega (arith, h.0, h.1)
 
-pub rising-range : (bound : ℕ) (xs : List Range) → AreRisingFrom bound xs → (k : ℕ) (d : Range) → k < length xs → ((get_or xs k d).low ≤ (get_or xs k d).high) × ((get_or xs k d).high ≤ 0x10FFFF)
+pub rising-range : (bound : ℕ) (xs : List Range) → AreRisingFrom bound xs → (k : ℕ) (d : Range) → k < length xs →
+    ((get_or xs k d).low ≤ (get_or xs k d).high) × ((get_or xs k d).high ≤ 0x10FFFF)
 rising-range bound [] h k d l = absurd (omega arith)
 rising-range bound (x ∷ xs) h zero d l = (h.1, h.2)
 rising-range bound (x ∷ xs) h (suc k) d l = rising-range (x.high + 2) xs h.3 k d (omega arith)
 
-pub rising-apart : (bound : ℕ) (xs : List Range) → AreRisingFrom bound xs → (i j : ℕ) (d : Range) → i < j → j < length xs → (get_or xs i d).high + 2 ≤ (get_or xs j d).low
+pub rising-apart : (bound : ℕ) (xs : List Range) → AreRisingFrom bound xs → (i j : ℕ) (d : Range) → i < j → j < length xs →
+    (get_or xs i d).high + 2 ≤ (get_or xs j d).low
 rising-apart bound [] h i j d l m = absurd (omega arith)
 rising-apart bound (x ∷ xs) h i zero d l m = absurd (omega arith)
 rising-apart bound (x ∷ xs) h zero (suc j) d l m = rising-bound (x.high + 2) xs h.3 j d (omega arith)
@@ -33,12 +36,14 @@ pub last_set : (xs : List Range) (n : ℕ) (y : Range) → n + 1 ≡ length xs �
 last_set xs n y e = set_split xs n y (omega arith) ∙ ap (λ ys. take n xs ++ y ∷ ys) (drop_all (suc n) xs (omega arith))
 
 -- the last range may end later
-pub rising-joined : (bound : ℕ) (xs : List Range) (l y : Range) → AreRisingFrom bound (xs ++ l ∷ []) → y.low ≡ l.low → l.high ≤ y.high → y.high ≤ 0x10FFFF → AreRisingFrom bound (xs ++ y ∷ [])
+pub rising-joined : (bound : ℕ) (xs : List Range) (l y : Range) → AreRisingFrom bound (xs ++ l ∷ []) → y.low ≡ l.low → l.high ≤ y.high → y.high ≤ 0x10FFFF →
+    AreRisingFrom bound (xs ++ y ∷ [])
 rising-joined bound [] l y h e a b = (omega (arith, h.0), omega (arith, h.1), b, tt)
 rising-joined bound (x ∷ xs) l y h e a b = (h.0, h.1, h.2, rising-joined (x.high + 2) xs l y h.3 e a b)
 
 -- a range may follow that begins past the last range's end, with a gap
-pub rising-push : (bound : ℕ) (xs : List Range) (l y : Range) → AreRisingFrom bound (xs ++ l ∷ []) → l.high + 2 ≤ y.low → y.low ≤ y.high → y.high ≤ 0x10FFFF → AreRisingFrom bound ((xs ++ l ∷ []) ++ y ∷ [])
+pub rising-push : (bound : ℕ) (xs : List Range) (l y : Range) → AreRisingFrom bound (xs ++ l ∷ []) → l.high + 2 ≤ y.low → y.low ≤ y.high → y.high ≤ 0x10FFFF →
+    AreRisingFrom bound ((xs ++ l ∷ []) ++ y ∷ [])
 rising-push bound [] l y h e a b = (h.0, h.1, h.2, (e, a, b, tt))
 rising-push bound (x ∷ xs) l y h e a b = (h.0, h.1, h.2, rising-push (x.high + 2) xs l y h.3 e a b)
 
@@ -60,14 +65,16 @@ begin-at (x ∷ xs) c h zero d l = h.0
 begin-at (x ∷ xs) c h (suc k) d l = begin-at xs c h.1 k d (omega arith)
 
 -- two ranges that overlap or touch are one
-joined_is : (from mid low high c : ℕ) → from ≤ low → low ≤ mid + 1 → mid ≤ high → from ≤ mid → is_between from high c ≡ (is_between from mid c || is_between low high c)
+joined_is : (from mid low high c : ℕ) → from ≤ low → low ≤ mid + 1 → mid ≤ high → from ≤ mid →
+    is_between from high c ≡ (is_between from mid c || is_between low high c)
 joined_is from mid low high c a b e f = grind (arith, nat_tests)
 
 or_assoc : (x y z : Bool) → ((x || y) || z) ≡ (x || (y || z))
 or_assoc true y z = refl
 or_assoc false y z = refl
 
-pub covers-joined : (xs : List Range) (l y : Range) (low c : ℕ) → y.low ≡ l.low → l.low ≤ low → low ≤ l.high + 1 → l.high ≤ y.high → l.low ≤ l.high → covers (xs ++ y ∷ []) c ≡ (covers (xs ++ l ∷ []) c || is_between low y.high c)
+pub covers-joined : (xs : List Range) (l y : Range) (low c : ℕ) → y.low ≡ l.low → l.low ≤ low → low ≤ l.high + 1 → l.high ≤ y.high → l.low ≤ l.high →
+    covers (xs ++ y ∷ []) c ≡ (covers (xs ++ l ∷ []) c || is_between low y.high c)
 covers-joined xs l y low c e a b f g =
     covers-push xs y c
     ∙ ap (λ from. covers xs c || is_between from y.high c) e
@@ -81,7 +88,8 @@ or_absorbed false true h = h refl
 or_absorbed false false h = refl
 
 -- a range inside another adds nothing
-pub covers-inside : (xs : List Range) (k : ℕ) (d : Range) (low high c : ℕ) → k < length xs → (get_or xs k d).low ≤ low → high ≤ (get_or xs k d).high → covers xs c ≡ (covers xs c || is_between low high c)
+pub covers-inside : (xs : List Range) (k : ℕ) (d : Range) (low high c : ℕ) → k < length xs → (get_or xs k d).low ≤ low → high ≤ (get_or xs k d).high →
+    covers xs c ≡ (covers xs c || is_between low high c)
 covers-inside xs k d low high c l a b =
     or_absorbed _ _ (λ t.
     let inside : (low ≤ c) × (c ≤ high) = (Decides-is_between low high c).0 t in

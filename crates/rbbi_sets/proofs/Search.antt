@@ -15,11 +15,13 @@ ends_rise xs r i j d l m =
       | inr other ↦ omega (arith, rising-apart 0 xs r i j d (omega arith) m, (rising-range 0 xs r j d m).0)
     ]
 
-pub next_from_point : (xs : List Range) (c next : ℕ) → IsPartitionPoint (λ (range : Range). ltb range.high c ≡ true) (λ (range : Range). ltb range.high c ≡ false) xs next → IsNextRange xs c next
+pub next_from_point : (xs : List Range) (c next : ℕ) →
+    IsPartitionPoint (λ (range : Range). ltb range.high c ≡ true) (λ (range : Range). ltb range.high c ≡ false) xs next → IsNextRange xs c next
 next_from_point xs c next h =
     (λ k d l m. ltb-true _ _ (h.0 k d l m), λ k d l m. ltb-false _ _ (h.1 k d l m))
 
-pub has_at_next : (xs : List Range) (c next low : ℕ) (d : Range) → AreRising xs → IsNextRange xs c next → next < length xs → low ≡ (get_or xs next d).low → (leb low c ≡ true) ↔ Has xs c
+pub has_at_next : (xs : List Range) (c next low : ℕ) (d : Range) → AreRising xs → IsNextRange xs c next → next < length xs → low ≡ (get_or xs next d).low →
+    (leb low c ≡ true) ↔ Has xs c
 has_at_next xs c next low d r h l e = (found, missed) where
   found : leb low c ≡ true → Has xs c
   found t =

@@ -37,7 +37,8 @@ pub permuted_members : (xs ys : List Range) (c : ℕ) → IsPermutation xs ys �
 permuted_members xs ys c p = (moved ys xs c (IsPermutation-sym xs ys p), moved xs ys c p)
 
 -- one range more of a list
-pub covers-take_more : (xs : List Range) (k : ℕ) (d : Range) (c : ℕ) → k < length xs → covers (take (k + 1) xs) c ≡ (covers (take k xs) c || is_between (get_or xs k d).low (get_or xs k d).high c)
+pub covers-take_more : (xs : List Range) (k : ℕ) (d : Range) (c : ℕ) → k < length xs →
+    covers (take (k + 1) xs) c ≡ (covers (take k xs) c || is_between (get_or xs k d).low (get_or xs k d).high c)
 covers-take_more xs k d c l = ap (λ ys. covers ys c) (take_more xs k d l) ∙ covers-push (take k xs) (get_or xs k d) c
 
 -- the joined ranges cover what the first ranges of a list do, and none begins past a later one
@@ -50,7 +51,9 @@ pub IsJoined-none : (sorted joined : List Range) → joined ≡ [] → IsJoined 
 IsJoined-none sorted joined e =
     subst (λ ranges. IsJoined sorted ranges 0) (sym e) (record { members = λ c. refl; rising = tt; begin = λ k d l m. tt })
 
-pub IsJoined-more : (sorted joined more : List Range) (count : ℕ) (d : Range) (low high : ℕ) → IsNonDecreasingBy (λ (range : Range). range.low) sorted → count < length sorted → low ≡ (get_or sorted count d).low → high ≡ (get_or sorted count d).high → IsJoined sorted joined count → Joins joined more (is_between low high) low → IsJoined sorted more (count + 1)
+pub IsJoined-more : (sorted joined more : List Range) (count : ℕ) (d : Range) (low high : ℕ) → IsNonDecreasingBy (λ (range : Range). range.low) sorted →
+    count < length sorted → low ≡ (get_or sorted count d).low → high ≡ (get_or sorted count d).high → IsJoined sorted joined count →
+    Joins joined more (is_between low high) low → IsJoined sorted more (count + 1)
 IsJoined-more sorted joined more count d low high up l low_is high_is h joins = record {
   members = λ c.
       joins.members c

@@ -94,7 +94,9 @@ keeps_nothing Union = refl
 keeps_nothing Intersect = refl
 keeps_nothing Minus = refl
 
-pub IsSwept-all : (operation : Operation) (left right kept : List Range) (next_left next_right at : ℕ) → IsSwept operation left right kept next_left next_right at → length left ≤ next_left → length right ≤ next_right → (c : ℕ) → covers kept c ≡ keeps operation (covers left c) (covers right c)
+pub IsSwept-all : (operation : Operation) (left right kept : List Range) (next_left next_right at : ℕ) →
+    IsSwept operation left right kept next_left next_right at → length left ≤ next_left → length right ≤ next_right → (c : ℕ) →
+    covers kept c ≡ keeps operation (covers left c) (covers right c)
 IsSwept-all operation left right kept next_left next_right at h l r c =
     elim (cases_lt c at) [
       | inl before ↦ h.below c before

@@ -33,7 +33,7 @@ pub(crate) fn join_last(ranges: &mut Vec<CodeRange>, low: u32, high: u32) -> Res
     Ok(())
 }
 
-/// The same where `kept` says so, and nothing otherwise.
+/// The range where `kept` says so, and nothing otherwise.
 pub(crate) fn join_kept(
     ranges: &mut Vec<CodeRange>,
     kept: bool,

@@ -1,7 +1,8 @@
 //! A range of code points.
 use std::marker::Model;
 
-/// The code points from `low` to `high`, both counted. Contracts see it as a `Range` of `rbbi_model`.
+/// The code points from `low` to `high`, both counted. Contracts see it as a `Range` of
+/// `rbbi_model`.
 #[derive(Clone, Copy, Debug, PartialEq, Eq)]
 pub struct CodeRange {
     pub low: u32,

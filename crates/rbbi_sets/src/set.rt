@@ -62,8 +62,8 @@ impl CodeSet {
         Ok(CodeSet { ranges })
     }
 
-    /// The code points of many ranges, which may come in any order, overlap and touch. It sorts them
-    /// once and joins them in one pass.
+    /// The code points of many ranges, which may come in any order, overlap and touch. It sorts
+    /// them once and joins them in one pass.
     pub fn from_ranges(alloc: Global, ranges: Vec<CodeRange>) -> Result<CodeSet, AllocError>
         requires { All IsRange ranges.items }
         ensures members { IfOk result (λ set. (c : ℕ) → Has set c ↔ Has ranges.items c) }

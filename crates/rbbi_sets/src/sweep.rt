@@ -79,7 +79,8 @@ fn stretch(ranges: &[CodeRange], next: usize, at: u32) -> (bool, u32)
     ensures past { at < result.1 }
     ensures bound { result.1 ≤ 0x110000 }
     ensures same { (c : ℕ) → at ≤ c → c < result.1 → covers ranges.now c ≡ result.0 }
-    ensures short { (d : Range) → next < length ranges.now → result.1 ≤ (slice_index_or ranges.now next d).high + 1 }
+    ensures short { (d : Range) → next < length ranges.now →
+        result.1 ≤ (slice_index_or ranges.now next d).high + 1 }
 {
     if next == ranges.len() {
         return (false, END);
@@ -92,13 +93,14 @@ fn stretch(ranges: &[CodeRange], next: usize, at: u32) -> (bool, u32)
     }
 }
 
-/// The number of the first range that doesn't end before `at`, where that of an earlier code point is
-/// `next` and no more than one range ends between.
+/// The number of the first range that doesn't end before `at`, where that of an earlier code point
+/// is `next` and no more than one range ends between.
 fn skip_ended(ranges: &[CodeRange], next: usize, at: u32) -> usize
     requires rising { AreRising ranges.now }
     requires within { next ≤ length ranges.now }
     requires ended { AllWithin (λ range. range.high < at) ranges.now 0 next }
-    requires short { (d : Range) → next < length ranges.now → at ≤ (slice_index_or ranges.now next d).high + 1 }
+    requires short { (d : Range) → next < length ranges.now →
+        at ≤ (slice_index_or ranges.now next d).high + 1 }
     ensures within { result ≤ length ranges.now }
     ensures place { IsNextRange ranges.now at result }
 {

@@ -1,14 +1,11 @@
 -- The characters of UTF-8 are a text.
-use Rattle.std.proofs.Common.{◌≡◌, ℕ, ◌<◌, ◌≤◌, ◌&&◌, Bool, true, false, List, [], ◌∷◌, refl, arith, ⊎_elim}
+use Rattle.std.proofs.Common.{◌≡◌, ℕ, ◌<◌, ◌≤◌, true, List, [], ◌∷◌, arith, ⊎_elim}
+use Rattle.std.proofs.lemmas.Bool.{and_parts}
 use Rattle.std.specs.Prelude.{IsUtf8, chars}
 use Rattle.std.specs.Str.{all_scalars}
 use Rattle.std.proofs.Math.Utf8.{scalar, scalar_cases}
 use Rattle.std.proofs.lemmas.Str.{scalars-chars}
 use Rattle.rbbi_model.specs.Words.{IsCharacter, IsText}
-
-both : (a b : Bool) → (a && b) ≡ true → (a ≡ true) × (b ≡ true)
-both true b e = (refl, e)
-both false b e = cc
 
 IsCharacter-from_scalar : (c : ℕ) → scalar c ≡ true → IsCharacter c
 IsCharacter-from_scalar c e =
@@ -21,7 +18,7 @@ IsCharacter-from_scalar c e =
 pub IsText-from_scalars : (cs : List ℕ) → all_scalars cs ≡ true → IsText cs
 IsText-from_scalars [] e = tt
 IsText-from_scalars (c ∷ cs) e =
-    let h = both (scalar c) (all_scalars cs) e in (IsCharacter-from_scalar c h.0, IsText-from_scalars cs h.1)
+    let h = and_parts (scalar c) (all_scalars cs) e in (IsCharacter-from_scalar c h.0, IsText-from_scalars cs h.1)
 
 -- what UTF-8 spells is a text
 pub IsText-chars : (bytes : List ℕ) → IsUtf8 bytes → IsText (chars bytes)

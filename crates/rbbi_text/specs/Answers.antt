@@ -1,8 +1,8 @@
 -- What the calls that make or change a text answer, by cases on the answer.
 use Rattle.std.specs.Prelude.{◌≡◌, ◌<◌, ◌≤◌, ◌+◌, ℕ, List, length, Result, Ok, Err, IsUtf8, chars}
-use Rattle.std.specs.Str.Lossy.{utf8_valid_len}
 use Rattle.rbbi_model.specs.Words.{most_characters}
 use Rattle.rbbi_model.specs.Scripts.{splice}
+use Rattle.rbbi_text.specs.Bytes.{IsNotUtf8At}
 use Rattle.rbbi_text.specs.declared.error.TextErr.{TextErr}
 use Rattle.rbbi_text.specs.declared.error.TextErr.TheVariants as text
 use Rattle.rbbi_text.specs.declared.error.RawErr.{RawErr}
@@ -19,7 +19,7 @@ TakesText characters (Err text.Memory) = Unit {0}
 -- what reading these bytes as a text answers
 abbrev pub ReadsText : List ℕ → Result (List ℕ) RawErr → Type 0
 ReadsText bytes (Ok x) = IsUtf8 bytes × (x ≡ chars bytes) × (length (chars bytes) ≤ most_characters)
-ReadsText bytes (Err (raw.NotUtf8 at)) = ¬ IsUtf8 bytes × (at ≡ utf8_valid_len bytes)
+ReadsText bytes (Err (raw.NotUtf8 at)) = IsNotUtf8At bytes at
 ReadsText bytes (Err raw.TooManyChars) = IsUtf8 bytes × (most_characters < length (chars bytes))
 ReadsText bytes (Err raw.Memory) = Unit {0}
 

@@ -1,4 +1,5 @@
 pub mod Texts
+pub mod Bytes
+pub mod Numbers
 pub mod Answers
 pub mod Errors
-pub mod Marks

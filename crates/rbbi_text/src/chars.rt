@@ -29,8 +29,8 @@ pub trait EditText: Chars {
     /// Puts the characters of `insert` in place of `remove` characters from the place `at`, from 0.
     ///
     /// Refuses `Outside` where the text has fewer than `at + remove` characters, and otherwise
-    /// `TooLong` where it would have more than 16,777,216 characters. After a refusal the text is as
-    /// before.
+    /// `TooLong` where it would have more than 16,777,216 characters. After a refusal the text is
+    /// as before.
     fn replace(&mut self, at: u32, remove: u32, insert: &str) -> Result<(), EditErr>
         ensures { Replaces (Self.characters self.old) at remove (chars insert.now) result
             (Self.characters self.new) };

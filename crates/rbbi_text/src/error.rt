@@ -22,7 +22,8 @@ pub enum TextErr {
 /// Why the bytes of a file are not taken as a text.
 #[derive(Debug, Drop, Error)]
 pub enum RawErr {
-    /// They are not UTF-8. The number is that of the first byte past the longest valid front, from 0.
+    /// They are not UTF-8. The number is that of the first byte past the longest valid front, from
+    /// 0.
     #[error("the bytes from {0} on are not UTF-8")]
     NotUtf8(u32),
     /// They are UTF-8, of more than 16,777,216 characters.

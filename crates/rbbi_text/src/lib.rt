@@ -4,9 +4,10 @@
 //! [`Chars::char_at`] alone and bytes from [`Raw::bytes`] alone, and both count what they give.
 #![tactic(auto)]
 
+mod bytes;
 mod chars;
 mod error;
-mod mark;
+mod numbers;
 mod plain;
 mod raw;
 mod steps;
@@ -14,9 +15,10 @@ mod steps;
 mod tests;
 mod word;
 
+pub use bytes::{MOST_BYTES, utf8_text, without_mark};
 pub use chars::{Chars, EditText};
 pub use error::{EditErr, RawErr, TextErr};
-pub use mark::without_mark;
+pub use numbers::{decimal, hexadecimal, number_of_characters};
 pub use plain::PlainText;
 pub use raw::Raw;
 pub use steps::Steps;

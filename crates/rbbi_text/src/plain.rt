@@ -1,10 +1,22 @@
 //! A text in one flat list.
-ghost use Rattle.std.specs.Prelude.{◌≡◌, ◌<◌, ◌≤◌, IfOk, MatchOption, length, chars};
+ghost use Rattle.std.specs.Prelude.{
+  ◌≡◌,
+  ◌<◌,
+  ◌≤◌,
+  IfOk,
+  OnOk,
+  OnErr,
+  MatchOption,
+  length,
+  chars,
+};
+ghost use Rattle.std.specs.List.{splice};
 ghost use Rattle.rbbi_model.specs.Words.{most_characters};
+ghost use Rattle.rbbi_text.specs.Bytes.{most_bytes};
 ghost use Rattle.rbbi_text.specs.Texts.{IsShortText};
 ghost use Rattle.rbbi_text.specs.Answers.{TakesText, ReadsText};
 
-use crate::{Chars, Raw, RawErr, Steps, TextErr};
+use crate::{Chars, EditErr, EditText, Raw, RawErr, Steps, TextErr, utf8_text};
 use std::alloc::{AllocError, Global};
 use std::fmt;
 use std::marker::Model;
@@ -76,12 +88,12 @@ impl PlainText {
     /// Refuses `NotUtf8` where the bytes are not UTF-8, at the first byte past the longest valid
     /// front; otherwise `TooManyChars` where they spell more than 16,777,216 characters.
     pub fn from_raw(alloc: Global, raw: &Raw) -> Result<PlainText, RawErr>
-        requires { length raw.now ≤ 100663296 }
+        requires { length raw.now ≤ most_bytes }
         ensures { ReadsText raw.now result }
     {
-        let text = match simdutf8::compat::from_utf8(raw.uncounted()) {
+        let text = match utf8_text(raw.uncounted()) {
             Ok(text) => text,
-            Err(fault) => return Err(RawErr::NotUtf8(fault.valid_up_to() as u32)),
+            Err(at) => return Err(RawErr::NotUtf8(at)),
         };
         match decoded(alloc, text)? {
             Some(items) => Ok(PlainText { items }),
@@ -100,5 +112,40 @@ impl Chars for PlainText {
     fn char_at<L: Ledger>(&self, i: u32, steps: &mut Steps<L>) -> char {
         steps.tick();
         self.items[i as usize]
+    }
+}
+
+/// The number of characters of a string.
+fn count(text: &str) -> usize
+    ensures { result ≡ length (chars text.now) }
+{
+    text.chars().count()
+}
+
+/// Puts the characters of a string in place of those from one place to another. It takes all memory
+/// before it changes anything.
+fn put(items: &mut Vec<char>, start: usize, end: usize, text: &str) -> Result<(), AllocError>
+    requires forward { start ≤ end }
+    requires within { end ≤ length items.old.items }
+    ensures ok { OnOk result (items.new.items ≡ splice items.old.items start end (chars text.now)) }
+    ensures err { OnErr result (items.new.items ≡ items.old.items) }
+{
+    let _removed = items.splice(start..end, text.chars())?;
+    Ok(())
+}
+
+impl EditText for PlainText {
+    fn replace(&mut self, at: u32, remove: u32, insert: &str) -> Result<(), EditErr> {
+        let len = self.items.len();
+        let start = at as usize;
+        let end = start + remove as usize;
+        if end > len {
+            return Err(EditErr::Outside);
+        }
+        if count(insert) > MOST_CHARACTERS - (len - (end - start)) {
+            return Err(EditErr::TooLong);
+        }
+        put(&mut self.items, start, end, insert)?;
+        Ok(())
     }
 }

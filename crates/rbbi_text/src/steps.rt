@@ -25,10 +25,11 @@ impl<L: Ledger> Model for Steps<L> {
 impl<L: Ledger> Steps<L> {
     /// A counter that stands at 0, on a new ledger.
     ///
-    /// A function that makes one is generic over the ledger and takes the blank, with these clauses as
-    /// its own. Who calls it passes the ledger `Brand` and a `Blank::new(1)`, and picks the blank's name
-    /// and parts for the ledger.
-    pub fn new(blank: Blank) -> Steps<L>
+    /// It takes the runtime, which only `main` and tests have: what a library reads, it counts on
+    /// the counter that it is passed. A function that makes a counter is generic over the ledger
+    /// and takes the blank, with these clauses as its own. Who calls it passes the ledger `Brand`
+    /// and a `Blank::new(1)`, and picks the blank's name and parts for the ledger.
+    pub fn new(_runtime: &HostRuntime, blank: Blank) -> Steps<L>
         requires name { blank.name ≡ L.name }
         requires parts { blank.parts ≡ L.parts }
         requires some { 0 < blank.parts }

@@ -1,20 +1,23 @@
 //! Each public call once, on values from outside.
 ghost use Rattle.std.specs.Prelude.{◌≡◌, ◌<◌, IfOk};
 
-use crate::{Chars, EditErr, PlainText, Raw, RawErr, Steps, TextErr, Word, without_mark};
+use crate::{
+    Chars, EditErr, EditText, PlainText, Raw, RawErr, Steps, TextErr, Word, decimal, hexadecimal,
+    without_mark,
+};
 use std::alloc::{AllocError, Global};
 use std::marker::Brand;
 use std::sync::ledger::{Blank, Ledger};
 use std::test::Fail;
 
 /// The characters of a text, read one by one.
-fn shown<L: Ledger>(alloc: Global, text: &PlainText, blank: Blank) -> Result<String, AllocError>
+fn shown<L: Ledger>(rt: &HostRuntime, text: &PlainText, blank: Blank) -> Result<String, AllocError>
     requires name { blank.name ≡ L.name }
     requires parts { blank.parts ≡ L.parts }
     requires some { 0 < blank.parts }
 {
-    let mut steps = Steps::<L>::new(blank);
-    let mut shown = String::new(alloc);
+    let mut steps = Steps::<L>::new(rt, blank);
+    let mut shown = String::new(rt.alloc());
     for i in 0..text.len() {
         shown.push(text.char_at(i, &mut steps))?;
     }
@@ -22,13 +25,13 @@ fn shown<L: Ledger>(alloc: Global, text: &PlainText, blank: Blank) -> Result<Str
 }
 
 /// The bytes of a file, as a copy.
-fn copied<L: Ledger>(alloc: Global, raw: &Raw, blank: Blank) -> Result<Vec<u8>, AllocError>
+fn copied<L: Ledger>(rt: &HostRuntime, raw: &Raw, blank: Blank) -> Result<Vec<u8>, AllocError>
     requires name { blank.name ≡ L.name }
     requires parts { blank.parts ≡ L.parts }
     requires some { 0 < blank.parts }
 {
-    let mut steps = Steps::<L>::new(blank);
-    raw.bytes(&mut steps).to_vec(alloc)
+    let mut steps = Steps::<L>::new(rt, blank);
+    raw.bytes(&mut steps).to_vec(rt.alloc())
 }
 
 fn raw_of(alloc: Global, bytes: &[u8]) -> Result<Raw, AllocError>
@@ -43,7 +46,7 @@ fn texts_of_strings(rt: HostRuntime) -> Result<(), Fail> {
     for text in ["", "a", "caf\u{e9}", "\u{feff}\u{4e00}\u{1f1e6}b"] {
         let plain = PlainText::new(alloc, text)?;
         assert_eq!(rt; plain.len() as usize, text.chars().count(), "of {text:?}");
-        let shown = shown::<Brand>(alloc, &plain, Blank::new(1))?;
+        let shown = shown::<Brand>(&rt, &plain, Blank::new(1))?;
         assert_eq!(rt; shown.as_str(), text);
     }
     Ok(())
@@ -55,18 +58,50 @@ fn texts_of_bytes(rt: HostRuntime) -> Result<(), Fail> {
     let text = "\u{feff}a\u{e9}\u{4e00}\u{1f1e6}";
     let raw = raw_of(alloc, text.as_bytes())?;
     let plain = PlainText::from_raw(alloc, &raw)?;
-    let shown = shown::<Brand>(alloc, &plain, Blank::new(1))?;
+    let shown = shown::<Brand>(&rt, &plain, Blank::new(1))?;
     assert_eq!(rt; shown.as_str(), text);
-    let bytes = copied::<Brand>(alloc, &raw, Blank::new(1))?;
+    let bytes = copied::<Brand>(&rt, &raw, Blank::new(1))?;
     assert_eq!(rt; bytes.as_slice(), text.as_bytes());
+    Ok(())
+}
+
+/// What an edit answers.
+fn edited(plain: &mut PlainText, at: u32, remove: u32, insert: &str) -> &'static str {
+    match plain.replace(at, remove, insert) {
+        Ok(()) => "Ok",
+        Err(EditErr::Outside) => "Outside",
+        Err(EditErr::TooLong) => "TooLong",
+        Err(EditErr::Memory) => "Memory",
+    }
+}
+
+#[test]
+fn edits(rt: HostRuntime) -> Result<(), Fail> {
+    let alloc = rt.alloc();
+    let mut plain = PlainText::new(alloc, "ab\u{e9}cd")?;
+    let rows: [(u32, u32, &str, &str, &str); 8] = [
+        (0, 0, "", "Ok", "ab\u{e9}cd"),
+        (5, 1, "x", "Outside", "ab\u{e9}cd"),
+        (6, 0, "", "Outside", "ab\u{e9}cd"),
+        (u32::MAX, u32::MAX, "x", "Outside", "ab\u{e9}cd"),
+        (5, 0, "e", "Ok", "ab\u{e9}cde"),
+        (1, 4, "\u{1f1e6}", "Ok", "a\u{1f1e6}e"),
+        (0, 1, "xyz", "Ok", "xyz\u{1f1e6}e"),
+        (0, 5, "", "Ok", ""),
+    ];
+    for (at, remove, insert, answer, after) in rows {
+        assert_eq!(rt; edited(&mut plain, at, remove, insert), answer, "at {at}");
+        let shown = shown::<Brand>(&rt, &plain, Blank::new(1))?;
+        assert_eq!(rt; shown.as_str(), after, "at {at}");
+    }
     Ok(())
 }
 
 #[test]
 fn bytes_that_are_no_text(rt: HostRuntime) -> Result<(), Fail> {
     let alloc = rt.alloc();
-    // A byte that begins no character, a character cut short, one written too long, a surrogate, and
-    // a number past the last code point.
+    // A byte that begins no character, a character cut short, one written too long, a surrogate,
+    // and a number past the last code point.
     let rows: [(&[u8], u32); 6] = [
         (b"a\xff", 1),
         (b"\xe2\x82", 0),
@@ -105,6 +140,25 @@ fn marks(rt: HostRuntime) {
         ("a\u{feff}", "a\u{feff}"),
     ] {
         assert_eq!(rt; without_mark(text), rest, "of {text:?}");
+    }
+}
+
+#[test]
+fn numbers(rt: HostRuntime) {
+    let rows: [(&[u8], Option<u32>, Option<u32>); 9] = [
+        (b"", None, None),
+        (b"0", Some(0), None),
+        (b"0041", Some(41), Some(0x41)),
+        (b"10fFfF", None, Some(0x10FFFF)),
+        (b"110000", Some(110_000), None),
+        (b"4294967295", Some(u32::MAX), None),
+        (b"4294967296", None, None),
+        (b"36893488147419103232", None, None),
+        (b"+41", None, None),
+    ];
+    for (text, ten, sixteen) in rows {
+        assert_eq!(rt; decimal(text, u32::MAX), ten, "of {text:?}");
+        assert_eq!(rt; hexadecimal(text, 4, 6, 0x10FFFF), sixteen, "of {text:?}");
     }
 }
 

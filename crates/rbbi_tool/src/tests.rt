@@ -13,7 +13,7 @@ const USAGE: &str = "usage: rbbi COMMAND [OPTIONS] OPERANDS\n";
 
 /// The exit status of a run with these words.
 fn status_of<L: Ledger>(
-    alloc: Global,
+    rt: &HostRuntime,
     words: &[&str],
     files: &mut MemFiles,
     out: &mut MemSink,
@@ -23,11 +23,12 @@ fn status_of<L: Ledger>(
     requires parts { blank.parts ≡ L.parts }
     requires some { 0 < blank.parts }
 {
+    let alloc = rt.alloc();
     let mut owned = Vec::new(alloc);
     for word in words {
         owned.push(String::from_str(alloc, word)?)?;
     }
-    let mut steps = Steps::<L>::new(blank);
+    let mut steps = Steps::<L>::new(rt, blank);
     Ok(rbbi(alloc, &owned, files, out, &mut steps))
 }
 
@@ -115,7 +116,7 @@ fn answers_by_the_rules(rt: HostRuntime) -> Result<(), Fail> {
         let mut files = two_files(alloc, rules, text)?;
         let mut out = MemSink::new(alloc);
         let answered = status_of::<Brand>(
-            alloc,
+            &rt,
             &["breaks", "r.txt", "t.txt"],
             &mut files,
             &mut out,
@@ -142,7 +143,7 @@ fn answers_words_of_no_form(rt: HostRuntime) -> Result<(), Fail> {
     for words in forms {
         let mut files = two_files(alloc, b"a;", b"a")?;
         let mut out = MemSink::new(alloc);
-        let status = status_of::<Brand>(alloc, words, &mut files, &mut out, Blank::new(1))?;
+        let status = status_of::<Brand>(&rt, words, &mut files, &mut out, Blank::new(1))?;
         assert_eq!(rt; status, 2);
         assert_eq!(rt; out.taken(), USAGE.as_bytes());
         assert_eq!(rt; files.calls(), 0);
@@ -166,7 +167,7 @@ fn tells_faults_of_files_and_sink(rt: HostRuntime) -> Result<(), Fail> {
         files.fail_at(read)?;
         out.fail_at(put)?;
         let answered = status_of::<Brand>(
-            alloc,
+            &rt,
             &["breaks", "r.txt", "t.txt"],
             &mut files,
             &mut out,
@@ -178,7 +179,7 @@ fn tells_faults_of_files_and_sink(rt: HostRuntime) -> Result<(), Fail> {
     let mut files = two_files(alloc, b"a;", b"a")?;
     let mut out = MemSink::new(alloc);
     let status = status_of::<Brand>(
-        alloc,
+        &rt,
         &["breaks", "r.txt", "--none"],
         &mut files,
         &mut out,
@@ -196,7 +197,7 @@ fn answers_or_wants_memory(rt: HostRuntime) -> Result<(), Fail> {
     let mut files = two_files(alloc, b"ab|a(b|c)d; x;", b"abdabx")?;
     let mut out = MemSink::new(alloc);
     let status = status_of::<Brand>(
-        alloc,
+        &rt,
         &["breaks", "r.txt", "t.txt"],
         &mut files,
         &mut out,

@@ -1,9 +1,10 @@
 -- Lists with their latest element first, and the trees of what they hold.
 use Rattle.std.proofs.Common.{◌≡◌, List, [], ◌∷◌, ◌++◌, reverse, refl, sym, ◌∙◌, ap}
 use Rattle.std.proofs.lemmas.List.{reverse-append}
-use Rattle.rbbi_tree.specs.Trees.{PartsTree, PartTree, no_parts, part, parts_of, SeqTree, ItemTree, ExprTree, no_items, item, seq_of, no_alternatives, alternative, expr_of}
-use Rattle.rbbi_tree.specs.SetMachine.{parts_back}
-use Rattle.rbbi_tree.specs.Machine.{items_back, sequences_back}
+use Rattle.rbbi_tree.specs.Trees.{PartsTree, PartTree, no_parts, part, parts_of, SeqTree, ItemTree, ExprTree, no_items, item, seq_of, no_alternatives}
+use Rattle.rbbi_tree.specs.Trees.{alternative, expr_of}
+use Rattle.rbbi_tree.specs.Machine.Sets.{parts_back}
+use Rattle.rbbi_tree.specs.Machine.Statements.{items_back, sequences_back}
 
 parts_back-append : (a b : List PartTree) (more : PartsTree) → parts_back (a ++ b) more ≡ parts_back b (parts_back a more)
 parts_back-append [] b more = refl

@@ -8,8 +8,10 @@ use Rattle.rbbi_tree.specs.declared.syntax.Quant.{Quant}
 use Rattle.rbbi_tree.specs.declared.syntax.Quant.TheVariants.{Once, Star, Plus, Quest}
 use Rattle.rbbi_tree.specs.Trees.{set_of, ExprTree, SeqTree, ItemTree, AtomTree, StatementTree, no_alternatives, alternative, no_items, item, placed}
 use Rattle.rbbi_tree.specs.Trees.{character, quoted, any, name, property, set, group, nothing, control, assign, rule}
-use Rattle.rbbi_tree.specs.Grammar.{token, BeginsAt, IsCaret, IsQuant, IsTag, IsExpr, AreMoreAlternatives, IsSeq, AreItems, IsItem, IsAtom, IsOneSeq, IsMatcher, IsStatement, IsFile}
-use Rattle.rbbi_tree.specs.Machine.{LevelTree, GroupTree, HeadTree, assigning, ruling, resting, Progress, empty_level, after, items_back, sequences_back, with_item, with_sequence, whole, begun, atom_read, group_begun, set_begun, at_bar, run}
+use Rattle.rbbi_tree.specs.Grammar.{token, BeginsAt, IsCaret, IsQuant, IsTag, IsExpr, AreMoreAlternatives, IsSeq, AreItems, IsItem, IsAtom, IsOneSeq, IsMatcher}
+use Rattle.rbbi_tree.specs.Grammar.{IsStatement, IsFile}
+use Rattle.rbbi_tree.specs.Machine.Statements.{LevelTree, GroupTree, HeadTree, assigning, ruling, resting, Progress, empty_level, after, items_back}
+use Rattle.rbbi_tree.specs.Machine.Statements.{sequences_back, with_item, with_sequence, whole, begun, atom_read, group_begun, set_begun, at_bar, run}
 use Rattle.rbbi_tree.proofs.Runs.{run-on}
 use Rattle.rbbi_tree.proofs.CompleteSets.{run_set}
 
@@ -52,7 +54,8 @@ Reaches ts done head groups level e =
 one : (place : ℕ) (atom : AtomTree) (done : List StatementTree) (head : HeadTree) (groups : List GroupTree) (level : LevelTree) → Reads head →
     option_and_then (run []) (option_map (atom_read place atom) (begun place head (inside done head groups level)))
     ≡ Some (inside done head groups (with_item (placed place atom Once) level))
-one place atom done head groups level reads = ap (λ o. option_and_then (run []) (option_map (atom_read place atom) o)) (reads place (inside done head groups level))
+one place atom done head groups level reads =
+    ap (λ o. option_and_then (run []) (option_map (atom_read place atom) o)) (reads place (inside done head groups level))
 
 run_quant : (quant : Quant) (ts : List Token) (place : ℕ) (atom : AtomTree) (done : List StatementTree) (head : HeadTree) (groups : List GroupTree) (level : LevelTree) → IsQuant ts quant →
     run ts (inside done head groups (with_item (placed place atom Once) level)) ≡ Some (inside done head groups (with_item (placed place atom quant) level))
@@ -62,12 +65,14 @@ run_quant Plus ts place atom done head groups level (at, h) = rw h refl
 run_quant Quest ts place atom done head groups level (at, h) = rw h refl
 
 mutual
-  run_item : (i : ItemTree) (ts : List Token) (done : List StatementTree) (head : HeadTree) (groups : List GroupTree) (level : LevelTree) → Reads head → IsItem ts i →
+  run_item : (i : ItemTree) (ts : List Token) (done : List StatementTree) (head : HeadTree) (groups : List GroupTree) (level : LevelTree) → Reads head →
+      IsItem ts i →
       run ts (inside done head groups level) ≡ Some (inside done head groups (with_item i level))
   run_item (placed place atom quant) ts done head groups level reads (a, b, h, is, q) =
       rw h (run-on a b (inside done head groups level) _ (run_atom atom place a done head groups level reads is) ∙ run_quant quant b place atom done head groups level q)
 
-  run_atom : (atom : AtomTree) (place : ℕ) (ts : List Token) (done : List StatementTree) (head : HeadTree) (groups : List GroupTree) (level : LevelTree) → Reads head → IsAtom place ts atom →
+  run_atom : (atom : AtomTree) (place : ℕ) (ts : List Token) (done : List StatementTree) (head : HeadTree) (groups : List GroupTree) (level : LevelTree) →
+      Reads head → IsAtom place ts atom →
       run ts (inside done head groups level) ≡ Some (inside done head groups (with_item (placed place atom Once) level))
   run_atom (character c bare) place ts done head groups level reads h = rw h (one place (character c bare) done head groups level reads)
   run_atom (quoted word) place ts done head groups level reads h = rw h (one place (quoted word) done head groups level reads)
@@ -85,21 +90,24 @@ mutual
       ∙ run-on a last (inside done head (opened ∷ groups) empty_level) _ ran
       ∙ ap (λ e. Some (inside done head groups (with_item (placed place (group e) Once) level))) all)
 
-  run_items : (s : SeqTree) (ts : List Token) (done : List StatementTree) (head : HeadTree) (groups : List GroupTree) (level : LevelTree) → Reads head → AreItems ts s →
+  run_items : (s : SeqTree) (ts : List Token) (done : List StatementTree) (head : HeadTree) (groups : List GroupTree) (level : LevelTree) → Reads head →
+      AreItems ts s →
       run ts (inside done head groups level) ≡ Some (inside done head groups (with_items s level))
   run_items no_items ts done head groups level reads h = rw h refl
   run_items (item i more) ts done head groups level reads (a, b, h, first, rest) =
       rw h (run-on a b (inside done head groups level) _ (run_item i a done head groups level reads first)
       ∙ run_items more b done head groups (with_item i level) reads rest)
 
-  run_expr : (e : ExprTree) (ts : List Token) (done : List StatementTree) (head : HeadTree) (groups : List GroupTree) → Reads head → MayBar head groups → IsExpr ts e →
+  run_expr : (e : ExprTree) (ts : List Token) (done : List StatementTree) (head : HeadTree) (groups : List GroupTree) → Reads head → MayBar head groups →
+      IsExpr ts e →
       Reaches ts done head groups empty_level e
   run_expr no_alternatives ts done head groups reads bars h = absurd h
   run_expr (alternative no_items more) ts done head groups reads bars (a, b, h, first, rest) = absurd first
   run_expr (alternative (item i is) more) ts done head groups reads bars (a, b, h, first, rest) =
       let (j, js, same, all) = onto_cons is i [] in
       let ran : run a (inside done head groups empty_level) ≡ Some (inside done head groups (record { sequences = []; items = j ∷ js })) =
-      run_items (item i is) a done head groups empty_level reads first ∙ ap (λ is. Some (inside done head groups (record { sequences = []; items = is }))) same in
+      run_items (item i is) a done head groups empty_level reads first
+      ∙ ap (λ is. Some (inside done head groups (record { sequences = []; items = is }))) same in
       let (sequences, k, ks, further, end) = run_more more b done head groups [] j js reads bars rest in
       (sequences, k, ks, rw h (run-on a b (inside done head groups empty_level) _ ran ∙ further), end ∙ ap (λ s. alternative s more) all)
 
@@ -113,7 +121,8 @@ mutual
       let level : LevelTree = with_sequence before in
       let (j, js, same, all) = onto_cons ks k [] in
       let ran : run a (inside done head groups level) ≡ Some (inside done head groups (record { sequences = level.sequences; items = j ∷ js })) =
-      run_items (item k ks) a done head groups level reads first ∙ ap (λ is. Some (inside done head groups (record { sequences = level.sequences; items = is }))) same in
+      run_items (item k ks) a done head groups level reads first
+      ∙ ap (λ is. Some (inside done head groups (record { sequences = level.sequences; items = is }))) same in
       let (sequences', l, ls, further, end) = run_more more b done head groups level.sequences j js reads bars rest in (
         sequences',
         l,
@@ -203,7 +212,8 @@ begin_at ts more place done (k, at, rest, is, ok) begins =
     rw is (begin k at rest done ok ∙ ap (λ p. run (token k at ∷ rest) (inside done (ruling p false) [] empty_level)) here)
 
 -- a rule begins, with a caret or without one
-run_begin : (no_chain_in : Bool) (caret a more : List Token) (place : ℕ) (done : List StatementTree) → IsCaret caret no_chain_in → BeginsWell a → BeginsAt place (caret ++ (a ++ more)) →
+run_begin : (no_chain_in : Bool) (caret a more : List Token) (place : ℕ) (done : List StatementTree) → IsCaret caret no_chain_in → BeginsWell a →
+    BeginsAt place (caret ++ (a ++ more)) →
     run (caret ++ a) (after done) ≡ run a (inside done (ruling place no_chain_in) [] empty_level)
 run_begin true caret a more place done (at, h) well begins =
     let here : at ≡ place = subst (λ us. BeginsAt place (us ++ (a ++ more))) h begins in

@@ -6,10 +6,11 @@ use Rattle.rbbi_tree.specs.declared.syntax.Join.{Join}
 use Rattle.rbbi_tree.specs.declared.syntax.Join.TheVariants.{Add, Both, Minus}
 use Rattle.rbbi_tree.specs.declared.set_level.SetState.{SetState}
 use Rattle.rbbi_tree.specs.declared.set_level.SetState.TheVariants as state
-use Rattle.rbbi_tree.specs.Trees.{SetTree, PartsTree, PartTree, SetItemTree, set_of, no_parts, part, joined, set_character, set_range, set_name, set_property, set_within}
+use Rattle.rbbi_tree.specs.Trees.{SetTree, PartsTree, PartTree, SetItemTree, set_of, no_parts, part, joined, set_character, set_range, set_name, set_property}
+use Rattle.rbbi_tree.specs.Trees.{set_within}
 use Rattle.rbbi_tree.specs.Grammar.{token, IsCaret, Spot, opening, behind, elsewhere, IsOpening, IsJoin, AreCharactersPart, hyphen_at, AreParts, IsOperand}
-use Rattle.rbbi_tree.specs.SetMachine.{SetLevelTree, OuterSetTree, SetsTree, settled, join_in, parts_back, outer_set}
-use Rattle.rbbi_tree.specs.Machine.{Progress, with_sets, set_ended, run}
+use Rattle.rbbi_tree.specs.Machine.Sets.{SetLevelTree, OuterSetTree, SetsTree, settled, join_in, parts_back, outer_set}
+use Rattle.rbbi_tree.specs.Machine.Statements.{Progress, with_sets, set_ended, run}
 use Rattle.rbbi_tree.proofs.Runs.{run-on}
 
 -- within this set, in these
@@ -27,11 +28,13 @@ Fits elsewhere (state.Character c place) = Unit {0}
 Fits spot last = ⊥
 
 -- which sets are open makes no difference to the end of a set
-ended-sets : (place : ℕ) (t : SetTree) (outers : List OuterSetTree) (sets : Option SetsTree) (p : Progress) → set_ended place t outers (with_sets sets p) ≡ set_ended place t outers p
+ended-sets : (place : ℕ) (t : SetTree) (outers : List OuterSetTree) (sets : Option SetsTree) (p : Progress) →
+    set_ended place t outers (with_sets sets p) ≡ set_ended place t outers p
 ended-sets place t [] sets p = refl
 ended-sets place t (o ∷ outers) sets p = refl
 
-run_end : (spot : Spot) (last : SetState) (close place : ℕ) (negated : Bool) (parts : List PartTree) (outers : List OuterSetTree) (p : Progress) → Fits spot last →
+run_end : (spot : Spot) (last : SetState) (close place : ℕ) (negated : Bool) (parts : List PartTree) (outers : List OuterSetTree) (p : Progress) →
+    Fits spot last →
     run (token SetClose close ∷ []) (in_set place negated parts last outers p) ≡ Some (set_ended place (set_of place negated (parts_back (settled last parts) no_parts)) outers p)
 run_end opening state.Opened close place negated parts outers p fits = ap Some (ended-sets place (set_of place negated (parts_back parts no_parts)) outers _ p)
 run_end opening state.Begun close place negated parts outers p fits = ap Some (ended-sets place (set_of place negated (parts_back parts no_parts)) outers _ p)

@@ -13,7 +13,8 @@ open_from-append [] b d = refl
 open_from-append (t ∷ a) b d = open_from-append a b (open_after t.kind d)
 
 -- one token more
-pub counted_more : (ts : List Token) (i d : ℕ) (t : Token) → slice_get ts i ≡ Some t → d ≡ open_from 0 (take i ts) → open_after t.kind d ≡ open_from 0 (take (i + 1) ts)
+pub counted_more : (ts : List Token) (i d : ℕ) (t : Token) → slice_get ts i ≡ Some t → d ≡ open_from 0 (take i ts) →
+    open_after t.kind d ≡ open_from 0 (take (i + 1) ts)
 counted_more ts i d t at counted =
     rw (take_more ts i t (slice_get_within ts i t at), get_or_from_slice_get ts i t t at, counted) (sym (open_from-append (take i ts) (t ∷ []) 0))
 

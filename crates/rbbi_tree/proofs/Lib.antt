@@ -8,3 +8,5 @@ pub mod Sound
 pub mod Finish
 pub mod Depth
 pub mod Places
+pub mod WellMadeTrees
+pub mod Totality

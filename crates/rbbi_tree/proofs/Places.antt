@@ -1,14 +1,15 @@
 -- Where the machine is stuck, no file goes on; and every file so far can be finished.
-use Rattle.std.proofs.Common.{◌≡◌, ℕ, zero, suc, ◌+◌, List, [], ◌∷◌, ◌++◌, length, take, slice_get, Option, Some, None, option_and_then, refl, sym, ◌∙◌, ap, subst, inl, inr, ◌≤◌, arith}
+use Rattle.std.proofs.Common.{◌≡◌, ℕ, zero, suc, ◌+◌, List, [], ◌∷◌, ◌++◌, length, take, slice_get, Option, Some, None, option_and_then, refl, sym, ◌∙◌, ap}
+use Rattle.std.proofs.Common.{subst, inl, inr, ◌≤◌, arith}
 use Rattle.std.proofs.lemmas.List.{append_assoc, take_all, take_more}
 use Rattle.std.proofs.lemmas.Bool.{cases_order}
 use Rattle.std.proofs.lemmas.Option.{get_or_from_slice_get, slice_get_within, slice_get_past}
 use Rattle.rbbi_lex.specs.declared.token.Token.{Token}
 use Rattle.rbbi_tree.specs.Grammar.{IsFile}
-use Rattle.rbbi_tree.specs.Machine.{HeadTree, between, Progress, after, advance, run}
+use Rattle.rbbi_tree.specs.Machine.Statements.{HeadTree, between, Progress, after, advance, run}
 use Rattle.rbbi_tree.specs.Brackets.{IsShallowBefore, open_from}
 use Rattle.rbbi_tree.specs.Refusals.{BeginsFile, IsSyntaxAt, place_or_end, IsRefusedFor}
-use Rattle.rbbi_tree.specs.SetStates.{IsStuckAt}
+use Rattle.rbbi_tree.specs.Machine.SetStates.{IsStuckAt}
 use Rattle.rbbi_tree.specs.declared.error.TreeErr.{TreeErr}
 use Rattle.rbbi_tree.specs.declared.error.TreeErr.TheVariants.{Syntax, TooDeep, Memory}
 use Rattle.rbbi_tree.proofs.Runs.{run-append, run-on}
@@ -37,7 +38,8 @@ stuck_after ts i t p at h stuck =
     (run-on (take i ts) (t ∷ []) (after []) p h ∙ ap (option_and_then (run [])) stuck)
 
 -- a refusal where the machine is stuck is right
-pub refused_stuck : (ts : List Token) (end i : ℕ) (t : Token) (p : Progress) (e : TreeErr) → slice_get ts i ≡ Some t → run (take i ts) (after []) ≡ Some p → IsShallowBefore ts i →
+pub refused_stuck : (ts : List Token) (end i : ℕ) (t : Token) (p : Progress) (e : TreeErr) → slice_get ts i ≡ Some t → run (take i ts) (after []) ≡ Some p →
+    IsShallowBefore ts i →
     IsStuckAt t.place (advance t p) e → IsRefusedFor ts end e
 refused_stuck ts end i t p (Syntax place) at h shallow (stuck, here) = (
   i,
@@ -56,7 +58,8 @@ run_more ts i t p q at h step =
     (run-on (take i ts) (t ∷ []) (after []) p h ∙ ap (option_and_then (run [])) step)
 
 -- a refusal at the first bracket that makes 65 open ones is right
-pub refused_deep : (ts : List Token) (end i : ℕ) (t : Token) (q : Progress) → slice_get ts i ≡ Some t → run (take (i + 1) ts) (after []) ≡ Some q → IsShallowBefore ts i →
+pub refused_deep : (ts : List Token) (end i : ℕ) (t : Token) (q : Progress) → slice_get ts i ≡ Some t → run (take (i + 1) ts) (after []) ≡ Some q →
+    IsShallowBefore ts i →
     open_from 0 (take (i + 1) ts) ≡ 65 → IsRefusedFor ts end (TooDeep t.place)
 refused_deep ts end i t q at h shallow deep =
     (i, (slice_get_within ts i t at, deep, shallow), ap (λ o. place_or_end o end) (sym at), begins_file (take (i + 1) ts) q h)
@@ -66,7 +69,8 @@ head_in None = None
 head_in (Some p) = Some p.head
 
 -- a refusal at the end is right where a run ends within a statement
-pub refused_within : (ts : List Token) (end : ℕ) (p : Progress) → run ts (after []) ≡ Some p → ¬ (p.head ≡ between) → IsShallowBefore ts (length ts) → IsRefusedFor ts end (Syntax end)
+pub refused_within : (ts : List Token) (end : ℕ) (p : Progress) → run ts (after []) ≡ Some p → ¬ (p.head ≡ between) → IsShallowBefore ts (length ts) →
+    IsRefusedFor ts end (Syntax end)
 refused_within ts end p h within shallow = (
   length ts,
   inr (refl, begins_file ts p h, λ statements file. within (let e : Some p.head ≡ Some between = ap head_in (sym h ∙ run_file statements ts [] file) in cc)),
@@ -88,7 +92,7 @@ parts (suc i) (suc j) (t ∷ ts) le =
     (rest, ap (λ us. t ∷ us) is)
 
 -- what begins a file does so up to each of its tokens
-begins_part : (ts : List Token) (i j : ℕ) → i ≤ j → BeginsFile (take j ts) → BeginsFile (take i ts)
+pub begins_part : (ts : List Token) (i j : ℕ) → i ≤ j → BeginsFile (take j ts) → BeginsFile (take i ts)
 begins_part ts i j le (more, statements, file) =
     let (rest, is) = parts i j ts le in
     (rest ++ more, statements, subst (λ us. IsFile us statements) (ap (λ us. us ++ more) is ∙ append_assoc (take i ts) rest more) file)

@@ -1,14 +1,15 @@
 -- Runs of the machine over lists of tokens.
 use Rattle.std.proofs.Common.{◌≡◌, List, [], ◌∷◌, ◌++◌, Option, Some, None, option_and_then, refl, ◌∙◌, ap}
 use Rattle.rbbi_lex.specs.declared.token.Token.{Token}
-use Rattle.rbbi_tree.specs.Machine.{Progress, advance, run}
+use Rattle.rbbi_tree.specs.Machine.Statements.{Progress, advance, run}
 
 -- a run over two lists is a run over the first and then over the second
 pub run-append : (a b : List Token) (p : Progress) → run (a ++ b) p ≡ option_and_then (run b) (run a p)
 run-append [] b p = refl
 run-append (t ∷ a) b p = go (advance t p) (λ q. run-append a b q)
   where
-    go : (o : Option Progress) → ((q : Progress) → run (a ++ b) q ≡ option_and_then (run b) (run a q)) → option_and_then (run (a ++ b)) o ≡ option_and_then (run b) (option_and_then (run a) o)
+    go : (o : Option Progress) → ((q : Progress) → run (a ++ b) q ≡ option_and_then (run b) (run a q)) →
+        option_and_then (run (a ++ b)) o ≡ option_and_then (run b) (option_and_then (run a) o)
     go None each = refl
     go (Some q) each = each q
 

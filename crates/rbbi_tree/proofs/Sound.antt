@@ -1,18 +1,25 @@
 -- What the machine accepts is a file: the tokens read so far are the file so far.
-use Rattle.std.proofs.Common.{◌≡◌, ℕ, true, false, List, [], ◌∷◌, ◌++◌, Option, Some, None, ◌⊎◌, inl, inr, option_and_then, option_map, refl, sym, ◌∙◌, ap, subst}
+use Rattle.std.proofs.Common.{◌≡◌, ℕ, true, false, List, [], ◌∷◌, ◌++◌, Option, Some, None, ◌⊎◌, inl, inr, option_and_then, option_map, refl, sym, ◌∙◌, ap}
+use Rattle.std.proofs.Common.{subst}
 use Rattle.std.proofs.lemmas.List.{append_assoc, append-nil}
 use Rattle.rbbi_lex.specs.declared.token.Token.{Token}
 use Rattle.rbbi_lex.specs.declared.token.TokenKind.{TokenKind}
 use Rattle.rbbi_lex.specs.declared.token.TokenKind.TheVariants as kind
-use Rattle.rbbi_lex.specs.declared.token.TokenKind.TheVariants.{Semi, Equals, Bar, Slash, Caret, Dot, ParenOpen, ParenClose, SetOpen, SetClose, Hyphen, Amp, Char, Quoted, Name, Control, Tag, Prop}
+use Rattle.rbbi_lex.specs.declared.token.TokenKind.TheVariants.{Semi, Equals, Bar, Slash, Caret, Dot, ParenOpen, ParenClose, SetOpen, SetClose, Hyphen, Amp}
+use Rattle.rbbi_lex.specs.declared.token.TokenKind.TheVariants.{Char, Quoted, Name, Control, Tag, Prop}
 use Rattle.rbbi_tree.specs.declared.syntax.Join.{Join}
 use Rattle.rbbi_tree.specs.declared.syntax.Quant.{Quant}
 use Rattle.rbbi_tree.specs.declared.syntax.Quant.TheVariants.{Once, Star, Plus, Quest}
 use Rattle.rbbi_tree.specs.Trees.{SetTree, PartTree, ExprTree, SeqTree, ItemTree, AtomTree, StatementTree, no_alternatives, alternative, no_items, item, placed}
 use Rattle.rbbi_tree.specs.Trees.{character, quoted, any, name, property, set, group, nothing, control}
-use Rattle.rbbi_tree.specs.Grammar.{token, BeginsAt, IsCaret, IsQuant, IsTag, IsSet, IsExpr, AreMoreAlternatives, IsSeq, AreItems, IsItem, IsAtom, IsOneSeq, IsStatement, IsFile}
-use Rattle.rbbi_tree.specs.SetMachine.{SetLevelTree, OuterSetTree, SetsTree, join_in, ended_parts, set_from, at_set_token}
-use Rattle.rbbi_tree.specs.Machine.{LevelTree, GroupTree, HeadTree, between, assigning, ruling, resting, ended, Progress, empty_level, after, items_back, sequences_back, with_item, with_sequence, whole, begun, atom_read, group_begun, quantified, at_atom, at_open, at_set_open, at_quant, at_bar, at_close, at_slash, at_caret, at_control, name_of, name_assigned, at_equals, statement_of, statement_at, statement_read, statement_ended, at_semi, advance_outside, set_kept, at_inner_open, set_ended, at_inner_close, advance_inside, advance_by, advance, run}
+use Rattle.rbbi_tree.specs.Grammar.{token, BeginsAt, IsCaret, IsQuant, IsTag, IsSet, IsExpr, AreMoreAlternatives, IsSeq, AreItems, IsItem, IsAtom, IsOneSeq}
+use Rattle.rbbi_tree.specs.Grammar.{IsStatement, IsFile}
+use Rattle.rbbi_tree.specs.Machine.Sets.{SetLevelTree, OuterSetTree, SetsTree, join_in, ended_parts, set_from, at_set_token}
+use Rattle.rbbi_tree.specs.Machine.Statements.{LevelTree, GroupTree, HeadTree, between, assigning, ruling, resting, ended, Progress, empty_level, after}
+use Rattle.rbbi_tree.specs.Machine.Statements.{items_back, sequences_back, with_item, with_sequence, whole, begun, atom_read, group_begun, quantified, at_atom}
+use Rattle.rbbi_tree.specs.Machine.Statements.{at_open, at_set_open, at_quant, at_bar, at_close, at_slash, at_caret, at_control, name_of, name_assigned}
+use Rattle.rbbi_tree.specs.Machine.Statements.{at_equals, statement_of, statement_at, statement_read, statement_ended, at_semi, advance_outside, set_kept}
+use Rattle.rbbi_tree.specs.Machine.Statements.{at_inner_open, set_ended, at_inner_close, advance_inside, advance_by, advance, run}
 use Rattle.rbbi_tree.proofs.SoundSets.{IsSetRead, IsOuterRead, IsStillSet, reads_token, ends_set, opens_set, opens_inner, resumes}
 
 -- items, the latest first
@@ -56,7 +63,8 @@ IsSingle (ruling at no_chain_in) groups level = Unit {0}
 IsSingle (resting at no_chain_in front slash) groups level = bottom groups level ≡ []
 IsSingle (ended s) groups level = Unit {0}
 
-single-same : (head : HeadTree) (groups groups' : List GroupTree) (level level' : LevelTree) → bottom groups' level' ≡ bottom groups level → IsSingle head groups level → IsSingle head groups' level'
+single-same : (head : HeadTree) (groups groups' : List GroupTree) (level level' : LevelTree) → bottom groups' level' ≡ bottom groups level →
+    IsSingle head groups level → IsSingle head groups' level'
 single-same between groups groups' level level' same h = tt
 single-same (assigning word at) groups groups' level level' same h = tt
 single-same (ruling at no_chain_in) groups groups' level level' same h = tt
@@ -178,7 +186,8 @@ level-empty = ([], [], refl, refl, refl)
 abbrev Adds : List Token → LevelTree → LevelTree → Type 0
 Adds us level level' = (ts : List Token) → IsLevel ts level → IsLevel (ts ++ us) level'
 
-levels-add : (groups : List GroupTree) (ts us : List Token) (level level' : LevelTree) → Adds us level level' → AreLevels ts groups level → AreLevels (ts ++ us) groups level'
+levels-add : (groups : List GroupTree) (ts us : List Token) (level level' : LevelTree) → Adds us level level' → AreLevels ts groups level →
+    AreLevels (ts ++ us) groups level'
 levels-add [] ts us level level' adds h = adds ts h
 levels-add (g ∷ outer) ts us level level' adds (a, b, h, around, inner) =
     (a, b ++ us, ap (λ ts. ts ++ us) h ∙ append_assoc a (token ParenOpen g.place ∷ b) us, around, adds b inner)
@@ -214,7 +223,8 @@ starts-push (ruling at no_chain_in) ts us h = begins-push at ts us h
 starts-push (resting at no_chain_in front slash) ts us h = begins-push at ts us h
 starts-push (ended s) ts us h = tt
 
-bottom-same : (groups : List GroupTree) (sequences : List SeqTree) (items items' : List ItemTree) → bottom groups (with sequences items) ≡ bottom groups (with sequences items')
+bottom-same : (groups : List GroupTree) (sequences : List SeqTree) (items items' : List ItemTree) →
+    bottom groups (with sequences items) ≡ bottom groups (with sequences items')
 bottom-same [] sequences items items' = refl
 bottom-same (g ∷ outer) sequences items items' = refl
 
@@ -240,7 +250,8 @@ grow (resting at no_chain_in front slash) ts us groups groups' level level' read
 )
 
 -- where there are items, an expression is being read
-reading-items : (head : HeadTree) (ts : List Token) (groups : List GroupTree) (sequences : List SeqTree) (i : ItemTree) (is : List ItemTree) → IsBegun ts head groups (with sequences (i ∷ is)) → Reading head
+reading-items : (head : HeadTree) (ts : List Token) (groups : List GroupTree) (sequences : List SeqTree) (i : ItemTree) (is : List ItemTree) →
+    IsBegun ts head groups (with sequences (i ∷ is)) → Reading head
 reading-items between ts groups sequences i is (none, no_group, fresh) = absurd (let e : i ∷ is ≡ [] = ap (λ level. level.items) fresh in cc)
 reading-items (ended s) ts groups sequences i is (whole, no_group, fresh) = absurd (let e : i ∷ is ≡ [] = ap (λ level. level.items) fresh in cc)
 reading-items (assigning word at) ts groups sequences i is h = tt
@@ -264,7 +275,8 @@ begun-begun (ruling at no_chain_in) place ts groups level reading h = h
 begun-begun (resting at no_chain_in front slash) place ts groups level reading h = h
 begun-begun (ended s) place ts groups level reading h = absurd reading
 
-starts-begun : (head : HeadTree) (place : ℕ) (ts us : List Token) (groups : List GroupTree) (level : LevelTree) → BeginsAt place us → IsBegun ts head groups level → StartsAt ts head →
+starts-begun : (head : HeadTree) (place : ℕ) (ts us : List Token) (groups : List GroupTree) (level : LevelTree) → BeginsAt place us →
+    IsBegun ts head groups level → StartsAt ts head →
     StartsAt (ts ++ us) (head_begun place head)
 starts-begun between place ts us groups level begins (none, no_group, fresh) h = rw none begins
 starts-begun (assigning word at) place ts us groups level begins is h = tt
@@ -292,7 +304,8 @@ begun-is (ended s) place done groups level = inr refl
 abbrev Outside : List Token → List StatementTree → HeadTree → List GroupTree → LevelTree → Type 0
 Outside ts done head groups level = (a : List Token) × (b : List Token) × (ts ≡ a ++ b) × IsFile a done × IsBegun b head groups level × StartsAt b head
 
-outside : (ts : List Token) (done : List StatementTree) (head : HeadTree) (groups : List GroupTree) (level : LevelTree) → IsRead ts (made done head groups level None) → Outside ts done head groups level
+outside : (ts : List Token) (done : List StatementTree) (head : HeadTree) (groups : List GroupTree) (level : LevelTree) →
+    IsRead ts (made done head groups level None) → Outside ts done head groups level
 outside ts done head groups level (a, b, h, file, (c, d, h', is, none, starts)) =
     let e : b ≡ c = h' ∙ ap (λ d. c ++ d) none ∙ append-nil c in
     (a, c, h ∙ ap (λ b. a ++ b) e, file, is, subst (λ b. StartsAt b head) e starts)
@@ -310,7 +323,8 @@ step_begun : (place : ℕ) (us ts : List Token) (done : List StatementTree) (hea
     ((b : List Token) → AreLevels b groups level → AreLevels (b ++ us) groups' level') → bottom groups' level' ≡ bottom groups level →
     ((h : HeadTree) → f (made done h groups level None) ≡ made done h groups' level' None) →
     IsRead ts (made done head groups level None) → IsStillRead (ts ++ us) (option_map f (begun place head (made done head groups level None)))
-step_begun place us ts done head groups groups' level level' f begins adds same does read = go (begun-is head place done groups level) (outside ts done head groups level read)
+step_begun place us ts done head groups groups' level level' f begins adds same does read =
+    go (begun-is head place done groups level) (outside ts done head groups level read)
   where
     go : BegunIs head place done groups level → Outside ts done head groups level →
         IsStillRead (ts ++ us) (option_map f (begun place head (made done head groups level None)))
@@ -355,7 +369,8 @@ step_set_open place ts done head groups level read = go (begun-is head place don
 
 -- the same for a sign after an item
 step_after : (us ts : List Token) (done : List StatementTree) (head : HeadTree) (groups groups' : List GroupTree) (level' : LevelTree) (sequences : List SeqTree) (i : ItemTree) (is : List ItemTree) →
-    ((b : List Token) → AreLevels b groups (with sequences (i ∷ is)) → AreLevels (b ++ us) groups' level') → (IsSingle head groups (with sequences (i ∷ is)) → IsSingle head groups' level') →
+    ((b : List Token) → AreLevels b groups (with sequences (i ∷ is)) → AreLevels (b ++ us) groups' level') →
+    (IsSingle head groups (with sequences (i ∷ is)) → IsSingle head groups' level') →
     IsRead ts (made done head groups (with sequences (i ∷ is)) None) → IsRead (ts ++ us) (made done head groups' level' None)
 step_after us ts done head groups groups' level' sequences i is adds single read =
     let (a, b, h, file, begun_is, starts) = outside ts done head groups (with sequences (i ∷ is)) read in
@@ -364,7 +379,8 @@ step_after us ts done head groups groups' level' sequences i is adds single read
 
 step_quant : (kind : TokenKind) (place : ℕ) (quant : Quant) (ts : List Token) (done : List StatementTree) (head : HeadTree) (groups : List GroupTree) (sequences : List SeqTree) (items : List ItemTree) →
     IsQuant (token kind place ∷ []) quant →
-    IsRead ts (made done head groups (with sequences items) None) → IsStillRead (ts ++ token kind place ∷ []) (at_quant (quantified quant items) (made done head groups (with sequences items) None))
+    IsRead ts (made done head groups (with sequences items) None) →
+    IsStillRead (ts ++ token kind place ∷ []) (at_quant (quantified quant items) (made done head groups (with sequences items) None))
 step_quant kind place quant ts done head groups sequences [] q read = tt
 step_quant kind place quant ts done head groups sequences (placed at atom Star ∷ is) q read = tt
 step_quant kind place quant ts done head groups sequences (placed at atom Plus ∷ is) q read = tt
@@ -378,7 +394,8 @@ step_quant kind place quant ts done head groups sequences (placed at atom Once �
     (single-same head groups groups level level' (bottom-same groups sequences (placed at atom quant ∷ is) (placed at atom Once ∷ is))) read
 
 step_bar : (place : ℕ) (ts : List Token) (done : List StatementTree) (head : HeadTree) (groups : List GroupTree) (sequences : List SeqTree) (items : List ItemTree) →
-    IsRead ts (made done head groups (with sequences items) None) → IsStillRead (ts ++ token Bar place ∷ []) (at_bar items groups (made done head groups (with sequences items) None))
+    IsRead ts (made done head groups (with sequences items) None) →
+    IsStillRead (ts ++ token Bar place ∷ []) (at_bar items groups (made done head groups (with sequences items) None))
 step_bar place ts done head groups sequences [] read = tt
 step_bar place ts done head (g ∷ groups) sequences (i ∷ is) read =
     let level = with sequences (i ∷ is) in
@@ -398,7 +415,8 @@ step_bar place ts done (ended s) [] sequences (i ∷ is) read =
     absurd (reading-items (ended s) b [] sequences i is begun_is)
 
 step_close : (place : ℕ) (ts : List Token) (done : List StatementTree) (head : HeadTree) (groups : List GroupTree) (sequences : List SeqTree) (items : List ItemTree) →
-    IsRead ts (made done head groups (with sequences items) None) → IsStillRead (ts ++ token ParenClose place ∷ []) (at_close items groups (made done head groups (with sequences items) None))
+    IsRead ts (made done head groups (with sequences items) None) →
+    IsStillRead (ts ++ token ParenClose place ∷ []) (at_close items groups (made done head groups (with sequences items) None))
 step_close place ts done head groups sequences [] read = tt
 step_close place ts done head [] sequences (i ∷ is) read = tt
 step_close place ts done head (g ∷ outer) sequences (i ∷ is) read =
@@ -409,7 +427,8 @@ step_close place ts done head (g ∷ outer) sequences (i ∷ is) read =
     (single-same head (g ∷ outer) outer level level' (bottom-item outer (placed g.place (group (whole level)) Once) g.outer)) read
 
 step_slash : (place : ℕ) (ts : List Token) (done : List StatementTree) (head : HeadTree) (groups : List GroupTree) (sequences : List SeqTree) (items : List ItemTree) →
-    IsRead ts (made done head groups (with sequences items) None) → IsStillRead (ts ++ token Slash place ∷ []) (at_slash place items sequences groups (made done head groups (with sequences items) None))
+    IsRead ts (made done head groups (with sequences items) None) →
+    IsStillRead (ts ++ token Slash place ∷ []) (at_slash place items sequences groups (made done head groups (with sequences items) None))
 step_slash place ts done head groups sequences [] read = tt
 step_slash place ts done head groups (s ∷ sequences) (i ∷ is) read = tt
 step_slash place ts done head (g ∷ groups) [] (i ∷ is) read = tt
@@ -437,7 +456,8 @@ step_caret place ts done (resting at no_chain_in front slash) groups level read 
 step_caret place ts done (ended s) groups level read = tt
 
 step_control : (word : List ℕ) (place : ℕ) (ts : List Token) (done : List StatementTree) (head : HeadTree) (groups : List GroupTree) (level : LevelTree) →
-    IsRead ts (made done head groups level None) → IsStillRead (ts ++ token (Control word) place ∷ []) (at_control word place head (made done head groups level None))
+    IsRead ts (made done head groups level None) →
+    IsStillRead (ts ++ token (Control word) place ∷ []) (at_control word place head (made done head groups level None))
 step_control word place ts done between groups level read =
     let us = token (Control word) place ∷ [] in
     let (a, b, h, file, (none, no_group, fresh), starts) = outside ts done between groups level read in
@@ -447,7 +467,8 @@ step_control word place ts done (ruling at no_chain_in) groups level read = tt
 step_control word place ts done (resting at no_chain_in front slash) groups level read = tt
 step_control word place ts done (ended s) groups level read = tt
 
-step_name : (place at : ℕ) (ts : List Token) (done : List StatementTree) (sequences : List SeqTree) (items : List ItemTree) → IsRead ts (made done (ruling at false) [] (with sequences items) None) →
+step_name : (place at : ℕ) (ts : List Token) (done : List StatementTree) (sequences : List SeqTree) (items : List ItemTree) →
+    IsRead ts (made done (ruling at false) [] (with sequences items) None) →
     IsStillRead (ts ++ token Equals place ∷ []) (name_assigned at (name_of sequences items) (made done (ruling at false) [] (with sequences items) None))
 step_name place at ts done [] (placed on (name word) Once ∷ []) read =
     let us = token Equals place ∷ [] in
@@ -459,7 +480,8 @@ step_name place at ts done [] (placed on (name word) Once ∷ []) read =
 step_name place at ts done sequences items read = tt
 
 step_equals : (place : ℕ) (ts : List Token) (done : List StatementTree) (head : HeadTree) (groups : List GroupTree) (sequences : List SeqTree) (items : List ItemTree) →
-    IsRead ts (made done head groups (with sequences items) None) → IsStillRead (ts ++ token Equals place ∷ []) (at_equals head groups (made done head groups (with sequences items) None))
+    IsRead ts (made done head groups (with sequences items) None) →
+    IsStillRead (ts ++ token Equals place ∷ []) (at_equals head groups (made done head groups (with sequences items) None))
 step_equals place ts done (ruling at false) [] sequences items read = step_name place at ts done sequences items read
 step_equals place ts done head groups sequences items read = tt
 
@@ -469,7 +491,8 @@ Ends ts None = Unit {0}
 Ends ts (Some s) = IsStatement ts s
 
 ends : (head : HeadTree) (tag : Option ℕ) (b t : List Token) (semi : ℕ) (sequences : List SeqTree) (i : ItemTree) (is : List ItemTree) → IsTag t tag →
-    IsBegun b head [] (with sequences (i ∷ is)) → StartsAt b head → Ends (b ++ (t ++ token Semi semi ∷ [])) (statement_of head (whole (with sequences (i ∷ is))) tag)
+    IsBegun b head [] (with sequences (i ∷ is)) → StartsAt b head →
+    Ends (b ++ (t ++ token Semi semi ∷ [])) (statement_of head (whole (with sequences (i ∷ is))) tag)
 ends between tag b t semi sequences i is tag_is h starts = tt
 ends (ended s) tag b t semi sequences i is tag_is h starts = tt
 ends (assigning word at) (Some status) b t semi sequences i is tag_is h starts = tt
@@ -501,7 +524,8 @@ step_tag status place ts done head [] sequences (i ∷ is) read =
     let (a, b, h, file, begun_is, starts) = outside ts done head [] (with sequences (i ∷ is)) read in
     go a b h file (statement_of head (whole (with sequences (i ∷ is))) (Some status)) (λ semi. ends head (Some status) b (token (Tag status) place ∷ []) semi sequences i is (place, refl) begun_is starts)
   where
-    go : (a b : List Token) → ts ≡ a ++ b → IsFile a done → (o : Option StatementTree) → ((semi : ℕ) → Ends (b ++ (token (Tag status) place ∷ token Semi semi ∷ [])) o) →
+    go : (a b : List Token) → ts ≡ a ++ b → IsFile a done → (o : Option StatementTree) →
+        ((semi : ℕ) → Ends (b ++ (token (Tag status) place ∷ token Semi semi ∷ [])) o) →
         IsStillRead (ts ++ token (Tag status) place ∷ []) (statement_read o (made done head [] (with sequences (i ∷ is)) None))
     go a b h file None is_statement = tt
     go a b h file (Some s) is_statement =
@@ -515,7 +539,8 @@ statements-push (s' ∷ f) s ts us (a, b, h, first, rest) one =
     (a, b ++ us, ap (λ ts. ts ++ us) h ∙ append_assoc a b us, first, statements-push f s b us rest one)
 
 -- a statement ends
-added : (ts us a b : List Token) (done : List StatementTree) (s : StatementTree) (groups : List GroupTree) (level : LevelTree) → ts ≡ a ++ b → IsFile a done → IsStatement (b ++ us) s → groups ≡ [] → level ≡ empty_level →
+added : (ts us a b : List Token) (done : List StatementTree) (s : StatementTree) (groups : List GroupTree) (level : LevelTree) → ts ≡ a ++ b → IsFile a done →
+    IsStatement (b ++ us) s → groups ≡ [] → level ≡ empty_level →
     IsRead (ts ++ us) (made (done ++ s ∷ []) between groups level None)
 added ts us a b done s groups level h file is no_group fresh =
     (a ++ (b ++ us), [], grown ts us a b h ∙ sym (append-nil (a ++ (b ++ us))), statements-push done s a (b ++ us) file is, ([], [], refl, (refl, no_group, fresh), refl, tt))
@@ -536,7 +561,8 @@ step_end semi ts done head [] sequences (i ∷ is) read =
     go a b h file (Some s) is_statement = added ts (token Semi semi ∷ []) a b done s [] empty_level h file is_statement refl refl
 
 step_semi : (semi : ℕ) (ts : List Token) (done : List StatementTree) (head : HeadTree) (groups : List GroupTree) (sequences : List SeqTree) (items : List ItemTree) →
-    IsRead ts (made done head groups (with sequences items) None) → IsStillRead (ts ++ token Semi semi ∷ []) (at_semi head (made done head groups (with sequences items) None))
+    IsRead ts (made done head groups (with sequences items) None) →
+    IsStillRead (ts ++ token Semi semi ∷ []) (at_semi head (made done head groups (with sequences items) None))
 step_semi semi ts done between groups sequences items read =
     let (a, b, h, file, (none, no_group, fresh), starts) = outside ts done between groups (with sequences items) read in
     added ts (token Semi semi ∷ []) a b done nothing groups (with sequences items) h file (semi, ap (λ b. b ++ token Semi semi ∷ []) none) no_group fresh
@@ -545,11 +571,13 @@ step_semi semi ts done (ended s) groups sequences items read =
     added ts (token Semi semi ∷ []) a b done s groups (with sequences items) h file (is semi) no_group fresh
 step_semi semi ts done (assigning word at) groups sequences items read = step_end semi ts done (assigning word at) groups sequences items read
 step_semi semi ts done (ruling at no_chain_in) groups sequences items read = step_end semi ts done (ruling at no_chain_in) groups sequences items read
-step_semi semi ts done (resting at no_chain_in front slash) groups sequences items read = step_end semi ts done (resting at no_chain_in front slash) groups sequences items read
+step_semi semi ts done (resting at no_chain_in front slash) groups sequences items read =
+    step_end semi ts done (resting at no_chain_in front slash) groups sequences items read
 
 -- each token outside of sets
 step_outside : (kind : TokenKind) (place : ℕ) (ts : List Token) (done : List StatementTree) (head : HeadTree) (groups : List GroupTree) (sequences : List SeqTree) (items : List ItemTree) →
-    IsRead ts (made done head groups (with sequences items) None) → IsStillRead (ts ++ token kind place ∷ []) (advance_outside kind place (made done head groups (with sequences items) None))
+    IsRead ts (made done head groups (with sequences items) None) →
+    IsStillRead (ts ++ token kind place ∷ []) (advance_outside kind place (made done head groups (with sequences items) None))
 step_outside Semi place ts done head groups sequences items read = step_semi place ts done head groups sequences items read
 step_outside Equals place ts done head groups sequences items read = step_equals place ts done head groups sequences items read
 step_outside Bar place ts done head groups sequences items read = step_bar place ts done head groups sequences items read
@@ -557,7 +585,8 @@ step_outside Slash place ts done head groups sequences items read = step_slash p
 step_outside Caret place ts done head groups sequences items read = step_caret place ts done head groups (with sequences items) read
 step_outside kind.Star place ts done head groups sequences items read = step_quant kind.Star place Star ts done head groups sequences items (place, refl) read
 step_outside kind.Plus place ts done head groups sequences items read = step_quant kind.Plus place Plus ts done head groups sequences items (place, refl) read
-step_outside kind.Quest place ts done head groups sequences items read = step_quant kind.Quest place Quest ts done head groups sequences items (place, refl) read
+step_outside kind.Quest place ts done head groups sequences items read =
+    step_quant kind.Quest place Quest ts done head groups sequences items (place, refl) read
 step_outside Dot place ts done head groups sequences items read = step_atom Dot place any ts done head groups (with sequences items) refl read
 step_outside ParenOpen place ts done head groups sequences items read = step_open place ts done head groups (with sequences items) read
 step_outside ParenClose place ts done head groups sequences items read = step_close place ts done head groups sequences items read
@@ -565,9 +594,12 @@ step_outside SetOpen place ts done head groups sequences items read = step_set_o
 step_outside SetClose place ts done head groups sequences items read = tt
 step_outside Hyphen place ts done head groups sequences items read = tt
 step_outside Amp place ts done head groups sequences items read = tt
-step_outside (Char c bare) place ts done head groups sequences items read = step_atom (Char c bare) place (character c bare) ts done head groups (with sequences items) refl read
-step_outside (Quoted word) place ts done head groups sequences items read = step_atom (Quoted word) place (quoted word) ts done head groups (with sequences items) refl read
-step_outside (Name word) place ts done head groups sequences items read = step_atom (Name word) place (name word) ts done head groups (with sequences items) refl read
+step_outside (Char c bare) place ts done head groups sequences items read =
+    step_atom (Char c bare) place (character c bare) ts done head groups (with sequences items) refl read
+step_outside (Quoted word) place ts done head groups sequences items read =
+    step_atom (Quoted word) place (quoted word) ts done head groups (with sequences items) refl read
+step_outside (Name word) place ts done head groups sequences items read =
+    step_atom (Name word) place (name word) ts done head groups (with sequences items) refl read
 step_outside (Control word) place ts done head groups sequences items read = step_control word place ts done head groups (with sequences items) read
 step_outside (Tag status) place ts done head groups sequences items read = step_tag status place ts done head groups sequences items read
 step_outside (Prop negated word value) place ts done head groups sequences items read =
@@ -580,7 +612,8 @@ sets_with s outers = Some (record { innermost = s; outers = outers })
 
 step_kept : (t : Token) (ts : List Token) (done : List StatementTree) (head : HeadTree) (groups : List GroupTree) (level : LevelTree) (s : SetLevelTree) (outers : List OuterSetTree) (o : Option SetLevelTree) →
     ((us : List Token) → IsSetRead us s → IsStillSet (us ++ t ∷ []) o) →
-    IsRead ts (made done head groups level (sets_with s outers)) → IsStillRead (ts ++ t ∷ []) (set_kept outers (made done head groups level (sets_with s outers)) o)
+    IsRead ts (made done head groups level (sets_with s outers)) →
+    IsStillRead (ts ++ t ∷ []) (set_kept outers (made done head groups level (sets_with s outers)) o)
 step_kept t ts done head groups level s outers None still read = tt
 step_kept t ts done head groups level s outers (Some s') still (a, b, h, file, (c, d, h', is, (reading, (e, f, h'', around, inner)), starts)) =
     let us = t ∷ [] in (
@@ -606,7 +639,8 @@ step_inner_open place ts done head groups level s outers (Some join) joins (a, b
 
 -- a set ends: the outermost is an atom, another an operand
 set_closes : (at : ℕ) (t : SetTree) (a b c d e f us ts : List Token) (done : List StatementTree) (head : HeadTree) (groups : List GroupTree) (level : LevelTree) (s : SetLevelTree) (outers : List OuterSetTree) →
-    ts ≡ a ++ b → IsFile a done → b ≡ c ++ d → IsBegun c head groups level → Reading head → d ≡ e ++ f → AreOuters e outers → IsSet at (f ++ us) t → StartsAt b head →
+    ts ≡ a ++ b → IsFile a done → b ≡ c ++ d → IsBegun c head groups level → Reading head → d ≡ e ++ f → AreOuters e outers → IsSet at (f ++ us) t →
+    StartsAt b head →
     IsRead (ts ++ us) (set_ended at t outers (made done head groups level (sets_with s outers)))
 set_closes at t a b c d e f us ts done head groups level s [] h file h' is reading h'' around inner starts =
     let i = placed at (set t) Once in
@@ -655,7 +689,8 @@ step_inside : (kind : TokenKind) (place : ℕ) (ts : List Token) (done : List St
     IsRead ts (made done head groups level (sets_with s outers)) →
     IsStillRead (ts ++ token kind place ∷ []) (advance_inside kind place (record { innermost = s; outers = outers }) (made done head groups level (sets_with s outers)))
 step_inside SetOpen place ts done head groups level s outers read = step_inner_open place ts done head groups level s outers (join_in s.state) refl read
-step_inside SetClose place ts done head groups level s outers read = step_inner_close place ts done head groups level s outers (ended_parts s.state s.parts) refl read
+step_inside SetClose place ts done head groups level s outers read =
+    step_inner_close place ts done head groups level s outers (ended_parts s.state s.parts) refl read
 step_inside kind place ts done head groups level s outers read =
     step_kept (token kind place) ts done head groups level s outers (at_set_token kind place s) (λ us is. reads_token kind place us s is) read
 

@@ -10,7 +10,8 @@ use Rattle.rbbi_tree.specs.declared.set_level.SetState.{SetState}
 use Rattle.rbbi_tree.specs.declared.set_level.SetState.TheVariants as state
 use Rattle.rbbi_tree.specs.Trees.{SetTree, PartsTree, PartTree, SetItemTree, set_of, no_parts, part, joined, set_range, set_name, set_property, set_within}
 use Rattle.rbbi_tree.specs.Grammar.{token, Spot, opening, behind, elsewhere, IsJoin, hyphen_at, AreParts, IsSet, IsOperand}
-use Rattle.rbbi_tree.specs.SetMachine.{SetLevelTree, OuterSetTree, settled, join_in, ended_parts, character_at, parts_back, opened, outer_set, set_resumed, at_set_caret, at_set_hyphen, at_set_amp, at_set_character, at_set_operand, at_set_token}
+use Rattle.rbbi_tree.specs.Machine.Sets.{SetLevelTree, OuterSetTree, settled, join_in, ended_parts, character_at, parts_back, opened, outer_set, set_resumed}
+use Rattle.rbbi_tree.specs.Machine.Sets.{at_set_caret, at_set_hyphen, at_set_amp, at_set_character, at_set_operand, at_set_token}
 
 -- the tokens are the rest of a set after this was read last, and add these parts; a character that is no part yet is among them
 abbrev Follows : SetState → List Token → PartsTree → Type 0
@@ -107,7 +108,8 @@ before_operand (state.Minus hyphen) Minus at i a us parts more joins is h = (
 before_operand last join at i a us parts more joins is h = absurd (cc)
 
 -- a set is read to its end
-pub ends_set : (last : SetState) (close place : ℕ) (negated : Bool) (parts all : List PartTree) (ts : List Token) → Leads ts place negated parts last → ended_parts last parts ≡ Some all →
+pub ends_set : (last : SetState) (close place : ℕ) (negated : Bool) (parts all : List PartTree) (ts : List Token) → Leads ts place negated parts last →
+    ended_parts last parts ≡ Some all →
     IsSet place (ts ++ token SetClose close ∷ []) (set_of place negated (parts_back all no_parts))
 ends_set last close place negated parts all ts leads ends =
     let (m, follows, same) = go last ends in
@@ -158,7 +160,8 @@ pub resumes : (ts us : List Token) (at : ℕ) (t : SetTree) (o : OuterSetTree) �
 resumes ts us at t o outer is = (tt, λ vs more h. rw (append_assoc ts us vs) (outer us at (set_within t) vs more is h))
 
 -- an operand of one token is read
-pub reads_operand : (ts a : List Token) (at : ℕ) (i : SetItemTree) (s : SetLevelTree) (join : Join) → IsSetRead ts s → join_in s.state ≡ Some join → IsOperand at a i →
+pub reads_operand : (ts a : List Token) (at : ℕ) (i : SetItemTree) (s : SetLevelTree) (join : Join) → IsSetRead ts s → join_in s.state ≡ Some join →
+    IsOperand at a i →
     IsSetRead (ts ++ a) (record { place = s.place; negated = s.negated; parts = joined at join i ∷ settled s.state s.parts; state = state.Operand })
 reads_operand ts a at i s join (fresh, leads) joins is =
     (tt, leads_on ts a s.place s.negated s.parts (joined at join i ∷ settled s.state s.parts) s.state state.Operand leads (λ vs more h. before_operand s.state join at i a vs s.parts more joins is h))
@@ -172,7 +175,8 @@ IsStillSet ts None = Unit {0}
 IsStillSet ts (Some s) = IsSetRead ts s
 
 -- a character is read
-reads_character : (last : SetState) (c : ℕ) (bare : Bool) (at place : ℕ) (negated : Bool) (parts : List PartTree) (ts : List Token) → IsSetRead ts (made place negated parts last) →
+reads_character : (last : SetState) (c : ℕ) (bare : Bool) (at place : ℕ) (negated : Bool) (parts : List PartTree) (ts : List Token) →
+    IsSetRead ts (made place negated parts last) →
     IsStillSet (ts ++ token (Char c bare) at ∷ []) (at_set_character c at last (made place negated parts last))
 reads_character state.Opened c bare at place negated parts ts (fresh, leads) =
     (tt, leads_on ts (token (Char c bare) at ∷ []) place negated parts parts state.Opened (state.Character c at) leads (λ vs more h. (more, weaken opening more (token (Char c bare) at ∷ vs) (h bare), refl)))
@@ -201,7 +205,8 @@ reads_character (state.Minus hyphen) c bare at place negated parts ts read = tt
 reads_character (state.Last hyphen) c bare at place negated parts ts read = tt
 
 -- a hyphen that stands for itself right after the opening
-leading : (hyphen : ℕ) (us : List Token) (more : PartsTree) → AreParts elsewhere us more → AreParts opening (token Hyphen hyphen ∷ us) (part (hyphen_at hyphen) more)
+leading : (hyphen : ℕ) (us : List Token) (more : PartsTree) → AreParts elsewhere us more →
+    AreParts opening (token Hyphen hyphen ∷ us) (part (hyphen_at hyphen) more)
 leading hyphen us more h = inr (inl (tt, (hyphen, us, refl, refl, h)))
 
 -- a hyphen is read
@@ -251,7 +256,8 @@ reads_caret (state.Minus hyphen) at place negated parts ts read = tt
 reads_caret (state.Last hyphen) at place negated parts ts read = tt
 
 -- an operand of one token is read, where one may stand
-reads_one : (at : ℕ) (i : SetItemTree) (ts a : List Token) (s : SetLevelTree) → IsSetRead ts s → IsOperand at a i → IsStillSet (ts ++ a) (at_set_operand at i (join_in s.state) s)
+reads_one : (at : ℕ) (i : SetItemTree) (ts a : List Token) (s : SetLevelTree) → IsSetRead ts s → IsOperand at a i →
+    IsStillSet (ts ++ a) (at_set_operand at i (join_in s.state) s)
 reads_one at i ts a s read is = go (join_in s.state) refl
   where
     go : (o : Option Join) → join_in s.state ≡ o → IsStillSet (ts ++ a) (at_set_operand at i o s)
@@ -259,7 +265,8 @@ reads_one at i ts a s read is = go (join_in s.state) refl
     go (Some join) joins = reads_operand ts a at i s join read joins is
 
 -- a token that neither begins nor ends a set is read
-pub reads_token : (kind : TokenKind) (at : ℕ) (ts : List Token) (s : SetLevelTree) → IsSetRead ts s → IsStillSet (ts ++ token kind at ∷ []) (at_set_token kind at s)
+pub reads_token : (kind : TokenKind) (at : ℕ) (ts : List Token) (s : SetLevelTree) → IsSetRead ts s →
+    IsStillSet (ts ++ token kind at ∷ []) (at_set_token kind at s)
 reads_token Caret at ts s read = reads_caret s.state at s.place s.negated s.parts ts read
 reads_token Hyphen at ts s read = reads_hyphen s.state at s.place s.negated s.parts ts read
 reads_token Amp at ts s read = reads_amp s.state at s.place s.negated s.parts ts read

@@ -3,7 +3,5 @@ pub mod Values
 pub mod Grammar
 pub mod Brackets
 pub mod Refusals
-pub mod SetMachine
+pub mod WellMade
 pub mod Machine
-pub mod SetStates
-pub mod States

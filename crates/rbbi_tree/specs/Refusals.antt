@@ -1,5 +1,5 @@
 -- Why a list of tokens is refused.
-use Rattle.std.specs.Prelude.{ℕ, ◌≡◌, ◌<◌, ◌⊎◌, List, ◌++◌, length, take, slice_get, ◌+◌, Option, Some, None, codes}
+use Rattle.std.specs.Prelude.{ℕ, ◌≡◌, ◌<◌, ◌⊎◌, List, ◌++◌, length, take, slice_get, ◌+◌, Option, Some, None, IsSome, codes}
 use Rattle.rbbi_lex.specs.declared.token.Token.{Token}
 use Rattle.rbbi_tree.specs.Trees.{StatementTree}
 use Rattle.rbbi_tree.specs.Grammar.{IsFile, IsNoFile}
@@ -38,6 +38,10 @@ abbrev pub place_of : TreeErr → Option ℕ
 place_of (Syntax place) = Some place
 place_of (TooDeep place) = Some place
 place_of Memory = None
+
+-- the refusal tells the tokens' fault and its place
+abbrev pub IsFaultOf : List Token → ℕ → TreeErr → Type 0
+IsFaultOf tokens end refusal = IsRefusedFor tokens end refusal × IsSome (place_of refusal)
 
 -- the name of a refusal
 abbrev pub label_of : TreeErr → List ℕ

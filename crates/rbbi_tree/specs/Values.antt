@@ -1,6 +1,7 @@
 -- The trees that the values of the code stand for.
 use Rattle.std.specs.Prelude.{◌≡◌, List, map, Option, Some, None}
-use Rattle.rbbi_tree.specs.Trees.{SetTree, PartsTree, PartTree, SetItemTree, set_of, joined, set_character, set_range, set_name, set_property, set_within, parts_of}
+use Rattle.rbbi_tree.specs.Trees.{SetTree, PartsTree, PartTree, SetItemTree, set_of, joined, set_character, set_range, set_name, set_property, set_within}
+use Rattle.rbbi_tree.specs.Trees.{parts_of}
 use Rattle.rbbi_tree.specs.Trees.{ExprTree, SeqTree, ItemTree, AtomTree, placed, character, quoted, any, name, property, set, group, expr_of, seq_of}
 use Rattle.rbbi_tree.specs.Trees.{StatementTree, nothing, control, assign, rule}
 use Rattle.rbbi_tree.specs.declared.syntax.SetExpr.{SetExpr}
@@ -9,7 +10,8 @@ use Rattle.rbbi_tree.specs.declared.syntax.SetPart.{SetPart}
 use Rattle.rbbi_tree.specs.declared.syntax.SetItem.{SetItem}
 use Rattle.rbbi_tree.specs.declared.syntax.SetItem.TheOpen.{SetExpr-F, Parts-F, SetPart-F, SetItem-F}
 use Rattle.rbbi_tree.specs.declared.syntax.SetItem.TheViews.{out-SetExpr, out-Parts, out-SetPart}
-use Rattle.rbbi_tree.specs.declared.syntax.SetItem.TheFolds.{fold-SetExpr, fold-Parts, fold-SetPart, fold-SetItem, fold_out-SetExpr, fold_out-Parts, fold_out-SetPart}
+use Rattle.rbbi_tree.specs.declared.syntax.SetItem.TheFolds.{fold-SetExpr, fold-Parts, fold-SetPart, fold-SetItem, fold_out-SetExpr, fold_out-Parts}
+use Rattle.rbbi_tree.specs.declared.syntax.SetItem.TheFolds.{fold_out-SetPart}
 use Rattle.rbbi_tree.specs.declared.syntax.Expr.{Expr}
 use Rattle.rbbi_tree.specs.declared.syntax.Seq.{Seq}
 use Rattle.rbbi_tree.specs.declared.syntax.Item.{Item}

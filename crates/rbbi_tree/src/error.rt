@@ -8,12 +8,12 @@ use thiserror::Error;
 /// Why a list of tokens is refused.
 #[derive(Debug, Drop, Error)]
 pub enum TreeErr {
-    /// The tokens are no rule file. The place is that of the first token after which no rule file can
-    /// follow, in characters from 0; or the length of the text, where all tokens begin one.
+    /// The tokens are no rule file. The place is that of the first token after which no rule file
+    /// can follow, in characters from 0; or the length of the text, where all tokens begin one.
     #[error("no rule file can go on like this at {0}")]
     Syntax(u32),
-    /// Too many brackets are open. The place is that of the first bracket, round or square, that makes 65
-    /// open ones, in characters from 0.
+    /// Too many brackets are open. The place is that of the first bracket, round or square, that
+    /// makes 65 open ones, in characters from 0.
     #[error("more than 64 brackets are open at {0}")]
     TooDeep(u32),
     /// Memory ran out.

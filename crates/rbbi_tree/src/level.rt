@@ -1,9 +1,16 @@
 //! An expression that is being read.
-ghost use Rattle.std.specs.Prelude.{◌≡◌, ◌==◌, Some, OnOk, IfOk, IfErr, length};
+ghost use Rattle.std.specs.Prelude.{◌≡◌, ◌==◌, OnOk, IfOk, length};
 ghost use Rattle.rbbi_tree.specs.Values.{item_tree, expr_tree};
-ghost use Rattle.rbbi_tree.specs.Machine.{empty_level, with_item, with_sequence, whole, quantified, name_of};
-ghost use Rattle.rbbi_tree.specs.SetStates.{IsStuckAt};
-ghost use Rattle.rbbi_tree.specs.States.{level_tree};
+ghost use Rattle.rbbi_tree.specs.Machine.Statements.{
+  empty_level,
+  with_item,
+  with_sequence,
+  whole,
+  quantified,
+  name_of,
+};
+ghost use Rattle.rbbi_tree.specs.Machine.SetStates.{Reads};
+ghost use Rattle.rbbi_tree.specs.Machine.States.{level_tree};
 
 use crate::error::TreeErr;
 use crate::syntax::{Atom, Expr, Item, Quant, Seq};
@@ -45,7 +52,8 @@ impl Level {
 
     /// One more item.
     pub fn push(&mut self, item: Item) -> Result<(), AllocError>
-        ensures { OnOk result (level_tree self.new ≡ with_item (item_tree item) (level_tree self.old)) }
+        ensures { OnOk result
+            (level_tree self.new ≡ with_item (item_tree item) (level_tree self.old)) }
     {
         self.items.push(item)?;
         Ok(())
@@ -53,9 +61,10 @@ impl Level {
 
     /// Says how often the last item stands, which must not have been said before.
     pub fn quantify(&mut self, place: u32, quant: Quant) -> Result<(), TreeErr>
-        ensures read { OnOk result (quantified quant (level_tree self.old).items ≡ Some ((level_tree self.new).items)) }
-        ensures same { OnOk result ((level_tree self.new).sequences ≡ (level_tree self.old).sequences) }
-        ensures stuck { IfErr result (λ e. IsStuckAt place (quantified quant (level_tree self.old).items) e) }
+        ensures read { Reads place (quantified quant (level_tree self.old).items)
+            (λ _. (level_tree self.new).items) result }
+        ensures same { OnOk result
+            ((level_tree self.new).sequences ≡ (level_tree self.old).sequences) }
     {
         let Some(item) = self.items.pop() else {
             return Err(TreeErr::Syntax(place));
@@ -100,8 +109,8 @@ impl Level {
 
     /// The name that is all of this expression, for an equals sign at this place.
     pub fn into_name(mut self, place: u32) -> Result<Word, TreeErr>
-        ensures read { IfOk result (λ word. name_of (level_tree self).sequences (level_tree self).items ≡ Some word) }
-        ensures stuck { IfErr result (λ e. IsStuckAt place (name_of (level_tree self).sequences (level_tree self).items) e) }
+        ensures { let l = level_tree self in
+            Reads place (name_of l.sequences l.items) (λ word. word) result }
     {
         if !self.sequences.is_empty() {
             return Err(TreeErr::Syntax(place));

@@ -14,7 +14,10 @@ mod tests;
 
 pub use error::TreeErr;
 pub use file::parse;
-pub use laws::{at_most_one_deep, at_most_one_fault, at_most_one_reading};
+pub use laws::{
+    at_most_one_deep, at_most_one_fault, at_most_one_reading, at_most_one_refusal,
+    file_excludes_fault, file_or_fault,
+};
 pub use syntax::{
     Atom, Expr, Item, Join, Parts, Quant, Seq, SetExpr, SetItem, SetPart, Statement, Statements,
 };

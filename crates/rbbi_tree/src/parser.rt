@@ -1,10 +1,24 @@
 //! The parser: what each token of a rule file makes of what was read before it.
-ghost use Rattle.std.specs.Prelude.{◌≡◌, [], Some, None, OnOk, IfOk, IfErr, IsTrue};
+mod sets;
+
+ghost use Rattle.std.specs.Prelude.{◌≡◌, [], None, OnOk, IfOk, IsTrue};
 ghost use Rattle.rbbi_tree.specs.Values.{atom_tree, statement_tree, statement_trees};
-ghost use Rattle.rbbi_tree.specs.Machine.{after, between, ended, fresh, with_sets, with_statement, begun, atom_read, advance, advance_outside, advance_inside, at_atom, at_open, at_set_open, at_quant, quantified, at_bar, at_close, at_slash, at_caret, at_control, at_equals, at_semi, statement_at, statement_read, at_inner_open, at_inner_close};
-ghost use Rattle.rbbi_tree.specs.SetMachine.{join_in, ended_parts};
-ghost use Rattle.rbbi_tree.specs.SetStates.{IsStuckAt};
-ghost use Rattle.rbbi_tree.specs.States.{progress, sets_tree};
+ghost use Rattle.rbbi_tree.specs.Machine.Statements.{
+  after,
+  between,
+  fresh,
+  with_statement,
+  begun,
+  atom_read,
+  advance,
+  at_atom,
+  at_quant,
+  quantified,
+  at_semi,
+  statement_at,
+};
+ghost use Rattle.rbbi_tree.specs.Machine.SetStates.{Reads};
+ghost use Rattle.rbbi_tree.specs.Machine.States.{progress, ReadsOutside, ReadsInside};
 
 use crate::copies::{copy_of, copy_of_option};
 use crate::error::TreeErr;
@@ -16,7 +30,8 @@ use rbbi_text::Word;
 use std::alloc::{AllocError, Global};
 use std::mem;
 
-/// What was read of a statement before the expression that is being read. Places are in characters from 0.
+/// What was read of a statement before the expression that is being read. Places are in characters
+/// from 0.
 #[derive(Drop)]
 enum Head {
     /// Nothing of a statement.
@@ -31,7 +46,7 @@ enum Head {
         place: u32,
         no_chain_in: bool,
     },
-    /// The same, the rule's front, and the place of the `/` behind it.
+    /// Perhaps a `^`, the place of the rule's first token, its front, and the place of the `/` behind it.
     Rest {
         place: u32,
         no_chain_in: bool,
@@ -90,10 +105,11 @@ impl Parser {
         }
     }
 
-    /// Begins a rule at this place, where no statement has begun. No atom may follow a whole statement.
+    /// Begins a rule at this place, where no statement has begun. No atom may follow a whole
+    /// statement.
     fn begin(&mut self, place: u32) -> Result<(), TreeErr>
-        ensures read { OnOk result (begun place (progress self.old).head (progress self.old) ≡ Some (progress self.new)) }
-        ensures stuck { IfErr result (λ e. IsStuckAt place (begun place (progress self.old).head (progress self.old)) e) }
+        ensures { let p = progress self.old in
+            Reads place (begun place p.head p) (λ _. progress self.new) result }
     {
         match &self.head {
             Head::Between => {}
@@ -109,7 +125,8 @@ impl Parser {
 
     /// Adds an atom that begins at this place.
     fn push_atom(&mut self, place: u32, atom: Atom) -> Result<(), AllocError>
-        ensures { OnOk result (progress self.new ≡ atom_read place (atom_tree atom) (progress self.old)) }
+        ensures { OnOk result
+            (progress self.new ≡ atom_read place (atom_tree atom) (progress self.old)) }
     {
         self.level.push(Item {
             place,
@@ -120,8 +137,8 @@ impl Parser {
 
     /// Reads an atom of one token.
     fn read_atom(&mut self, place: u32, atom: Atom) -> Result<(), TreeErr>
-        ensures read { OnOk result (at_atom place (atom_tree atom) (progress self.old) ≡ Some (progress self.new)) }
-        ensures stuck { IfErr result (λ e. IsStuckAt place (at_atom place (atom_tree atom) (progress self.old)) e) }
+        ensures { Reads place (at_atom place (atom_tree atom) (progress self.old))
+            (λ _. progress self.new) result }
     {
         self.begin(place)?;
         self.push_atom(place, atom)?;
@@ -130,8 +147,7 @@ impl Parser {
 
     /// Reads an opening round bracket.
     fn begin_group(&mut self, alloc: Global, place: u32) -> Result<(), TreeErr>
-        ensures read { OnOk result (at_open place (progress self.old) ≡ Some (progress self.new)) }
-        ensures stuck { IfErr result (λ e. IsStuckAt place (at_open place (progress self.old)) e) }
+        ensures { ReadsOutside TokenKind.ParenOpen place self.old result self.new }
     {
         self.begin(place)?;
         let outer = mem::replace(&mut self.level, Level::new(alloc));
@@ -141,8 +157,7 @@ impl Parser {
 
     /// Reads an opening square bracket, outside of sets.
     fn begin_set(&mut self, alloc: Global, place: u32) -> Result<(), TreeErr>
-        ensures read { OnOk result (at_set_open place (progress self.old) ≡ Some (progress self.new)) }
-        ensures stuck { IfErr result (λ e. IsStuckAt place (at_set_open place (progress self.old)) e) }
+        ensures { ReadsOutside TokenKind.SetOpen place self.old result self.new }
     {
         self.begin(place)?;
         self.sets = Some(OpenSets {
@@ -154,8 +169,7 @@ impl Parser {
 
     /// Reads a closing round bracket. It needs an item before it, and an open group.
     fn end_group(&mut self, place: u32) -> Result<(), TreeErr>
-        ensures read { OnOk result (at_close (progress self.old).level.items (progress self.old).groups (progress self.old) ≡ Some (progress self.new)) }
-        ensures stuck { IfErr result (λ e. IsStuckAt place (at_close (progress self.old).level.items (progress self.old).groups (progress self.old)) e) }
+        ensures { ReadsOutside TokenKind.ParenClose place self.old result self.new }
     {
         if self.level.lacks_item() {
             return Err(TreeErr::Syntax(place));
@@ -171,16 +185,16 @@ impl Parser {
 
     /// Reads a sign how often an atom stands. It needs an atom right before it.
     fn read_quant(&mut self, place: u32, quant: Quant) -> Result<(), TreeErr>
-        ensures read { OnOk result (at_quant (quantified quant (progress self.old).level.items) (progress self.old) ≡ Some (progress self.new)) }
-        ensures stuck { IfErr result (λ e. IsStuckAt place (at_quant (quantified quant (progress self.old).level.items) (progress self.old)) e) }
+        ensures { let p = progress self.old in
+            Reads place (at_quant (quantified quant p.level.items) p)
+            (λ _. progress self.new) result }
     {
         self.level.quantify(place, quant)
     }
 
     /// Reads a bar. It needs an item before it, and stands beside no slash.
     fn read_bar(&mut self, alloc: Global, place: u32) -> Result<(), TreeErr>
-        ensures read { OnOk result (at_bar (progress self.old).level.items (progress self.old).groups (progress self.old) ≡ Some (progress self.new)) }
-        ensures stuck { IfErr result (λ e. IsStuckAt place (at_bar (progress self.old).level.items (progress self.old).groups (progress self.old)) e) }
+        ensures { ReadsOutside TokenKind.Bar place self.old result self.new }
     {
         if self.level.lacks_item() {
             return Err(TreeErr::Syntax(place));
@@ -194,8 +208,7 @@ impl Parser {
 
     /// Reads a slash. It needs a front of one sequence before it, and no open group.
     fn read_slash(&mut self, alloc: Global, place: u32) -> Result<(), TreeErr>
-        ensures read { OnOk result (at_slash place (progress self.old).level.items (progress self.old).level.sequences (progress self.old).groups (progress self.old) ≡ Some (progress self.new)) }
-        ensures stuck { IfErr result (λ e. IsStuckAt place (at_slash place (progress self.old).level.items (progress self.old).level.sequences (progress self.old).groups (progress self.old)) e) }
+        ensures { ReadsOutside TokenKind.Slash place self.old result self.new }
     {
         if self.level.lacks_item() || !self.level.lacks_bar() || !self.groups.is_empty() {
             return Err(TreeErr::Syntax(place));
@@ -220,8 +233,7 @@ impl Parser {
 
     /// Reads a `^` outside of sets. It begins a rule.
     fn read_caret(&mut self, place: u32) -> Result<(), TreeErr>
-        ensures read { OnOk result (at_caret place (progress self.old).head (progress self.old) ≡ Some (progress self.new)) }
-        ensures stuck { IfErr result (λ e. IsStuckAt place (at_caret place (progress self.old).head (progress self.old)) e) }
+        ensures { ReadsOutside TokenKind.Caret place self.old result self.new }
     {
         let Head::Between = &self.head else {
             return Err(TreeErr::Syntax(place));
@@ -235,8 +247,7 @@ impl Parser {
 
     /// Reads a control. It begins a statement.
     fn read_control(&mut self, alloc: Global, place: u32, name: &Word) -> Result<(), TreeErr>
-        ensures read { OnOk result (at_control name.now place (progress self.old).head (progress self.old) ≡ Some (progress self.new)) }
-        ensures stuck { IfErr result (λ e. IsStuckAt place (at_control name.now place (progress self.old).head (progress self.old)) e) }
+        ensures { ReadsOutside (TokenKind.Control name.now) place self.old result self.new }
     {
         let Head::Between = &self.head else {
             return Err(TreeErr::Syntax(place));
@@ -248,8 +259,7 @@ impl Parser {
 
     /// Reads an equals sign. A name must be all that was read of the statement.
     fn read_equals(&mut self, alloc: Global, place: u32) -> Result<(), TreeErr>
-        ensures read { OnOk result (at_equals (progress self.old).head (progress self.old).groups (progress self.old) ≡ Some (progress self.new)) }
-        ensures stuck { IfErr result (λ e. IsStuckAt place (at_equals (progress self.old).head (progress self.old).groups (progress self.old)) e) }
+        ensures { ReadsOutside TokenKind.Equals place self.old result self.new }
     {
         let Head::Rule {
             place: at,
@@ -267,17 +277,17 @@ impl Parser {
         Ok(())
     }
 
-    /// Takes the statement that the expression and the tag end. It needs an item at the end, and no open group;
-    /// an assignment takes no tag.
+    /// Takes the statement that the expression and the tag end. It needs an item at the end, and no
+    /// open group; an assignment takes no tag.
     fn take_statement(
         &mut self,
         alloc: Global,
         place: u32,
         tag: Option<u32>,
     ) -> Result<Statement, TreeErr>
-        ensures read { IfOk result (λ s. statement_at (progress self.old).level.items (progress self.old).groups tag (progress self.old) ≡ Some (statement_tree s)) }
+        ensures read { let p = progress self.old in
+            Reads place (statement_at p.level.items p.groups tag p) statement_tree result }
         ensures fresh { OnOk result (progress self.new ≡ fresh between (progress self.old)) }
-        ensures stuck { IfErr result (λ e. IsStuckAt place (statement_at (progress self.old).level.items (progress self.old).groups tag (progress self.old)) e) }
     {
         if self.level.lacks_item() || !self.groups.is_empty() {
             return Err(TreeErr::Syntax(place));
@@ -323,8 +333,7 @@ impl Parser {
 
     /// Reads a tag. It needs a rule before it.
     fn read_tag(&mut self, alloc: Global, place: u32, status: u32) -> Result<(), TreeErr>
-        ensures read { OnOk result (statement_read (statement_at (progress self.old).level.items (progress self.old).groups (Some status) (progress self.old)) (progress self.old) ≡ Some (progress self.new)) }
-        ensures stuck { IfErr result (λ e. IsStuckAt place (statement_read (statement_at (progress self.old).level.items (progress self.old).groups (Some status) (progress self.old)) (progress self.old)) e) }
+        ensures { ReadsOutside (TokenKind.Tag status) place self.old result self.new }
     {
         let statement = self.take_statement(alloc, place, Some(status))?;
         self.head = Head::Whole(statement);
@@ -333,9 +342,9 @@ impl Parser {
 
     /// Takes the statement that a semicolon ends.
     fn take_ended(&mut self, alloc: Global, place: u32) -> Result<Statement, TreeErr>
-        ensures read { IfOk result (λ s. at_semi (progress self.old).head (progress self.old) ≡ Some (with_statement (statement_tree s) (progress self.new))) }
+        ensures read { let p = progress self.old in Reads place (at_semi p.head p)
+            (λ s. with_statement (statement_tree s) (progress self.new)) result }
         ensures between { OnOk result ((progress self.new).head ≡ between) }
-        ensures stuck { IfErr result (λ e. IsStuckAt place (at_semi (progress self.old).head (progress self.old)) e) }
     {
         match mem::replace(&mut self.head, Head::Between) {
             Head::Between => Ok(Statement::Nothing),
@@ -349,8 +358,7 @@ impl Parser {
 
     /// Reads a semicolon.
     fn end_statement(&mut self, alloc: Global, place: u32) -> Result<(), TreeErr>
-        ensures read { OnOk result (at_semi (progress self.old).head (progress self.old) ≡ Some (progress self.new)) }
-        ensures stuck { IfErr result (λ e. IsStuckAt place (at_semi (progress self.old).head (progress self.old)) e) }
+        ensures { ReadsOutside TokenKind.Semi place self.old result self.new }
     {
         let statement = self.take_ended(alloc, place)?;
         self.statements.push(statement)?;
@@ -359,8 +367,7 @@ impl Parser {
 
     /// Reads a token outside of sets.
     fn read_outside(&mut self, alloc: Global, token: &Token) -> Result<(), TreeErr>
-        ensures read { OnOk result (advance_outside token.now.kind token.now.place (progress self.old) ≡ Some (progress self.new)) }
-        ensures stuck { IfErr result (λ e. IsStuckAt token.now.place (advance_outside token.now.kind token.now.place (progress self.old)) e) }
+        ensures { ReadsOutside token.now.kind token.now.place self.old result self.new }
     {
         let place = token.place;
         match &token.kind {
@@ -402,69 +409,10 @@ impl Parser {
         }
     }
 
-    /// Reads an opening square bracket within a set. It needs a place where an operand may stand.
-    fn begin_inner_set(&mut self, alloc: Global, sets: OpenSets, place: u32) -> Result<(), TreeErr>
-        ensures read { OnOk result (at_inner_open place (join_in sets.innermost.state) (sets_tree sets) (with_sets (Some (sets_tree sets)) (progress self.old)) ≡ Some (progress self.new)) }
-        ensures stuck { IfErr result (λ e. IsStuckAt place (at_inner_open place (join_in sets.innermost.state) (sets_tree sets) (with_sets (Some (sets_tree sets)) (progress self.old))) e) }
-    {
-        let OpenSets {
-            innermost,
-            mut outers,
-        } = sets;
-        let outer = innermost.into_outer(place)?;
-        outers.push(outer)?;
-        self.sets = Some(OpenSets {
-            innermost: SetLevel::new(alloc, place),
-            outers,
-        });
-        Ok(())
-    }
-
-    /// Reads a closing square bracket. It needs an operand after a `&`.
-    fn end_set(&mut self, sets: OpenSets, place: u32) -> Result<(), TreeErr>
-        requires { self.old.sets ≡ None }
-        ensures read { OnOk result (at_inner_close (ended_parts sets.innermost.state (sets_tree sets).innermost.parts) (sets_tree sets) (with_sets (Some (sets_tree sets)) (progress self.old)) ≡ Some (progress self.new)) }
-        ensures stuck { IfErr result (λ e. IsStuckAt place (at_inner_close (ended_parts sets.innermost.state (sets_tree sets).innermost.parts) (sets_tree sets) (with_sets (Some (sets_tree sets)) (progress self.old))) e) }
-    {
-        let OpenSets {
-            innermost,
-            mut outers,
-        } = sets;
-        let at = innermost.place();
-        let set = innermost.into_set(place)?;
-        let Some(outer) = outers.pop() else {
-            self.push_atom(at, Atom::Set(set))?;
-            return Ok(());
-        };
-        self.sets = Some(OpenSets {
-            innermost: outer.resumed(set, at)?,
-            outers,
-        });
-        Ok(())
-    }
-
-    /// Reads a token within sets.
-    fn read_inside(&mut self, alloc: Global, sets: OpenSets, token: &Token) -> Result<(), TreeErr>
-        requires { self.old.sets ≡ None }
-        ensures read { OnOk result (advance_inside token.now.kind token.now.place (sets_tree sets) (with_sets (Some (sets_tree sets)) (progress self.old)) ≡ Some (progress self.new)) }
-        ensures stuck { IfErr result (λ e. IsStuckAt token.now.place (advance_inside token.now.kind token.now.place (sets_tree sets) (with_sets (Some (sets_tree sets)) (progress self.old))) e) }
-    {
-        match &token.kind {
-            TokenKind::SetOpen => self.begin_inner_set(alloc, sets, token.place),
-            TokenKind::SetClose => self.end_set(sets, token.place),
-            _ => {
-                let mut sets = sets;
-                sets.innermost.read(alloc, token)?;
-                self.sets = Some(sets);
-                Ok(())
-            }
-        }
-    }
-
     /// Reads a token. Refuses `Syntax` at its place where no file can go on like this.
     pub fn read(&mut self, alloc: Global, token: &Token) -> Result<(), TreeErr>
-        ensures read { OnOk result (advance token.now (progress self.old) ≡ Some (progress self.new)) }
-        ensures stuck { IfErr result (λ e. IsStuckAt token.now.place (advance token.now (progress self.old)) e) }
+        ensures { Reads token.now.place (advance token.now (progress self.old))
+            (λ _. progress self.new) result }
     {
         match mem::replace(&mut self.sets, None) {
             None => self.read_outside(alloc, token),

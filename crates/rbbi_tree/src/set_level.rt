@@ -1,10 +1,31 @@
 //! A set that is being read.
-ghost use Rattle.std.specs.Prelude.{◌≡◌, ◌∷◌, List, Some, OnOk, IfOk, IfErr};
+ghost use Rattle.std.specs.Prelude.{◌≡◌, ◌∷◌, List, Some, OnOk, IfOk, MatchResult};
 ghost use Rattle.rbbi_tree.specs.Grammar.{hyphen_at};
 ghost use Rattle.rbbi_tree.specs.Trees.{PartTree, joined};
 ghost use Rattle.rbbi_tree.specs.Values.{set_item_tree, set_tree};
-ghost use Rattle.rbbi_tree.specs.SetMachine.{opened, level_with, settled, at_set_caret, at_set_hyphen, at_set_amp, at_set_character, at_set_operand, at_set_token, join_in, ended_parts, set_from, outer_set, set_resumed};
-ghost use Rattle.rbbi_tree.specs.SetStates.{set_level_tree, outer_set_tree, IsStuckAt};
+ghost use Rattle.rbbi_tree.specs.Machine.Sets.{
+  opened,
+  level_with,
+  settled,
+  at_set_caret,
+  at_set_hyphen,
+  at_set_amp,
+  at_set_character,
+  at_set_operand,
+  at_set_token,
+  join_in,
+  ended_parts,
+  set_from,
+  outer_set,
+  set_resumed,
+};
+ghost use Rattle.rbbi_tree.specs.Machine.SetStates.{
+  set_level_tree,
+  outer_set_tree,
+  IsStuckAt,
+  Reads,
+  ReadsInSet,
+};
 
 use crate::copies::{copy_of, copy_of_option};
 use crate::error::TreeErr;
@@ -12,7 +33,8 @@ use crate::syntax::{Join, Parts, SetExpr, SetItem, SetPart};
 use rbbi_lex::{Token, TokenKind};
 use std::alloc::{AllocError, Global};
 
-/// What was read last in a set, as far as it decides what may follow. Places are in characters from 0.
+/// What was read last in a set, as far as it decides what may follow. Places are in characters from
+/// 0.
 #[derive(Clone, Copy)]
 pub enum SetState {
     /// The bracket.
@@ -87,7 +109,8 @@ impl SetLevel {
         item: SetItem,
         state: SetState,
     ) -> Result<(), AllocError>
-        ensures { OnOk result (set_level_tree self.new ≡ level_with (set_level_tree self.old) (joined place join (set_item_tree item) ∷ (set_level_tree self.old).parts) state) }
+        ensures { let s = set_level_tree self.old in OnOk result (set_level_tree self.new
+            ≡ level_with s (joined place join (set_item_tree item) ∷ s.parts) state) }
     {
         self.parts.push(SetPart { place, join, item })?;
         self.state = state;
@@ -96,7 +119,8 @@ impl SetLevel {
 
     /// Adds the character that was read last, where there is one that no range has taken.
     fn settle(&mut self) -> Result<(), AllocError>
-        ensures { OnOk result (set_level_tree self.new ≡ level_with (set_level_tree self.old) (settled self.old.state (set_level_tree self.old).parts) self.new.state) }
+        ensures { let s = set_level_tree self.old in OnOk result (set_level_tree self.new
+            ≡ level_with s (settled s.state s.parts) self.new.state) }
     {
         if let SetState::Character { c, place } = self.state {
             self.push(place, Join::Add, SetItem::Char(c), SetState::Apart)?;
@@ -106,15 +130,16 @@ impl SetLevel {
 
     /// Adds a hyphen that stands for itself.
     fn push_hyphen(&mut self, place: u32) -> Result<(), AllocError>
-        ensures { OnOk result (set_level_tree self.new ≡ level_with (set_level_tree self.old) (hyphen_at place ∷ (set_level_tree self.old).parts) SetState.Apart) }
+        ensures { let s = set_level_tree self.old in OnOk result (set_level_tree self.new
+            ≡ level_with s (hyphen_at place ∷ s.parts) SetState.Apart) }
     {
         self.push(place, Join::Add, SetItem::Char('-'), SetState::Apart)
     }
 
     /// Reads a `^`. It must stand right after the bracket.
     fn read_caret(&mut self, place: u32) -> Result<(), TreeErr>
-        ensures read { OnOk result (at_set_caret self.old.state (set_level_tree self.old) ≡ Some (set_level_tree self.new)) }
-        ensures stuck { IfErr result (λ e. IsStuckAt place (at_set_caret self.old.state (set_level_tree self.old)) e) }
+        ensures { let s = set_level_tree self.old in
+            ReadsInSet place (at_set_caret s.state s) result self.new }
     {
         match self.state {
             SetState::Opened => {
@@ -133,11 +158,11 @@ impl SetLevel {
         }
     }
 
-    /// Reads a hyphen: the character where it stands right after the opening, or else the sign of a range or
-    /// of a difference, or the character right before the end.
+    /// Reads a hyphen: the character where it stands right after the opening, or else the sign of a
+    /// range or of a difference, or the character right before the end.
     fn read_hyphen(&mut self, place: u32) -> Result<(), TreeErr>
-        ensures read { OnOk result (at_set_hyphen place self.old.state (set_level_tree self.old) ≡ Some (set_level_tree self.new)) }
-        ensures stuck { IfErr result (λ e. IsStuckAt place (at_set_hyphen place self.old.state (set_level_tree self.old)) e) }
+        ensures { let s = set_level_tree self.old in
+            ReadsInSet place (at_set_hyphen place s.state s) result self.new }
     {
         match self.state {
             SetState::Opened | SetState::Begun => self.push_hyphen(place)?,
@@ -160,8 +185,8 @@ impl SetLevel {
 
     /// Reads a `&`. It must stand right after an operand.
     fn read_amp(&mut self, place: u32) -> Result<(), TreeErr>
-        ensures read { OnOk result (at_set_amp self.old.state (set_level_tree self.old) ≡ Some (set_level_tree self.new)) }
-        ensures stuck { IfErr result (λ e. IsStuckAt place (at_set_amp self.old.state (set_level_tree self.old)) e) }
+        ensures { let s = set_level_tree self.old in
+            ReadsInSet place (at_set_amp s.state s) result self.new }
     {
         match self.state {
             SetState::Operand => {
@@ -181,8 +206,8 @@ impl SetLevel {
 
     /// Reads a character, which may begin or end a range.
     fn read_char(&mut self, place: u32, c: char) -> Result<(), TreeErr>
-        ensures read { OnOk result (at_set_character c place self.old.state (set_level_tree self.old) ≡ Some (set_level_tree self.new)) }
-        ensures stuck { IfErr result (λ e. IsStuckAt place (at_set_character c place self.old.state (set_level_tree self.old)) e) }
+        ensures { let s = set_level_tree self.old in
+            ReadsInSet place (at_set_character c place s.state s) result self.new }
     {
         match self.state {
             SetState::Opened | SetState::Begun | SetState::Apart | SetState::Operand => {
@@ -227,8 +252,8 @@ impl SetLevel {
 
     /// Reads an operand of one token.
     fn read_operand(&mut self, place: u32, item: SetItem) -> Result<(), TreeErr>
-        ensures read { OnOk result (at_set_operand place (set_item_tree item) (join_in self.old.state) (set_level_tree self.old) ≡ Some (set_level_tree self.new)) }
-        ensures stuck { IfErr result (λ e. IsStuckAt place (at_set_operand place (set_item_tree item) (join_in self.old.state) (set_level_tree self.old)) e) }
+        ensures { let s = set_level_tree self.old in ReadsInSet place
+            (at_set_operand place (set_item_tree item) (join_in s.state) s) result self.new }
     {
         let Some(join) = self.join() else {
             return Err(TreeErr::Syntax(place));
@@ -240,8 +265,9 @@ impl SetLevel {
 
     /// Reads a token that neither begins nor ends a set.
     pub fn read(&mut self, alloc: Global, token: &Token) -> Result<(), TreeErr>
-        ensures read { OnOk result (at_set_token token.now.kind token.now.place (set_level_tree self.old) ≡ Some (set_level_tree self.new)) }
-        ensures stuck { IfErr result (λ e. IsStuckAt token.now.place (at_set_token token.now.kind token.now.place (set_level_tree self.old)) e) }
+        ensures { ReadsInSet token.now.place
+            (at_set_token token.now.kind token.now.place (set_level_tree self.old))
+            result self.new }
     {
         let place = token.place;
         match &token.kind {
@@ -274,8 +300,10 @@ impl SetLevel {
 
     /// Makes this an outer set, in which another one begins at this place.
     pub fn into_outer(mut self, place: u32) -> Result<OuterSet, TreeErr>
-        ensures read { IfOk result (λ o. (j : Join) × (join_in self.state ≡ Some j) × (outer_set_tree o ≡ outer_set (set_level_tree self) j)) }
-        ensures stuck { IfErr result (λ e. IsStuckAt place (join_in self.state) e) }
+        ensures { MatchResult result
+            (λ o. (j : Join) × (join_in self.state ≡ Some j)
+            × (outer_set_tree o ≡ outer_set (set_level_tree self) j))
+            (IsStuckAt place (join_in self.state)) }
     {
         let Some(join) = self.join() else {
             return Err(TreeErr::Syntax(place));
@@ -297,8 +325,10 @@ impl SetLevel {
 
     /// The set that ends with a bracket at this place, which needs no operand before it.
     pub fn into_set(mut self, place: u32) -> Result<SetExpr, TreeErr>
-        ensures read { IfOk result (λ s. (parts : List PartTree) × (ended_parts self.state (set_level_tree self).parts ≡ Some parts) × (set_tree s ≡ set_from (set_level_tree self) parts)) }
-        ensures stuck { IfErr result (λ e. IsStuckAt place (ended_parts self.state (set_level_tree self).parts) e) }
+        ensures { let s = set_level_tree self in MatchResult result
+            (λ set. (parts : List PartTree) × (ended_parts s.state s.parts ≡ Some parts)
+            × (set_tree set ≡ set_from s parts))
+            (IsStuckAt place (ended_parts s.state s.parts)) }
     {
         self.end(place)?;
         let SetLevel {
@@ -316,9 +346,10 @@ impl SetLevel {
 
     /// Adds what was read last and is no part yet, where the set may end.
     fn end(&mut self, place: u32) -> Result<(), TreeErr>
-        ensures read { OnOk result (ended_parts self.old.state (set_level_tree self.old).parts ≡ Some ((set_level_tree self.new).parts)) }
-        ensures same { OnOk result ((self.new.place ≡ self.old.place) × (self.new.negated ≡ self.old.negated)) }
-        ensures stuck { IfErr result (λ e. IsStuckAt place (ended_parts self.old.state (set_level_tree self.old).parts) e) }
+        ensures read { let s = set_level_tree self.old in Reads place (ended_parts s.state s.parts)
+            (λ _. (set_level_tree self.new).parts) result }
+        ensures same { OnOk result
+            ((self.new.place ≡ self.old.place) × (self.new.negated ≡ self.old.negated)) }
     {
         match self.state {
             SetState::Opened | SetState::Begun | SetState::Apart | SetState::Operand => {}
@@ -343,7 +374,8 @@ impl SetLevel {
 impl OuterSet {
     /// The set after one that ended in it.
     pub fn resumed(self, inner: SetExpr, place: u32) -> Result<SetLevel, AllocError>
-        ensures { IfOk result (λ s. set_level_tree s ≡ set_resumed place (set_tree inner) (outer_set_tree self)) }
+        ensures { IfOk result (λ s.
+            set_level_tree s ≡ set_resumed place (set_tree inner) (outer_set_tree self)) }
     {
         let OuterSet {
             place: bracket,

@@ -31,7 +31,8 @@ pub struct Item {
 #[derive(Debug, Drop)]
 #[cycle(syntax)]
 pub enum Atom {
-    /// A character that stands for itself. It is bare where it is written without a quote or an escape.
+    /// A character that stands for itself. It is bare where it is written without a quote or an
+    /// escape.
     Char {
         c: char,
         bare: bool,
@@ -86,8 +87,8 @@ pub struct Parts {
     pub items: Vec<SetPart>,
 }
 
-/// A part of a set: how it is joined with what stands before it, and its place, that of its item's first
-/// token in characters from 0.
+/// A part of a set: how it is joined with what stands before it, and its place, that of its item's
+/// first token in characters from 0.
 #[derive(Debug, Drop)]
 #[cycle(sets)]
 pub struct SetPart {
@@ -143,8 +144,9 @@ pub enum Statement {
         place: u32,
         expr: Expr,
     },
-    /// A rule: the place of its first token; whether a `^` stands first; what it matches, up to the `/` where
-    /// there is one; the place of the `/` and what stands behind it, which come together; and its status.
+    /// A rule: the place of its first token; whether a `^` stands first; what it matches, up to the
+    /// `/` where there is one; the place of the `/` and what stands behind it, which come together;
+    /// and its status.
     Rule {
         place: u32,
         no_chain_in: bool,

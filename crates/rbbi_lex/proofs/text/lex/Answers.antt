@@ -14,7 +14,8 @@ loop-lexer-init c =
 pub returns-in_err-token-clause-exact : goal.returns-in_err-token-clause-exact
 returns-in_err-token-clause-exact c =
     let lexer = c.loop-lexer.lexer in
-    let tells = StopsAt-tells lexer.characters.items c.loop-lexer.tokens lexer.state lexer.place c.in_err-token.field-0.0 c.loop-lexer.invariant.read c.in_err-token.ensures.step in
+    let tells =
+    StopsAt-tells lexer.characters.items c.loop-lexer.tokens lexer.state lexer.place c.in_err-token.field-0.0 c.loop-lexer.invariant.read c.in_err-token.ensures.step in
     let told = subst (λ (x : List ℕ). TellsFault x c.in_err-token.field-0.0) c.loop-lexer.invariant.characters tells in
     let exit = err_from_is_err_and c.from_residual-in_err-token.result c.from_residual-in_err-token.ensures.1 in
     rw (exit.1, exit.2) told
@@ -23,7 +24,8 @@ pub loop-lexer-smaller : goal.loop-lexer-smaller
 loop-lexer-smaller c =
     let lexer = c.loop-lexer.lexer in
     let step = rw c.in-Some.is at c.in_ok-token.ensures.step in
-    let forward = step_forward lexer.characters.items lexer.state lexer.place c.in-Some.token.place c.next_token.new.self.place c.in-Some.token.kind step.0 step.1 in
+    let forward =
+    step_forward lexer.characters.items lexer.state lexer.place c.in-Some.token.place c.next_token.new.self.place c.in-Some.token.kind step.0 step.1 in
     let same = c.next_token.ensures.characters in
     let within = c.next_token.new.self.within in
     let shorter : vec_len c.next_token.new.self.characters ≡ vec_len lexer.characters = rw same refl in

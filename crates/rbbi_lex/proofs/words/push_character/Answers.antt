@@ -7,7 +7,8 @@ use Rattle.std.specs.declared.alloc.AllocError.{AllocError}
 use Rattle.rbbi_lex.proofs.TextLemmas.{chars-push}
 use Rattle.rbbi_lex.proofs.words.push_character.Goals as goal
 
-pushed : (r : Result (Unit {0}) AllocError) (bs new : List ℕ) (c : ℕ) → new ≡ cond (is_ok r) (bs ++ encode_utf8 c) bs → IsUtf8 bs → IsScalar c → OnOk r (chars new ≡ chars bs ++ c ∷ [])
+pushed : (r : Result (Unit {0}) AllocError) (bs new : List ℕ) (c : ℕ) → new ≡ cond (is_ok r) (bs ++ encode_utf8 c) bs → IsUtf8 bs → IsScalar c →
+    OnOk r (chars new ≡ chars bs ++ c ∷ [])
 pushed (Ok u) bs new c e utf8 scalar = ap chars e ∙ chars-push bs c utf8 scalar
 pushed (Err u) bs new c e utf8 scalar = tt
 

@@ -11,4 +11,6 @@ loop-i-init c =
 pub loop-i-preserved : goal.loop-i-preserved
 loop-i-preserved c =
     let ch = c.index-text-i.result in
-    c.in_ok-push_character.ensures ∙ ap (λ (v : List ℕ). v ++ ch ∷ []) c.loop-i.invariant ∙ sym (slice_range-more c.args.text.now c.args.from c.loop-i.i ch (omega arith) (omega arith) c.index-text-i.is)
+    c.in_ok-push_character.ensures
+    ∙ ap (λ (v : List ℕ). v ++ ch ∷ []) c.loop-i.invariant
+    ∙ sym (slice_range-more c.args.text.now c.args.from c.loop-i.i ch (omega arith) (omega arith) c.index-text-i.is)

@@ -1,9 +1,7 @@
-use Rattle.std.proofs.Common.{length}
+use Rattle.std.proofs.Common.{◌≡◌, length}
+use Rattle.std.specs.Str.Lines.{lines}
 use Rattle.rbbi_props.proofs.Reading.{IsReading}
 use Rattle.rbbi_props.proofs.file.read_rows.Given as goal
 
-abbrev pub invariant-loop-rest : goal.invariant-loop-rest
-invariant-loop-rest l = IsReading l.text l.rest l.rows.items l.number
-
-abbrev pub decreases-loop-rest : goal.decreases-loop-rest
-decreases-loop-rest l = length l.rest
+abbrev pub invariant-loop-line : goal.invariant-loop-line
+invariant-loop-line l = (l.number ≡ length l.yielded) × IsReading (lines l.text) l.rows.items l.number

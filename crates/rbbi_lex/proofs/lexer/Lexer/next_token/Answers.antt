@@ -15,7 +15,8 @@ pub invariant_of-self : goal.invariant_of-self
 invariant_of-self c =
     let self = c.skip.new.self in
     let t = c.in-Some.spelled in
-    let spelled = subst (λ (x : List ℕ). Spells x c.row-row.result self.place t.end t.kind) c.as_slice.ensures.value (rw c.in-Some.is at c.in_ok-spelled.ensures) in
+    let spelled =
+    subst (λ (x : List ℕ). Spells x c.row-row.result self.place t.end t.kind) c.as_slice.ensures.value (rw c.in-Some.is at c.in_ok-spelled.ensures) in
     let at : TokenAt self.characters.items self.state self.place t.end t.kind = (c.row-row.result, c.row-row.ensures, spelled) in
     let forward = TokenAt-forward self.characters.items self.state self.place t.end t.kind at in
     let ends = TokenAt-ends self.characters.items self.state self.place t.end t.kind at in
@@ -30,7 +31,10 @@ returns-in-None-clause-step c =
     let row = c.row-row.result in
     let x = old.characters.items in
     let items : new.characters.items ≡ x = rw c.skip.ensures.characters refl in
-    let fits = subst (λ (v : List ℕ). RowAt v old.state new.place row) items (subst (λ (s : State). RowAt new.characters.items s new.place row) c.skip.ensures.state c.row-row.ensures) in
-    let none = subst (λ (v : List ℕ). SpellsNone v row new.place) items (subst (λ (v : List ℕ). SpellsNone v row new.place) c.as_slice.ensures.value (rw c.in-None.is at c.in_ok-spelled.ensures)) in
-    let tells = error_of-tells (λ fault place. Skipped x old.state old.place place × FaultAt x old.state place fault) (fault_of row) new.place (c.skip.ensures.skipped, (row, fits, none, refl)) in
+    let fits =
+    subst (λ (v : List ℕ). RowAt v old.state new.place row) items (subst (λ (s : State). RowAt new.characters.items s new.place row) c.skip.ensures.state c.row-row.ensures) in
+    let none =
+    subst (λ (v : List ℕ). SpellsNone v row new.place) items (subst (λ (v : List ℕ). SpellsNone v row new.place) c.as_slice.ensures.value (rw c.in-None.is at c.in_ok-spelled.ensures)) in
+    let tells =
+    error_of-tells (λ fault place. Skipped x old.state old.place place × FaultAt x old.state place fault) (fault_of row) new.place (c.skip.ensures.skipped, (row, fits, none, refl)) in
     subst (λ (e : LexErr). StopsAt x old.state old.place e) (sym c.fault.ensures) tells

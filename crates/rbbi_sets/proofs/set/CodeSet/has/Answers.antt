@@ -11,7 +11,8 @@ pub returns-then-next-len : goal.returns-then-next-len
 returns-then-next-len c =
     let xs = c.self.inside.ranges.items in
     let parted = IsPartitionedBy-ltb (λ (r : Range). r.high) xs c.args.c (ends_rise xs c.self.invariant) in
-    let point = IsPartitionPoint-from_clause (λ (r : Range). ltb r.high c.args.c) c.deref.result.now _ c.partition_point-next.ensures.partitioned (rw c.deref.ensures.value parted) (λ a r q k. search rules) in
+    let point =
+    IsPartitionPoint-from_clause (λ (r : Range). ltb r.high c.args.c) c.deref.result.now _ c.partition_point-next.ensures.partitioned (rw c.deref.ensures.value parted) (λ a r q k. search rules) in
     let next : IsNextRange xs c.args.c c.partition_point-next.result =
     next_from_point xs c.args.c _ (rw c.deref.ensures.value at point) in
     rw (← c.self.view_is)
@@ -22,8 +23,10 @@ pub returns-else-next-len : goal.returns-else-next-len
 returns-else-next-len c =
     let xs = c.self.inside.ranges.items in
     let parted = IsPartitionedBy-ltb (λ (r : Range). r.high) xs c.args.c (ends_rise xs c.self.invariant) in
-    let point = IsPartitionPoint-from_clause (λ (r : Range). ltb r.high c.args.c) c.deref.result.now _ c.partition_point-next.ensures.partitioned (rw c.deref.ensures.value parted) (λ a r q k. search rules) in
+    let point =
+    IsPartitionPoint-from_clause (λ (r : Range). ltb r.high c.args.c) c.deref.result.now _ c.partition_point-next.ensures.partitioned (rw c.deref.ensures.value parted) (λ a r q k. search rules) in
     let next : IsNextRange xs c.args.c c.partition_point-next.result =
     next_from_point xs c.args.c _ (rw c.deref.ensures.value at point) in
-    let none = has_past xs c.args.c c.partition_point-next.result next (omega (arith, c.self.inside.ranges.ok.0, c.partition_point-next.ensures.bound, ap length c.deref.ensures.value)) in
+    let none =
+    has_past xs c.args.c c.partition_point-next.result next (omega (arith, c.self.inside.ranges.ok.0, c.partition_point-next.ensures.bound, ap length c.deref.ensures.value)) in
     rw (← c.self.view_is) (λ t. absurd (omega (arith, ltb-true _ _ t)), λ h. absurd (none h))

@@ -1,7 +1,7 @@
 use Rattle.std.proofs.Common.{◌≡◌, [], ◌∷◌, ◌++◌, map, reverse, sym, ◌∙◌, ap, refl}
 use Rattle.std.proofs.lemmas.List.{map-append, reverse-append}
 use Rattle.rbbi_tree.specs.Trees.{seq_of, no_items}
-use Rattle.rbbi_tree.specs.Machine.{items_back}
+use Rattle.rbbi_tree.specs.Machine.Statements.{items_back}
 use Rattle.rbbi_tree.specs.Values.{seq_tree, item_tree}
 use Rattle.rbbi_tree.proofs.Backs.{items_from_reverse}
 use Rattle.rbbi_tree.proofs.Rolls.{seq_tree_roll}
@@ -11,7 +11,8 @@ pub returns : goal.returns
 returns c =
     let ss = map seq_tree c.args.self.now.sequences.items in
     let is = map item_tree c.args.self.now.items.items in
-    let e : map seq_tree c.push.new.self.items ≡ ss ++ seq_of is ∷ [] = rw (c.in_ok-push.ensures.items, map-append, c.replace-items.ensures.value) (ap (λ s. ss ++ s ∷ []) (seq_tree_roll _)) in
+    let e : map seq_tree c.push.new.self.items ≡ ss ++ seq_of is ∷ [] =
+    rw (c.in_ok-push.ensures.items, map-append, c.replace-items.ensures.value) (ap (λ s. ss ++ s ∷ []) (seq_tree_roll _)) in
     let f : reverse (map seq_tree c.push.new.self.items) ≡ items_back (reverse is) no_items ∷ reverse ss =
     ap reverse e ∙ reverse-append ss (seq_of is ∷ []) ∙ ap (λ s. s ∷ reverse ss) (sym (items_from_reverse is)) in
     rw (f, c.replace-items.ensures.after, c.new.ensures.items) refl

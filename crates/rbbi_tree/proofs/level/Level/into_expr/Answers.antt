@@ -1,7 +1,7 @@
 use Rattle.std.proofs.Common.{◌≡◌, [], ◌∷◌, ◌++◌, map, reverse, sym, ◌∙◌, ap}
 use Rattle.std.proofs.lemmas.List.{map-append}
 use Rattle.rbbi_tree.specs.Trees.{seq_of, alternative, no_alternatives, expr_of}
-use Rattle.rbbi_tree.specs.Machine.{sequences_back}
+use Rattle.rbbi_tree.specs.Machine.Statements.{sequences_back}
 use Rattle.rbbi_tree.specs.Values.{seq_tree, item_tree}
 use Rattle.rbbi_tree.proofs.Backs.{items_from_reverse, expression_from_reverse}
 use Rattle.rbbi_tree.proofs.Rolls.{seq_tree_roll, expr_tree_roll}
@@ -11,5 +11,9 @@ pub returns : goal.returns
 returns c =
     let ss = map seq_tree c.args.self.sequences.items in
     let is = map item_tree c.args.self.items.items in
-    let e : map seq_tree c.push.new.self.items ≡ ss ++ seq_of is ∷ [] = rw (c.in_ok-push.ensures.items, map-append) (ap (λ s. ss ++ s ∷ []) (seq_tree_roll _)) in
-    expr_tree_roll _ ∙ ap expr_of e ∙ expression_from_reverse ss (seq_of is) ∙ ap (λ t. sequences_back (reverse ss) (alternative t no_alternatives)) (sym (items_from_reverse is))
+    let e : map seq_tree c.push.new.self.items ≡ ss ++ seq_of is ∷ [] =
+    rw (c.in_ok-push.ensures.items, map-append) (ap (λ s. ss ++ s ∷ []) (seq_tree_roll _)) in
+    expr_tree_roll _
+    ∙ ap expr_of e
+    ∙ expression_from_reverse ss (seq_of is)
+    ∙ ap (λ t. sequences_back (reverse ss) (alternative t no_alternatives)) (sym (items_from_reverse is))

@@ -5,8 +5,8 @@ use Rattle.rbbi_tree.proofs.Backs.{parts_from_reverse}
 use Rattle.rbbi_tree.proofs.Rolls.{set_tree_roll, parts_tree_roll}
 use Rattle.rbbi_tree.proofs.set_level.SetLevel.into_set.Goals as goal
 
-pub returns-clause-read : goal.returns-clause-read
-returns-clause-read c =
+pub returns : goal.returns
+returns c =
     let same = c.in_ok-end.ensures.same in (
       reverse (map part_tree c.end.new.self.parts.items),
       c.in_ok-end.ensures.read,
