@@ -1,5 +1,5 @@
 use Rattle.std.proofs.Common.{◌≤◌, length}
-use Rattle.rbbi_io.proofs.real_files.read_file.Given as goal
+use Rattle.rbbi_io.proofs.real_files.read_from.Given as goal
 
 -- no more bytes than the limit so far
 abbrev pub invariant-loop-turn : goal.invariant-loop-turn
