@@ -70,24 +70,19 @@ fn read_some<F: Read>(file: &mut F, block: &mut [u8], left: u64) -> Result<usize
     Err(ReadErr::Failed)
 }
 
-/// The bytes of a file. It takes at most one byte more than `limit`.
-fn read_file<R: std::rt::Files>(
+/// The bytes of a file that is open. It takes at most one byte more than `limit`.
+pub(crate) fn read_from<F: Read>(
     alloc: Global,
-    rt: &R,
-    name: &str,
+    file: &mut F,
     limit: u64,
 ) -> Result<Vec<u8>, ReadErr>
     ensures { IfOk result (λ bytes. length bytes.items ≤ limit) }
 {
-    let mut file = match File::open(rt, name) {
-        Ok(file) => file,
-        Err(fault) => return Err(refused_read(&fault)),
-    };
     let mut block = zeros(alloc, BLOCK)?;
     let mut bytes = Vec::new(alloc);
     for _turn in 0..u64::MAX {
         let left = limit - bytes.len() as u64;
-        let count = read_some(&mut file, block.as_mut_slice(), left)?;
+        let count = read_some(file, block.as_mut_slice(), left)?;
         if count == 0 {
             return Ok(bytes);
         }
@@ -99,6 +94,21 @@ fn read_file<R: std::rt::Files>(
     Err(ReadErr::Failed)
 }
 
+/// The bytes of the file of this name, at most `limit`.
+fn read_file<R: std::rt::Files>(
+    alloc: Global,
+    rt: &R,
+    name: &str,
+    limit: u64,
+) -> Result<Vec<u8>, ReadErr>
+    ensures { IfOk result (λ bytes. length bytes.items ≤ limit) }
+{
+    match File::open(rt, name) {
+        Ok(mut file) => read_from(alloc, &mut file, limit),
+        Err(fault) => Err(refused_read(&fault)),
+    }
+}
+
 /// Want of memory, or a fault.
 fn refused_read(fault: &io::Error) -> ReadErr {
     if fault.kind() == ErrorKind::OutOfMemory {
@@ -108,20 +118,20 @@ fn refused_read(fault: &io::Error) -> ReadErr {
     }
 }
 
-/// Makes the file hold these bytes. Once it is open, whatever goes wrong is a fault, since the file may
+/// Writes these bytes into a file that is open. Whatever goes wrong is a fault, since the file may
 /// then hold anything.
-fn write_file<R: std::rt::Files>(rt: &R, name: &str, bytes: &[u8]) -> Result<(), WriteErr> {
-    let mut file = match File::create(rt, name) {
-        Ok(file) => file,
-        Err(fault) => {
-            if fault.kind() == ErrorKind::OutOfMemory {
-                return Err(WriteErr::Memory);
-            }
-            return Err(WriteErr::Failed);
-        }
-    };
+pub(crate) fn write_to<W: Write>(file: &mut W, bytes: &[u8]) -> Result<(), WriteErr> {
     match file.write_all(bytes) {
         Ok(()) => Ok(()),
+        Err(_) => Err(WriteErr::Failed),
+    }
+}
+
+/// Makes the file of this name hold these bytes.
+fn write_file<R: std::rt::Files>(rt: &R, name: &str, bytes: &[u8]) -> Result<(), WriteErr> {
+    match File::create(rt, name) {
+        Ok(mut file) => write_to(&mut file, bytes),
+        Err(fault) if fault.kind() == ErrorKind::OutOfMemory => Err(WriteErr::Memory),
         Err(_) => Err(WriteErr::Failed),
     }
 }

@@ -1,12 +1,13 @@
 //! Each public call once, calls that fail in mid-stream, and the system's files and writers.
 ghost use Rattle.std.specs.Prelude.{◌≡◌, ◌<◌};
 
-use crate::{Files, MemFiles, MemSink, ReadErr, RealFiles, RealSink, WriteErr, put_all};
+use crate::real_files::{read_from, write_to};
+use crate::{Files, MemFiles, MemSink, ReadErr, RealFiles, RealSink, Sink, WriteErr, put_all};
 use rbbi_text::{Raw, Steps};
-use std::alloc::AllocError;
+use std::alloc::{AllocError, Global};
 use std::fs::File;
 use std::io;
-use std::io::{ErrorKind, Write};
+use std::io::{ErrorKind, Read, Write};
 use std::marker::Brand;
 use std::sync::ledger::{Blank, Ledger};
 use std::test::Fail;
@@ -77,12 +78,38 @@ fn puts_that_fail(rt: HostRuntime) -> Result<(), Fail> {
     Ok(())
 }
 
-/// A writer that answers in turn what it is told, and keeps what it takes.
+/// A writer and reader that answers in turn, from the last, what it is told: so many bytes, or the
+/// fault. It keeps what it takes, and gives the byte `x`.
 #[derive(Drop)]
 struct Told {
     answers: Vec<Option<usize>>,
     fault: ErrorKind,
     taken: Vec<u8>,
+}
+
+impl Told {
+    /// With these answers.
+    fn new(alloc: Global, answers: &[Option<usize>], fault: ErrorKind) -> Result<Told, AllocError> {
+        Ok(Told {
+            answers: answers.to_vec(alloc)?,
+            fault,
+            taken: Vec::new(alloc),
+        })
+    }
+}
+
+impl Read for Told {
+    fn read(&mut self, buf: &mut [u8]) -> io::Result<usize> {
+        match self.answers.pop() {
+            Some(Some(count)) => {
+                let count = count.min(buf.len());
+                buf[..count].fill(b'x');
+                Ok(count)
+            }
+            Some(None) => Err(io::Error::from(self.fault)),
+            None => Ok(0),
+        }
+    }
 }
 
 impl Write for Told {
@@ -103,30 +130,84 @@ impl Write for Told {
     }
 }
 
+/// A name of the answer to a write.
+fn label_of(answer: &Result<(), WriteErr>) -> &str {
+    match answer {
+        Ok(()) => "Ok",
+        Err(refusal) => refusal.label(),
+    }
+}
+
 #[test]
 fn writers_as_sinks(rt: HostRuntime) -> Result<(), Fail> {
     let alloc = rt.alloc();
     // In pieces to the end; an interrupted write is tried again; one that takes nothing is a fault;
     // want of memory is none.
-    let rows: [(&[Option<usize>], ErrorKind, &str); 4] = [
-        (&[Some(9), Some(1), Some(3)], ErrorKind::Other, "Ok"),
-        (&[Some(9), None, Some(1)], ErrorKind::Interrupted, "Ok"),
-        (&[Some(2), Some(1)], ErrorKind::Other, "Failed"),
-        (&[None, Some(1)], ErrorKind::OutOfMemory, "Memory"),
+    let rows: [(&[Option<usize>], ErrorKind, &str, &[u8]); 4] = [
+        (
+            &[Some(9), Some(1), Some(3)],
+            ErrorKind::Other,
+            "Ok",
+            b"abcdef",
+        ),
+        (
+            &[Some(9), None, Some(1)],
+            ErrorKind::Interrupted,
+            "Ok",
+            b"abcdef",
+        ),
+        (&[Some(2), Some(1)], ErrorKind::Other, "Failed", b"abc"),
+        (&[None, Some(1)], ErrorKind::OutOfMemory, "Memory", b"a"),
     ];
-    for (answers, fault, wanted) in rows {
-        let told = Told {
-            answers: answers.to_vec(alloc)?,
-            fault,
-            taken: Vec::new(alloc),
-        };
-        let mut sink = RealSink::new(told);
-        let label = match put_all(&mut sink, b"abcdef") {
-            Ok(()) => "Ok",
-            Err(WriteErr::Failed) => "Failed",
-            Err(WriteErr::Memory) => "Memory",
-        };
-        assert_eq!(rt; label, wanted);
+    for (answers, fault, wanted, taken) in rows {
+        let mut sink = RealSink::new(Told::new(alloc, answers, fault)?);
+        let answer = put_all(&mut sink, b"abcdef");
+        assert_eq!(rt; label_of(&answer), wanted);
+        assert_eq!(rt; sink.into_writer().taken.as_slice(), taken);
+    }
+    // an empty piece asks nothing of the writer
+    let mut sink = RealSink::new(Told::new(alloc, &[None], ErrorKind::Other)?);
+    assert!(rt; matches!(sink.put(b""), Ok(0)));
+    assert!(rt; matches!(sink.put(b"a"), Err(WriteErr::Failed)));
+    Ok(())
+}
+
+/// An open file that gives and takes its bytes in pieces, is interrupted, or fails in the middle.
+#[test]
+fn open_files(rt: HostRuntime) -> Result<(), Fail> {
+    let alloc = rt.alloc();
+    // 4 bytes may be read
+    let reads: [(&[Option<usize>], ErrorKind, &str); 5] = [
+        (&[Some(0), Some(3), Some(1)], ErrorKind::Other, "4"),
+        (
+            &[Some(0), Some(2), None, Some(2)],
+            ErrorKind::Interrupted,
+            "4",
+        ),
+        (&[Some(2), Some(3)], ErrorKind::Other, "TooLong"),
+        (&[None, Some(3)], ErrorKind::Other, "Failed"),
+        (&[None, Some(3)], ErrorKind::OutOfMemory, "Memory"),
+    ];
+    for (answers, fault, wanted) in reads {
+        let mut file = Told::new(alloc, answers, fault)?;
+        match read_from(alloc, &mut file, 4) {
+            Ok(bytes) => {
+                assert_eq!(rt; wanted, "4");
+                assert_eq!(rt; bytes.as_slice(), b"xxxx".as_slice());
+            }
+            Err(refusal) => assert_eq!(rt; refusal.label(), wanted),
+        }
+    }
+    // once it is open, all that goes wrong is a fault, as on a full device
+    let writes: [(&[Option<usize>], ErrorKind, &str); 4] = [
+        (&[Some(9), Some(2)], ErrorKind::Other, "Ok"),
+        (&[Some(9), None, Some(2)], ErrorKind::Interrupted, "Ok"),
+        (&[None, Some(2)], ErrorKind::StorageFull, "Failed"),
+        (&[None, Some(2)], ErrorKind::OutOfMemory, "Failed"),
+    ];
+    for (answers, fault, wanted) in writes {
+        let mut file = Told::new(alloc, answers, fault)?;
+        assert_eq!(rt; label_of(&write_to(&mut file, b"abcdef")), wanted);
     }
     Ok(())
 }

@@ -1,12 +1,7 @@
-pub mod Slices
-pub mod Matching
-pub mod Merging
-pub mod Stepping
-pub mod MatchLoops
-pub mod Longest
-pub mod LineLoops
-pub mod Verdicts
-pub mod BuiltLoops
+pub mod PlainMatcher
 pub mod Positions
-pub mod OneFault
+pub mod StageLemmas
+pub mod Reading
+pub mod Commands
 pub mod OneOutcome
+pub mod Runs

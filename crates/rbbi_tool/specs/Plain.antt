@@ -1,11 +1,5 @@
--- Boundaries by rules that have no status number.
-use Rattle.std.specs.Prelude.{ℕ, List, [], ◌∷◌, map}
-use Rattle.rbbi_model.specs.Boundaries.{Boundary}
-
--- a boundary that no tagged rule made
-abbrev pub plain_boundary : ℕ → Boundary
-plain_boundary place = record { at = place; statuses = 0 ∷ [] }
-
--- boundaries that no tagged rule made
-abbrev pub plain_boundaries : List ℕ → List Boundary
-plain_boundaries places = map plain_boundary places
+-- The part of the language that runs by the plain matcher, until a compiled table runs all of it.
+pub mod Matches
+pub mod Meaning
+pub mod Built
+pub mod Boundaries

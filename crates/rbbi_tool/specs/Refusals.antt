@@ -1,30 +1,48 @@
--- The lines of refusals.
-use Rattle.std.specs.Prelude.{ℕ, List, length, unwrap_or, codes}
-use Rattle.rbbi_model.specs.Lines.{fault_line, fault_line_at, fault_line_within, rules_name, row_of, column_of}
-use Rattle.rbbi_lex.specs.Errors as lexer
-use Rattle.rbbi_tree.specs.Refusals as parser
-use Rattle.rbbi_tool.specs.declared.rule_file.RuleFault.{RuleFault}
-use Rattle.rbbi_tool.specs.declared.rule_file.RuleFault.TheVariants.{Lexical, Grammatical, Unbuilt, NoRules}
+-- What ends a run before its output: its exit status and its line.
+use Rattle.std.specs.Prelude.{ℕ, List, []}
+use Rattle.rbbi_model.specs.Lines.{usage_line, unread_line, fault_line, fault_line_at, fault_line_within, rules_name}
+use Rattle.rbbi_tool.specs.declared.refusal.Subject.{Subject}
+use Rattle.rbbi_tool.specs.declared.refusal.Subject.TheVariants.{Rules, File}
+use Rattle.rbbi_tool.specs.declared.refusal.Place.{Place}
+use Rattle.rbbi_tool.specs.declared.refusal.Place.TheVariants.{Whole, Byte, Within}
+use Rattle.rbbi_tool.specs.declared.refusal.Refusal.{Refusal}
+use Rattle.rbbi_tool.specs.declared.refusal.Refusal.TheVariants.{Usage, Unread, Fault, Memory}
 
--- a file is too long
-abbrev pub too_long_line : List ℕ → List ℕ
-too_long_line name = fault_line name (codes "TooLong")
+-- an exit status, and all that is written
+pub record Outcome : Type 0 where
+  pub status : ℕ
+  pub bytes : List ℕ
 
--- a file isn't UTF-8 from a byte on
-abbrev pub not_utf8_line : List ℕ → ℕ → List ℕ
-not_utf8_line name at = fault_line_at name (codes "NotUtf8") at
+-- the name under which a file's faults are told
+abbrev pub printed_name : Subject → List ℕ
+printed_name Rules = rules_name
+printed_name (File name) = name
 
--- a fault of this name stands at a place of the text of the rule file
-abbrev pub placed_line : List ℕ → List ℕ → ℕ → List ℕ
-placed_line x label place = fault_line_within rules_name (row_of x place) (column_of x place) label
+-- the status of a file's faults
+abbrev pub status_of_subject : Subject → ℕ
+status_of_subject Rules = 3
+status_of_subject (File name) = 5
 
--- the rule file of this text has a fault
-abbrev pub rule_fault_line : List ℕ → RuleFault → List ℕ
-rule_fault_line x (Lexical fault) = placed_line x (lexer.label_of fault) (unwrap_or (lexer.place_of fault) 0)
-rule_fault_line x (Grammatical fault) = placed_line x (parser.label_of fault) (unwrap_or (parser.place_of fault) 0)
-rule_fault_line x Unbuilt = fault_line rules_name (codes "Unbuilt")
-rule_fault_line x NoRules = placed_line x (codes "NoRules") (length x)
+-- a fault of this label of a file, by the name that is printed
+abbrev pub told_at : List ℕ → List ℕ → Place → List ℕ
+told_at name label Whole = fault_line name label
+told_at name label (Byte at) = fault_line_at name label at
+told_at name label (Within row column) = fault_line_within name row column label
 
--- the text has too many characters
-abbrev pub too_many_line : List ℕ → List ℕ
-too_many_line name = fault_line name (codes "TooManyChars")
+-- the status of a refusal
+abbrev pub status_of : Refusal → ℕ
+status_of Usage = 2
+status_of (Unread name) = 6
+status_of (Fault subject label place) = status_of_subject subject
+status_of Memory = 8
+
+-- the line of a refusal; want of memory has none
+abbrev pub line_of : Refusal → List ℕ
+line_of Usage = usage_line
+line_of (Unread name) = unread_line name
+line_of (Fault subject label place) = told_at (printed_name subject) label place
+line_of Memory = []
+
+-- what is answered where a run is refused
+abbrev pub refused : Refusal → Outcome
+refused refusal = record { status = status_of refusal; bytes = line_of refusal }

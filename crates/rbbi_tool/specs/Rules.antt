@@ -1,37 +1,74 @@
--- What reading the text of a rule file answers.
-use Rattle.std.specs.Prelude.{◌≡◌, ◌≢◌, ℕ, true, List, [], IsSome}
+-- From the bytes of a rule file to what runs, and the first fault on the way.
+use Rattle.std.specs.Prelude.{◌≡◌, ◌≢◌, ℕ, true, false, List, [], length, codes, Option, Some, IsUtf8}
+use Rattle.std.specs.Str.{chars}
+use Rattle.rbbi_model.specs.Lines.{row_of, column_of}
+use Rattle.rbbi_text.specs.Bytes.{without_mark}
 use Rattle.rbbi_lex.specs.declared.token.Token.{Token}
+use Rattle.rbbi_lex.specs.Lexing.{AreTokens}
 use Rattle.rbbi_lex.specs.Errors as lexer
 use Rattle.rbbi_tree.specs.Trees.{StatementTree}
+use Rattle.rbbi_tree.specs.Grammar.{IsFile}
+use Rattle.rbbi_tree.specs.Brackets.{IsShallow}
 use Rattle.rbbi_tree.specs.Refusals as parser
-use Rattle.rbbi_tool.specs.Meaning.{rules_of}
-use Rattle.rbbi_tool.specs.Built.{are_built}
-use Rattle.rbbi_tool.specs.RuleFiles.{AreStatements, IsRuleFault}
-use Rattle.rbbi_tool.specs.declared.rule_file.RuleFault.TheVariants.{Lexical, Grammatical, Unbuilt, NoRules}
-use Rattle.rbbi_tool.specs.declared.rule_file.RulesRefusal.{RulesRefusal}
-use Rattle.rbbi_tool.specs.declared.rule_file.RulesRefusal.TheVariants.{Fault, Memory}
+use Rattle.rbbi_tool.specs.declared.refusal.Subject.TheVariants.{Rules}
+use Rattle.rbbi_tool.specs.declared.refusal.Place.TheVariants.{Whole, Within}
+use Rattle.rbbi_tool.specs.declared.refusal.Refusal.{Refusal}
+use Rattle.rbbi_tool.specs.declared.refusal.Refusal.TheVariants.{Fault}
+use Rattle.rbbi_tool.specs.Stages.{Stage, followed_by}
+use Rattle.rbbi_tool.specs.Texts.{TellsNotUtf8}
+use Rattle.rbbi_tool.specs.Plain.Meaning.{rules_of}
+use Rattle.rbbi_tool.specs.Plain.Built.{are_built}
 
--- the statements of the file, of built forms, with at least one rule
-abbrev pub HoldRules : List ℕ → List StatementTree → Type 0
-HoldRules x statements = AreStatements x statements × (are_built statements ≡ true) × (rules_of statements ≢ [])
+-- a fault of this label at a place of the text of the rule file
+abbrev pub fault_at : List ℕ → List ℕ → ℕ → Refusal
+fault_at x label place = Fault Rules label (Within (row_of x place) (column_of x place))
 
--- the refusal tells the file's first fault; want of memory tells nothing
-abbrev pub RefusesRules : List ℕ → RulesRefusal → Type 0
-RefusesRules x (Fault fault) = IsRuleFault x fault
-RefusesRules x Memory = Unit {0}
+-- Some error holds, and it is told as a fault of the text by its label and its place.
+pub record IsTold {E : Type 0} (Holds : E → Type 0) (label_of : E → List ℕ) (place_of : E → Option ℕ) (x : List ℕ) (refusal : Refusal) : Type 0 where
+  pub error : E
+  pub place : ℕ
+  pub holds : Holds error
+  pub placed : place_of error ≡ Some place
+  pub is : refusal ≡ fault_at x (label_of error) place
 
--- the refusal tells the first fault of the characters
-abbrev pub RefusesCharacters : List ℕ → RulesRefusal → Type 0
-RefusesCharacters x (Fault (Lexical fault)) = lexer.TellsFault x fault × IsSome (lexer.place_of fault)
-RefusesCharacters x (Fault (Grammatical fault)) = ⊥
-RefusesCharacters x (Fault Unbuilt) = ⊥
-RefusesCharacters x (Fault NoRules) = ⊥
-RefusesCharacters x Memory = Unit {0}
+-- the text of a rule file: the characters that its bytes spell, without the one mark at its start
+abbrev pub rule_text_stage : List ℕ → Stage (List ℕ)
+rule_text_stage bytes = record {
+  passes = λ x. IsUtf8 bytes × (x ≡ chars (without_mark bytes));
+  refuses = TellsNotUtf8 Rules bytes;
+}
 
--- the refusal tells why the tokens of a text of this length are no file
-abbrev pub RefusesTokens : List Token → ℕ → RulesRefusal → Type 0
-RefusesTokens tokens end (Fault (Lexical fault)) = ⊥
-RefusesTokens tokens end (Fault (Grammatical fault)) = parser.IsRefusedFor tokens end fault × IsSome (parser.place_of fault)
-RefusesTokens tokens end (Fault Unbuilt) = ⊥
-RefusesTokens tokens end (Fault NoRules) = ⊥
-RefusesTokens tokens end Memory = Unit {0}
+-- the tokens of the text, or its first fault
+abbrev pub tokens_stage : List ℕ → Stage (List Token)
+tokens_stage x = record { passes = AreTokens x; refuses = IsTold (lexer.TellsFault x) lexer.label_of lexer.place_of x }
+
+-- the statements of the tokens, in which at most 64 brackets are open, or the first fault
+abbrev pub statements_stage : List ℕ → List Token → Stage (List StatementTree)
+statements_stage x tokens = record {
+  passes = λ statements. IsFile tokens statements × IsShallow tokens;
+  refuses = IsTold (parser.IsRefusedFor tokens (length x)) parser.label_of parser.place_of x;
+}
+
+-- each statement is of a form that is built
+abbrev pub built_stage : List StatementTree → Stage (Unit {0})
+built_stage statements = record {
+  passes = λ _. are_built statements ≡ true;
+  refuses = λ refusal. (are_built statements ≡ false) × (refusal ≡ Fault Rules (codes "Unbuilt") Whole);
+}
+
+-- there is a rule; where one is missing stands at the end of the text
+abbrev pub some_rule_stage : List ℕ → List StatementTree → Stage (List StatementTree)
+some_rule_stage x statements = record {
+  passes = λ those. (those ≡ statements) × (rules_of statements ≢ []);
+  refuses = λ refusal. (rules_of statements ≡ []) × (refusal ≡ fault_at x (codes "NoRules") (length x));
+}
+
+-- the statements of the text of a rule file: its tokens, its grammar, its forms, its rules
+abbrev pub rules_of_text_stage : List ℕ → Stage (List StatementTree)
+rules_of_text_stage x =
+    followed_by (tokens_stage x)
+    (λ tokens. followed_by (statements_stage x tokens) (λ statements. followed_by (built_stage statements) (λ _. some_rule_stage x statements)))
+
+-- the statements of a rule file
+abbrev pub rules_stage : List ℕ → Stage (List StatementTree)
+rules_stage bytes = followed_by (rule_text_stage bytes) rules_of_text_stage

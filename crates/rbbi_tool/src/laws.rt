@@ -1,4 +1,5 @@
-//! Laws of what the program answers. The functions carry no code: each states a law as its contract.
+//! Laws of what the program answers. The functions carry no code: each states a law as its
+//! contract.
 ghost use Rattle.std.specs.Prelude.{ℕ, List};
 ghost use Rattle.rbbi_tool.specs.Causes.{HasOneOutcome};
 
@@ -11,6 +12,6 @@ pub fn outcomes_are_unique()
     rbbi_lex::faults_are_unique();
     rbbi_lex::tokens_exclude_faults();
     rbbi_tree::at_most_one_reading();
-    rbbi_tree::at_most_one_fault();
-    rbbi_tree::at_most_one_deep();
+    rbbi_tree::at_most_one_refusal();
+    rbbi_tree::file_excludes_fault();
 }

@@ -1,20 +1,25 @@
 //! The top call of `rbbi`: from the words of the command line to the bytes that go out.
+//!
+//! A run goes through stages, each of which passes or refuses: the words, the files that they
+//! name, and then what the command makes of them. `words` has the commands and their operands as
+//! data, `files` the limits of what is read, `refusal` all that ends a run, and `command` one
+//! function for each command.
 #![tactic(auto)]
 
-mod answer;
-mod boundaries;
-mod built;
-mod ends;
+mod command;
+mod files;
 mod laws;
 mod lines;
-mod matcher;
+mod name;
+mod plain;
 mod position;
-mod rule_file;
-mod run;
+mod program;
+mod refusal;
+mod rules;
 #[cfg(test)]
 mod tests;
+mod texts;
 mod words;
 
 pub use laws::outcomes_are_unique;
-pub use rule_file::{RuleFault, RulesRefusal};
-pub use run::rbbi;
+pub use program::rbbi;

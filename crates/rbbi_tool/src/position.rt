@@ -2,6 +2,7 @@
 ghost use Rattle.std.specs.Prelude.{◌≡◌, ◌≤◌, length};
 ghost use Rattle.std.specs.Str.{chars};
 ghost use Rattle.rbbi_model.specs.Lines.{row_of, column_of};
+ghost use Rattle.rbbi_text.specs.Bytes.{most_bytes};
 
 /// A line and a column, each counted from 1.
 #[derive(Clone, Copy)]
@@ -12,7 +13,7 @@ pub(crate) struct Position {
 
 /// Where a place of the text stands, in characters from 0. A line ends at LF.
 pub(crate) fn position_of(text: &str, place: u32) -> Position
-    requires { length text.now ≤ 100663296 }
+    requires { length text.now ≤ most_bytes }
     ensures row { result.row ≡ row_of (chars text.now) place }
     ensures column { result.column ≡ column_of (chars text.now) place }
 {

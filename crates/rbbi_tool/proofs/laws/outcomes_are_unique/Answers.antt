@@ -8,7 +8,7 @@ returns c =
       faults = c.faults_are_unique.ensures;
       apart = c.tokens_exclude_faults.ensures;
       readings = c.at_most_one_reading.ensures;
-      syntax = c.at_most_one_fault.ensures;
-      deep = c.at_most_one_deep.ensures;
+      refusals = c.at_most_one_refusal.ensures;
+      excludes = c.file_excludes_fault.ensures;
       boundaries = c.boundaries_are_unique.ensures;
     })

@@ -16,7 +16,8 @@ front_of c =
 -- all characters are before a place that isn't before the end
 all_of : (c : goal.In-None) → c.loop-c.yielded ≡ take c.args.place (chars c.args.text.now)
 all_of c =
-    let end = YieldsList-end (YieldsList-from_chars c.args.text.now c.utf8.text cc) c.loop-c.yielded _ c.loop-c.yielded_by _ _ c.in-None.is c.next.ensures.steps in
+    let end = YieldsList-end (YieldsList-from_chars c.args.text.now c.utf8.text cc) c.loop-c.yielded _ c.loop-c.yielded_by _ _ c.in-None.is
+    c.next.ensures.steps in
     sym (map-id c.loop-c.yielded) ∙ end.0 ∙ sym (take_all c.args.place (chars c.args.text.now) (omega (arith, end.1, c.loop-c.invariant.0)))
 
 pub returns-then-left-eq0-clause-row : goal.returns-then-left-eq0-clause-row
@@ -27,7 +28,8 @@ returns-then-left-eq0-clause-column c = column_here (chars c.args.text.now) c.lo
 
 pub overflow_add-row : goal.overflow_add-row
 overflow_add-row c =
-    let turn = YieldsList-turn (YieldsList-from_chars c.args.text.now c.utf8.text cc) c.loop-c.yielded _ c.loop-c.yielded_by _ _ c.in-Some.c c.in-Some.is c.next.ensures.steps in
+    let turn = YieldsList-turn (YieldsList-from_chars c.args.text.now c.utf8.text cc) c.loop-c.yielded _ c.loop-c.yielded_by _ _ c.in-Some.c c.in-Some.is
+    c.next.ensures.steps in
     let few = length-le-encodes (chars c.args.text.now) in
     let all = ap length (encodes-chars c.args.text.now c.utf8.text) in
     omega (arith, turn.0, few, all, c.requires, c.loop-c.invariant.1, ends_few c.loop-c.yielded)
@@ -41,7 +43,8 @@ loop-c-preserved-then-c-eq10 c = (
 
 pub overflow_add-column : goal.overflow_add-column
 overflow_add-column c =
-    let turn = YieldsList-turn (YieldsList-from_chars c.args.text.now c.utf8.text cc) c.loop-c.yielded _ c.loop-c.yielded_by _ _ c.in-Some.c c.in-Some.is c.next.ensures.steps in
+    let turn = YieldsList-turn (YieldsList-from_chars c.args.text.now c.utf8.text cc) c.loop-c.yielded _ c.loop-c.yielded_by _ _ c.in-Some.c c.in-Some.is
+    c.next.ensures.steps in
     let few = length-le-encodes (chars c.args.text.now) in
     let all = ap length (encodes-chars c.args.text.now c.utf8.text) in
     omega (arith, turn.0, few, all, c.requires, c.loop-c.invariant.2, since_few c.loop-c.yielded)

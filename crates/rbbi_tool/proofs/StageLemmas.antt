@@ -1,0 +1,43 @@
+-- Stages in a row: how they pass and refuse, and that they are determined where each of them is.
+use Rattle.std.proofs.Common.{◌≡◌, ◌⊎◌, inl, inr, ⊎_elim, subst}
+use Rattle.std.specs.Prelude.{Result, Ok, Err}
+use Rattle.rbbi_tool.specs.declared.refusal.Refusal.{Refusal}
+use Rattle.rbbi_tool.specs.declared.refusal.Refusal.TheVariants.{Memory}
+use Rattle.rbbi_tool.specs.Stages.{Stage, followed_by, Meets, IsDetermined}
+
+module _ {A B : Type 0} (first : Stage A) (next : A → Stage B) where
+  -- the first stage refuses
+  pub stops_first : (refusal : Refusal) → (refusal ≡ Memory) ⊎ first.refuses refusal → (refusal ≡ Memory) ⊎ (followed_by first next).refuses refusal
+  stops_first refusal = ⊎_elim inl (λ is. inr (inl is))
+
+  -- the first stage passes, and the next refuses
+  pub stops_next : (a : A) (refusal : Refusal) → first.passes a → (refusal ≡ Memory) ⊎ (next a).refuses refusal
+      → (refusal ≡ Memory) ⊎ (followed_by first next).refuses refusal
+  stops_next a refusal passed = ⊎_elim inl (λ is. inr (inr (a, passed, is)))
+
+  -- the first stage passes, and the next does what it does
+  pub goes_on : {V : Type 0} (view : V → B) (a : A) (result : Result V Refusal) → first.passes a → Meets view (next a) result → Meets view
+      (followed_by first next) result
+  goes_on view a (Ok v) passed met = (a, passed, met)
+  goes_on view a (Err refusal) passed met = stops_next a refusal passed met
+
+  -- two determined stages in a row are determined
+  pub determined_both : IsDetermined A first → ((a : A) → IsDetermined B (next a)) → IsDetermined B (followed_by first next)
+  determined_both one each = record {
+    value = λ b c (a, passed, is) (a', passed', is').
+        (each a').value b c (subst (λ v. (next v).passes b) (one.value a a' passed passed') is) is';
+    refusal = λ r s either other.
+        ⊎_elim
+        (λ is. ⊎_elim (λ is'. one.refusal r s is is') (λ (a', passed', is'). absurd (one.apart a' r passed' is)) other)
+        (λ (a, passed, is).
+        ⊎_elim
+        (λ is'. absurd (one.apart a s passed is'))
+        (λ (a', passed', is'). (each a').refusal r s (subst (λ v. (next v).refuses r) (one.value a a' passed passed') is) is')
+        other)
+        either;
+    apart = λ b r (a, passed, is) either.
+        ⊎_elim
+        (λ is'. one.apart a r passed is')
+        (λ (a', passed', is'). (each a').apart b r (subst (λ v. (next v).passes b) (one.value a a' passed passed') is) is')
+        either;
+  }

@@ -1,0 +1,2 @@
+-- What each command answers, from what was read.
+pub mod Breaks

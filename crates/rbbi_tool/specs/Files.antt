@@ -1,0 +1,48 @@
+-- The files that words name to be read, each with its limit.
+use Rattle.std.specs.Prelude.{◌≡◌, ◌<◌, ◌≤◌, ℕ, List, [], ◌∷◌, length, codes}
+use Rattle.rbbi_tool.specs.declared.files.Role.{Role}
+use Rattle.rbbi_tool.specs.declared.files.Role.TheVariants as role
+use Rattle.rbbi_tool.specs.declared.files.Source.{Source}
+use Rattle.rbbi_tool.specs.declared.refusal.Subject.{Subject}
+use Rattle.rbbi_tool.specs.declared.refusal.Subject.TheVariants.{Rules, File}
+use Rattle.rbbi_tool.specs.declared.refusal.Place.TheVariants.{Whole}
+use Rattle.rbbi_tool.specs.declared.refusal.Refusal.{Refusal}
+use Rattle.rbbi_tool.specs.declared.refusal.Refusal.TheVariants.{Fault}
+use Rattle.rbbi_tool.specs.Stages.{Stage, followed_by}
+use Rattle.rbbi_tool.specs.Words.{Request, operands_of}
+
+-- the most bytes that a file in this role may have
+abbrev pub limit_of : Role → ℕ
+limit_of role.Rules = 1048576
+limit_of role.Text = 67108864
+
+-- what the faults of a file are told of
+abbrev pub subject_of : Role → List ℕ → Subject
+subject_of role.Rules name = Rules
+subject_of role.Text name = File name
+
+-- the files with these names in these roles
+abbrev pub in_roles : List Role → List (List ℕ) → List Source
+in_roles [] names = []
+in_roles (role ∷ roles) [] = []
+in_roles (role ∷ roles) (name ∷ names) = record { role = role; name = name } ∷ in_roles roles names
+
+-- the files that a request names to be read, in the order of the words
+abbrev pub sources_of : Request → List Source
+sources_of request = in_roles (operands_of request.command) request.operands
+
+-- the file is too long
+abbrev pub too_long : Source → Refusal
+too_long source = Fault (subject_of source.role source.name) (codes "TooLong") Whole
+
+-- a file that holds so many bytes is within its limit, or too long
+abbrev pub length_stage : (List ℕ → List ℕ) → Source → Stage (Unit {0})
+length_stage held source = record {
+  passes = λ _. length (held source.name) ≤ limit_of source.role;
+  refuses = λ refusal. (limit_of source.role < length (held source.name)) × (refusal ≡ too_long source);
+}
+
+-- each file is within its limit, or the first that is too long is refused
+abbrev pub lengths_stage : (List ℕ → List ℕ) → List Source → Stage (Unit {0})
+lengths_stage held [] = record { passes = λ _. Unit {0}; refuses = λ _. ⊥ }
+lengths_stage held (source ∷ sources) = followed_by (length_stage held source) (λ _. lengths_stage held sources)

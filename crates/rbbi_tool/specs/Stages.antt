@@ -1,0 +1,27 @@
+-- A stage of a run passes with a value, or refuses. Of several stages in a row the first that refuses decides.
+use Rattle.std.specs.Prelude.{◌≡◌, ◌⊎◌, Result, Ok, Err}
+use Rattle.rbbi_tool.specs.declared.refusal.Refusal.{Refusal}
+use Rattle.rbbi_tool.specs.declared.refusal.Refusal.TheVariants.{Memory}
+
+-- with which values the stage passes, and how it refuses
+pub record Stage (A : Type 0) : Type 1 where
+  pub passes : A → Type 0
+  pub refuses : Refusal → Type 0
+
+-- one stage, and then the next, which knows the value of the first
+abbrev pub followed_by : {A B : Type 0} → Stage A → (A → Stage B) → Stage B
+followed_by {A} {B} first next = record {
+  passes = λ b. (a : A) × first.passes a × (next a).passes b;
+  refuses = λ refusal. first.refuses refusal ⊎ ((a : A) × first.passes a × (next a).refuses refusal);
+}
+
+-- What a function answers that runs the stage, where its value is seen by this view. Want of memory tells nothing.
+abbrev pub Meets : {A V : Type 0} → (V → A) → Stage A → Result V Refusal → Type 0
+Meets view stage (Ok value) = stage.passes (view value)
+Meets view stage (Err refusal) = (refusal ≡ Memory) ⊎ stage.refuses refusal
+
+-- the stage doesn't both pass and refuse, and it passes with one value and refuses in one way alone
+pub record IsDetermined (A : Type 0) (stage : Stage A) : Type 0 where
+  pub value : (a b : A) → stage.passes a → stage.passes b → a ≡ b
+  pub refusal : (r s : Refusal) → stage.refuses r → stage.refuses s → r ≡ s
+  pub apart : (a : A) (r : Refusal) → stage.passes a → stage.refuses r → ⊥

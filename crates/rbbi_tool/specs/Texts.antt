@@ -1,0 +1,33 @@
+-- The text that the bytes of a file spell, and why there is none.
+use Rattle.std.specs.Prelude.{◌≡◌, ◌<◌, ◌≤◌, ℕ, List, length, codes, IsUtf8}
+use Rattle.std.specs.Str.{chars}
+use Rattle.rbbi_model.specs.Words.{most_characters}
+use Rattle.rbbi_text.specs.Bytes.{IsNotUtf8At}
+use Rattle.rbbi_tool.specs.declared.refusal.Subject.{Subject}
+use Rattle.rbbi_tool.specs.declared.refusal.Subject.TheVariants.{File}
+use Rattle.rbbi_tool.specs.declared.refusal.Place.TheVariants.{Whole, Byte}
+use Rattle.rbbi_tool.specs.declared.refusal.Refusal.{Refusal}
+use Rattle.rbbi_tool.specs.declared.refusal.Refusal.TheVariants.{Fault}
+use Rattle.rbbi_tool.specs.Stages.{Stage, followed_by}
+
+-- the bytes aren't UTF-8, and the first byte past the longest front that is, is told
+abbrev pub TellsNotUtf8 : Subject → List ℕ → Refusal → Type 0
+TellsNotUtf8 subject bytes refusal = (at : ℕ) × IsNotUtf8At bytes at × (refusal ≡ Fault subject (codes "NotUtf8") (Byte at))
+
+-- the characters that the bytes spell in UTF-8
+abbrev pub utf8_stage : Subject → List ℕ → Stage (List ℕ)
+utf8_stage subject bytes = record {
+  passes = λ x. IsUtf8 bytes × (x ≡ chars bytes);
+  refuses = TellsNotUtf8 subject bytes;
+}
+
+-- the characters are no more than a text may have
+abbrev pub count_stage : Subject → List ℕ → Stage (List ℕ)
+count_stage subject x = record {
+  passes = λ text. (text ≡ x) × (length x ≤ most_characters);
+  refuses = λ refusal. (most_characters < length x) × (refusal ≡ Fault subject (codes "TooManyChars") Whole);
+}
+
+-- the text of a text file of this name
+abbrev pub text_stage : List ℕ → List ℕ → Stage (List ℕ)
+text_stage name bytes = followed_by (utf8_stage (File name) bytes) (count_stage (File name))

@@ -1,0 +1,122 @@
+//! From the bytes of a rule file to what runs.
+ghost use Rattle.std.specs.Prelude.{◌≡◌, ◌≤◌, ◌⊎◌, length, IfOk, MatchOption};
+ghost use Rattle.std.specs.Str.{chars};
+ghost use Rattle.rbbi_text.specs.Bytes.{most_bytes};
+ghost use Rattle.rbbi_lex.specs.Places.{PlacesRise};
+ghost use Rattle.rbbi_lex.specs.WellMade.{AreWellMade};
+ghost use Rattle.rbbi_tree.specs.Values.{statement_trees};
+ghost use Rattle.rbbi_tool.specs.Stages.{Meets};
+ghost use Rattle.rbbi_tool.specs.Rules as spec;
+
+use crate::plain::{are_built, has_rule};
+use crate::position::position_of;
+use crate::refusal::{Place, Refusal, Subject, fault};
+use rbbi_lex::Tokens;
+use rbbi_text::{Raw, Steps, utf8_text, without_mark};
+use rbbi_tree::Statements;
+use std::alloc::Global;
+use std::sync::ledger::Ledger;
+
+/// The text that the bytes of a rule file spell, without the one mark at its start.
+fn text_of(alloc: Global, bytes: &[u8]) -> Result<&str, Refusal>
+    requires { length bytes.now ≤ most_bytes }
+    ensures exact { Meets (λ text. chars text.now) (spec.rule_text_stage bytes.now) result }
+    ensures no_longer { IfOk result (λ text. length text.now ≤ length bytes.now) }
+{
+    match utf8_text(bytes) {
+        Ok(text) => Ok(without_mark(text)),
+        Err(at) => Err(fault(alloc, Subject::Rules, "NotUtf8", Place::Byte(at))),
+    }
+}
+
+/// A fault of this label at a place of the text, in characters from 0; or want of memory.
+fn fault_at(alloc: Global, text: &str, label: &str, place: u32) -> Refusal
+    requires { length text.now ≤ most_bytes }
+    ensures { (result ≡ Refusal.Memory)
+        ⊎ (result ≡ spec.fault_at (chars text.now) label.now place) }
+{
+    let position = position_of(text, place);
+    let place = Place::Within {
+        row: position.row,
+        column: position.column,
+    };
+    fault(alloc, Subject::Rules, label, place)
+}
+
+/// What an error of this label at a place of the text tells. One without a place is want of memory.
+fn told(alloc: Global, text: &str, label: &str, place: Option<u32>) -> Refusal
+    requires { length text.now ≤ most_bytes }
+    ensures { MatchOption place (result ≡ Refusal.Memory)
+        (λ place. (result ≡ Refusal.Memory)
+        ⊎ (result ≡ spec.fault_at (chars text.now) label.now place)) }
+{
+    match place {
+        Some(place) => fault_at(alloc, text, label, place),
+        None => Refusal::Memory,
+    }
+}
+
+/// The tokens of the text.
+fn tokens_of(alloc: Global, text: &str) -> Result<Tokens, Refusal>
+    requires { length text.now ≤ most_bytes }
+    ensures exact { Meets (λ tokens. tokens) (spec.tokens_stage (chars text.now)) result }
+    ensures places { IfOk result (PlacesRise 0 (length (chars text.now))) }
+    ensures well_made { IfOk result AreWellMade }
+{
+    match rbbi_lex::lex(alloc, text) {
+        Ok(tokens) => Ok(tokens),
+        Err(error) => Err(told(alloc, text, error.label(), error.place())),
+    }
+}
+
+/// The number of characters of a text.
+fn count_characters(text: &str) -> u32
+    requires { length text.now ≤ most_bytes }
+    ensures { result ≡ length (chars text.now) }
+{
+    text.chars().count() as u32
+}
+
+/// The statements of the tokens of the text.
+fn statements_of_tokens(alloc: Global, text: &str, tokens: &Tokens) -> Result<Statements, Refusal>
+    requires short { length text.now ≤ most_bytes }
+    requires places { PlacesRise 0 (length (chars text.now)) tokens.now }
+    requires well_made { AreWellMade tokens.now }
+    ensures { Meets statement_trees (spec.statements_stage (chars text.now) tokens.now) result }
+{
+    match rbbi_tree::parse(alloc, tokens, count_characters(text)) {
+        Ok(statements) => Ok(statements),
+        Err(error) => Err(told(alloc, text, error.label(), error.place())),
+    }
+}
+
+/// The statements of the text of a rule file.
+fn statements_of_text(alloc: Global, text: &str) -> Result<Statements, Refusal>
+    requires { length text.now ≤ most_bytes }
+    ensures { Meets statement_trees (spec.rules_of_text_stage (chars text.now)) result }
+{
+    let tokens = tokens_of(alloc, text)?;
+    let statements = statements_of_tokens(alloc, text, &tokens)?;
+    if !are_built(&statements) {
+        return Err(fault(alloc, Subject::Rules, "Unbuilt", Place::Whole));
+    }
+    if has_rule(&statements) {
+        Ok(statements)
+    } else {
+        Err(fault_at(alloc, text, "NoRules", count_characters(text)))
+    }
+}
+
+/// The statements of a rule file, of forms that are built, with at least one rule. Its fault is the
+/// first of its bytes, its tokens, its grammar, its forms and its rules.
+pub(crate) fn statements_of<L: Ledger>(
+    alloc: Global,
+    bytes: &Raw,
+    steps: &mut Steps<L>,
+) -> Result<Statements, Refusal>
+    requires { length bytes.now ≤ most_bytes }
+    ensures { Meets statement_trees (spec.rules_stage bytes.now) result }
+{
+    let text = text_of(alloc, bytes.bytes(steps))?;
+    statements_of_text(alloc, text)
+}
