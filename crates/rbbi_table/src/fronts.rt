@@ -1,8 +1,11 @@
 //! Whether each look-ahead rule's front ends before the rule is completed.
-ghost use Rattle.std.specs.Prelude.{◌≡◌, ℕ, ◌↔◌, ◌+◌, ◌*◌, ◌<◌, ◌≤◌, length, slice_index, IfOk, IsTrue};
-ghost use Rattle.rbbi_model.specs.ValidTables.{AreFronted, AreValidRows};
-ghost use Rattle.rbbi_table.specs.Parts.{table_of};
+ghost use Rattle.std.specs.Prelude.{◌≡◌, ℕ, ◌↔◌, ◌+◌, ◌*◌, ◌^◌, ◌<◌, ◌≤◌, [], length, slice_index_or, IfOk, IsTrue};
+ghost use Rattle.rbbi_model.specs.Tables.{empty_head};
+ghost use Rattle.rbbi_model.specs.ValidTables.{AreFronted, AreValidRows, IsPlain};
+ghost use Rattle.rbbi_table.specs.Parts.{table_of, rows_of, AreSteps};
+ghost use Rattle.rbbi_table.specs.Fronts.{IsFronted};
 
+use crate::bits::has_front;
 use crate::{Parts, RowHead};
 use std::alloc::{AllocError, Global};
 
@@ -12,13 +15,22 @@ use std::alloc::{AllocError, Global};
 /// It goes once over each such row, by a queue of the rows that were reached. `seen` and `queue` are
 /// scratch space for as many rows as there are.
 fn is_fronted(
+    width: usize,
     rows: &[RowHead],
     cells: &[u16],
     slash: u16,
     seen: &mut [bool],
     queue: &mut [u16],
-) -> bool {
-    let width = cells.len() / rows.len();
+) -> bool
+    requires steps { AreSteps width rows.now cells.now }
+    requires some { 2 ≤ length rows.now }
+    requires few { length rows.now < 2 ^ 16 }
+    requires start { IsPlain (slice_index_or rows.now 1 empty_head) }
+    requires slash { slash < 32 }
+    requires seen { length seen.old ≡ length rows.now }
+    requires queue { length queue.old ≡ length rows.now }
+    ensures { IsTrue result ↔ IsFronted (rows_of width rows.now cells.now []) slash }
+{
     seen.fill(false);
     seen[1] = true;
     queue[0] = 1;
@@ -33,7 +45,7 @@ fn is_fronted(
             if head.accept == slash + 2 {
                 return false;
             }
-            if !seen[next] && head.fronts >> slash & 1 == 0 {
+            if !seen[next] && !has_front(head.fronts, slash) {
                 seen[next] = true;
                 queue[reached] = *cell;
                 reached += 1;
@@ -52,10 +64,11 @@ pub(crate) fn are_fronted(alloc: Global, parts: &Parts) -> Result<bool, AllocErr
 {
     let rows = parts.rows.as_slice();
     let cells = parts.cells.as_slice();
+    let width = parts.categories as usize;
     let mut seen = vec![in alloc; false; rows.len()]?;
     let mut queue = vec![in alloc; 0; rows.len()]?;
     for slash in 0..parts.slashes {
-        if !is_fronted(rows, cells, slash, &mut seen, &mut queue) {
+        if !is_fronted(width, rows, cells, slash, &mut seen, &mut queue) {
             return Ok(false);
         }
     }

@@ -4,6 +4,7 @@
 //! and reads each character once.
 #![tactic(auto)]
 
+mod bits;
 mod blocks;
 mod error;
 mod fronts;

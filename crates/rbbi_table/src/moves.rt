@@ -1,5 +1,8 @@
 //! The rows in one flat list, as the loop of a search reads them.
-ghost use Rattle.std.specs.Prelude.{◌≡◌, ℕ, ◌↔◌, ◌+◌, ◌*◌, ◌<◌, ◌≤◌, length, slice_index, IfOk, IsTrue};
+ghost use Rattle.std.specs.Prelude.{◌≡◌, ◌+◌, ◌*◌, ◌^◌, ◌<◌, [], length, slice_index_or, IfOk};
+ghost use Rattle.rbbi_model.specs.Tables.{empty_head};
+ghost use Rattle.rbbi_table.specs.Parts.{rows_of, AreSteps};
+ghost use Rattle.rbbi_table.specs.Kept.{move_flags, AreMoves};
 
 use crate::RowHead;
 use std::alloc::{AllocError, Global};
@@ -18,7 +21,11 @@ pub(crate) const ACCEPT: usize = 2;
 
 /// The move to a row: eight times the place at which the row begins in the flat list, and 1 where some
 /// rule ends there and no look-ahead rule, 2 where a front ends there, 4 where a search ends there.
-fn move_to(rows: &[RowHead], next: u16, stride: usize) -> u32 {
+fn move_to(rows: &[RowHead], next: u16, stride: usize) -> u32
+    requires next { next < length rows.now }
+    requires small { length rows.now * stride < 2 ^ 24 }
+    ensures { result ≡ next * stride * 8 + move_flags (slice_index_or rows.now next empty_head) next }
+{
     let head = &rows[next as usize];
     let place = u32::from(next) * stride as u32;
     let ends = if head.accept == 1 { 1 } else { 0 };
@@ -34,7 +41,11 @@ pub(crate) fn moves_of(
     categories: u16,
     rows: &[RowHead],
     cells: &[u16],
-) -> Result<Vec<u32>, AllocError> {
+) -> Result<Vec<u32>, AllocError>
+    requires steps { AreSteps categories rows.now cells.now }
+    requires small { length rows.now * (categories + 3) < 2 ^ 24 }
+    ensures { IfOk result (λ moves. AreMoves (rows_of categories rows.now cells.now []) moves.items) }
+{
     let width = categories as usize;
     let stride = width + HEAD;
     let mut moves = Vec::with_capacity(alloc, rows.len() * stride)?;

@@ -1,7 +1,9 @@
 //! The safe pairs of categories: after both, it no longer matters where a search was.
-ghost use Rattle.std.specs.Prelude.{◌≡◌, ℕ, ◌↔◌, ◌+◌, ◌*◌, ◌<◌, ◌≤◌, length, slice_index, IfOk, IsTrue};
-ghost use Rattle.rbbi_model.specs.SafePairs.{IsSafePair};
+ghost use Rattle.std.specs.Prelude.{◌≡◌, ℕ, ◌↔◌, ◌+◌, ◌*◌, ◌^◌, ◌<◌, ◌≤◌, [], length, slice_index, IfOk, OnOk, IsTrue};
+ghost use Rattle.rbbi_table.specs.Parts.{rows_of, AreSteps};
+ghost use Rattle.rbbi_table.specs.Targets.{AreTargets, LeadToOne, ArePairsOf};
 
+use crate::bits::store;
 use crate::{ByteList, RowHead};
 use std::alloc::{AllocError, Global};
 
@@ -14,7 +16,13 @@ fn gather_targets(
     category: usize,
     seen: &mut [bool],
     targets: &mut Vec<u16>,
-) -> Result<(), AllocError> {
+) -> Result<(), AllocError>
+    requires steps { AreSteps width rows.now cells.now }
+    requires few { length rows.now < 2 ^ 16 }
+    requires category { category < width }
+    requires seen { length seen.old ≡ length rows.now }
+    ensures { OnOk result (AreTargets (rows_of width rows.now cells.now []) category targets.new.items) }
+{
     seen.fill(false);
     targets.clear();
     for row in 1..rows.len() {
@@ -31,7 +39,11 @@ fn gather_targets(
 }
 
 /// Whether all of these rows lead by one category to one row. It stops at the first difference.
-fn lead_to_one(cells: &[u16], width: usize, category: usize, targets: &[u16]) -> bool {
+fn lead_to_one(cells: &[u16], width: usize, category: usize, targets: &[u16]) -> bool
+    requires within { (i : ℕ) → i < length targets.now →
+        slice_index targets.now i * width + category < length cells.now }
+    ensures { IsTrue result ↔ LeadToOne (rows_of width [] cells.now []) category targets.now }
+{
     if targets.is_empty() {
         return true;
     }
@@ -50,7 +62,11 @@ pub fn safe_pairs(
     categories: u16,
     rows: &[RowHead],
     cells: &[u16],
-) -> Result<ByteList, AllocError> {
+) -> Result<ByteList, AllocError>
+    requires steps { AreSteps categories rows.now cells.now }
+    requires few { length rows.now < 2 ^ 16 }
+    ensures { IfOk result (λ bytes. ArePairsOf (rows_of categories rows.now cells.now bytes)) }
+{
     let width = categories as usize;
     let mut bytes = vec![in alloc; 0u8; (width * width + 7) / 8]?;
     let mut seen = vec![in alloc; false; rows.len()]?;
@@ -60,7 +76,7 @@ pub fn safe_pairs(
         for second in 0..width {
             if lead_to_one(cells, width, second, &targets) {
                 let bit = first * width + second;
-                bytes[bit / 8] |= 1 << (bit % 8);
+                store(&mut bytes, bit);
             }
         }
     }

@@ -7,6 +7,7 @@ ghost use Rattle.rbbi_model.specs.Lines.{safe_count};
 ghost use Rattle.rbbi_table.specs.Parts.{table_of, HasFittingParts};
 ghost use Rattle.rbbi_table.specs.Answers.{MakesTable};
 
+use crate::bits::has_stored;
 use crate::blocks::{Blocks, look_up};
 use crate::fronts::are_fronted;
 use crate::lists::are_valid_lists;
@@ -131,7 +132,7 @@ impl Table {
         let bytes = self.parts.safe.as_slice();
         let mut count = 0;
         for bit in 0..width * width {
-            if bytes[bit as usize / 8] >> (bit % 8) & 1 == 1 {
+            if has_stored(bytes, bit as usize) {
                 count += 1;
             }
         }
@@ -191,6 +192,6 @@ impl Table {
         ensures exact { IsTrue result ↔ IsSafePair self.now c1 c2 }
     {
         let bit = c1 as usize * self.parts.categories as usize + c2 as usize;
-        self.parts.safe.as_slice()[bit / 8] >> (bit % 8) & 1 == 1
+        has_stored(self.parts.safe.as_slice(), bit)
     }
 }
