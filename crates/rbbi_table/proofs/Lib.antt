@@ -4,3 +4,10 @@ pub mod ListLemmas
 pub mod BitLemmas
 pub mod NoteLemmas
 pub mod TargetLemmas
+pub mod BlockLemmas
+pub mod MoveLemmas
+pub mod RowLemmas
+pub mod PairLemmas
+pub mod FrontLemmas
+pub mod SearchLemmas
+pub mod StepLemmas

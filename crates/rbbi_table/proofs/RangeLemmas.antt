@@ -87,3 +87,20 @@ no_ranges_where_zero categories (range ∷ ranges) valid = (valid.from_zero, val
 pub goes_on : (categories : ℕ) (previous : CategoryRange) (ranges : List CategoryRange) (i : ℕ) → i < length ranges →
     GoOn categories previous (drop i ranges) ≡ GoOn categories previous (get_or ranges i no_range ∷ drop (i + 1) ranges)
 goes_on categories previous ranges i short = ap (λ l. GoOn categories previous l) (drop_more ranges i no_range short)
+
+climb : (range : CategoryRange) (ranges : List CategoryRange) (k : ℕ) → AreApart (range ∷ ranges) → k < length (range ∷ ranges) → range.start + k ≤ start_of (range ∷ ranges) k
+climb range ranges zero apart short = omega arith
+climb range [] (suc k) apart short = absurd (omega (arith, short))
+climb range (next ∷ ranges) (suc k) apart short = let further = climb next ranges k apart.2 (omega (arith, short)) in omega (arith, further, apart.0)
+
+start_small : (categories : ℕ) (ranges : List CategoryRange) (k : ℕ) → AllByRecursion (IsWithin categories) ranges → k < length ranges → start_of ranges k ≤ 1114111
+start_small categories [] k within short = absurd (omega (arith, short))
+start_small categories (range ∷ ranges) zero within short = within.0.0
+start_small categories (range ∷ ranges) (suc k) within short = start_small categories ranges k within.1 (omega (arith, short))
+
+-- there are no more ranges than code points
+pub few_ranges : (categories : ℕ) (ranges : List CategoryRange) → AreValidRanges categories ranges → length ranges ≤ 1114112
+few_ranges categories [] valid = omega arith
+few_ranges categories (range ∷ ranges) valid =
+    let last : ℕ = length ranges in
+    omega (arith, climb range ranges last valid.apart (omega arith), start_small categories (range ∷ ranges) last valid.within (omega arith))

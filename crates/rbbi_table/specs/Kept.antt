@@ -1,6 +1,6 @@
 -- What a table keeps beside its parts: the categories in blocks, and the rows in one flat list.
-use Rattle.std.specs.Prelude.{◌≡◌, ◌≢◌, ℕ, ◌+◌, ◌*◌, ◌/◌, ◌%◌, ◌<◌, ◌≤◌, List, length, slice_index, slice_index_or, Bool, ◌||◌, if◌then◌else◌, ◌==◌, nat_le}
-use Rattle.rbbi_model.specs.Tables.{Table, CategoryRange, category_of, RowHead, head_of, accept_of, fronts_of, list_of, step}
+use Rattle.std.specs.Prelude.{◌≡◌, ◌≢◌, ℕ, ◌+◌, ◌*◌, ◌/◌, ◌%◌, ◌<◌, ◌≤◌, List, [], ◌∷◌, ◌++◌, map, length, slice_index, slice_index_or, Bool, ◌||◌, if◌then◌else◌, ◌==◌, nat_le}
+use Rattle.rbbi_model.specs.Tables.{Table, CategoryRange, category_of, RowHead, empty_head, head_of, accept_of, fronts_of, list_of, step}
 use Rattle.rbbi_model.specs.ValidTables.{IsWithin, IsValidTable}
 
 -- where the range with this number starts
@@ -54,14 +54,23 @@ move_flags head row = (if head.accept == 1 then 1 else 0) + (if head.fronts == 0
 abbrev pub move_to : Table → ℕ → ℕ
 move_to table row = row * stride table * 8 + move_flags (head_of table row) row
 
--- the first so many rows' moves, one for each category, and behind them the row's front mask, its list and its accept number
+-- the moves to these next rows, and behind them the row's front mask, its list and its accept number
+abbrev pub row_moves : ℕ → List RowHead → List ℕ → RowHead → List ℕ
+row_moves width rows steps head =
+    map (λ next. next * width * 8 + move_flags (slice_index_or rows next empty_head) next) steps
+    ++ head.fronts ∷ head.list ∷ head.accept ∷ []
+
+-- the moves of the row, one for each category, and behind them its front mask, its list and its accept number
+pub record HasMoves (table : Table) (moves : List ℕ) (row : ℕ) : Type 0 where
+  pub each : (category : ℕ) → category < table.categories → slice_index moves (row * stride table + category) ≡ move_to table (step table row category)
+  pub fronts : slice_index moves (row * stride table + table.categories) ≡ fronts_of table row
+  pub list : slice_index moves (row * stride table + table.categories + 1) ≡ list_of table row
+  pub accept : slice_index moves (row * stride table + table.categories + 2) ≡ accept_of table row
+
+-- the moves of the first so many rows
 pub record AreFirstMoves (table : Table) (moves : List ℕ) (count : ℕ) : Type 0 where
   pub all : length moves ≡ count * stride table
-  pub each : (row category : ℕ) → row < count → category < table.categories →
-      slice_index moves (row * stride table + category) ≡ move_to table (step table row category)
-  pub fronts : (row : ℕ) → row < count → slice_index moves (row * stride table + table.categories) ≡ fronts_of table row
-  pub list : (row : ℕ) → row < count → slice_index moves (row * stride table + table.categories + 1) ≡ list_of table row
-  pub accept : (row : ℕ) → row < count → slice_index moves (row * stride table + table.categories + 2) ≡ accept_of table row
+  pub rows : (row : ℕ) → row < count → HasMoves table moves row
 
 -- all rows' moves
 abbrev pub AreMoves : Table → List ℕ → Type 0

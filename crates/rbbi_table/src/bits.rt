@@ -20,9 +20,11 @@ pub(crate) fn has_stored(bytes: &[u8], bit: usize) -> bool
 }
 
 /// Sets the bit with this number.
-pub(crate) fn store(bytes: &mut [u8], bit: usize)
-    requires { bit / 8 < length bytes.old }
-    ensures { (i : ℕ) → stored_bit bytes.new i ≡ (if i == bit then true else stored_bit bytes.old i) }
+pub(crate) fn store(bytes: &mut Vec<u8>, bit: usize)
+    requires { bit / 8 < length bytes.old.items }
+    ensures bits { (i : ℕ) → stored_bit bytes.new.items i
+        ≡ (if i == bit then true else stored_bit bytes.old.items i) }
+    ensures len { length bytes.new.items ≡ length bytes.old.items }
 {
     bytes[bit / 8] |= 1 << (bit % 8);
 }

@@ -139,18 +139,18 @@ impl Blocks {
         let mut numbers: Vec<u16> = Vec::with_capacity(alloc, BLOCKS)?;
         let mut kept = Vec::new(alloc);
         let mut sums = Vec::new(alloc);
-        let mut block = vec![in alloc; 0; BLOCK]?;
+        let mut block = [0; BLOCK];
         let mut range = 0;
         for number in 0..BLOCKS {
             let first = number * BLOCK;
             if number > 0 && holds_blocks(ranges, range, first) {
                 let same = numbers[number - 1];
                 numbers.push(same)?;
-            } else {
-                range = fill(ranges, range, first, &mut block);
-                let kept_number = keep(&mut kept, &mut sums, &block)?;
-                numbers.push(kept_number)?;
+                continue;
             }
+            range = fill(ranges, range, first, &mut block);
+            let kept_number = keep(&mut kept, &mut sums, &block)?;
+            numbers.push(kept_number)?;
         }
         Ok(Blocks {
             numbers,

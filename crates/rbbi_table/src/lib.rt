@@ -8,6 +8,7 @@ mod bits;
 mod blocks;
 mod error;
 mod fronts;
+mod gather;
 mod limits;
 mod list;
 mod lists;

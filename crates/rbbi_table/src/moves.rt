@@ -1,8 +1,8 @@
 //! The rows in one flat list, as the loop of a search reads them.
-ghost use Rattle.std.specs.Prelude.{◌≡◌, ◌+◌, ◌*◌, ◌^◌, ◌<◌, [], length, slice_index_or, IfOk};
+ghost use Rattle.std.specs.Prelude.{◌≡◌, ℕ, ◌+◌, ◌*◌, ◌^◌, ◌<◌, [], ◌++◌, length, slice_index, slice_index_or, IfOk, OnOk};
 ghost use Rattle.rbbi_model.specs.Tables.{empty_head};
 ghost use Rattle.rbbi_table.specs.Parts.{rows_of, AreSteps};
-ghost use Rattle.rbbi_table.specs.Kept.{move_flags, AreMoves};
+ghost use Rattle.rbbi_table.specs.Kept.{move_flags, row_moves, AreMoves};
 
 use crate::RowHead;
 use std::alloc::{AllocError, Global};
@@ -34,6 +34,28 @@ fn move_to(rows: &[RowHead], next: u16, stride: usize) -> u32
     place * 8 + ends + fronts + stops
 }
 
+/// Adds a row's moves, one for each of its next rows, and its front mask, list and accept number.
+fn push_row(
+    moves: &mut Vec<u32>,
+    rows: &[RowHead],
+    steps: &[u16],
+    head: &RowHead,
+) -> Result<(), AllocError>
+    requires next { (i : ℕ) → i < length steps.now → slice_index steps.now i < length rows.now }
+    requires small { length rows.now * (length steps.now + 3) < 2 ^ 24 }
+    ensures { OnOk result (moves.new.items ≡ moves.old.items
+        ++ row_moves (length steps.now + 3) rows.now steps.now head.now) }
+{
+    let stride = steps.len() + HEAD;
+    for next in steps {
+        moves.push(move_to(rows, *next, stride))?;
+    }
+    moves.push(head.fronts)?;
+    moves.push(u32::from(head.list))?;
+    moves.push(u32::from(head.accept))?;
+    Ok(())
+}
+
 /// For each row its moves, one for each category, and then its front mask, its list and its accept
 /// number. So the loop of a search reads one number a character, and a row's place needs no product.
 pub(crate) fn moves_of(
@@ -47,16 +69,10 @@ pub(crate) fn moves_of(
     ensures { IfOk result (λ moves. AreMoves (rows_of categories rows.now cells.now []) moves.items) }
 {
     let width = categories as usize;
-    let stride = width + HEAD;
-    let mut moves = Vec::with_capacity(alloc, rows.len() * stride)?;
+    let mut moves = Vec::with_capacity(alloc, rows.len() * (width + HEAD))?;
     for row in 0..rows.len() {
-        for cell in &cells[row * width..row * width + width] {
-            moves.push(move_to(rows, *cell, stride))?;
-        }
-        let head = &rows[row];
-        moves.push(head.fronts)?;
-        moves.push(u32::from(head.list))?;
-        moves.push(u32::from(head.accept))?;
+        let steps = &cells[row * width..row * width + width];
+        push_row(&mut moves, rows, steps, &rows[row])?;
     }
     Ok(moves)
 }

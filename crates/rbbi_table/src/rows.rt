@@ -1,7 +1,8 @@
 //! Whether the rows are valid.
-ghost use Rattle.std.specs.Prelude.{◌≡◌, ℕ, ◌↔◌, ◌+◌, ◌*◌, ◌^◌, ◌<◌, ◌≤◌, ◌⊎◌, length, slice_index, EachIndex, IsTrue};
+ghost use Rattle.std.specs.Prelude.{◌≡◌, ℕ, ◌↔◌, ◌+◌, ◌*◌, ◌^◌, ◌<◌, ◌≤◌, ◌⊎◌, length, slice_index, slice_index_or, EachIndex, IsTrue};
 ghost use Rattle.rbbi_model.specs.ValidTables.{AreValidRows, IsPlain};
-ghost use Rattle.rbbi_table.specs.Rows.{IsValidHead};
+ghost use Rattle.rbbi_model.specs.Tables.{empty_head};
+ghost use Rattle.rbbi_table.specs.Rows.{IsValidHead, IsValidEntry};
 ghost use Rattle.rbbi_table.specs.Parts.{table_of};
 
 use crate::limits::{MOST_ROWS, MOST_SLASHES};
@@ -47,6 +48,21 @@ fn is_valid_head(head: &RowHead, slashes: u16, lists: usize) -> bool
     has_fronts_below(head.fronts, slashes)
 }
 
+/// Whether a row is valid: its head is, its next rows are rows, and where a search ends at it, it leads
+/// to row 0 only.
+fn is_valid_row(rows: &[RowHead], row: usize, steps: &[u16], slashes: u16, lists: usize) -> bool
+    requires row { row < length rows.now }
+    requires rows { length rows.now ≤ 4095 }
+    requires slashes { slashes ≤ 32 }
+    ensures { IsTrue result ↔ IsValidEntry slashes lists (length rows.now) row
+        (slice_index_or rows.now row empty_head) steps.now }
+{
+    let head = rows[row];
+    let stops = row == 0 || head.accept >= 2;
+    let bound = if stops { 1 } else { rows.len() as u16 };
+    is_valid_head(&head, slashes, lists) && are_below(steps, bound)
+}
+
 /// Whether there are enough and few enough rows and not too many look-ahead rules, each row is valid,
 /// nothing ends at rows 0 and 1, and row 0 leads to itself only.
 pub(crate) fn are_valid_rows(parts: &Parts) -> bool
@@ -56,6 +72,7 @@ pub(crate) fn are_valid_rows(parts: &Parts) -> bool
     let rows = parts.rows.as_slice();
     let cells = parts.cells.as_slice();
     let width = parts.categories as usize;
+    let lists = parts.lists.len();
     if rows.len() < 2 || rows.len() > MOST_ROWS || parts.slashes > MOST_SLASHES {
         return false;
     }
@@ -63,12 +80,8 @@ pub(crate) fn are_valid_rows(parts: &Parts) -> bool
         return false;
     }
     for row in 0..rows.len() {
-        let head = &rows[row];
-        let stops = row == 0 || head.accept >= 2;
-        let bound = if stops { 1 } else { rows.len() as u16 };
-        if !is_valid_head(head, parts.slashes, parts.lists.len())
-            || !are_below(&cells[row * width..row * width + width], bound)
-        {
+        let steps = &cells[row * width..row * width + width];
+        if !is_valid_row(rows, row, steps, parts.slashes, lists) {
             return false;
         }
     }

@@ -6,7 +6,7 @@ use Rattle.rbbi_table.proofs.safe.gather_targets.Given as goal
 
 abbrev pub invariant-loop-row : goal.invariant-loop-row
 invariant-loop-row l = record {
-  seen : length l.seen ≡ length l.rows;
+  long : length l.seen.items ≡ length l.rows;
   below : AreTargetsBelow (rows_of l.width l.rows l.cells []) l.category l.targets.items l.row;
-  gathered : IsGathered l.seen l.targets.items;
+  gathered : IsGathered l.seen.items l.targets.items;
 }
