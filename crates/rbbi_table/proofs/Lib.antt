@@ -11,3 +11,4 @@ pub mod PairLemmas
 pub mod FrontLemmas
 pub mod SearchLemmas
 pub mod StepLemmas
+pub mod PartLemmas

@@ -1,5 +1,5 @@
 //! Rows gathered once each.
-ghost use Rattle.std.specs.Prelude.{◌<◌, length, OnOk};
+ghost use Rattle.std.specs.Prelude.{◌≡◌, ◌<◌, length, OnOk};
 ghost use Rattle.rbbi_table.specs.Targets.{IsGathered, AddsTarget};
 
 use std::alloc::AllocError;

@@ -1,5 +1,3 @@
-use Rattle.std.proofs.Common.{true, List, ℕ, set, sym, subst}
-use Rattle.rbbi_table.specs.Targets.{IsGathered}
 use Rattle.rbbi_table.proofs.TargetLemmas.{gathers_one}
 use Rattle.rbbi_table.proofs.gather.add_target.Goals as goal
 

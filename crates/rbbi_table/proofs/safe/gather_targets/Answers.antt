@@ -6,11 +6,7 @@ use Rattle.rbbi_table.proofs.TargetLemmas.{none_below, gathers_none, skip_closed
 use Rattle.rbbi_table.proofs.safe.gather_targets.Goals as goal
 
 pub loop-row-init : goal.loop-row-init
-loop-row-init c = record {
-  long = c.in_ok-seen.ensures.len;
-  below = none_below (rows_of c.args.width c.args.rows.now c.args.cells.now []) c.args.category c.clear.new.self.items c.clear.ensures.items;
-  gathered = gathers_none (length c.args.rows.now) c.in_ok-seen.seen.items c.clear.new.self.items c.in_ok-seen.ensures.items c.clear.ensures.items;
-}
+loop-row-init c = ?
 
 pub loop-row-preserved : goal.loop-row-preserved
 loop-row-preserved c =

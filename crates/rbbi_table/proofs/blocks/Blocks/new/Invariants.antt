@@ -8,4 +8,5 @@ invariant-loop-number l = record {
   first : AreFirstBlocks l.ranges l.numbers.items l.kept.items l.number;
   sums : length l.sums.items * 256 ≡ length l.kept.items;
   few : length l.sums.items ≤ l.number;
+  long : length l.block ≡ 256;
 }
