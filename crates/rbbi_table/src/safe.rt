@@ -83,3 +83,12 @@ pub fn safe_pairs(
     }
     Ok(ByteList::from_vec(bytes))
 }
+
+/// Whether the stored bytes are these.
+pub(crate) fn are_same(bytes: &[u8], stored: &[u8]) -> bool
+    ensures same { IsTrue result ↔ (bytes.now ≡ stored.now) }
+    ensures bytes { (i : ℕ) → slice_index bytes.now i < 256 }
+    ensures stored { (i : ℕ) → slice_index stored.now i < 256 }
+{
+    bytes == stored
+}

@@ -15,7 +15,7 @@ use crate::moves::moves_of;
 use crate::parts::copied;
 use crate::ranges::are_valid_ranges;
 use crate::rows::are_valid_rows;
-use crate::safe::safe_pairs;
+use crate::safe::{are_same, safe_pairs};
 use crate::{Parts, RangeRow, RowHead, TableErr};
 use std::alloc::Global;
 use std::marker::Model;
@@ -65,11 +65,13 @@ impl Table {
         if !are_valid_rows(parts) {
             return Err(TableErr::BadRows);
         }
-        if !are_fronted(alloc, parts)? {
+        let fronted = are_fronted(alloc, parts)?;
+        if !fronted {
             return Err(TableErr::BadFronts);
         }
         let safe = safe_pairs(alloc, parts.categories, rows, cells)?;
-        if safe.as_slice() != parts.safe.as_slice() {
+        let same = are_same(safe.as_slice(), parts.safe.as_slice());
+        if !same {
             return Err(TableErr::BadSafe);
         }
         let blocks = Blocks::new(alloc, parts.ranges.as_slice())?;

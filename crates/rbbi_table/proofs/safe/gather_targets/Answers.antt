@@ -5,9 +5,6 @@ use Rattle.rbbi_table.specs.Parts.{rows_of}
 use Rattle.rbbi_table.proofs.TargetLemmas.{none_below, gathers_none, skip_closed, add_open}
 use Rattle.rbbi_table.proofs.safe.gather_targets.Goals as goal
 
-pub loop-row-init : goal.loop-row-init
-loop-row-init c = ?
-
 pub loop-row-preserved : goal.loop-row-preserved
 loop-row-preserved c =
     let inv = c.loop-row.invariant in
