@@ -91,6 +91,13 @@ impl Table {
         let _parts = &self.parts;
     }
 
+    /// The parts, as they were checked.
+    pub fn parts(&self) -> &Parts
+        ensures { table_of result.now ≡ self.now }
+    {
+        &self.parts
+    }
+
     /// How many categories there are.
     pub fn categories(&self) -> u16
         ensures { result ≡ self.now.categories }
