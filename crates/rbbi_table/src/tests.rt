@@ -92,7 +92,9 @@ fn parts_of(alloc: Global, sample: &Sample) -> Result<Parts, AllocError> {
 fn table_of(rt: &impl Abort, alloc: Global, sample: &Sample) -> Result<Table, TableErr> {
     let parts = parts_of(alloc, sample)?;
     let width = parts.categories as usize;
-    assert_eq!(rt; parts.cells.len(), parts.rows.len() * width);
+    assert!(rt; parts.rows.len() < 65536);
+    let cells = u64::from(parts.rows.len() as u32) * u64::from(parts.categories);
+    assert_eq!(rt; parts.cells.len() as u64, cells);
     assert_eq!(rt; parts.safe.len(), (width * width + 7) / 8);
     Table::from_parts(alloc, &parts)
 }
@@ -156,7 +158,6 @@ fn parts_that_make_a_table(rt: HostRuntime) -> Result<(), Fail> {
 #[test]
 fn parts_that_make_none(rt: HostRuntime) -> Result<(), Fail> {
     let alloc = rt.alloc();
-    let plain = (0, 0, 0);
     let rows: [(Sample, &str); 11] = [
         (
             Sample {
@@ -188,14 +189,14 @@ fn parts_that_make_none(rt: HostRuntime) -> Result<(), Fail> {
         ),
         (
             Sample {
-                rows: &[plain, (1, 0, 0), (1, 0, 0)],
+                rows: &[(0, 0, 0), (1, 0, 0), (1, 0, 0)],
                 ..A
             },
             "BadRows",
         ),
         (
             Sample {
-                rows: &[plain, plain, (2, 0, 0)],
+                rows: &[(0, 0, 0), (0, 0, 0), (2, 0, 0)],
                 ..A
             },
             "BadRows",
@@ -203,7 +204,7 @@ fn parts_that_make_none(rt: HostRuntime) -> Result<(), Fail> {
         (
             Sample {
                 slashes: 1,
-                rows: &[plain, plain, (2, 0, 0)],
+                rows: &[(0, 0, 0), (0, 0, 0), (2, 0, 0)],
                 ..A
             },
             "BadFronts",
@@ -211,7 +212,7 @@ fn parts_that_make_none(rt: HostRuntime) -> Result<(), Fail> {
         (
             // The front of the second look-ahead rule doesn't end after `a`.
             Sample {
-                rows: &[plain, plain, (0, 1, 0), (2, 0, 1), (3, 0, 0)],
+                rows: &[(0, 0, 0), (0, 0, 0), (0, 1, 0), (2, 0, 1), (3, 0, 0)],
                 ..BOTH
             },
             "BadFronts",
