@@ -86,24 +86,27 @@ impl Level {
         Ok(())
     }
 
-    /// Makes the items a sequence.
+    /// Makes the items a sequence, which takes no more memory than they need.
     pub fn end_sequence(&mut self, alloc: Global) -> Result<(), AllocError>
         ensures { OnOk result (level_tree self.new ≡ with_sequence (level_tree self.old)) }
     {
-        let items = mem::replace(&mut self.items, Vec::new(alloc));
+        let mut items = mem::replace(&mut self.items, Vec::new(alloc));
+        items.shrink_to_fit();
         self.sequences.push(Seq { items })?;
         Ok(())
     }
 
-    /// The expression of the sequences and the items.
+    /// The expression of the sequences and the items, which takes no more memory than they need.
     pub fn into_expr(self) -> Result<Expr, AllocError>
         ensures { IfOk result (λ expr. expr_tree expr ≡ whole (level_tree self)) }
     {
         let Level {
             mut sequences,
-            items,
+            mut items,
         } = self;
+        items.shrink_to_fit();
         sequences.push(Seq { items })?;
+        sequences.shrink_to_fit();
         Ok(Expr { items: sequences })
     }
 

@@ -12,8 +12,10 @@ returns c =
     let ss = map seq_tree c.args.self.sequences.items in
     let is = map item_tree c.args.self.items.items in
     let e : map seq_tree c.push.new.self.items ≡ ss ++ seq_of is ∷ [] =
-    rw (c.in_ok-push.ensures.items, map-append) (ap (λ s. ss ++ s ∷ []) (seq_tree_roll _)) in
+    rw (c.in_ok-push.ensures.items, map-append)
+    (ap (λ s. ss ++ s ∷ []) (seq_tree_roll _ ∙ ap (λ xs. seq_of (map item_tree xs)) c.shrink_to_fit.ensures.items)) in
     expr_tree_roll _
+    ∙ ap (λ xs. expr_of (map seq_tree xs)) c.shrink_to_fit-2.ensures.items
     ∙ ap expr_of e
     ∙ expression_from_reverse ss (seq_of is)
     ∙ ap (λ t. sequences_back (reverse ss) (alternative t no_alternatives)) (sym (items_from_reverse is))
