@@ -1,0 +1,4 @@
+pub mod Counts
+pub mod TakingOut
+pub mod PuttingBack
+pub mod Refining

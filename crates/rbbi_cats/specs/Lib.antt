@@ -1,0 +1,6 @@
+pub mod Partitions
+pub mod Cuts
+pub mod CategoryLists
+pub mod Numbers
+pub mod Lookups
+pub mod Tells
