@@ -2,5 +2,8 @@ pub mod Counts
 pub mod TakingOut
 pub mod PuttingBack
 pub mod Selecting
+pub mod Numbering
+pub mod Filling
+pub mod Ranging
 pub mod Cutting
 pub mod Refining

@@ -27,8 +27,9 @@ pub record Added (base members : List ℕ) (from to : ℕ) : Type 0 where
 
 pub none_added : (base : List ℕ) (from : ℕ) → ((i j : ℕ) → i < j → j < length base → get_or base i 0 < get_or base j 0) → ((j : ℕ) → j < length base → get_or base j 0 < from) → Added base base from from
 none_added base from rising below = record {
-  rising = rising; below = below;
-  exactly = λ i. (λ s. inl s, λ h. elim h [ inl s ↦ s | inr s ↦ absurd (omega (arith, s.0, s.1)) ])
+  rising = rising;
+  below = below;
+  exactly = λ i. (λ s. inl s, λ h. elim h [ inl s ↦ s | inr s ↦ absurd (omega (arith, s.0, s.1)) ]);
 }
 
 -- where a number stands once one more is at the end
@@ -89,15 +90,16 @@ has_suc : (ranges : List Range) (k c : ℕ) (d : Range) → k < length ranges �
 has_suc [] k c d below = absurd (omega (arith, below))
 has_suc (range ∷ ranges) zero c d below = (λ h. elim h [ inl i ↦ inr i | inr n ↦ absurd n ], λ h. elim h [ inl n ↦ absurd n | inr i ↦ inl i ])
 has_suc (range ∷ ranges) (suc k) c d below =
-    let more = has_suc ranges k c d (omega (arith, below)) in
-    (λ h. elim h [
-      | inl i ↦ inl (inl i)
-      | inr n ↦ elim (more.0 n) [ inl a ↦ inl (inr a) | inr b ↦ inr b ]
-    ],
-    λ h. elim h [
-      | inl s ↦ elim s [ inl i ↦ inl i | inr n ↦ inr (more.1 (inl n)) ]
-      | inr i ↦ inr (more.1 (inr i))
-    ])
+    let more = has_suc ranges k c d (omega (arith, below)) in (
+      λ h. elim h [
+        | inl i ↦ inl (inl i)
+        | inr n ↦ elim (more.0 n) [ inl a ↦ inl (inr a) | inr b ↦ inr b ]
+      ],
+      λ h. elim h [
+        | inl s ↦ elim s [ inl i ↦ inl i | inr n ↦ inr (more.1 (inl n)) ]
+        | inr i ↦ inr (more.1 (inr i))
+      ],
+    )
 
 pub has_more : (ranges : List Range) (k c : ℕ) (d : Range) → k < length ranges → Has (take (k + 1) ranges) c ↔ (Has (take k ranges) c ⊎ InRange (get_or ranges k d) c)
 has_more ranges k c d below =
@@ -109,7 +111,7 @@ none_selected cuts ranges = record {
   rising = λ i j less below. absurd (omega (arith, below));
   within = λ j below. absurd (omega (arith, below));
   exactly = λ i below. (λ (j, none, e). absurd (omega (arith, none)), λ h. absurd h);
-  before = λ j r d below. absurd (omega (arith, below))
+  before = λ j r d below. absurd (omega (arith, below));
 }
 
 -- the numbers before which alone a fact holds
@@ -135,7 +137,7 @@ one_selected cuts ranges base members k from to range below is apart low high h 
   rising = added.rising;
   within = λ j inside. omega (arith, added.below j inside, high.within);
   exactly = λ i inside. (there i inside, back i inside);
-  before = λ j r d inside late rest. before_more j r d inside late rest (added.exactly (get_or members j 0)).0
+  before = λ j r d inside late rest. before_more j r d inside late rest (added.exactly (get_or members j 0)).0;
 }
   where
     there : (i : ℕ) → i < length cuts → Selects members i → Has (take (k + 1) ranges) (get_or cuts i 0)
@@ -174,8 +176,9 @@ one_selected cuts ranges base members k from to range below is apart low high h 
 
 pub all_selected : (cuts : List ℕ) (ranges : List Range) (members : List ℕ) (k : ℕ) → k ≡ length ranges → take k ranges ≡ ranges → Selected cuts ranges members k → AreMembers cuts ranges members
 all_selected cuts ranges members k e all h = record {
-  rising = h.rising; within = h.within;
-  exactly = λ i inside. subst (λ (rs : List Range). Selects members i ↔ Has rs (get_or cuts i 0)) all (h.exactly i inside)
+  rising = h.rising;
+  within = h.within;
+  exactly = λ i inside. subst (λ (rs : List Range). Selects members i ↔ Has rs (get_or cuts i 0)) all (h.exactly i inside);
 }
 
 -- a list that rises is in order
@@ -190,14 +193,14 @@ pub point_below : (cuts : List ℕ) (t point : ℕ) → point ≤ length cuts �
 point_below cuts t point within h = record {
   within = within;
   sooner = λ k below. ltb-true _ _ (h.0 k 0 (omega arith) below);
-  later = λ k from below. ltb-false _ _ (h.1 k 0 from below)
+  later = λ k from below. ltb-false _ _ (h.1 k 0 from below);
 }
 
 pub point_up_to : (cuts : List ℕ) (t point : ℕ) → point ≤ length cuts → IsPartitionPoint (λ (x : ℕ). leb x t ≡ true) (λ (x : ℕ). leb x t ≡ false) cuts point → IsPoint (λ (x : ℕ). x ≤ t) (λ (x : ℕ). t < x) cuts point
 point_up_to cuts t point within h = record {
   within = within;
   sooner = λ k below. leb-true _ _ (h.0 k 0 (omega arith) below);
-  later = λ k from below. leb-false _ _ (h.1 k 0 from below)
+  later = λ k from below. leb-false _ _ (h.1 k 0 from below);
 }
 
 -- the end of a range is before the starts of the later ones

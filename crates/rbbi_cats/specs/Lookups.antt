@@ -33,3 +33,10 @@ pub record Keeps (old new block : List ℕ) (number : ℕ) : Type 0 where
   pub within : number * 256 + 256 ≤ length new
   pub kept : (place : ℕ) → place < 256 → slice_index new (number * 256 + place) ≡ slice_index block place
   pub whole : (n : ℕ) × (length new ≡ n * 256)
+
+-- The first ranges, at least one, start at the code point or before it, and the others past it.
+pub record IsPast (ranges : List CategoryRange) (next c : ℕ) : Type 0 where
+  pub some : 1 ≤ next
+  pub within : next ≤ length ranges
+  pub sooner : (k : ℕ) (d : CategoryRange) → k < next → (slice_index_or ranges k d).start ≤ c
+  pub later : (k : ℕ) (d : CategoryRange) → next ≤ k → k < length ranges → c < (slice_index_or ranges k d).start

@@ -1,9 +1,9 @@
 //! The look-up of a character's category in two steps: the block of 256 code points, and the place in
 //! the block. Equal blocks are kept once.
-ghost use Rattle.std.specs.Prelude.{◌≡◌, ◌<◌, ◌≤◌, ◌*◌, ◌+◌, ◌/◌, ◌%◌, ◌^◌, ℕ, IfOk, OnOk, length, slice_index};
+ghost use Rattle.std.specs.Prelude.{◌≡◌, ◌<◌, ◌*◌, ◌+◌, ◌^◌, ℕ, IfOk, OnOk, length};
 ghost use Rattle.rbbi_model.specs.Tables.{category_of};
 ghost use Rattle.rbbi_model.specs.ValidTables.{StartsAtZero, AreApart};
-ghost use Rattle.rbbi_cats.specs.Lookups.{IsBlock, IsLookup, IsSplit, Keeps};
+ghost use Rattle.rbbi_cats.specs.Lookups.{IsBlock, IsLookup, IsPast, IsSplit, Keeps};
 
 use crate::CatRange;
 use std::alloc::{AllocError, Global};
@@ -51,12 +51,26 @@ fn fill(
     let mut next = next;
     block.clear();
     for place in 0..BLOCK {
-        if next < ranges.len() && ranges[next].start as usize <= first + place {
-            next += 1;
-        }
-        block.push(ranges[next - 1].cat)?;
+        next = past(ranges, next, first + place);
+        let range = ranges[next - 1];
+        block.push(range.cat)?;
     }
     Ok(next)
+}
+
+/// How many ranges start at the code point or before it, where those before `next` do.
+fn past(ranges: &[CatRange], next: usize, c: usize) -> usize
+    requires apart { AreApart ranges.now }
+    requires split { IsSplit ranges.now next c }
+    ensures { IsPast ranges.now result c }
+{
+    if next < ranges.len() {
+        let range = ranges[next];
+        if range.start as usize <= c {
+            return next + 1;
+        }
+    }
+    next
 }
 
 /// The number of the block among the kept ones, to which it is added where it isn't there.

@@ -47,9 +47,8 @@ pub(crate) fn ranges_of(
     let mut ranges: Vec<CatRange> = Vec::new(alloc);
     for (i, start) in cuts.iter().enumerate() {
         let cat = numbers[classes[i]];
-        match ranges.last() {
-            Some(last) if last.cat == cat => {}
-            _ => ranges.push(CatRange { start: *start, cat })?,
+        if i == 0 || numbers[classes[i - 1]] != cat {
+            ranges.push(CatRange { start: *start, cat })?;
         }
     }
     Ok(ranges)
