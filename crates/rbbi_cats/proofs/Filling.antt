@@ -1,7 +1,7 @@
 -- Blocks of categories, code point by code point.
-use Rattle.std.proofs.Common.{◌≡◌, ◌≢◌, ℕ, zero, suc, ◌+◌, ◌-◌, ◌*◌, ◌/◌, ◌%◌, ◌≤◌, ◌<◌, ◌⊎◌, true, false, leb, cond, List, [], ◌∷◌, ◌++◌, length, get_or, refl, ap, sym, ◌∙◌, subst, inl, inr, arith, length-append}
+use Rattle.std.proofs.Common.{◌≡◌, ◌≢◌, ℕ, zero, suc, ◌+◌, ◌-◌, ◌*◌, ◌/◌, ◌%◌, ◌≤◌, ◌<◌, ◌^◌, ◌⊎◌, true, false, leb, cond, List, [], ◌∷◌, ◌++◌, length, get_or, take, drop, refl, ap, sym, ◌∙◌, subst, inl, inr, arith, length-append}
 use Rattle.std.proofs.lemmas.Bool.{cases_eq, cases_lt, le-leb, lt-leb}
-use Rattle.std.proofs.lemmas.List.{get_or_append_left, get_or_default}
+use Rattle.std.proofs.lemmas.List.{get_or_append_left, get_or_default, get_or-append-add, get_or-take, get_or-drop}
 use Rattle.std.proofs.Math.Seq.{get_or-append_seam}
 use Rattle.rbbi_model.specs.Words.{IsCodePoint}
 use Rattle.rbbi_model.specs.Tables.{CategoryRange, category_from, category_of}
@@ -162,3 +162,28 @@ all_looked blocks cells ranges next number e h = record {
   cell = λ c small. h.cell c (omega (arith, e, small));
   category = λ c small. h.category c (omega (arith, e, small));
 }
+
+-- a block that is there
+pub kept_found : (cells block : List ℕ) (number width : ℕ) → width ≡ 256 → take width (drop (number * 256) cells) ≡ block → number < length cells / 256 → (n : ℕ) × (length cells ≡ n * 256) × (n < 2 ^ 16) → Keeps cells cells block number
+kept_found cells block number width wide e below (n, long, few) = record {
+  more = omega arith;
+  long = omega arith;
+  same = λ k inside. refl;
+  within = omega (arith, below);
+  kept = λ place small. sym (get_or-drop (number * 256) cells place 0) ∙ sym (get_or-take width (drop (number * 256) cells) place 0 (omega (arith, small, wide))) ∙ ap (λ l. get_or l place 0) e;
+  whole = (n, long);
+}
+
+-- a block that is added
+pub kept_added : (cells new block : List ℕ) (number : ℕ) → new ≡ cells ++ block → length block ≡ 256 → number ≡ length cells / 256 → (n : ℕ) × (length cells ≡ n * 256) × (n < 2 ^ 16) → Keeps cells new block number
+kept_added cells new block number e wide is (n, long, few) =
+    let longer : length new ≡ length cells + 256 = omega (arith, ap length e, length-append cells block, wide) in
+    let at : number * 256 ≡ length cells = omega (arith, is, long) in
+    record {
+      more = omega (arith, longer);
+      long = omega (arith, longer);
+      same = λ k inside. ap (λ l. get_or l k 0) e ∙ get_or_append_left cells block 0 k inside;
+      within = omega (arith, longer, at);
+      kept = λ place small. ap (λ l. get_or l (number * 256 + place) 0) e ∙ ap (λ m. get_or (cells ++ block) (m + place) 0) at ∙ get_or-append-add cells block place 0;
+      whole = (n + 1, omega (arith, longer, long));
+    }

@@ -3,6 +3,7 @@ pub mod TakingOut
 pub mod PuttingBack
 pub mod Selecting
 pub mod Numbering
+pub mod Telling
 pub mod Filling
 pub mod Ranging
 pub mod Cutting

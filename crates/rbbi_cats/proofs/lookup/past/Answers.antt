@@ -13,5 +13,9 @@ pub returns-else-range-c : goal.returns-else-range-c
 returns-else-range-c c =
     let range = c.index-ranges-next.result in
     past_same c.args.ranges.now c.args.next c.args.c c.requires.apart
-    (λ d below. omega (arith, c.if-range-c.false, ap (λ (r : CategoryRange). r.start) c.range.view_is,
-    ap (λ (r : CategoryRange). r.start) (c.index-ranges-next.is ∙ get_or_default c.args.ranges.now c.args.next range d below))) c.requires.split
+    (λ d below. omega (
+      arith,
+      c.if-range-c.false,
+      ap (λ (r : CategoryRange). r.start) c.range.view_is,
+      ap (λ (r : CategoryRange). r.start) (c.index-ranges-next.is ∙ get_or_default c.args.ranges.now c.args.next range d below),
+    )) c.requires.split
