@@ -3,6 +3,9 @@ pub mod TakingOut
 pub mod PuttingBack
 pub mod Selecting
 pub mod Numbering
+pub mod LeafSets
+pub mod Classing
+pub mod Finding
 pub mod Telling
 pub mod Filling
 pub mod Ranging

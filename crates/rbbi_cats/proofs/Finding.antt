@@ -1,0 +1,56 @@
+-- The categories of the rules.
+use Rattle.std.proofs.Common.{◌≡◌, ◌≢◌, ℕ, zero, suc, ◌+◌, ◌-◌, ◌≤◌, ◌<◌, ◌⊎◌, ◌↔◌, Bool, true, false, eqb, List, [], ◌∷◌, ◌++◌, length, get_or, refl, ap, sym, ◌∙◌, subst, inl, inr, arith}
+use Rattle.std.specs.Prelude.{map, AllPairs, Contains}
+use Rattle.std.specs.List.{AllByRecursion, All, IsDistinct, list_any}
+use Rattle.std.proofs.lemmas.List.Elements.{recursion_from_All}
+use Rattle.std.proofs.lemmas.Map.Steps.{length-le_from_distinct_below}
+use Rattle.std.proofs.lemmas.Bool.{cases_eq}
+use Rattle.std.proofs.lemmas.List.{get_or_default}
+use Rattle.rbbi_model.specs.Words.{IsCodePoint}
+use Rattle.rbbi_model.specs.Ranges.{Range}
+use Rattle.rbbi_model.specs.Rules.{Rule}
+use Rattle.rbbi_model.specs.Tables.{CategoryRange, category_of}
+use Rattle.rbbi_model.specs.Compiled.{IsRead, AreAlike, AreClasses}
+use Rattle.rbbi_resolve.specs.RuleLists.{RuleList, rules_of, AreWellFormed}
+use Rattle.rbbi_cats.specs.CategoryLists.{HasClasses, IsReadCodePoint}
+use Rattle.rbbi_cats.specs.Tells.{SomeHas, NoneTells, HasTold}
+use Rattle.rbbi_cats.proofs.Classing.{Classed}
+use Rattle.rbbi_cats.proofs.LeafSets.{read_is, alike_is}
+
+pub classes_are : (list : RuleList) (categories : ℕ) (ranges : List CategoryRange) → AreWellFormed list → Classed list.sets categories ranges → AreClasses (rules_of list) categories ranges
+classes_are list categories ranges w h = record {
+  none = λ c code. (λ e read. (h.none c code).0 e ((read_is list c w).0 read), λ n. (h.none c code).1 (λ some. n ((read_is list c w).1 some)));
+  alike = λ c d code code'. (λ e. (alike_is list c d w).1 ((h.alike c d code code').0 e), λ a. (h.alike c d code code').1 ((alike_is list c d w).0 a));
+  used = h.used;
+  numbered = h.numbered
+}
+
+module _ (list : RuleList) (cuts : List ℕ) (w : AreWellFormed list) (small : (i : ℕ) → i < length cuts → IsCodePoint (get_or cuts i 0)) where
+  each_told : (starts : List ℕ) → AllByRecursion (λ c. SomeHas list.sets c × Contains cuts c) starts → AllByRecursion (IsReadCodePoint (rules_of list)) starts
+  each_told [] h = tt
+  each_told (c ∷ starts) ((some, contained), h) = ((omega (arith, code contained), (read_is list c w).1 some), each_told starts h)
+    where
+      code : Contains cuts c → c ≤ 0x10FFFF
+      code (k, below, e) = omega (arith, small k below, get_or_default cuts k 0 c below, e)
+
+  pub too_many : (count : ℕ) → HasTold list.sets cuts count → HasClasses (rules_of list) count
+  too_many count h = record {
+    codes = h.starts; many = h.many; each = each_told h.starts h.each;
+    apart = λ i j d less inside alike. h.apart i j d less inside ((alike_is list (get_or h.starts i d) (get_or h.starts j d) w).0 alike)
+  }
+
+-- as many classes as there are categories beside category 0, at most
+module _ (rules : List Rule) (categories : ℕ) (ranges : List CategoryRange) (h : AreClasses rules categories ranges) (within : (c : ℕ) → category_of ranges c < categories) where
+  place : ℕ → ℕ
+  place c = category_of ranges c - 1
+
+  read_positive : (c : ℕ) → IsReadCodePoint rules c → 1 ≤ category_of ranges c
+  read_positive c (code, read) = elim (cases_eq (category_of ranges c) 0) [ inl z ↦ absurd ((h.none c code).0 z read) | inr n ↦ omega (arith, n) ]
+
+  places_below : (codes : List ℕ) → AllByRecursion (IsReadCodePoint rules) codes → (q : ℕ) → list_any (eqb q) (map place codes) ≡ true → q < categories - 1
+  unfolding place
+  places_below codes each q e = ?
+
+  places_apart : (codes : List ℕ) → AllByRecursion (IsReadCodePoint rules) codes → AllPairs (λ c d. ¬ AreAlike rules c d) codes → IsDistinct eqb (map place codes)
+  unfolding place
+  places_apart codes each apart = ?
