@@ -10,6 +10,7 @@ use Rattle.rbbi_model.specs.Words.{IsCodePoint, last_code_point}
 use Rattle.rbbi_model.specs.Ranges.{Range, InRange, Has}
 use Rattle.rbbi_model.specs.Tables.{CategoryRange, category_of}
 use Rattle.rbbi_model.specs.ValidTables.{AreValidRanges, IsWithin}
+use Rattle.rbbi_sets.specs.Rising.{AreRising, AreRisingFrom}
 use Rattle.rbbi_cats.specs.Cuts.{AreCuts, ends_of, set_ends}
 use Rattle.rbbi_cats.specs.Numbers.{AreNumbers, AreRangesOf}
 use Rattle.rbbi_cats.specs.Partitions.{IsPartition}
@@ -251,3 +252,46 @@ module _ (sets : List (List Range)) (cuts classes sizes numbers : List ℕ) (ran
       all_within [] h = tt
       all_within (range ∷ rs) (((k, below, is), (c, e)), h) =
           ((omega (arith, small k below, get_or_default cuts k 0 range.start below, is), omega (arith, e, numbered.small c)), all_within rs h)
+
+-- cuts are code points
+ends_small : (set : List Range) (bound e : ℕ) → AreRisingFrom bound set → In (set_ends set) e → e ≤ last_code_point
+ends_small [] bound e rise h = absurd h
+ends_small (range ∷ set) bound e rise h =
+    elim (in_either (ends_of range) (set_ends set) e h) [
+      | inl first ↦ first_small range e (omega (arith, rise.1, rise.2)) rise.2 first
+      | inr rest ↦ ends_small set (range.high + 2) e rise.3 rest
+    ]
+  where
+    in_either : (xs ys : List ℕ) (n : ℕ) → In (xs ++ ys) n → In xs n ⊎ In ys n
+    in_either [] ys n h = inr h
+    in_either (x ∷ xs) ys n (inl e) = inl (inl e)
+    in_either (x ∷ xs) ys n (inr h) = elim (in_either xs ys n h) [ inl a ↦ inl (inr a) | inr b ↦ inr b ]
+
+    first_small : (range : Range) (e : ℕ) → range.low ≤ last_code_point → range.high ≤ last_code_point → In (ends_of range) e → e ≤ last_code_point
+    first_small range e low high h = elim (cases_lt range.high last_code_point) [
+      | inl inside ↦ elim (subst (λ (l : List ℕ). In l e) (ap (λ t. cond t (range.low ∷ (range.high + 1) ∷ []) (range.low ∷ [])) (lt-ltb range.high last_code_point inside)) h) [
+        | inl a ↦ omega (arith, a, low)
+        | inr b ↦ elim b [ inl c ↦ omega (arith, c, inside) | inr d ↦ absurd d ]
+      ]
+      | inr last ↦ elim (subst (λ (l : List ℕ). In l e) (ap (λ t. cond t (range.low ∷ (range.high + 1) ∷ []) (range.low ∷ [])) (le-ltb range.high last_code_point last)) h) [
+        | inl a ↦ omega (arith, a, low)
+        | inr d ↦ absurd d
+      ]
+    ]
+
+all_ends_small : (sets : List (List Range)) (e : ℕ) → AllByRecursion AreRising sets → In (flat_map set_ends sets) e → e ≤ last_code_point
+all_ends_small [] e rise h = absurd h
+all_ends_small (set ∷ sets) e rise h =
+    elim (in_either (set_ends set) (flat_map set_ends sets) e h) [ inl a ↦ ends_small set 0 e rise.0 a | inr b ↦ all_ends_small sets e rise.1 b ]
+  where
+    in_either : (xs ys : List ℕ) (n : ℕ) → In (xs ++ ys) n → In xs n ⊎ In ys n
+    in_either [] ys n h = inr h
+    in_either (x ∷ xs) ys n (inl e) = inl (inl e)
+    in_either (x ∷ xs) ys n (inr h) = elim (in_either xs ys n h) [ inl a ↦ inl (inr a) | inr b ↦ inr b ]
+
+pub cuts_small : (sets : List (List Range)) (cuts : List ℕ) → AreCuts sets cuts → AllByRecursion AreRising sets → (i : ℕ) → i < length cuts → get_or cuts i 0 ≤ last_code_point
+cuts_small sets cuts h rise i below =
+    elim (in_contains (0 ∷ flat_map set_ends sets) (get_or cuts i 0) ((h.exactly (get_or cuts i 0)).0 (i, below, get_or_default cuts i (get_or cuts i 0) 0 below))) [
+      | inl e ↦ omega (arith, e)
+      | inr there ↦ all_ends_small sets (get_or cuts i 0) rise there
+    ]

@@ -16,7 +16,8 @@ pub(crate) fn numbers_of(
     requires some { 1 ≤ count }
     requires few { count ≤ 255 }
     requires within { (i : ℕ) → i < length classes.now → slice_index classes.now i < count }
-    ensures { IfOk result (λ numbered. AreNumbers classes.now numbered.0.items numbered.1) }
+    ensures numbers { IfOk result (λ numbered. AreNumbers classes.now numbered.0.items numbered.1) }
+    ensures many { IfOk result (λ numbered. length numbered.0.items ≡ count) }
 {
     let mut numbers = vec![in alloc; 0u16; count]?;
     let mut greatest = 0;

@@ -30,5 +30,5 @@ loop-class-preserved c =
           (subst (λ (v : Vec ℕ Global). P v.items greatest) (sym w.numbers-is) (number_kept classes numbers greatest count k known h))
     ]
 
-pub returns : goal.returns
-returns c = all_numbered c.args.classes.now c.loop-class.numbers.items c.loop-class.greatest c.args.count c.loop-class.class-index c.requires.some (omega arith) c.loop-class.invariant
+pub returns-clause-numbers : goal.returns-clause-numbers
+returns-clause-numbers c = all_numbered c.args.classes.now c.loop-class.numbers.items c.loop-class.greatest c.args.count c.loop-class.class-index c.requires.some (omega arith) c.loop-class.invariant
