@@ -1,5 +1,8 @@
 use Rattle.std.proofs.Common.{◌≡◌, ◌<◌, ◌≤◌, ◌+◌, ℕ, List, length, get_or, refl, sym, ap, ◌∙◌, subst, arith, rules}
 use Rattle.std.specs.List.{AllByRecursion}
+use Rattle.std.proofs.Common.{Err}
+use Rattle.std.proofs.lemmas.Result.{err_from_is_err_and}
+use Rattle.rbbi_cats.specs.declared.error.CatsErr.TheVariants.{TooManyCategories}
 use Rattle.rbbi_model.proofs.Categories.{category_within}
 use Rattle.rbbi_model.specs.Ranges.{Range}
 use Rattle.rbbi_sets.specs.Rising.{AreRising}
@@ -18,7 +21,11 @@ returns-in_err-classes-clause-too_many c =
     let cuts = c.in_ok-cuts.cuts.items in
     let cut : AreCuts list.sets cuts = subst (λ (s : List (List Range)). AreCuts s cuts) c.sets-sets.ensures.value c.in_ok-cuts.ensures in
     let small = cuts_small list.sets cuts cut (all_rising list.sets c.sets-sets.ensures.form.sets) in
-    ?
+    let p = err_from_is_err_and c.from_residual-in_err-classes.result c.from_residual-in_err-classes.ensures.1 in
+    λ same.
+    let error : c.in_err-classes.field-0.0 ≡ TooManyCategories = sym p.2 ∙ cc (p.1, same) in
+    let told = c.in_err-classes.ensures.too_many (ap (λ e. Err e) error) in
+    too_many list cuts c.sets-sets.ensures.form small 255 (subst (λ (s : List (List Range)). HasTold s cuts 255) c.sets-sets.ensures.value (rw c.deref.ensures.value at told))
 
 pub ranges_of-requires-clause-some : goal.ranges_of-requires-clause-some
 ranges_of-requires-clause-some c = rw c.deref-3.ensures.value (cuts_some c.sets-sets.result.now c.in_ok-cuts.cuts.items c.in_ok-cuts.ensures)
