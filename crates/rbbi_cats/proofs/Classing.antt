@@ -1,13 +1,13 @@
 -- The numbered ranges are the classes of code points that the sets don't tell apart.
-use Rattle.std.proofs.Common.{◌≡◌, ◌≢◌, ℕ, zero, suc, ◌+◌, ◌-◌, ◌≤◌, ◌<◌, ◌⊎◌, ◌↔◌, true, false, cond, eqb, List, [], ◌∷◌, ◌++◌, length, get_or, refl, ap, sym, ◌∙◌, subst, inl, inr, arith}
-use Rattle.std.specs.Prelude.{Contains, AllPairs, flat_map}
-use Rattle.std.specs.List.{AllByRecursion, All}
+use Rattle.std.proofs.Common.{◌≡◌, ℕ, zero, suc, ◌+◌, ◌-◌, ◌≤◌, ◌<◌, ◌⊎◌, ◌↔◌, cond, List, [], ◌∷◌, ◌++◌, length, get_or, refl, ap, sym, ◌∙◌, subst, inl, inr, arith}
+use Rattle.std.specs.Prelude.{Contains, flat_map}
+use Rattle.std.specs.List.{AllByRecursion}
 use Rattle.std.specs.List.Sorted.{IsStrictlyIncreasing}
 use Rattle.std.proofs.lemmas.Bool.{cases_lt, cases_eq, lt-ltb, le-ltb}
 use Rattle.std.proofs.lemmas.List.{get_or_default}
 use Rattle.std.proofs.lemmas.List.Kept.{AllPairs-from_increasing}
 use Rattle.rbbi_model.specs.Words.{IsCodePoint, last_code_point}
-use Rattle.rbbi_model.specs.Ranges.{Range, InRange, Has}
+use Rattle.rbbi_model.specs.Ranges.{Range, Has}
 use Rattle.rbbi_model.specs.Tables.{CategoryRange, category_of}
 use Rattle.rbbi_model.specs.ValidTables.{AreValidRanges, IsWithin}
 use Rattle.rbbi_sets.specs.Rising.{AreRising, AreRisingFrom}
@@ -72,15 +72,17 @@ alike_set (range ∷ set) c d ordered small none =
         | inr between ↦ absurd (none (range.high + 1) (in_first (ends_of range) (set_ends set) (range.high + 1) (ends.1 (omega (arith, short, small)))) (omega (arith, between)) (omega (arith, short)))
       ]
       | inr long ↦ inl long
-    ] in
-    (λ h. elim h [ inl i ↦ inl (elim low [ inl a ↦ omega (arith, i.0, ordered) | inr b ↦ omega (arith, i.0, ordered) ], elim high [ inl a ↦ a | inr b ↦ absurd (omega (arith, i.1, b)) ]) | inr l ↦ inr (rest.0 l) ],
-    λ h. elim h [ inl i ↦ inl (elim low [ inl a ↦ a | inr b ↦ absurd (omega (arith, i.0, b)) ], elim high [ inl a ↦ omega (arith, i.1, ordered) | inr b ↦ omega (arith, i.1, ordered) ]) | inr l ↦ inr (rest.1 l) ])
+    ] in (
+      λ h. elim h [ inl i ↦ inl (elim low [ inl a ↦ omega (arith, i.0, ordered) | inr b ↦ omega (arith, i.0, ordered) ], elim high [ inl a ↦ a | inr b ↦ absurd (omega (arith, i.1, b)) ]) | inr l ↦ inr (rest.0 l) ],
+      λ h. elim h [ inl i ↦ inl (elim low [ inl a ↦ a | inr b ↦ absurd (omega (arith, i.0, b)) ], elim high [ inl a ↦ omega (arith, i.1, ordered) | inr b ↦ omega (arith, i.1, ordered) ]) | inr l ↦ inr (rest.1 l) ],
+    )
 
 alike_sets : (sets : List (List Range)) (c d : ℕ) → c ≤ d → d ≤ last_code_point → ((e : ℕ) → In (flat_map set_ends sets) e → c < e → e ≤ d → ⊥) → NoneTells sets c d
 alike_sets [] c d ordered small none = tt
-alike_sets (set ∷ sets) c d ordered small none =
-    (alike_set set c d ordered small (λ e h. none e (in_first (set_ends set) (flat_map set_ends sets) e h)),
-    alike_sets sets c d ordered small (λ e h. none e (in_second (set_ends set) (flat_map set_ends sets) e h)))
+alike_sets (set ∷ sets) c d ordered small none = (
+  alike_set set c d ordered small (λ e h. none e (in_first (set_ends set) (flat_map set_ends sets) e h)),
+  alike_sets sets c d ordered small (λ e h. none e (in_second (set_ends set) (flat_map set_ends sets) e h)),
+)
 
 -- the stretch of a code point
 pub record IsStretchOf (cuts : List ℕ) (c i : ℕ) : Type 0 where
@@ -159,7 +161,6 @@ pub record Classed (sets : List (List Range)) (categories : ℕ) (ranges : List 
 module _ (sets : List (List Range)) (cuts classes sizes numbers : List ℕ) (ranges : List CategoryRange) (greatest : ℕ) (cut : AreCuts sets cuts)
     (small : (i : ℕ) → i < length cuts → get_or cuts i 0 ≤ last_code_point) (partition : IsPartition classes sizes) (tells : Tells sets cuts classes)
     (long : length numbers ≡ length sizes) (numbered : AreNumbers classes numbers greatest) (are : AreRangesOf cuts classes numbers ranges) where
-
   number_at : ℕ → ℕ
   number_at i = get_or numbers (get_or classes i 0) 0
 
@@ -173,9 +174,10 @@ module _ (sets : List (List Range)) (cuts classes sizes numbers : List ℕ) (ran
   in_classes i inside = omega (arith, inside, tells.many)
 
   zero_number : (i : ℕ) → i < length cuts → (get_or numbers (get_or classes i 0) 0 ≡ 0) ↔ (get_or classes i 0 ≡ 0)
-  zero_number i inside =
-      (λ e. elim (cases_eq (get_or classes i 0) 0) [ inl z ↦ z | inr other ↦ absurd (numbered.some i (in_classes i inside) other e) ],
-      λ e. ap (λ n. get_or numbers n 0) e ∙ numbered.zero)
+  zero_number i inside = (
+    λ e. elim (cases_eq (get_or classes i 0) 0) [ inl z ↦ z | inr other ↦ absurd (numbered.some i (in_classes i inside) other e) ],
+    λ e. ap (λ n. get_or numbers n 0) e ∙ numbered.zero,
+  )
 
   same_number : (i j : ℕ) → i < length cuts → j < length cuts → get_or numbers (get_or classes i 0) 0 ≡ get_or numbers (get_or classes j 0) 0 → get_or classes i 0 ≡ get_or classes j 0
   same_number i j inside inside' e =
@@ -213,7 +215,7 @@ module _ (sets : List (List Range)) (cuts classes sizes numbers : List ℕ) (ran
       let (i, s) = stretch c in
       let (j, t) = stretch d in
       let told = none_trans sets (get_or cuts i 0) c (get_or cuts j 0) (stretch_alike sets cuts c i cut code s)
-          (none_trans sets c d (get_or cuts j 0) n (none_sym sets (get_or cuts j 0) d (stretch_alike sets cuts d j cut code' t))) in
+      (none_trans sets c d (get_or cuts j 0) n (none_sym sets (get_or cuts j 0) d (stretch_alike sets cuts d j cut code' t))) in
       category_at c i s ∙ ap (λ n. get_or numbers n 0) ((tells.alike i j s.within t.within).1 told) ∙ sym (category_at d j t)
 
   used_by : (category : ℕ) → 1 ≤ category → category < greatest + 1 → (c : ℕ) × IsCodePoint c × (category_of ranges c ≡ category)
@@ -235,7 +237,7 @@ module _ (sets : List (List Range)) (cuts classes sizes numbers : List ℕ) (ran
     none = λ c code. (none_there c code, none_back c code);
     alike = λ c d code code'. (alike_there c d code code', alike_back c d code code');
     used = used_by;
-    numbered = numbered_before
+    numbered = numbered_before;
   }
 
   pub valid : length sizes ≤ 255 → AreValidRanges (greatest + 1) ranges
@@ -245,7 +247,7 @@ module _ (sets : List (List Range)) (cuts classes sizes numbers : List ℕ) (ran
     some_ranges = are.some;
     from_zero = are.from_zero;
     apart = are.apart;
-    within = all_within ranges are.starts
+    within = all_within ranges are.starts;
   }
     where
       all_within : (rs : List CategoryRange) → AllByRecursion (λ (range : CategoryRange). Contains cuts range.start × ((c : ℕ) × (range.category ≡ get_or numbers c 0))) rs → AllByRecursion (IsWithin (greatest + 1)) rs

@@ -1,5 +1,5 @@
 -- The cuts of sets.
-use Rattle.std.proofs.Common.{◌≡◌, ◌++◌, ◌∷◌, [], ◌+◌, ◌<◌, ◌≤◌, ◌↔◌, ℕ, List, Some, length, get_or, take, eqb, refl, sym, ap, ◌∙◌, subst, arith, append_assoc}
+use Rattle.std.proofs.Common.{◌≡◌, ◌++◌, ◌∷◌, [], ◌+◌, ℕ, List, Some, take, eqb, sym, ap, ◌∙◌, subst}
 use Rattle.std.specs.Prelude.{flat_map, slice_get, Contains}
 use Rattle.std.specs.List.{dedup}
 use Rattle.std.specs.List.Sorted.{IsStrictlyIncreasing, IsSorted, IsPermutation}

@@ -1,7 +1,7 @@
 -- The categories of the rules.
-use Rattle.std.proofs.Common.{◌≡◌, ◌≢◌, ℕ, zero, suc, ◌+◌, ◌-◌, ◌≤◌, ◌<◌, ◌⊎◌, ◌↔◌, Bool, true, false, ◌||◌, eqb, List, [], ◌∷◌, ◌++◌, length, get_or, refl, ap, sym, ◌∙◌, subst, inl, inr, arith}
+use Rattle.std.proofs.Common.{◌≡◌, ◌≢◌, ℕ, suc, ◌-◌, ◌≤◌, ◌<◌, Bool, true, false, ◌||◌, eqb, List, [], ◌∷◌, length, get_or, subst, inl, inr, arith}
 use Rattle.std.specs.Prelude.{map, AllPairs, Contains}
-use Rattle.std.specs.List.{AllByRecursion, All, IsDistinct, list_any}
+use Rattle.std.specs.List.{AllByRecursion, IsDistinct, list_any}
 use Rattle.std.proofs.lemmas.List.Elements.{recursion_from_All}
 use Rattle.std.proofs.lemmas.Map.Steps.{length-le_from_distinct_below}
 use Rattle.std.proofs.lemmas.Bool.{cases_eq}
@@ -10,11 +10,11 @@ use Rattle.rbbi_model.specs.Words.{IsCodePoint}
 use Rattle.rbbi_model.specs.Ranges.{Range}
 use Rattle.rbbi_model.specs.Rules.{Rule}
 use Rattle.rbbi_model.specs.Tables.{CategoryRange, category_of}
-use Rattle.rbbi_model.specs.Compiled.{IsRead, AreAlike, AreClasses}
+use Rattle.rbbi_model.specs.Compiled.{AreAlike, AreClasses}
 use Rattle.rbbi_resolve.specs.RuleLists.{RuleList, rules_of, AreWellFormed, IsLeafSet}
 use Rattle.rbbi_sets.specs.Rising.{AreRising}
 use Rattle.rbbi_cats.specs.CategoryLists.{HasClasses, IsReadCodePoint}
-use Rattle.rbbi_cats.specs.Tells.{SomeHas, NoneTells, HasTold}
+use Rattle.rbbi_cats.specs.Tells.{SomeHas, HasTold}
 use Rattle.rbbi_cats.proofs.Classing.{Classed}
 use Rattle.rbbi_cats.proofs.LeafSets.{read_is, alike_is}
 
@@ -23,7 +23,7 @@ classes_are list categories ranges w h = record {
   none = λ c code. (λ e read. (h.none c code).0 e ((read_is list c w).0 read), λ n. (h.none c code).1 (λ some. n ((read_is list c w).1 some)));
   alike = λ c d code code'. (λ e. (alike_is list c d w).1 ((h.alike c d code code').0 e), λ a. (h.alike c d code code').1 ((alike_is list c d w).0 a));
   used = h.used;
-  numbered = h.numbered
+  numbered = h.numbered;
 }
 
 module _ (list : RuleList) (cuts : List ℕ) (w : AreWellFormed list) (small : (i : ℕ) → i < length cuts → IsCodePoint (get_or cuts i 0)) where
@@ -36,8 +36,10 @@ module _ (list : RuleList) (cuts : List ℕ) (w : AreWellFormed list) (small : (
 
   pub too_many : (count : ℕ) → HasTold list.sets cuts count → HasClasses (rules_of list) count
   too_many count h = record {
-    codes = h.starts; many = h.many; each = each_told h.starts h.each;
-    apart = λ i j d less inside alike. h.apart i j d less inside ((alike_is list (get_or h.starts i d) (get_or h.starts j d) w).0 alike)
+    codes = h.starts;
+    many = h.many;
+    each = each_told h.starts h.each;
+    apart = λ i j d less inside alike. h.apart i j d less inside ((alike_is list (get_or h.starts i d) (get_or h.starts j d) w).0 alike);
   }
 
 -- no more classes than there are categories beside category 0
@@ -70,9 +72,10 @@ module _ (rules : List Rule) (categories : ℕ) (ranges : List CategoryRange) (h
   places_apart : (codes : List ℕ) → AllByRecursion (IsReadCodePoint rules) codes → AllPairs (λ c d. ¬ AreAlike rules c d) codes → IsDistinct eqb (map place codes)
   unfolding place IsDistinct
   places_apart [] each apart = tt
-  places_apart (c ∷ codes) (read, each) apart =
-      (apart_from c read codes each (recursion_from_All (λ d. ¬ AreAlike rules c d) codes (λ k d inside. apart 0 (suc k) d (omega arith) (omega (arith, inside)))),
-      places_apart codes each (λ i j d less inside. apart (suc i) (suc j) d (omega (arith, less)) (omega (arith, inside))))
+  places_apart (c ∷ codes) (read, each) apart = (
+    apart_from c read codes each (recursion_from_All (λ d. ¬ AreAlike rules c d) codes (λ k d inside. apart 0 (suc k) d (omega arith) (omega (arith, inside)))),
+    places_apart codes each (λ i j d less inside. apart (suc i) (suc j) d (omega (arith, less)) (omega (arith, inside))),
+  )
 
   pub few : (count : ℕ) → categories ≤ count → HasClasses rules count → ⊥
   few count small m =

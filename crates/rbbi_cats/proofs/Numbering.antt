@@ -1,10 +1,10 @@
 -- The classes get their numbers, stretch by stretch.
-use Rattle.std.proofs.Common.{◌≡◌, ◌≢◌, ℕ, zero, suc, ◌+◌, ◌≤◌, ◌<◌, ◌⊎◌, List, [], ◌∷◌, length, get_or, set, refl, ap, sym, ◌∙◌, subst, inl, inr, arith, get_or-set_same, get_or-set_other}
+use Rattle.std.proofs.Common.{◌≡◌, ◌≢◌, ℕ, zero, suc, ◌+◌, ◌≤◌, ◌<◌, ◌⊎◌, List, length, get_or, set, refl, ap, sym, ◌∙◌, inl, inr, arith, get_or-set_same, get_or-set_other}
 use Rattle.std.specs.Prelude.{replicate}
 use Rattle.std.proofs.Math.ListN.{length-set}
 use Rattle.std.proofs.lemmas.Bool.{cases_eq, cases_lt}
 use Rattle.rbbi_cats.specs.Numbers.{AreNumbers}
-use Rattle.rbbi_cats.proofs.Counts.{one_if, one_if_same, one_if_other, count_of, count_of-cons, count_of-set, counted}
+use Rattle.rbbi_cats.proofs.Counts.{one_if_same, one_if_other, count_of, count_of-cons, count_of-set, counted}
 
 -- the classes of the first so many stretches have their numbers
 pub record NumberedSoFar (classes numbers : List ℕ) (greatest count k : ℕ) : Type 0 where

@@ -1,11 +1,11 @@
 -- The members are put into the targets of their former classes, one after another.
-use Rattle.std.proofs.Common.{◌≡◌, ◌≢◌, ℕ, zero, suc, ◌+◌, ◌-◌, ◌≤◌, ◌<◌, ◌⊎◌, List, [], ◌∷◌, ◌++◌, length, get_or, set, refl, ap, sym, ◌∙◌, subst, inl, inr, arith, get_or-set_same, get_or-set_other, length-append}
+use Rattle.std.proofs.Common.{◌≡◌, ◌≢◌, ℕ, ◌+◌, ◌≤◌, ◌<◌, ◌⊎◌, List, [], ◌∷◌, ◌++◌, length, get_or, set, refl, ap, sym, ◌∙◌, subst, inl, inr, arith, get_or-set_same, get_or-set_other, length-append}
 use Rattle.std.proofs.Math.ListN.{length-set}
 use Rattle.std.proofs.lemmas.List.{get_or_append_left}
 use Rattle.std.proofs.Math.Seq.{get_or-append_seam}
 use Rattle.std.proofs.lemmas.Bool.{cases_eq, cases_lt}
-use Rattle.rbbi_cats.specs.Partitions.{Selects, AreSizes, AreStretches, IsTarget, Targets, Had, Kept, Made, PutsBack}
-use Rattle.rbbi_cats.proofs.Counts.{one_if, one_if_same, one_if_other, count_of, count_of-set, count_of-le, counted, found}
+use Rattle.rbbi_cats.specs.Partitions.{AreSizes, AreStretches, IsTarget, Targets, Had, Kept, Made, PutsBack}
+use Rattle.rbbi_cats.proofs.Counts.{one_if, one_if_same, one_if_other, count_of, count_of-set, count_of-le, found}
 
 -- the targets that are decided, of so many classes that there are by now
 pub record TargetsSoFar (start sizes targets : List ℕ) (moving : ℕ) : Type 0 where

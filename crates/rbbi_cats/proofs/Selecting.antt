@@ -1,5 +1,5 @@
 -- The cuts that a set holds, range by range.
-use Rattle.std.proofs.Common.{◌≡◌, ◌≢◌, ℕ, zero, suc, ◌+◌, ◌≤◌, ◌<◌, ◌⊎◌, ◌↔◌, true, false, ltb, leb, List, [], ◌∷◌, ◌++◌, length, get_or, take, refl, ap, sym, ◌∙◌, subst, inl, inr, arith, length-append}
+use Rattle.std.proofs.Common.{◌≡◌, ℕ, zero, suc, ◌+◌, ◌≤◌, ◌<◌, ◌⊎◌, ◌↔◌, true, false, ltb, leb, List, [], ◌∷◌, ◌++◌, length, get_or, take, refl, ap, sym, ◌∙◌, subst, inl, inr, arith, length-append}
 use Rattle.std.specs.List.Sorted.{IsStrictlyIncreasing, IsNonDecreasingBy, IsPartitionPoint}
 use Rattle.std.proofs.lemmas.List.{get_or_append_left}
 use Rattle.std.proofs.Math.Seq.{get_or-append_seam}
@@ -8,7 +8,7 @@ use Rattle.std.proofs.lemmas.List.Kept.{AllPairs-from_increasing}
 use Rattle.std.proofs.lemmas.List.{get_or_default}
 use Rattle.rbbi_sets.proofs.Rise.{rising-range, rising-apart}
 use Rattle.rbbi_model.specs.Ranges.{Range, InRange, Has}
-use Rattle.rbbi_sets.specs.Rising.{AreRising, AreRisingFrom}
+use Rattle.rbbi_sets.specs.Rising.{AreRising}
 use Rattle.rbbi_cats.specs.Partitions.{Selects}
 use Rattle.rbbi_cats.specs.Cuts.{AreMembers}
 

@@ -1,10 +1,10 @@
 -- The members are taken out of their classes, one after another.
-use Rattle.std.proofs.Common.{◌≡◌, ◌≢◌, ℕ, zero, suc, ◌+◌, ◌-◌, ◌≤◌, ◌<◌, ◌⊎◌, List, [], ◌∷◌, ◌++◌, length, get_or, set, refl, ap, sym, ◌∙◌, subst, inl, inr, arith, get_or-set_same, get_or-set_other, length-append}
+use Rattle.std.proofs.Common.{◌≡◌, ◌≢◌, ℕ, ◌+◌, ◌-◌, ◌≤◌, ◌<◌, List, [], ◌∷◌, ◌++◌, length, get_or, set, refl, ap, sym, ◌∙◌, inl, inr, arith, get_or-set_same, get_or-set_other, length-append}
 use Rattle.std.proofs.Math.ListN.{length-set}
 use Rattle.std.proofs.lemmas.List.{get_or_append_left}
 use Rattle.std.proofs.Math.Seq.{get_or-append_seam}
 use Rattle.std.proofs.lemmas.Bool.{cases_eq, cases_lt}
-use Rattle.rbbi_cats.specs.Partitions.{Selects, AreSizes, IsPartition, AreStretches, TakesOut}
+use Rattle.rbbi_cats.specs.Partitions.{AreSizes, AreStretches, TakesOut}
 use Rattle.rbbi_cats.proofs.Counts.{one_if, one_if_same, one_if_other, count_of, count_of-set, counted}
 
 -- the first so many members are out, and their former classes are the origins

@@ -1,14 +1,14 @@
 -- What one more set tells apart.
-use Rattle.std.proofs.Common.{◌≡◌, ◌≢◌, ℕ, zero, suc, ◌+◌, ◌≤◌, ◌<◌, ◌⊎◌, ◌↔◌, Some, List, [], ◌∷◌, ◌++◌, length, get_or, take, refl, ap, sym, ◌∙◌, subst, inl, inr, arith}
+use Rattle.std.proofs.Common.{◌≡◌, ℕ, zero, suc, ◌+◌, ◌≤◌, ◌<◌, ◌⊎◌, ◌↔◌, Some, List, [], ◌∷◌, ◌++◌, length, get_or, take, refl, ap, sym, ◌∙◌, subst, inl, inr, arith}
 use Rattle.std.specs.Prelude.{replicate, slice_get, Contains, AllPairs}
-use Rattle.std.specs.List.{AllByRecursion, All}
-use Rattle.std.proofs.lemmas.List.{take_more, get_or_default, take_all}
+use Rattle.std.specs.List.{AllByRecursion}
+use Rattle.std.proofs.lemmas.List.{take_more, get_or_default}
 use Rattle.std.proofs.lemmas.List.Kept.{AllPairs-cons}
 use Rattle.std.proofs.lemmas.List.Elements.{All-from_recursion}
 use Rattle.std.proofs.lemmas.Option.{get_or_from_slice_get, slice_get_within}
-use Rattle.std.proofs.lemmas.Bool.{cases_lt, cases_eq}
-use Rattle.rbbi_model.specs.Ranges.{Range, InRange, Has}
-use Rattle.rbbi_cats.specs.Partitions.{Selects, IsPartition, AreStretches, Refines}
+use Rattle.std.proofs.lemmas.Bool.{cases_lt}
+use Rattle.rbbi_model.specs.Ranges.{Range, Has}
+use Rattle.rbbi_cats.specs.Partitions.{IsPartition, AreStretches, Refines}
 use Rattle.rbbi_cats.specs.Cuts.{AreMembers}
 use Rattle.rbbi_cats.specs.Tells.{SomeHas, NoneTells, Tells, HasTold}
 use Rattle.rbbi_cats.proofs.Counts.{count_of, count_of-cons, one_if_same}

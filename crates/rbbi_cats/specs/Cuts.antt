@@ -1,7 +1,7 @@
 -- Cuts, between which no set tells code points apart, and the stretches that one set holds.
-use Rattle.std.specs.Prelude.{◌≡◌, ℕ, ◌+◌, ◌<◌, ◌≤◌, ◌↔◌, List, [], ◌∷◌, if◌then◌else◌, nat_lt, flat_map, length, slice_index, Contains}
+use Rattle.std.specs.Prelude.{ℕ, ◌+◌, ◌<◌, ◌↔◌, List, [], ◌∷◌, if◌then◌else◌, nat_lt, flat_map, length, slice_index, Contains}
 use Rattle.std.specs.List.Sorted.{IsStrictlyIncreasing}
-use Rattle.rbbi_model.specs.Words.{IsCodePoint, last_code_point}
+use Rattle.rbbi_model.specs.Words.{last_code_point}
 use Rattle.rbbi_model.specs.Ranges.{Range, Has}
 use Rattle.rbbi_cats.specs.Partitions.{Selects}
 

@@ -8,3 +8,8 @@ pub use laws::{
     front_walks_are_spelled, fronts_are_exchanged, prefixes_are_walks, spelled_are_exchanged,
     spelled_are_of_the_rule, spelled_are_walks,
 };
+
+mod marks;
+mod rule_mark;
+
+pub use marks::Positions;

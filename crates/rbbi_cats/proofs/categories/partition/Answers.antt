@@ -1,16 +1,14 @@
-use Rattle.std.proofs.Common.{◌≡◌, ◌<◌, ◌≤◌, ◌+◌, ℕ, List, length, get_or, refl, sym, ap, ◌∙◌, subst, arith, rules}
+use Rattle.std.proofs.Common.{◌≡◌, ◌+◌, List, length, refl, sym, ap, ◌∙◌, subst, arith}
 use Rattle.std.specs.List.{AllByRecursion}
 use Rattle.std.proofs.Common.{Err}
 use Rattle.std.proofs.lemmas.Result.{err_from_is_err_and}
 use Rattle.rbbi_cats.specs.declared.error.CatsErr.TheVariants.{TooManyCategories}
 use Rattle.rbbi_model.proofs.Categories.{category_within}
 use Rattle.rbbi_model.specs.Ranges.{Range}
-use Rattle.rbbi_sets.specs.Rising.{AreRising}
 use Rattle.rbbi_resolve.specs.RuleLists.{IsLeafSet, rules_of}
 use Rattle.rbbi_cats.specs.Cuts.{AreCuts}
 use Rattle.rbbi_cats.specs.Numbers.{AreNumbers, AreRangesOf}
 use Rattle.rbbi_cats.specs.Tells.{Tells, HasTold}
-use Rattle.rbbi_cats.specs.Partitions.{IsPartition}
 use Rattle.rbbi_cats.proofs.Classing.{cuts_some, cuts_from_zero, cuts_small, classed, valid}
 use Rattle.rbbi_cats.proofs.Finding.{classes_are, too_many, few, all_rising}
 use Rattle.rbbi_cats.proofs.categories.partition.Goals as goal

@@ -1,4 +1,4 @@
-use Rattle.std.proofs.Common.{◌≡◌, ◌<◌, ◌≤◌, ◌+◌, ℕ, List, length, take, refl, sym, ap, ◌∙◌, subst, arith, rules}
+use Rattle.std.proofs.Common.{◌+◌, List, take, subst, arith}
 use Rattle.rbbi_model.specs.Ranges.{Range}
 use Rattle.rbbi_cats.specs.Partitions.{Refines}
 use Rattle.rbbi_cats.specs.Cuts.{AreMembers}
@@ -32,5 +32,5 @@ loop-i-preserved c =
     record {
       partition = c.in_ok-refine.ensures.partition;
       tells = told_more sets cuts c.loop-i.classes.items classes members k set c.get-set.ensures are refines c.loop-i.invariant.tells;
-      few = omega (arith, c.if-len-gt-MOST_CATEGORIES.false, c.len.ensures, c.refine.new.sizes.ok)
+      few = omega (arith, c.if-len-gt-MOST_CATEGORIES.false, c.len.ensures, c.refine.new.sizes.ok);
     }

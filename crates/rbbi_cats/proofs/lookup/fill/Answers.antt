@@ -1,4 +1,4 @@
-use Rattle.std.proofs.Common.{◌≡◌, ◌<◌, ◌≤◌, ◌+◌, ◌++◌, ◌∷◌, [], ℕ, List, length, get_or, refl, sym, ap, ◌∙◌, subst, arith}
+use Rattle.std.proofs.Common.{◌≡◌, ◌+◌, ◌++◌, ◌∷◌, [], ℕ, List, sym, ap, subst}
 use Rattle.rbbi_model.specs.Tables.{CategoryRange}
 use Rattle.rbbi_cats.proofs.Filling.{FilledSoFar, filled_more}
 use Rattle.rbbi_cats.proofs.lookup.fill.Goals as goal

@@ -1,7 +1,6 @@
-use Rattle.std.proofs.Common.{◌≡◌, ◌<◌, ◌*◌, ◌+◌, ◌≤◌, ◌-◌, ◌/◌, ◌++◌, ℕ, List, length, get_or, take, drop, refl, sym, ap, ◌∙◌, subst, arith, rules}
+use Rattle.std.proofs.Common.{◌≡◌, ◌*◌, ◌+◌, ◌-◌, ◌/◌, take, drop, sym, ap, ◌∙◌, arith}
 use Rattle.std.proofs.lemmas.Bool.Decides.{Decides-eqb}
 use Rattle.std.proofs.lemmas.Slice.Eq.{slice_eq-Decides}
-use Rattle.rbbi_cats.specs.Lookups.{Keeps}
 use Rattle.rbbi_cats.proofs.Filling.{kept_found, kept_added}
 use Rattle.rbbi_cats.proofs.lookup.keep.Goals as goal
 

@@ -1,9 +1,6 @@
-use Rattle.std.proofs.Common.{◌≡◌, ◌<◌, ◌≤◌, ◌+◌, ◌++◌, ◌∷◌, [], ℕ, List, true, false, length, get_or, ltb, leb, take, refl, sym, ap, ◌∙◌, subst, arith, rules}
-use Rattle.std.proofs.lemmas.Bool.{ltb-true, ltb-false, leb-true, leb-false}
+use Rattle.std.proofs.Common.{◌≡◌, ◌+◌, ℕ, List, ltb, leb, sym, subst, arith, rules}
 use Rattle.std.proofs.lemmas.List.Sorted.{IsPartitionPoint-from_clause, IsPartitionedBy-ltb, IsPartitionedBy-leb}
-use Rattle.rbbi_model.specs.Ranges.{Range}
-use Rattle.rbbi_sets.proofs.Rise.{rising-range, rising-apart}
-use Rattle.rbbi_cats.proofs.Selecting.{Added, IsPoint, none_added, one_added, members_below, one_selected, cuts_rise, point_below, point_up_to, later_apart, range_ordered, points_ordered}
+use Rattle.rbbi_cats.proofs.Selecting.{Added, none_added, one_added, members_below, one_selected, cuts_rise, point_below, point_up_to, later_apart, range_ordered, points_ordered}
 use Rattle.rbbi_cats.proofs.members.members_of.Goals as goal
 
 pub loop-i-init : goal.loop-i-init

@@ -1,4 +1,3 @@
-use Rattle.std.proofs.Common.{◌≡◌}
 use Rattle.rbbi_cats.proofs.Selecting.{Selected, Added}
 use Rattle.rbbi_cats.proofs.members.members_of.Given as goal
 

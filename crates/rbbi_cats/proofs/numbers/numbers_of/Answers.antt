@@ -1,4 +1,4 @@
-use Rattle.std.proofs.Common.{◌≡◌, ◌≢◌, ◌⊎◌, ◌<◌, ◌+◌, ℕ, List, Vec, Global, length, get_or, set, refl, sym, ap, ◌∙◌, subst, inl, inr, arith, rules}
+use Rattle.std.proofs.Common.{◌≡◌, ◌≢◌, ◌⊎◌, ◌<◌, ◌+◌, ℕ, List, Vec, Global, length, get_or, refl, sym, ◌∙◌, subst, inl, inr, arith}
 use Rattle.rbbi_cats.proofs.Counts.{read}
 use Rattle.rbbi_cats.proofs.Numbering.{NumberedSoFar, number_made, number_kept, all_numbered}
 use Rattle.rbbi_cats.proofs.numbers.numbers_of.Goals as goal

@@ -1,4 +1,3 @@
-use Rattle.std.proofs.Common.{◌≡◌, length}
 use Rattle.rbbi_cats.proofs.Numbering.{NumberedSoFar}
 use Rattle.rbbi_cats.proofs.numbers.numbers_of.Given as goal
 

@@ -1,6 +1,5 @@
-use Rattle.std.proofs.Common.{◌≡◌, ◌≢◌, ◌⊎◌, ◌<◌, ◌+◌, ◌-◌, ◌∷◌, [], ◌++◌, ℕ, List, Vec, Global, length, get_or, refl, sym, ap, ◌∙◌, subst, inl, inr, arith, rules}
+use Rattle.std.proofs.Common.{◌≡◌, ◌≢◌, ◌⊎◌, ◌<◌, ◌+◌, ◌-◌, ◌∷◌, [], ◌++◌, List, Vec, Global, length, get_or, refl, sym, subst, inl, inr, arith}
 use Rattle.rbbi_model.specs.Tables.{CategoryRange}
-use Rattle.rbbi_cats.proofs.Counts.{read}
 use Rattle.rbbi_cats.proofs.Ranging.{RangesSoFar, number_of, range_kept, range_made}
 use Rattle.rbbi_cats.proofs.numbers.ranges_of.Goals as goal
 use Rattle.rbbi_cats.proofs.numbers.ranges_of.Goals.{then-i-eq0+in_ok-push, then-i-eq0-via-then-i-eq0, then-i-eq0-via-else-i-eq0+then-numbers-classes, else-i-eq0+else-numbers-classes}

@@ -1,8 +1,7 @@
-use Rattle.std.proofs.Common.{◌≡◌, ◌<◌, ◌≤◌, ◌-◌, ◌+◌, List, ◌∷◌, [], ◌++◌, ℕ, length, get_or, set, refl, sym, ap, ◌∙◌, arith, subst, rules}
+use Rattle.std.proofs.Common.{◌≡◌, ◌<◌, ◌+◌, ℕ, length, get_or, set, refl, sym, arith, subst}
 use Rattle.rbbi_cats.specs.declared.refine.TheConstants.{MOVING}
-use Rattle.rbbi_cats.specs.Partitions.{Targets}
 use Rattle.rbbi_cats.proofs.Counts.{read}
-use Rattle.rbbi_cats.proofs.PuttingBack.{PutSoFar, Decided, decide, placed, target_within, place_within, room, all_put}
+use Rattle.rbbi_cats.proofs.PuttingBack.{PutSoFar, decide, placed, target_within, room, all_put}
 use Rattle.rbbi_cats.proofs.refine.put_back.Goals as goal
 
 pub index_mut-requires : goal.index_mut-requires

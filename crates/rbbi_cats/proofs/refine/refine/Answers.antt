@@ -1,4 +1,4 @@
-use Rattle.std.proofs.Common.{◌<◌, List, ℕ, length, arith}
+use Rattle.std.proofs.Common.{arith}
 use Rattle.std.proofs.lemmas.Result.{on_ok_weaker}
 use Rattle.rbbi_cats.specs.declared.refine.TheConstants.{MOVING}
 use Rattle.rbbi_cats.proofs.Refining.{refined, partitioned, class_or_out}

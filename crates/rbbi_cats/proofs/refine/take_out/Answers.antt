@@ -1,4 +1,4 @@
-use Rattle.std.proofs.Common.{◌≡◌, ◌<◌, ◌≤◌, ◌-◌, ◌+◌, List, ◌∷◌, [], ◌++◌, ℕ, length, get_or, set, refl, sym, ap, ◌∙◌, arith, subst, rules}
+use Rattle.std.proofs.Common.{◌≡◌, ◌<◌, ◌-◌, ◌+◌, List, ◌∷◌, [], ◌++◌, ℕ, length, get_or, set, refl, sym, ◌∙◌, arith, subst}
 use Rattle.std.proofs.Math.ListN.{length-set}
 use Rattle.rbbi_cats.specs.declared.refine.TheConstants.{MOVING}
 use Rattle.rbbi_cats.proofs.Counts.{read}

@@ -1,4 +1,4 @@
-use Rattle.std.proofs.Common.{◌≡◌, ◌≢◌, ◌<◌, ◌⊎◌, ◌∷◌, [], ◌++◌, List, ℕ, length, get_or, set, refl, sym, ap, ◌∙◌, arith, subst, inl, inr, rules}
+use Rattle.std.proofs.Common.{◌≡◌, ◌≢◌, ◌⊎◌, ◌∷◌, [], ◌++◌, List, ℕ, length, get_or, set, sym, ◌∙◌, subst, inl, inr, rules}
 use Rattle.rbbi_cats.specs.Partitions.{Targets, Had, Kept, Made}
 use Rattle.rbbi_cats.specs.declared.refine.TheConstants.{MOVING}
 use Rattle.rbbi_cats.proofs.Counts.{read}
