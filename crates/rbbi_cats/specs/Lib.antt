@@ -4,3 +4,4 @@ pub mod CategoryLists
 pub mod Numbers
 pub mod Lookups
 pub mod Tells
+pub mod Refusals

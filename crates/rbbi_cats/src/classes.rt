@@ -12,7 +12,7 @@ use rbbi_resolve::SetList;
 use std::alloc::Global;
 
 /// The most categories that rules may have, category 0 counted.
-pub(crate) const MOST_CATEGORIES: usize = 255;
+pub const MOST_CATEGORIES: usize = 255;
 
 /// The class of each stretch by all sets, and the sizes of the classes. It refuses as soon as there
 /// are too many classes, since further sets take none away.

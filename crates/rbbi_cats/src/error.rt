@@ -1,5 +1,5 @@
 //! Why the categories of rules are refused.
-ghost use Rattle.std.specs.Prelude.{◌≡◌, codes};
+ghost use Rattle.std.specs.Prelude.{◌≡◌, None};
 
 use std::alloc::{AllocError, AllocFailed};
 use thiserror::Error;
@@ -34,5 +34,26 @@ impl<T: Drop> From<AllocFailed<T>> for CatsErr {
 
     fn from(_e: AllocFailed<T>) -> CatsErr {
         CatsErr::Memory
+    }
+}
+
+impl CatsErr {
+    ghost use Rattle.rbbi_cats.specs.Refusals.{label_of};
+
+    /// The variant's name.
+    pub fn label(&self) -> &str
+        ensures { result.now ≡ label_of self.now }
+    {
+        match self {
+            CatsErr::TooManyCategories => "TooManyCategories",
+            CatsErr::Memory => "Memory",
+        }
+    }
+
+    /// The place that it carries: none does.
+    pub fn place(&self) -> Option<u32>
+        ensures { result ≡ None }
+    {
+        None
     }
 }

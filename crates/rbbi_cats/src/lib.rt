@@ -12,5 +12,6 @@ mod range;
 mod refine;
 
 pub use categories::{Categories, partition};
+pub use classes::MOST_CATEGORIES;
 pub use error::CatsErr;
 pub use range::CatRange;

@@ -2,6 +2,7 @@
 //! which (follow positions; McNaughton and Yamada 1960, Glushkov 1961).
 #![tactic(auto)]
 
+mod bits;
 mod laws;
 
 pub use laws::{
