@@ -3,3 +3,4 @@ pub mod Spans
 pub mod Exchanges
 pub mod RuleSpans
 pub mod WalkLaws
+pub mod Nodes
