@@ -4,3 +4,5 @@ pub mod Exchanges
 pub mod RuleSpans
 pub mod WalkLaws
 pub mod Nodes
+pub mod Empties
+pub mod Folds

@@ -6,7 +6,7 @@ use Rattle.rbbi_model.specs.Spelling.{Repetition, Star, Plus, Quest, Tree, Leaf,
 use Rattle.rbbi_model.specs.Rules.{leaf_count, IsLawfulTree}
 use Rattle.rbbi_model.specs.LeafSets.{SpellsPositions}
 use Rattle.rbbi_positions.proofs.Exchanges.{Both}
-use Rattle.rbbi_positions.proofs.Splits.{side_of, piece_of, InFirst, InSecond, joined-append, all-append, all_first, all_second}
+use Rattle.rbbi_positions.proofs.Splits.{side_of, piece_of, all_second}
 
 -- the lists that are spelled
 abbrev pub Lists : Type 1
@@ -118,7 +118,7 @@ module _ (Front Rest : Lists) (some_front : Some Front) (some_rest : Some Rest) 
 abbrev pub Repeated : Repetition → Lists → Lists
 Repeated repetition Part positions = (pieces : List (List ℕ)) × Allows repetition pieces × AllByRecursion Part pieces × (positions ≡ joined pieces)
 
-no_parts : (a b : List ℕ) → [] ≡ a ++ b → (a ≡ []) × (b ≡ [])
+pub no_parts : (a b : List ℕ) → [] ≡ a ++ b → (a ≡ []) × (b ≡ [])
 no_parts [] b e = (refl, sym e)
 no_parts (x ∷ a) b e = absurd (cc)
 

@@ -1,8 +1,8 @@
 -- What contracts see of positions, and what its marks mean.
-use Rattle.std.specs.Prelude.{◌≡◌, ℕ, ◌+◌, ◌*◌, ◌/◌, ◌%◌, ◌^◌, ◌<◌, ◌≤◌, Bool, false, ◌↔◌, Option, Some, None, List, length, take, IsTrue, slice_index, slice_index_or, slice_get, sum_by, MatchOption}
+use Rattle.std.specs.Prelude.{◌≡◌, ℕ, ◌+◌, ◌*◌, ◌/◌, ◌%◌, ◌^◌, ◌<◌, ◌≤◌, Bool, false, ◌↔◌, Option, Some, List, length, take, IsTrue, slice_index, slice_index_or, slice_get, sum_by}
 use Rattle.std.specs.Option.{option_map}
 use Rattle.rbbi_model.specs.Words.{IsCodePoint}
-use Rattle.rbbi_model.specs.Rules.{Rule, LooksAhead, leaves_of, look_aheads}
+use Rattle.rbbi_model.specs.Rules.{Rule, leaves_of, look_aheads}
 use Rattle.rbbi_model.specs.Chains.{IsRule}
 use Rattle.rbbi_model.specs.LeafSets.{Reads}
 use Rattle.rbbi_model.specs.Tables.{CategoryRange, category_of}

@@ -3,6 +3,7 @@
 #![tactic(auto)]
 
 mod bits;
+mod empty;
 mod laws;
 
 pub use laws::{
