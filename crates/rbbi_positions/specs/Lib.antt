@@ -1,0 +1,4 @@
+pub mod FollowPositions
+pub mod Walks
+pub mod PositionMarks
+pub mod Trees

@@ -1,0 +1,39 @@
+//! Trees that spell the empty list.
+ghost use Rattle.std.specs.Prelude.{◌≡◌, List};
+ghost use Rattle.rbbi_model.specs.Ranges.{Range};
+ghost use Rattle.rbbi_resolve.specs.RuleTrees.{tree_of};
+ghost use Rattle.rbbi_positions.specs.Trees.{spells_empty};
+
+use rbbi_resolve::Tree;
+use rbbi_tree::Quant;
+
+/// Whether the tree spells the empty list.
+pub(crate) fn is_empty(tree: &Tree) -> bool
+    ensures { (sets : List (List Range)) → result ≡ spells_empty (tree_of sets tree.now) }
+{
+    match tree {
+        Tree::Leaf(_) => false,
+        Tree::Seq(parts) => {
+            for part in &parts.items {
+                if !is_empty(part) {
+                    return false;
+                }
+            }
+            true
+        }
+        Tree::Alt(parts) => {
+            for part in &parts.items {
+                if is_empty(part) {
+                    return true;
+                }
+            }
+            false
+        }
+        Tree::Rep(quant, part) => match quant {
+            Quant::Once => is_empty(part),
+            Quant::Star => true,
+            Quant::Plus => is_empty(part),
+            Quant::Quest => true,
+        },
+    }
+}
