@@ -1,0 +1,2 @@
+pub mod FollowPositions
+pub mod Walks
