@@ -1,0 +1,4 @@
+//! From the positions of the rules to the least table with their marks.
+#![tactic(auto)]
+
+mod automaton;
