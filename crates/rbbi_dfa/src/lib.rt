@@ -1,4 +1,4 @@
-//! From positions to a determinised automaton, and from there to the least table.
+//! From the positions of the rules to the least table with their marks.
 #![tactic(auto)]
 
-pub(crate) fn nothing() {}
+mod automaton;
