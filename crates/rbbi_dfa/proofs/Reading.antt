@@ -19,7 +19,7 @@ pub record ReadingLaws (rules : List Rule) (IsFirst IsLast IsFrontLast : ℕ →
   pub extend : (number other q p c : ℕ) (rule : Rule) (v : List ℕ) → IsRule rules number rule → ReadsLast rules number rule v q → Follows other q p → Reads rules p c → ReadsLast rules number rule (v ++ c ∷ []) p
   pub first : (number p c : ℕ) (rule : Rule) → IsRule rules number rule → ReadsLast rules number rule (c ∷ []) p → IsFirst number p
   pub shrink : (number p c : ℕ) (rule : Rule) (v : List ℕ) → IsRule rules number rule → v ≢ [] → ReadsLast rules number rule (v ++ c ∷ []) p → (q : ℕ) × ReadsLast rules number rule v q × Follows number q p
-  pub reads : (number p c : ℕ) (rule : Rule) (v : List ℕ) → ReadsLast rules number rule (v ++ c ∷ []) p → Reads rules p c
+  pub reads : (number p c : ℕ) (rule : Rule) (v : List ℕ) → IsRule rules number rule → ReadsLast rules number rule (v ++ c ∷ []) p → Reads rules p c
   pub word : (number : ℕ) (rule : Rule) (v : List ℕ) → IsRule rules number rule → IsWordOf rule v → (p : ℕ) × ReadsLast rules number rule v p × IsLast number p
   pub whole : (number other p : ℕ) (rule : Rule) (v : List ℕ) → IsRule rules number rule → ReadsLast rules number rule v p → IsLast other p → (number ≡ other) × IsWordOf rule v
   pub front_word : (number : ℕ) (rule : Rule) (v : List ℕ) → IsRule rules number rule → IsFrontWordOf rule v → (p : ℕ) × ReadsLast rules number rule v p × IsFrontLast number p
@@ -145,14 +145,14 @@ module _ (rules : List Rule) (IsFirst IsLast IsFrontLast : ℕ → ℕ → Type 
   ends_now w c _ _ (Word e number rule is_rule piece) at =
       let same : slice_range (w ++ c ∷ []) 0 e ≡ w ++ c ∷ [] = ap (λ n. slice_range (w ++ c ∷ []) 0 n) at ∙ whole_piece (w ++ c ∷ []) in
       let read = laws.word number rule (w ++ c ∷ []) is_rule (subst (IsWordOf rule) same piece.word) in
-      record { number = number; q = read.0; comes = begins_comes number read.0 c rule w is_rule read.1; reads = laws.reads number read.0 c rule w read.1; last = read.2 }
+      record { number = number; q = read.0; comes = begins_comes number read.0 c rule w is_rule read.1; reads = laws.reads number read.0 c rule w is_rule read.1; last = read.2 }
   ends_now w c _ _ (Chained m before e number rule ends is_rule chained_into piece) at =
       let lies = ends_lie rules (w ++ c ∷ []) 0 m before ends in
       ⊎_elim
       (λ less.
       let same : slice_range (w ++ c ∷ []) (m - 1) e ≡ slice_range (w ++ c ∷ []) (m - 1) (length (w ++ c ∷ [])) = ap (λ n. slice_range (w ++ c ∷ []) (m - 1) n) at in
       let read = laws.word number rule (slice_range (w ++ c ∷ []) (m - 1) (length (w ++ c ∷ []))) is_rule (subst (IsWordOf rule) same piece.word) in
-      let reads = laws.reads number read.0 c rule (slice_range w (m - 1) (length w)) (subst (λ l. ReadsLast rules number rule l read.0) (push_piece w c (m - 1) (omega (arith, length_push w c))) read.1) in
+      let reads = laws.reads number read.0 c rule (slice_range w (m - 1) (length w)) is_rule (subst (λ l. ReadsLast rules number rule l read.0) (push_piece w c (m - 1) (omega (arith, length_push w c))) read.1) in
       record { number = number; q = read.0; comes = chained_comes number read.0 c m before rule w is_rule chained_into ends (omega (arith, length_push w c)) read.1; reads = reads; last = read.2 })
       (λ more. ends_now w c m before ends (omega (arith, lies.1)))
       (cases_lt m (length (w ++ c ∷ [])))
@@ -244,19 +244,19 @@ module _ (rules : List Rule) (IsFirst IsLast IsFrontLast : ℕ → ℕ → Type 
   pub reads_next : (w : List ℕ) (c p : ℕ) → ReadBy rules (w ++ c ∷ []) p → ReadsNext w c p
   reads_next w c p =
       ⊎_elim
-      (λ begun. (laws.reads begun.number p c begun.rule w begun.reads, inl (begins_comes begun.number p c begun.rule w begun.is_rule begun.reads)))
+      (λ begun. (laws.reads begun.number p c begun.rule w begun.is_rule begun.reads, inl (begins_comes begun.number p c begun.rule w begun.is_rule begun.reads)))
       (λ chained.
       let lies = ends_lie rules (w ++ c ∷ []) 0 chained.m chained.before chained.ends in
       let long = length_push w c in
       ⊎_elim
       (λ less.
-      let reads = laws.reads chained.number p c chained.rule (slice_range w (chained.m - 1) (length w)) (subst (λ l. ReadsLast rules chained.number chained.rule l p) (push_piece w c (chained.m - 1) (omega (arith, long))) chained.reads) in
+      let reads = laws.reads chained.number p c chained.rule (slice_range w (chained.m - 1) (length w)) chained.is_rule (subst (λ l. ReadsLast rules chained.number chained.rule l p) (push_piece w c (chained.m - 1) (omega (arith, long))) chained.reads) in
       (reads, inl (chained_comes chained.number p c chained.m chained.before chained.rule w chained.is_rule chained.chained_into chained.ends (omega (arith, long)) chained.reads)))
       (λ more.
       let here : chained.m - 1 ≡ length w = omega (arith, long, lies.1) in
       let one : slice_range (w ++ c ∷ []) (chained.m - 1) (length (w ++ c ∷ [])) ≡ c ∷ [] = ap (λ n. slice_range (w ++ c ∷ []) n (length (w ++ c ∷ []))) here ∙ last_piece w c in
       let read = subst (λ l. ReadsLast rules chained.number chained.rule l p) one chained.reads in (
-        laws.reads chained.number p c chained.rule [] read,
+        laws.reads chained.number p c chained.rule [] chained.is_rule read,
         inr (record {
           number = chained.number;
           chained = record { rule = chained.rule; is_rule = chained.is_rule; chained_into = chained.chained_into };
