@@ -11,7 +11,7 @@ use Rattle.rbbi_model.specs.Rules.{Rule, LooksAhead, SpellsBoth, IsWordOf, IsFro
 use Rattle.rbbi_model.specs.Chains.{IsRule}
 use Rattle.rbbi_model.specs.LeafSets.{sets_of, sets_of_rule, all_sets, first_position, SpellsPositions, RuleSpellsPositions, Reads, ReadsLast}
 use Rattle.rbbi_positions.specs.FollowPositions.{IsSpelled, IsFrontSpelled}
-use Rattle.rbbi_positions.specs.Walks.{Exchange}
+use Rattle.rbbi_positions.proofs.WalkLaws.{exchange, exchange_front}
 use Rattle.rbbi_dfa.proofs.Spellings.{StandsAt, zip_append, zip_parts, sets_many, stands_left, stands_right, rule_stands, spelled_to, spelled_from}
 use Rattle.rbbi_dfa.proofs.Reading.{ReadingLaws}
 
@@ -139,12 +139,6 @@ module _ (rules : List Rule) where
         last = ap (λ n. slice_get (reads.before ++ p ∷ reads.after) n) (let e : length v - 1 ≡ length reads.before = omega (arith, long) in e) ∙ get_at reads.before p reads.after;
       }
 
--- Where a rule spells a list with a position in it that is last in some list of its front, the front spells the part up to it.
-abbrev pub FrontExchange : List Rule → Type 0
-FrontExchange rules =
-    (number position : ℕ) (before after others : List ℕ) → IsSpelled rules number (before ++ position ∷ after) → IsFrontSpelled rules number (others ++ position ∷ []) →
-    IsFrontSpelled rules number (before ++ position ∷ [])
-
 module _ (rules : List Rule) where
   -- what a rule spells, as words and as positions
   word_to : (rule : Rule) (rest : Option Tree) → rule.rest ≡ rest → (number : ℕ) → IsRule rules number rule → (v : List ℕ) →
@@ -200,7 +194,7 @@ module _ (rules : List Rule) where
       (more.0, subst (λ o. MatchOption o (SpellsPositions rule.front first (positions ++ more.0)) (λ rest. (u : List ℕ) × (w : List ℕ) × SpellsPositions rule.front first u × SpellsPositions rest (first + leaf_count rule.front) w × (positions ++ more.0 ≡ u ++ w))) (sym same)
       (positions, more.0, spelled, more.1, refl))
 
-module _ (rules : List Rule) (lawful : AllByRecursion IsLawfulRule rules) (exchange : Exchange) (front_exchange : FrontExchange rules) where
+module _ (rules : List Rule) (lawful : AllByRecursion IsLawfulRule rules) where
   starts : (number p c : ℕ) (rule : Rule) → IsRule rules number rule → FirstOf rules number p → Reads rules p c → ReadsLast rules number rule (c ∷ []) p
   starts number p c rule is_rule first reads =
       reads_last rules number p rule (c ∷ []) is_rule (record { before = []; after = first.0; spelled = first.1; reads = (reads, tt) })
@@ -281,12 +275,10 @@ module _ (rules : List Rule) (lawful : AllByRecursion IsLawfulRule rules) (excha
   front_wholes number other p rule v is_rule reads last =
       let first : ℕ = first_position rules number in
       let up = reads_up_to rules number p rule v is_rule reads in
-      let more = front_goes_on rules last.rule last.rule.rest refl other last.is_rule (lawful_rule rules other last.rule lawful last.is_rule) (last.others ++ p ∷ []) last.spelled in
-      let whole : IsSpelled rules other (last.others ++ p ∷ more.0) =
-      record { rule = last.rule; is_rule = last.is_rule; spelled = subst (λ l. RuleSpellsPositions last.rule (first_position rules other) l) (append_assoc last.others (p ∷ []) more.0) more.1 } in
-      let same : number ≡ other = (exchange rules number other p up.before up.after last.others more.0 up.spelled whole).0 in
       let here : IsFrontSpelled rules other (last.others ++ p ∷ []) = record { rule = last.rule; is_rule = last.is_rule; spelled = last.spelled } in
-      let front = front_exchange number p up.before up.after last.others up.spelled (subst (λ n. IsFrontSpelled rules n (last.others ++ p ∷ [])) (sym same) here) in
+      let new = exchange_front rules number other p up.before up.after last.others [] up.spelled here in
+      let same : number ≡ other = new.0 in
+      let front : IsFrontSpelled rules number (up.before ++ p ∷ []) = new.1 in
       let spelled = subst (λ r. SpellsPositions r.front first (up.before ++ p ∷ [])) (same_rule rules number front.rule rule front.is_rule is_rule) front.spelled in
       let looks = subst LooksAhead (same_rule rules number last.rule rule (subst (λ n. IsRule rules n last.rule) (sym same) last.is_rule) is_rule) last.looks_ahead in
       let stands = stands_left (all_sets rules) first (sets_of rule.front) (option_map_or sets_of rule.rest []) (rule_stands rules number rule is_rule) in
