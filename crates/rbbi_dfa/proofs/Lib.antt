@@ -1,3 +1,5 @@
 pub mod Reading
 pub mod Spellings
 pub mod WalkReading
+pub mod Words
+pub mod WordMarks

@@ -6,7 +6,8 @@ use Rattle.std.proofs.lemmas.List.{length-append, length_push, take_all, take_at
 use Rattle.rbbi_model.specs.Rules.{Rule, LooksAhead, IsWordOf, IsFrontWordOf}
 use Rattle.rbbi_model.specs.Chains.{IsRule, IsPiece, EndsAt, Word, Chained, FrontEndsAt}
 use Rattle.rbbi_model.specs.LeafSets.{Reads, ReadsLast, BeginsToRead, IsChainedToRead}
-use Rattle.rbbi_model.proofs.RulesCover.{some_piece, ends_lie}
+use Rattle.rbbi_model.proofs.RulesCover.{ends_lie}
+use Rattle.rbbi_dfa.specs.PositionAutomata.{Chainable}
 use Rattle.rbbi_model.proofs.Local.{ends_to, ends_from}
 
 -- the position can read the last code point of the word, whatever look-ahead rules end before
@@ -62,12 +63,6 @@ pub ends_shorter : (rules : List Rule) (w : List ℕ) (c m number : ℕ) → m �
 ends_shorter rules w c m number short ends =
     subst (λ v. EndsAt rules v 0 m number) (front_piece w c)
     (subst (λ e. EndsAt rules (slice_range (w ++ c ∷ []) 0 (length w)) 0 e number) (let same : m - 0 ≡ m = omega arith in same) (ends_to rules (w ++ c ∷ []) 0 (length w) (omega arith) (omega (arith, length_push w c)) m number short ends))
-
--- a rule that may be chained into
-pub record Chainable (rules : List Rule) (number : ℕ) : Type 0 where
-  pub rule : Rule
-  pub is_rule : IsRule rules number rule
-  pub chained_into : rule.chained_into ≡ true
 
 module _ (rules : List Rule) (IsFirst IsLast IsFrontLast : ℕ → ℕ → Type 0) (Follows : ℕ → ℕ → ℕ → Type 0) (laws : ReadingLaws rules IsFirst IsLast IsFrontLast Follows) where
   -- the position can come next after the word, without a chain there

@@ -13,6 +13,7 @@ use Rattle.rbbi_model.specs.LeafSets.{sets_of, sets_of_rule, all_sets, first_pos
 use Rattle.rbbi_positions.specs.FollowPositions.{IsSpelled, IsFrontSpelled}
 use Rattle.rbbi_positions.proofs.WalkLaws.{exchange, exchange_front}
 use Rattle.rbbi_dfa.proofs.Spellings.{StandsAt, zip_append, zip_parts, sets_many, stands_left, stands_right, rule_stands, spelled_to, spelled_from}
+use Rattle.rbbi_dfa.specs.PositionAutomata.{FirstOf, LastOf, FrontLastOf, FollowsIn}
 use Rattle.rbbi_dfa.proofs.Reading.{ReadingLaws}
 
 -- lists by their last member
@@ -62,10 +63,10 @@ zip_push R (a ∷ []) [] x y z = absurd z.1
 zip_push R (a ∷ b ∷ xs) [] x y z = absurd z.1
 zip_push R (a ∷ xs) (b ∷ ys) x y z = let rest = zip_push R xs ys x y z.1 in ((z.0, rest.0), rest.1)
 
-same_rule : (rules : List Rule) (number : ℕ) (these those : Rule) → IsRule rules number these → IsRule rules number those → these ≡ those
+pub same_rule : (rules : List Rule) (number : ℕ) (these those : Rule) → IsRule rules number these → IsRule rules number those → these ≡ those
 same_rule rules number these those is is' = ap (λ o. unwrap_or o these) (sym is ∙ is')
 
-lawful_rule : (rules : List Rule) (number : ℕ) (rule : Rule) → AllByRecursion IsLawfulRule rules → IsRule rules number rule → IsLawfulRule rule
+pub lawful_rule : (rules : List Rule) (number : ℕ) (rule : Rule) → AllByRecursion IsLawfulRule rules → IsRule rules number rule → IsLawfulRule rule
 lawful_rule [] number rule lawful is_rule = absurd (cc)
 lawful_rule (other ∷ rules) zero rule lawful is_rule = subst IsLawfulRule (ap (λ o. unwrap_or o rule) is_rule) lawful.0
 lawful_rule (other ∷ rules) (suc number) rule lawful is_rule = lawful_rule rules number rule lawful.1 is_rule
@@ -85,23 +86,6 @@ some_spelled (Repeat Plus part) first lawful =
     let one = some_spelled part first lawful in
     (one.0, (one.0 ∷ [], (λ none. absurd (cc)), (one.1, tt), sym (append-nil one.0)))
 some_spelled (Repeat Quest part) first lawful = ([], ([], omega arith, tt, refl))
-
--- the position is first, last, last of the front in the rule with the number, or follows another there
-abbrev pub FirstOf : List Rule → ℕ → ℕ → Type 0
-FirstOf rules number position = (others : List ℕ) × IsSpelled rules number (position ∷ others)
-
-abbrev pub LastOf : List Rule → ℕ → ℕ → Type 0
-LastOf rules number position = (others : List ℕ) × IsSpelled rules number (others ++ position ∷ [])
-
-pub record FrontLastOf (rules : List Rule) (number position : ℕ) : Type 0 where
-  pub rule : Rule
-  pub is_rule : IsRule rules number rule
-  pub looks_ahead : LooksAhead rule
-  pub others : List ℕ
-  pub spelled : SpellsPositions rule.front (first_position rules number) (others ++ position ∷ [])
-
-abbrev pub FollowsIn : List Rule → ℕ → ℕ → ℕ → Type 0
-FollowsIn rules number position next = (before : List ℕ) × (after : List ℕ) × IsSpelled rules number (before ++ position ∷ next ∷ after)
 
 module _ (rules : List Rule) where
   -- a rule that begins to read a word, with its list of positions in parts

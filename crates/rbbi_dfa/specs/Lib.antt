@@ -1,1 +1,4 @@
 pub mod Automata
+pub mod BitRows
+pub mod PositionAutomata
+pub mod Determinizing
