@@ -3,3 +3,4 @@ pub mod Spellings
 pub mod WalkReading
 pub mod Words
 pub mod WordMarks
+pub mod Bits

@@ -14,7 +14,8 @@ use Rattle.rbbi_model.specs.LeafSets.{EndedBefore}
 use Rattle.rbbi_model.specs.Marks.{Marks, no_marks, look_ahead_number, HasFront, IsCompleted, IsEnded, IsUnended, AreMarksAtEnd, AreMarks, marks_of, HasSameMarks}
 use Rattle.rbbi_dfa.specs.BitRows.{Holds, row_at}
 use Rattle.rbbi_dfa.specs.Automata.{with_ranges}
-use Rattle.rbbi_dfa.specs.PositionAutomata.{PositionRows, Marked, FirstOf, LastOf, FollowsIn, FrontLastOf, LookAhead, Tagged, IsOfRules}
+use Rattle.rbbi_dfa.specs.PositionRows.{PositionRows}
+use Rattle.rbbi_dfa.specs.PositionAutomata.{Marked, FirstOf, LastOf, FollowsIn, FrontLastOf, LookAhead, Tagged, IsOfRules}
 use Rattle.rbbi_dfa.specs.Determinizing.{HasMark, AreMarksOf, IsDeterminized}
 use Rattle.rbbi_dfa.proofs.Reading.{ReadBy, read_ends, ends_read, front_read, read_front}
 use Rattle.rbbi_dfa.proofs.WalkReading.{same_rule}

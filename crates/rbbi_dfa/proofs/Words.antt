@@ -12,7 +12,8 @@ use Rattle.rbbi_model.specs.Tables.{Table, CategoryRange, category_of, step, row
 use Rattle.rbbi_model.specs.Marks.{look_ahead_number}
 use Rattle.rbbi_model.specs.LeafSets.{Reads, ReadsLast, EndedBefore}
 use Rattle.rbbi_dfa.specs.BitRows.{Holds, row_at}
-use Rattle.rbbi_dfa.specs.PositionAutomata.{PositionRows, Marked, FirstOf, LastOf, FollowsIn, FrontLastOf, Chainable, LookAhead, IsOfRules}
+use Rattle.rbbi_dfa.specs.PositionRows.{PositionRows}
+use Rattle.rbbi_dfa.specs.PositionAutomata.{Marked, FirstOf, LastOf, FollowsIn, FrontLastOf, Chainable, LookAhead, IsOfRules}
 use Rattle.rbbi_dfa.specs.Determinizing.{CanFollow, EndsBy, ComesBy, IsStep, AreFollowers, Completes, IsReached, FromFirst, FromSet, IsSome, AreReachedSets, IsCell, LeadsOn, IsDeterminized}
 use Rattle.rbbi_dfa.proofs.Reading.{ReadBy, ReadingLaws, Comes, ComesFirst, ComesAfter, EndsNow, ComesChained, ReadsNext, reads_next, next_reads, read_ends, ends_read, front_read, read_front, ends_longer, ends_shorter, some_push}
 use Rattle.rbbi_dfa.proofs.WalkReading.{reading_laws}

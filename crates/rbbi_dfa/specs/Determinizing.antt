@@ -6,7 +6,8 @@ use Rattle.rbbi_model.specs.Lists.{Member, IsRising}
 use Rattle.rbbi_model.specs.Tables.{Table, step}
 use Rattle.rbbi_model.specs.Marks.{Marks, no_marks, marks_of}
 use Rattle.rbbi_dfa.specs.BitRows.{Holds, row_at}
-use Rattle.rbbi_dfa.specs.PositionAutomata.{PositionRows, Marked}
+use Rattle.rbbi_dfa.specs.PositionRows.{PositionRows}
+use Rattle.rbbi_dfa.specs.PositionAutomata.{Marked}
 
 -- a position of the set is followed by this one
 abbrev pub CanFollow : PositionRows → List ℕ → ℕ → Type 0

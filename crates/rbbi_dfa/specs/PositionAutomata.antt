@@ -10,28 +10,7 @@ use Rattle.rbbi_model.specs.Marks.{look_ahead_number}
 use Rattle.rbbi_model.specs.LeafSets.{first_position, SpellsPositions, Reads}
 use Rattle.rbbi_positions.specs.FollowPositions.{IsSpelled}
 use Rattle.rbbi_dfa.specs.BitRows.{Holds, row_at}
-
--- what is marked where the position reads the last code point: a number of a look-ahead rule, or a status number
-pub record PositionMark : Type 0 where
-  pub position : ℕ
-  pub mark : ℕ
-
--- How many categories and look-ahead rules there are, and how many words a row has. The first positions, those of them whose
--- rules may be chained into, the last positions, and for each position those that may follow it. For each category the positions
--- that read it. The last positions of look-ahead rules with the rules' numbers, those of their fronts, and the last positions of
--- tagged rules with the status numbers.
-pub record PositionRows : Type 0 where
-  pub categories : ℕ
-  pub slashes : ℕ
-  pub width : ℕ
-  pub first : List ℕ
-  pub chained : List ℕ
-  pub last : List ℕ
-  pub follow : List (List ℕ)
-  pub reads : List (List ℕ)
-  pub completed : List PositionMark
-  pub fronts : List PositionMark
-  pub tags : List PositionMark
+use Rattle.rbbi_dfa.specs.PositionRows.{PositionMark, PositionRows}
 
 -- the list marks the position so
 abbrev pub Marked : List PositionMark → ℕ → ℕ → Type 0
