@@ -4,3 +4,6 @@ pub mod WalkReading
 pub mod Words
 pub mod WordMarks
 pub mod Bits
+pub mod RowLists
+pub mod Steps
+pub mod Buckets

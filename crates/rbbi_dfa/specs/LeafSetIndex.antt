@@ -1,5 +1,5 @@
 -- Numbered sets that are found again by a hash: sets with one hash are linked, the newest first.
-use Rattle.std.specs.Prelude.{◌≡◌, ℕ, ◌-◌, ◌*◌, ◌/◌, ◌%◌, ◌^◌, ◌<◌, ◌≤◌, List, length, slice_index}
+use Rattle.std.specs.Prelude.{◌≡◌, ◌≢◌, ◌⊎◌, ℕ, ◌++◌, ◌∷◌, [], ◌-◌, ◌*◌, ◌/◌, ◌%◌, ◌^◌, ◌<◌, ◌≤◌, List, length, slice_index}
 use Rattle.std.specs.List.{fold}
 use Rattle.std.specs.Int.RustNames.{bit_xor}
 use Rattle.rbbi_dfa.specs.BitRows.{row_at}
@@ -23,3 +23,11 @@ pub record IsIndexed (sets : List (List ℕ)) (newest older : List ℕ) : Type 0
   pub older_within : (i : ℕ) → i < length sets → slice_index older i ≤ i
   pub older_of : (i : ℕ) → i < length sets → 0 < slice_index older i → bucket_of (row_at sets (slice_index older i - 1)) ≡ bucket_of (row_at sets i)
   pub older_most : (earlier i : ℕ) → earlier < i → i < length sets → bucket_of (row_at sets earlier) ≡ bucket_of (row_at sets i) → earlier < slice_index older i
+
+-- the set isn't among the others
+abbrev pub IsAbsent : List (List ℕ) → List ℕ → Type 0
+IsAbsent sets set = (i : ℕ) → i < length sets → row_at sets i ≢ set
+
+-- the sets stay, or one that wasn't among them comes last
+abbrev pub KeepsOrAdds : List (List ℕ) → List ℕ → List (List ℕ) → Type 0
+KeepsOrAdds old set new = (new ≡ old) ⊎ ((new ≡ old ++ set ∷ []) × IsAbsent old set)

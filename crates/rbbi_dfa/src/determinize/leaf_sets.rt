@@ -1,7 +1,7 @@
 //! Numbered sets of positions, found again by a hash.
-ghost use Rattle.std.specs.Prelude.{◌≡◌, ℕ, ◌<◌, ◌⊎◌, List, [], ◌∷◌, ◌++◌, length, IfOk, Err};
+ghost use Rattle.std.specs.Prelude.{◌≡◌, ◌<◌, ◌≤◌, [], length, IfOk, IfSome, IsNone};
 ghost use Rattle.rbbi_dfa.specs.BitRows.{row_at};
-ghost use Rattle.rbbi_dfa.specs.LeafSetIndex.{bucket_of};
+ghost use Rattle.rbbi_dfa.specs.LeafSetIndex.{bucket_of, IsAbsent, KeepsOrAdds};
 
 use crate::determinize::error::DeterminizeErr;
 use std::alloc::{AllocError, Global};
@@ -64,7 +64,8 @@ impl LeafSets {
 
     /// How many sets there are.
     pub(crate) fn len(&self) -> usize
-        ensures { result ≡ length self.now }
+        ensures value { result ≡ length self.now }
+        ensures few { result ≤ 16384 }
     {
         self.sets.len()
     }
@@ -79,7 +80,10 @@ impl LeafSets {
 
     /// The number of the set, if it is there.
     fn find(&self, set: &[u64], bucket: usize) -> Option<usize>
-        requires { bucket ≡ bucket_of set.now }
+        requires value { bucket ≡ bucket_of set.now }
+        requires within { bucket < 32768 }
+        ensures found { IfSome result (λ i. (i < length self.now) × (row_at self.now i ≡ set.now)) }
+        ensures absent { IsNone result → IsAbsent self.now set.now }
     {
         let mut at = self.newest[bucket] as usize;
         while at > 0 {
@@ -93,6 +97,10 @@ impl LeafSets {
 
     /// The number of the set, which is added if it isn't there yet.
     pub(crate) fn number_of(&mut self, alloc: Global, set: &[u64]) -> Result<usize, DeterminizeErr>
+        ensures number { IfOk result (λ i. (i < length self.new) × (row_at self.new i ≡ set.now)) }
+        ensures sets { KeepsOrAdds self.old set.now self.new }
+        ensures refused { result ≡ Err DeterminizeErr.TooManySets →
+            (length self.new ≡ 16384) × IsAbsent self.new set.now }
     {
         let bucket = bucket(set);
         if let Some(number) = self.find(set, bucket) {
