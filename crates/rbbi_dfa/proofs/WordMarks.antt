@@ -87,25 +87,25 @@ module _ (rules : List Rule) (lawful : AreLawful rules) (ranges : List CategoryR
       completed_accept : 2 ≤ marks.accept → IsCompleted rules w marks.accept
       completed_accept many =
           let mark : ℕ = marks.accept - 2 in
-          let ends = mark_completed mark (are.is_completed many) in
+          let ends = mark_completed mark (are.accept.is_completed many) in
           record {
             number = ends.0;
             ends = ends.1;
             first = λ other ends'.
-              let low = (are.completed (look_ahead_number rules other) (completed_mark other ends')).1 in
+              let low = (are.accept.completed (look_ahead_number rules other) (completed_mark other ends')).1 in
               ⊎_elim (λ less. absurd (omega (arith, low, ends.2, many, counts rules other ends.0 ends'.rule ends'.is_rule ends'.looks_ahead less))) (λ most. most) (cases_lt other ends.0);
             numbered = omega (arith, ends.2, many);
           }
 
       ended_accept : marks.accept ≡ 1 → IsEnded rules w marks.accept
       ended_accept one =
-          let last = are.is_ended one in
+          let last = are.accept.is_ended one in
           let of_rule = (of.last last.0).0 last.2 in
           let ends = read_ends rules (FirstOf rules) (LastOf rules) (FrontLastOf rules) (FollowsIn rules) (laws rules lawful ranges rows of) w of_rule.0 last.0 ((is.holds last.0).0 last.1) of_rule.1 in
           record {
             number = of_rule.0;
             ends = ends;
-            no_look_ahead = λ other ends'. omega (arith, one, (are.completed (look_ahead_number rules other) (completed_mark other ends')).0);
+            no_look_ahead = λ other ends'. omega (arith, one, (are.accept.completed (look_ahead_number rules other) (completed_mark other ends')).0);
             is_one = one;
           }
 
@@ -114,7 +114,7 @@ module _ (rules : List Rule) (lawful : AreLawful rules) (ranges : List CategoryR
           record {
             no_end = λ number ends.
               let read = ends_read rules (FirstOf rules) (LastOf rules) (FrontLastOf rules) (FollowsIn rules) (laws rules lawful ranges rows of) w number ends in
-              omega (arith, none, are.ended read.0 ((is.holds read.0).1 read.1) ((of.last read.0).1 (number, read.2)));
+              omega (arith, none, are.accept.ended read.0 ((is.holds read.0).1 read.1) ((of.last read.0).1 (number, read.2)));
             is_zero = none;
           }
 
@@ -124,10 +124,10 @@ module _ (rules : List Rule) (lawful : AreLawful rules) (ranges : List CategoryR
         fronts = λ small k. (λ bit. mark_front k ((are.fronts small k).0 bit), λ front. (are.fronts small k).1 (front_mark k front));
         no_fronts = are.no_fronts;
         statuses = record {
-          rising = are.rising;
+          rising = are.tags.rising;
           exactly = λ tag.
-            (λ member. ⊎_elim (λ has. inl (mark_tag tag has)) (λ none. inr (none.0, λ other at. none.1 other (tag_mark other at))) ((are.tags tag).0 member),
-            λ tagged. (are.tags tag).1 (⊎_elim (λ at. inl (tag_mark tag at)) (λ none. inr (none.0, λ other has. none.1 other (mark_tag other has))) tagged));
+            (λ member. ⊎_elim (λ has. inl (mark_tag tag has)) (λ none. inr (none.0, λ other at. none.1 other (tag_mark other at))) ((are.tags.exactly tag).0 member),
+            λ tagged. (are.tags.exactly tag).1 (⊎_elim (λ at. inl (tag_mark tag at)) (λ none. inr (none.0, λ other has. none.1 other (mark_tag other has))) tagged));
         };
       }
 

@@ -1,6 +1,5 @@
 -- Determinised automata: each row is a set of positions, and leads by each category to the set that comes next.
-use Rattle.std.specs.Prelude.{◌≡◌, ◌≢◌, ℕ, ◌+◌, ◌-◌, ◌*◌, ◌^◌, ◌<◌, ◌≤◌, ◌⊎◌, ◌↔◌, List, [], ◌∷◌, ◌++◌, length, IsTrue, AllPairs}
-use Rattle.std.specs.List.{AllByRecursion}
+use Rattle.std.specs.Prelude.{◌≡◌, ◌≢◌, ℕ, ◌+◌, ◌-◌, ◌*◌, ◌^◌, ◌<◌, ◌≤◌, ◌⊎◌, ◌↔◌, List, length, slice_index, IsTrue}
 use Rattle.rbbi_model.specs.Places.{has_bit}
 use Rattle.rbbi_model.specs.Lists.{Member, IsRising}
 use Rattle.rbbi_model.specs.Tables.{Table, step}
@@ -49,8 +48,14 @@ IsSome set = (position : ℕ) × Holds set position
 abbrev pub AreDifferent : List ℕ → List ℕ → Type 0
 AreDifferent these those = ¬ ((position : ℕ) → Holds these position ↔ Holds those position)
 
+-- a row of so many words
+pub record IsRow (width : ℕ) (row : List ℕ) : Type 0 where
+  pub wide : length row ≡ width
+  pub words : (k : ℕ) → slice_index row k < 2 ^ 64
+
 -- sets that are reached, none of them empty, and all of them different
 pub record AreReachedSets (rows : PositionRows) (sets : List (List ℕ)) : Type 0 where
+  pub are_rows : (i : ℕ) → i < length sets → IsRow rows.width (row_at sets i)
   pub reached : (i : ℕ) → i < length sets → IsReached rows (row_at sets i)
   pub some : (i : ℕ) → i < length sets → IsSome (row_at sets i)
   pub apart : (i j : ℕ) → i < j → j < length sets → AreDifferent (row_at sets i) (row_at sets j)
@@ -65,24 +70,66 @@ IsCell rows sets candidates category cell =
 abbrev pub HasMark : List ℕ → (ℕ → ℕ → Type 0) → ℕ → Type 0
 HasMark set IsMarked mark = (position : ℕ) × Holds set position × IsMarked position mark
 
--- What is marked at the set: the accept number is 2 more than the least number of a look-ahead rule that is completed, else 1
--- where a position is last, else 0. The mask has the fronts, but none where a rule is completed. The statuses are the tags, or 0.
-pub record AreMarksOf (rows : PositionRows) (set : List ℕ) (marks : Marks) : Type 0 where
-  pub completed : (mark : ℕ) → HasMark set (Marked rows.completed) mark → (2 ≤ marks.accept) × (marks.accept ≤ mark + 2)
-  pub is_completed : 2 ≤ marks.accept → HasMark set (Marked rows.completed) (marks.accept - 2)
-  pub ended : (position : ℕ) → Holds set position → Holds rows.last position → 1 ≤ marks.accept
-  pub is_ended : marks.accept ≡ 1 → (position : ℕ) × Holds set position × Holds rows.last position
-  pub fronts : marks.accept < 2 → (mark : ℕ) → IsTrue (has_bit marks.fronts mark) ↔ HasMark set (Marked rows.fronts) mark
-  pub no_fronts : 2 ≤ marks.accept → marks.fronts ≡ 0
-  pub rising : IsRising marks.statuses
-  pub tags : (tag : ℕ) → Member marks.statuses tag ↔ (HasMark set (Marked rows.tags) tag ⊎ ((tag ≡ 0) × ((other : ℕ) → ¬ HasMark set (Marked rows.tags) other)))
+-- The accept number is 2 more than the least number of a look-ahead rule that is completed, else 1 where a position is last, else 0.
+pub record IsAccept (rows : PositionRows) (set : List ℕ) (accept : ℕ) : Type 0 where
+  pub completed : (mark : ℕ) → HasMark set (Marked rows.completed) mark → (2 ≤ accept) × (accept ≤ mark + 2)
+  pub is_completed : 2 ≤ accept → HasMark set (Marked rows.completed) (accept - 2)
+  pub ended : (position : ℕ) → Holds set position → Holds rows.last position → 1 ≤ accept
+  pub is_ended : accept ≡ 1 → (position : ℕ) × Holds set position × Holds rows.last position
 
--- The row leads to row 0 only where a look-ahead rule is completed, and else to what comes next.
-abbrev pub LeadsOn : PositionRows → List (List ℕ) → Table → ℕ → Type 0
-LeadsOn rows sets automaton i =
-    (Completes rows (row_at sets i) × ((category : ℕ) → category < rows.categories → step automaton (i + 2) category ≡ 0))
-    ⊎ (¬ Completes rows (row_at sets i) × ((candidates : List ℕ) × AreFollowers rows (row_at sets i) candidates
-      × ((category : ℕ) → category < rows.categories → IsCell rows sets candidates category (step automaton (i + 2) category))))
+-- the mask has the bits of the fronts that end
+abbrev pub AreFrontsOf : PositionRows → List ℕ → ℕ → Type 0
+AreFrontsOf rows set fronts = (mark : ℕ) → IsTrue (has_bit fronts mark) ↔ HasMark set (Marked rows.fronts) mark
+
+-- the status numbers of the tags, rising, or 0 alone where there are none
+pub record AreTagsOf (rows : PositionRows) (set : List ℕ) (statuses : List ℕ) : Type 0 where
+  pub rising : IsRising statuses
+  pub exactly : (tag : ℕ) → Member statuses tag ↔ (HasMark set (Marked rows.tags) tag ⊎ ((tag ≡ 0) × ((other : ℕ) → ¬ HasMark set (Marked rows.tags) other)))
+
+-- what is marked at the set; there are no fronts where a look-ahead rule is completed
+pub record AreMarksOf (rows : PositionRows) (set : List ℕ) (marks : Marks) : Type 0 where
+  pub accept : IsAccept rows set marks.accept
+  pub fronts : marks.accept < 2 → AreFrontsOf rows set marks.fronts
+  pub no_fronts : 2 ≤ marks.accept → marks.fronts ≡ 0
+  pub small_fronts : marks.fronts < 2 ^ rows.slashes
+  pub tags : AreTagsOf rows set marks.statuses
+
+-- The row of the set leads to row 0 only where a look-ahead rule is completed, and else to what comes next.
+abbrev pub LeadsOn : PositionRows → List (List ℕ) → List ℕ → (ℕ → ℕ) → Type 0
+LeadsOn rows sets set next =
+    (Completes rows set × ((category : ℕ) → category < rows.categories → next category ≡ 0))
+    ⊎ (¬ Completes rows set × ((candidates : List ℕ) × AreFollowers rows set candidates
+      × ((category : ℕ) → category < rows.categories → IsCell rows sets candidates category (next category))))
+
+-- the next row from a row, for a category, in cells that stand row after row
+abbrev pub cell_of : PositionRows → List ℕ → ℕ → ℕ → ℕ
+cell_of rows cells row category = slice_index cells (row * rows.categories + category)
+
+-- the cells of rows 0 and 1, and of the first so many sets
+pub record AreCellsUpTo (rows : PositionRows) (sets : List (List ℕ)) (cells : List ℕ) (count : ℕ) : Type 0 where
+  pub many : length cells ≡ (count + 2) * rows.categories
+  pub stop : (category : ℕ) → category < rows.categories → cell_of rows cells 0 category ≡ 0
+  pub start : (category : ℕ) → category < rows.categories → IsCell rows sets rows.first category (cell_of rows cells 1 category)
+  pub each : (i : ℕ) → i < count → LeadsOn rows sets (row_at sets i) (cell_of rows cells (i + 2))
+
+-- the positions that can come next after a set that is reached, or first
+abbrev pub AreReachedCandidates : PositionRows → List ℕ → Type 0
+AreReachedCandidates rows candidates =
+    (candidates ≡ rows.first) ⊎ ((set : List ℕ) × IsReached rows set × (¬ Completes rows set) × AreFollowers rows set candidates)
+
+-- the sets stand at the beginning of the others
+abbrev pub Begin : List (List ℕ) → List (List ℕ) → Type 0
+Begin these those = (length these ≤ length those) × ((i : ℕ) → i < length these → row_at those i ≡ row_at these i)
+
+-- the cells of one more row were added
+pub record AddsCells (rows : PositionRows) (sets : List (List ℕ)) (candidates old new : List ℕ) (count : ℕ) : Type 0 where
+  pub many : length new ≡ length old + count
+  pub kept : (k : ℕ) → k < length old → slice_index new k ≡ slice_index old k
+  pub each : (category : ℕ) → category < count → IsCell rows sets candidates category (slice_index new (length old + category))
+
+-- there are at least so many sets that are reached, none of them empty, and all of them different
+abbrev pub HasReachedSets : PositionRows → ℕ → Type 0
+HasReachedSets rows count = (sets : List (List ℕ)) × (length sets ≡ count) × AreReachedSets rows sets
 
 -- the automaton whose rows from 2 on are these sets
 pub record IsDeterminized (rows : PositionRows) (sets : List (List ℕ)) (automaton : Table) : Type 0 where
@@ -93,7 +140,7 @@ pub record IsDeterminized (rows : PositionRows) (sets : List (List ℕ)) (automa
   pub cells : length automaton.cells ≡ length automaton.rows * automaton.categories
   pub stop : (category : ℕ) → category < rows.categories → step automaton 0 category ≡ 0
   pub start : (category : ℕ) → category < rows.categories → IsCell rows sets rows.first category (step automaton 1 category)
-  pub each : (i : ℕ) → i < length sets → LeadsOn rows sets automaton i
+  pub each : (i : ℕ) → i < length sets → LeadsOn rows sets (row_at sets i) (step automaton (i + 2))
   pub plain_stop : marks_of automaton 0 ≡ no_marks
   pub plain_start : marks_of automaton 1 ≡ no_marks
   pub marks : (i : ℕ) → i < length sets → AreMarksOf rows (row_at sets i) (marks_of automaton (i + 2))

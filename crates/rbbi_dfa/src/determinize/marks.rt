@@ -1,11 +1,6 @@
 //! What is marked at a set of positions.
-ghost use Rattle.std.specs.Prelude.{◌≡◌, ◌<◌, ◌≤◌, ◌+◌, ◌-◌, ◌×◌, ◌⊎◌, ◌↔◌, ℕ, IfOk, IsTrue};
-ghost use Rattle.rbbi_model.specs.Places.{has_bit};
-ghost use Rattle.rbbi_model.specs.Lists.{Member, IsRising};
-ghost use Rattle.rbbi_model.specs.ValidTables.{IsValidList};
-ghost use Rattle.rbbi_dfa.specs.BitRows.{Holds};
-ghost use Rattle.rbbi_dfa.specs.PositionAutomata.{Marked};
-ghost use Rattle.rbbi_dfa.specs.Determinizing.{HasMark, IsAccept, AreTagsOf};
+ghost use Rattle.std.specs.Prelude.{◌≡◌, ◌<◌, ◌^◌, length, IfOk};
+ghost use Rattle.rbbi_dfa.specs.Determinizing.{IsAccept, AreFrontsOf, AreTagsOf};
 
 use crate::determinize::bits::{has, meet};
 use crate::determinize::position_rows::Rows;
@@ -28,8 +23,7 @@ pub(crate) fn accept(rows: &Rows, set: &[u64]) -> u16
 
 /// The front mask of the set, where no look-ahead rule is completed.
 pub(crate) fn fronts(rows: &Rows, set: &[u64]) -> u32
-    ensures bits { (mark : ℕ) →
-        IsTrue (has_bit result mark) ↔ HasMark set.now (Marked rows.now.fronts) mark }
+    ensures bits { AreFrontsOf rows.now set.now result }
     ensures small { result < 2 ^ rows.now.slashes }
 {
     let mut fronts: u32 = 0;
@@ -43,8 +37,7 @@ pub(crate) fn fronts(rows: &Rows, set: &[u64]) -> u32
 
 /// The status numbers of the set, rising and without repeats, or 0 alone where there are none.
 pub(crate) fn statuses(alloc: Global, rows: &Rows, set: &[u64]) -> Result<Vec<u32>, AllocError>
-    ensures exact { IfOk result (λ statuses. AreTagsOf rows.now set.now statuses.items) }
-    ensures valid { IfOk result (λ statuses. IsValidList statuses.items) }
+    ensures { IfOk result (λ statuses. AreTagsOf rows.now set.now statuses.items) }
 {
     let mut statuses: Vec<u32> = Vec::new(alloc);
     for mark in &rows.tags {
