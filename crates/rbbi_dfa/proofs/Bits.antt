@@ -1,11 +1,11 @@
 -- Rows of bits, word by word.
-use Rattle.std.proofs.Common.{◌≡◌, ◌≢◌, ℕ, ◌+◌, ◌-◌, ◌*◌, ◌/◌, ◌%◌, ◌^◌, ◌<◌, ◌≤◌, ◌⊎◌, ◌↔◌, List, length, get_or, min, max, refl, sym, ap, ◌∙◌, subst, inl, inr, ⊎_elim, arith}
+use Rattle.std.proofs.Common.{◌≡◌, ◌≢◌, ℕ, ◌+◌, ◌*◌, ◌/◌, ◌%◌, ◌^◌, ◌<◌, ◌≤◌, ◌⊎◌, ◌↔◌, List, length, get_or, min, max, sym, ap, ◌∙◌, inl, inr, ⊎_elim, arith}
 use Rattle.std.specs.Int.{bit_at, w64}
 use Rattle.std.specs.Prelude.{bit_and}
 use Rattle.std.specs.Int.RustNames.{bit_or}
 use Rattle.std.proofs.lemmas.Bool.{cases_lt, cases_eq}
 use Rattle.std.proofs.lemmas.List.{get_or_past}
-use Rattle.std.proofs.lemmas.Nat.Bits.{bit_at_or, bit_at_and, bit_at-lt, bit_at-zero, bit_at-trailing_zeros, bit_at_above}
+use Rattle.std.proofs.lemmas.Nat.Bits.{bit_at_or, bit_at_and, bit_at-lt, bit_at-zero, bit_at-trailing_zeros}
 use Rattle.rbbi_dfa.specs.BitRows.{Holds, IsEmptyRow}
 use Rattle.rbbi_dfa.specs.Determinizing.{IsSome}
 
@@ -19,9 +19,10 @@ holds_or row these those each p =
     let b : ℕ = bit_at (get_or those (p / 64) 0) (p % 64) in
     let low : a < 2 = bit_at-lt (get_or these (p / 64) 0) (p % 64) in
     let low' : b < 2 = bit_at-lt (get_or those (p / 64) 0) (p % 64) in
-    let same : bit_at (get_or row (p / 64) 0) (p % 64) ≡ max a b = ap (λ n. bit_at n (p % 64)) (each (p / 64)) ∙ bit_at_or (get_or these (p / 64) 0) (get_or those (p / 64) 0) (p % 64) in
-    (λ holds. one_or a b (sym same ∙ holds) low low',
-    ⊎_elim (λ one. same ∙ (let m : max a b ≡ 1 = omega (arith, one, low') in m)) (λ one. same ∙ (let m : max a b ≡ 1 = omega (arith, one, low) in m)))
+    let same : bit_at (get_or row (p / 64) 0) (p % 64) ≡ max a b = ap (λ n. bit_at n (p % 64)) (each (p / 64)) ∙ bit_at_or (get_or these (p / 64) 0) (get_or those (p / 64) 0) (p % 64) in (
+      λ holds. one_or a b (sym same ∙ holds) low low',
+      ⊎_elim (λ one. same ∙ (let m : max a b ≡ 1 = omega (arith, one, low') in m)) (λ one. same ∙ (let m : max a b ≡ 1 = omega (arith, one, low) in m)),
+    )
 
 pub holds_and : (row these those : List ℕ) → ((k : ℕ) → get_or row k 0 ≡ bit_and (get_or these k 0) (get_or those k 0)) → (p : ℕ) → Holds row p ↔ (Holds these p × Holds those p)
 holds_and row these those each p =
@@ -29,9 +30,10 @@ holds_and row these those each p =
     let b : ℕ = bit_at (get_or those (p / 64) 0) (p % 64) in
     let low : a < 2 = bit_at-lt (get_or these (p / 64) 0) (p % 64) in
     let low' : b < 2 = bit_at-lt (get_or those (p / 64) 0) (p % 64) in
-    let same : bit_at (get_or row (p / 64) 0) (p % 64) ≡ min a b = ap (λ n. bit_at n (p % 64)) (each (p / 64)) ∙ bit_at_and (get_or these (p / 64) 0) (get_or those (p / 64) 0) (p % 64) in
-    (λ holds. let one : min a b ≡ 1 = sym same ∙ holds in (omega (arith, one, low, low'), omega (arith, one, low, low')),
-    λ both. same ∙ (let m : min a b ≡ 1 = omega (arith, both.0, both.1) in m))
+    let same : bit_at (get_or row (p / 64) 0) (p % 64) ≡ min a b = ap (λ n. bit_at n (p % 64)) (each (p / 64)) ∙ bit_at_and (get_or these (p / 64) 0) (get_or those (p / 64) 0) (p % 64) in (
+      λ holds. let one : min a b ≡ 1 = sym same ∙ holds in (omega (arith, one, low, low'), omega (arith, one, low, low')),
+      λ both. same ∙ (let m : min a b ≡ 1 = omega (arith, both.0, both.1) in m),
+    )
 
 pub holds_or_and : (row old these those : List ℕ) → ((k : ℕ) → get_or row k 0 ≡ bit_or (get_or old k 0) (bit_and (get_or these k 0) (get_or those k 0))) → (p : ℕ) → Holds row p ↔ (Holds old p ⊎ (Holds these p × Holds those p))
 holds_or_and row old these those each p =
@@ -44,9 +46,10 @@ holds_or_and row old these those each p =
     let same : bit_at (get_or row (p / 64) 0) (p % 64) ≡ max d (min a b) =
     ap (λ n. bit_at n (p % 64)) (each (p / 64)) ∙ bit_at_or (get_or old (p / 64) 0) (bit_and (get_or these (p / 64) 0) (get_or those (p / 64) 0)) (p % 64)
     ∙ ap (λ n. max d n) (bit_at_and (get_or these (p / 64) 0) (get_or those (p / 64) 0) (p % 64)) in
-    let small : min a b < 2 = omega (arith, low) in
-    (λ holds. ⊎_elim (λ one. inl one) (λ one. inr (omega (arith, one, low, low'), omega (arith, one, low, low'))) (one_or d (min a b) (sym same ∙ holds) low'' small),
-    ⊎_elim (λ one. same ∙ (let m : max d (min a b) ≡ 1 = omega (arith, one, small) in m)) (λ both. same ∙ (let m : max d (min a b) ≡ 1 = omega (arith, both.0, both.1, low'') in m)))
+    let small : min a b < 2 = omega (arith, low) in (
+      λ holds. ⊎_elim (λ one. inl one) (λ one. inr (omega (arith, one, low, low'), omega (arith, one, low, low'))) (one_or d (min a b) (sym same ∙ holds) low'' small),
+      ⊎_elim (λ one. same ∙ (let m : max d (min a b) ≡ 1 = omega (arith, one, small) in m)) (λ both. same ∙ (let m : max d (min a b) ≡ 1 = omega (arith, both.0, both.1, low'') in m)),
+    )
 
 -- a number that isn't 0 has a bit
 some_bit : (n : ℕ) → n ≢ 0 → n < 2 ^ 64 → (t : ℕ) × (t < 64) × (bit_at n t ≡ 1)

@@ -1,5 +1,5 @@
 -- Sets in buckets: the links of a bucket lead over all of its sets, the newest first.
-use Rattle.std.proofs.Common.{◌≡◌, ◌≢◌, ℕ, ◌+◌, ◌-◌, ◌*◌, ◌/◌, ◌%◌, ◌^◌, ◌<◌, ◌≤◌, ◌⊎◌, Bool, true, false, eqb, List, [], ◌∷◌, ◌++◌, length, get_or, set, replicate, take, refl, sym, ap, ◌∙◌, subst, inl, inr, ⊎_elim, arith}
+use Rattle.std.proofs.Common.{◌≡◌, ◌≢◌, ℕ, ◌+◌, ◌-◌, ◌/◌, ◌^◌, ◌<◌, ◌≤◌, Bool, true, false, eqb, List, [], ◌∷◌, ◌++◌, length, get_or, set, replicate, take, refl, sym, ap, ◌∙◌, subst, ⊎_elim, arith}
 use Rattle.std.specs.List.{fold}
 use Rattle.std.specs.Cmp.Lexicographic.{pointwise}
 use Rattle.std.proofs.lemmas.Slice.Eq.{slice_eq-Decides}
@@ -36,9 +36,9 @@ module _ (sets : List (List ℕ)) (newest older : List ℕ) (indexed : IsIndexed
     within = omega (arith, is, indexed.newest_within bucket small);
     in_bucket = λ some. subst (λ n. 0 < n → bucket_of (row_at sets (n - 1)) ≡ bucket) (sym is) (indexed.newest_of bucket small) some;
     past = λ i above short same.
-      let most = indexed.newest_most i short in
-      let here : get_or newest (bucket_of (row_at sets i)) 0 ≡ get_or newest bucket 0 = ap (λ b. get_or newest b 0) same in
-      absurd (omega (arith, most, here, is, above));
+        let most = indexed.newest_most i short in
+        let here : get_or newest (bucket_of (row_at sets i)) 0 ≡ get_or newest bucket 0 = ap (λ b. get_or newest b 0) same in
+        absurd (omega (arith, most, here, is, above));
   }
 
   pub unfound_next : (set : List ℕ) (bucket at next : ℕ) → IsUnfound sets bucket set at → 0 < at → row_at sets (at - 1) ≢ set → next ≡ get_or older (at - 1) 0 → IsUnfound sets bucket set next
@@ -49,16 +49,16 @@ module _ (sets : List (List ℕ)) (newest older : List ℕ) (indexed : IsIndexed
         within = omega (arith, is, indexed.older_within i short, short);
         in_bucket = λ more. subst (λ n. 0 < n → bucket_of (row_at sets (n - 1)) ≡ bucket_of (row_at sets i)) (sym is) (indexed.older_of i short) more ∙ unfound.in_bucket some;
         past = λ j above short' same.
-          ⊎_elim
-          (λ less.
-          let most = indexed.older_most j i less short (same ∙ sym (unfound.in_bucket some)) in
-          absurd (omega (arith, most, is, above)))
-          (λ rest.
-          ⊎_elim
-          (λ at_it. subst (λ n. row_at sets n ≢ set) (sym at_it) other)
-          (λ not_it. unfound.past j (let up : at ≤ j = omega (arith, rest, not_it, some) in up) short' same)
-          (cases_eq j i))
-          (cases_lt j i);
+            ⊎_elim
+            (λ less.
+            let most = indexed.older_most j i less short (same ∙ sym (unfound.in_bucket some)) in
+            absurd (omega (arith, most, is, above)))
+            (λ rest.
+            ⊎_elim
+            (λ at_it. subst (λ n. row_at sets n ≢ set) (sym at_it) other)
+            (λ not_it. unfound.past j (let up : at ≤ j = omega (arith, rest, not_it, some) in up) short' same)
+            (cases_eq j i))
+            (cases_lt j i);
       }
 
   pub unfound_end : (set : List ℕ) (bucket : ℕ) → bucket ≡ bucket_of set → IsUnfound sets bucket set 0 → IsAbsent sets set
@@ -83,65 +83,65 @@ module _ (sets : List (List ℕ)) (newest older : List ℕ) (indexed : IsIndexed
         many_buckets = length-set newest bucket (n + 1) ∙ indexed.many_buckets;
         room = length-set older n (get_or newest bucket 0) ∙ indexed.room;
         newest_within = λ b small'.
-          ⊎_elim
-          (λ same. omega (arith, ap (λ k. get_or newest' k 0) same, newest_here, long))
-          (λ other. omega (arith, newest_other b other, indexed.newest_within b small', long))
-          (cases_eq b bucket);
+            ⊎_elim
+            (λ same. omega (arith, ap (λ k. get_or newest' k 0) same, newest_here, long))
+            (λ other. omega (arith, newest_other b other, indexed.newest_within b small', long))
+            (cases_eq b bucket);
         newest_of = λ b small' some.
-          ⊎_elim
-          (λ same.
-          let at : get_or newest' b 0 - 1 ≡ n = omega (arith, ap (λ k. get_or newest' k 0) same, newest_here) in
-          ap (λ k. bucket_of (row_at new k)) at ∙ ap bucket_of new_at ∙ sym is ∙ sym same)
-          (λ other.
-          let some' : 0 < get_or newest b 0 = omega (arith, some, newest_other b other) in
-          let short : get_or newest b 0 - 1 < n = omega (arith, some', indexed.newest_within b small') in
-          ap (λ k. bucket_of (row_at new (k - 1))) (newest_other b other) ∙ ap bucket_of (old_at (get_or newest b 0 - 1) short) ∙ indexed.newest_of b small' some')
-          (cases_eq b bucket);
+            ⊎_elim
+            (λ same.
+            let at : get_or newest' b 0 - 1 ≡ n = omega (arith, ap (λ k. get_or newest' k 0) same, newest_here) in
+            ap (λ k. bucket_of (row_at new k)) at ∙ ap bucket_of new_at ∙ sym is ∙ sym same)
+            (λ other.
+            let some' : 0 < get_or newest b 0 = omega (arith, some, newest_other b other) in
+            let short : get_or newest b 0 - 1 < n = omega (arith, some', indexed.newest_within b small') in
+            ap (λ k. bucket_of (row_at new (k - 1))) (newest_other b other) ∙ ap bucket_of (old_at (get_or newest b 0 - 1) short) ∙ indexed.newest_of b small' some')
+            (cases_eq b bucket);
         newest_most = λ i short.
-          ⊎_elim
-          (λ at.
-          let here : bucket_of (row_at new i) ≡ bucket = ap (λ k. bucket_of (row_at new k)) at ∙ ap bucket_of new_at ∙ sym is in
-          omega (arith, at, ap (λ b. get_or newest' b 0) here, newest_here))
-          (λ other.
-          let short' : i < n = omega (arith, short, long, other) in
-          let here : bucket_of (row_at new i) ≡ bucket_of (row_at sets i) = ap bucket_of (old_at i short') in
-          let most = indexed.newest_most i short' in
-          ⊎_elim
-          (λ same. omega (arith, short', ap (λ b. get_or newest' b 0) (here ∙ same), newest_here))
-          (λ apart. omega (arith, most, ap (λ b. get_or newest' b 0) here, newest_other (bucket_of (row_at sets i)) apart))
-          (cases_eq (bucket_of (row_at sets i)) bucket))
-          (cases_eq i n);
+            ⊎_elim
+            (λ at.
+            let here : bucket_of (row_at new i) ≡ bucket = ap (λ k. bucket_of (row_at new k)) at ∙ ap bucket_of new_at ∙ sym is in
+            omega (arith, at, ap (λ b. get_or newest' b 0) here, newest_here))
+            (λ other.
+            let short' : i < n = omega (arith, short, long, other) in
+            let here : bucket_of (row_at new i) ≡ bucket_of (row_at sets i) = ap bucket_of (old_at i short') in
+            let most = indexed.newest_most i short' in
+            ⊎_elim
+            (λ same. omega (arith, short', ap (λ b. get_or newest' b 0) (here ∙ same), newest_here))
+            (λ apart. omega (arith, most, ap (λ b. get_or newest' b 0) here, newest_other (bucket_of (row_at sets i)) apart))
+            (cases_eq (bucket_of (row_at sets i)) bucket))
+            (cases_eq i n);
         older_within = λ i short.
-          ⊎_elim
-          (λ at. omega (arith, at, ap (λ k. get_or older' k 0) at, older_here, within))
-          (λ other. let short' : i < n = omega (arith, short, long, other) in omega (arith, older_other i short', indexed.older_within i short'))
-          (cases_eq i n);
+            ⊎_elim
+            (λ at. omega (arith, at, ap (λ k. get_or older' k 0) at, older_here, within))
+            (λ other. let short' : i < n = omega (arith, short, long, other) in omega (arith, older_other i short', indexed.older_within i short'))
+            (cases_eq i n);
         older_of = λ i short some.
-          ⊎_elim
-          (λ at.
-          let value : get_or older' i 0 ≡ get_or newest bucket 0 = ap (λ k. get_or older' k 0) at ∙ older_here in
-          let some' : 0 < get_or newest bucket 0 = omega (arith, some, value) in
-          let short' : get_or newest bucket 0 - 1 < n = omega (arith, some', within) in
-          ap (λ k. bucket_of (row_at new (k - 1))) value ∙ ap bucket_of (old_at (get_or newest bucket 0 - 1) short') ∙ indexed.newest_of bucket small some' ∙ is ∙ sym (ap bucket_of new_at) ∙ ap (λ k. bucket_of (row_at new k)) (sym at))
-          (λ other.
-          let short' : i < n = omega (arith, short, long, other) in
-          let value = older_other i short' in
-          let some' : 0 < get_or older i 0 = omega (arith, some, value) in
-          let before : get_or older i 0 - 1 < n = omega (arith, some', indexed.older_within i short', short') in
-          ap (λ k. bucket_of (row_at new (k - 1))) value ∙ ap bucket_of (old_at (get_or older i 0 - 1) before) ∙ indexed.older_of i short' some' ∙ sym (ap bucket_of (old_at i short')))
-          (cases_eq i n);
+            ⊎_elim
+            (λ at.
+            let value : get_or older' i 0 ≡ get_or newest bucket 0 = ap (λ k. get_or older' k 0) at ∙ older_here in
+            let some' : 0 < get_or newest bucket 0 = omega (arith, some, value) in
+            let short' : get_or newest bucket 0 - 1 < n = omega (arith, some', within) in
+            ap (λ k. bucket_of (row_at new (k - 1))) value ∙ ap bucket_of (old_at (get_or newest bucket 0 - 1) short') ∙ indexed.newest_of bucket small some' ∙ is ∙ sym (ap bucket_of new_at) ∙ ap (λ k. bucket_of (row_at new k)) (sym at))
+            (λ other.
+            let short' : i < n = omega (arith, short, long, other) in
+            let value = older_other i short' in
+            let some' : 0 < get_or older i 0 = omega (arith, some, value) in
+            let before : get_or older i 0 - 1 < n = omega (arith, some', indexed.older_within i short', short') in
+            ap (λ k. bucket_of (row_at new (k - 1))) value ∙ ap bucket_of (old_at (get_or older i 0 - 1) before) ∙ indexed.older_of i short' some' ∙ sym (ap bucket_of (old_at i short')))
+            (cases_eq i n);
         older_most = λ earlier i less short same.
-          ⊎_elim
-          (λ at.
-          let before : earlier < n = omega (arith, less, at) in
-          let here : bucket_of (row_at sets earlier) ≡ bucket = ap bucket_of (sym (old_at earlier before)) ∙ same ∙ ap (λ k. bucket_of (row_at new k)) at ∙ ap bucket_of new_at ∙ sym is in
-          omega (arith, indexed.newest_most earlier before, ap (λ b. get_or newest b 0) here, ap (λ k. get_or older' k 0) at, older_here))
-          (λ other.
-          let short' : i < n = omega (arith, short, long, other) in
-          let before : earlier < n = omega (arith, less, short') in
-          let same' : bucket_of (row_at sets earlier) ≡ bucket_of (row_at sets i) = ap bucket_of (sym (old_at earlier before)) ∙ same ∙ ap bucket_of (old_at i short') in
-          omega (arith, older_other i short', indexed.older_most earlier i less short' same'))
-          (cases_eq i n);
+            ⊎_elim
+            (λ at.
+            let before : earlier < n = omega (arith, less, at) in
+            let here : bucket_of (row_at sets earlier) ≡ bucket = ap bucket_of (sym (old_at earlier before)) ∙ same ∙ ap (λ k. bucket_of (row_at new k)) at ∙ ap bucket_of new_at ∙ sym is in
+            omega (arith, indexed.newest_most earlier before, ap (λ b. get_or newest b 0) here, ap (λ k. get_or older' k 0) at, older_here))
+            (λ other.
+            let short' : i < n = omega (arith, short, long, other) in
+            let before : earlier < n = omega (arith, less, short') in
+            let same' : bucket_of (row_at sets earlier) ≡ bucket_of (row_at sets i) = ap bucket_of (sym (old_at earlier before)) ∙ same ∙ ap bucket_of (old_at i short') in
+            omega (arith, older_other i short', indexed.older_most earlier i less short' same'))
+            (cases_eq i n);
       }
 
 pub none_indexed : (newest older : List ℕ) → length newest ≡ 32768 → length older ≡ 16384 → ((i : ℕ) → get_or newest i 0 ≡ 0) → IsIndexed [] newest older

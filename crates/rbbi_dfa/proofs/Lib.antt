@@ -7,3 +7,7 @@ pub mod Bits
 pub mod RowLists
 pub mod Steps
 pub mod Buckets
+pub mod Lead
+pub mod Cells
+pub mod MarkLoops
+pub mod Joined

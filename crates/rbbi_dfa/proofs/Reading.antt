@@ -1,10 +1,10 @@
 -- Which positions can read the last code point of a word, from the first code point on.
-use Rattle.std.proofs.Common.{◌≡◌, ◌≢◌, ℕ, zero, suc, ◌+◌, ◌-◌, ◌<◌, ◌≤◌, ◌⊎◌, true, List, [], ◌∷◌, ◌++◌, length, take, drop, sym, refl, ap, ◌∙◌, subst, inl, inr, ⊎_elim, arith}
+use Rattle.std.proofs.Common.{◌≡◌, ◌≢◌, ℕ, ◌+◌, ◌-◌, ◌≤◌, ◌⊎◌, true, List, [], ◌∷◌, ◌++◌, length, take, drop, sym, refl, ap, ◌∙◌, subst, inl, inr, ⊎_elim, arith}
 use Rattle.std.specs.Prelude.{slice_range}
-use Rattle.std.proofs.lemmas.Bool.{cases_eq, cases_lt}
-use Rattle.std.proofs.lemmas.List.{length-append, length_push, take_all, take_at, drop_at, take-append-le, drop-append-le, length-take, length-drop}
-use Rattle.rbbi_model.specs.Rules.{Rule, LooksAhead, IsWordOf, IsFrontWordOf}
-use Rattle.rbbi_model.specs.Chains.{IsRule, IsPiece, EndsAt, Word, Chained, FrontEndsAt}
+use Rattle.std.proofs.lemmas.Bool.{cases_lt}
+use Rattle.std.proofs.lemmas.List.{length_push, take_all, take_at, drop-append-le, length-take, length-drop}
+use Rattle.rbbi_model.specs.Rules.{Rule, IsWordOf, IsFrontWordOf}
+use Rattle.rbbi_model.specs.Chains.{IsRule, EndsAt, Word, Chained, FrontEndsAt}
 use Rattle.rbbi_model.specs.LeafSets.{Reads, ReadsLast, BeginsToRead, IsChainedToRead}
 use Rattle.rbbi_model.proofs.RulesCover.{ends_lie}
 use Rattle.rbbi_dfa.specs.PositionAutomata.{Chainable}

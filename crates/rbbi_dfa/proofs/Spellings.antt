@@ -1,14 +1,14 @@
 -- A tree spells a word where it spells positions whose sets hold the word's code points, and so does a rule.
-use Rattle.std.proofs.Common.{◌≡◌, ◌≢◌, ℕ, zero, suc, ◌+◌, ◌-◌, ◌<◌, ◌≤◌, ◌⊎◌, List, [], ◌∷◌, ◌++◌, Option, Some, None, length, take, drop, sym, refl, ap, ◌∙◌, subst, inl, inr, ⊎_elim, append_assoc, arith}
-use Rattle.std.specs.Prelude.{slice_get, sum_by, flat_map, MatchOption, unwrap_or}
+use Rattle.std.proofs.Common.{◌≡◌, ℕ, zero, suc, ◌+◌, ◌<◌, List, [], ◌∷◌, ◌++◌, Option, Some, None, length, take, sym, refl, ap, ◌∙◌, subst, inl, inr, arith}
+use Rattle.std.specs.Prelude.{slice_get, sum_by, unwrap_or}
 use Rattle.std.specs.List.{AllByRecursion, AllZip, fold}
 use Rattle.std.specs.Option.{option_map_or}
-use Rattle.std.proofs.lemmas.List.{length-append, append-nil}
+use Rattle.std.proofs.lemmas.List.{length-append}
 use Rattle.rbbi_model.specs.Ranges.{Range, Has}
 use Rattle.rbbi_model.specs.Spelling.{Repetition, Tree, Leaf, Empty, Never, Then, Either, Repeat, Star, Plus, Quest, Allows, joined, Spells}
-use Rattle.rbbi_model.specs.Rules.{Rule, SpellsBoth, leaf_count, leaves_of}
+use Rattle.rbbi_model.specs.Rules.{Rule, leaf_count, leaves_of}
 use Rattle.rbbi_model.specs.Chains.{IsRule}
-use Rattle.rbbi_model.specs.LeafSets.{sets_of, sets_of_rule, all_sets, first_position, SpellsPositions, RuleSpellsPositions, Reads}
+use Rattle.rbbi_model.specs.LeafSets.{sets_of, sets_of_rule, all_sets, first_position, SpellsPositions}
 
 -- places in joined lists
 
@@ -134,11 +134,13 @@ module _ (all : List (List Range)) where
   spelled_from Empty first stands positions w spells z = empty_from w (subst (λ l. AllZip ReadsIn l w) spells z)
   spelled_from Never first stands positions w spells z = absurd spells
   spelled_from (Then front rest) first stands positions w (u, v, left, right, same) z =
-      let parts = zip_parts ReadsIn u v w (subst (λ l. AllZip ReadsIn l w) same z) in
-      (parts.front, parts.back,
-      spelled_from front first (stands_left first (sets_of front) (sets_of rest) stands) u parts.front left parts.first,
-      spelled_from rest (first + leaf_count front) (stands_right first (leaf_count front) (sets_of front) (sets_of rest) (sets_many front) stands) v parts.back right parts.second,
-      parts.whole)
+      let parts = zip_parts ReadsIn u v w (subst (λ l. AllZip ReadsIn l w) same z) in (
+        parts.front,
+        parts.back,
+        spelled_from front first (stands_left first (sets_of front) (sets_of rest) stands) u parts.front left parts.first,
+        spelled_from rest (first + leaf_count front) (stands_right first (leaf_count front) (sets_of front) (sets_of rest) (sets_many front) stands) v parts.back right parts.second,
+        parts.whole,
+      )
   spelled_from (Either front rest) first stands positions w (inl left) z =
       inl (spelled_from front first (stands_left first (sets_of front) (sets_of rest) stands) positions w left z)
   spelled_from (Either front rest) first stands positions w (inr right) z =

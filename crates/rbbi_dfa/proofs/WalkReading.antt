@@ -1,15 +1,14 @@
 -- How first, last and following positions are told by the words that rules begin to read: by exchanging spelled lists behind a
 -- position that they have in common.
-use Rattle.std.proofs.Common.{◌≡◌, ◌≢◌, ℕ, zero, suc, ◌+◌, ◌-◌, ◌<◌, ◌≤◌, ◌⊎◌, List, [], ◌∷◌, ◌++◌, Option, Some, None, length, take, drop, sym, refl, ap, ◌∙◌, subst, inl, inr, ⊎_elim, append_assoc, arith}
-use Rattle.std.specs.Prelude.{slice_get, MatchOption, IfSome, IsSome, unwrap_or}
+use Rattle.std.proofs.Common.{◌≡◌, ◌≢◌, ℕ, zero, suc, ◌+◌, ◌-◌, List, [], ◌∷◌, ◌++◌, Option, Some, None, length, take, sym, refl, ap, ◌∙◌, subst, inl, append_assoc, arith}
+use Rattle.std.specs.Prelude.{slice_get, MatchOption, IfSome, unwrap_or}
 use Rattle.std.specs.List.{AllByRecursion, AllZip}
-use Rattle.std.proofs.lemmas.Bool.{false≢true}
-use Rattle.std.proofs.lemmas.List.{nil_from_length, length-append, append-nil, length_push, take_at, same_from_push, length-take-le, take-append-drop}
+use Rattle.std.proofs.lemmas.List.{nil_from_length, append-nil, length_push, take_at}
 use Rattle.std.specs.Option.{option_map_or}
 use Rattle.rbbi_model.specs.Spelling.{Spells, Tree, Leaf, Empty, Never, Then, Either, Repeat, Star, Plus, Quest}
 use Rattle.rbbi_model.specs.Rules.{Rule, LooksAhead, SpellsBoth, IsWordOf, IsFrontWordOf, leaf_count, IsLawfulTree, IsLawfulRule}
 use Rattle.rbbi_model.specs.Chains.{IsRule}
-use Rattle.rbbi_model.specs.LeafSets.{sets_of, sets_of_rule, all_sets, first_position, SpellsPositions, RuleSpellsPositions, Reads, ReadsLast}
+use Rattle.rbbi_model.specs.LeafSets.{sets_of, all_sets, first_position, SpellsPositions, RuleSpellsPositions, Reads, ReadsLast}
 use Rattle.rbbi_positions.specs.FollowPositions.{IsSpelled, IsFrontSpelled}
 use Rattle.rbbi_positions.proofs.WalkLaws.{exchange, exchange_front}
 use Rattle.rbbi_dfa.proofs.Spellings.{StandsAt, zip_append, zip_parts, sets_many, stands_left, stands_right, rule_stands, spelled_to, spelled_from}
@@ -141,11 +140,12 @@ module _ (rules : List Rule) where
       let spells : SpellsBoth rule.front rest v = subst (λ o. MatchOption o (Spells rule.front v) (λ rest. SpellsBoth rule.front rest v)) same word.1 in
       let one = spelled_to (all_sets rules) rule.front first stands spells.0 spells.2 in
       let two = spelled_to (all_sets rules) rest (first + leaf_count rule.front) stands' spells.1 spells.3 in
-      let positions : List ℕ = one.0 ++ two.0 in
-      (positions,
-      subst (λ o. MatchOption o (SpellsPositions rule.front first positions) (λ rest. (u : List ℕ) × (w : List ℕ) × SpellsPositions rule.front first u × SpellsPositions rest (first + leaf_count rule.front) w × (positions ≡ u ++ w))) (sym same)
-      (one.0, two.0, one.1, two.1, refl),
-      subst (λ l. AllZip (Reads rules) positions l) (sym spells.4) (zip_append (Reads rules) one.0 two.0 spells.0 spells.1 one.2 two.2))
+      let positions : List ℕ = one.0 ++ two.0 in (
+        positions,
+        subst (λ o. MatchOption o (SpellsPositions rule.front first positions) (λ rest. (u : List ℕ) × (w : List ℕ) × SpellsPositions rule.front first u × SpellsPositions rest (first + leaf_count rule.front) w × (positions ≡ u ++ w))) (sym same)
+            (one.0, two.0, one.1, two.1, refl),
+        subst (λ l. AllZip (Reads rules) positions l) (sym spells.4) (zip_append (Reads rules) one.0 two.0 spells.0 spells.1 one.2 two.2),
+      )
 
   word_from : (rule : Rule) (rest : Option Tree) → rule.rest ≡ rest → (number : ℕ) → IsRule rules number rule → (positions v : List ℕ) → v ≢ [] →
       RuleSpellsPositions rule (first_position rules number) positions → AllZip (Reads rules) positions v → IsWordOf rule v
@@ -161,22 +161,28 @@ module _ (rules : List Rule) where
       let stands' = subst (λ o. StandsAt (all_sets rules) (first + leaf_count rule.front) (option_map_or sets_of o [])) same (stands_right (all_sets rules) first (leaf_count rule.front) (sets_of rule.front) (option_map_or sets_of rule.rest []) (sets_many rule.front) placed) in
       let both : (u : List ℕ) × (w : List ℕ) × SpellsPositions rule.front first u × SpellsPositions rest (first + leaf_count rule.front) w × (positions ≡ u ++ w) =
       subst (λ o. MatchOption o (SpellsPositions rule.front first positions) (λ rest. (u : List ℕ) × (w : List ℕ) × SpellsPositions rule.front first u × SpellsPositions rest (first + leaf_count rule.front) w × (positions ≡ u ++ w))) same spells in
-      let parts = zip_parts (Reads rules) both.0 both.1 v (subst (λ l. AllZip (Reads rules) l v) both.4 z) in
-      (some, subst (λ o. MatchOption o (Spells rule.front v) (λ rest. SpellsBoth rule.front rest v)) (sym same)
-      (parts.front, parts.back, spelled_from (all_sets rules) rule.front first stands both.0 parts.front both.2 parts.first, spelled_from (all_sets rules) rest (first + leaf_count rule.front) stands' both.1 parts.back both.3 parts.second, parts.whole))
+      let parts = zip_parts (Reads rules) both.0 both.1 v (subst (λ l. AllZip (Reads rules) l v) both.4 z) in (
+        some,
+        subst (λ o. MatchOption o (Spells rule.front v) (λ rest. SpellsBoth rule.front rest v)) (sym same)
+            (parts.front, parts.back, spelled_from (all_sets rules) rule.front first stands both.0 parts.front both.2 parts.first, spelled_from (all_sets rules) rest (first + leaf_count rule.front) stands' both.1 parts.back both.3 parts.second, parts.whole),
+      )
 
   -- a list of the front goes on to one of the rule
   front_goes_on : (rule : Rule) (rest : Option Tree) → rule.rest ≡ rest → (number : ℕ) → IsRule rules number rule → IsLawfulRule rule → (positions : List ℕ) →
       SpellsPositions rule.front (first_position rules number) positions → (more : List ℕ) × RuleSpellsPositions rule (first_position rules number) (positions ++ more)
   front_goes_on rule None same number is_rule lawful positions spelled =
-      let first : ℕ = first_position rules number in
-      ([], subst (λ o. MatchOption o (SpellsPositions rule.front first (positions ++ [])) (λ rest. (u : List ℕ) × (w : List ℕ) × SpellsPositions rule.front first u × SpellsPositions rest (first + leaf_count rule.front) w × (positions ++ [] ≡ u ++ w))) (sym same)
-      (subst (λ l. SpellsPositions rule.front first l) (sym (append-nil positions)) spelled))
+      let first : ℕ = first_position rules number in (
+        [],
+        subst (λ o. MatchOption o (SpellsPositions rule.front first (positions ++ [])) (λ rest. (u : List ℕ) × (w : List ℕ) × SpellsPositions rule.front first u × SpellsPositions rest (first + leaf_count rule.front) w × (positions ++ [] ≡ u ++ w))) (sym same)
+            (subst (λ l. SpellsPositions rule.front first l) (sym (append-nil positions)) spelled),
+      )
   front_goes_on rule (Some rest) same number is_rule lawful positions spelled =
       let first : ℕ = first_position rules number in
-      let more = some_spelled rest (first + leaf_count rule.front) (subst (λ o. IfSome o IsLawfulTree) same lawful.rest) in
-      (more.0, subst (λ o. MatchOption o (SpellsPositions rule.front first (positions ++ more.0)) (λ rest. (u : List ℕ) × (w : List ℕ) × SpellsPositions rule.front first u × SpellsPositions rest (first + leaf_count rule.front) w × (positions ++ more.0 ≡ u ++ w))) (sym same)
-      (positions, more.0, spelled, more.1, refl))
+      let more = some_spelled rest (first + leaf_count rule.front) (subst (λ o. IfSome o IsLawfulTree) same lawful.rest) in (
+        more.0,
+        subst (λ o. MatchOption o (SpellsPositions rule.front first (positions ++ more.0)) (λ rest. (u : List ℕ) × (w : List ℕ) × SpellsPositions rule.front first u × SpellsPositions rest (first + leaf_count rule.front) w × (positions ++ more.0 ≡ u ++ w))) (sym same)
+            (positions, more.0, spelled, more.1, refl),
+      )
 
 module _ (rules : List Rule) (lawful : AllByRecursion IsLawfulRule rules) where
   starts : (number p c : ℕ) (rule : Rule) → IsRule rules number rule → FirstOf rules number p → Reads rules p c → ReadsLast rules number rule (c ∷ []) p
@@ -213,10 +219,11 @@ module _ (rules : List Rule) (lawful : AllByRecursion IsLawfulRule rules) where
       let last = ends_with up.before (λ none. some (nil_from_length v (sym long ∙ ap length none))) in
       let whole : up.before ++ p ∷ up.after ≡ last.front ++ last.last ∷ p ∷ up.after =
       ap (λ l. l ++ p ∷ up.after) last.whole ∙ append_assoc last.front (last.last ∷ []) (p ∷ up.after) in
-      let spelled = subst (λ l. IsSpelled rules number l) whole up.spelled in
-      (last.last,
-      reads_last rules number last.last rule v is_rule (record { before = last.front; after = p ∷ up.after; spelled = spelled; reads = subst (λ l. AllZip (Reads rules) l v) last.whole parts.0 }),
-      (last.front, up.after, spelled))
+      let spelled = subst (λ l. IsSpelled rules number l) whole up.spelled in (
+        last.last,
+        reads_last rules number last.last rule v is_rule (record { before = last.front; after = p ∷ up.after; spelled = spelled; reads = subst (λ l. AllZip (Reads rules) l v) last.whole parts.0 }),
+        (last.front, up.after, spelled),
+      )
 
   reads_code : (number p c : ℕ) (rule : Rule) (v : List ℕ) → IsRule rules number rule → ReadsLast rules number rule (v ++ c ∷ []) p → Reads rules p c
   reads_code number p c rule v is_rule reads =
@@ -228,10 +235,11 @@ module _ (rules : List Rule) (lawful : AllByRecursion IsLawfulRule rules) where
       let one = word_to rules rule rule.rest refl number is_rule v word in
       let long = zip_long (Reads rules) one.0 v one.2 in
       let last = ends_with one.0 (λ none. word.0 (nil_from_length v (sym long ∙ ap length none))) in
-      let spelled : IsSpelled rules number (last.front ++ last.last ∷ []) = record { rule = rule; is_rule = is_rule; spelled = subst (λ l. RuleSpellsPositions rule (first_position rules number) l) last.whole one.1 } in
-      (last.last,
-      reads_last rules number last.last rule v is_rule (record { before = last.front; after = []; spelled = spelled; reads = subst (λ l. AllZip (Reads rules) l v) last.whole one.2 }),
-      (last.front, spelled))
+      let spelled : IsSpelled rules number (last.front ++ last.last ∷ []) = record { rule = rule; is_rule = is_rule; spelled = subst (λ l. RuleSpellsPositions rule (first_position rules number) l) last.whole one.1 } in (
+        last.last,
+        reads_last rules number last.last rule v is_rule (record { before = last.front; after = []; spelled = spelled; reads = subst (λ l. AllZip (Reads rules) l v) last.whole one.2 }),
+        (last.front, spelled),
+      )
 
   wholes : (number other p : ℕ) (rule : Rule) (v : List ℕ) → IsRule rules number rule → ReadsLast rules number rule v p → LastOf rules other p → (number ≡ other) × IsWordOf rule v
   wholes number other p rule v is_rule reads last =
@@ -250,10 +258,11 @@ module _ (rules : List Rule) (lawful : AllByRecursion IsLawfulRule rules) where
       let spelled = subst (λ l. SpellsPositions rule.front first l) last.whole one.1 in
       let more = front_goes_on rules rule rule.rest refl number is_rule (lawful_rule rules number rule lawful is_rule) (last.front ++ last.last ∷ []) spelled in
       let whole : IsSpelled rules number (last.front ++ last.last ∷ more.0) =
-      record { rule = rule; is_rule = is_rule; spelled = subst (λ l. RuleSpellsPositions rule first l) (append_assoc last.front (last.last ∷ []) more.0) more.1 } in
-      (last.last,
-      reads_last rules number last.last rule v is_rule (record { before = last.front; after = more.0; spelled = whole; reads = subst (λ l. AllZip (Reads rules) l v) last.whole one.2 }),
-      record { rule = rule; is_rule = is_rule; looks_ahead = word.0; others = last.front; spelled = spelled })
+      record { rule = rule; is_rule = is_rule; spelled = subst (λ l. RuleSpellsPositions rule first l) (append_assoc last.front (last.last ∷ []) more.0) more.1 } in (
+        last.last,
+        reads_last rules number last.last rule v is_rule (record { before = last.front; after = more.0; spelled = whole; reads = subst (λ l. AllZip (Reads rules) l v) last.whole one.2 }),
+        record { rule = rule; is_rule = is_rule; looks_ahead = word.0; others = last.front; spelled = spelled },
+      )
 
   front_wholes : (number other p : ℕ) (rule : Rule) (v : List ℕ) → IsRule rules number rule → ReadsLast rules number rule v p → FrontLastOf rules other p → (number ≡ other) × IsFrontWordOf rule v
   front_wholes number other p rule v is_rule reads last =

@@ -1,25 +1,21 @@
 -- The row that a word leads to has the marks of the rules.
-use Rattle.std.proofs.Common.{◌≡◌, ◌≢◌, ℕ, zero, suc, ◌+◌, ◌-◌, ◌<◌, ◌≤◌, ◌^◌, ◌⊎◌, true, not, eqb, List, [], ◌∷◌, ◌++◌, Some, None, length, map, take, sym, refl, ap, ◌∙◌, subst, inl, inr, ⊎_elim, arith}
-use Rattle.std.specs.Prelude.{◌↔◌, IsTrue, is_some, unwrap_or, bit_and}
+use Rattle.std.proofs.Common.{◌≡◌, ℕ, zero, suc, ◌+◌, ◌-◌, ◌<◌, ◌≤◌, ◌^◌, true, not, eqb, List, [], ◌∷◌, Some, None, length, map, take, sym, refl, ap, ◌∙◌, subst, inl, inr, ⊎_elim, arith}
+use Rattle.std.specs.Prelude.{is_some, unwrap_or}
 use Rattle.std.specs.Int.Bits.{and_zero_l}
-use Rattle.std.proofs.lemmas.Bool.{cases_eq, cases_lt, cases_order, cases_Bool, cond-true, cond-false, false≢true}
-use Rattle.rbbi_model.specs.Words.{IsWord}
+use Rattle.std.proofs.lemmas.Bool.{cases_eq, cases_lt, cases_Bool, cond-true, cond-false, false≢true}
 use Rattle.rbbi_model.specs.Places.{has_bit}
-use Rattle.rbbi_model.specs.Lists.{Member}
 use Rattle.rbbi_model.specs.Rules.{Rule, LooksAhead, look_aheads, AreLawful}
-use Rattle.rbbi_model.specs.Chains.{IsRule, EndsAt, FrontEndsAt, IsTagAt, AreTags}
+use Rattle.rbbi_model.specs.Chains.{IsRule, EndsAt, IsTagAt}
 use Rattle.rbbi_model.specs.Boundaries.{LookAheadEndsAt}
-use Rattle.rbbi_model.specs.Tables.{Table, CategoryRange, category_of, step, row_along, accept_of}
-use Rattle.rbbi_model.specs.LeafSets.{EndedBefore}
+use Rattle.rbbi_model.specs.Tables.{Table, CategoryRange, category_of, step, row_along}
 use Rattle.rbbi_model.specs.Marks.{Marks, no_marks, look_ahead_number, HasFront, IsCompleted, IsEnded, IsUnended, AreMarksAtEnd, AreMarks, marks_of, HasSameMarks}
-use Rattle.rbbi_dfa.specs.BitRows.{Holds, row_at}
+use Rattle.rbbi_dfa.specs.BitRows.{row_at}
 use Rattle.rbbi_dfa.specs.Automata.{with_ranges}
 use Rattle.rbbi_dfa.specs.PositionRows.{PositionRows}
-use Rattle.rbbi_dfa.specs.PositionAutomata.{Marked, FirstOf, LastOf, FollowsIn, FrontLastOf, LookAhead, Tagged, IsOfRules}
+use Rattle.rbbi_dfa.specs.PositionAutomata.{Marked, FirstOf, LastOf, FollowsIn, FrontLastOf, IsOfRules}
 use Rattle.rbbi_dfa.specs.Determinizing.{HasMark, AreMarksOf, IsDeterminized}
 use Rattle.rbbi_dfa.proofs.Reading.{ReadBy, read_ends, ends_read, front_read, read_front}
-use Rattle.rbbi_dfa.proofs.WalkReading.{same_rule}
-use Rattle.rbbi_dfa.proofs.Words.{laws, IsSetOf, IsDead, Ended, Unread, IsRowOf, Stop, Set, row_of_word}
+use Rattle.rbbi_dfa.proofs.Words.{laws, IsSetOf, Ended, Unread, IsRowOf, Stop, Set, row_of_word}
 
 no_rule : (rule : Rule) → None ≡ Some rule → ⊥
 no_rule rule is = grind arith
@@ -58,9 +54,11 @@ module _ (rules : List Rule) (lawful : AreLawful rules) (ranges : List CategoryR
 
     completed_mark : (number : ℕ) → LookAheadEndsAt rules w 0 (length w) number → HasMark set (Marked rows.completed) (look_ahead_number rules number)
     completed_mark number ends =
-        let read = ends_read rules (FirstOf rules) (LastOf rules) (FrontLastOf rules) (FollowsIn rules) (laws rules lawful ranges rows of) w number ends.ends in
-        (read.0, (is.holds read.0).1 read.1,
-        (of.completed read.0 (look_ahead_number rules number)).1 (number, record { rule = ends.rule; is_rule = ends.is_rule; looks_ahead = ends.looks_ahead }, read.2, refl))
+        let read = ends_read rules (FirstOf rules) (LastOf rules) (FrontLastOf rules) (FollowsIn rules) (laws rules lawful ranges rows of) w number ends.ends in (
+          read.0,
+          (is.holds read.0).1 read.1,
+          (of.completed read.0 (look_ahead_number rules number)).1 (number, record { rule = ends.rule; is_rule = ends.is_rule; looks_ahead = ends.looks_ahead }, read.2, refl),
+        )
 
     tag_mark : (tag : ℕ) → IsTagAt rules w 0 (length w) tag → HasMark set (Marked rows.tags) tag
     tag_mark tag at =
@@ -92,8 +90,8 @@ module _ (rules : List Rule) (lawful : AreLawful rules) (ranges : List CategoryR
             number = ends.0;
             ends = ends.1;
             first = λ other ends'.
-              let low = (are.accept.completed (look_ahead_number rules other) (completed_mark other ends')).1 in
-              ⊎_elim (λ less. absurd (omega (arith, low, ends.2, many, counts rules other ends.0 ends'.rule ends'.is_rule ends'.looks_ahead less))) (λ most. most) (cases_lt other ends.0);
+                let low = (are.accept.completed (look_ahead_number rules other) (completed_mark other ends')).1 in
+                ⊎_elim (λ less. absurd (omega (arith, low, ends.2, many, counts rules other ends.0 ends'.rule ends'.is_rule ends'.looks_ahead less))) (λ most. most) (cases_lt other ends.0);
             numbered = omega (arith, ends.2, many);
           }
 
@@ -113,8 +111,8 @@ module _ (rules : List Rule) (lawful : AreLawful rules) (ranges : List CategoryR
       unended_accept none =
           record {
             no_end = λ number ends.
-              let read = ends_read rules (FirstOf rules) (LastOf rules) (FrontLastOf rules) (FollowsIn rules) (laws rules lawful ranges rows of) w number ends in
-              omega (arith, none, are.accept.ended read.0 ((is.holds read.0).1 read.1) ((of.last read.0).1 (number, read.2)));
+                let read = ends_read rules (FirstOf rules) (LastOf rules) (FrontLastOf rules) (FollowsIn rules) (laws rules lawful ranges rows of) w number ends in
+                omega (arith, none, are.accept.ended read.0 ((is.holds read.0).1 read.1) ((of.last read.0).1 (number, read.2)));
             is_zero = none;
           }
 
@@ -125,9 +123,10 @@ module _ (rules : List Rule) (lawful : AreLawful rules) (ranges : List CategoryR
         no_fronts = are.no_fronts;
         statuses = record {
           rising = are.tags.rising;
-          exactly = λ tag.
-            (λ member. ⊎_elim (λ has. inl (mark_tag tag has)) (λ none. inr (none.0, λ other at. none.1 other (tag_mark other at))) ((are.tags.exactly tag).0 member),
-            λ tagged. (are.tags.exactly tag).1 (⊎_elim (λ at. inl (tag_mark tag at)) (λ none. inr (none.0, λ other has. none.1 other (mark_tag other has))) tagged));
+          exactly = λ tag. (
+            λ member. ⊎_elim (λ has. inl (mark_tag tag has)) (λ none. inr (none.0, λ other at. none.1 other (tag_mark other at))) ((are.tags.exactly tag).0 member),
+            λ tagged. (are.tags.exactly tag).1 (⊎_elim (λ at. inl (tag_mark tag at)) (λ none. inr (none.0, λ other has. none.1 other (mark_tag other has))) tagged),
+          );
         };
       }
 
@@ -138,15 +137,17 @@ module _ (rules : List Rule) (lawful : AreLawful rules) (ranges : List CategoryR
       λ number ends. let read = ends_read rules (FirstOf rules) (LastOf rules) (FrontLastOf rules) (FollowsIn rules) (laws rules lawful ranges rows of) w number ends in none read.0 read.1 in
       record {
         accept = inr (inr (record { no_end = no_end; is_zero = refl }));
-        fronts = λ small k.
-          (λ bit. absurd (no_bit k bit),
-          λ front. let read = front_read rules (FirstOf rules) (LastOf rules) (FrontLastOf rules) (FollowsIn rules) (laws rules lawful ranges rows of) w front.number front.front in absurd (none read.0 read.1));
+        fronts = λ small k. (
+          λ bit. absurd (no_bit k bit),
+          λ front. let read = front_read rules (FirstOf rules) (LastOf rules) (FrontLastOf rules) (FollowsIn rules) (laws rules lawful ranges rows of) w front.number front.front in absurd (none read.0 read.1),
+        );
         no_fronts = λ many. absurd (omega (arith, many));
         statuses = record {
           rising = tt;
-          exactly = λ tag.
-            (λ member. ⊎_elim (λ same. inr (sym same, λ other at. no_end at.number at.ends)) (λ out. absurd out) member,
-            λ tagged. ⊎_elim (λ at. absurd (no_end at.number at.ends)) (λ zero. inl (sym zero.0)) tagged);
+          exactly = λ tag. (
+            λ member. ⊎_elim (λ same. inr (sym same, λ other at. no_end at.number at.ends)) (λ out. absurd out) member,
+            λ tagged. ⊎_elim (λ at. absurd (no_end at.number at.ends)) (λ zero. inl (sym zero.0)) tagged,
+          );
         };
       }
 
@@ -167,6 +168,6 @@ module _ (rules : List Rule) (lawful : AreLawful rules) (ranges : List CategoryR
     has_same_marks = record {
       slashes = is.slashes ∙ of.slashes;
       each = λ w word some.
-        let here = row_marks w (row_along automaton 1 (map (category_of ranges) w)) (row_of_word rules lawful ranges rows of sets automaton is w some word) in
-        subst (λ r. AreMarks rules w (marks_of automaton r)) (sym (same_along 1 (map (category_of ranges) w))) here;
+          let here = row_marks w (row_along automaton 1 (map (category_of ranges) w)) (row_of_word rules lawful ranges rows of sets automaton is w some word) in
+          subst (λ r. AreMarks rules w (marks_of automaton r)) (sym (same_along 1 (map (category_of ranges) w))) here;
     }

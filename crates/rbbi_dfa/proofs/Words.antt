@@ -1,21 +1,19 @@
 -- The row that a word leads to is the set of the positions that can read its last code point.
-use Rattle.std.proofs.Common.{◌≡◌, ◌≢◌, ℕ, zero, suc, ◌+◌, ◌-◌, ◌<◌, ◌≤◌, ◌⊎◌, true, List, [], ◌∷◌, ◌++◌, length, map, sym, refl, ap, ◌∙◌, subst, inl, inr, ⊎_elim, append_assoc, arith}
+use Rattle.std.proofs.Common.{◌≡◌, ◌≢◌, ℕ, ◌+◌, ◌-◌, ◌<◌, ◌≤◌, List, [], ◌∷◌, ◌++◌, length, map, sym, refl, ap, ◌∙◌, subst, inl, inr, ⊎_elim, append_assoc, arith}
 use Rattle.std.specs.Prelude.{◌↔◌}
-use Rattle.std.specs.List.{AllByRecursion}
-use Rattle.std.proofs.lemmas.Bool.{cases_eq, cases_lt}
+use Rattle.std.proofs.lemmas.Bool.{cases_eq}
 use Rattle.std.proofs.lemmas.List.{length_push, append-nil}
 use Rattle.rbbi_model.specs.Words.{IsWord, IsCodePoint}
-use Rattle.rbbi_model.specs.Rules.{Rule, LooksAhead, AreLawful}
-use Rattle.rbbi_model.specs.Chains.{IsRule, EndsAt, FrontEndsAt}
+use Rattle.rbbi_model.specs.Rules.{Rule, AreLawful}
 use Rattle.rbbi_model.specs.Boundaries.{LookAheadEndsAt}
 use Rattle.rbbi_model.specs.Tables.{Table, CategoryRange, category_of, step, row_along}
 use Rattle.rbbi_model.specs.Marks.{look_ahead_number}
-use Rattle.rbbi_model.specs.LeafSets.{Reads, ReadsLast, EndedBefore}
+use Rattle.rbbi_model.specs.LeafSets.{EndedBefore}
 use Rattle.rbbi_dfa.specs.BitRows.{Holds, row_at}
 use Rattle.rbbi_dfa.specs.PositionRows.{PositionRows}
-use Rattle.rbbi_dfa.specs.PositionAutomata.{Marked, FirstOf, LastOf, FollowsIn, FrontLastOf, Chainable, LookAhead, IsOfRules}
-use Rattle.rbbi_dfa.specs.Determinizing.{CanFollow, EndsBy, ComesBy, IsStep, AreFollowers, Completes, IsReached, FromFirst, FromSet, IsSome, AreReachedSets, IsCell, LeadsOn, IsDeterminized}
-use Rattle.rbbi_dfa.proofs.Reading.{ReadBy, ReadingLaws, Comes, ComesFirst, ComesAfter, EndsNow, ComesChained, ReadsNext, reads_next, next_reads, read_ends, ends_read, front_read, read_front, ends_longer, ends_shorter, some_push}
+use Rattle.rbbi_dfa.specs.PositionAutomata.{FirstOf, LastOf, FollowsIn, FrontLastOf, IsOfRules}
+use Rattle.rbbi_dfa.specs.Determinizing.{ComesBy, IsStep, AreFollowers, Completes, IsReached, FromFirst, FromSet, IsSome, IsCell, IsDeterminized}
+use Rattle.rbbi_dfa.proofs.Reading.{ReadBy, ReadingLaws, Comes, reads_next, next_reads, read_ends, ends_read, ends_longer, ends_shorter, some_push}
 use Rattle.rbbi_dfa.proofs.WalkReading.{reading_laws}
 use Rattle.rbbi_model.proofs.RulesCover.{ends_lie}
 
@@ -65,51 +63,57 @@ module _ (rules : List Rule) (lawful : AreLawful rules) (ranges : List CategoryR
   AreCandidates w candidates = (p : ℕ) → Holds candidates p ↔ IsNext w p
 
   first_candidates : AreCandidates [] rows.first
-  first_candidates p =
-      (λ holds. let first = (of.first p).0 holds in
+  first_candidates p = (
+    λ holds. let first = (of.first p).0 holds in
         inl (record { none = refl; number = first.0; rule = first.1.1.rule; is_rule = first.1.1.is_rule; first = first.1 }),
-      ⊎_elim
-      (λ first. (of.first p).1 (first.number, first.first))
-      (λ after. absurd (after.some refl)))
+    ⊎_elim
+        (λ first. (of.first p).1 (first.number, first.first))
+        (λ after. absurd (after.some refl)),
+  )
 
   later_candidates : (w set candidates : List ℕ) → w ≢ [] → IsSetOf w set → AreFollowers rows set candidates → AreCandidates w candidates
-  later_candidates w set candidates some is followers p =
-      (λ holds.
-      let can = (followers p).0 holds in
-      let follows = (of.follow can.0 p).0 can.2 in
-      inr (record { some = some; number = follows.0; q = can.0; read = (is.holds can.0).0 can.1; follows = follows.1 }),
-      ⊎_elim
-      (λ first. absurd (some first.none))
-      (λ after. (followers p).1 (after.q, (is.holds after.q).1 after.read, (of.follow after.q p).1 (after.number, after.follows))))
+  later_candidates w set candidates some is followers p = (
+    λ holds.
+        let can = (followers p).0 holds in
+        let follows = (of.follow can.0 p).0 can.2 in
+        inr (record { some = some; number = follows.0; q = can.0; read = (is.holds can.0).0 can.1; follows = follows.1 }),
+    ⊎_elim
+        (λ first. absurd (some first.none))
+        (λ after. (followers p).1 (after.q, (is.holds after.q).1 after.read, (of.follow after.q p).1 (after.number, after.follows))),
+  )
 
   -- what comes by the category of a code point is what can read it next
   comes_reads : (w candidates : List ℕ) (c p : ℕ) → AreCandidates w candidates → IsCodePoint c → ComesBy rows candidates (category_of ranges c) p → ReadBy rules (w ++ c ∷ []) p
   comes_reads w candidates c p are code comes =
-      next_reads rules (FirstOf rules) (LastOf rules) (FrontLastOf rules) (FollowsIn rules) laws w c p
-      ((of.reads p c code).0 comes.0,
-      ⊎_elim
-      (λ candidate. inl ((are p).0 candidate))
-      (λ chained.
-      let first = (of.chained p).0 chained.0 in
-      let last = (of.last chained.1.0).0 chained.1.3 in
-      inr (record {
-        number = first.0;
-        chained = first.1;
-        first = first.2;
-        ends = record { number = last.0; q = chained.1.0; comes = (are chained.1.0).0 chained.1.1; reads = (of.reads chained.1.0 c code).0 chained.1.2; last = last.1 };
-      }))
-      comes.1)
+      next_reads rules (FirstOf rules) (LastOf rules) (FrontLastOf rules) (FollowsIn rules) laws w c p (
+        (of.reads p c code).0 comes.0,
+        ⊎_elim
+            (λ candidate. inl ((are p).0 candidate))
+            (λ chained.
+            let first = (of.chained p).0 chained.0 in
+            let last = (of.last chained.1.0).0 chained.1.3 in
+            inr (record {
+              number = first.0;
+              chained = first.1;
+              first = first.2;
+              ends = record { number = last.0; q = chained.1.0; comes = (are chained.1.0).0 chained.1.1; reads = (of.reads chained.1.0 c code).0 chained.1.2; last = last.1 };
+            }))
+            comes.1,
+      )
 
   reads_comes : (w candidates : List ℕ) (c p : ℕ) → AreCandidates w candidates → IsCodePoint c → ReadBy rules (w ++ c ∷ []) p → ComesBy rows candidates (category_of ranges c) p
   reads_comes w candidates c p are code read =
-      let next = reads_next rules (FirstOf rules) (LastOf rules) (FrontLastOf rules) (FollowsIn rules) laws w c p read in
-      ((of.reads p c code).1 next.0,
-      ⊎_elim
-      (λ comes. inl ((are p).1 comes))
-      (λ chained.
-      inr ((of.chained p).1 (chained.number, chained.chained, chained.first),
-      (chained.ends.q, (are chained.ends.q).1 chained.ends.comes, (of.reads chained.ends.q c code).1 chained.ends.reads, (of.last chained.ends.q).1 (chained.ends.number, chained.ends.last))))
-      next.1)
+      let next = reads_next rules (FirstOf rules) (LastOf rules) (FrontLastOf rules) (FollowsIn rules) laws w c p read in (
+        (of.reads p c code).1 next.0,
+        ⊎_elim
+            (λ comes. inl ((are p).1 comes))
+            (λ chained.
+            inr (
+              (of.chained p).1 (chained.number, chained.chained, chained.first),
+              (chained.ends.q, (are chained.ends.q).1 chained.ends.comes, (of.reads chained.ends.q c code).1 chained.ends.reads, (of.last chained.ends.q).1 (chained.ends.number, chained.ends.last)),
+            ))
+            next.1,
+      )
 
   -- a look-ahead rule is completed at the set where one ends with the word
   completes_ends : (w set : List ℕ) → IsSetOf w set → Completes rows set → (number : ℕ) × LookAheadEndsAt rules w 0 (length w) number
@@ -120,9 +124,12 @@ module _ (rules : List Rule) (lawful : AreLawful rules) (ranges : List CategoryR
 
   ends_completes : (w set : List ℕ) (number : ℕ) → IsSetOf w set → LookAheadEndsAt rules w 0 (length w) number → Completes rows set
   ends_completes w set number is ends =
-      let read = ends_read rules (FirstOf rules) (LastOf rules) (FrontLastOf rules) (FollowsIn rules) laws w number ends.ends in
-      (read.0, look_ahead_number rules number, (is.holds read.0).1 read.1,
-      (of.completed read.0 (look_ahead_number rules number)).1 (number, record { rule = ends.rule; is_rule = ends.is_rule; looks_ahead = ends.looks_ahead }, read.2, refl))
+      let read = ends_read rules (FirstOf rules) (LastOf rules) (FrontLastOf rules) (FollowsIn rules) laws w number ends.ends in (
+        read.0,
+        look_ahead_number rules number,
+        (is.holds read.0).1 read.1,
+        (of.completed read.0 (look_ahead_number rules number)).1 (number, record { rule = ends.rule; is_rule = ends.is_rule; looks_ahead = ends.looks_ahead }, read.2, refl),
+      )
 
   none_ends : (w : List ℕ) (number : ℕ) → ((p : ℕ) → ¬ ReadBy rules w p) → ¬ LookAheadEndsAt rules w 0 (length w) number
   none_ends w number none = λ ends.
@@ -170,6 +177,7 @@ module _ (rules : List Rule) (lawful : AreLawful rules) (ranges : List CategoryR
             let next = reads_next rules (FirstOf rules) (LastOf rules) (FrontLastOf rules) (FollowsIn rules) laws w c p read in
             let from : (r : ℕ) → IsNext w r → (q : ℕ) × ReadBy rules w q = λ r. ⊎_elim (λ first. absurd (some first.none)) (λ after. (after.q, after.read)) in
             ⊎_elim (λ comes. from p comes) (λ chained. from chained.ends.q chained.ends.comes) next.1
+
         still : IsDead w → IsDead (w ++ c ∷ [])
         still (Ended ended) = Ended (ended_longer rules w c ended)
         still (Unread before none) =
@@ -251,5 +259,5 @@ module _ (rules : List Rule) (lawful : AreLawful rules) (ranges : List CategoryR
         is_word = push_word before.w c before.is_word used.1;
         some = some_push before.w c;
         set_of = set_of_step before.w candidates set c (later_candidates before.w earlier candidates before.some before.set_of followers) used.1 (subst (λ k. IsStep rows candidates k set) (sym used.2) next)
-          (not_ended rules before.w c before.set_of.open_before (λ number ends. unfinished (ends_completes before.w earlier number before.set_of ends)));
+            (not_ended rules before.w c before.set_of.open_before (λ number ends. unfinished (ends_completes before.w earlier number before.set_of ends)));
       }

@@ -1,8 +1,9 @@
 -- Determinised automata: each row is a set of positions, and leads by each category to the set that comes next.
-use Rattle.std.specs.Prelude.{◌≡◌, ◌≢◌, ℕ, ◌+◌, ◌-◌, ◌*◌, ◌^◌, ◌<◌, ◌≤◌, ◌⊎◌, ◌↔◌, List, length, slice_index, IsTrue}
+use Rattle.std.specs.Prelude.{◌≡◌, ℕ, ◌+◌, ◌-◌, ◌*◌, ◌^◌, ◌<◌, ◌≤◌, ◌⊎◌, ◌↔◌, List, [], ◌∷◌, length, map, slice_index, slice_index_or, IsTrue, Vec}
+use Rattle.std.specs.Global.{Global}
 use Rattle.rbbi_model.specs.Places.{has_bit}
 use Rattle.rbbi_model.specs.Lists.{Member, IsRising}
-use Rattle.rbbi_model.specs.Tables.{Table, step}
+use Rattle.rbbi_model.specs.Tables.{Table, RowHead, empty_head, list_of, step}
 use Rattle.rbbi_model.specs.Marks.{Marks, no_marks, marks_of}
 use Rattle.rbbi_dfa.specs.BitRows.{Holds, row_at}
 use Rattle.rbbi_dfa.specs.PositionRows.{PositionRows}
@@ -99,7 +100,7 @@ abbrev pub LeadsOn : PositionRows → List (List ℕ) → List ℕ → (ℕ → 
 LeadsOn rows sets set next =
     (Completes rows set × ((category : ℕ) → category < rows.categories → next category ≡ 0))
     ⊎ (¬ Completes rows set × ((candidates : List ℕ) × AreFollowers rows set candidates
-      × ((category : ℕ) → category < rows.categories → IsCell rows sets candidates category (next category))))
+    × ((category : ℕ) → category < rows.categories → IsCell rows sets candidates category (next category))))
 
 -- the next row from a row, for a category, in cells that stand row after row
 abbrev pub cell_of : PositionRows → List ℕ → ℕ → ℕ → ℕ
@@ -127,6 +128,32 @@ pub record AddsCells (rows : PositionRows) (sets : List (List ℕ)) (candidates 
   pub kept : (k : ℕ) → k < length old → slice_index new k ≡ slice_index old k
   pub each : (category : ℕ) → category < count → IsCell rows sets candidates category (slice_index new (length old + category))
 
+-- so many cells that are 0 were added
+pub record AddsZeros (old new : List ℕ) (count : ℕ) : Type 0 where
+  pub many : length new ≡ length old + count
+  pub kept : (k : ℕ) → k < length old → slice_index new k ≡ slice_index old k
+  pub zeros : (k : ℕ) → length old ≤ k → slice_index new k ≡ 0
+
+-- the lists that vectors hold
+abbrev pub items_of : List (Vec ℕ Global) → List (List ℕ)
+items_of vectors = map (λ vector. vector.items) vectors
+
+-- the marks of a row by its head and the status lists
+abbrev pub marks_by : List RowHead → List (List ℕ) → ℕ → Marks
+marks_by heads lists row =
+    let head = slice_index_or heads row empty_head in
+    record { accept = head.accept; fronts = head.fronts; statuses = slice_index_or lists head.list [] }
+
+-- nothing is marked at rows 0 and 1, and at the rows of the first so many sets what is at the set
+pub record AreMarked (rows : PositionRows) (sets : List (List ℕ)) (heads : List RowHead) (lists : List (List ℕ)) (count : ℕ) : Type 0 where
+  pub many : length heads ≡ count + 2
+  pub many_lists : length lists ≡ count + 1
+  pub stop : slice_index_or heads 0 empty_head ≡ empty_head
+  pub start : slice_index_or heads 1 empty_head ≡ empty_head
+  pub first_list : slice_index_or lists 0 [] ≡ 0 ∷ []
+  pub lists_within : (row : ℕ) → row < count + 2 → (slice_index_or heads row empty_head).list < count + 1
+  pub each : (i : ℕ) → i < count → AreMarksOf rows (row_at sets i) (marks_by heads lists (i + 2))
+
 -- there are at least so many sets that are reached, none of them empty, and all of them different
 abbrev pub HasReachedSets : PositionRows → ℕ → Type 0
 HasReachedSets rows count = (sets : List (List ℕ)) × (length sets ≡ count) × AreReachedSets rows sets
@@ -141,6 +168,7 @@ pub record IsDeterminized (rows : PositionRows) (sets : List (List ℕ)) (automa
   pub stop : (category : ℕ) → category < rows.categories → step automaton 0 category ≡ 0
   pub start : (category : ℕ) → category < rows.categories → IsCell rows sets rows.first category (step automaton 1 category)
   pub each : (i : ℕ) → i < length sets → LeadsOn rows sets (row_at sets i) (step automaton (i + 2))
+  pub lists_within : (row : ℕ) → row < length automaton.rows → list_of automaton row < length automaton.lists
   pub plain_stop : marks_of automaton 0 ≡ no_marks
   pub plain_start : marks_of automaton 1 ≡ no_marks
   pub marks : (i : ℕ) → i < length sets → AreMarksOf rows (row_at sets i) (marks_of automaton (i + 2))

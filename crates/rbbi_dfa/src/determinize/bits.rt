@@ -1,5 +1,5 @@
 //! Sets of positions as rows of bits, 64 to a word, the least bit first.
-ghost use Rattle.std.specs.Prelude.{◌≡◌, ◌<◌, ◌/◌, ◌⊎◌, ◌↔◌, ℕ, length, IsTrue, false};
+ghost use Rattle.std.specs.Prelude.{◌≡◌, ◌<◌, ◌^◌, ◌⊎◌, ◌↔◌, ℕ, length, slice_index, IsTrue, false};
 ghost use Rattle.rbbi_dfa.specs.BitRows.{Holds, IsEmptyRow};
 ghost use Rattle.rbbi_dfa.specs.Determinizing.{IsSome};
 
@@ -39,8 +39,9 @@ pub(crate) fn unite(row: &mut [u64], other: &[u64])
 pub(crate) fn intersect(row: &mut [u64], these: &[u64], those: &[u64])
     requires these { length row.old ≡ length these.now }
     requires those { length row.old ≡ length those.now }
-    ensures { (position : ℕ) →
+    ensures holds { (position : ℕ) →
         Holds row.new position ↔ (Holds these.now position × Holds those.now position) }
+    ensures words { (k : ℕ) → slice_index row.new k < 2 ^ 64 }
 {
     for i in 0..row.len() {
         row[i] = these[i] & those[i];

@@ -98,6 +98,7 @@ impl LeafSets {
     /// The number of the set, which is added if it isn't there yet.
     pub(crate) fn number_of(&mut self, alloc: Global, set: &[u64]) -> Result<usize, DeterminizeErr>
         ensures number { IfOk result (λ i. (i < length self.new) × (row_at self.new i ≡ set.now)) }
+        ensures few { IfOk result (λ i. i < 16384) }
         ensures sets { KeepsOrAdds self.old set.now self.new }
         ensures refused { result ≡ Err DeterminizeErr.TooManySets →
             (length self.new ≡ 16384) × IsAbsent self.new set.now }

@@ -1,6 +1,6 @@
 //! Which set of positions comes next by a category.
 ghost use Rattle.std.specs.Prelude.{◌≡◌, ◌<◌, ℕ, length, IsTrue, false};
-ghost use Rattle.rbbi_dfa.specs.Determinizing.{IsStep, AreFollowers, Completes};
+ghost use Rattle.rbbi_dfa.specs.Determinizing.{IsStep, IsRow, AreFollowers, Completes};
 
 use crate::determinize::bits::{has, intersect, meet, unite, unite_common};
 use crate::determinize::position_rows::Rows;
@@ -25,7 +25,8 @@ pub(crate) fn step(rows: &Rows, candidates: &[u64], category: usize, next: &mut 
     requires category { category < rows.now.categories }
     requires candidates { length candidates.now ≡ rows.now.width }
     requires next { length next.old ≡ rows.now.width }
-    ensures { IsStep rows.now candidates.now category next.new }
+    ensures step { IsStep rows.now candidates.now category next.new }
+    ensures row { IsRow rows.now.width next.new }
 {
     let reads = rows.reads[category].as_slice();
     intersect(next, candidates, reads);

@@ -1,6 +1,5 @@
-use Rattle.std.proofs.Common.{◌≡◌, ℕ, ◌<◌, ◌≤◌, get_or}
+use Rattle.std.proofs.Common.{◌≡◌, ℕ, ◌<◌, get_or}
 use Rattle.std.specs.Prelude.{bit_and}
-use Rattle.std.specs.Int.RustNames.{bit_or}
 use Rattle.rbbi_dfa.proofs.determinize.bits.meet.Given as goal
 
 abbrev pub invariant-loop-i : goal.invariant-loop-i

@@ -1,9 +1,10 @@
-use Rattle.std.proofs.Common.{◌≡◌, ◌+◌, ◌<◌, length, get_or, sym, ap, ◌∙◌, subst, arith}
+use Rattle.std.proofs.Common.{◌+◌, ◌<◌, length, sym, ap, ◌∙◌, subst, arith}
 use Rattle.std.proofs.lemmas.Bool.{false≢true}
 use Rattle.rbbi_dfa.specs.BitRows.{row_at}
 use Rattle.rbbi_dfa.specs.PositionRows.{PositionRows}
-use Rattle.rbbi_dfa.proofs.RowLists.{items_of, items_at, items_many}
-use Rattle.rbbi_dfa.proofs.Steps.{AreFollowersUpTo, followers_none, followers_with, followers_without, followers_all}
+use Rattle.rbbi_dfa.specs.Determinizing.{items_of}
+use Rattle.rbbi_dfa.proofs.RowLists.{items_at, items_many}
+use Rattle.rbbi_dfa.proofs.Steps.{AreFollowersUpTo, followers_with, followers_without, followers_all}
 use Rattle.rbbi_dfa.proofs.determinize.step.follow.Goals as goal
 use Rattle.rbbi_dfa.proofs.determinize.step.follow.Goals.{then-has, else-has}
 

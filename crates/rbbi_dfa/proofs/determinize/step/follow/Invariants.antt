@@ -1,4 +1,4 @@
-use Rattle.rbbi_dfa.proofs.RowLists.{items_of}
+use Rattle.rbbi_dfa.specs.Determinizing.{items_of}
 use Rattle.rbbi_dfa.proofs.Steps.{AreFollowersUpTo}
 use Rattle.rbbi_dfa.proofs.determinize.step.follow.Given as goal
 

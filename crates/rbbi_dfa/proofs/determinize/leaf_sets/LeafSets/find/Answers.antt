@@ -1,8 +1,9 @@
-use Rattle.std.proofs.Common.{◌≡◌, ◌-◌, ◌<◌, List, ℕ, length, get_or, sym, ap, ◌∙◌, subst, arith}
+use Rattle.std.proofs.Common.{◌-◌, ◌<◌, length, sym, ap, ◌∙◌, arith}
 use Rattle.std.proofs.lemmas.List.{get_or_read}
 use Rattle.rbbi_dfa.specs.BitRows.{row_at}
-use Rattle.rbbi_dfa.proofs.RowLists.{items_of, items_at, items_many}
-use Rattle.rbbi_dfa.proofs.Buckets.{IsUnfound, unfound_start, unfound_next, same_rows, other_rows}
+use Rattle.rbbi_dfa.specs.Determinizing.{items_of}
+use Rattle.rbbi_dfa.proofs.RowLists.{items_at, items_many}
+use Rattle.rbbi_dfa.proofs.Buckets.{unfound_start, unfound_next, same_rows, other_rows}
 use Rattle.rbbi_dfa.proofs.determinize.leaf_sets.LeafSets.find.Goals as goal
 
 pub index-requires : goal.index-requires
@@ -17,9 +18,10 @@ pub returns-then-eq-clause-found : goal.returns-then-eq-clause-found
 returns-then-eq-clause-found c =
     let many = items_many c.self.inside.sets.items in
     let short : c.loop-at.at - 1 < length c.self.inside.sets.items = omega (arith, many, c.loop-at.invariant.within, c.loop-at-test.true) in
-    let at = items_at c.self.inside.sets.items (c.loop-at.at - 1) c.index-in-loop-at.result.now short c.index-in-loop-at.ensures in
-    (omega (arith, short, many, ap length c.self.view_is),
-    ap (λ l. row_at l (c.loop-at.at - 1)) (sym c.self.view_is) ∙ at ∙ sym c.as_slice.ensures.value ∙ same_rows c.as_slice.result.now c.args.set.now c.eq.result c.eq.ensures c.if-eq.true)
+    let at = items_at c.self.inside.sets.items (c.loop-at.at - 1) c.index-in-loop-at.result.now short c.index-in-loop-at.ensures in (
+      omega (arith, short, many, ap length c.self.view_is),
+      ap (λ l. row_at l (c.loop-at.at - 1)) (sym c.self.view_is) ∙ at ∙ sym c.as_slice.ensures.value ∙ same_rows c.as_slice.result.now c.args.set.now c.eq.result c.eq.ensures c.if-eq.true,
+    )
 
 pub loop-at-preserved : goal.loop-at-preserved
 loop-at-preserved c =
