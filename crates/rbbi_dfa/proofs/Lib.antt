@@ -11,3 +11,6 @@ pub mod Lead
 pub mod Cells
 pub mod MarkLoops
 pub mod Joined
+pub mod Determined
+pub mod Leading
+pub mod Counting

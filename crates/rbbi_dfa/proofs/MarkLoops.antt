@@ -277,6 +277,7 @@ module _ (rows : PositionRows) (sets : List (List ℕ)) where
     stop = ap (λ l. get_or l 0 empty_head) are_heads;
     start = ap (λ l. get_or l 1 empty_head) are_heads;
     first_list = ap (λ l. get_or l 0 []) are_lists;
+    numbered = λ i short. absurd (omega (arith, short));
     lists_within = λ row short.
         ⊎_elim
         (λ first. subst (λ (h : RowHead). h.list < 1) (sym (ap (λ r. get_or heads r empty_head) first ∙ ap (λ l. get_or l 0 empty_head) are_heads)) (omega arith))
@@ -302,6 +303,11 @@ module _ (rows : PositionRows) (sets : List (List ℕ)) where
         stop = old_at 0 (omega arith) ∙ are.stop;
         start = old_at 1 (omega arith) ∙ are.start;
         first_list = old_list 0 (omega arith) ∙ are.first_list;
+        numbered = λ i short.
+          ⊎_elim
+          (λ here. omega (arith, ap (λ n. (get_or new (n + 2) empty_head).list) here, ap (λ (h : RowHead). h.list) new_at, list, here))
+          (λ other. let before : i < count = omega (arith, short, other) in ap (λ (h : RowHead). h.list) (old_at (i + 2) (omega (arith, before))) ∙ are.numbered i before)
+          (cases_eq i count);
         lists_within = λ row short.
             ⊎_elim
             (λ here. omega (arith, ap (λ r. (get_or new r empty_head).list) here, ap (λ (h : RowHead). h.list) new_at, list))

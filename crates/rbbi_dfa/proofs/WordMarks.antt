@@ -21,7 +21,7 @@ no_rule : (rule : Rule) → None ≡ Some rule → ⊥
 no_rule rule is = grind arith
 
 -- a look-ahead rule counts among those before a later one
-counts : (rules : List Rule) (number later : ℕ) (rule : Rule) → IsRule rules number rule → LooksAhead rule → number < later → look_ahead_number rules number < look_ahead_number rules later
+pub counts : (rules : List Rule) (number later : ℕ) (rule : Rule) → IsRule rules number rule → LooksAhead rule → number < later → look_ahead_number rules number < look_ahead_number rules later
 counts [] number later rule is looks less = absurd (no_rule rule is)
 counts (r ∷ rs) number zero rule is looks less = absurd (omega (arith, less))
 counts (r ∷ rs) zero (suc later) rule is looks less =
@@ -41,18 +41,18 @@ counts (r ∷ rs) (suc number) (suc later) rule is looks less =
     (cases_Bool (is_some r.rest))
 
 -- 0 has no bit
-no_bit : (k : ℕ) → has_bit 0 k ≡ true → ⊥
+pub no_bit : (k : ℕ) → has_bit 0 k ≡ true → ⊥
 no_bit k is = false≢true (sym (ap (λ m. not (eqb m 0)) (and_zero_l (2 ^ k))) ∙ is)
 
 module _ (rules : List Rule) (lawful : AreLawful rules) (ranges : List CategoryRange) (rows : PositionRows) (of : IsOfRules rules ranges rows) where
   module _ (w set : List ℕ) (is : IsSetOf rules lawful ranges rows of w set) where
-    mark_completed : (mark : ℕ) → HasMark set (Marked rows.completed) mark → (number : ℕ) × LookAheadEndsAt rules w 0 (length w) number × (look_ahead_number rules number ≡ mark)
+    pub mark_completed : (mark : ℕ) → HasMark set (Marked rows.completed) mark → (number : ℕ) × LookAheadEndsAt rules w 0 (length w) number × (look_ahead_number rules number ≡ mark)
     mark_completed mark has =
         let last = (of.completed has.0 mark).0 has.2 in
         let ends = read_ends rules (FirstOf rules) (LastOf rules) (FrontLastOf rules) (FollowsIn rules) (laws rules lawful ranges rows of) w last.0 has.0 ((is.holds has.0).0 has.1) last.2 in
         (last.0, record { rule = last.1.rule; is_rule = last.1.is_rule; looks_ahead = last.1.looks_ahead; ends = ends }, last.3)
 
-    completed_mark : (number : ℕ) → LookAheadEndsAt rules w 0 (length w) number → HasMark set (Marked rows.completed) (look_ahead_number rules number)
+    pub completed_mark : (number : ℕ) → LookAheadEndsAt rules w 0 (length w) number → HasMark set (Marked rows.completed) (look_ahead_number rules number)
     completed_mark number ends =
         let read = ends_read rules (FirstOf rules) (LastOf rules) (FrontLastOf rules) (FollowsIn rules) (laws rules lawful ranges rows of) w number ends.ends in (
           read.0,
@@ -71,7 +71,7 @@ module _ (rules : List Rule) (lawful : AreLawful rules) (ranges : List CategoryR
         let ends = read_ends rules (FirstOf rules) (LastOf rules) (FrontLastOf rules) (FollowsIn rules) (laws rules lawful ranges rows of) w last.0 has.0 ((is.holds has.0).0 has.1) last.1 in
         record { number = last.0; rule = last.2.rule; is_rule = last.2.is_rule; ends = ends; tagged = last.2.tagged }
 
-    front_mark : (mark : ℕ) → HasFront rules w mark → HasMark set (Marked rows.fronts) mark
+    pub front_mark : (mark : ℕ) → HasFront rules w mark → HasMark set (Marked rows.fronts) mark
     front_mark mark front =
         let read = front_read rules (FirstOf rules) (LastOf rules) (FrontLastOf rules) (FollowsIn rules) (laws rules lawful ranges rows of) w front.number front.front in
         (read.0, (is.holds read.0).1 read.1, (of.fronts read.0 mark).1 (front.number, read.2, front.numbered))

@@ -18,7 +18,7 @@ use Rattle.rbbi_dfa.proofs.WalkReading.{reading_laws}
 use Rattle.rbbi_model.proofs.RulesCover.{ends_lie}
 
 module _ (rules : List Rule) where
-  ended_longer : (w : List ℕ) (c : ℕ) → EndedBefore rules w → EndedBefore rules (w ++ c ∷ [])
+  pub ended_longer : (w : List ℕ) (c : ℕ) → EndedBefore rules w → EndedBefore rules (w ++ c ∷ [])
   ended_longer w c ended =
       record {
         e = ended.e;
@@ -27,7 +27,7 @@ module _ (rules : List Rule) where
         ends = record { rule = ended.ends.rule; is_rule = ended.ends.is_rule; looks_ahead = ended.ends.looks_ahead; ends = ends_longer rules w c ended.e ended.number ended.ends.ends };
       }
 
-  ended_now : (w : List ℕ) (c number : ℕ) → LookAheadEndsAt rules w 0 (length w) number → EndedBefore rules (w ++ c ∷ [])
+  pub ended_now : (w : List ℕ) (c number : ℕ) → LookAheadEndsAt rules w 0 (length w) number → EndedBefore rules (w ++ c ∷ [])
   ended_now w c number ends =
       record {
         e = length w;
@@ -36,7 +36,7 @@ module _ (rules : List Rule) where
         ends = record { rule = ends.rule; is_rule = ends.is_rule; looks_ahead = ends.looks_ahead; ends = ends_longer rules w c (length w) number ends.ends };
       }
 
-  not_ended : (w : List ℕ) (c : ℕ) → ¬ EndedBefore rules w → ((number : ℕ) → ¬ LookAheadEndsAt rules w 0 (length w) number) → ¬ EndedBefore rules (w ++ c ∷ [])
+  pub not_ended : (w : List ℕ) (c : ℕ) → ¬ EndedBefore rules w → ((number : ℕ) → ¬ LookAheadEndsAt rules w 0 (length w) number) → ¬ EndedBefore rules (w ++ c ∷ [])
   not_ended w c before here = λ ended.
       let within : ended.e ≤ length w = omega (arith, ended.before, length_push w c) in
       let ends : LookAheadEndsAt rules w 0 ended.e ended.number =
@@ -45,6 +45,11 @@ module _ (rules : List Rule) where
       (λ at. here ended.number (subst (λ e. LookAheadEndsAt rules w 0 e ended.number) at ends))
       (λ other. before (record { e = ended.e; number = ended.number; before = omega (arith, within, other); ends = ends }))
       (cases_eq ended.e (length w))
+
+-- no position reads the last code point of the empty word
+pub nothing_reads : (rules : List Rule) (p : ℕ) → ¬ ReadBy rules [] p
+nothing_reads rules p =
+    ⊎_elim (λ begun. begun.reads.some refl) (λ chained. let lies = ends_lie rules [] 0 chained.m chained.before chained.ends in omega (arith, lies.0, lies.1))
 
 module _ (rules : List Rule) (lawful : AreLawful rules) (ranges : List CategoryRange) (rows : PositionRows) (of : IsOfRules rules ranges rows) where
   pub laws : ReadingLaws rules (FirstOf rules) (LastOf rules) (FrontLastOf rules) (FollowsIn rules)
@@ -116,13 +121,13 @@ module _ (rules : List Rule) (lawful : AreLawful rules) (ranges : List CategoryR
       )
 
   -- a look-ahead rule is completed at the set where one ends with the word
-  completes_ends : (w set : List ℕ) → IsSetOf w set → Completes rows set → (number : ℕ) × LookAheadEndsAt rules w 0 (length w) number
+  pub completes_ends : (w set : List ℕ) → IsSetOf w set → Completes rows set → (number : ℕ) × LookAheadEndsAt rules w 0 (length w) number
   completes_ends w set is completes =
       let last = (of.completed completes.0 completes.1).0 completes.3 in
       let ends = read_ends rules (FirstOf rules) (LastOf rules) (FrontLastOf rules) (FollowsIn rules) laws w last.0 completes.0 ((is.holds completes.0).0 completes.2) last.2 in
       (last.0, record { rule = last.1.rule; is_rule = last.1.is_rule; looks_ahead = last.1.looks_ahead; ends = ends })
 
-  ends_completes : (w set : List ℕ) (number : ℕ) → IsSetOf w set → LookAheadEndsAt rules w 0 (length w) number → Completes rows set
+  pub ends_completes : (w set : List ℕ) (number : ℕ) → IsSetOf w set → LookAheadEndsAt rules w 0 (length w) number → Completes rows set
   ends_completes w set number is ends =
       let read = ends_read rules (FirstOf rules) (LastOf rules) (FrontLastOf rules) (FollowsIn rules) laws w number ends.ends in (
         read.0,
@@ -131,19 +136,14 @@ module _ (rules : List Rule) (lawful : AreLawful rules) (ranges : List CategoryR
         (of.completed read.0 (look_ahead_number rules number)).1 (number, record { rule = ends.rule; is_rule = ends.is_rule; looks_ahead = ends.looks_ahead }, read.2, refl),
       )
 
-  none_ends : (w : List ℕ) (number : ℕ) → ((p : ℕ) → ¬ ReadBy rules w p) → ¬ LookAheadEndsAt rules w 0 (length w) number
+  pub none_ends : (w : List ℕ) (number : ℕ) → ((p : ℕ) → ¬ ReadBy rules w p) → ¬ LookAheadEndsAt rules w 0 (length w) number
   none_ends w number none = λ ends.
       let read = ends_read rules (FirstOf rules) (LastOf rules) (FrontLastOf rules) (FollowsIn rules) laws w number ends.ends in
       none read.0 read.1
 
   -- nothing ends before the word that is one code point long
   one_open : (c : ℕ) → ¬ EndedBefore rules (c ∷ [])
-  one_open c = not_ended rules [] c
-      (λ ended. omega (arith, ended.before))
-      (λ number ends. none_ends [] number nothing_reads ends)
-    where
-      nothing_reads : (p : ℕ) → ¬ ReadBy rules [] p
-      nothing_reads p = ⊎_elim (λ begun. begun.reads.some refl) (λ chained. let lies = ends_lie rules [] 0 chained.m chained.before chained.ends in omega (arith, lies.0, lies.1))
+  one_open c = not_ended rules [] c (λ ended. omega (arith, ended.before)) (λ number ends. none_ends [] number (nothing_reads rules) ends)
 
   module _ (sets : List (List ℕ)) (automaton : Table) (is : IsDeterminized rows sets automaton) where
     -- a look-ahead rule ended before the word does, or no position can read its last code point

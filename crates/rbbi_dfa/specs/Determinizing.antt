@@ -151,6 +151,7 @@ pub record AreMarked (rows : PositionRows) (sets : List (List ℕ)) (heads : Lis
   pub stop : slice_index_or heads 0 empty_head ≡ empty_head
   pub start : slice_index_or heads 1 empty_head ≡ empty_head
   pub first_list : slice_index_or lists 0 [] ≡ 0 ∷ []
+  pub numbered : (i : ℕ) → i < count → (slice_index_or heads (i + 2) empty_head).list ≡ i + 1
   pub lists_within : (row : ℕ) → row < count + 2 → (slice_index_or heads row empty_head).list < count + 1
   pub each : (i : ℕ) → i < count → AreMarksOf rows (row_at sets i) (marks_by heads lists (i + 2))
 
@@ -169,6 +170,7 @@ pub record IsDeterminized (rows : PositionRows) (sets : List (List ℕ)) (automa
   pub start : (category : ℕ) → category < rows.categories → IsCell rows sets rows.first category (step automaton 1 category)
   pub each : (i : ℕ) → i < length sets → LeadsOn rows sets (row_at sets i) (step automaton (i + 2))
   pub lists_within : (row : ℕ) → row < length automaton.rows → list_of automaton row < length automaton.lists
+  pub named : (list : ℕ) → list < length automaton.lists → (row : ℕ) × (row < length automaton.rows) × (list_of automaton row ≡ list)
   pub plain_stop : marks_of automaton 0 ≡ no_marks
   pub plain_start : marks_of automaton 1 ≡ no_marks
   pub marks : (i : ℕ) → i < length sets → AreMarksOf rows (row_at sets i) (marks_of automaton (i + 2))
