@@ -18,7 +18,7 @@ use Rattle.rbbi_dfa.proofs.Words.{nothing_reads}
 use Rattle.rbbi_dfa.proofs.Words.{IsSetOf, IsDead, Ended, Unread, IsRowOf, Stop, Set, row_of_word, HasWord, reached_word}
 
 -- a member of numbers that are all below a bound
-member_below : (xs : List ℕ) (n q : ℕ) → AllByRecursion (λ x. x < n) xs → list_any (eqb q) xs ≡ true → q < n
+pub member_below : (xs : List ℕ) (n q : ℕ) → AllByRecursion (λ x. x < n) xs → list_any (eqb q) xs ≡ true → q < n
 member_below [] n q all member = absurd (cc)
 member_below (x ∷ xs) n q all member =
     ⊎_elim
@@ -30,7 +30,7 @@ member_below (x ∷ xs) n q all member =
     or_right true b none both = absurd (false≢true (sym none))
     or_right false b none both = both
 
-all_by_index : {X : Type 0} (P : X → Type 0) (d : X) (xs : List X) → ((i : ℕ) → i < length xs → P (get_or xs i d)) → AllByRecursion P xs
+pub all_by_index : {X : Type 0} (P : X → Type 0) (d : X) (xs : List X) → ((i : ℕ) → i < length xs → P (get_or xs i d)) → AllByRecursion P xs
 all_by_index P d [] each = tt
 all_by_index P d (x ∷ xs) each = (each 0 (omega arith), all_by_index P d xs (λ i short. each (suc i) (omega (arith, short))))
 
@@ -84,16 +84,16 @@ module _ (rules : List Rule) (lawful : AreLawful rules) (ranges : List CategoryR
         many = long ∙ many;
         are_words = words_are sets all;
         not_empty = all_by_index (λ w. (position : ℕ) × InLeafSet rules w position) [] words
-          (λ i short.
-          let short' : i < length sets = omega (arith, short, long) in
-          let held = are.some i short' in
-          (held.0, (set_leaves (get_or words i []) (row_at sets i) (word_set sets all i [] short') held.0).0 held.1));
+            (λ i short.
+            let short' : i < length sets = omega (arith, short, long) in
+            let held = are.some i short' in
+            (held.0, (set_leaves (get_or words i []) (row_at sets i) (word_set sets all i [] short') held.0).0 held.1));
         apart = λ i j d less short same.
-          let short' : j < length sets = omega (arith, short, long) in
-          let short'' : i < length sets = omega (arith, less, short') in
-          let this = set_leaves (get_or words i d) (row_at sets i) (word_set sets all i d short'') in
-          let that = set_leaves (get_or words j d) (row_at sets j) (word_set sets all j d short') in
-          are.apart i j less short' (λ p. (λ holds. (that p).1 ((same p).0 ((this p).0 holds)), λ holds. (this p).1 ((same p).1 ((that p).0 holds))));
+            let short' : j < length sets = omega (arith, short, long) in
+            let short'' : i < length sets = omega (arith, less, short') in
+            let this = set_leaves (get_or words i d) (row_at sets i) (word_set sets all i d short'') in
+            let that = set_leaves (get_or words j d) (row_at sets j) (word_set sets all j d short') in
+            are.apart i j less short' (λ p. (λ holds. (that p).1 ((same p).0 ((this p).0 holds)), λ holds. (this p).1 ((same p).1 ((that p).0 holds))));
       }
 
   module _ (sets : List (List ℕ)) (automaton : Table) (is : IsDeterminized rows sets automaton) where

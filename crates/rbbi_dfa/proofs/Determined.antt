@@ -27,7 +27,7 @@ use Rattle.rbbi_dfa.proofs.WalkReading.{same_rule}
 use Rattle.rbbi_dfa.proofs.Words.{laws, IsSetOf, IsDead, Ended, Unread, IsRowOf, Stop, Set, row_of_word, HasWord, reached_word}
 use Rattle.rbbi_dfa.proofs.WordMarks.{counts}
 
-rule_within : (rules : List Rule) (number : ℕ) (rule : Rule) → IsRule rules number rule → number < length rules
+pub rule_within : (rules : List Rule) (number : ℕ) (rule : Rule) → IsRule rules number rule → number < length rules
 rule_within [] number rule is = absurd (cc)
 rule_within (r ∷ rules) zero rule is = omega arith
 rule_within (r ∷ rules) (suc number) rule is = omega (arith, rule_within rules number rule is)
@@ -39,7 +39,7 @@ number_small rules number rule is looks =
     (counts rules number (length rules) rule is looks (rule_within rules number rule is))
 
 -- a rising list whose only member is 0
-zero_alone : (statuses : List ℕ) → IsRising statuses → ((t : ℕ) → Member statuses t ↔ (t ≡ 0)) → statuses ≡ 0 ∷ []
+pub zero_alone : (statuses : List ℕ) → IsRising statuses → ((t : ℕ) → Member statuses t ↔ (t ≡ 0)) → statuses ≡ 0 ∷ []
 zero_alone statuses rising only =
     rising_same statuses (0 ∷ []) rising tt (λ t member. inl (sym ((only t).0 member))) (λ t member. (only t).1 (⊎_elim (λ same. sym same) (λ out. absurd out) member))
 
@@ -91,32 +91,33 @@ module _ (rules : List Rule) (lawful : AreLawful rules) (ranges : List CategoryR
       let slashes : automaton.slashes ≡ length (look_aheads rules) = is.slashes ∙ of.slashes in
       record {
         accept =
-          ⊎_elim
-          (λ small. omega (arith, small))
-          (λ many.
-          let has = marks.accept.is_completed many in
-          let number = (of.completed has.0 (accept_of automaton row - 2)).0 has.2 in
-          omega (arith, many, number.3, number_small rules number.0 number.1.rule number.1.is_rule number.1.looks_ahead, slashes))
-          (cases_lt (accept_of automaton row) 2);
+            ⊎_elim
+            (λ small. omega (arith, small))
+            (λ many.
+            let has = marks.accept.is_completed many in
+            let number = (of.completed has.0 (accept_of automaton row - 2)).0 has.2 in
+            omega (arith, many, number.3, number_small rules number.0 number.1.rule number.1.is_rule number.1.looks_ahead, slashes))
+            (cases_lt (accept_of automaton row) 2);
         fronts = subst (λ n. fronts_of automaton row < 2 ^ n) (sym is.slashes) marks.small_fronts;
         list = is.lists_within row (omega (arith, short, is.many));
         next = λ category within. set_next i category short (omega (arith, within, is.categories));
         unread = set_unread i short;
         unended = λ none.
-          let no_tag : (tag : ℕ) → HasMark set (Marked rows.tags) tag → ⊥ =
-          λ tag has.
-          let tagged = (of.tags has.0 tag).0 has.2 in
-          let one = marks.accept.ended has.0 has.1 ((of.last has.0).1 (tagged.0, tagged.1)) in
-          omega (arith, none, one) in
-          zero_alone (statuses_of automaton (list_of automaton row)) marks.tags.rising
-          (λ t. (λ member. ⊎_elim (λ has. absurd (no_tag t has)) (λ nothing. nothing.0) ((marks.tags.exactly t).0 member), λ same. (marks.tags.exactly t).1 (inr (same, no_tag))));
-        completed = λ many.
-          (marks.no_fronts many,
+            let no_tag : (tag : ℕ) → HasMark set (Marked rows.tags) tag → ⊥ =
+            λ tag has.
+            let tagged = (of.tags has.0 tag).0 has.2 in
+            let one = marks.accept.ended has.0 has.1 ((of.last has.0).1 (tagged.0, tagged.1)) in
+            omega (arith, none, one) in
+            zero_alone (statuses_of automaton (list_of automaton row)) marks.tags.rising
+            (λ t. (λ member. ⊎_elim (λ has. absurd (no_tag t has)) (λ nothing. nothing.0) ((marks.tags.exactly t).0 member), λ same. (marks.tags.exactly t).1 (inr (same, no_tag))));
+        completed = λ many. (
+          marks.no_fronts many,
           λ category within.
-          ⊎_elim
-          (λ stops. stops.1 category (omega (arith, within, is.categories)))
-          (λ goes. let has = marks.accept.is_completed many in absurd (goes.0 (has.0, accept_of automaton row - 2, has.1, has.2)))
-          (is.each i short));
+              ⊎_elim
+              (λ stops. stops.1 category (omega (arith, within, is.categories)))
+              (λ goes. let has = marks.accept.is_completed many in absurd (goes.0 (has.0, accept_of automaton row - 2, has.1, has.2)))
+              (is.each i short),
+        );
       }
 
   pub each_row : (row : ℕ) → row < length automaton.rows → IsAutomatonRow automaton row
@@ -167,7 +168,9 @@ module _ (rules : List Rule) (lawful : AreLawful rules) (ranges : List CategoryR
       let i : ℕ = row - 2 in
       let at : i + 2 ≡ row = omega (arith, some, more) in
       let short' : i < length sets = omega (arith, short, is.many, at) in
-      let word = set_word i short' in
-      (map (category_of ranges) word.w, categories_way word.w,
-      row_is word.w (row_along automaton 1 (map (category_of ranges) word.w)) i (row_of_word rules lawful ranges rows of sets automaton is word.w word.some word.is_word) short' word.set_of ∙ at))
+      let word = set_word i short' in (
+        map (category_of ranges) word.w,
+        categories_way word.w,
+        row_is word.w (row_along automaton 1 (map (category_of ranges) word.w)) i (row_of_word rules lawful ranges rows of sets automaton is word.w word.some word.is_word) short' word.set_of ∙ at,
+      ))
       (cases_eq row 1)

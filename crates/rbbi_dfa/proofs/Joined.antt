@@ -32,13 +32,13 @@ is_determinized rows sets categories slashes heads lists cells same same_slashes
       each = λ i short. lead_kept rows sets sets (row_at sets i) (cell_of rows cells (i + 2)) (step automaton (i + 2)) (begin_refl rows sets) (λ category within. at (i + 2) category) (led.each i short);
       lists_within = λ row short. omega (arith, marked.lists_within row (omega (arith, short, marked.many)), marked.many_lists);
       named = λ list short.
-        ⊎_elim
-        (λ first. (0, omega (arith, marked.many), ap (λ (h : RowHead). h.list) marked.stop ∙ sym first))
-        (λ other.
-        let i : ℕ = list - 1 in
-        let before : i < length sets = omega (arith, short, other, marked.many_lists) in
-        (i + 2, omega (arith, before, marked.many), marked.numbered i before ∙ (let e : i + 1 ≡ list = omega (arith, other) in e)))
-        (cases_eq list 0);
+          ⊎_elim
+          (λ first. (0, omega (arith, marked.many), ap (λ (h : RowHead). h.list) marked.stop ∙ sym first))
+          (λ other.
+          let i : ℕ = list - 1 in
+          let before : i < length sets = omega (arith, short, other, marked.many_lists) in
+          (i + 2, omega (arith, before, marked.many), marked.numbered i before ∙ (let e : i + 1 ≡ list = omega (arith, other) in e)))
+          (cases_eq list 0);
       plain_stop = plain (get_or heads 0 empty_head) marked.stop;
       plain_start = plain (get_or heads 1 empty_head) marked.start;
       marks = marked.each;

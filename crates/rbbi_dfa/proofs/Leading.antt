@@ -80,9 +80,10 @@ module _ (rules : List Rule) (lawful : AreLawful rules) where
       let both = length-append u v in
       let more : 0 < length v = ⊎_elim (λ none. absurd (some (nil_from_length v none))) (λ other. omega (arith, other)) (cases_eq (length v) 0) in
       let short : length u ≤ e - s = omega (arith, long, both, ap length same) in
-      let width : s + length u - s ≡ length u = omega arith in
-      (omega (arith, long, both, ap length same, more, starts),
-      ap (λ n. take n (drop s x)) width ∙ sym (take-take (length u) (e - s) (drop s x) short) ∙ ap (λ l. take (length u) l) same ∙ take_at u v (length u) refl)
+      let width : s + length u - s ≡ length u = omega arith in (
+        omega (arith, long, both, ap length same, more, starts),
+        ap (λ n. take n (drop s x)) width ∙ sym (take-take (length u) (e - s) (drop s x) short) ∙ ap (λ l. take (length u) l) same ∙ take_at u v (length u) refl,
+      )
 
   cut_with : (x : List ℕ) (s e : ℕ) (rule : Rule) (rest : Option Tree) → rule.rest ≡ rest → LooksAhead rule → IsLawfulRule rule → IsPiece x s e (IsWordOf rule) → (q : ℕ) × (q < e) × IsPiece x s q (IsFrontWordOf rule)
   cut_with x s e rule None same looks is_lawful piece = absurd (false≢true (sym (ap is_some same) ∙ looks))
@@ -227,9 +228,11 @@ module _ (rules : List Rule) (lawful : AreLawful rules) where
         let at_start : row_along automaton 1 way ≡ 1 = ap (λ l. row_along automaton 1 l) (sym word.2 ∙ ap (λ l. map (category_of ranges) l) none) in
         omega (arith, accept, ap (λ r. accept_of automaton r) at_start, ap (λ (m : Marks). m.accept) is.plain_start) in
         let found = at_end w (row_along automaton 1 (map (category_of ranges) w)) word.1 (ap (λ r. accept_of automaton r) along ∙ accept) (row_of_word rules lawful ranges rows of sets automaton is w some word.1) in
-        let long : length way ≡ length w = sym (ap length word.2) ∙ length-map w (category_of ranges) in
-        (found.0, omega (arith, found.1, long),
-        subst (λ l. IsTrue (has_bit (fronts_of automaton (row_along automaton 1 l)) k)) (sym (take-map (category_of ranges) found.0 w) ∙ ap (λ l. take found.0 l) word.2) found.2))
+        let long : length way ≡ length w = sym (ap length word.2) ∙ length-map w (category_of ranges) in (
+          found.0,
+          omega (arith, found.1, long),
+          subst (λ l. IsTrue (has_bit (fronts_of automaton (row_along automaton 1 l)) k)) (sym (take-map (category_of ranges) found.0 w) ∙ ap (λ l. take found.0 l) word.2) found.2,
+        ))
         (λ stops.
         let at_stop = stops 1 (omega (arith, is.many)) in
         absurd (omega (arith, accept, ap (λ r. accept_of automaton r) at_stop, ap (λ (m : Marks). m.accept) is.plain_stop)))

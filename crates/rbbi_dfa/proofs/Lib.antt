@@ -14,3 +14,4 @@ pub mod Joined
 pub mod Determined
 pub mod Leading
 pub mod Counting
+pub mod Valid

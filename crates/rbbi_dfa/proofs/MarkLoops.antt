@@ -304,10 +304,10 @@ module _ (rows : PositionRows) (sets : List (List ℕ)) where
         start = old_at 1 (omega arith) ∙ are.start;
         first_list = old_list 0 (omega arith) ∙ are.first_list;
         numbered = λ i short.
-          ⊎_elim
-          (λ here. omega (arith, ap (λ n. (get_or new (n + 2) empty_head).list) here, ap (λ (h : RowHead). h.list) new_at, list, here))
-          (λ other. let before : i < count = omega (arith, short, other) in ap (λ (h : RowHead). h.list) (old_at (i + 2) (omega (arith, before))) ∙ are.numbered i before)
-          (cases_eq i count);
+            ⊎_elim
+            (λ here. omega (arith, ap (λ n. (get_or new (n + 2) empty_head).list) here, ap (λ (h : RowHead). h.list) new_at, list, here))
+            (λ other. let before : i < count = omega (arith, short, other) in ap (λ (h : RowHead). h.list) (old_at (i + 2) (omega (arith, before))) ∙ are.numbered i before)
+            (cases_eq i count);
         lists_within = λ row short.
             ⊎_elim
             (λ here. omega (arith, ap (λ r. (get_or new r empty_head).list) here, ap (λ (h : RowHead). h.list) new_at, list))

@@ -7,6 +7,7 @@ ghost use Rattle.rbbi_dfa.specs.Determinizing.{HasReachedSets, IsDeterminized, i
 
 mod bits;
 mod error;
+mod laws;
 mod leaf_sets;
 mod marks;
 mod position_rows;
