@@ -1,5 +1,5 @@
 -- One step: what can follow a set, and what of it comes by a category.
-use Rattle.std.proofs.Common.{◌≡◌, ℕ, ◌+◌, ◌/◌, ◌%◌, ◌<◌, ◌≤◌, ◌⊎◌, ◌↔◌, List, [], length, get_or, sym, ap, ◌∙◌, subst, inl, inr, ⊎_elim, arith}
+use Rattle.std.proofs.Common.{◌≡◌, ℕ, ◌+◌, ◌/◌, ◌%◌, ◌<◌, ◌≤◌, ◌⊎◌, ◌↔◌, List, [], length, get_or, sym, ap, ◌∙◌, subst, inl, inr, ⊎_elim, arith, ◌*◌}
 use Rattle.std.proofs.lemmas.Bool.{cases_lt, cases_eq}
 use Rattle.std.proofs.lemmas.List.{get_or_past, get_or_default}
 use Rattle.std.proofs.lemmas.Nat.Bits.{bit_at-zero}
@@ -7,17 +7,12 @@ use Rattle.std.specs.Int.{bit_at}
 use Rattle.rbbi_dfa.specs.BitRows.{Holds, row_at}
 use Rattle.rbbi_dfa.specs.PositionRows.{PositionMark, PositionRows}
 use Rattle.rbbi_dfa.specs.PositionAutomata.{Marked}
-use Rattle.rbbi_dfa.specs.Determinizing.{IsStep, AreFollowers}
+use Rattle.rbbi_dfa.specs.Determinizing.{IsStep, AreFollowers, AreFollowersUpTo}
 
 pub empty_holds : (row : List ℕ) (p : ℕ) → row ≡ [] → ¬ Holds row p
 empty_holds row p none = λ holds.
     let zero : bit_at (get_or row (p / 64) 0) (p % 64) ≡ 0 = ap (λ l. bit_at (get_or l (p / 64) 0) (p % 64)) none ∙ bit_at-zero (p % 64) in
     omega (arith, zero, holds)
-
--- what can follow one of the first so many positions
-abbrev pub AreFollowersUpTo : List (List ℕ) → List ℕ → ℕ → List ℕ → Type 0
-AreFollowersUpTo follow set i candidates =
-    (p : ℕ) → Holds candidates p ↔ ((q : ℕ) × (q < i) × Holds set q × Holds (row_at follow q) p)
 
 pub followers_none : (follow : List (List ℕ)) (set candidates : List ℕ) → ((p : ℕ) → ¬ Holds candidates p) → AreFollowersUpTo follow set 0 candidates
 followers_none follow set candidates none p = (λ holds. absurd (none p holds), λ few. absurd (omega (arith, few.1)))
@@ -47,14 +42,41 @@ followers_without follow set candidates i before absent p = (
       (cases_eq q i),
 )
 
-pub followers_all : (rows : PositionRows) (set candidates : List ℕ) (i : ℕ) → length rows.follow ≤ i → AreFollowersUpTo rows.follow set i candidates → AreFollowers rows set candidates
+-- a position past the rows is followed by none
+pub followers_past : (follow : List (List ℕ)) (set candidates : List ℕ) (i : ℕ) → AreFollowersUpTo follow set i candidates → length follow ≤ i → AreFollowersUpTo follow set (i + 1) candidates
+followers_past follow set candidates i before past p = (
+  λ holds. let earlier = (before p).0 holds in (earlier.0, omega (arith, earlier.1), earlier.2, earlier.3),
+  λ (q, short, at, follows).
+      ⊎_elim
+      (λ same. absurd (empty_holds (row_at follow q) p (get_or_past follow q [] (omega (arith, past, same))) follows))
+      (λ other. (before p).1 (q, omega (arith, short, other), at, follows))
+      (cases_eq q i),
+)
+
+-- a word that is 0 has no position
+pub followers_skip : (follow : List (List ℕ)) (set candidates : List ℕ) (i : ℕ) → AreFollowersUpTo follow set (64 * i) candidates → get_or set i 0 ≡ 0 → AreFollowersUpTo follow set (64 * i + 64) candidates
+followers_skip follow set candidates i before none p = (
+  λ holds. let earlier = (before p).0 holds in (earlier.0, omega (arith, earlier.1), earlier.2, earlier.3),
+  λ (q, short, at, follows).
+      ⊎_elim
+      (λ less. (before p).1 (q, less, at, follows))
+      (λ within.
+      let word : q / 64 ≡ i = omega (arith, short, within) in
+      let bit : bit_at (get_or set (q / 64) 0) (q % 64) ≡ 0 = ap (λ n. bit_at (get_or set n 0) (q % 64)) word ∙ ap (λ n. bit_at n (q % 64)) none ∙ bit_at-zero (q % 64) in
+      absurd (omega (arith, bit, at)))
+      (cases_lt q (64 * i)),
+)
+
+pub followers_all : (rows : PositionRows) (set candidates : List ℕ) (i : ℕ) → length set ≤ i → AreFollowersUpTo rows.follow set (64 * i) candidates → AreFollowers rows set candidates
 followers_all rows set candidates i all before p = (
   λ holds. let few = (before p).0 holds in (few.0, few.2, few.3),
   λ (q, at, follows).
       ⊎_elim
       (λ short. (before p).1 (q, short, at, follows))
-      (λ past. absurd (empty_holds (row_at rows.follow q) p (get_or_past rows.follow q [] (omega (arith, all, past))) follows))
-      (cases_lt q i),
+      (λ past.
+      let bit : bit_at (get_or set (q / 64) 0) (q % 64) ≡ 0 = ap (λ n. bit_at n (q % 64)) (get_or_past set (q / 64) 0 (omega (arith, all, past))) ∙ bit_at-zero (q % 64) in
+      absurd (omega (arith, bit, at)))
+      (cases_lt q (64 * i)),
 )
 
 module _ (rows : PositionRows) (candidates : List ℕ) (category : ℕ) (reads last chained both : List ℕ) (reads_is : row_at rows.reads category ≡ reads) (last_is : last ≡ rows.last) (chained_is : chained ≡ rows.chained) (met : (p : ℕ) → Holds both p ↔ (Holds candidates p × Holds reads p)) where

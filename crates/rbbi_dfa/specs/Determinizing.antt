@@ -31,6 +31,11 @@ IsStep rows candidates category next = (position : ℕ) → Holds next position 
 abbrev pub AreFollowers : PositionRows → List ℕ → List ℕ → Type 0
 AreFollowers rows set candidates = (position : ℕ) → Holds candidates position ↔ CanFollow rows set position
 
+-- what can follow one of the first so many positions
+abbrev pub AreFollowersUpTo : List (List ℕ) → List ℕ → ℕ → List ℕ → Type 0
+AreFollowersUpTo follow set i candidates =
+    (p : ℕ) → Holds candidates p ↔ ((q : ℕ) × (q < i) × Holds set q × Holds (row_at follow q) p)
+
 -- a look-ahead rule is completed where the positions of the set read the last code point
 abbrev pub Completes : PositionRows → List ℕ → Type 0
 Completes rows set = (position : ℕ) × (mark : ℕ) × Holds set position × Marked rows.completed position mark

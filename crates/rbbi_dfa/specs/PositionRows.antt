@@ -26,12 +26,13 @@ pub record PositionRows : Type 0 where
   pub fronts : List PositionMark
   pub tags : List PositionMark
 
--- Rows have one width each, and there is one for each category. Numbers of look-ahead rules are below their count. Status numbers
+-- Rows have one width each, of at most 128 words, and there is one for each category. Numbers of look-ahead rules are below their count. Status numbers
 -- don't fall along their list.
 pub record AreRows (rows : PositionRows) : Type 0 where
   pub some_categories : 1 ≤ rows.categories
   pub few_categories : rows.categories ≤ 255
   pub few_slashes : rows.slashes ≤ 32
+  pub narrow : rows.width ≤ 128
   pub first : length rows.first ≡ rows.width
   pub chained : length rows.chained ≡ rows.width
   pub last : length rows.last ≡ rows.width

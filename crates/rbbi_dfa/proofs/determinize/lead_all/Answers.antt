@@ -75,3 +75,8 @@ pub returns-clause-cells : goal.returns-clause-cells
 returns-clause-cells c =
     let same : c.loop-i.i ≡ length c.loop-i.sets = omega (arith, c.len.ensures.value, c.loop-i-test.false, c.loop-i.invariant.within) in
     subst (AreCellsUpTo c.args.rows.now c.loop-i.sets c.loop-i.cells.items) same c.loop-i.invariant.led
+
+pub follow-requires-clause-set : goal.follow-requires-clause-set
+follow-requires-clause-set c =
+    let short : c.loop-i.i < length c.loop-i.sets = omega (arith, c.len.ensures.value, c.loop-i-test.true) in
+    ap length c.get-set.ensures ∙ (c.loop-i.invariant.reached.are_rows c.loop-i.i short).wide

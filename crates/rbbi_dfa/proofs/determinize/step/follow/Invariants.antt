@@ -1,6 +1,6 @@
-use Rattle.rbbi_dfa.specs.Determinizing.{items_of}
-use Rattle.rbbi_dfa.proofs.Steps.{AreFollowersUpTo}
+use Rattle.std.proofs.Common.{◌*◌}
+use Rattle.rbbi_dfa.specs.Determinizing.{AreFollowersUpTo}
 use Rattle.rbbi_dfa.proofs.determinize.step.follow.Given as goal
 
-abbrev pub invariant-loop-position : goal.invariant-loop-position
-invariant-loop-position l = AreFollowersUpTo (items_of l.followers-items) l.set l.position l.candidates
+abbrev pub invariant-loop-i : goal.invariant-loop-i
+invariant-loop-i l = AreFollowersUpTo l.rows.follow l.set (64 * l.i) l.candidates
