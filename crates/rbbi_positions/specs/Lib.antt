@@ -1,2 +1,3 @@
 pub mod FollowPositions
 pub mod Walks
+pub mod PositionMarks
