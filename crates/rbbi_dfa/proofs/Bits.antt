@@ -1,11 +1,11 @@
 -- Rows of bits, word by word.
-use Rattle.std.proofs.Common.{◌≡◌, ◌≢◌, ℕ, ◌+◌, ◌*◌, ◌/◌, ◌%◌, ◌^◌, ◌<◌, ◌≤◌, ◌⊎◌, ◌↔◌, List, length, get_or, min, max, sym, ap, ◌∙◌, inl, inr, ⊎_elim, arith}
+use Rattle.std.proofs.Common.{◌≡◌, ◌≢◌, ℕ, ◌+◌, ◌*◌, ◌/◌, ◌%◌, ◌^◌, ◌<◌, ◌≤◌, ◌⊎◌, ◌↔◌, List, length, get_or, min, max, sym, ap, ◌∙◌, inl, inr, ⊎_elim, arith, set, subst}
 use Rattle.std.specs.Int.{bit_at, w64}
 use Rattle.std.specs.Prelude.{bit_and}
 use Rattle.std.specs.Int.RustNames.{bit_or}
 use Rattle.std.proofs.lemmas.Bool.{cases_lt, cases_eq}
-use Rattle.std.proofs.lemmas.List.{get_or_past}
-use Rattle.std.proofs.lemmas.Nat.Bits.{bit_at_or, bit_at_and, bit_at-lt, bit_at-zero, bit_at-trailing_zeros}
+use Rattle.std.proofs.lemmas.List.{get_or_past, get_or-set_same, get_or-set_other}
+use Rattle.std.proofs.lemmas.Nat.Bits.{bit_at_or, bit_at_and, bit_at-lt, bit_at-zero, bit_at-trailing_zeros, bit_at_set_same, bit_at_set_other}
 use Rattle.rbbi_dfa.specs.BitRows.{Holds, IsEmptyRow}
 use Rattle.rbbi_dfa.specs.Determinizing.{IsSome}
 
@@ -122,3 +122,32 @@ or_and_each row old these those i a b d e each k =
     get_or_past row k 0 (omega (arith, a, past)) ∙ ap (λ n. bit_or n (bit_and 0 0)) (sym (get_or_past old k 0 (omega (arith, b, past))))
     ∙ ap (λ n. bit_or (get_or old k 0) (bit_and n 0)) (sym (get_or_past these k 0 (omega (arith, d, past)))) ∙ ap (λ n. bit_or (get_or old k 0) (bit_and (get_or these k 0) n)) (sym (get_or_past those k 0 (omega (arith, e, past)))))
     (cases_lt k i)
+
+-- a row with one position more
+pub holds_insert : (row : List ℕ) (position other : ℕ) → position / 64 < length row →
+    Holds (set row (position / 64) (bit_or (get_or row (position / 64) 0) (1 * 2 ^ (position % 64) % 2 ^ 64))) other ↔ (Holds row other ⊎ (other ≡ position))
+holds_insert row position other short =
+    let k : ℕ = position / 64 in
+    let t : ℕ = position % 64 in
+    let old : ℕ = get_or row k 0 in
+    let new : ℕ = bit_or old (1 * 2 ^ t % 2 ^ 64) in
+    let small : t < 64 = omega arith in
+    let here : get_or (set row k new) k 0 ≡ new = get_or-set_same row k new 0 short in
+    ⊎_elim
+    (λ word.
+    let read : bit_at (get_or (set row k new) (other / 64) 0) (other % 64) ≡ bit_at new (other % 64) = ap (λ n. bit_at (get_or (set row k new) n 0) (other % 64)) word ∙ ap (λ n. bit_at n (other % 64)) here in
+    let before : bit_at (get_or row (other / 64) 0) (other % 64) ≡ bit_at old (other % 64) = ap (λ n. bit_at (get_or row n 0) (other % 64)) word in
+    ⊎_elim
+    (λ place.
+    let same : other ≡ position = omega (arith, word, place) in
+    (λ holds. inr same, λ either. read ∙ ap (λ n. bit_at new n) place ∙ bit_at_set_same w64 old t small))
+    (λ elsewhere.
+    let kept : bit_at new (other % 64) ≡ bit_at old (other % 64) = bit_at_set_other w64 old t small (other % 64) elsewhere in (
+      λ holds. inl (before ∙ sym kept ∙ sym read ∙ holds),
+      ⊎_elim (λ holds. read ∙ kept ∙ sym before ∙ holds) (λ same. absurd (elsewhere (ap (λ n. n % 64) same))),
+    ))
+    (cases_eq (other % 64) t))
+    (λ apart.
+    let read : bit_at (get_or (set row k new) (other / 64) 0) (other % 64) ≡ bit_at (get_or row (other / 64) 0) (other % 64) = ap (λ n. bit_at n (other % 64)) (get_or-set_other row k (other / 64) new 0 apart) in
+    (λ holds. inl (sym read ∙ holds), ⊎_elim (λ holds. read ∙ holds) (λ same. absurd (apart (ap (λ n. n / 64) same)))))
+    (cases_eq (other / 64) k)

@@ -15,3 +15,4 @@ pub mod Determined
 pub mod Leading
 pub mod Counting
 pub mod Valid
+pub mod MarkedLists

@@ -4,3 +4,4 @@ pub mod PositionRows
 pub mod PositionAutomata
 pub mod Determinizing
 pub mod LeafSetIndex
+pub mod MarkedRows

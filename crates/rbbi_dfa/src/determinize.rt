@@ -11,6 +11,7 @@ mod laws;
 mod leaf_sets;
 mod marks;
 mod position_rows;
+mod rows_of;
 mod step;
 
 use crate::automaton::{Automaton, Head};

@@ -1,5 +1,5 @@
 //! Sets of positions as rows of bits, 64 to a word, the least bit first.
-ghost use Rattle.std.specs.Prelude.{◌≡◌, ◌<◌, ◌^◌, ◌⊎◌, ◌↔◌, ℕ, length, slice_index, IsTrue, false};
+ghost use Rattle.std.specs.Prelude.{◌≡◌, ◌<◌, ◌^◌, ◌*◌, ◌⊎◌, ◌↔◌, ℕ, length, slice_index, IsTrue, false};
 ghost use Rattle.rbbi_dfa.specs.BitRows.{Holds, IsEmptyRow};
 ghost use Rattle.rbbi_dfa.specs.Determinizing.{IsSome};
 
@@ -22,6 +22,15 @@ pub(crate) fn is_empty(row: &[u64]) -> bool
         }
     }
     true
+}
+
+/// Adds a position.
+pub(crate) fn insert(row: &mut [u64], position: usize)
+    requires { position < 64 * length row.old }
+    ensures { (other : ℕ) →
+        Holds row.new other ↔ (Holds row.old other ⊎ (other ≡ position)) }
+{
+    row[position / 64] |= 1 << (position % 64);
 }
 
 /// Adds what is in the other set.
