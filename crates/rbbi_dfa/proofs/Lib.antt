@@ -16,3 +16,4 @@ pub mod Leading
 pub mod Counting
 pub mod Valid
 pub mod MarkedLists
+pub mod RowsOfRules

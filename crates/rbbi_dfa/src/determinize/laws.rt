@@ -1,12 +1,16 @@
 //! Laws of determinised automata: they are those of the rules.
-ghost use Rattle.std.specs.Prelude.{◌<◌, ◌≤◌, ℕ, List, length};
-ghost use Rattle.rbbi_model.specs.Rules.{Rule, AreLawful};
+ghost use Rattle.std.specs.Prelude.{◌≡◌, ◌<◌, ◌≤◌, ℕ, List, length};
+ghost use Rattle.rbbi_model.specs.Rules.{Rule, look_aheads, AreLawful};
+ghost use Rattle.rbbi_model.specs.ValidTables.{AreValidRanges};
+ghost use Rattle.rbbi_model.specs.Compiled.{AreClasses};
+ghost use Rattle.rbbi_positions.specs.PositionMarks.{PositionMarks, ArePositions};
 ghost use Rattle.rbbi_model.specs.Tables.{Table, CategoryRange};
 ghost use Rattle.rbbi_model.specs.LeafSets.{HasLeafSets};
 ghost use Rattle.rbbi_model.specs.Marks.{HasSameMarks};
 ghost use Rattle.rbbi_dfa.specs.Automata.{IsDetermined, with_ranges};
 ghost use Rattle.rbbi_dfa.specs.PositionRows.{PositionRows};
 ghost use Rattle.rbbi_dfa.specs.PositionAutomata.{IsOfRules};
+ghost use Rattle.rbbi_dfa.specs.MarkedRows.{AreRowsOf};
 ghost use Rattle.rbbi_dfa.specs.Determinizing.{HasReachedSets, IsDeterminized};
 
 /// After every word that isn't empty the automaton has the marks of the rules.
@@ -37,4 +41,13 @@ pub(crate) fn no_more_leaf_sets_than_rows()
         (sets : List (List ℕ)) (automaton : Table) (count : ℕ) → AreLawful rules →
         IsOfRules rules ranges rows → IsDeterminized rows sets automaton → length sets < count →
         ¬ HasLeafSets rules count }
+{}
+
+/// The rows and lists that are read off the marks of the rules' positions are those of the rules.
+pub(crate) fn rows_are_those_of_the_rules()
+    ensures { (rules : List Rule) (categories slashes : ℕ) (ranges : List CategoryRange)
+        (marks : PositionMarks) (rows : PositionRows) → ArePositions rules categories ranges marks →
+        AreValidRanges categories ranges → AreClasses rules categories ranges →
+        slashes ≡ length (look_aheads rules) → AreRowsOf marks categories slashes rows →
+        IsOfRules rules ranges rows }
 {}
