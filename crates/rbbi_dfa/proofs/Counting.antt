@@ -1,6 +1,6 @@
 -- The sets that are reached are the leaf sets of words, so there are as many.
-use Rattle.std.proofs.Common.{◌≡◌, ◌≢◌, ℕ, zero, suc, ◌+◌, ◌-◌, ◌<◌, ◌≤◌, ◌⊎◌, ◌↔◌, Bool, true, false, ◌||◌, eqb, List, [], ◌∷◌, ◌++◌, length, map, get_or, sym, refl, ap, ◌∙◌, subst, inl, inr, ⊎_elim, arith}
-use Rattle.std.specs.List.{AllByRecursion, AllPairs, list_any}
+use Rattle.std.proofs.Common.{◌≡◌, ℕ, zero, suc, ◌-◌, ◌<◌, ◌↔◌, Bool, true, false, ◌||◌, eqb, List, [], ◌∷◌, length, map, get_or, sym, refl, ap, ◌∙◌, subst, ⊎_elim, arith}
+use Rattle.std.specs.List.{AllByRecursion, list_any}
 use Rattle.std.proofs.lemmas.Bool.{cases_Bool, eqb-true, ne_eqb, false≢true}
 use Rattle.std.proofs.lemmas.Map.Keys.{IsDistinct-from_apart}
 use Rattle.std.proofs.lemmas.Map.Steps.{length-le_from_distinct_below}
@@ -8,14 +8,14 @@ use Rattle.std.proofs.lemmas.List.{get_or-map, length-map}
 use Rattle.rbbi_model.specs.Words.{IsWord}
 use Rattle.rbbi_model.specs.Rules.{Rule, AreLawful}
 use Rattle.rbbi_model.specs.Tables.{Table, CategoryRange, category_of, row_along}
-use Rattle.rbbi_model.specs.LeafSets.{InLeafSet, HaveDistinctLeafSets, HasLeafSets}
+use Rattle.rbbi_model.specs.LeafSets.{InLeafSet, HasLeafSets}
 use Rattle.rbbi_dfa.specs.BitRows.{Holds, row_at}
 use Rattle.rbbi_dfa.specs.PositionRows.{PositionRows}
 use Rattle.rbbi_dfa.specs.PositionAutomata.{IsOfRules}
-use Rattle.rbbi_dfa.specs.Determinizing.{AreDifferent, AreReachedSets, HasReachedSets, IsDeterminized}
+use Rattle.rbbi_dfa.specs.Determinizing.{HasReachedSets, IsDeterminized}
 use Rattle.rbbi_dfa.proofs.Reading.{ReadBy}
 use Rattle.rbbi_dfa.proofs.Words.{nothing_reads}
-use Rattle.rbbi_dfa.proofs.Words.{IsSetOf, IsDead, Ended, Unread, IsRowOf, Stop, Set, row_of_word, HasWord, reached_word}
+use Rattle.rbbi_dfa.proofs.Words.{IsSetOf, Ended, Unread, IsRowOf, Stop, Set, row_of_word, HasWord, reached_word}
 
 -- a member of numbers that are all below a bound
 pub member_below : (xs : List ℕ) (n q : ℕ) → AllByRecursion (λ x. x < n) xs → list_any (eqb q) xs ≡ true → q < n

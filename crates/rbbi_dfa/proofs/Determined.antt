@@ -1,30 +1,21 @@
 -- The automaton of rules is as what follows wants it: rows within their bounds, each reached, each leading to marks.
-use Rattle.std.proofs.Common.{◌≡◌, ◌≢◌, ℕ, zero, suc, ◌+◌, ◌-◌, ◌*◌, ◌^◌, ◌<◌, ◌≤◌, ◌⊎◌, ◌↔◌, List, [], ◌∷◌, ◌++◌, Some, None, length, map, take, get_or, sym, refl, ap, ◌∙◌, subst, inl, inr, ⊎_elim, arith}
-use Rattle.std.specs.Prelude.{slice_get, IsTrue, unwrap_or}
-use Rattle.std.specs.List.{AllByRecursion}
+use Rattle.std.proofs.Common.{◌≡◌, ◌≢◌, ℕ, zero, suc, ◌+◌, ◌-◌, ◌^◌, ◌<◌, ◌↔◌, List, [], ◌∷◌, length, map, sym, ap, ◌∙◌, subst, inl, inr, ⊎_elim, arith}
 use Rattle.std.proofs.lemmas.Bool.{cases_eq, cases_lt, cases_order}
-use Rattle.std.proofs.lemmas.List.{take_all, length-map}
+use Rattle.std.proofs.lemmas.List.{take_all}
 use Rattle.std.proofs.lemmas.Nat.{pow_pos}
-use Rattle.rbbi_model.specs.Words.{IsWord, IsCodePoint}
-use Rattle.rbbi_model.specs.Ranges.{Range, Has}
 use Rattle.rbbi_model.specs.Lists.{Member, IsRising}
-use Rattle.rbbi_model.specs.Places.{has_bit}
 use Rattle.rbbi_model.specs.Rules.{Rule, LooksAhead, look_aheads, AreLawful}
-use Rattle.rbbi_model.specs.Chains.{IsRule, EndsAt}
-use Rattle.rbbi_model.specs.Boundaries.{LookAheadEndsAt}
+use Rattle.rbbi_model.specs.Chains.{IsRule}
 use Rattle.rbbi_model.specs.Tables.{Table, CategoryRange, category_of, accept_of, fronts_of, list_of, statuses_of, step, row_along}
-use Rattle.rbbi_model.specs.ValidTables.{IsWay, LeadsToZero}
+use Rattle.rbbi_model.specs.ValidTables.{IsWay}
 use Rattle.rbbi_model.specs.Marks.{Marks, no_marks, look_ahead_number, marks_of}
-use Rattle.rbbi_model.specs.LeafSets.{EndedBefore}
 use Rattle.rbbi_model.proofs.Rising.{rising_same}
-use Rattle.rbbi_dfa.specs.BitRows.{Holds, row_at}
+use Rattle.rbbi_dfa.specs.BitRows.{row_at}
 use Rattle.rbbi_dfa.specs.Automata.{IsAutomatonRow}
 use Rattle.rbbi_dfa.specs.PositionRows.{PositionRows}
-use Rattle.rbbi_dfa.specs.PositionAutomata.{Marked, FirstOf, LastOf, FollowsIn, FrontLastOf, LookAhead, Tagged, IsOfRules}
-use Rattle.rbbi_dfa.specs.Determinizing.{ComesBy, IsStep, Completes, IsSome, IsCell, LeadsOn, HasMark, AreTagsOf, AreMarksOf, IsDeterminized}
-use Rattle.rbbi_dfa.proofs.Reading.{ReadBy}
-use Rattle.rbbi_dfa.proofs.WalkReading.{same_rule}
-use Rattle.rbbi_dfa.proofs.Words.{laws, IsSetOf, IsDead, Ended, Unread, IsRowOf, Stop, Set, row_of_word, HasWord, reached_word}
+use Rattle.rbbi_dfa.specs.PositionAutomata.{Marked, IsOfRules}
+use Rattle.rbbi_dfa.specs.Determinizing.{IsCell, HasMark, IsDeterminized}
+use Rattle.rbbi_dfa.proofs.Words.{IsSetOf, Ended, Unread, IsRowOf, Stop, Set, row_of_word, HasWord, reached_word}
 use Rattle.rbbi_dfa.proofs.WordMarks.{counts}
 
 pub rule_within : (rules : List Rule) (number : ℕ) (rule : Rule) → IsRule rules number rule → number < length rules

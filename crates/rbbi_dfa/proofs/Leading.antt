@@ -1,10 +1,10 @@
 -- Each set leads to marks, and fronts end before look-ahead rules are completed.
-use Rattle.std.proofs.Common.{◌≡◌, ◌≢◌, ℕ, zero, suc, ◌+◌, ◌-◌, ◌*◌, ◌^◌, ◌<◌, ◌≤◌, ◌⊎◌, ◌↔◌, true, List, [], ◌∷◌, ◌++◌, Option, Some, None, length, map, take, drop, get_or, sym, refl, ap, ◌∙◌, subst, inl, inr, ⊎_elim, append_assoc, arith}
-use Rattle.std.specs.Prelude.{slice_get, slice_range, sum_by, flat_map, IsTrue, is_some, IsSome, IfSome, MatchOption, unwrap_or}
+use Rattle.std.proofs.Common.{◌≡◌, ◌≢◌, ℕ, zero, suc, ◌+◌, ◌-◌, ◌<◌, ◌≤◌, ◌⊎◌, true, List, [], ◌∷◌, ◌++◌, Option, Some, None, length, map, take, drop, sym, refl, ap, ◌∙◌, subst, inl, inr, ⊎_elim, append_assoc, arith}
+use Rattle.std.specs.Prelude.{slice_get, slice_range, IsTrue, is_some, IfSome, MatchOption}
 use Rattle.std.specs.List.{AllByRecursion}
 use Rattle.std.proofs.lemmas.Bool.{cases_eq, cases_lt, false≢true}
-use Rattle.std.proofs.lemmas.List.{nil_from_length, take-append-drop, take-map, length-map, length-take, length-drop, length-append, take_at, drop_at, append-nil, take-take, drop-drop}
-use Rattle.rbbi_model.specs.Words.{IsWord, IsCodePoint, IsCharacter}
+use Rattle.std.proofs.lemmas.List.{nil_from_length, take-map, length-map, length-take, length-append, take_at, take-take}
+use Rattle.rbbi_model.specs.Words.{IsWord, IsCodePoint}
 use Rattle.rbbi_model.specs.Ranges.{Range, Has}
 use Rattle.rbbi_model.specs.Places.{has_bit}
 use Rattle.rbbi_model.specs.Spelling.{Tree, Leaf, Empty, Never, Then, Either, Repeat, Spells}
@@ -15,21 +15,21 @@ use Rattle.rbbi_model.specs.Tables.{Table, CategoryRange, category_of, accept_of
 use Rattle.rbbi_model.specs.ValidTables.{IsWay, AreFronted}
 use Rattle.rbbi_model.specs.Marks.{Marks, no_marks, look_ahead_number, marks_of}
 use Rattle.std.specs.Option.{option_map_or}
-use Rattle.rbbi_model.specs.LeafSets.{EndedBefore, Reads, ReadsLast, all_sets, sets_of, sets_of_rule, first_position}
+use Rattle.rbbi_model.specs.LeafSets.{EndedBefore, Reads, all_sets, sets_of, sets_of_rule, first_position}
 use Rattle.rbbi_positions.proofs.WalkLaws.{of_the_rule}
 use Rattle.rbbi_dfa.proofs.Spellings.{rule_stands, rule_sets_many}
-use Rattle.rbbi_model.proofs.RulesCover.{ends_lie, front_lies}
+use Rattle.rbbi_model.proofs.RulesCover.{front_lies}
 use Rattle.rbbi_model.proofs.Local.{front_to_end, look_ahead_from, length_piece}
 use Rattle.rbbi_positions.specs.FollowPositions.{IsSpelled}
 use Rattle.rbbi_dfa.specs.BitRows.{Holds, row_at}
 use Rattle.rbbi_dfa.specs.Automata.{LeadsToMarks}
 use Rattle.rbbi_dfa.specs.PositionRows.{PositionRows}
-use Rattle.rbbi_dfa.specs.PositionAutomata.{Marked, FirstOf, LastOf, FollowsIn, FrontLastOf, IsOfRules}
-use Rattle.rbbi_dfa.specs.Determinizing.{ComesBy, IsStep, CanFollow, AreFollowers, Completes, IsSome as IsSomeSet, IsCell, LeadsOn, HasMark, IsDeterminized}
+use Rattle.rbbi_dfa.specs.PositionAutomata.{FirstOf, LastOf, FollowsIn, FrontLastOf, IsOfRules}
+use Rattle.rbbi_dfa.specs.Determinizing.{ComesBy, IsDeterminized}
 use Rattle.rbbi_dfa.proofs.Reading.{ReadBy, front_read}
-use Rattle.rbbi_dfa.proofs.WalkReading.{ReadsUpTo, reads_up_to, same_rule, lawful_rule}
-use Rattle.rbbi_dfa.proofs.Words.{laws, IsSetOf, IsDead, Ended, Unread, IsRowOf, Stop, Set, row_of_word, HasWord, ends_completes}
-use Rattle.rbbi_dfa.proofs.WordMarks.{mark_completed, front_mark, counts}
+use Rattle.rbbi_dfa.proofs.WalkReading.{reads_up_to, same_rule, lawful_rule}
+use Rattle.rbbi_dfa.proofs.Words.{laws, IsSetOf, Ended, Unread, IsRowOf, Stop, Set, row_of_word}
+use Rattle.rbbi_dfa.proofs.WordMarks.{mark_completed, front_mark}
 use Rattle.rbbi_dfa.proofs.Determined.{set_word, each_row}
 
 all_join : {X : Type 0} (P : X → Type 0) (xs ys : List X) → AllByRecursion P xs → AllByRecursion P ys → AllByRecursion P (xs ++ ys)

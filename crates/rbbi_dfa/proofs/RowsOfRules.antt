@@ -1,23 +1,22 @@
 -- The rows that are read off the marks of positions are those of the rules.
-use Rattle.std.proofs.Common.{◌≡◌, ◌≢◌, ℕ, zero, suc, ◌+◌, ◌<◌, ◌≤◌, ◌⊎◌, ◌↔◌, Bool, true, false, ◌&&◌, if◌then◌else◌, append_assoc, Option, Some, None, List, [], ◌∷◌, ◌++◌, length, take, get_or, sym, refl, ap, ◌∙◌, subst, inl, inr, ⊎_elim, arith}
-use Rattle.std.specs.Prelude.{slice_get, sum_by, IsTrue, IsSome, is_some, unwrap_or}
-use Rattle.std.specs.List.{AllByRecursion, Any}
+use Rattle.std.proofs.Common.{◌≡◌, ℕ, zero, suc, ◌<◌, ◌≤◌, ◌↔◌, Bool, true, false, if◌then◌else◌, append_assoc, Option, Some, None, List, [], ◌∷◌, ◌++◌, length, get_or, sym, refl, ap, ◌∙◌, subst, ⊎_elim, arith}
+use Rattle.std.specs.Prelude.{slice_get, sum_by, IsSome, unwrap_or}
+use Rattle.std.specs.List.{AllByRecursion}
 use Rattle.std.specs.Option.{option_map}
-use Rattle.std.proofs.lemmas.Bool.{cases_Bool, cases_lt, cond-true, cond-false, false≢true, and_parts, and_from}
+use Rattle.std.proofs.lemmas.Bool.{cases_lt, false≢true, and_parts, and_from}
 use Rattle.std.proofs.lemmas.List.{take_all, get_or_past}
 use Rattle.rbbi_model.specs.Words.{IsCodePoint}
-use Rattle.rbbi_model.specs.Ranges.{Range, Has}
+use Rattle.rbbi_model.specs.Ranges.{Has}
 use Rattle.rbbi_model.specs.Spelling.{Tree}
 use Rattle.rbbi_model.specs.Rules.{Rule, LooksAhead, leaves_of, look_aheads, AreLawful}
-use Rattle.rbbi_model.specs.Chains.{IsRule}
 use Rattle.rbbi_model.specs.Tables.{CategoryRange, category_of}
 use Rattle.rbbi_model.specs.ValidTables.{AreValidRanges}
-use Rattle.rbbi_model.specs.Compiled.{AreClasses, AreAlike, IsRead}
+use Rattle.rbbi_model.specs.Compiled.{AreClasses}
 use Rattle.rbbi_model.specs.Marks.{look_ahead_number}
 use Rattle.rbbi_model.specs.LeafSets.{Reads, all_sets, first_position}
 use Rattle.rbbi_model.proofs.Categories.{category_within}
-use Rattle.rbbi_positions.specs.FollowPositions.{IsSpelled, IsFrontSpelled, IsFirst, IsLast, IsFrontLast, Follows, IsOfRule}
-use Rattle.rbbi_positions.specs.PositionMarks.{RuleMark, PositionMarks, marked_follows, marked_reads, slash_of, ReadsCategory, IsMarkedAs, ArePositions}
+use Rattle.rbbi_positions.specs.FollowPositions.{IsSpelled, IsFrontSpelled, IsOfRule}
+use Rattle.rbbi_positions.specs.PositionMarks.{PositionMarks, slash_of, IsMarkedAs, ArePositions}
 use Rattle.rbbi_positions.proofs.WalkLaws.{of_the_rule}
 use Rattle.rbbi_positions.proofs.RuleSpans.{first_of_later, one_rule, front_middle}
 use Rattle.rbbi_dfa.specs.declared.determinize.rows_of.RowKind.TheVariants.{First, Chained, Last, Follow, Read}
@@ -25,11 +24,12 @@ use Rattle.rbbi_dfa.specs.declared.determinize.rows_of.ListKind.TheVariants.{Com
 use Rattle.rbbi_dfa.specs.BitRows.{Holds, row_at}
 use Rattle.rbbi_dfa.specs.PositionRows.{PositionMark, PositionRows}
 use Rattle.rbbi_dfa.specs.PositionAutomata.{Marked, FirstOf, LastOf, FollowsIn, FrontLastOf, Chainable, LookAhead, Tagged, IsOfRules}
-use Rattle.rbbi_dfa.specs.MarkedRows.{no_rule, rule_mark, is_in_row, mark_in, IsRowBy, AreRowsBy, AreMarkedIn, AreRowsOf}
+use Rattle.rbbi_dfa.specs.MarkedRows.{no_rule, rule_mark, IsRowBy, AreRowsBy, AreMarkedIn, AreRowsOf, HasOwner, AreSmallMarks}
 use Rattle.rbbi_dfa.proofs.Steps.{empty_holds}
 use Rattle.rbbi_dfa.proofs.Spellings.{all_many}
 use Rattle.rbbi_dfa.proofs.WalkReading.{same_rule}
-use Rattle.rbbi_dfa.proofs.Determined.{rule_within}
+use Rattle.rbbi_dfa.proofs.Determined.{rule_within, number_small}
+use Rattle.rbbi_dfa.proofs.Valid.{tag_small}
 
 get_short : {X : Type 0} (xs : List X) (i : ℕ) (x : X) → slice_get xs i ≡ Some x → i < length xs
 get_short [] i x at = absurd (cc)
@@ -216,6 +216,24 @@ module _ (rules : List Rule) (categories : ℕ) (ranges : List CategoryRange) (m
               ((mark_is p number own).tag ∙ ap (λ (r : Rule). r.tag) same ∙ tagged.tagged),
         ),
   )
+
+  pub owners_are : (p : ℕ) → p < marks.leaves → HasOwner marks p
+  owners_are p short = let owner = are.owner p short in omega (arith, are.rule_count, rule_within rules (get_or marks.owners p 0) owner.rule owner.is_rule)
+
+  slash_small : (number mark : ℕ) (p : ℕ) (own : IsOfRule rules p number) → (rule_mark marks p).slash ≡ Some mark → mark < length (look_aheads rules)
+  slash_small number mark p own is =
+      let looks = slash_looks number mark own.rule (sym (mark_is p number own).slash ∙ is) in
+      omega (arith, looks.1, number_small rules number own.rule own.is_rule looks.0)
+
+  pub marks_small : AreLawful rules → (slashes : ℕ) → slashes ≡ length (look_aheads rules) → AreSmallMarks marks slashes
+  marks_small lawful slashes many = record {
+    completed = λ p mark short is. let both = chosen (get_or marks.lasts p false) (rule_mark marks p).slash mark is in omega (arith, many, slash_small (get_or marks.owners p 0) mark p (are.owner p short) both.1);
+    fronts = λ p mark short is. let both = chosen (get_or marks.front_lasts p false) (rule_mark marks p).slash mark is in omega (arith, many, slash_small (get_or marks.owners p 0) mark p (are.owner p short) both.1);
+    tags = λ p mark short is.
+        let both = chosen (get_or marks.lasts p false) (rule_mark marks p).tag mark is in
+        let own = are.owner p short in
+        tag_small rules lawful mark (get_or marks.owners p 0, record { rule = own.rule; is_rule = own.is_rule; tagged = sym (mark_is p (get_or marks.owners p 0) own).tag ∙ both.1 });
+  }
 
   module _ (valid : AreValidRanges categories ranges) (classes : AreClasses rules categories ranges) where
     reads_short : (p c : ℕ) → Reads rules p c → p < marks.leaves

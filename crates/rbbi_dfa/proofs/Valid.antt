@@ -1,16 +1,15 @@
 -- The status lists are valid, and the automaton is as what follows wants it.
-use Rattle.std.proofs.Common.{◌≡◌, ◌≢◌, ℕ, zero, suc, ◌+◌, ◌-◌, ◌<◌, ◌≤◌, ◌⊎◌, ◌↔◌, eqb, List, [], ◌∷◌, ◌++◌, Option, Some, None, length, get_or, sym, refl, ap, ◌∙◌, subst, inl, inr, ⊎_elim, arith}
+use Rattle.std.proofs.Common.{◌≡◌, ℕ, zero, suc, ◌+◌, ◌-◌, ◌<◌, ◌≤◌, eqb, List, [], ◌∷◌, length, get_or, sym, refl, ap, ◌∙◌, subst, inl, inr, ⊎_elim, arith}
 use Rattle.std.specs.Prelude.{IfSome, unwrap_or}
-use Rattle.std.specs.List.{AllByRecursion, list_any}
-use Rattle.std.proofs.lemmas.Bool.{cases_eq, cases_lt, ne_eqb}
+use Rattle.std.specs.List.{AllByRecursion}
+use Rattle.std.proofs.lemmas.Bool.{cases_eq, ne_eqb}
 use Rattle.std.proofs.lemmas.Map.Keys.{IsDistinct-from_apart}
 use Rattle.std.proofs.lemmas.Map.Steps.{length-le_from_distinct_below}
 use Rattle.rbbi_model.specs.Lists.{Member, IsRising}
-use Rattle.rbbi_model.specs.Rules.{Rule, AreLawful, IsLawfulRule, largest_tag}
-use Rattle.rbbi_model.specs.Chains.{IsRule}
+use Rattle.rbbi_model.specs.Rules.{Rule, AreLawful, largest_tag}
 use Rattle.rbbi_model.specs.Tables.{Table, CategoryRange, list_of, statuses_of}
 use Rattle.rbbi_model.specs.ValidTables.{IsValidList}
-use Rattle.rbbi_model.specs.Marks.{Marks, marks_of}
+use Rattle.rbbi_model.specs.Marks.{Marks}
 use Rattle.rbbi_model.proofs.Rising.{rising_tail, less_than_later}
 use Rattle.rbbi_dfa.specs.BitRows.{row_at}
 use Rattle.rbbi_dfa.specs.Automata.{IsDetermined}
@@ -44,7 +43,7 @@ rising_places (x ∷ xs) (suc i) (suc j) rising less short = rising_places xs i 
 
 module _ (rules : List Rule) (lawful : AreLawful rules) where
   -- some rule with this number has the status number
-  abbrev HasNumber : ℕ → Type 0
+  abbrev pub HasNumber : ℕ → Type 0
   HasNumber tag = (number : ℕ) × Tagged rules number tag
 
   numbers : (tags : List ℕ) → AllByRecursion HasNumber tags → List ℕ
@@ -86,7 +85,7 @@ module _ (rules : List Rule) (lawful : AreLawful rules) where
       let most = length-le_from_distinct_below those (length rules) distinct (λ q member. member_below those (length rules) q (numbers_small tags all) member) in
       omega (arith, most, long, lawful.few)
 
-  tag_small : (tag : ℕ) → HasNumber tag → tag ≤ largest_tag
+  pub tag_small : (tag : ℕ) → HasNumber tag → tag ≤ largest_tag
   tag_small tag (number, is) = subst (λ o. IfSome o (λ n. n ≤ largest_tag)) is.tagged (lawful_rule rules number is.rule lawful.each is.is_rule).tag
 
   module _ (ranges : List CategoryRange) (rows : PositionRows) (of : IsOfRules rules ranges rows) where

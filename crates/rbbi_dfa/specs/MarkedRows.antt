@@ -1,7 +1,10 @@
 -- Which row of bits, and which list of marks, is read off the marks of positions.
 use Rattle.std.specs.Prelude.{◌≡◌, ℕ, ◌*◌, ◌+◌, ◌<◌, ◌≤◌, Bool, false, ◌/◌, ◌&&◌, IsTrue, Option, Some, None, if◌then◌else◌, ◌↔◌, List, slice_index, slice_index_or, length}
-use Rattle.rbbi_positions.specs.PositionMarks.{RuleMark, PositionMarks, marked_follows, marked_reads}
-use Rattle.rbbi_model.specs.Rules.{largest_tag}
+use Rattle.rbbi_positions.specs.PositionMarks.{RuleMark, PositionMarks, marked_follows, marked_reads, ArePositions}
+use Rattle.rbbi_model.specs.Rules.{Rule, largest_tag, look_aheads, AreLawful}
+use Rattle.rbbi_model.specs.Tables.{CategoryRange}
+use Rattle.rbbi_model.specs.ValidTables.{AreValidRanges}
+use Rattle.rbbi_model.specs.Compiled.{AreClasses}
 use Rattle.rbbi_dfa.specs.BitRows.{Holds, row_at}
 use Rattle.rbbi_dfa.specs.PositionRows.{PositionMark, PositionRows}
 use Rattle.rbbi_dfa.specs.PositionAutomata.{Marked}
@@ -76,3 +79,20 @@ pub record AreRowsOf (marks : PositionMarks) (categories slashes : ℕ) (rows : 
   pub completed : AreMarkedIn marks Completed rows.completed
   pub fronts : AreMarkedIn marks Fronts rows.fronts
   pub tags : AreMarkedIn marks Tags rows.tags
+
+-- The marks can be read for so many categories and look-ahead rules: they are few, each position has a rule, and the readers of each
+-- category are there.
+pub record AreReadable (marks : PositionMarks) (categories slashes : ℕ) : Type 0 where
+  pub few : marks.leaves ≤ 8192
+  pub few_slashes : slashes ≤ 32
+  pub readers : length marks.readers ≡ categories * marks.words
+  pub owners : (position : ℕ) → position < marks.leaves → HasOwner marks position
+  pub small : AreSmallMarks marks slashes
+
+-- the marks are those of lawful rules, with the classes of their leaves' sets as categories
+pub record AreOf (rules : List Rule) (categories slashes : ℕ) (ranges : List CategoryRange) (marks : PositionMarks) : Type 0 where
+  pub lawful : AreLawful rules
+  pub positions : ArePositions rules categories ranges marks
+  pub valid : AreValidRanges categories ranges
+  pub classes : AreClasses rules categories ranges
+  pub slashes_are : slashes ≡ length (look_aheads rules)

@@ -4,6 +4,12 @@ ghost use Rattle.std.specs.Prelude.{◌≡◌, ◌≤◌, ℕ, List, [], length,
 ghost use Rattle.rbbi_dfa.specs.Determinizing.{AreReachedSets, AreReachedCandidates, Begin};
 ghost use Rattle.rbbi_dfa.specs.Determinizing.{AddsCells, AddsZeros, AreCellsUpTo, AreMarked};
 ghost use Rattle.rbbi_dfa.specs.Determinizing.{HasReachedSets, IsDeterminized, items_of};
+ghost use Rattle.rbbi_model.specs.Rules.{Rule};
+ghost use Rattle.rbbi_model.specs.Tables.{CategoryRange};
+ghost use Rattle.rbbi_model.specs.Marks.{HasSameMarks};
+ghost use Rattle.rbbi_model.specs.LeafSets.{HasLeafSets};
+ghost use Rattle.rbbi_dfa.specs.Automata.{IsDetermined, with_ranges};
+ghost use Rattle.rbbi_dfa.specs.MarkedRows.{AreReadable, AreOf};
 
 mod bits;
 mod error;
@@ -18,6 +24,8 @@ use crate::automaton::{Automaton, Head};
 use error::DeterminizeErr;
 use leaf_sets::LeafSets;
 use position_rows::Rows;
+use rbbi_positions::Positions;
+use rows_of::rows_of;
 use std::alloc::{AllocError, Global};
 
 /// Adds the cells of a row from whose positions these candidates may come next, and the sets that are
@@ -145,4 +153,34 @@ pub(crate) fn determinized(alloc: Global, rows: &Rows) -> Result<Automaton, Dete
         lists,
         cells,
     })
+}
+
+/// The determinised automaton of the rules that the positions are those of, for the categories that
+/// they read. Clauses hold for any such list of rules.
+///
+/// Refuses `TooManySets` exactly where the rules have more than 16,384 distinct leaf sets that aren't
+/// empty.
+pub(crate) fn automaton_of(
+    alloc: Global,
+    positions: &Positions,
+    categories: u16,
+    slashes: u16,
+) -> Result<Automaton, DeterminizeErr>
+    requires some_categories { 1 ≤ categories }
+    requires few_categories { categories ≤ 255 }
+    requires readable { AreReadable positions.now categories slashes }
+    ensures marks { IfOk result (λ automaton. (rules : List Rule) (ranges : List CategoryRange) →
+        AreOf rules categories slashes ranges positions.now →
+        HasSameMarks (with_ranges automaton ranges) rules) }
+    ensures determined { IfOk result (λ automaton. (rules : List Rule)
+        (ranges : List CategoryRange) → AreOf rules categories slashes ranges positions.now →
+        IsDetermined automaton) }
+    ensures few { OnOk result ((rules : List Rule) (ranges : List CategoryRange) →
+        AreOf rules categories slashes ranges positions.now → ¬ HasLeafSets rules 16385) }
+    ensures too_many { result ≡ Err DeterminizeErr.TooManySets →
+        (rules : List Rule) (ranges : List CategoryRange) →
+        AreOf rules categories slashes ranges positions.now → HasLeafSets rules 16385 }
+{
+    let rows = rows_of(alloc, positions, categories, slashes)?;
+    determinized(alloc, &rows)
 }

@@ -10,7 +10,7 @@ ghost use Rattle.rbbi_model.specs.Marks.{HasSameMarks};
 ghost use Rattle.rbbi_dfa.specs.Automata.{IsDetermined, with_ranges};
 ghost use Rattle.rbbi_dfa.specs.PositionRows.{PositionRows};
 ghost use Rattle.rbbi_dfa.specs.PositionAutomata.{IsOfRules};
-ghost use Rattle.rbbi_dfa.specs.MarkedRows.{AreRowsOf};
+ghost use Rattle.rbbi_dfa.specs.MarkedRows.{AreRowsOf, AreReadable};
 ghost use Rattle.rbbi_dfa.specs.Determinizing.{HasReachedSets, IsDeterminized};
 
 /// After every word that isn't empty the automaton has the marks of the rules.
@@ -50,4 +50,11 @@ pub(crate) fn rows_are_those_of_the_rules()
         AreValidRanges categories ranges → AreClasses rules categories ranges →
         slashes ≡ length (look_aheads rules) → AreRowsOf marks categories slashes rows →
         IsOfRules rules ranges rows }
+{}
+
+/// What `rows_of` wants of the marks holds where they are those of lawful rules.
+pub(crate) fn marks_of_rules_are_small()
+    ensures { (rules : List Rule) (categories slashes : ℕ) (ranges : List CategoryRange)
+        (marks : PositionMarks) → AreLawful rules → ArePositions rules categories ranges marks →
+        slashes ≡ length (look_aheads rules) → AreReadable marks categories slashes }
 {}

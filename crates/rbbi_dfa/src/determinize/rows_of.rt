@@ -2,7 +2,7 @@
 ghost use Rattle.std.specs.Prelude.{◌≡◌, ◌<◌, ◌≤◌, ◌*◌, ◌+◌, ◌/◌, ◌⊎◌, ◌↔◌, ℕ, length, IfOk, IsTrue};
 ghost use Rattle.rbbi_dfa.specs.BitRows.{Holds};
 ghost use Rattle.rbbi_dfa.specs.MarkedRows.{is_in_row, mark_in, IsKindOf, HasOwner, AreMarkedIn};
-ghost use Rattle.rbbi_dfa.specs.MarkedRows.{AreRowsBy, AreSmallMarks, AreRowsOf};
+ghost use Rattle.rbbi_dfa.specs.MarkedRows.{AreRowsBy, AreReadable, AreRowsOf};
 ghost use Rattle.rbbi_dfa.specs.Determinizing.{items_of};
 ghost use Rattle.std.specs.List.{AllPairs};
 ghost use Rattle.std.specs.List.Sorted.{IsPermutation};
@@ -149,14 +149,9 @@ pub(crate) fn rows_of(
     categories: u16,
     slashes: u16,
 ) -> Result<Rows, AllocError>
-    requires few { positions.now.leaves ≤ 8192 }
     requires some_categories { 1 ≤ categories }
     requires few_categories { categories ≤ 255 }
-    requires few_slashes { slashes ≤ 32 }
-    requires readers { length positions.now.readers ≡ categories * positions.now.words }
-    requires owners { (position : ℕ) → position < positions.now.leaves →
-        HasOwner positions.now position }
-    requires small { AreSmallMarks positions.now slashes }
+    requires readable { AreReadable positions.now categories slashes }
     ensures { IfOk result (λ rows. AreRowsOf positions.now categories slashes rows) }
 {
     let first = row_of(alloc, positions, RowKind::First)?;

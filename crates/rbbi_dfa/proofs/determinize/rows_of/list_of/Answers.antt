@@ -1,4 +1,4 @@
-use Rattle.std.proofs.Common.{◌≡◌, ◌+◌, ℕ, sym, ap, ◌∙◌, subst, arith}
+use Rattle.std.proofs.Common.{◌≡◌, ◌+◌, sym, subst, arith}
 use Rattle.rbbi_dfa.proofs.MarkedLists.{AreMarkedUpTo, marked_none, marked_takes, marked_stays}
 use Rattle.rbbi_dfa.proofs.determinize.rows_of.list_of.Goals as goal
 use Rattle.rbbi_dfa.proofs.determinize.rows_of.list_of.Goals.{in-Some+in_ok-push-in-Some, in-None}

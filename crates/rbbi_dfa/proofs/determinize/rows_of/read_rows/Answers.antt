@@ -1,9 +1,9 @@
-use Rattle.std.proofs.Common.{◌≡◌, ◌+◌, ℕ, List, Vec, Global, sym, ap, ◌∙◌, subst, arith}
+use Rattle.std.proofs.Common.{◌+◌, ℕ, Vec, Global, sym, ap, ◌∙◌, subst}
 use Rattle.std.proofs.lemmas.List.{map_push}
 use Rattle.rbbi_dfa.specs.declared.determinize.rows_of.RowKind.TheVariants.{Read}
 use Rattle.rbbi_dfa.specs.Determinizing.{items_of}
 use Rattle.rbbi_dfa.specs.MarkedRows.{AreRowsBy}
-use Rattle.rbbi_dfa.proofs.MarkedLists.{rows_none, rows_more}
+use Rattle.rbbi_dfa.proofs.MarkedLists.{rows_more}
 use Rattle.rbbi_dfa.proofs.determinize.rows_of.read_rows.Goals as goal
 
 pub loop-category-preserved : goal.loop-category-preserved

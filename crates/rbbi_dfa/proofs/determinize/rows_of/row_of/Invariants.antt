@@ -1,4 +1,4 @@
-use Rattle.std.proofs.Common.{◌≡◌, ◌<◌, ◌↔◌, ℕ, length}
+use Rattle.std.proofs.Common.{◌<◌, ◌↔◌, ℕ}
 use Rattle.std.specs.Prelude.{IsTrue}
 use Rattle.rbbi_dfa.specs.BitRows.{Holds}
 use Rattle.rbbi_dfa.specs.MarkedRows.{is_in_row}

@@ -1,7 +1,6 @@
-use Rattle.std.proofs.Common.{◌≡◌, ◌≤◌, ◌<◌, ℕ, List, refl, sym, ap, ◌∙◌, subst, arith}
+use Rattle.std.proofs.Common.{◌≤◌, ◌<◌, refl, arith}
 use Rattle.rbbi_model.specs.Rules.{largest_tag}
 use Rattle.rbbi_dfa.specs.declared.determinize.rows_of.ListKind.TheVariants.{Completed, Fronts, Tags}
-use Rattle.rbbi_dfa.specs.Determinizing.{items_of}
 use Rattle.rbbi_dfa.proofs.MarkedLists.{marked_all, marked_permuted}
 use Rattle.rbbi_dfa.proofs.determinize.rows_of.rows_of.Goals as goal
 
@@ -13,17 +12,17 @@ invariant_of-result c =
     record {
       some_categories = c.requires.some_categories;
       few_categories = c.requires.few_categories;
-      few_slashes = c.requires.few_slashes;
-      narrow = omega (arith, wide, c.requires.few);
+      few_slashes = c.requires.readable.few_slashes;
+      narrow = omega (arith, wide, c.requires.readable.few);
       first = omega (arith, wide, c.in_ok-first.ensures.wide);
       chained = omega (arith, wide, c.in_ok-chained.ensures.wide);
       last = omega (arith, wide, c.in_ok-last.ensures.wide);
       follow = λ i short. omega (arith, wide, (c.in_ok-follow.ensures.each i (omega (arith, short, c.in_ok-follow.ensures.many))).0);
       many_reads = c.in_ok-reads.ensures.many;
       reads = λ i short. omega (arith, wide, (c.in_ok-reads.ensures.each i (omega (arith, short, c.in_ok-reads.ensures.many))).0);
-      completed = marked_all marks Completed c.in_ok-completed.completed.items (λ n. n < c.args.slashes) c.in_ok-completed.ensures c.requires.small.completed;
-      fronts = marked_all marks Fronts c.in_ok-fronts.fronts.items (λ n. n < c.args.slashes) c.in_ok-fronts.ensures c.requires.small.fronts;
-      small_tags = marked_all marks Tags c.sorted-tags.result.items (λ n. n ≤ largest_tag) tags c.requires.small.tags;
+      completed = marked_all marks Completed c.in_ok-completed.completed.items (λ n. n < c.args.slashes) c.in_ok-completed.ensures c.requires.readable.small.completed;
+      fronts = marked_all marks Fronts c.in_ok-fronts.fronts.items (λ n. n < c.args.slashes) c.in_ok-fronts.ensures c.requires.readable.small.fronts;
+      small_tags = marked_all marks Tags c.sorted-tags.result.items (λ n. n ≤ largest_tag) tags c.requires.readable.small.tags;
       tags = c.sorted-tags.ensures.order;
     }
 

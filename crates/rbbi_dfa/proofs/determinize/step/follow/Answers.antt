@@ -1,6 +1,6 @@
-use Rattle.std.proofs.Common.{◌≡◌, ◌+◌, ◌*◌, ◌<◌, length, sym, ap, ◌∙◌, subst, arith}
+use Rattle.std.proofs.Common.{◌≡◌, ◌+◌, ◌*◌, sym, subst, arith}
 use Rattle.rbbi_dfa.specs.Determinizing.{AreFollowersUpTo}
-use Rattle.rbbi_dfa.proofs.Steps.{followers_none, followers_skip, followers_all}
+use Rattle.rbbi_dfa.proofs.Steps.{followers_skip, followers_all}
 use Rattle.rbbi_dfa.proofs.determinize.step.follow.Goals as goal
 use Rattle.rbbi_dfa.proofs.determinize.step.follow.Goals.{then-set-i-ne0, else-set-i-ne0}
 

@@ -1,8 +1,8 @@
-use Rattle.std.proofs.Common.{◌≡◌, ◌+◌, ◌*◌, ◌<◌, ◌≤◌, ℕ, length, get_or, sym, ap, ◌∙◌, subst, arith}
+use Rattle.std.proofs.Common.{◌≡◌, ◌+◌, ◌*◌, ◌<◌, length, sym, ap, ◌∙◌, subst, arith}
 use Rattle.std.proofs.lemmas.Bool.{false≢true}
 use Rattle.rbbi_dfa.specs.BitRows.{row_at}
 use Rattle.rbbi_dfa.specs.PositionRows.{PositionRows}
-use Rattle.rbbi_dfa.specs.Determinizing.{AreFollowersUpTo, items_of}
+use Rattle.rbbi_dfa.specs.Determinizing.{AreFollowersUpTo}
 use Rattle.rbbi_dfa.proofs.RowLists.{items_at, items_many}
 use Rattle.rbbi_dfa.proofs.Steps.{followers_with, followers_without, followers_past}
 use Rattle.rbbi_dfa.proofs.determinize.step.follow_word.Goals as goal
