@@ -13,7 +13,7 @@ use Rattle.rbbi_dfa.specs.Partitions.{IsPartition, IsToldApart, AreSides, Leaves
 abbrev pub IsMoved : Table → List ℕ → List Bool → ℕ → ℕ → Bool → ℕ → ℕ → ℕ → Type 0
 IsMoved automaton classes inside class category stays new row after =
     (Leaves automaton classes inside class category stays row × (after ≡ new))
-      ⊎ ((¬ Leaves automaton classes inside class category stays row) × (after ≡ slice_index classes row))
+    ⊎ ((¬ Leaves automaton classes inside class category stays row) × (after ≡ slice_index classes row))
 
 -- what is known after so many rows
 pub record IsSplitUpTo (automaton : Table) (classes : List ℕ) (inside : List Bool) (class category : ℕ) (stays : Bool) (new row : ℕ) (after : List ℕ) (left leaver : ℕ) : Type 0 where
@@ -24,7 +24,6 @@ pub record IsSplitUpTo (automaton : Table) (classes : List ℕ) (inside : List B
   pub none : left ≡ 0 → (k : ℕ) → k < row → ¬ Leaves automaton classes inside class category stays k
 
 module _ (automaton : Table) (classes : List ℕ) (inside : List Bool) (class category : ℕ) (stays : Bool) (new : ℕ) where
-
   abbrev Split : ℕ → List ℕ → ℕ → ℕ → Type 0
   Split row after left leaver = IsSplitUpTo automaton classes inside class category stays new row after left leaver
 
@@ -43,10 +42,10 @@ module _ (automaton : Table) (classes : List ℕ) (inside : List Bool) (class ca
   each-more : (after : List ℕ) (row next : ℕ) → length after ≡ row → ((k : ℕ) → k < row → IsMoved automaton classes inside class category stays new k (slice_index after k)) → IsMoved automaton classes inside class category stays new row next → (k : ℕ) → k < row + 1 → IsMoved automaton classes inside class category stays new k (slice_index (after ++ next ∷ []) k)
   each-more after row next l each here =
       below_more
-        (λ k. IsMoved automaton classes inside class category stays new k (slice_index (after ++ next ∷ []) k))
-        row
-        (λ k h. subst (λ n. IsMoved automaton classes inside class category stays new k n) (sym (get_or_append_left after (next ∷ []) 0 k (omega arith))) (each k h))
-        (subst (λ n. IsMoved automaton classes inside class category stays new row n) (sym (get_or_push after next 0 row l)) here)
+      (λ k. IsMoved automaton classes inside class category stays new k (slice_index (after ++ next ∷ []) k))
+      row
+      (λ k h. subst (λ n. IsMoved automaton classes inside class category stays new k n) (sym (get_or_append_left after (next ∷ []) 0 k (omega arith))) (each k h))
+      (subst (λ n. IsMoved automaton classes inside class category stays new row n) (sym (get_or_push after next 0 row l)) here)
 
   pub IsSplitUpTo-leaves : (row : ℕ) (after more : List ℕ) (left leaver : ℕ) → Split row after left leaver → Goes row → more ≡ after ++ new ∷ [] → Split (row + 1) more (left + 1) row
   IsSplitUpTo-leaves row after more left leaver h goes e =
@@ -75,13 +74,13 @@ module _ (automaton : Table) (classes : List ℕ) (inside : List Bool) (class ca
   pub IsSplitUpTo-keeps : (row : ℕ) (after more : List ℕ) (left leaver : ℕ) (others : List ℕ) (takes : Bool) (old : ℕ) → others ≡ classes → (IsTrue takes ↔ Leaves automaton others inside class category stays row) → takes ≡ false → Split row after left leaver → old ≡ slice_index classes row → more ≡ after ++ old ∷ [] → Split (row + 1) more left leaver
   IsSplitUpTo-keeps row after more left leaver others takes old same answer is h read e =
       IsSplitUpTo-stays row after more left leaver h
-        (λ goes.
-          let yes : takes ≡ true = answer.1 (subst (λ (xs : List ℕ). Leaves automaton xs inside class category stays row) (sym same) goes) in
-          absurd (false≢true (sym is ∙ yes)))
-        (e ∙ ap (λ n. after ++ n ∷ []) read)
+      (λ goes.
+      let yes : takes ≡ true = answer.1 (subst (λ (xs : List ℕ). Leaves automaton xs inside class category stays row) (sym same) goes) in
+      absurd (false≢true (sym is ∙ yes)))
+      (e ∙ ap (λ n. after ++ n ∷ []) read)
 
   pub IsSplitUpTo-same : (row : ℕ) (after : List ℕ) (left leaver : ℕ) (side : Bool) (number count : ℕ) → stays ≡ side → new ≡ number → row ≡ count → Split row after left leaver → IsSplitUpTo automaton classes inside class category side number count after left leaver
   IsSplitUpTo-same row after left leaver side number count a b c h =
       subst (λ (s : Bool). IsSplitUpTo automaton classes inside class category s number count after left leaver) a
-        (subst (λ (n : ℕ). IsSplitUpTo automaton classes inside class category stays n count after left leaver) b
-          (subst (λ (n : ℕ). IsSplitUpTo automaton classes inside class category stays new n after left leaver) c h))
+      (subst (λ (n : ℕ). IsSplitUpTo automaton classes inside class category stays n count after left leaver) b
+      (subst (λ (n : ℕ). IsSplitUpTo automaton classes inside class category stays new n after left leaver) c h))

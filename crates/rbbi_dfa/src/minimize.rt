@@ -1,5 +1,9 @@
 //! From an automaton to the classes of rows that can't be told apart.
+mod inverse;
 mod partition;
+mod refine;
 mod round;
+mod tally;
+mod work;
 
 pub(crate) use partition::Partition;
