@@ -1,2 +1,4 @@
 pub mod Splits
 pub mod SplitSound
+pub mod Refining
+pub mod Merged

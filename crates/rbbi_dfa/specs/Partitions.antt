@@ -1,7 +1,8 @@
 -- Partitions of an automaton's rows into classes, no two of which lead on alike.
-use Rattle.std.specs.Prelude.{◌≡◌, ◌≢◌, ℕ, ◌<◌, ◌≤◌, Bool, not, ◌&&◌, List, length, slice_index, slice_index_or, if◌then◌else◌, ◌==◌, IsTrue, false}
-use Rattle.rbbi_model.specs.Tables.{Table, step, row_along}
-use Rattle.rbbi_model.specs.ValidTables.{IsWay}
+use Rattle.std.specs.Prelude.{◌≡◌, ◌≢◌, ℕ, ◌*◌, ◌<◌, ◌≤◌, Bool, false, List, length, slice_index, slice_index_or}
+use Rattle.std.specs.List.{AllByRecursion}
+use Rattle.rbbi_model.specs.Tables.{Table, list_of, step, row_along}
+use Rattle.rbbi_model.specs.ValidTables.{IsWay, IsValidList, BeginsWithZeroAlone, AreInOrder}
 use Rattle.rbbi_model.specs.Marks.{marks_of}
 
 -- the rows have different marks along some categories
@@ -45,3 +46,19 @@ IsStable automaton classes firsts =
     (row category : ℕ) → row < length classes → category < automaton.categories →
     slice_index classes (step automaton row category)
     ≡ slice_index classes (step automaton (slice_index firsts (slice_index classes row)) category)
+
+-- The table has a row for each class: its marks are those of the class's first row, and by every category it leads to the class
+-- into which that row leads. Its status lists are valid and in order, and each is some row's.
+pub record IsMerged (automaton : Table) (classes firsts : List ℕ) (table : Table) : Type 0 where
+  pub categories : table.categories ≡ automaton.categories
+  pub slashes : table.slashes ≡ automaton.slashes
+  pub rows : length table.rows ≡ length firsts
+  pub cells : length table.cells ≡ length firsts * automaton.categories
+  pub marks : (class : ℕ) → class < length firsts → marks_of table class ≡ marks_of automaton (slice_index firsts class)
+  pub next : (class category : ℕ) → class < length firsts → category < automaton.categories →
+      step table class category ≡ slice_index classes (step automaton (slice_index firsts class) category)
+  pub list : (class : ℕ) → class < length firsts → list_of table class < length table.lists
+  pub valid : AllByRecursion IsValidList table.lists
+  pub first_list : BeginsWithZeroAlone table.lists
+  pub in_order : AreInOrder table.lists
+  pub named : (list : ℕ) → list < length table.lists → (class : ℕ) × (class < length firsts) × (list_of table class ≡ list)
