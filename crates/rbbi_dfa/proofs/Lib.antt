@@ -2,3 +2,5 @@ pub mod Splits
 pub mod SplitSound
 pub mod Refining
 pub mod Merged
+pub mod SortedLists
+pub mod Ranking

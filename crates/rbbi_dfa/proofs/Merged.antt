@@ -24,7 +24,7 @@ IsBefore-irreflexive [] h = h
 IsBefore-irreflexive (n ∷ ns) (inl h) = absurd (omega arith)
 IsBefore-irreflexive (n ∷ ns) (inr h) = IsBefore-irreflexive ns h.1
 
-IsBefore-trans : (these those last : List ℕ) → IsBefore these those → IsBefore those last → IsBefore these last
+pub IsBefore-trans : (these those last : List ℕ) → IsBefore these those → IsBefore those last → IsBefore these last
 IsBefore-trans these [] last h k = absurd h
 IsBefore-trans [] (n ∷ those) [] h k = k
 IsBefore-trans [] (n ∷ those) (l ∷ last) h k = tt

@@ -1,6 +1,7 @@
 //! From an automaton to the classes of rows that can't be told apart.
 mod inverse;
 mod partition;
+mod ranks;
 mod refine;
 mod round;
 mod tally;
