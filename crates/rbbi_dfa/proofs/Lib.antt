@@ -4,3 +4,4 @@ pub mod Refining
 pub mod Merged
 pub mod SortedLists
 pub mod Ranking
+pub mod Grouping

@@ -17,3 +17,8 @@ pub record AreRanks (lists sorted : List (List ℕ)) (ranks : List ℕ) : Type 0
   pub many : length ranks ≡ length lists
   pub within : (i : ℕ) → i < length lists → slice_index ranks i < length sorted
   pub placed : (i : ℕ) → i < length lists → slice_index_or sorted (slice_index ranks i) [] ≡ slice_index_or lists i []
+
+-- the lists in order, and the rank of each
+pub record AreRanked (lists sorted : List (List ℕ)) (ranks : List ℕ) : Type 0 where
+  pub order : AreSorted lists sorted
+  pub places : AreRanks lists sorted ranks

@@ -1,4 +1,5 @@
 //! From an automaton to the classes of rows that can't be told apart.
+mod grouped;
 mod inverse;
 mod partition;
 mod ranks;

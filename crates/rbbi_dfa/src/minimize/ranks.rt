@@ -1,7 +1,7 @@
 //! The status lists of an automaton in order, each once.
-ghost use Rattle.std.specs.Prelude.{◌≡◌, ◌<◌, ◌≤◌, [], length, map, slice_index_or, IfOk};
+ghost use Rattle.std.specs.Prelude.{◌≡◌, ◌<◌, [], length, map, slice_index_or, IfOk};
 ghost use Rattle.std.specs.List.{Contains};
-ghost use Rattle.rbbi_dfa.specs.Ranks.{AreRising, AreSorted, AreRanks};
+ghost use Rattle.rbbi_dfa.specs.Ranks.{AreRising, AreSorted, AreRanks, AreRanked};
 
 use std::alloc::{AllocError, Global};
 
@@ -21,11 +21,10 @@ fn sorted_lists(alloc: Global, lists: &[Vec<u32>]) -> Result<Vec<&[u32]>, AllocE
 }
 
 /// The place of each list among the sorted ones.
-fn places(alloc: Global, lists: &[Vec<u32>], sorted: &[&[u32]]) -> Result<Vec<u16>, AllocError>
-    requires sorted { AreSorted
+fn places(alloc: Global, lists: &[Vec<u32>], sorted: &[&[u32]]) -> Result<Vec<usize>, AllocError>
+    requires { AreSorted
         (map (λ statuses. statuses.items) lists.now)
         (map (λ statuses. statuses.now) sorted.now) }
-    requires few { length sorted.now ≤ 65535 }
     ensures { IfOk result (λ ranks. AreRanks
         (map (λ statuses. statuses.items) lists.now)
         (map (λ statuses. statuses.now) sorted.now)
@@ -39,15 +38,35 @@ fn places(alloc: Global, lists: &[Vec<u32>], sorted: &[&[u32]]) -> Result<Vec<u1
 }
 
 /// The place of a list among sorted ones that hold it.
-fn place_of(sorted: &[&[u32]], statuses: &[u32]) -> u16
+fn place_of(sorted: &[&[u32]], statuses: &[u32]) -> usize
     requires sorted { AreRising (map (λ statuses. statuses.now) sorted.now) }
     requires held { Contains (map (λ statuses. statuses.now) sorted.now) statuses.now }
-    requires few { length sorted.now ≤ 65535 }
     ensures place { result < length sorted.now }
     ensures list { slice_index_or (map (λ statuses. statuses.now) sorted.now) result [] ≡ statuses.now }
 {
     match sorted.binary_search(&statuses) {
-        Ok(place) => place as u16,
+        Ok(place) => place,
         Err(_) => 0,
     }
+}
+
+/// The status lists of an automaton in order, and the place of each among them.
+#[derive(Drop)]
+pub(crate) struct Ranks<'a> {
+    /// The lists in order, each once.
+    pub sorted: Vec<&'a [u32]>,
+    /// For each list of the automaton, its place among the sorted ones.
+    pub places: Vec<usize>,
+}
+
+/// Sorts the status lists of an automaton.
+pub(crate) fn rank_lists(alloc: Global, lists: &[Vec<u32>]) -> Result<Ranks<'_>, AllocError>
+    ensures { IfOk result (λ ranks. AreRanked
+        (map (λ statuses. statuses.items) lists.now)
+        (map (λ statuses. statuses.now) ranks.sorted.items)
+        ranks.places.items) }
+{
+    let sorted = sorted_lists(alloc, lists)?;
+    let places = places(alloc, lists, &sorted)?;
+    Ok(Ranks { sorted, places })
 }

@@ -17,7 +17,7 @@ place_of-requires-clause-held c =
     let lists = c.args.lists.now in
     subst (λ (statuses : List ℕ). Contains (map (λ (statuses : Bor (List ℕ)). statuses.now) c.args.sorted.now) statuses)
     (sym (read_list lists c.loop-list.list-index c.list-item.result _ c.loop-list-test.true c.list-item.is c.as_slice.ensures.value))
-    (c.requires.sorted.all c.loop-list.list-index (omega (arith, length-map lists (λ (statuses : Vec ℕ Global). statuses.items))))
+    (c.requires.all c.loop-list.list-index (omega (arith, length-map lists (λ (statuses : Vec ℕ Global). statuses.items))))
 
 pub loop-list-preserved : goal.loop-list-preserved
 loop-list-preserved c =
