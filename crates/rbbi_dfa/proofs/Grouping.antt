@@ -165,9 +165,9 @@ module _ (automaton : Table) (row : ℕ) (classes firsts : List ℕ) (h : AreGro
             (ap (λ n. marks_of automaton n) (sym first_here) ∙ ap (λ n. marks_of automaton (slice_index (firsts ++ row ∷ []) n)) (sym (class_here class)));
         differ = λ k l later less m.
             first_cases (λ later first. k < later → marks_of automaton (slice_index (firsts ++ row ∷ []) k) ≢ marks_of automaton first)
-              (λ later m less same. h.differ k l later less m (ap (λ n. marks_of automaton n) (sym (first_before k (omega arith))) ∙ same))
-              (λ less same. new k l less (ap (λ n. marks_of automaton n) (sym (first_before k less)) ∙ same))
-              later m less;
+            (λ later m less same. h.differ k l later less m (ap (λ n. marks_of automaton n) (sym (first_before k (omega arith))) ∙ same))
+            (λ less same. new k l less (ap (λ n. marks_of automaton n) (sym (first_before k less)) ∙ same))
+            later m less;
       }))
     where
       first_cases : (P : ℕ → ℕ → Type 0) → ((k : ℕ) → k < length firsts → P k (slice_index firsts k)) → P (length firsts) row → (k : ℕ) → k < length (firsts ++ row ∷ []) → P k (slice_index (firsts ++ row ∷ []) k)
@@ -246,6 +246,7 @@ pub same_marks : (automaton : Table) (sorted : List (List ℕ)) (places : List �
     (slice_index places (list_of automaton this) ≡ slice_index places (list_of automaton that)) ↔ (marks_of automaton this ≡ marks_of automaton that)
 same_marks automaton sorted places this that determined ranked h k a f =
     let these = (determined.each this h).list in
-    let those = (determined.each that k).list in
-    (λ e. marks_by_parts (marks_of automaton this) (marks_of automaton that) a f (rank_alike automaton.lists sorted places (list_of automaton this) (list_of automaton that) ranked these those e),
-      λ e. alike_rank automaton.lists sorted places (list_of automaton this) (list_of automaton that) ranked these those (ap (λ (marks : Marks). marks.statuses) e))
+    let those = (determined.each that k).list in (
+      λ e. marks_by_parts (marks_of automaton this) (marks_of automaton that) a f (rank_alike automaton.lists sorted places (list_of automaton this) (list_of automaton that) ranked these those e),
+      λ e. alike_rank automaton.lists sorted places (list_of automaton this) (list_of automaton that) ranked these those (ap (λ (marks : Marks). marks.statuses) e),
+    )

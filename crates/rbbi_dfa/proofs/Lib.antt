@@ -5,3 +5,4 @@ pub mod Merged
 pub mod SortedLists
 pub mod Ranking
 pub mod Grouping
+pub mod Needed

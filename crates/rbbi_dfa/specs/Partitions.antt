@@ -1,5 +1,5 @@
 -- Partitions of an automaton's rows into classes, no two of which lead on alike.
-use Rattle.std.specs.Prelude.{◌≡◌, ◌≢◌, ℕ, ◌*◌, ◌<◌, ◌≤◌, Bool, false, List, length, slice_index, slice_index_or}
+use Rattle.std.specs.Prelude.{◌≡◌, ◌≢◌, AllPairs, ℕ, ◌*◌, ◌<◌, ◌≤◌, Bool, false, List, length, slice_index, slice_index_or}
 use Rattle.std.specs.List.{AllByRecursion}
 use Rattle.rbbi_model.specs.Tables.{Table, list_of, step, row_along}
 use Rattle.rbbi_model.specs.ValidTables.{IsWay, IsValidList, BeginsWithZeroAlone, AreInOrder}
@@ -62,3 +62,16 @@ pub record IsMerged (automaton : Table) (classes firsts : List ℕ) (table : Tab
   pub first_list : BeginsWithZeroAlone table.lists
   pub in_order : AreInOrder table.lists
   pub named : (list : ℕ) → list < length table.lists → (class : ℕ) × (class < length firsts) × (list_of table class ≡ list)
+
+-- A table with the marks of the automaton needs so many rows beside row 0: there are so many rows, each two told apart.
+pub record NeedsRows (automaton : Table) (count : ℕ) : Type 0 where
+  pub rows : List ℕ
+  pub many : length rows ≡ count
+  pub are_rows : AllByRecursion (λ row. (row ≢ 0) × (row < length automaton.rows)) rows
+  pub apart : AllPairs (IsToldApart automaton) rows
+
+-- a stable partition of no more classes than a table may have rows
+pub record IsMinimized (automaton : Table) (classes firsts : List ℕ) : Type 0 where
+  pub partition : IsPartition automaton classes firsts
+  pub stable : IsStable automaton classes firsts
+  pub few : length firsts ≤ 4095

@@ -1,6 +1,6 @@
 //! Partition refinement in time n log n, after Hopcroft (1971), "An n log n algorithm for minimizing
 //! states in a finite automaton".
-ghost use Rattle.std.specs.Prelude.{◌≡◌, ◌+◌, ◌<◌, ◌≤◌, length, IfOk};
+ghost use Rattle.std.specs.Prelude.{◌≡◌, ◌+◌, ◌<◌, ◌≤◌, ◌==◌, length, map, IfOk};
 ghost use Rattle.rbbi_dfa.specs.Automata.{IsDetermined};
 ghost use Rattle.rbbi_dfa.specs.Partitions.{IsPartition, AreSides};
 
@@ -107,6 +107,7 @@ fn split_touched(
 
 /// For each row, whether it is of the class.
 pub(crate) fn side_of(alloc: Global, classes: &[u16], class: u16) -> Result<Vec<bool>, AllocError>
+    ensures exact { IfOk result (λ inside. inside.items ≡ map (λ of. of == class) classes.now) }
     ensures sides { IfOk result (λ inside. AreSides classes.now inside.items) }
     ensures length { IfOk result (λ inside. length inside.items ≡ length classes.now) }
 {
