@@ -6,3 +6,4 @@ pub mod SortedLists
 pub mod Ranking
 pub mod Grouping
 pub mod Needed
+pub mod Numbering

@@ -1,3 +1,4 @@
 pub mod Automata
 pub mod Partitions
 pub mod Ranks
+pub mod Numbers

@@ -7,6 +7,7 @@ ghost use Rattle.rbbi_dfa.specs.Ranks.{AreRanked};
 
 mod grouped;
 mod inverse;
+mod lists;
 mod partition;
 mod ranks;
 mod refine;
