@@ -8,6 +8,7 @@ ghost use Rattle.rbbi_dfa.specs.Ranks.{AreRanked};
 mod grouped;
 mod inverse;
 mod lists;
+mod merge;
 mod partition;
 mod ranks;
 mod refine;
@@ -16,6 +17,7 @@ mod tally;
 mod work;
 
 use crate::automaton::Automaton;
+pub(crate) use merge::merge;
 pub(crate) use partition::{MOST_ROWS, Partition};
 pub(crate) use ranks::{Ranks, rank_lists};
 use refine::{refine, side_of};

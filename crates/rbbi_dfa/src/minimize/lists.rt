@@ -61,9 +61,10 @@ pub(crate) fn number_lists(
     let mut lists = Vec::new(alloc);
     for place in 0..sorted.len() {
         numbers.push(lists.len())?;
-        if used[place] {
-            lists.push(Vec::from_slice(alloc, sorted[place])?)?;
+        if !used[place] {
+            continue;
         }
+        lists.push(Vec::from_slice(alloc, sorted[place])?)?;
     }
     Ok((numbers, lists))
 }
