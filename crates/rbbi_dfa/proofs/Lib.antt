@@ -7,3 +7,4 @@ pub mod Ranking
 pub mod Grouping
 pub mod Needed
 pub mod Numbering
+pub mod Merging

@@ -42,11 +42,11 @@ length-le_from_numbered f count xs below apart =
     mapped [] h = tt
     mapped (y ∷ ys) h = (h.0, mapped ys h.1)
 
-all_by_index : (P : ℕ → Type 0) (xs : List ℕ) → ((i : ℕ) → i < length xs → P (slice_index xs i)) → AllByRecursion P xs
+pub all_by_index : (P : ℕ → Type 0) (xs : List ℕ) → ((i : ℕ) → i < length xs → P (slice_index xs i)) → AllByRecursion P xs
 all_by_index P [] h = tt
 all_by_index P (x ∷ xs) h = (h 0 (omega arith), all_by_index P xs (λ i l. h (suc i) (omega arith)))
 
-index_by_all : (P : ℕ → Type 0) (xs : List ℕ) → AllByRecursion P xs → (i : ℕ) → i < length xs → P (slice_index xs i)
+pub index_by_all : (P : ℕ → Type 0) (xs : List ℕ) → AllByRecursion P xs → (i : ℕ) → i < length xs → P (slice_index xs i)
 index_by_all P [] h i l = absurd (omega arith)
 index_by_all P (x ∷ xs) h zero l = h.0
 index_by_all P (x ∷ xs) h (suc i) l = index_by_all P xs h.1 i (omega arith)
