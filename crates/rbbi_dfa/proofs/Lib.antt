@@ -8,3 +8,4 @@ pub mod Grouping
 pub mod Needed
 pub mod Numbering
 pub mod Merging
+pub mod Leastness

@@ -179,6 +179,7 @@ module _
               cells = have_cells.many;
               marks = merged_marks;
               next = merged_next;
+              few_lists = lists_few;
               list = λ class h. subst (λ (n : ℕ). n < length lists) (sym (merged_list class h)) (number_within class h);
               valid = lists_valid;
               first_list = begins_with_zero lists (slice_index numbers (slice_index class_places 0)) lists_valid numbered.rising (number_within 0 start) (number_list 0 start ∙ stop_list);

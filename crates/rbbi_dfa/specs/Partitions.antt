@@ -58,6 +58,7 @@ pub record IsMerged (automaton : Table) (classes firsts : List ℕ) (table : Tab
   pub next : (class category : ℕ) → class < length firsts → category < automaton.categories →
       step table class category ≡ slice_index classes (step automaton (slice_index firsts class) category)
   pub list : (class : ℕ) → class < length firsts → list_of table class < length table.lists
+  pub few_lists : length table.lists ≤ length firsts
   pub valid : AllByRecursion IsValidList table.lists
   pub first_list : BeginsWithZeroAlone table.lists
   pub in_order : AreInOrder table.lists

@@ -2,4 +2,8 @@
 #![tactic(auto)]
 
 mod automaton;
+mod error;
+mod least;
 mod minimize;
+
+pub use error::BuildErr;
