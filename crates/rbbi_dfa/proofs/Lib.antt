@@ -9,3 +9,4 @@ pub mod Needed
 pub mod Numbering
 pub mod Merging
 pub mod Leastness
+pub mod RuleNeeds

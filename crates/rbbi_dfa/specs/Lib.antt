@@ -4,3 +4,4 @@ pub mod Ranks
 pub mod Numbers
 pub mod Refusals
 pub mod LeastTables
+pub mod Categories
