@@ -10,3 +10,4 @@ pub mod Numbering
 pub mod Merging
 pub mod Leastness
 pub mod RuleNeeds
+pub mod Compiling

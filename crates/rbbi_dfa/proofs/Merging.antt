@@ -55,7 +55,7 @@ begins_with_zero (first ∷ lists) (suc i) valid rising h e =
     absurd (omega (arith, valid.0.some))
 
 -- a choice for each number below count, in a list
-picked : (P : ℕ → ℕ → Type 0) (count : ℕ) → ((i : ℕ) → i < count → (x : ℕ) × P i x) → (xs : List ℕ) × (length xs ≡ count) × ((i : ℕ) → i < count → P i (slice_index xs i))
+pub picked : (P : ℕ → ℕ → Type 0) (count : ℕ) → ((i : ℕ) → i < count → (x : ℕ) × P i x) → (xs : List ℕ) × (length xs ≡ count) × ((i : ℕ) → i < count → P i (slice_index xs i))
 picked P zero f = ([], refl, λ i h. absurd (omega arith))
 picked P (suc count) f =
     let before = picked P count (λ i h. f i (omega arith)) in

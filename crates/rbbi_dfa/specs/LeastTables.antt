@@ -1,6 +1,6 @@
 -- The least table with the marks of an automaton.
 use Rattle.std.specs.Prelude.{◌≡◌, ◌*◌, ℕ, List, length, Result, Ok, Err}
-use Rattle.rbbi_model.specs.Tables.{Table, row_along}
+use Rattle.rbbi_model.specs.Tables.{Table, CategoryRange, row_along}
 use Rattle.rbbi_model.specs.ValidTables.{IsWay, AreValidLists, AreValidRows, AreFronted}
 use Rattle.rbbi_model.specs.Marks.{marks_of}
 use Rattle.rbbi_model.specs.Compiled.{IsLeast}
@@ -28,3 +28,7 @@ GivesLeast automaton (Err TooManySets) = ⊥
 GivesLeast automaton (Err TooManyRows) = NeedsRows automaton 4095
 GivesLeast automaton (Err TooManyStatuses) = ⊥
 GivesLeast automaton (Err Memory) = Unit {0}
+
+-- the table with these ranges and safe pairs in place of its own
+abbrev pub finished : Table → List CategoryRange → List ℕ → Table
+finished table ranges safe = record table { ranges = ranges; safe = safe }

@@ -3,6 +3,7 @@
 
 mod automaton;
 mod error;
+mod laws;
 mod least;
 mod minimize;
 
