@@ -1,46 +1,53 @@
 //! Whether each look-ahead rule's front ends before the rule is completed.
-ghost use Rattle.std.specs.Prelude.{◌≡◌, ℕ, ◌↔◌, ◌+◌, ◌*◌, ◌<◌, ◌≤◌, length, slice_index, IfOk, IsTrue};
-ghost use Rattle.rbbi_model.specs.ValidTables.{AreFronted, AreValidRows};
-ghost use Rattle.rbbi_table.specs.Parts.{table_of};
+ghost use Rattle.std.specs.Prelude.{◌≡◌, ℕ, ◌↔◌, ◌+◌, ◌*◌, ◌^◌, ◌<◌, ◌≤◌, [], length, slice_index_or, IfOk, IsTrue};
+ghost use Rattle.rbbi_model.specs.Tables.{empty_head};
+ghost use Rattle.rbbi_model.specs.ValidTables.{AreFronted, AreValidRows, IsPlain};
+ghost use Rattle.rbbi_table.specs.Parts.{table_of, rows_of, AreSteps};
+ghost use Rattle.rbbi_table.specs.Fronts.{IsFronted};
 
+use crate::bits::has_front;
+use crate::gather::add_target;
 use crate::{Parts, RowHead};
 use std::alloc::{AllocError, Global};
 
 /// Whether no row at which look-ahead rule `slash` is completed can be entered from row 1 through
 /// rows at which its front doesn't end.
 ///
-/// It goes once over each such row, by a queue of the rows that were reached. `seen` and `queue` are
-/// scratch space for as many rows as there are.
+/// It goes once over each such row, by a queue of the rows that were reached.
 fn is_fronted(
+    alloc: Global,
+    width: usize,
     rows: &[RowHead],
     cells: &[u16],
     slash: u16,
-    seen: &mut [bool],
-    queue: &mut [u16],
-) -> bool {
-    let width = cells.len() / rows.len();
-    seen.fill(false);
-    seen[1] = true;
-    queue[0] = 1;
-    let mut reached = 1;
+) -> Result<bool, AllocError>
+    requires steps { AreSteps width rows.now cells.now }
+    requires some { 2 ≤ length rows.now }
+    requires few { length rows.now < 2 ^ 16 }
+    requires start { IsPlain (slice_index_or rows.now 1 empty_head) }
+    requires slash { slash < 32 }
+    ensures { IfOk result (λ fronted. IsTrue fronted
+        ↔ IsFronted (rows_of width rows.now cells.now []) slash) }
+{
+    let mut seen = vec![in alloc; false; rows.len()]?;
+    let mut queue = Vec::with_capacity(alloc, rows.len())?;
+    add_target(&mut seen, &mut queue, 1)?;
     let mut done = 0;
-    while done < reached {
+    while done < queue.len() {
         let row = queue[done] as usize;
         done += 1;
         for cell in &cells[row * width..row * width + width] {
-            let next = *cell as usize;
-            let head = &rows[next];
+            let head = rows[*cell as usize];
             if head.accept == slash + 2 {
-                return false;
+                return Ok(false);
             }
-            if !seen[next] && head.fronts >> slash & 1 == 0 {
-                seen[next] = true;
-                queue[reached] = *cell;
-                reached += 1;
+            if has_front(head.fronts, slash) {
+                continue;
             }
+            add_target(&mut seen, &mut queue, *cell)?;
         }
     }
-    true
+    Ok(true)
 }
 
 /// Whether on every way from row 1 into a row at which a look-ahead rule is completed, its front ends
@@ -52,10 +59,10 @@ pub(crate) fn are_fronted(alloc: Global, parts: &Parts) -> Result<bool, AllocErr
 {
     let rows = parts.rows.as_slice();
     let cells = parts.cells.as_slice();
-    let mut seen = vec![in alloc; false; rows.len()]?;
-    let mut queue = vec![in alloc; 0; rows.len()]?;
+    let width = parts.categories as usize;
     for slash in 0..parts.slashes {
-        if !is_fronted(rows, cells, slash, &mut seen, &mut queue) {
+        let fronted = is_fronted(alloc, width, rows, cells, slash)?;
+        if !fronted {
             return Ok(false);
         }
     }

@@ -4,9 +4,11 @@
 //! and reads each character once.
 #![tactic(auto)]
 
+mod bits;
 mod blocks;
 mod error;
 mod fronts;
+mod gather;
 mod limits;
 mod list;
 mod lists;

@@ -1,5 +1,5 @@
 //! Scratch space of a search.
-ghost use Rattle.std.specs.Prelude.{◌≡◌, ℕ, ◌^◌, ◌<◌, length, slice_index, if◌then◌else◌, IfOk};
+ghost use Rattle.std.specs.Prelude.{◌≡◌, ℕ, ◌^◌, ◌<◌, ◌≤◌, length, slice_index, if◌then◌else◌, IfOk};
 ghost use Rattle.rbbi_model.specs.Places.{has_bit};
 
 use crate::Table;
@@ -37,7 +37,8 @@ impl Marks {
 
 /// Sets the place of each look-ahead rule whose bit is in the front mask.
 pub(crate) fn note(places: &mut [u32], fronts: u32, at: u32)
-    requires { fronts < 2 ^ length places.old }
+    requires fronts { fronts < 2 ^ length places.old }
+    requires few { length places.old ≤ 32 }
     ensures { (k : ℕ) → k < length places.new → slice_index places.new k
         ≡ (if has_bit fronts k then at else slice_index places.old k) }
 {

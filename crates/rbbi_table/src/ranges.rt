@@ -1,9 +1,20 @@
 //! Whether the ranges of the categories are valid.
 ghost use Rattle.std.specs.Prelude.{◌↔◌, IsTrue};
 ghost use Rattle.rbbi_model.specs.ValidTables.{AreValidRanges};
+ghost use Rattle.rbbi_table.specs.Kept.{GoesOn};
 
 use crate::RangeRow;
 use crate::limits::{LAST_CODE_POINT, MOST_CATEGORIES};
+
+/// Whether the range starts past the one before it, has another category, and is within the bounds.
+fn goes_on(categories: u16, previous: &RangeRow, range: &RangeRow) -> bool
+    ensures { IsTrue result ↔ GoesOn categories previous.now range.now }
+{
+    previous.start < range.start
+        && previous.cat != range.cat
+        && range.start <= LAST_CODE_POINT
+        && range.cat < categories
+}
 
 /// Whether there are enough and few enough categories, and the ranges give each code point one of
 /// them.
@@ -18,14 +29,10 @@ pub(crate) fn are_valid_ranges(categories: u16, ranges: &[RangeRow]) -> bool
         return false;
     }
     for range in &ranges[1..] {
-        let range = *range;
-        if range.start <= previous.start || range.start > LAST_CODE_POINT {
+        if !goes_on(categories, &previous, range) {
             return false;
         }
-        if range.cat == previous.cat || range.cat >= categories {
-            return false;
-        }
-        previous = range;
+        previous = *range;
     }
     true
 }

@@ -1,11 +1,13 @@
 //! One search in a table.
-ghost use Rattle.std.specs.Prelude.{◌≡◌, ℕ, ◌+◌, ◌-◌, ◌*◌, ◌<◌, length, min};
+ghost use Rattle.std.specs.Prelude.{◌≡◌, ℕ, ◌+◌, ◌-◌, ◌^◌, ◌<◌, length, min, nat_lt, if◌then◌else◌};
 ghost use Rattle.rbbi_model.specs.Searches.{found, look_end};
+ghost use Rattle.rbbi_table.specs.Parts.{table_of};
+ghost use Rattle.rbbi_table.specs.Kept.{IsKept};
 
 use crate::blocks::{Blocks, look_up};
 use crate::marks::note;
 use crate::moves::{ACCEPT, FRONTS, HEAD, LIST};
-use crate::{Marks, Table};
+use crate::{Marks, Parts, Table};
 use rbbi_text::{Chars, Steps};
 use std::sync::ledger::Ledger;
 
@@ -23,7 +25,12 @@ pub struct Found {
 
 /// The longest match, or where none was seen, one character with list 0. `end` is the place where a
 /// rule ended last, or `s` where none did.
-fn longest(s: u32, end: u32, status: u16, look: u32) -> Found {
+fn longest(s: u32, end: u32, status: u16, look: u32) -> Found
+    requires { s < 2 ^ 31 }
+    ensures at { result.at ≡ (if nat_lt s end then end else s + 1) }
+    ensures status { result.status ≡ (if nat_lt s end then status else 0) }
+    ensures look { result.look ≡ look }
+{
     if end > s {
         Found {
             at: end,
@@ -41,14 +48,25 @@ fn longest(s: u32, end: u32, status: u16, look: u32) -> Found {
 
 /// The search of `Table::next`, over the lists that it reads.
 fn search<T: Chars, L: Ledger>(
-    width: usize,
+    parts: &Parts,
     blocks: &Blocks,
     moves: &[u32],
     text: &T,
     s: u32,
     places: &mut [u32],
     steps: &mut Steps<L>,
-) -> Found {
+) -> Found
+    requires kept { IsKept (table_of parts.now) blocks.now.numbers.items
+        blocks.now.categories.items moves.now }
+    requires within { s < length (T.characters text.now) }
+    requires fit { length places.old ≡ parts.now.slashes }
+    ensures at { result.at ≡ (found (table_of parts.now) (T.characters text.now) s).at }
+    ensures status { result.status ≡ (found (table_of parts.now) (T.characters text.now) s).list }
+    ensures look { result.look ≡ look_end (table_of parts.now) (T.characters text.now) s }
+    ensures read { steps.new ≡ steps.old + (min (look_end (table_of parts.now)
+        (T.characters text.now) s) (length (T.characters text.now)) - s) }
+{
+    let width = parts.categories as usize;
     let len = text.len();
     let numbers = blocks.numbers.as_slice();
     let kept = blocks.categories.as_slice();
@@ -108,9 +126,8 @@ impl Table {
             + (min (look_end self.now (T.characters text.now) s) (length (T.characters text.now)) - s) }
         ensures fit { marks.new ≡ marks.old }
     {
-        let width = self.parts.categories as usize;
         search(
-            width,
+            &self.parts,
             &self.blocks,
             &self.moves,
             text,

@@ -7,6 +7,7 @@ ghost use Rattle.rbbi_model.specs.Lines.{safe_count};
 ghost use Rattle.rbbi_table.specs.Parts.{table_of, HasFittingParts};
 ghost use Rattle.rbbi_table.specs.Answers.{MakesTable};
 
+use crate::bits::has_stored;
 use crate::blocks::{Blocks, look_up};
 use crate::fronts::are_fronted;
 use crate::lists::are_valid_lists;
@@ -14,7 +15,7 @@ use crate::moves::moves_of;
 use crate::parts::copied;
 use crate::ranges::are_valid_ranges;
 use crate::rows::are_valid_rows;
-use crate::safe::safe_pairs;
+use crate::safe::{are_same, safe_pairs};
 use crate::{Parts, RangeRow, RowHead, TableErr};
 use std::alloc::Global;
 use std::marker::Model;
@@ -64,11 +65,13 @@ impl Table {
         if !are_valid_rows(parts) {
             return Err(TableErr::BadRows);
         }
-        if !are_fronted(alloc, parts)? {
+        let fronted = are_fronted(alloc, parts)?;
+        if !fronted {
             return Err(TableErr::BadFronts);
         }
         let safe = safe_pairs(alloc, parts.categories, rows, cells)?;
-        if safe.as_slice() != parts.safe.as_slice() {
+        let same = are_same(safe.as_slice(), parts.safe.as_slice());
+        if !same {
             return Err(TableErr::BadSafe);
         }
         let blocks = Blocks::new(alloc, parts.ranges.as_slice())?;
@@ -86,6 +89,13 @@ impl Table {
         ensures { IsValidTable self.now }
     {
         let _parts = &self.parts;
+    }
+
+    /// The parts, as they were checked.
+    pub fn parts(&self) -> &Parts
+        ensures { table_of result.now ≡ self.now }
+    {
+        &self.parts
     }
 
     /// How many categories there are.
@@ -131,7 +141,7 @@ impl Table {
         let bytes = self.parts.safe.as_slice();
         let mut count = 0;
         for bit in 0..width * width {
-            if bytes[bit as usize / 8] >> (bit % 8) & 1 == 1 {
+            if has_stored(bytes, bit as usize) {
                 count += 1;
             }
         }
@@ -191,6 +201,6 @@ impl Table {
         ensures exact { IsTrue result ↔ IsSafePair self.now c1 c2 }
     {
         let bit = c1 as usize * self.parts.categories as usize + c2 as usize;
-        self.parts.safe.as_slice()[bit / 8] >> (bit % 8) & 1 == 1
+        has_stored(self.parts.safe.as_slice(), bit)
     }
 }
