@@ -1,0 +1,13 @@
+pub mod Counts
+pub mod TakingOut
+pub mod PuttingBack
+pub mod Selecting
+pub mod Numbering
+pub mod LeafSets
+pub mod Classing
+pub mod Finding
+pub mod Telling
+pub mod Filling
+pub mod Ranging
+pub mod Cutting
+pub mod Refining

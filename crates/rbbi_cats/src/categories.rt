@@ -1,0 +1,94 @@
+//! The categories of code points.
+ghost use Rattle.std.specs.Prelude.{◌≡◌, IfOk};
+ghost use Rattle.rbbi_model.specs.Rules.{AreLawful};
+ghost use Rattle.rbbi_model.specs.Tables.{category_of};
+ghost use Rattle.rbbi_model.specs.ValidTables.{AreValidRanges};
+ghost use Rattle.rbbi_model.specs.Compiled.{AreClasses};
+ghost use Rattle.rbbi_resolve.specs.RuleLists.{rules_of};
+ghost use Rattle.rbbi_cats.specs.CategoryLists.{HasClasses};
+ghost use Rattle.rbbi_cats.specs.declared.error.CatsErr.TheVariants.{TooManyCategories};
+
+use crate::classes::{MOST_CATEGORIES, classes_of};
+use crate::cuts::cuts_of;
+use crate::lookup::lookup_of;
+use crate::numbers::{numbers_of, ranges_of};
+use crate::{CatRange, CatsErr};
+use rbbi_resolve::Rules;
+use std::alloc::Global;
+use std::marker::Model;
+
+/// The categories of code points. Contracts see their number, and their ranges.
+///
+/// A character is looked up in two steps: its block of 256 code points, then its place in the block.
+/// Equal blocks are kept once.
+#[derive(Debug, Drop)]
+pub struct Categories {
+    count: u16,
+    ranges: Vec<CatRange>,
+    /// The number of each block's cells.
+    blocks: Vec<u16>,
+    /// The categories of the code points of the different blocks, one block after another.
+    cells: Vec<u16>,
+}
+
+impl Model for Categories {
+    ghost use Rattle.rbbi_cats.specs.CategoryLists.{CategoryList};
+    ghost use Rattle.rbbi_cats.specs.Lookups.{IsLookup};
+
+    ghost Value = { CategoryList };
+
+    ghost view = { λ cats. record { count = cats.count; ranges = cats.ranges.items } };
+
+    ghost invariant = { λ cats. IsLookup cats.blocks.items cats.cells.items cats.ranges.items };
+}
+
+/// The categories of the rules: 0 for the code points that no leaf reads, and one for each class of
+/// code points that the leaves' sets don't tell apart, numbered by their least code point (partition
+/// refinement; Paige and Tarjan 1987).
+///
+/// Refuses `TooManyCategories` where there are more than 255, category 0 counted.
+pub fn partition(alloc: Global, rules: &Rules) -> Result<Categories, CatsErr>
+    requires { AreLawful (rules_of rules.now) }
+    ensures classes { IfOk result (λ cats. AreClasses (rules_of rules.now) cats.count cats.ranges) }
+    ensures form { IfOk result (λ cats. AreValidRanges cats.count cats.ranges) }
+    ensures few { IfOk result (λ cats. ¬ HasClasses (rules_of rules.now) MOST_CATEGORIES) }
+    ensures too_many { result ≡ Err TooManyCategories → HasClasses (rules_of rules.now) MOST_CATEGORIES }
+{
+    let sets = rules.sets();
+    let cuts = cuts_of(alloc, sets)?;
+    let (classes, sizes) = classes_of(alloc, sets, &cuts)?;
+    let (numbers, greatest) = numbers_of(alloc, &classes, sizes.len())?;
+    let ranges = ranges_of(alloc, &cuts, &classes, &numbers)?;
+    let (blocks, cells) = lookup_of(alloc, &ranges)?;
+    Ok(Categories {
+        count: greatest + 1,
+        ranges,
+        blocks,
+        cells,
+    })
+}
+
+impl Categories {
+    /// The category of a character.
+    pub fn of(&self, c: char) -> u16
+        ensures { result ≡ category_of self.now.ranges c }
+    {
+        let at = c as usize;
+        self.cells[self.blocks[at / 256] as usize * 256 + at % 256]
+    }
+
+    /// The number of categories, category 0 counted.
+    pub fn count(&self) -> u16
+        ensures { result ≡ self.now.count }
+    {
+        self.count
+    }
+
+    /// The ranges of the categories: the first starts at 0, starts rise, and neighbours have different
+    /// categories.
+    pub fn ranges(&self) -> &[CatRange]
+        ensures { result.now ≡ self.now.ranges }
+    {
+        &self.ranges
+    }
+}

@@ -1,0 +1,17 @@
+//! Categories: the classes of code points that the sets of the leaves don't tell apart.
+#![tactic(auto)]
+
+mod categories;
+mod classes;
+mod cuts;
+mod error;
+mod lookup;
+mod members;
+mod numbers;
+mod range;
+mod refine;
+
+pub use categories::{Categories, partition};
+pub use classes::MOST_CATEGORIES;
+pub use error::CatsErr;
+pub use range::CatRange;

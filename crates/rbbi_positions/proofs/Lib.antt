@@ -1,0 +1,5 @@
+pub mod Splits
+pub mod Spans
+pub mod Exchanges
+pub mod RuleSpans
+pub mod WalkLaws

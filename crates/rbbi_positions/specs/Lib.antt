@@ -1,0 +1,3 @@
+pub mod FollowPositions
+pub mod Walks
+pub mod PositionMarks

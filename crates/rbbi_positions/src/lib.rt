@@ -1,0 +1,16 @@
+//! Positions: the leaves of the active rules, numbered over all rules, and which of them may follow
+//! which (follow positions; McNaughton and Yamada 1960, Glushkov 1961).
+#![tactic(auto)]
+
+mod bits;
+mod laws;
+
+pub use laws::{
+    front_walks_are_spelled, fronts_are_exchanged, prefixes_are_walks, spelled_are_exchanged,
+    spelled_are_of_the_rule, spelled_are_walks,
+};
+
+mod marks;
+mod rule_mark;
+
+pub use marks::Positions;

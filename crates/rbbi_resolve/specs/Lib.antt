@@ -1,0 +1,2 @@
+pub mod RuleTrees
+pub mod RuleLists

@@ -1,0 +1,142 @@
+//! The active rules of a rule file, with their variables replaced.
+ghost use Rattle.std.specs.Prelude.{◌≡◌, ◌<◌, length, slice_get, sum_by};
+ghost use Rattle.rbbi_model.specs.Rules.{leaves_of, look_aheads};
+ghost use Rattle.rbbi_resolve.specs.RuleLists.{rules_of, AreWellFormed};
+
+use rbbi_sets::CodeSet;
+use rbbi_tree::Quant;
+use std::marker::Model;
+
+/// What a rule matches, with its variables replaced.
+#[derive(Debug, Drop)]
+#[cycle(tree)]
+pub enum Tree {
+    /// One character of the set with this number in the list of sets.
+    Leaf(u32),
+    /// Parts that follow one another, at least one.
+    Seq(Trees),
+    /// One of the parts, at least one.
+    Alt(Trees),
+    /// A part that is repeated.
+    Rep(Quant, Box<Tree>),
+}
+
+/// Parts of a sequence or a choice, from first to last.
+#[derive(Debug, Drop)]
+#[cycle(tree)]
+pub struct Trees {
+    pub items: Vec<Tree>,
+}
+
+/// An active rule of a rule file.
+#[derive(Debug, Drop)]
+pub struct Rule {
+    /// What it matches, up to the `/` where there is one.
+    pub front: Tree,
+    /// What it matches behind the `/`.
+    pub rest: Option<Tree>,
+    /// Whether a match may go on with this rule from its last character on.
+    pub chained_into: bool,
+    /// The status number.
+    pub tag: Option<u32>,
+    /// The place of its first token, in characters from 0.
+    pub place: u32,
+}
+
+/// The sets of the leaves of rules. Contracts see it as the list of their lists of ranges.
+#[derive(Debug, Drop)]
+pub struct SetList {
+    items: Vec<CodeSet>,
+}
+
+impl Model for SetList {
+    ghost use Rattle.std.specs.Prelude.{List};
+    ghost use Rattle.rbbi_model.specs.Ranges.{Range};
+
+    ghost Value = { List (List Range) };
+
+    ghost view = { λ sets. sets.items.items };
+}
+
+impl SetList {
+    /// The number of sets.
+    pub fn len(&self) -> usize
+        ensures { result ≡ length self.now }
+    {
+        self.items.len()
+    }
+
+    /// The set with this number, from 0.
+    pub fn get(&self, i: usize) -> &CodeSet
+        requires { i < length self.now }
+        ensures { slice_get self.now i ≡ Some result.now }
+    {
+        &self.items[i]
+    }
+}
+
+/// The active rules of a rule file in their order, with the sets of their leaves, and the counts of
+/// leaves and of rules with a rest. Contracts see the rules and the sets; `rules_of` gives the list of
+/// rules that they stand for.
+#[derive(Debug, Drop)]
+pub struct Rules {
+    rules: Vec<Rule>,
+    sets: SetList,
+    leaves: u32,
+    slashes: u32,
+}
+
+impl Model for Rules {
+    ghost use Rattle.std.specs.Coded.{codes, coded×, coded_list, code_by};
+    ghost use Rattle.rbbi_resolve.specs.contracts.rules.Rule as rule;
+    ghost use Rattle.rbbi_resolve.specs.RuleLists.{RuleList, AreCounted};
+
+    ghost Value = { RuleList };
+
+    ghost coded = { Prim.hlevel (codes, rule.the_row.coded) };
+
+    ghost view = { λ rules. record { rules = rules.rules.items; sets = rules.sets } };
+
+    ghost invariant = { λ rules.
+        AreCounted (record { rules = rules.rules.items; sets = rules.sets }) rules.leaves rules.slashes };
+}
+
+impl Rules {
+    /// The number of rules.
+    pub fn len(&self) -> usize
+        ensures value { result ≡ length self.now.rules }
+        ensures form { AreWellFormed self.now }
+    {
+        self.rules.len()
+    }
+
+    /// The rule with this number, from 0.
+    pub fn get(&self, i: usize) -> &Rule
+        requires { i < length self.now.rules }
+        ensures { slice_get self.now.rules i ≡ Some result.now }
+    {
+        &self.rules[i]
+    }
+
+    /// The sets of the leaves. A leaf has the number of its set here, and each set is that of a leaf.
+    pub fn sets(&self) -> &SetList
+        ensures value { result.now ≡ self.now.sets }
+        ensures form { AreWellFormed self.now }
+    {
+        &self.sets
+    }
+
+    /// The number of leaves of all rules.
+    pub fn leaves(&self) -> u32
+        ensures { result ≡ sum_by leaves_of (rules_of self.now) }
+    {
+        self.leaves
+    }
+
+    /// The number of rules with a rest.
+    pub fn slashes(&self) -> u32
+        ensures { result ≡ length (look_aheads (rules_of self.now)) }
+    {
+        self.slashes
+    }
+}
