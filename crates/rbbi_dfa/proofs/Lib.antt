@@ -17,3 +17,16 @@ pub mod Counting
 pub mod Valid
 pub mod MarkedLists
 pub mod RowsOfRules
+pub mod Splits
+pub mod SplitSound
+pub mod Refining
+pub mod Merged
+pub mod SortedLists
+pub mod Ranking
+pub mod Grouping
+pub mod Needed
+pub mod Numbering
+pub mod Merging
+pub mod Leastness
+pub mod RuleNeeds
+pub mod Compiling

@@ -1,4 +1,8 @@
 //! A determinised automaton: what lies between the positions of the rules and the least table.
+ghost use Rattle.std.specs.Prelude.{◌≡◌, ◌<◌, length};
+ghost use Rattle.rbbi_model.specs.Tables.{head_of, step};
+ghost use Rattle.rbbi_dfa.specs.Automata.{IsDetermined};
+
 use std::marker::Model;
 
 /// What is marked at a row: its accept number, its front mask and the number of its status list, as
@@ -60,4 +64,33 @@ impl Model for Automaton {
       cells = automaton.cells.items;
       safe = [];
     } };
+}
+
+impl Automaton {
+    /// How many rows there are.
+    pub fn rows(&self) -> u16
+        requires { IsDetermined self.now }
+        ensures { result ≡ length self.now.rows }
+    {
+        self.heads.len() as u16
+    }
+
+    /// What is marked at a row.
+    pub fn head(&self, row: u16) -> Head
+        requires { row < length self.now.rows }
+        ensures { result ≡ head_of self.now row }
+    {
+        self.heads[row as usize]
+    }
+
+    /// The next row from a row, for a category.
+    pub fn next(&self, row: u16, category: u16) -> u16
+        requires determined { IsDetermined self.now }
+        requires row { row < length self.now.rows }
+        requires category { category < self.now.categories }
+        ensures exact { result ≡ step self.now row category }
+        ensures row { result < length self.now.rows }
+    {
+        self.cells[row as usize * self.categories as usize + category as usize]
+    }
 }

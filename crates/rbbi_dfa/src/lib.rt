@@ -3,3 +3,9 @@
 
 mod automaton;
 mod determinize;
+mod error;
+mod laws;
+mod least;
+mod minimize;
+
+pub use error::BuildErr;
