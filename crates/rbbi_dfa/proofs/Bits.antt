@@ -1,0 +1,153 @@
+-- Rows of bits, word by word.
+use Rattle.std.proofs.Common.{◌≡◌, ◌≢◌, ℕ, ◌+◌, ◌*◌, ◌/◌, ◌%◌, ◌^◌, ◌<◌, ◌≤◌, ◌⊎◌, ◌↔◌, List, length, get_or, min, max, sym, ap, ◌∙◌, inl, inr, ⊎_elim, arith, set}
+use Rattle.std.specs.Int.{bit_at, w64}
+use Rattle.std.specs.Prelude.{bit_and}
+use Rattle.std.specs.Int.RustNames.{bit_or}
+use Rattle.std.proofs.lemmas.Bool.{cases_lt, cases_eq}
+use Rattle.std.proofs.lemmas.List.{get_or_past, get_or-set_same, get_or-set_other}
+use Rattle.std.proofs.lemmas.Nat.Bits.{bit_at_or, bit_at_and, bit_at-lt, bit_at-zero, bit_at-trailing_zeros, bit_at_set_same, bit_at_set_other}
+use Rattle.rbbi_dfa.specs.BitRows.{Holds, IsEmptyRow}
+use Rattle.rbbi_dfa.specs.Determinizing.{IsSome}
+
+one_or : (a b : ℕ) → max a b ≡ 1 → a < 2 → b < 2 → (a ≡ 1) ⊎ (b ≡ 1)
+one_or a b one low low' = ⊎_elim (λ is. inl is) (λ other. inr (omega (arith, one, low, low', other))) (cases_eq a 1)
+
+-- a row whose words are those of others joined, or met
+pub holds_or : (row these those : List ℕ) → ((k : ℕ) → get_or row k 0 ≡ bit_or (get_or these k 0) (get_or those k 0)) → (p : ℕ) → Holds row p ↔ (Holds these p ⊎ Holds those p)
+holds_or row these those each p =
+    let a : ℕ = bit_at (get_or these (p / 64) 0) (p % 64) in
+    let b : ℕ = bit_at (get_or those (p / 64) 0) (p % 64) in
+    let low : a < 2 = bit_at-lt (get_or these (p / 64) 0) (p % 64) in
+    let low' : b < 2 = bit_at-lt (get_or those (p / 64) 0) (p % 64) in
+    let same : bit_at (get_or row (p / 64) 0) (p % 64) ≡ max a b = ap (λ n. bit_at n (p % 64)) (each (p / 64)) ∙ bit_at_or (get_or these (p / 64) 0) (get_or those (p / 64) 0) (p % 64) in (
+      λ holds. one_or a b (sym same ∙ holds) low low',
+      ⊎_elim (λ one. same ∙ (let m : max a b ≡ 1 = omega (arith, one, low') in m)) (λ one. same ∙ (let m : max a b ≡ 1 = omega (arith, one, low) in m)),
+    )
+
+pub holds_and : (row these those : List ℕ) → ((k : ℕ) → get_or row k 0 ≡ bit_and (get_or these k 0) (get_or those k 0)) → (p : ℕ) → Holds row p ↔ (Holds these p × Holds those p)
+holds_and row these those each p =
+    let a : ℕ = bit_at (get_or these (p / 64) 0) (p % 64) in
+    let b : ℕ = bit_at (get_or those (p / 64) 0) (p % 64) in
+    let low : a < 2 = bit_at-lt (get_or these (p / 64) 0) (p % 64) in
+    let low' : b < 2 = bit_at-lt (get_or those (p / 64) 0) (p % 64) in
+    let same : bit_at (get_or row (p / 64) 0) (p % 64) ≡ min a b = ap (λ n. bit_at n (p % 64)) (each (p / 64)) ∙ bit_at_and (get_or these (p / 64) 0) (get_or those (p / 64) 0) (p % 64) in (
+      λ holds. let one : min a b ≡ 1 = sym same ∙ holds in (omega (arith, one, low, low'), omega (arith, one, low, low')),
+      λ both. same ∙ (let m : min a b ≡ 1 = omega (arith, both.0, both.1) in m),
+    )
+
+pub holds_or_and : (row old these those : List ℕ) → ((k : ℕ) → get_or row k 0 ≡ bit_or (get_or old k 0) (bit_and (get_or these k 0) (get_or those k 0))) → (p : ℕ) → Holds row p ↔ (Holds old p ⊎ (Holds these p × Holds those p))
+holds_or_and row old these those each p =
+    let a : ℕ = bit_at (get_or these (p / 64) 0) (p % 64) in
+    let b : ℕ = bit_at (get_or those (p / 64) 0) (p % 64) in
+    let d : ℕ = bit_at (get_or old (p / 64) 0) (p % 64) in
+    let low : a < 2 = bit_at-lt (get_or these (p / 64) 0) (p % 64) in
+    let low' : b < 2 = bit_at-lt (get_or those (p / 64) 0) (p % 64) in
+    let low'' : d < 2 = bit_at-lt (get_or old (p / 64) 0) (p % 64) in
+    let same : bit_at (get_or row (p / 64) 0) (p % 64) ≡ max d (min a b) =
+    ap (λ n. bit_at n (p % 64)) (each (p / 64)) ∙ bit_at_or (get_or old (p / 64) 0) (bit_and (get_or these (p / 64) 0) (get_or those (p / 64) 0)) (p % 64)
+    ∙ ap (λ n. max d n) (bit_at_and (get_or these (p / 64) 0) (get_or those (p / 64) 0) (p % 64)) in
+    let small : min a b < 2 = omega (arith, low) in (
+      λ holds. ⊎_elim (λ one. inl one) (λ one. inr (omega (arith, one, low, low'), omega (arith, one, low, low'))) (one_or d (min a b) (sym same ∙ holds) low'' small),
+      ⊎_elim (λ one. same ∙ (let m : max d (min a b) ≡ 1 = omega (arith, one, small) in m)) (λ both. same ∙ (let m : max d (min a b) ≡ 1 = omega (arith, both.0, both.1, low'') in m)),
+    )
+
+-- a number that isn't 0 has a bit
+some_bit : (n : ℕ) → n ≢ 0 → n < 2 ^ 64 → (t : ℕ) × (t < 64) × (bit_at n t ≡ 1)
+some_bit n some small = let lowest = bit_at-trailing_zeros w64 n (omega arith) small in (_, lowest.0, lowest.1)
+
+pub holds_word : (row : List ℕ) (k t : ℕ) → t < 64 → bit_at (get_or row k 0) t ≡ 1 → Holds row (64 * k + t)
+holds_word row k t small bit =
+    let word : (64 * k + t) / 64 ≡ k = omega (arith, small) in
+    let place : (64 * k + t) % 64 ≡ t = omega (arith, small) in
+    ap (λ n. bit_at (get_or row n 0) ((64 * k + t) % 64)) word ∙ ap (λ n. bit_at (get_or row k 0) n) place ∙ bit
+
+pub word_some : (row : List ℕ) (k : ℕ) → get_or row k 0 ≢ 0 → get_or row k 0 < 2 ^ 64 → IsSome row
+word_some row k some small =
+    let bit = some_bit (get_or row k 0) some small in
+    (64 * k + bit.0, holds_word row k bit.0 bit.1 bit.2)
+
+pub words_none : (row : List ℕ) → ((k : ℕ) → k < length row → get_or row k 0 ≡ 0) → IsEmptyRow row
+words_none row each p = λ holds.
+    let none : get_or row (p / 64) 0 ≡ 0 = ⊎_elim (λ short. each (p / 64) short) (λ past. get_or_past row (p / 64) 0 past) (cases_lt (p / 64) (length row)) in
+    let zero : bit_at (get_or row (p / 64) 0) (p % 64) ≡ 0 = ap (λ n. bit_at n (p % 64)) none ∙ bit_at-zero (p % 64) in
+    omega (arith, zero, holds)
+
+-- words in common
+pub words_meet : (these those : List ℕ) (k : ℕ) → bit_and (get_or these k 0) (get_or those k 0) ≢ 0 → bit_and (get_or these k 0) (get_or those k 0) < 2 ^ 64 → (p : ℕ) × Holds these p × Holds those p
+words_meet these those k some small =
+    let bit = some_bit (bit_and (get_or these k 0) (get_or those k 0)) some small in
+    let a : ℕ = bit_at (get_or these k 0) bit.0 in
+    let b : ℕ = bit_at (get_or those k 0) bit.0 in
+    let one : min a b ≡ 1 = sym (bit_at_and (get_or these k 0) (get_or those k 0) bit.0) ∙ bit.2 in
+    let low : a < 2 = bit_at-lt (get_or these k 0) bit.0 in
+    let low' : b < 2 = bit_at-lt (get_or those k 0) bit.0 in
+    (64 * k + bit.0, holds_word these k bit.0 bit.1 (omega (arith, one, low, low')), holds_word those k bit.0 bit.1 (omega (arith, one, low, low')))
+
+pub words_apart : (these those : List ℕ) → length these ≡ length those → ((k : ℕ) → k < length these → bit_and (get_or these k 0) (get_or those k 0) ≡ 0) → (p : ℕ) → Holds these p → ¬ Holds those p
+words_apart these those long each p holds = λ holds'.
+    let k : ℕ = p / 64 in
+    ⊎_elim
+    (λ short.
+    let both = bit_at_and (get_or these k 0) (get_or those k 0) (p % 64) in
+    let zero : bit_at (bit_and (get_or these k 0) (get_or those k 0)) (p % 64) ≡ 0 = ap (λ n. bit_at n (p % 64)) (each k short) ∙ bit_at-zero (p % 64) in
+    omega (arith, both, zero, holds, holds'))
+    (λ past.
+    let zero : bit_at (get_or these k 0) (p % 64) ≡ 0 = ap (λ n. bit_at n (p % 64)) (get_or_past these k 0 past) ∙ bit_at-zero (p % 64) in
+    omega (arith, zero, holds))
+    (cases_lt k (length these))
+
+-- what holds of each word up to the end holds past it
+
+pub or_each : (row these those : List ℕ) (i : ℕ) → length row ≤ i → length these ≤ i → length those ≤ i →
+    ((k : ℕ) → k < i → get_or row k 0 ≡ bit_or (get_or these k 0) (get_or those k 0)) → (k : ℕ) → get_or row k 0 ≡ bit_or (get_or these k 0) (get_or those k 0)
+or_each row these those i a b d each k =
+    ⊎_elim (λ short. each k short)
+    (λ past.
+    get_or_past row k 0 (omega (arith, a, past)) ∙ ap (λ n. bit_or n 0) (sym (get_or_past these k 0 (omega (arith, b, past)))) ∙ ap (λ n. bit_or (get_or these k 0) n) (sym (get_or_past those k 0 (omega (arith, d, past)))))
+    (cases_lt k i)
+
+pub and_each : (row these those : List ℕ) (i : ℕ) → length row ≤ i → length these ≤ i → length those ≤ i →
+    ((k : ℕ) → k < i → get_or row k 0 ≡ bit_and (get_or these k 0) (get_or those k 0)) → (k : ℕ) → get_or row k 0 ≡ bit_and (get_or these k 0) (get_or those k 0)
+and_each row these those i a b d each k =
+    ⊎_elim (λ short. each k short)
+    (λ past.
+    get_or_past row k 0 (omega (arith, a, past)) ∙ ap (λ n. bit_and n 0) (sym (get_or_past these k 0 (omega (arith, b, past)))) ∙ ap (λ n. bit_and (get_or these k 0) n) (sym (get_or_past those k 0 (omega (arith, d, past)))))
+    (cases_lt k i)
+
+pub or_and_each : (row old these those : List ℕ) (i : ℕ) → length row ≤ i → length old ≤ i → length these ≤ i → length those ≤ i →
+    ((k : ℕ) → k < i → get_or row k 0 ≡ bit_or (get_or old k 0) (bit_and (get_or these k 0) (get_or those k 0))) → (k : ℕ) → get_or row k 0 ≡ bit_or (get_or old k 0) (bit_and (get_or these k 0) (get_or those k 0))
+or_and_each row old these those i a b d e each k =
+    ⊎_elim (λ short. each k short)
+    (λ past.
+    get_or_past row k 0 (omega (arith, a, past)) ∙ ap (λ n. bit_or n (bit_and 0 0)) (sym (get_or_past old k 0 (omega (arith, b, past))))
+    ∙ ap (λ n. bit_or (get_or old k 0) (bit_and n 0)) (sym (get_or_past these k 0 (omega (arith, d, past)))) ∙ ap (λ n. bit_or (get_or old k 0) (bit_and (get_or these k 0) n)) (sym (get_or_past those k 0 (omega (arith, e, past)))))
+    (cases_lt k i)
+
+-- a row with one position more
+pub holds_insert : (row : List ℕ) (position other : ℕ) → position / 64 < length row →
+    Holds (set row (position / 64) (bit_or (get_or row (position / 64) 0) (1 * 2 ^ (position % 64) % 2 ^ 64))) other ↔ (Holds row other ⊎ (other ≡ position))
+holds_insert row position other short =
+    let k : ℕ = position / 64 in
+    let t : ℕ = position % 64 in
+    let old : ℕ = get_or row k 0 in
+    let new : ℕ = bit_or old (1 * 2 ^ t % 2 ^ 64) in
+    let small : t < 64 = omega arith in
+    let here : get_or (set row k new) k 0 ≡ new = get_or-set_same row k new 0 short in
+    ⊎_elim
+    (λ word.
+    let read : bit_at (get_or (set row k new) (other / 64) 0) (other % 64) ≡ bit_at new (other % 64) = ap (λ n. bit_at (get_or (set row k new) n 0) (other % 64)) word ∙ ap (λ n. bit_at n (other % 64)) here in
+    let before : bit_at (get_or row (other / 64) 0) (other % 64) ≡ bit_at old (other % 64) = ap (λ n. bit_at (get_or row n 0) (other % 64)) word in
+    ⊎_elim
+    (λ place.
+    let same : other ≡ position = omega (arith, word, place) in
+    (λ holds. inr same, λ either. read ∙ ap (λ n. bit_at new n) place ∙ bit_at_set_same w64 old t small))
+    (λ elsewhere.
+    let kept : bit_at new (other % 64) ≡ bit_at old (other % 64) = bit_at_set_other w64 old t small (other % 64) elsewhere in (
+      λ holds. inl (before ∙ sym kept ∙ sym read ∙ holds),
+      ⊎_elim (λ holds. read ∙ kept ∙ sym before ∙ holds) (λ same. absurd (elsewhere (ap (λ n. n % 64) same))),
+    ))
+    (cases_eq (other % 64) t))
+    (λ apart.
+    let read : bit_at (get_or (set row k new) (other / 64) 0) (other % 64) ≡ bit_at (get_or row (other / 64) 0) (other % 64) = ap (λ n. bit_at n (other % 64)) (get_or-set_other row k (other / 64) new 0 apart) in
+    (λ holds. inl (sym read ∙ holds), ⊎_elim (λ holds. read ∙ holds) (λ same. absurd (apart (ap (λ n. n / 64) same)))))
+    (cases_eq (other / 64) k)

@@ -1,0 +1,138 @@
+-- The cells of one row, and the sets that they lead to.
+use Rattle.std.proofs.Common.{◌≡◌, ◌≢◌, ℕ, ◌+◌, ◌-◌, ◌*◌, ◌/◌, ◌%◌, ◌<◌, List, [], ◌∷◌, ◌++◌, length, get_or, refl, sym, ap, ◌∙◌, subst, inl, inr, ⊎_elim, arith}
+use Rattle.std.specs.Int.{bit_at}
+use Rattle.std.proofs.lemmas.Bool.{cases_eq}
+use Rattle.std.proofs.lemmas.List.{ext_get_or, get_or_append_left, get_or_push, length_push}
+use Rattle.std.proofs.lemmas.Nat.Bits.{bit_at-lt, same_from_bits_below}
+use Rattle.rbbi_dfa.specs.BitRows.{Holds, IsEmptyRow, row_at}
+use Rattle.rbbi_dfa.specs.PositionRows.{PositionRows}
+use Rattle.rbbi_dfa.specs.Determinizing.{IsStep, IsReached, FromFirst, FromSet, IsSome, AreDifferent, IsRow, AreReachedSets, IsCell, AreReachedCandidates, Begin, AddsCells, HasReachedSets}
+use Rattle.rbbi_dfa.specs.LeafSetIndex.{IsAbsent, KeepsOrAdds}
+use Rattle.rbbi_dfa.proofs.Bits.{holds_word}
+
+word_holds : (row : List ℕ) (k t : ℕ) → t < 64 → Holds row (64 * k + t) → bit_at (get_or row k 0) t ≡ 1
+word_holds row k t small holds =
+    let word : (64 * k + t) / 64 ≡ k = omega (arith, small) in
+    let place : (64 * k + t) % 64 ≡ t = omega (arith, small) in
+    sym (ap (λ n. bit_at (get_or row n 0) ((64 * k + t) % 64)) word ∙ ap (λ n. bit_at (get_or row k 0) n) place) ∙ holds
+
+-- rows of one width that differ hold different positions
+pub rows_apart : (width : ℕ) (these those : List ℕ) → IsRow width these → IsRow width those → these ≢ those → AreDifferent these those
+rows_apart width these those is is' other = λ same.
+    let word : (k : ℕ) → get_or these k 0 ≡ get_or those k 0 = λ k.
+    same_from_bits_below 64 (get_or these k 0) (get_or those k 0) (is.words k) (is'.words k)
+    (λ t small.
+    let low = bit_at-lt (get_or these k 0) t in
+    let low' = bit_at-lt (get_or those k 0) t in
+    ⊎_elim
+    (λ one. one ∙ sym (word_holds those k t small ((same (64 * k + t)).0 (holds_word these k t small one))))
+    (λ none.
+    ⊎_elim
+    (λ one. absurd (none (word_holds these k t small ((same (64 * k + t)).1 (holds_word those k t small one)))))
+    (λ none'. omega (arith, low, low', none, none'))
+    (cases_eq (bit_at (get_or those k 0) t) 1))
+    (cases_eq (bit_at (get_or these k 0) t) 1)) in
+    other (ext_get_or 0 these those (is.wide ∙ sym is'.wide) (λ i _. word i))
+
+module _ (rows : PositionRows) where
+  pub reached_next : (candidates next : List ℕ) (category : ℕ) → AreReachedCandidates rows candidates → category < rows.categories → IsStep rows candidates category next → IsReached rows next
+  reached_next candidates next category reached within is =
+      ⊎_elim
+      (λ first. FromFirst category next within (subst (λ l. IsStep rows l category next) first is))
+      (λ later. FromSet later.0 candidates category next later.1 later.2 later.3 within is)
+      reached
+
+  -- one set more
+  pub sets_more : (sets : List (List ℕ)) (next : List ℕ) → AreReachedSets rows sets → IsAbsent sets next → IsRow rows.width next → IsReached rows next → IsSome next → AreReachedSets rows (sets ++ next ∷ [])
+  sets_more sets next are absent row reached some =
+      let new : List (List ℕ) = sets ++ next ∷ [] in
+      let long = length_push sets next in
+      let old_at : (i : ℕ) → i < length sets → row_at new i ≡ row_at sets i = λ i short. get_or_append_left sets (next ∷ []) [] i short in
+      let new_at : row_at new (length sets) ≡ next = get_or_push sets next [] (length sets) refl in
+      let at : (P : List ℕ → Type 0) (i : ℕ) → i < length new → ((j : ℕ) → j < length sets → P (row_at sets j)) → P next → P (row_at new i) =
+      λ P i short old new'.
+      ⊎_elim
+      (λ here. subst (λ n. P (row_at new n)) (sym here) (subst P (sym new_at) new'))
+      (λ other. let short' : i < length sets = omega (arith, short, long, other) in subst P (sym (old_at i short')) (old i short'))
+      (cases_eq i (length sets)) in
+      record {
+        are_rows = λ i short. at (IsRow rows.width) i short are.are_rows row;
+        reached = λ i short. at (IsReached rows) i short are.reached reached;
+        some = λ i short. at IsSome i short are.some some;
+        apart = λ i j less short.
+            ⊎_elim
+            (λ here.
+            let short' : i < length sets = omega (arith, less, here) in
+            subst (λ l. AreDifferent l (row_at new j)) (sym (old_at i short'))
+            (subst (AreDifferent (row_at sets i)) (sym (ap (λ n. row_at new n) here ∙ new_at)) (rows_apart rows.width (row_at sets i) next (are.are_rows i short') row (absent i short'))))
+            (λ other.
+            let short' : j < length sets = omega (arith, short, long, other) in
+            let short'' : i < length sets = omega (arith, less, short') in
+            subst (λ l. AreDifferent l (row_at new j)) (sym (old_at i short''))
+            (subst (AreDifferent (row_at sets i)) (sym (old_at j short')) (are.apart i j less short')))
+            (cases_eq j (length sets));
+      }
+
+  pub begin_refl : (sets : List (List ℕ)) → Begin sets sets
+  begin_refl sets = (omega arith, λ i short. refl)
+
+  pub begin_trans : (a b d : List (List ℕ)) → Begin a b → Begin b d → Begin a d
+  begin_trans a b d first second = (omega (arith, first.0, second.0), λ i short. second.1 i (omega (arith, short, first.0)) ∙ first.1 i short)
+
+  pub kept_or_added : (sets new : List (List ℕ)) (next : List ℕ) → AreReachedSets rows sets → KeepsOrAdds sets next new → IsRow rows.width next → IsReached rows next → IsSome next → AreReachedSets rows new × Begin sets new
+  kept_or_added sets new next are kept row reached some =
+      ⊎_elim
+      (λ same. (subst (AreReachedSets rows) (sym same) are, subst (Begin sets) (sym same) (begin_refl sets)))
+      (λ added. (
+        subst (AreReachedSets rows) (sym added.0) (sets_more sets next are added.1 row reached some),
+        subst (Begin sets) (sym added.0) (omega (arith, length_push sets next), λ i short. get_or_append_left sets (next ∷ []) [] i short),
+      ))
+      kept
+
+  pub one_too_many : (sets : List (List ℕ)) (next : List ℕ) → AreReachedSets rows sets → length sets ≡ 16384 → IsAbsent sets next → IsRow rows.width next → IsReached rows next → IsSome next → HasReachedSets rows 16385
+  one_too_many sets next are many absent row reached some =
+      (sets ++ next ∷ [], omega (arith, length_push sets next, many), sets_more sets next are absent row reached some)
+
+  -- a cell stays right where sets are added
+  pub cell_kept : (sets new : List (List ℕ)) (candidates : List ℕ) (category cell : ℕ) → Begin sets new → IsCell rows sets candidates category cell → IsCell rows new candidates category cell
+  cell_kept sets new candidates category cell begin =
+      ⊎_elim inl
+      (λ some. inr (some.0, omega (arith, some.1, begin.0), subst (IsStep rows candidates category) (sym (begin.1 (cell - 2) (omega (arith, some.0, some.1)))) some.2))
+
+  pub empty_cell : (sets : List (List ℕ)) (candidates next : List ℕ) (category cell : ℕ) → cell ≡ 0 → IsStep rows candidates category next → IsEmptyRow next → IsCell rows sets candidates category cell
+  empty_cell sets candidates next category cell none is empty = inl (none, λ p comes. empty p ((is p).1 comes))
+
+  pub set_cell : (sets : List (List ℕ)) (candidates next : List ℕ) (category number cell : ℕ) → cell ≡ number + 2 → number < length sets → row_at sets number ≡ next → IsStep rows candidates category next → IsCell rows sets candidates category cell
+  set_cell sets candidates next category number cell at short same is =
+      inr (
+        omega (arith, at),
+        omega (arith, at, short),
+        subst (IsStep rows candidates category) (sym (ap (λ n. row_at sets n) (let e : cell - 2 ≡ number = omega (arith, at) in e) ∙ same)) is,
+      )
+
+  pub no_cells : (sets : List (List ℕ)) (candidates cells : List ℕ) → AddsCells rows sets candidates cells cells 0
+  no_cells sets candidates cells = record { many = omega arith; kept = λ k short. refl; each = λ category short. absurd (omega (arith, short)) }
+
+  pub cells_more : (sets new : List (List ℕ)) (candidates old cells : List ℕ) (category cell : ℕ) → AddsCells rows sets candidates old cells category → Begin sets new → IsCell rows new candidates category cell → AddsCells rows new candidates old (cells ++ cell ∷ []) (category + 1)
+  cells_more sets new candidates old cells category cell adds begin is =
+      record {
+        many = omega (arith, length_push cells cell, adds.many);
+        kept = λ k short. get_or_append_left cells (cell ∷ []) 0 k (omega (arith, short, adds.many)) ∙ adds.kept k short;
+        each = λ other short.
+            ⊎_elim
+            (λ here.
+            let last : get_or (cells ++ cell ∷ []) (length old + other) 0 ≡ cell = get_or_push cells cell 0 (length old + other) (omega (arith, adds.many, here)) in
+            subst (IsCell rows new candidates other) (sym last) (subst (λ k. IsCell rows new candidates k cell) (sym here) is))
+            (λ before.
+            let short' : other < category = omega (arith, short, before) in
+            let same : get_or (cells ++ cell ∷ []) (length old + other) 0 ≡ get_or cells (length old + other) 0 = get_or_append_left cells (cell ∷ []) 0 (length old + other) (omega (arith, adds.many, short')) in
+            subst (IsCell rows new candidates other) (sym same) (cell_kept sets new candidates other (get_or cells (length old + other) 0) begin (adds.each other short')))
+            (cases_eq other category);
+      }
+
+-- what a loop over the categories keeps
+pub record IsLeading (rows : PositionRows) (before sets : List (List ℕ)) (candidates old cells next : List ℕ) (category : ℕ) : Type 0 where
+  pub reached : AreReachedSets rows sets
+  pub kept : Begin before sets
+  pub adds : AddsCells rows sets candidates old cells category
+  pub wide : length next ≡ rows.width

@@ -1,0 +1,124 @@
+-- One step: what can follow a set, and what of it comes by a category.
+use Rattle.std.proofs.Common.{◌≡◌, ℕ, ◌+◌, ◌/◌, ◌%◌, ◌<◌, ◌≤◌, ◌⊎◌, ◌↔◌, List, [], length, get_or, sym, ap, ◌∙◌, subst, inl, inr, ⊎_elim, arith, ◌*◌}
+use Rattle.std.proofs.lemmas.Bool.{cases_lt, cases_eq}
+use Rattle.std.proofs.lemmas.List.{get_or_past, get_or_default}
+use Rattle.std.proofs.lemmas.Nat.Bits.{bit_at-zero}
+use Rattle.std.specs.Int.{bit_at}
+use Rattle.rbbi_dfa.specs.BitRows.{Holds, row_at}
+use Rattle.rbbi_dfa.specs.PositionRows.{PositionMark, PositionRows}
+use Rattle.rbbi_dfa.specs.PositionAutomata.{Marked}
+use Rattle.rbbi_dfa.specs.Determinizing.{IsStep, AreFollowers, AreFollowersUpTo}
+
+pub empty_holds : (row : List ℕ) (p : ℕ) → row ≡ [] → ¬ Holds row p
+empty_holds row p none = λ holds.
+    let zero : bit_at (get_or row (p / 64) 0) (p % 64) ≡ 0 = ap (λ l. bit_at (get_or l (p / 64) 0) (p % 64)) none ∙ bit_at-zero (p % 64) in
+    omega (arith, zero, holds)
+
+pub followers_none : (follow : List (List ℕ)) (set candidates : List ℕ) → ((p : ℕ) → ¬ Holds candidates p) → AreFollowersUpTo follow set 0 candidates
+followers_none follow set candidates none p = (λ holds. absurd (none p holds), λ few. absurd (omega (arith, few.1)))
+
+pub followers_with : (follow : List (List ℕ)) (set candidates next row : List ℕ) (i : ℕ) → AreFollowersUpTo follow set i candidates → Holds set i → row_at follow i ≡ row →
+    ((p : ℕ) → Holds next p ↔ (Holds candidates p ⊎ Holds row p)) → AreFollowersUpTo follow set (i + 1) next
+followers_with follow set candidates next row i before here is united p = (
+  λ holds.
+      ⊎_elim
+      (λ old. let earlier = (before p).0 old in (earlier.0, omega (arith, earlier.1), earlier.2, earlier.3))
+      (λ new. (i, omega arith, here, subst (λ l. Holds l p) (sym is) new))
+      ((united p).0 holds),
+  λ (q, short, at, follows). (united p).1
+      (⊎_elim
+      (λ same. inr (subst (λ l. Holds l p) (ap (λ n. row_at follow n) same ∙ is) follows))
+      (λ other. inl ((before p).1 (q, omega (arith, short, other), at, follows)))
+      (cases_eq q i)),
+)
+
+pub followers_without : (follow : List (List ℕ)) (set candidates : List ℕ) (i : ℕ) → AreFollowersUpTo follow set i candidates → ¬ Holds set i → AreFollowersUpTo follow set (i + 1) candidates
+followers_without follow set candidates i before absent p = (
+  λ holds. let earlier = (before p).0 holds in (earlier.0, omega (arith, earlier.1), earlier.2, earlier.3),
+  λ (q, short, at, follows).
+      ⊎_elim
+      (λ same. absurd (absent (subst (λ n. Holds set n) same at)))
+      (λ other. (before p).1 (q, omega (arith, short, other), at, follows))
+      (cases_eq q i),
+)
+
+-- a position past the rows is followed by none
+pub followers_past : (follow : List (List ℕ)) (set candidates : List ℕ) (i : ℕ) → AreFollowersUpTo follow set i candidates → length follow ≤ i → AreFollowersUpTo follow set (i + 1) candidates
+followers_past follow set candidates i before past p = (
+  λ holds. let earlier = (before p).0 holds in (earlier.0, omega (arith, earlier.1), earlier.2, earlier.3),
+  λ (q, short, at, follows).
+      ⊎_elim
+      (λ same. absurd (empty_holds (row_at follow q) p (get_or_past follow q [] (omega (arith, past, same))) follows))
+      (λ other. (before p).1 (q, omega (arith, short, other), at, follows))
+      (cases_eq q i),
+)
+
+-- a word that is 0 has no position
+pub followers_skip : (follow : List (List ℕ)) (set candidates : List ℕ) (i : ℕ) → AreFollowersUpTo follow set (64 * i) candidates → get_or set i 0 ≡ 0 → AreFollowersUpTo follow set (64 * i + 64) candidates
+followers_skip follow set candidates i before none p = (
+  λ holds. let earlier = (before p).0 holds in (earlier.0, omega (arith, earlier.1), earlier.2, earlier.3),
+  λ (q, short, at, follows).
+      ⊎_elim
+      (λ less. (before p).1 (q, less, at, follows))
+      (λ within.
+      let word : q / 64 ≡ i = omega (arith, short, within) in
+      let bit : bit_at (get_or set (q / 64) 0) (q % 64) ≡ 0 = ap (λ n. bit_at (get_or set n 0) (q % 64)) word ∙ ap (λ n. bit_at n (q % 64)) none ∙ bit_at-zero (q % 64) in
+      absurd (omega (arith, bit, at)))
+      (cases_lt q (64 * i)),
+)
+
+pub followers_all : (rows : PositionRows) (set candidates : List ℕ) (i : ℕ) → length set ≤ i → AreFollowersUpTo rows.follow set (64 * i) candidates → AreFollowers rows set candidates
+followers_all rows set candidates i all before p = (
+  λ holds. let few = (before p).0 holds in (few.0, few.2, few.3),
+  λ (q, at, follows).
+      ⊎_elim
+      (λ short. (before p).1 (q, short, at, follows))
+      (λ past.
+      let bit : bit_at (get_or set (q / 64) 0) (q % 64) ≡ 0 = ap (λ n. bit_at n (q % 64)) (get_or_past set (q / 64) 0 (omega (arith, all, past))) ∙ bit_at-zero (q % 64) in
+      absurd (omega (arith, bit, at)))
+      (cases_lt q (64 * i)),
+)
+
+module _ (rows : PositionRows) (candidates : List ℕ) (category : ℕ) (reads last chained both : List ℕ) (reads_is : row_at rows.reads category ≡ reads) (last_is : last ≡ rows.last) (chained_is : chained ≡ rows.chained) (met : (p : ℕ) → Holds both p ↔ (Holds candidates p × Holds reads p)) where
+  here : (p : ℕ) → Holds reads p → Holds (row_at rows.reads category) p
+  here p = subst (λ l. Holds l p) (sym reads_is)
+
+  back : (p : ℕ) → Holds (row_at rows.reads category) p → Holds reads p
+  back p = subst (λ l. Holds l p) reads_is
+
+  -- no candidate ends
+  pub step_without : ((p : ℕ) → Holds both p → ¬ Holds last p) → IsStep rows candidates category both
+  step_without none p = (
+    λ holds. let parts = (met p).0 holds in (here p parts.1, inl parts.0),
+    λ comes.
+        ⊎_elim
+        (λ candidate. (met p).1 (candidate, back p comes.0))
+        (λ chain. absurd (none chain.1.0 ((met chain.1.0).1 (chain.1.1, back chain.1.0 chain.1.2)) (subst (λ l. Holds l chain.1.0) (sym last_is) chain.1.3)))
+        comes.1,
+  )
+
+  -- a candidate ends
+  pub step_with : (next : List ℕ) → (p : ℕ) × Holds both p × Holds last p → ((p : ℕ) → Holds next p ↔ (Holds both p ⊎ (Holds chained p × Holds reads p))) → IsStep rows candidates category next
+  step_with next (q, in_both, in_last) united p = (
+    λ holds.
+        ⊎_elim
+        (λ old. let parts = (met p).0 old in (here p parts.1, inl parts.0))
+        (λ chain.
+        let parts = (met q).0 in_both in
+        (here p chain.1, inr (subst (λ l. Holds l p) chained_is chain.0, (q, parts.0, here q parts.1, subst (λ l. Holds l q) last_is in_last))))
+        ((united p).0 holds),
+    λ comes. (united p).1
+        (⊎_elim
+        (λ candidate. inl ((met p).1 (candidate, back p comes.0)))
+        (λ chain. inr (subst (λ l. Holds l p) (sym chained_is) chain.0, back p comes.0))
+        comes.1),
+  )
+
+-- a mark that was read from the list
+pub mark_found : (marks items : List PositionMark) (i position mark : ℕ) (read : PositionMark) → items ≡ marks → i < length items → read ≡ get_or items i read → record { position = position; mark = mark } ≡ read → Marked marks position mark
+mark_found marks items i position mark read same short is seen =
+    let this : PositionMark = record { position = position; mark = mark } in (
+      i,
+      subst (λ l. i < length l) same short,
+      ap (λ l. get_or l i this) (sym same) ∙ get_or_default items i this read short ∙ sym is ∙ sym seen,
+    )

@@ -1,0 +1,5 @@
+use Rattle.rbbi_dfa.specs.Determinizing.{AreMarked, items_of}
+use Rattle.rbbi_dfa.proofs.determinize.mark_all.Given as goal
+
+abbrev pub invariant-loop-i : goal.invariant-loop-i
+invariant-loop-i l = AreMarked l.rows l.sets l.heads.items (items_of l.lists.items) l.i

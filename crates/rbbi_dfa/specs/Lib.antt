@@ -1,0 +1,13 @@
+pub mod Automata
+pub mod BitRows
+pub mod PositionRows
+pub mod PositionAutomata
+pub mod Determinizing
+pub mod LeafSetIndex
+pub mod MarkedRows
+pub mod Partitions
+pub mod Ranks
+pub mod Numbers
+pub mod Refusals
+pub mod LeastTables
+pub mod Categories

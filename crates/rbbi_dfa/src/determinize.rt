@@ -1,0 +1,186 @@
+//! From positions to a determinised automaton: each row is the set of the positions by which the last
+//! character of a word can be read (subset construction; Rabin and Scott 1959).
+ghost use Rattle.std.specs.Prelude.{◌≡◌, ◌≤◌, ℕ, List, [], length, IfOk, OnOk};
+ghost use Rattle.rbbi_dfa.specs.Determinizing.{AreReachedSets, AreReachedCandidates, Begin};
+ghost use Rattle.rbbi_dfa.specs.Determinizing.{AddsCells, AddsZeros, AreCellsUpTo, AreMarked};
+ghost use Rattle.rbbi_dfa.specs.Determinizing.{HasReachedSets, IsDeterminized, items_of};
+ghost use Rattle.rbbi_model.specs.Rules.{Rule};
+ghost use Rattle.rbbi_model.specs.Tables.{CategoryRange};
+ghost use Rattle.rbbi_model.specs.Marks.{HasSameMarks};
+ghost use Rattle.rbbi_model.specs.LeafSets.{HasLeafSets};
+ghost use Rattle.rbbi_dfa.specs.Automata.{IsDetermined, with_ranges};
+ghost use Rattle.rbbi_dfa.specs.MarkedRows.{AreReadable, AreOf};
+
+mod bits;
+mod error;
+mod laws;
+mod leaf_sets;
+mod marks;
+mod position_rows;
+mod rows_of;
+mod step;
+
+use crate::automaton::{Automaton, Head};
+use error::DeterminizeErr;
+use leaf_sets::LeafSets;
+use position_rows::Rows;
+use rbbi_positions::Positions;
+use rows_of::rows_of;
+use std::alloc::{AllocError, Global};
+
+/// Adds the cells of a row from whose positions these candidates may come next, and the sets that are
+/// new. `next` is scratch space.
+fn lead_on(
+    alloc: Global,
+    rows: &Rows,
+    candidates: &[u64],
+    sets: &mut LeafSets,
+    next: &mut [u64],
+    cells: &mut Vec<u16>,
+) -> Result<(), DeterminizeErr>
+    requires sets { AreReachedSets rows.now sets.old }
+    requires candidates { AreReachedCandidates rows.now candidates.now }
+    requires wide { length candidates.now ≡ rows.now.width }
+    requires next { length next.old ≡ rows.now.width }
+    ensures reached { OnOk result (AreReachedSets rows.now sets.new) }
+    ensures kept { OnOk result (Begin sets.old sets.new) }
+    ensures cells { OnOk result (AddsCells rows.now sets.new candidates.now
+        cells.old.items cells.new.items rows.now.categories) }
+    ensures refused { result ≡ Err DeterminizeErr.TooManySets → HasReachedSets rows.now 16385 }
+{
+    for category in 0..rows.categories as usize {
+        step::step(rows, candidates, category, next);
+        let cell = if bits::is_empty(next) {
+            0
+        } else {
+            sets.number_of(alloc, next)? + 2
+        };
+        cells.push(cell as u16)?;
+    }
+    Ok(())
+}
+
+/// Adds the cells of a row that leads to row 0 only.
+fn lead_nowhere(rows: &Rows, cells: &mut Vec<u16>) -> Result<(), AllocError>
+    ensures { OnOk result (AddsZeros cells.old.items cells.new.items rows.now.categories) }
+{
+    for _category in 0..rows.categories {
+        cells.push(0)?;
+    }
+    Ok(())
+}
+
+/// The cells of rows 0 and 1 and of a row for each set, with the sets that are found on the way.
+fn lead_all(alloc: Global, rows: &Rows, sets: &mut LeafSets) -> Result<Vec<u16>, DeterminizeErr>
+    requires { sets.old ≡ [] }
+    ensures reached { OnOk result (AreReachedSets rows.now sets.new) }
+    ensures cells { IfOk result (λ cells.
+        AreCellsUpTo rows.now sets.new cells.items (length sets.new)) }
+    ensures refused { result ≡ Err DeterminizeErr.TooManySets → HasReachedSets rows.now 16385 }
+{
+    let mut candidate_row: Vec<u64> = vec![in alloc; 0; rows.width]?;
+    let candidates = candidate_row.as_mut_slice();
+    let mut next_row: Vec<u64> = vec![in alloc; 0; rows.width]?;
+    let next = next_row.as_mut_slice();
+    let mut cells: Vec<u16> = Vec::new(alloc);
+    lead_nowhere(rows, &mut cells)?;
+    lead_on(alloc, rows, &rows.first, sets, next, &mut cells)?;
+    let mut i = 0;
+    while i < sets.len() {
+        let set = sets.get(i);
+        if step::completes(rows, set) {
+            lead_nowhere(rows, &mut cells)?;
+        } else {
+            step::follow(rows, set, candidates);
+            lead_on(alloc, rows, candidates, sets, next, &mut cells)?;
+        }
+        i += 1;
+    }
+    Ok(cells)
+}
+
+/// What is marked at rows 0 and 1, and at the row of each set.
+fn mark_all(
+    alloc: Global,
+    rows: &Rows,
+    sets: &LeafSets,
+) -> Result<(Vec<Head>, Vec<Vec<u32>>), AllocError>
+    requires { AreReachedSets rows.now sets.now }
+    ensures { IfOk result (λ marked.
+        AreMarked rows.now sets.now marked.0.items
+        (items_of marked.1.items) (length sets.now)) }
+{
+    let plain = Head {
+        accept: 0,
+        fronts: 0,
+        list: 0,
+    };
+    let mut heads = vec![in alloc; plain, plain]?;
+    let mut lists = vec![in alloc; vec![in alloc; 0]?]?;
+    for i in 0..sets.len() {
+        let set = sets.get(i);
+        let accept = marks::accept(rows, set);
+        let fronts = if accept < 2 {
+            marks::fronts(rows, set)
+        } else {
+            0
+        };
+        heads.push(Head {
+            accept,
+            fronts,
+            list: (i + 1) as u16,
+        })?;
+        lists.push(marks::statuses(alloc, rows, set)?)?;
+    }
+    Ok((heads, lists))
+}
+
+/// The determinised automaton of the positions.
+///
+/// Refuses `TooManySets` where more than 16,384 sets of positions that aren't empty are reached.
+pub(crate) fn determinized(alloc: Global, rows: &Rows) -> Result<Automaton, DeterminizeErr>
+    ensures exact { IfOk result (λ automaton. (sets : List (List ℕ)) × (length sets ≤ 16384)
+        × IsDeterminized rows.now sets automaton) }
+    ensures refused { result ≡ Err DeterminizeErr.TooManySets → HasReachedSets rows.now 16385 }
+{
+    let mut sets = LeafSets::new(alloc)?;
+    let cells = lead_all(alloc, rows, &mut sets)?;
+    let (heads, lists) = mark_all(alloc, rows, &sets)?;
+    Ok(Automaton {
+        categories: rows.categories,
+        slashes: rows.slashes,
+        heads,
+        lists,
+        cells,
+    })
+}
+
+/// The determinised automaton of the rules that the positions are those of, for the categories that
+/// they read. Clauses hold for any such list of rules.
+///
+/// Refuses `TooManySets` exactly where the rules have more than 16,384 distinct leaf sets that aren't
+/// empty.
+pub(crate) fn automaton_of(
+    alloc: Global,
+    positions: &Positions,
+    categories: u16,
+    slashes: u16,
+) -> Result<Automaton, DeterminizeErr>
+    requires some_categories { 1 ≤ categories }
+    requires few_categories { categories ≤ 255 }
+    requires readable { AreReadable positions.now categories slashes }
+    ensures marks { IfOk result (λ automaton. (rules : List Rule) (ranges : List CategoryRange) →
+        AreOf rules categories slashes ranges positions.now →
+        HasSameMarks (with_ranges automaton ranges) rules) }
+    ensures determined { IfOk result (λ automaton. (rules : List Rule)
+        (ranges : List CategoryRange) → AreOf rules categories slashes ranges positions.now →
+        IsDetermined automaton) }
+    ensures few { OnOk result ((rules : List Rule) (ranges : List CategoryRange) →
+        AreOf rules categories slashes ranges positions.now → ¬ HasLeafSets rules 16385) }
+    ensures too_many { result ≡ Err DeterminizeErr.TooManySets →
+        (rules : List Rule) (ranges : List CategoryRange) →
+        AreOf rules categories slashes ranges positions.now → HasLeafSets rules 16385 }
+{
+    let rows = rows_of(alloc, positions, categories, slashes)?;
+    determinized(alloc, &rows)
+}

@@ -1,0 +1,11 @@
+//! From the positions of the rules to the least table with their marks.
+#![tactic(auto)]
+
+mod automaton;
+mod determinize;
+mod error;
+mod laws;
+mod least;
+mod minimize;
+
+pub use error::BuildErr;

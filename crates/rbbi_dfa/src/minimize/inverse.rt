@@ -1,0 +1,69 @@
+//! The cells of an automaton turned round: the rows that lead to a row by a category.
+ghost use Rattle.rbbi_dfa.specs.Automata.{IsDetermined};
+
+use crate::automaton::Automaton;
+use std::alloc::{AllocError, Global};
+
+/// The rows that lead to a row, for each category, sorted by counting. It says where to look for
+/// classes to split, and no more: nothing is proved of it, and a split looks at the cells themselves.
+#[derive(Drop)]
+pub(crate) struct Inverse {
+    rows: usize,
+    /// For each category and row, where its sources end. They begin where those before end.
+    ends: Vec<u32>,
+    /// The rows that lead there, one after another.
+    sources: Vec<u16>,
+}
+
+impl Inverse {
+    /// Turns the cells of an automaton round.
+    pub fn new(alloc: Global, automaton: &Automaton) -> Result<Inverse, AllocError>
+        requires { IsDetermined automaton.now }
+    {
+        let rows = automaton.rows() as usize;
+        let places = rows * automaton.categories as usize;
+        let mut ends = vec![in alloc; 0u32; places]?;
+        let mut sources = vec![in alloc; 0u16; places]?;
+        for category in 0..automaton.categories {
+            for row in 0..automaton.rows() {
+                let place = category as usize * rows + automaton.next(row, category) as usize;
+                ends[place] = ends[place].wrapping_add(1);
+            }
+        }
+        let mut before = 0u32;
+        for end in ends.iter_mut() {
+            let count = *end;
+            *end = before;
+            before = before.wrapping_add(count);
+        }
+        for category in 0..automaton.categories {
+            for row in 0..automaton.rows() {
+                let place = category as usize * rows + automaton.next(row, category) as usize;
+                let at = ends[place];
+                if let Some(source) = sources.get_mut(at as usize) {
+                    *source = row;
+                }
+                ends[place] = at.wrapping_add(1);
+            }
+        }
+        Ok(Inverse {
+            rows,
+            ends,
+            sources,
+        })
+    }
+
+    /// The rows that lead by the category to the row.
+    pub fn sources(&self, category: u16, row: u16) -> &[u16] {
+        let place = (category as usize)
+            .wrapping_mul(self.rows)
+            .wrapping_add(row as usize);
+        let start = if place == 0 { 0 } else { self.end(place - 1) };
+        self.sources.get(start..self.end(place)).unwrap_or(&[])
+    }
+
+    /// Where the sources of a place end, and 0 where there is no such place.
+    fn end(&self, place: usize) -> usize {
+        self.ends.get(place).copied().unwrap_or(0) as usize
+    }
+}

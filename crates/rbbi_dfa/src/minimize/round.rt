@@ -1,0 +1,34 @@
+//! The last round: whether rows of one class lead on alike.
+ghost use Rattle.std.specs.Prelude.{◌≡◌, ◌≢◌, ℕ, ◌<◌, length, slice_index, MatchOption};
+ghost use Rattle.rbbi_model.specs.Tables.{step};
+ghost use Rattle.rbbi_dfa.specs.Automata.{IsDetermined};
+ghost use Rattle.rbbi_dfa.specs.Partitions.{IsPartition, IsStable};
+
+use crate::automaton::Automaton;
+use crate::minimize::Partition;
+
+/// A row and a category by which it leads into another class than the first row of its class does, and
+/// None exactly where there are none.
+pub(crate) fn disagreement(automaton: &Automaton, partition: &Partition) -> Option<(u16, u16)>
+    requires determined { IsDetermined automaton.now }
+    requires partition { IsPartition automaton.now partition.now.classes.items partition.now.firsts.items }
+    ensures { MatchOption result
+        (IsStable automaton.now partition.now.classes.items partition.now.firsts.items)
+        (λ found. (found.0 < length automaton.now.rows)
+        × (found.1 < automaton.now.categories)
+        × (slice_index partition.now.classes.items (step automaton.now found.0 found.1)
+        ≢ slice_index partition.now.classes.items (step automaton.now
+        (slice_index partition.now.firsts.items (slice_index partition.now.classes.items found.0))
+        found.1))) }
+{
+    for row in 0..automaton.rows() {
+        let first = partition.firsts[partition.classes[row as usize] as usize];
+        for category in 0..automaton.categories {
+            let class = partition.classes[automaton.next(row, category) as usize];
+            if class != partition.classes[automaton.next(first, category) as usize] {
+                return Some((row, category));
+            }
+        }
+    }
+    None
+}
