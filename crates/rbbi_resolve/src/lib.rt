@@ -2,6 +2,17 @@
 //! least fault.
 #![tactic(auto)]
 
+mod check;
+mod error;
+mod fault;
+mod joining;
+mod properties;
 mod rules;
+mod scope;
+mod set_value;
+mod so_far;
+mod summary;
+mod variables;
 
+pub use error::ResolveErr;
 pub use rules::{Rule, Rules, SetList, Tree, Trees};
