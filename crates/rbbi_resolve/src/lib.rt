@@ -6,6 +6,7 @@ mod check;
 mod error;
 mod fault;
 mod joining;
+mod laws;
 mod properties;
 mod rules;
 mod scope;
@@ -15,4 +16,5 @@ mod summary;
 mod variables;
 
 pub use error::ResolveErr;
+pub use laws::{at_most_one_meaning, the_earliest_is_noted};
 pub use rules::{Rule, Rules, SetList, Tree, Trees};
