@@ -2,6 +2,19 @@
 //! least fault.
 #![tactic(auto)]
 
+mod check;
+mod error;
+mod fault;
+mod joining;
+mod laws;
+mod properties;
 mod rules;
+mod scope;
+mod set_value;
+mod so_far;
+mod summary;
+mod variables;
 
+pub use error::ResolveErr;
+pub use laws::{at_most_one_meaning, the_earliest_is_noted};
 pub use rules::{Rule, Rules, SetList, Tree, Trees};

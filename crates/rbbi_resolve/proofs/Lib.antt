@@ -1,0 +1,14 @@
+pub mod Words
+pub mod PropertySets
+pub mod Ranges
+pub mod SetJoins
+pub mod Noting
+pub mod SetLoops
+pub mod Answered
+pub mod Named
+pub mod Characters
+pub mod Counting
+pub mod Kept
+pub mod ItemTrees
+pub mod OneMeaning
+pub mod Earliest
