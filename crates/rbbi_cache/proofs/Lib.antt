@@ -1,2 +1,6 @@
 pub mod Reached
 pub mod Lists
+pub mod Paths
+pub mod Texts
+pub mod RunFacts
+pub mod LeftPart
