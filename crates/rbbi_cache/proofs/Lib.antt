@@ -4,3 +4,4 @@ pub mod Paths
 pub mod Texts
 pub mod RunFacts
 pub mod LeftPart
+pub mod Moving

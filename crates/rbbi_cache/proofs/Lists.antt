@@ -21,6 +21,10 @@ pub all_through : {X : Type 0} (P Q : X → Type 0) → ((x : X) → P x → Q x
 all_through P Q through [] each = tt
 all_through P Q through (x ∷ xs) each = (through x each.0, all_through P Q through xs each.1)
 
+pub everywhere : {X : Type 0} (P : X → Type 0) → ((x : X) → P x) → (xs : List X) → AllByRecursion P xs
+everywhere P holds [] = tt
+everywhere P holds (x ∷ xs) = (holds x, everywhere P holds xs)
+
 pub all_map : {X Y : Type 0} (f : X → Y) (P : Y → Type 0) (xs : List X) → AllByRecursion (λ x. P (f x)) xs → AllByRecursion P (map f xs)
 all_map f P [] each = tt
 all_map f P (x ∷ xs) each = (each.0, all_map f P xs each.1)
