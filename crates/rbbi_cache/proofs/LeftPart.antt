@@ -21,7 +21,7 @@ use Rattle.rbbi_cache.proofs.Reached.{Reached, first_member, farthest_is, rest_a
 use Rattle.rbbi_cache.proofs.Paths.{Path, IsCarried, carried, path_moved, path_reaches, reached_of}
 use Rattle.rbbi_cache.proofs.Paths.{moved}
 use Rattle.rbbi_cache.proofs.Reached.{reached_start}
-use Rattle.rbbi_cache.proofs.RunFacts.{all_by_splits, path_short, path_within, at_by_look}
+use Rattle.rbbi_cache.proofs.RunFacts.{all_by_splits, path_short}
 use Rattle.rbbi_cache.proofs.RunFacts as facts
 use Rattle.rbbi_cache.proofs.Texts.{length_is, left_stays, alike_before, room_before}
 
@@ -135,17 +135,6 @@ module _ (table : Table) (valid : IsValidTable table) (x y : List ℕ) (at remov
           farthest_is table x run.anchor done (boundary_of table entry) (facts.reached_is table valid x run is_true front entry rest whole),
           ap largest (same_look done each_short))
 
-    pub at_by_reach : entry.at ≤ entry.reach
-    at_by_reach =
-        let done : List Boundary = is_true.consecutive.before ++ map (boundary_of table) front in
-        ⊎_elim
-        (λ is. ⊎_elim
-          (λ zero. omega (arith, ap (λ b. b.at) is))
-          (λ past. absurd (omega (arith, ap (λ b. b.at) is)))
-          (facts.place table valid x run is_true front entry rest whole))
-        (λ by. omega (arith, by, facts.enough table valid x run is_true front entry rest whole, farthest_is table x run.anchor done (boundary_of table entry) (facts.reached_is table valid x run is_true front entry rest whole)))
-        (at_by_look table x valid (first_member run.anchor) done (boundary_of table entry) (facts.path_is table valid x run is_true front entry rest whole))
-
   -- the run's anchor is one of the new text, where an entry behind it is found without looking at the edit
   anchor_stays : (front : List Entry) (entry : Entry) (rest : List Entry) → run.entries ≡ front ++ entry ∷ rest → entry.reach ≤ at → IsAnchor table y run.anchor
   anchor_stays front entry rest whole up_to =
@@ -154,7 +143,7 @@ module _ (table : Table) (valid : IsValidTable table) (x y : List ℕ) (at remov
       (λ pair. ⊎_elim
         inl
         (λ past.
-          let near : run.anchor + 2 ≤ at = omega (arith, at_by_reach front entry rest whole up_to) in
+          let near : run.anchor + 2 ≤ at = omega (arith, facts.at_by_reach table valid x run is_true front entry rest whole) in
           let within = edited.within in
           let same : (q : ℕ) → q < at → category_at table y q ≡ category_at table x q =
           λ q before. ap (category_of table.ranges) (sym (get_or-take at y q 0 before) ∙ ap (λ z. get_or z q 0) (left_stays x y at removed inserted edited) ∙ get_or-take at x q 0 before) in

@@ -5,3 +5,4 @@ pub mod Texts
 pub mod RunFacts
 pub mod LeftPart
 pub mod Moving
+pub mod Reanchor

@@ -1,7 +1,7 @@
 -- What holds of each element of a list, and what a filter keeps.
-use Rattle.std.proofs.Common.{◌≡◌, ℕ, ◌≤◌, max, Bool, true, false, List, [], ◌∷◌, ◌++◌, map, filter, sym, refl, ap, ◌∙◌, arith}
+use Rattle.std.proofs.Common.{◌≡◌, ℕ, ◌≤◌, max, Bool, true, false, List, [], ◌∷◌, ◌++◌, map, filter, sym, refl, ap, ◌∙◌, subst, ⊎_elim, arith}
 use Rattle.std.specs.List.{AllByRecursion}
-use Rattle.std.proofs.lemmas.Bool.{cond-true, cond-false}
+use Rattle.std.proofs.lemmas.Bool.{cond-true, cond-false, cases_Bool}
 use Rattle.rbbi_model.specs.Places.{largest}
 
 module _ {X : Type 0} (P : X → Type 0) where
@@ -32,6 +32,50 @@ all_map f P (x ∷ xs) each = (each.0, all_map f P xs each.1)
 pub all_unmap : {X Y : Type 0} (f : X → Y) (P : Y → Type 0) (xs : List X) → AllByRecursion P (map f xs) → AllByRecursion (λ x. P (f x)) xs
 all_unmap f P [] each = tt
 all_unmap f P (x ∷ xs) each = (each.0, all_unmap f P xs each.1)
+
+-- what holds of the elements that a test keeps, and of those that it doesn't, holds of all
+pub all_by_test : {X : Type 0} (P : X → Type 0) (test : X → Bool) (xs : List X) → AllByRecursion P (filter test xs) → AllByRecursion (λ x. test x ≡ false → P x) xs → AllByRecursion P xs
+all_by_test P test [] kept others = tt
+all_by_test P test (x ∷ xs) kept others =
+    ⊎_elim
+    (λ holds.
+      let both = subst (λ l. AllByRecursion P l) (cond-true (test x) (x ∷ filter test xs) (filter test xs) holds) kept in
+      (both.0, all_by_test P test xs both.1 others.1))
+    (λ fails. (others.0 fails, all_by_test P test xs (subst (λ l. AllByRecursion P l) (cond-false (test x) (x ∷ filter test xs) (filter test xs) fails) kept) others.1))
+    (cases_Bool (test x))
+
+pub all_filter : {X : Type 0} (P : X → Type 0) (test : X → Bool) (xs : List X) → AllByRecursion P xs → AllByRecursion P (filter test xs)
+all_filter P test [] each = tt
+all_filter P test (x ∷ xs) each =
+    ⊎_elim
+    (λ holds. subst (λ l. AllByRecursion P l) (sym (cond-true (test x) (x ∷ filter test xs) (filter test xs) holds)) (each.0, all_filter P test xs each.1))
+    (λ fails. subst (λ l. AllByRecursion P l) (sym (cond-false (test x) (x ∷ filter test xs) (filter test xs) fails)) (all_filter P test xs each.1))
+    (cases_Bool (test x))
+
+dropped_inside : {X : Type 0} (more less : X → Bool) (x : X) (xs : List X) → more x ≡ false → filter more (filter less (x ∷ xs)) ≡ filter more (filter less xs)
+dropped_inside more less x xs fails =
+    ⊎_elim
+    (λ holds.
+      ap (filter more) (cond-true (less x) (x ∷ filter less xs) (filter less xs) holds)
+      ∙ cond-false (more x) (x ∷ filter more (filter less xs)) (filter more (filter less xs)) fails)
+    (λ no. ap (filter more) (cond-false (less x) (x ∷ filter less xs) (filter less xs) no))
+    (cases_Bool (less x))
+
+-- a test that asks less keeps nothing else after one that asks more
+pub filter_twice : {X : Type 0} (more less : X → Bool) → ((x : X) → more x ≡ true → less x ≡ true) → (xs : List X) → filter more (filter less xs) ≡ filter more xs
+filter_twice more less weaker [] = refl
+filter_twice more less weaker (x ∷ xs) =
+    ⊎_elim
+    (λ holds.
+      ap (filter more) (cond-true (less x) (x ∷ filter less xs) (filter less xs) (weaker x holds))
+      ∙ cond-true (more x) (x ∷ filter more (filter less xs)) (filter more (filter less xs)) holds
+      ∙ ap (λ l. x ∷ l) (filter_twice more less weaker xs)
+      ∙ sym (cond-true (more x) (x ∷ filter more xs) (filter more xs) holds))
+    (λ fails.
+      dropped_inside more less x xs fails
+      ∙ filter_twice more less weaker xs
+      ∙ sym (cond-false (more x) (x ∷ filter more xs) (filter more xs) fails))
+    (cases_Bool (more x))
 
 pub filter_all : {X : Type 0} (test : X → Bool) (xs : List X) → AllByRecursion (λ x. test x ≡ true) xs → filter test xs ≡ xs
 filter_all test [] each = refl

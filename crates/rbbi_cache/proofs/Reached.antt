@@ -68,12 +68,12 @@ rises_before (b ∷ []) here rest rising = (rising.0, tt)
 rises_before (b ∷ c ∷ done) here rest rising =
     let further = rises_before (c ∷ done) here rest rising.1 in (omega (arith, rising.0, further.0), further)
 
-rises_after : (b : Boundary) (rest : List Boundary) → IsRising (places (b ∷ rest)) → AllByRecursion (λ c. b.at < c.at) rest
+pub rises_after : (b : Boundary) (rest : List Boundary) → IsRising (places (b ∷ rest)) → AllByRecursion (λ c. b.at < c.at) rest
 rises_after b [] rising = tt
 rises_after b (c ∷ rest) rising =
     (rising.0, all_through (λ d. c.at < d.at) (λ d. b.at < d.at) (λ d less. omega (arith, less, rising.0)) rest (rises_after c rest rising.1))
 
-rising_right : (done rest : List Boundary) → IsRising (places (done ++ rest)) → IsRising (places rest)
+pub rising_right : (done rest : List Boundary) → IsRising (places (done ++ rest)) → IsRising (places rest)
 rising_right [] rest rising = rising
 rising_right (b ∷ done) rest rising = rising_right done rest (rising_tail b.at (places (done ++ rest)) rising)
 

@@ -88,3 +88,12 @@ module _ (table : Table) (valid : IsValidTable table) (x : List ℕ) (run : Run)
       let most : largest (map look done) ≤ entry.reach = omega (arith, enough, farthest_is table x run.anchor done (boundary_of table entry) reached_is) in
       all_through (λ m. look m ≤ largest (map look done)) (λ m. look m ≤ entry.reach) (λ m less. omega arith) done
       (all_unmap look (λ n. n ≤ largest (map look done)) done (largest_bounds (map look done)))
+
+  -- an entry lies no farther than it reaches
+  pub at_by_reach : entry.at ≤ entry.reach
+  at_by_reach =
+      let done : List Boundary = is_true.consecutive.before ++ map (boundary_of table) front in
+      ⊎_elim
+      (λ is. ⊎_elim (λ zero. omega (arith, ap (λ b. b.at) is)) (λ past. absurd (omega (arith, ap (λ b. b.at) is))) place)
+      (λ by. omega (arith, by, enough, farthest_is table x run.anchor done (boundary_of table entry) reached_is))
+      (at_by_look table x valid (first_member run.anchor) done (boundary_of table entry) path_is)
