@@ -6,3 +6,4 @@ pub mod RunFacts
 pub mod LeftPart
 pub mod Moving
 pub mod Reanchor
+pub mod RightPart

@@ -95,7 +95,7 @@ passing table x q k _ _ _ (Then b done c short path) looks starts ends =
     (λ later. passing table x q k (next_boundary table x b.at) done c path looks.1 later ends)
     (cases_lt q (next_boundary table x b.at).at)
 
-fresh_rises : (table : Table) (x : List ℕ) (p : ℕ) → IsRising (places (fresh table x p))
+pub fresh_rises : (table : Table) (x : List ℕ) (p : ℕ) → IsRising (places (fresh table x p))
 fresh_rises table x p = follow_rise (next_boundary table x) (length x) (λ s short. found_lies table x s short) (length x) (first_member p)
 
 module _ (table : Table) (valid : IsValidTable table) (x : List ℕ) (run : Run) (is_true : IsTrueRun table x run) (q : ℕ) (room : q + 2 ≤ length x) (safe : IsSafePair table (category_at table x q) (category_at table x (q + 1))) (order : run.anchor ≤ q) where
