@@ -17,7 +17,8 @@ use Rattle.rbbi_model.specs.Runs.{Entry, Run, category_at, IsAnchor, low, bounda
 use Rattle.rbbi_model.proofs.SearchesAlike.{finds_alike}
 use Rattle.rbbi_cache.specs.Edits.{IsEdited, left_part}
 use Rattle.rbbi_cache.proofs.Lists.{all_join, all_left, all_right, all_through, filter_all, filter_none}
-use Rattle.rbbi_cache.proofs.Reached.{Reached, first_member, farthest_is, rest_after}
+use Rattle.rbbi_cache.specs.Scans.{Reached}
+use Rattle.rbbi_cache.proofs.Reached.{first_member, farthest_is, rest_after}
 use Rattle.rbbi_cache.proofs.Paths.{Path, IsCarried, carried, path_moved, path_reaches, reached_of}
 use Rattle.rbbi_cache.proofs.Paths.{moved}
 use Rattle.rbbi_cache.proofs.Reached.{reached_start}

@@ -7,3 +7,4 @@ pub mod LeftPart
 pub mod Moving
 pub mod Reanchor
 pub mod RightPart
+pub mod Scanning

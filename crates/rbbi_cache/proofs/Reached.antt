@@ -6,6 +6,7 @@ use Rattle.std.proofs.lemmas.List.{map-append, append-nil}
 use Rattle.std.proofs.lemmas.List.Elements.{filter-append}
 use Rattle.std.specs.Prelude.{sum_by}
 use Rattle.rbbi_model.proofs.Rising.{rising_tail}
+use Rattle.rbbi_cache.specs.Scans.{Reached}
 use Rattle.rbbi_cache.proofs.Lists.{all_through, filter_all, filter_none, largest_join}
 use Rattle.rbbi_model.specs.Lists.{IsRising}
 use Rattle.rbbi_model.specs.Places.{largest}
@@ -17,12 +18,6 @@ use Rattle.rbbi_model.specs.Runs.{look_ends, farthest_look}
 use Rattle.rbbi_model.specs.Costs.{characters_read, searches_cost}
 use Rattle.rbbi_model.proofs.Found.{found_lies}
 use Rattle.rbbi_model.proofs.Covering.{follow_rise}
-
--- the members before this one are done, and the rest follow
-pub record Reached (table : Table) (x : List ℕ) (p : ℕ) (done : List Boundary) (here : Boundary) : Type 0 where
-  pub most : ℕ
-  pub whole : fresh table x p ≡ done ++ here ∷ follow_by (next_boundary table x) (length x) most here
-  pub enough : length x ≤ here.at + most
 
 -- the first member
 abbrev pub first_member : ℕ → Boundary
@@ -100,14 +95,17 @@ module _ (table : Table) (x : List ℕ) (p : ℕ) (done : List Boundary) (here :
       ∙ ap (λ bs. done ++ bs) (filter_none test (here ∷ rest) (here_fails, all_through (λ b. here.at < b.at) (λ b. test b ≡ false) after_fails rest rest_after))
       ∙ append-nil done
 
-  -- the searches up to here are those from what is done
-  pub farthest_is : farthest_look table x p here.at ≡ largest (map (λ b. look_end table x b.at) done)
-  farthest_is =
-      ap (λ bs. largest (map (λ b. look_end table x b.at) bs))
-      (keeps_done (λ b. ltb b.at here.at)
+  -- what is done is what lies before
+  pub done_is : filter (λ b. ltb b.at here.at) (fresh table x p) ≡ done
+  done_is =
+      keeps_done (λ b. ltb b.at here.at)
       (all_through (λ b. b.at < here.at) (λ b. ltb b.at here.at ≡ true) (λ b less. lt-ltb b.at here.at less) done done_before)
       (le-ltb here.at here.at (omega arith))
-      (λ b later. le-ltb b.at here.at (omega arith)))
+      (λ b later. le-ltb b.at here.at (omega arith))
+
+  -- the searches up to here are those from what is done
+  pub farthest_is : farthest_look table x p here.at ≡ largest (map (λ b. look_end table x b.at) done)
+  farthest_is = ap (λ bs. largest (map (λ b. look_end table x b.at) bs)) done_is
 
   -- what the searches from what is done read, where the next is past i
   pub cost_is : (i : ℕ) → AllByRecursion (λ b. b.at ≤ i) done → i < here.at → searches_cost table x p i ≡ sum_by (λ b. characters_read table x b.at) done

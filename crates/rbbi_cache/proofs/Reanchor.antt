@@ -20,7 +20,8 @@ use Rattle.rbbi_model.proofs.Covering.{follow_rise}
 use Rattle.rbbi_model.proofs.FreshTrue.{fresh_true}
 use Rattle.rbbi_model.proofs.SafeSearch.{look_agrees}
 use Rattle.rbbi_cache.proofs.Lists.{all_join, all_left, all_right, all_through, all_map, all_unmap, all_filter, all_by_test, everywhere, filter_all, filter_none, filter_twice}
-use Rattle.rbbi_cache.proofs.Reached.{Reached, first_member, rest_after, rises_after, rising_right}
+use Rattle.rbbi_cache.specs.Scans.{Reached}
+use Rattle.rbbi_cache.proofs.Reached.{first_member, rest_after, rises_after, rising_right}
 use Rattle.rbbi_cache.proofs.Paths.{Path, Here, Then}
 use Rattle.rbbi_cache.proofs.RunFacts.{all_by_splits}
 use Rattle.rbbi_cache.proofs.RunFacts as facts

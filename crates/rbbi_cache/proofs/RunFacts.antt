@@ -11,7 +11,8 @@ use Rattle.rbbi_model.specs.Runs.{Entry, Run, boundary_of, farthest_look, IsTrue
 use Rattle.rbbi_model.proofs.Found.{found_lies}
 use Rattle.rbbi_model.proofs.FoundCases.{found_up_to}
 use Rattle.rbbi_cache.proofs.Lists.{all_left, all_right, all_through, all_unmap}
-use Rattle.rbbi_cache.proofs.Reached.{Reached, first_member, farthest_is}
+use Rattle.rbbi_cache.specs.Scans.{Reached}
+use Rattle.rbbi_cache.proofs.Reached.{first_member, farthest_is}
 use Rattle.rbbi_cache.proofs.Paths.{Path, Here, Then, path_to, reached_of}
 use Rattle.rbbi_cache.proofs.Texts.{end_by_look}
 

@@ -1,3 +1,4 @@
 pub mod Kept
 pub mod Pushed
 pub mod Edits
+pub mod Scans
