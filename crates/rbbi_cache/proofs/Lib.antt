@@ -8,3 +8,4 @@ pub mod Moving
 pub mod Reanchor
 pub mod RightPart
 pub mod Scanning
+pub mod Scanned

@@ -98,6 +98,9 @@ module _ (table : Table) (x : List ℕ) (p i : ℕ) (scan : Scan) (run : Run) (i
     more_run : Run
     more_run = record { anchor = run.anchor; entries = run.entries ++ next ∷ []; leads = run.leads }
 
+    next_place : (p ≡ 0) ⊎ (p + 2 ≤ next.at)
+    next_place = ⊎_elim (λ zero. inl zero) (λ other. inr (omega (arith, cond-false (eqb p 0) 1 (p + 2) (ne_eqb p 0 other)))) (cases_eq p 0)
+
     whole_next : (scan.done ++ boundary_of table scan.here ∷ []) ++ boundary_of table next ∷ [] ≡ scan.skipped ++ map (boundary_of table) (scan.known ++ (scan.found ++ next ∷ []))
     whole_next =
         let b : Entry → Boundary = boundary_of table in
@@ -117,7 +120,7 @@ module _ (table : Table) (x : List ℕ) (p i : ℕ) (scan : Scan) (run : Run) (i
           within = omega (arith, next_is.at, (found_lies table x scan.here.at short).1);
           whole = whole_next;
           last = inr (scan.known ++ scan.found, grown);
-          high = each (λ e. low p ≤ e.at) is.high high;
+          places = each (λ e. (p ≡ 0) ⊎ (p + 2 ≤ e.at)) is.places next_place;
           none = λ nothing. absurd (nonempty (scan.known ++ scan.found) next [] (sym grown ∙ nothing));
           skipped_low = is.skipped_low;
           enough = each (λ e. farthest_look table x p e.at ≤ e.reach) is.enough next_enough;
@@ -176,8 +179,14 @@ module _ (table : Table) (x : List ℕ) (p i : ℕ) (scan : Scan) (run : Run) (i
         ⊎_elim
         (λ nothing. nothing)
         (λ last.
-          let high : low p ≤ scan.here.at = (all_right (λ e. low p ≤ e.at) last.0 (scan.here ∷ []) (subst (λ l. AllByRecursion (λ e. low p ≤ e.at) l) last.1 is.high)).0 in
-          absurd (omega (arith, next_is.at, (found_lies table x scan.here.at short).0)))
+          let place : (p ≡ 0) ⊎ (p + 2 ≤ scan.here.at) = (all_right (λ e. (p ≡ 0) ⊎ (p + 2 ≤ e.at)) last.0 (scan.here ∷ []) (subst (λ l. AllByRecursion (λ e. (p ≡ 0) ⊎ (p + 2 ≤ e.at)) l) last.1 is.places)).0 in
+          ⊎_elim
+          (λ zero. absurd (omega (arith, cond-true (eqb p 0) 1 (p + 2) (eq-eqb p 0 zero), next_is.at, (found_lies table x scan.here.at short).0)))
+          (λ past. absurd (⊎_elim
+            (λ zero. omega (arith, cond-true (eqb p 0) 1 (p + 2) (eq-eqb p 0 zero), next_is.at, (found_lies table x scan.here.at short).0))
+            (λ other. omega (arith, cond-false (eqb p 0) 1 (p + 2) (ne_eqb p 0 other), next_is.at, (found_lies table x scan.here.at short).0))
+            (cases_eq p 0)))
+          place)
         is.last
 
     pub skipped_next : IsScan table x p i skipped_scan run
@@ -193,7 +202,7 @@ module _ (table : Table) (x : List ℕ) (p i : ℕ) (scan : Scan) (run : Run) (i
             ∙ sym (append-nil (scan.skipped ++ b next ∷ []))
             ∙ ap (λ l. (scan.skipped ++ b next ∷ []) ++ map b l) (sym still_none);
           last = inl still_none;
-          high = is.high;
+          places = is.places;
           none = λ _. (near, omega (arith, farthest_next, next_is.reach, none.1));
           skipped_low = λ unknown. all_join (λ c. c.at < low p) scan.skipped (b next ∷ []) (is.skipped_low unknown) (near, tt);
           enough = is.enough;

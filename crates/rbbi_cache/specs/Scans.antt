@@ -38,7 +38,7 @@ pub record IsScan (table : Table) (x : List ℕ) (p i : ℕ) (scan : Scan) (run 
   pub within : scan.here.at ≤ length x
   pub whole : scan.done ++ boundary_of table scan.here ∷ [] ≡ scan.skipped ++ map (boundary_of table) (scan.known ++ scan.found)
   pub last : EndWith (scan.known ++ scan.found) scan.here
-  pub high : AllByRecursion (λ e. low p ≤ e.at) (scan.known ++ scan.found)
+  pub places : AllByRecursion (λ e. (p ≡ 0) ⊎ (p + 2 ≤ e.at)) (scan.known ++ scan.found)
   pub none : scan.known ++ scan.found ≡ [] → (scan.here.at < low p) × (scan.here.reach ≡ farthest_look table x p scan.here.at)
   pub skipped_low : scan.known ≡ [] → AllByRecursion (λ b. b.at < low p) scan.skipped
   pub enough : AllByRecursion (λ e. farthest_look table x p e.at ≤ e.reach) (scan.known ++ scan.found)
