@@ -9,3 +9,4 @@ pub mod Reanchor
 pub mod RightPart
 pub mod Scanning
 pub mod Scanned
+pub mod Extending
