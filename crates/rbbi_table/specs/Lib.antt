@@ -1,0 +1,4 @@
+pub mod Errors
+pub mod Parts
+pub mod Answers
+pub mod Kept
