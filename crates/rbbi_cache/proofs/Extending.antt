@@ -23,8 +23,8 @@ rise_join (e ∷ []) from found rise more = (rise.0, more)
 rise_join (e ∷ f ∷ front) from found rise more = (rise.0, rise_join (f ∷ front) from found rise.1 more)
 
 module _ (table : Table) (valid : IsValidTable table) (x : List ℕ) (i : ℕ) (former : Run) (is_true : IsTrueRun table x former)
-  (front : List Entry) (from : Entry) (whole : former.entries ≡ front ++ from ∷ [])
-  (scan : Scan) (run : Run) (is : IsScan table x former.anchor i scan run) (known : scan.known ≡ from ∷ []) where
+    (front : List Entry) (from : Entry) (whole : former.entries ≡ front ++ from ∷ [])
+    (scan : Scan) (run : Run) (is : IsScan table x former.anchor i scan run) (known : scan.known ≡ from ∷ []) where
   scanned_is : fresh table x former.anchor ≡ scan.skipped ++ boundary_of table from ∷ (map (boundary_of table) scan.found ++ follow_by (next_boundary table x) (length x) is.reached.most (boundary_of table scan.here))
   scanned_is =
       let rest : List Boundary = follow_by (next_boundary table x) (length x) is.reached.most (boundary_of table scan.here) in
@@ -51,8 +51,8 @@ module _ (table : Table) (valid : IsValidTable table) (x : List ℕ) (i : ℕ) (
       ∙ ap (λ bs. bs ++ b from ∷ (map b scan.found ++ rest)) same_done
       ∙ sym (append_assoc (before ++ map b front) (map b (from ∷ scan.found)) rest)
       ∙ ap (λ bs. bs ++ rest)
-        (append_assoc before (map b front) (map b (from ∷ scan.found))
-          ∙ ap (λ bs. before ++ bs) (sym (map-append b front (from ∷ scan.found)) ∙ ap (map b) (sym (append_assoc front (from ∷ []) scan.found) ∙ ap (λ l. l ++ scan.found) (sym whole))))
+      (append_assoc before (map b front) (map b (from ∷ scan.found))
+      ∙ ap (λ bs. before ++ bs) (sym (map-append b front (from ∷ scan.found)) ∙ ap (map b) (sym (append_assoc front (from ∷ []) scan.found) ∙ ap (λ l. l ++ scan.found) (sym whole))))
 
   pub extended_true : length (former.entries ++ scan.found) ≤ 256 → IsTrueRun table x (record { anchor = former.anchor; entries = former.entries ++ scan.found; leads = former.leads })
   extended_true few =
@@ -70,7 +70,7 @@ module _ (table : Table) (valid : IsValidTable table) (x : List ℕ) (i : ℕ) (
         reach_enough = both (λ e. farthest_look table x former.anchor e.at ≤ e.reach) is_true.reach_enough is.enough;
         reach_within = both (λ e. e.reach ≤ length x + 1) is_true.reach_within is.reaches_within;
         reaches_rise = subst ReachesRise (sym (ap (λ l. l ++ scan.found) whole ∙ append_assoc front (from ∷ []) scan.found))
-          (rise_join front from scan.found (subst ReachesRise whole is_true.reaches_rise) (subst (λ l. ReachesRise (l ++ scan.found)) known is.rise));
+            (rise_join front from scan.found (subst ReachesRise whole is_true.reaches_rise) (subst (λ l. ReachesRise (l ++ scan.found)) known is.rise));
         leads = λ so. leads_on former.entries is_true.some (is_true.leads so);
       }
     where

@@ -49,26 +49,26 @@ are_first at [] rise = record { left = []; rest = []; whole = refl; kept = refl;
 are_first at (entry ∷ entries) rise =
     ⊎_elim
     (λ beyond.
-      let all : AllByRecursion (λ e. at < e.reach) (entry ∷ entries) =
-      (beyond, all_through (λ e. entry.reach ≤ e.reach) (λ e. at < e.reach) (λ e less. omega arith) entries (reaches_after entry entries rise)) in
-      record {
-        left = [];
-        rest = entry ∷ entries;
-        whole = refl;
-        kept = filter_none (λ e. leb e.reach at) (entry ∷ entries) (all_through (λ e. at < e.reach) (λ e. leb e.reach at ≡ false) (λ e more. lt-leb e.reach at more) (entry ∷ entries) all);
-        each = tt;
-        later = all;
-      })
+    let all : AllByRecursion (λ e. at < e.reach) (entry ∷ entries) =
+    (beyond, all_through (λ e. entry.reach ≤ e.reach) (λ e. at < e.reach) (λ e less. omega arith) entries (reaches_after entry entries rise)) in
+    record {
+      left = [];
+      rest = entry ∷ entries;
+      whole = refl;
+      kept = filter_none (λ e. leb e.reach at) (entry ∷ entries) (all_through (λ e. at < e.reach) (λ e. leb e.reach at ≡ false) (λ e more. lt-leb e.reach at more) (entry ∷ entries) all);
+      each = tt;
+      later = all;
+    })
     (λ up_to.
-      let first = are_first at entries (reaches_tail entry entries rise) in
-      record {
-        left = entry ∷ first.left;
-        rest = first.rest;
-        whole = ap (λ l. entry ∷ l) first.whole;
-        kept = cond-true (leb entry.reach at) (entry ∷ filter (λ e. leb e.reach at) entries) (filter (λ e. leb e.reach at) entries) (le-leb entry.reach at up_to) ∙ ap (λ l. entry ∷ l) first.kept;
-        each = (up_to, first.each);
-        later = first.later;
-      })
+    let first = are_first at entries (reaches_tail entry entries rise) in
+    record {
+      left = entry ∷ first.left;
+      rest = first.rest;
+      whole = ap (λ l. entry ∷ l) first.whole;
+      kept = cond-true (leb entry.reach at) (entry ∷ filter (λ e. leb e.reach at) entries) (filter (λ e. leb e.reach at) entries) (le-leb entry.reach at up_to) ∙ ap (λ l. entry ∷ l) first.kept;
+      each = (up_to, first.each);
+      later = first.later;
+    })
     (cases_lt at entry.reach)
 
 rise_left : (left rest : List Entry) → ReachesRise (left ++ rest) → ReachesRise left
@@ -114,8 +114,8 @@ module _ (table : Table) (valid : IsValidTable table) (x y : List ℕ) (at remov
         let done : List Boundary = is_true.consecutive.before ++ map (boundary_of table) front in
         subst (λ bs. Path table y (first_member run.anchor) bs (boundary_of table entry)) (stay done)
         (path_moved table x y (λ q. q) (first_member run.anchor) done (boundary_of table entry)
-          (facts.path_is table valid x run is_true front entry rest whole)
-          (all_through (λ m. (m.at < length x) × (look_end table x m.at ≤ at)) (IsCarried table x y (λ q. q)) (λ m facts. here m facts.0 facts.1) done each_short))
+        (facts.path_is table valid x run is_true front entry rest whole)
+        (all_through (λ m. (m.at < length x) × (look_end table x m.at ≤ at)) (IsCarried table x y (λ q. q)) (λ m facts. here m facts.0 facts.1) done each_short))
 
     pub reached_stays : Reached table y run.anchor (is_true.consecutive.before ++ map (boundary_of table) front) (boundary_of table entry)
     reached_stays = path_reaches table y run.anchor [] (first_member run.anchor) (is_true.consecutive.before ++ map (boundary_of table) front) (boundary_of table entry) (reached_start table y run.anchor) path_stays
@@ -130,11 +130,13 @@ module _ (table : Table) (valid : IsValidTable table) (x y : List ℕ) (at remov
     pub farthest_stays : farthest_look table y run.anchor entry.at ≤ entry.reach
     farthest_stays =
         let done : List Boundary = is_true.consecutive.before ++ map (boundary_of table) front in
-        omega (arith,
+        omega (
+          arith,
           facts.enough table valid x run is_true front entry rest whole,
           farthest_is table y run.anchor done (boundary_of table entry) reached_stays,
           farthest_is table x run.anchor done (boundary_of table entry) (facts.reached_is table valid x run is_true front entry rest whole),
-          ap largest (same_look done each_short))
+          ap largest (same_look done each_short),
+        )
 
   -- the run's anchor is one of the new text, where an entry behind it is found without looking at the edit
   anchor_stays : (front : List Entry) (entry : Entry) (rest : List Entry) → run.entries ≡ front ++ entry ∷ rest → entry.reach ≤ at → IsAnchor table y run.anchor
@@ -142,18 +144,18 @@ module _ (table : Table) (valid : IsValidTable table) (x y : List ℕ) (at remov
       ⊎_elim
       inl
       (λ pair. ⊎_elim
-        inl
-        (λ past.
-          let near : run.anchor + 2 ≤ at = omega (arith, facts.at_by_reach table valid x run is_true front entry rest whole) in
-          let within = edited.within in
-          let same : (q : ℕ) → q < at → category_at table y q ≡ category_at table x q =
-          λ q before. ap (category_of table.ranges) (sym (get_or-take at y q 0 before) ∙ ap (λ z. get_or z q 0) (left_stays x y at removed inserted edited) ∙ get_or-take at x q 0 before) in
-          inr (
-            omega (arith, length_is x y at removed inserted edited),
-            subst (λ c. IsSafePair table c (category_at table y (run.anchor + 1))) (sym (same run.anchor (omega arith)))
-              (subst (λ c. IsSafePair table (category_at table x run.anchor) c) (sym (same (run.anchor + 1) (omega arith))) pair.1),
-          ))
-        (facts.place table valid x run is_true front entry rest whole))
+      inl
+      (λ past.
+      let near : run.anchor + 2 ≤ at = omega (arith, facts.at_by_reach table valid x run is_true front entry rest whole) in
+      let within = edited.within in
+      let same : (q : ℕ) → q < at → category_at table y q ≡ category_at table x q =
+      λ q before. ap (category_of table.ranges) (sym (get_or-take at y q 0 before) ∙ ap (λ z. get_or z q 0) (left_stays x y at removed inserted edited) ∙ get_or-take at x q 0 before) in
+      inr (
+        omega (arith, length_is x y at removed inserted edited),
+        subst (λ c. IsSafePair table c (category_at table y (run.anchor + 1))) (sym (same run.anchor (omega arith)))
+            (subst (λ c. IsSafePair table (category_at table x run.anchor) c) (sym (same (run.anchor + 1) (omega arith))) pair.1),
+      ))
+      (facts.place table valid x run is_true front entry rest whole))
       is_true.anchor
 
   module _ (first : Entry) (more : List Entry) (rest : List Entry) (whole : run.entries ≡ (first ∷ more) ++ rest) (each : AllByRecursion (λ e. e.reach ≤ at) (first ∷ more)) where
@@ -167,9 +169,9 @@ module _ (table : Table) (valid : IsValidTable table) (x y : List ℕ) (at remov
         let reached = reached_stays last.front last.last rest split up_to in (
           follow_by (next_boundary table y) (length y) reached.most (b last.last),
           reached.whole
-          ∙ sym (append_assoc (is_true.consecutive.before ++ map b last.front) (b last.last ∷ []) (follow_by (next_boundary table y) (length y) reached.most (b last.last)))
-          ∙ ap (λ bs. bs ++ follow_by (next_boundary table y) (length y) reached.most (b last.last))
-            (append_assoc is_true.consecutive.before (map b last.front) (b last.last ∷ []) ∙ ap (λ bs. is_true.consecutive.before ++ bs) (sym (map-append b last.front (last.last ∷ [])) ∙ ap (map b) (sym last.whole))),
+              ∙ sym (append_assoc (is_true.consecutive.before ++ map b last.front) (b last.last ∷ []) (follow_by (next_boundary table y) (length y) reached.most (b last.last)))
+              ∙ ap (λ bs. bs ++ follow_by (next_boundary table y) (length y) reached.most (b last.last))
+              (append_assoc is_true.consecutive.before (map b last.front) (b last.last ∷ []) ∙ ap (λ bs. is_true.consecutive.before ++ bs) (sym (map-append b last.front (last.last ∷ [])) ∙ ap (map b) (sym last.whole))),
         )
 
     leads_stay : IsTrue run.leads → LeadsTruly table y run.anchor (first ∷ more)
@@ -181,9 +183,10 @@ module _ (table : Table) (valid : IsValidTable table) (x y : List ℕ) (at remov
         let reached = reached_stays [] first (more ++ rest) whole each.0 in
         subst (λ bs. AllByRecursion P bs) (sym (reached.whole ∙ ap (λ bs. bs ++ b first ∷ follow_by (next_boundary table y) (length y) reached.most (b first)) (append-nil before)))
         (all_join P before (b first ∷ follow_by (next_boundary table y) (length y) reached.most (b first))
-          (all_left P before (map b run.entries ++ is_true.consecutive.after) (subst (λ bs. AllByRecursion P bs) (is_true.consecutive.whole ∙ append_assoc before (map b run.entries) is_true.consecutive.after) old))
-          (λ _. omega arith,
-           all_through (λ m. first.at < m.at) P (λ m later _. omega (arith, later)) (follow_by (next_boundary table y) (length y) reached.most (b first)) (rest_after table y run.anchor (before ++ []) (b first) reached)))
+        (all_left P before (map b run.entries ++ is_true.consecutive.after) (subst (λ bs. AllByRecursion P bs) (is_true.consecutive.whole ∙ append_assoc before (map b run.entries) is_true.consecutive.after) old)) (
+          λ _. omega arith,
+          all_through (λ m. first.at < m.at) P (λ m later _. omega (arith, later)) (follow_by (next_boundary table y) (length y) reached.most (b first)) (rest_after table y run.anchor (before ++ []) (b first) reached),
+        ))
       where
         leads_of : (entries : List Entry) → entries ≡ (first ∷ more) ++ rest → LeadsTruly table x run.anchor entries → AllByRecursion (λ m. low run.anchor ≤ m.at → first.at ≤ m.at) (fresh table x run.anchor)
         leads_of entries is leads = subst (λ l. LeadsTruly table x run.anchor l) is leads
@@ -201,7 +204,7 @@ module _ (table : Table) (valid : IsValidTable table) (x y : List ℕ) (at remov
           consecutive = record { before = is_true.consecutive.before; after = consecutive.0; whole = consecutive.1 };
           places = own (λ e. (run.anchor ≡ 0) ⊎ (run.anchor + 2 ≤ e.at)) is_true.places;
           reach_enough = all_by_splits (λ e. farthest_look table y run.anchor e.at ≤ e.reach) (first ∷ more)
-            (λ front e after is.
+              (λ front e after is.
               farthest_stays front e (after ++ rest) (whole ∙ ap (λ l. l ++ rest) is ∙ append_assoc front (e ∷ after) rest)
               (all_right (λ f. f.reach ≤ at) front (e ∷ after) (subst (λ l. AllByRecursion (λ f. f.reach ≤ at) l) is each)).0);
           reach_within = all_through (λ e. e.reach ≤ at) (λ e. e.reach ≤ length y + 1) (λ e up_to. omega (arith, length_is x y at removed inserted edited)) (first ∷ more) each;

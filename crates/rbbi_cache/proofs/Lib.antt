@@ -10,3 +10,6 @@ pub mod RightPart
 pub mod Scanning
 pub mod Scanned
 pub mod Extending
+pub mod Walks
+pub mod Goes
+pub mod Showing

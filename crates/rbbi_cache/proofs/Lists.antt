@@ -39,8 +39,8 @@ all_by_test P test [] kept others = tt
 all_by_test P test (x ∷ xs) kept others =
     ⊎_elim
     (λ holds.
-      let both = subst (λ l. AllByRecursion P l) (cond-true (test x) (x ∷ filter test xs) (filter test xs) holds) kept in
-      (both.0, all_by_test P test xs both.1 others.1))
+    let both = subst (λ l. AllByRecursion P l) (cond-true (test x) (x ∷ filter test xs) (filter test xs) holds) kept in
+    (both.0, all_by_test P test xs both.1 others.1))
     (λ fails. (others.0 fails, all_by_test P test xs (subst (λ l. AllByRecursion P l) (cond-false (test x) (x ∷ filter test xs) (filter test xs) fails) kept) others.1))
     (cases_Bool (test x))
 
@@ -56,8 +56,8 @@ dropped_inside : {X : Type 0} (more less : X → Bool) (x : X) (xs : List X) →
 dropped_inside more less x xs fails =
     ⊎_elim
     (λ holds.
-      ap (filter more) (cond-true (less x) (x ∷ filter less xs) (filter less xs) holds)
-      ∙ cond-false (more x) (x ∷ filter more (filter less xs)) (filter more (filter less xs)) fails)
+    ap (filter more) (cond-true (less x) (x ∷ filter less xs) (filter less xs) holds)
+    ∙ cond-false (more x) (x ∷ filter more (filter less xs)) (filter more (filter less xs)) fails)
     (λ no. ap (filter more) (cond-false (less x) (x ∷ filter less xs) (filter less xs) no))
     (cases_Bool (less x))
 
@@ -67,14 +67,14 @@ filter_twice more less weaker [] = refl
 filter_twice more less weaker (x ∷ xs) =
     ⊎_elim
     (λ holds.
-      ap (filter more) (cond-true (less x) (x ∷ filter less xs) (filter less xs) (weaker x holds))
-      ∙ cond-true (more x) (x ∷ filter more (filter less xs)) (filter more (filter less xs)) holds
-      ∙ ap (λ l. x ∷ l) (filter_twice more less weaker xs)
-      ∙ sym (cond-true (more x) (x ∷ filter more xs) (filter more xs) holds))
+    ap (filter more) (cond-true (less x) (x ∷ filter less xs) (filter less xs) (weaker x holds))
+    ∙ cond-true (more x) (x ∷ filter more (filter less xs)) (filter more (filter less xs)) holds
+    ∙ ap (λ l. x ∷ l) (filter_twice more less weaker xs)
+    ∙ sym (cond-true (more x) (x ∷ filter more xs) (filter more xs) holds))
     (λ fails.
-      dropped_inside more less x xs fails
-      ∙ filter_twice more less weaker xs
-      ∙ sym (cond-false (more x) (x ∷ filter more xs) (filter more xs) fails))
+    dropped_inside more less x xs fails
+    ∙ filter_twice more less weaker xs
+    ∙ sym (cond-false (more x) (x ∷ filter more xs) (filter more xs) fails))
     (cases_Bool (more x))
 
 pub filter_all : {X : Type 0} (test : X → Bool) (xs : List X) → AllByRecursion (λ x. test x ≡ true) xs → filter test xs ≡ xs

@@ -47,10 +47,10 @@ module _ (table : Table) (valid : IsValidTable table) (x y : List ℕ) (at remov
   same_category p from =
       ap (category_of table.ranges)
       (ap (λ n. get_or y n 0) (let e : p + inserted - removed ≡ p + inserted - removed + 0 = omega arith in e)
-        ∙ sym (get_or-drop (p + inserted - removed) y 0 0)
-        ∙ ap (λ z. get_or z 0 0) (same_behind x y at removed inserted edited p from)
-        ∙ get_or-drop p x 0 0
-        ∙ ap (λ n. get_or x n 0) (let e : p + 0 ≡ p = omega arith in e))
+      ∙ sym (get_or-drop (p + inserted - removed) y 0 0)
+      ∙ ap (λ z. get_or z 0 0) (same_behind x y at removed inserted edited p from)
+      ∙ get_or-drop p x 0 0
+      ∙ ap (λ n. get_or x n 0) (let e : p + 0 ≡ p = omega arith in e))
 
   pub pair_moves : (p : ℕ) → at + removed ≤ p → p + 2 ≤ length x → IsSafePair table (category_at table x p) (category_at table x (p + 1)) →
       (p + inserted - removed + 2 ≤ length y) × IsSafePair table (category_at table y (p + inserted - removed)) (category_at table y (p + inserted - removed + 1))
@@ -58,7 +58,7 @@ module _ (table : Table) (valid : IsValidTable table) (x y : List ℕ) (at remov
       let next : p + 1 + inserted - removed ≡ p + inserted - removed + 1 = omega arith in (
         omega (arith, length_is x y at removed inserted edited),
         subst (λ c. IsSafePair table c (category_at table y (p + inserted - removed + 1))) (sym (same_category p from))
-          (subst (λ c. IsSafePair table (category_at table x p) c) (sym (ap (category_at table y) (sym next) ∙ same_category (p + 1) (omega arith))) safe),
+            (subst (λ c. IsSafePair table (category_at table x p) c) (sym (ap (category_at table y) (sym next) ∙ same_category (p + 1) (omega arith))) safe),
       )
 
   carries : (b : Boundary) → at + removed ≤ b.at → b.at < length x → IsCarried table x y (λ q. q + inserted - removed) b
@@ -91,7 +91,7 @@ module _ (table : Table) (valid : IsValidTable table) (x y : List ℕ) (at remov
           path_reaches table y (run.anchor + inserted - removed) [] (first_member (run.anchor + inserted - removed)) (map move done) (boundary_of table (moved_entry removed inserted entry))
           (reached_start table y (run.anchor + inserted - removed))
           (path_moved table x y (λ q. q + inserted - removed) (first_member run.anchor) done (boundary_of table entry) path
-            (all_through (λ m. (at + removed ≤ m.at) × (m.at < length x)) (IsCarried table x y (λ q. q + inserted - removed)) (λ m facts. carries m facts.0 facts.1) done all_behind))
+          (all_through (λ m. (at + removed ≤ m.at) × (m.at < length x)) (IsCarried table x y (λ q. q + inserted - removed)) (λ m facts. carries m facts.0 facts.1) done all_behind))
 
       looks_move : (bs : List Boundary) → AllByRecursion (λ m. (at + removed ≤ m.at) × (m.at < length x)) bs → AllByRecursion (λ m. look_end table x m.at ≤ entry.reach) bs →
           AllByRecursion (λ n. n ≤ entry.reach + inserted - removed) (map (λ m. look_end table y m.at) (map (moved table x y (λ q. q + inserted - removed)) bs))
@@ -104,14 +104,16 @@ module _ (table : Table) (valid : IsValidTable table) (x y : List ℕ) (at remov
       farthest_moves =
           let done : List Boundary = is_true.consecutive.before ++ map (boundary_of table) front in
           let move : Boundary → Boundary = moved table x y (λ q. q + inserted - removed) in
-          omega (arith,
+          omega (
+            arith,
             farthest_is table y (run.anchor + inserted - removed) (map move done) (boundary_of table (moved_entry removed inserted entry)) reached_moves,
-            largest_least (entry.reach + inserted - removed) (map (λ m. look_end table y m.at) (map move done)) (looks_move done all_behind (facts.looks table valid x run is_true front entry rest whole)))
+            largest_least (entry.reach + inserted - removed) (map (λ m. look_end table y m.at) (map move done)) (looks_move done all_behind (facts.looks table valid x run is_true front entry rest whole)),
+          )
 
     -- the moved run, with a mark of its own whether it leads
     module _ (leads : Bool) (first : Entry) (more : List Entry) (whole : run.entries ≡ first ∷ more)
-      (far : (run.anchor + inserted - removed ≡ 0) ⊎ AllByRecursion (λ e. run.anchor + inserted - removed + 2 ≤ e.at + inserted - removed) run.entries)
-      (leading : IsTrue leads → AllByRecursion (λ m. low (run.anchor + inserted - removed) ≤ m.at + inserted - removed → first.at ≤ m.at) (fresh table x run.anchor)) where
+        (far : (run.anchor + inserted - removed ≡ 0) ⊎ AllByRecursion (λ e. run.anchor + inserted - removed + 2 ≤ e.at + inserted - removed) run.entries)
+        (leading : IsTrue leads → AllByRecursion (λ m. low (run.anchor + inserted - removed) ≤ m.at + inserted - removed → first.at ≤ m.at) (fresh table x run.anchor)) where
       consecutive : (before : List Boundary) × (after : List Boundary) × (fresh table y (run.anchor + inserted - removed) ≡ (before ++ map (boundary_of table) (map (moved_entry removed inserted) (first ∷ more))) ++ after)
       consecutive =
           let last = has_last first more in
@@ -124,10 +126,10 @@ module _ (table : Table) (valid : IsValidTable table) (x y : List ℕ) (at remov
             map mv before,
             rest,
             reached.whole
-            ∙ ap (λ bs. bs ++ b (m last.last) ∷ rest) (map-append mv before (map b last.front) ∙ ap (λ bs. map mv before ++ bs) (moved_boundaries last.front))
-            ∙ sym (append_assoc (map mv before ++ map b (map m last.front)) (b (m last.last) ∷ []) rest)
-            ∙ ap (λ bs. bs ++ rest)
-              (append_assoc (map mv before) (map b (map m last.front)) (b (m last.last) ∷ [])
+                ∙ ap (λ bs. bs ++ b (m last.last) ∷ rest) (map-append mv before (map b last.front) ∙ ap (λ bs. map mv before ++ bs) (moved_boundaries last.front))
+                ∙ sym (append_assoc (map mv before ++ map b (map m last.front)) (b (m last.last) ∷ []) rest)
+                ∙ ap (λ bs. bs ++ rest)
+                (append_assoc (map mv before) (map b (map m last.front)) (b (m last.last) ∷ [])
                 ∙ ap (λ bs. map mv before ++ bs) (sym (map-append b (map m last.front) (m last.last ∷ [])) ∙ ap (map b) (sym (map-append m last.front (last.last ∷ [])) ∙ ap (map m) (sym last.whole)))),
           )
 
@@ -143,9 +145,10 @@ module _ (table : Table) (valid : IsValidTable table) (x y : List ℕ) (at remov
           let old : AllByRecursion Q before = all_left Q before (map b run.entries ++ is_true.consecutive.after) (subst (λ bs. AllByRecursion Q bs) (is_true.consecutive.whole ∙ append_assoc before (map b run.entries) is_true.consecutive.after) (leading is)) in
           subst (λ bs. AllByRecursion P bs) (sym reached.whole)
           (all_join P (map mv (before ++ [])) (b first' ∷ follow_by (next_boundary table y) (length y) reached.most (b first'))
-            (all_map mv P (before ++ []) (all_join (λ m. P (mv m)) before [] (all_through Q (λ m. P (mv m)) (λ m holds from. omega (arith, holds from)) before old) tt))
-            (λ _. omega arith,
-             all_through (λ m. first'.at < m.at) P (λ m later _. omega (arith, later)) (follow_by (next_boundary table y) (length y) reached.most (b first')) (rest_after table y (run.anchor + inserted - removed) (map mv (before ++ [])) (b first') reached)))
+          (all_map mv P (before ++ []) (all_join (λ m. P (mv m)) before [] (all_through Q (λ m. P (mv m)) (λ m holds from. omega (arith, holds from)) before old) tt)) (
+            λ _. omega arith,
+            all_through (λ m. first'.at < m.at) P (λ m later _. omega (arith, later)) (follow_by (next_boundary table y) (length y) reached.most (b first')) (rest_after table y (run.anchor + inserted - removed) (map mv (before ++ [])) (b first') reached),
+          ))
 
       pub true_moves : IsTrueRun table y (record { anchor = run.anchor + inserted - removed; entries = map (moved_entry removed inserted) run.entries; leads = leads })
       true_moves =
@@ -160,16 +163,16 @@ module _ (table : Table) (valid : IsValidTable table) (x y : List ℕ) (at remov
             few = omega (arith, length-map (first ∷ more) (moved_entry removed inserted), ap length whole);
             consecutive = record { before = consecutive.0; after = consecutive.1; whole = consecutive.2 };
             places = all_map (moved_entry removed inserted) (λ e. (run.anchor + inserted - removed ≡ 0) ⊎ (run.anchor + inserted - removed + 2 ≤ e.at)) (first ∷ more)
-              (subst (λ l. AllByRecursion (λ e. (run.anchor + inserted - removed ≡ 0) ⊎ (run.anchor + inserted - removed + 2 ≤ e.at + inserted - removed)) l) whole
+                (subst (λ l. AllByRecursion (λ e. (run.anchor + inserted - removed ≡ 0) ⊎ (run.anchor + inserted - removed + 2 ≤ e.at + inserted - removed)) l) whole
                 (⊎_elim
-                  (λ zero. everywhere (λ e. (run.anchor + inserted - removed ≡ 0) ⊎ (run.anchor + inserted - removed + 2 ≤ e.at + inserted - removed)) (λ e. inl zero) run.entries)
-                  (λ each. all_through (λ e. run.anchor + inserted - removed + 2 ≤ e.at + inserted - removed) (λ e. (run.anchor + inserted - removed ≡ 0) ⊎ (run.anchor + inserted - removed + 2 ≤ e.at + inserted - removed)) (λ e past. inr past) run.entries each)
-                  far));
+                (λ zero. everywhere (λ e. (run.anchor + inserted - removed ≡ 0) ⊎ (run.anchor + inserted - removed + 2 ≤ e.at + inserted - removed)) (λ e. inl zero) run.entries)
+                (λ each. all_through (λ e. run.anchor + inserted - removed + 2 ≤ e.at + inserted - removed) (λ e. (run.anchor + inserted - removed ≡ 0) ⊎ (run.anchor + inserted - removed + 2 ≤ e.at + inserted - removed)) (λ e past. inr past) run.entries each)
+                far));
             reach_enough = all_map (moved_entry removed inserted) (λ e. farthest_look table y (run.anchor + inserted - removed) e.at ≤ e.reach) (first ∷ more)
-              (all_by_splits (λ e. farthest_look table y (run.anchor + inserted - removed) (e.at + inserted - removed) ≤ e.reach + inserted - removed) (first ∷ more)
+                (all_by_splits (λ e. farthest_look table y (run.anchor + inserted - removed) (e.at + inserted - removed) ≤ e.reach + inserted - removed) (first ∷ more)
                 (λ front e after is. farthest_moves front e after (whole ∙ is)));
             reach_within = all_map (moved_entry removed inserted) (λ e. e.reach ≤ length y + 1) (first ∷ more)
-              (all_through (λ e. e.reach ≤ length x + 1) (λ e. e.reach + inserted - removed ≤ length y + 1) (λ e within. omega (arith, length_is x y at removed inserted edited)) (first ∷ more)
+                (all_through (λ e. e.reach ≤ length x + 1) (λ e. e.reach + inserted - removed ≤ length y + 1) (λ e within. omega (arith, length_is x y at removed inserted edited)) (first ∷ more)
                 (subst (λ l. AllByRecursion (λ e. e.reach ≤ length x + 1) l) whole is_true.reach_within));
             reaches_rise = rises_moved removed inserted (first ∷ more) (subst ReachesRise whole is_true.reaches_rise);
             leads = leads_moves;

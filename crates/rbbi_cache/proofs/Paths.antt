@@ -46,11 +46,11 @@ path_of_follow table x (suc most) b (d ∷ done) c rest whole =
     let parts = cons_injective whole in
     ⊎_elim
     (λ short.
-      let goes_on : next ∷ follow_by (next_boundary table x) (length x) most next ≡ done ++ c ∷ rest =
-      sym (cond-true (ltb b.at (length x)) (next ∷ follow_by (next_boundary table x) (length x) most next) [] (lt-ltb b.at (length x) short)) ∙ parts.1 in
-      subst (λ e. Path table x b (e ∷ done) c) parts.0 (Then b done c short (path_of_follow table x most next done c rest goes_on)))
+    let goes_on : next ∷ follow_by (next_boundary table x) (length x) most next ≡ done ++ c ∷ rest =
+    sym (cond-true (ltb b.at (length x)) (next ∷ follow_by (next_boundary table x) (length x) most next) [] (lt-ltb b.at (length x) short)) ∙ parts.1 in
+    subst (λ e. Path table x b (e ∷ done) c) parts.0 (Then b done c short (path_of_follow table x most next done c rest goes_on)))
     (λ end.
-      absurd (nothing_left done c rest (sym (cond-false (ltb b.at (length x)) (next ∷ follow_by (next_boundary table x) (length x) most next) [] (le-ltb b.at (length x) end)) ∙ parts.1)))
+    absurd (nothing_left done c rest (sym (cond-false (ltb b.at (length x)) (next ∷ follow_by (next_boundary table x) (length x) most next) [] (le-ltb b.at (length x) end)) ∙ parts.1)))
     (cases_lt b.at (length x))
 
 pub path_to : (table : Table) (x : List ℕ) (p : ℕ) (done : List Boundary) (c : Boundary) (rest : List Boundary) → fresh table x p ≡ done ++ c ∷ rest → Path table x (first_member p) done c

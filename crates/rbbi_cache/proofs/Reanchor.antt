@@ -37,13 +37,13 @@ places_from k [] = refl
 places_from k (b ∷ bs) =
     ⊎_elim
     (λ holds.
-      ap places (cond-true (leb k b.at) (b ∷ from_place k bs) (from_place k bs) holds)
-      ∙ ap (λ l. b.at ∷ l) (places_from k bs)
-      ∙ sym (cond-true (leb k b.at) (b.at ∷ from k (places bs)) (from k (places bs)) holds))
+    ap places (cond-true (leb k b.at) (b ∷ from_place k bs) (from_place k bs) holds)
+    ∙ ap (λ l. b.at ∷ l) (places_from k bs)
+    ∙ sym (cond-true (leb k b.at) (b.at ∷ from k (places bs)) (from k (places bs)) holds))
     (λ fails.
-      ap places (cond-false (leb k b.at) (b ∷ from_place k bs) (from_place k bs) fails)
-      ∙ places_from k bs
-      ∙ sym (cond-false (leb k b.at) (b.at ∷ from k (places bs)) (from k (places bs)) fails))
+    ap places (cond-false (leb k b.at) (b ∷ from_place k bs) (from_place k bs) fails)
+    ∙ places_from k bs
+    ∙ sym (cond-false (leb k b.at) (b.at ∷ from k (places bs)) (from k (places bs)) fails))
     (cases_Bool (leb k b.at))
 
 from_later : (k l : ℕ) → k ≤ l → (ns : List ℕ) → from l (from k ns) ≡ from l ns
@@ -65,12 +65,12 @@ parted k [] rising = ([], refl)
 parted k (b ∷ bs) rising =
     ⊎_elim
     (λ past.
-      let rest = parted k bs (tail_rises b bs rising) in
-      (b ∷ rest.0, ap (λ l. b ∷ l) (rest.1 ∙ ap (λ l. rest.0 ++ l) (sym (cond-false (leb k b.at) (b ∷ from_place k bs) (from_place k bs) (lt-leb k b.at past))))))
+    let rest = parted k bs (tail_rises b bs rising) in
+    (b ∷ rest.0, ap (λ l. b ∷ l) (rest.1 ∙ ap (λ l. rest.0 ++ l) (sym (cond-false (leb k b.at) (b ∷ from_place k bs) (from_place k bs) (lt-leb k b.at past))))))
     (λ from.
-      let each : AllByRecursion (λ (c : Boundary). leb k c.at ≡ true) (b ∷ bs) =
-      (le-leb k b.at from, all_through (λ c. b.at < c.at) (λ c. leb k c.at ≡ true) (λ c less. le-leb k c.at (omega arith)) bs (rises_after b bs rising)) in
-      ([], sym (filter_all (λ c. leb k c.at) (b ∷ bs) each)))
+    let each : AllByRecursion (λ (c : Boundary). leb k c.at ≡ true) (b ∷ bs) =
+    (le-leb k b.at from, all_through (λ c. b.at < c.at) (λ c. leb k c.at ≡ true) (λ c less. le-leb k c.at (omega arith)) bs (rises_after b bs rising)) in
+    ([], sym (filter_all (λ c. leb k c.at) (b ∷ bs) each)))
     (cases_lt b.at k)
 
 low_is : (p : ℕ) → low p ≤ p + 2
@@ -132,13 +132,13 @@ module _ (table : Table) (valid : IsValidTable table) (x : List ℕ) (run : Run)
     look_here : look_end table x q ≤ entry.reach
     look_here =
         let passes = passing table x q entry.reach (first_member run.anchor) (is_true.consecutive.before ++ map (boundary_of table) front) (boundary_of table entry)
-          (facts.path_is table valid x run is_true front entry rest whole) (facts.looks table valid x run is_true front entry rest whole) order (omega arith) in
+        (facts.path_is table valid x run is_true front entry rest whole) (facts.looks table valid x run is_true front entry rest whole) order (omega arith) in
         ⊎_elim
         (λ is. omega (arith, ap (look_end table x) is, passes.look))
         (λ other. ⊎_elim
-          (λ near. omega (arith, near, facts.at_by_reach table valid x run is_true front entry rest whole))
-          (λ same. omega (arith, same, passes.look))
-          (look_agrees table valid x passes.m q room safe (omega (arith, passes.starts)) passes.spans))
+        (λ near. omega (arith, near, facts.at_by_reach table valid x run is_true front entry rest whole))
+        (λ same. omega (arith, same, passes.look))
+        (look_agrees table valid x passes.m q room safe (omega (arith, passes.starts)) passes.spans))
         (cases_eq passes.m q)
 
     -- nor do the searches up to the entry
@@ -152,27 +152,29 @@ module _ (table : Table) (valid : IsValidTable table) (x : List ℕ) (run : Run)
         let there : AllByRecursion (λ m. Ok m.at) (fresh table x run.anchor) =
         subst (λ bs. AllByRecursion (λ m. Ok m.at) bs) (sym reached.whole)
         (all_join (λ m. Ok m.at) done (b entry ∷ follow)
-          (all_through (λ m. look_end table x m.at ≤ entry.reach) (λ m. Ok m.at) (λ m look _. look) done (facts.looks table valid x run is_true front entry rest whole))
-          (λ less. absurd (omega arith),
-           all_through (λ m. entry.at < m.at) (λ m. Ok m.at) (λ m later less. absurd (omega arith)) follow (rest_after table x run.anchor done (b entry) reached))) in
+        (all_through (λ m. look_end table x m.at ≤ entry.reach) (λ m. Ok m.at) (λ m look _. look) done (facts.looks table valid x run is_true front entry rest whole)) (
+          λ less. absurd (omega arith),
+          all_through (λ m. entry.at < m.at) (λ m. Ok m.at) (λ m later less. absurd (omega arith)) follow (rest_after table x run.anchor done (b entry) reached),
+        )) in
         let kept : AllByRecursion (λ m. Ok m.at) (from_place (q + 1) (fresh table x q)) =
         all_unmap (λ m. m.at) Ok (from_place (q + 1) (fresh table x q))
         (subst (λ ns. AllByRecursion Ok ns) (sym same_places) (all_map (λ m. m.at) Ok (from_place (q + 1) (fresh table x run.anchor)) (all_filter (λ m. Ok m.at) (λ m. leb (q + 1) m.at) (fresh table x run.anchor) there))) in
         all_by_test (λ m. Ok m.at) (λ m. leb (q + 1) m.at) (fresh table x q) kept
         (all_through (λ m. q ≤ m.at) (λ m. leb (q + 1) m.at ≡ false → Ok m.at)
-          (λ m from fails less.
-            let is : m.at ≡ q = omega (arith, leb-false (q + 1) m.at fails) in
-            omega (arith, ap (look_end table x) is, look_here))
-          (fresh table x q)
-          (omega arith,
-           all_through (λ m. q < m.at) (λ m. q ≤ m.at) (λ m less. omega arith) (follow_by (next_boundary table x) (length x) (length x) (first_member q))
-             (rises_after (first_member q) (follow_by (next_boundary table x) (length x) (length x) (first_member q)) (fresh_rises table x q))))
+        (λ m from fails less.
+        let is : m.at ≡ q = omega (arith, leb-false (q + 1) m.at fails) in
+        omega (arith, ap (look_end table x) is, look_here))
+        (fresh table x q) (
+          omega arith,
+          all_through (λ m. q < m.at) (λ m. q ≤ m.at) (λ m less. omega arith) (follow_by (next_boundary table x) (length x) (length x) (first_member q))
+              (rises_after (first_member q) (follow_by (next_boundary table x) (length x) (length x) (first_member q)) (fresh_rises table x q)),
+        ))
 
     pub farthest_here : farthest_look table x q entry.at ≤ entry.reach
     farthest_here =
         largest_least entry.reach (look_ends table x q entry.at)
         (all_map (λ m. look_end table x m.at) (λ n. n ≤ entry.reach) (filter (λ m. ltb m.at entry.at) (fresh table x q))
-          (kept_less (fresh table x q) looks_here))
+        (kept_less (fresh table x q) looks_here))
       where
         kept_less : (bs : List Boundary) → AllByRecursion (λ m. m.at < entry.at → look_end table x m.at ≤ entry.reach) bs → AllByRecursion (λ m. look_end table x m.at ≤ entry.reach) (filter (λ m. ltb m.at entry.at) bs)
         kept_less [] each = tt
@@ -203,9 +205,11 @@ module _ (table : Table) (valid : IsValidTable table) (x : List ℕ) (run : Run)
       let tail : List Boundary = map b (first ∷ more) ++ after in
       let reached = facts.reached_is table valid x run is_true front first more whole in
       let fresh_is : fresh table x run.anchor ≡ done ++ tail = facts.fresh_is table valid x run is_true front first more whole in
-      let rises : AllByRecursion (λ (m : Boundary). q + 2 ≤ m.at) tail =
-      (past.0, all_through (λ m. first.at < m.at) (λ m. q + 2 ≤ m.at) (λ m less. omega (arith, past.0)) (map b more ++ after)
-        (rises_after (b first) (map b more ++ after) (rising_right done tail (subst (λ bs. IsRising (places bs)) fresh_is (fresh_rises table x run.anchor))))) in
+      let rises : AllByRecursion (λ (m : Boundary). q + 2 ≤ m.at) tail = (
+        past.0,
+        all_through (λ m. first.at < m.at) (λ m. q + 2 ≤ m.at) (λ m less. omega (arith, past.0)) (map b more ++ after)
+            (rises_after (b first) (map b more ++ after) (rising_right done tail (subst (λ bs. IsRising (places bs)) fresh_is (fresh_rises table x run.anchor)))),
+      ) in
       let kept : from_place (q + 2) (done ++ tail) ≡ from_place (q + 2) done ++ tail =
       filter-append (λ (m : Boundary). leb (q + 2) m.at) done tail
       ∙ ap (λ bs. from_place (q + 2) done ++ bs) (filter_all (λ (m : Boundary). leb (q + 2) m.at) tail (all_through (λ m. q + 2 ≤ m.at) (λ m. leb (q + 2) m.at ≡ true) (λ m from. le-leb (q + 2) m.at from) tail rises)) in
@@ -217,14 +221,14 @@ module _ (table : Table) (valid : IsValidTable table) (x : List ℕ) (run : Run)
           before = part.0 ++ from_place (q + 2) done;
           after = after;
           whole =
-            part.1
-            ∙ ap (λ bs. part.0 ++ bs) (same_boundaries ∙ ap (from_place (q + 2)) fresh_is ∙ kept)
-            ∙ sym (append_assoc part.0 (from_place (q + 2) done) tail)
-            ∙ sym (append_assoc (part.0 ++ from_place (q + 2) done) (map b (first ∷ more)) after);
+              part.1
+              ∙ ap (λ bs. part.0 ++ bs) (same_boundaries ∙ ap (from_place (q + 2)) fresh_is ∙ kept)
+              ∙ sym (append_assoc part.0 (from_place (q + 2) done) tail)
+              ∙ sym (append_assoc (part.0 ++ from_place (q + 2) done) (map b (first ∷ more)) after);
         };
         places = all_through (λ e. q + 2 ≤ e.at) (λ e. (q ≡ 0) ⊎ (q + 2 ≤ e.at)) (λ e far. inr far) (first ∷ more) past;
         reach_enough = all_by_splits (λ e. farthest_look table x q e.at ≤ e.reach) (first ∷ more)
-          (λ front' e rest is.
+            (λ front' e rest is.
             farthest_here (front ++ front') e rest (whole ∙ ap (λ l. front ++ l) is ∙ sym (append_assoc front front' (e ∷ rest)))
             (all_right (λ f. q + 2 ≤ f.at) front' (e ∷ rest) (subst (λ l. AllByRecursion (λ f. q + 2 ≤ f.at) l) is past)).0);
         reach_within = own (λ e. e.reach ≤ length x + 1) is_true.reach_within;

@@ -45,25 +45,25 @@ are_later k [] rising = record { front = []; later = []; whole = refl; kept = re
 are_later k (e ∷ entries) rising =
     ⊎_elim
     (λ before.
-      let rest = are_later k entries (rises_tail e.at (map (λ f. f.at) entries) rising) in
-      record {
-        front = e ∷ rest.front;
-        later = rest.later;
-        whole = ap (λ l. e ∷ l) rest.whole;
-        kept = cond-false (leb k e.at) (e ∷ filter (λ f. leb k f.at) entries) (filter (λ f. leb k f.at) entries) (lt-leb k e.at before) ∙ rest.kept;
-        earlier = (before, rest.earlier);
-        each = rest.each;
-      })
+    let rest = are_later k entries (rises_tail e.at (map (λ f. f.at) entries) rising) in
+    record {
+      front = e ∷ rest.front;
+      later = rest.later;
+      whole = ap (λ l. e ∷ l) rest.whole;
+      kept = cond-false (leb k e.at) (e ∷ filter (λ f. leb k f.at) entries) (filter (λ f. leb k f.at) entries) (lt-leb k e.at before) ∙ rest.kept;
+      earlier = (before, rest.earlier);
+      each = rest.each;
+    })
     (λ from.
-      let each : AllByRecursion (λ f. k ≤ f.at) (e ∷ entries) = (from, all_through (λ f. e.at < f.at) (λ f. k ≤ f.at) (λ f less. omega arith) entries (rises_past e entries rising)) in
-      record {
-        front = [];
-        later = e ∷ entries;
-        whole = refl;
-        kept = filter_all (λ f. leb k f.at) (e ∷ entries) (all_through (λ f. k ≤ f.at) (λ f. leb k f.at ≡ true) (λ f past. le-leb k f.at past) (e ∷ entries) each);
-        earlier = tt;
-        each = each;
-      })
+    let each : AllByRecursion (λ f. k ≤ f.at) (e ∷ entries) = (from, all_through (λ f. e.at < f.at) (λ f. k ≤ f.at) (λ f less. omega arith) entries (rises_past e entries rising)) in
+    record {
+      front = [];
+      later = e ∷ entries;
+      whole = refl;
+      kept = filter_all (λ f. leb k f.at) (e ∷ entries) (all_through (λ f. k ≤ f.at) (λ f. leb k f.at ≡ true) (λ f past. le-leb k f.at past) (e ∷ entries) each);
+      earlier = tt;
+      each = each;
+    })
     (cases_lt e.at k)
 
 rises_left : (ms ns : List ℕ) → IsRising (ms ++ ns) → IsRising ms
@@ -138,10 +138,10 @@ module _ (table : Table) (valid : IsValidTable table) (x : List ℕ) (run : Run)
       let rises : IsRising (places (b first ∷ tail)) = rising_right (before ++ map b front) (b first ∷ tail) (subst (λ bs. IsRising (places bs)) fresh_is (fresh_rises table x run.anchor)) in
       subst (λ bs. AllByRecursion P bs) (sym fresh_is)
       (all_join P (before ++ map b front) (b first ∷ tail)
-        (all_join P before (map b front)
-          (skipped front whole)
-          (entries_before front earlier))
-        (λ _. omega arith, all_through (λ m. first.at < m.at) P (λ m less _. omega (arith, less)) tail (rises_after (b first) tail rises)))
+      (all_join P before (map b front)
+      (skipped front whole)
+      (entries_before front earlier))
+      (λ _. omega arith, all_through (λ m. first.at < m.at) P (λ m less _. omega (arith, less)) tail (rises_after (b first) tail rises)))
     where
       entries_before : (es : List Entry) → AllByRecursion (λ e. e.at < k) es → AllByRecursion (λ m. k ≤ m.at → first.at ≤ m.at) (map (boundary_of table) es)
       entries_before [] each = tt
@@ -152,8 +152,8 @@ module _ (table : Table) (valid : IsValidTable table) (x : List ℕ) (run : Run)
           let before : List Boundary = is_true.consecutive.before in
           let led : AllByRecursion (λ m. low run.anchor ≤ m.at → e.at ≤ m.at) before =
           all_left (λ m. low run.anchor ≤ m.at → e.at ≤ m.at) before (map (boundary_of table) run.entries ++ is_true.consecutive.after)
-            (subst (λ bs. AllByRecursion (λ m. low run.anchor ≤ m.at → e.at ≤ m.at) bs) (is_true.consecutive.whole ∙ append_assoc before (map (boundary_of table) run.entries) is_true.consecutive.after)
-              (leads_by run.entries is (is_true.leads leads))) in
+          (subst (λ bs. AllByRecursion (λ m. low run.anchor ≤ m.at → e.at ≤ m.at) bs) (is_true.consecutive.whole ∙ append_assoc before (map (boundary_of table) run.entries) is_true.consecutive.after)
+          (leads_by run.entries is (is_true.leads leads))) in
           let reached = facts.reached_is table valid x run is_true [] e es is in
           let less : AllByRecursion (λ m. m.at < e.at) before = all_left (λ m. m.at < e.at) before [] (done_before table x run.anchor (before ++ []) (boundary_of table e) reached) in
           none before led less
@@ -198,21 +198,21 @@ module _ (table : Table) (valid : IsValidTable table) (x y : List ℕ) (at remov
       let more = kept_behind q q' behind is room entries in
       ⊎_elim
       (λ before.
-        let skip : kept (e ∷ entries) ≡ kept entries = cond-false (leb (q' + 2) e.at) (e ∷ kept entries) (kept entries) (lt-leb (q' + 2) e.at before) in
-        ⊎_elim
-        (λ past.
-          ap (λ l. outer (map m l)) (cond-true (ltb (at + removed) e.at) (e ∷ inner entries) (inner entries) (lt-ltb (at + removed) e.at past))
-          ∙ cond-false (leb (q + 2) (m e).at) (m e ∷ outer (map m (inner entries))) (outer (map m (inner entries))) (lt-leb (q + 2) (m e).at (omega arith))
-          ∙ more ∙ ap (map m) (sym skip))
-        (λ not_past.
-          ap (λ l. outer (map m l)) (cond-false (ltb (at + removed) e.at) (e ∷ inner entries) (inner entries) (le-ltb (at + removed) e.at not_past))
-          ∙ more ∙ ap (map m) (sym skip))
-        (cases_lt (at + removed) e.at))
+      let skip : kept (e ∷ entries) ≡ kept entries = cond-false (leb (q' + 2) e.at) (e ∷ kept entries) (kept entries) (lt-leb (q' + 2) e.at before) in
+      ⊎_elim
+      (λ past.
+      ap (λ l. outer (map m l)) (cond-true (ltb (at + removed) e.at) (e ∷ inner entries) (inner entries) (lt-ltb (at + removed) e.at past))
+      ∙ cond-false (leb (q + 2) (m e).at) (m e ∷ outer (map m (inner entries))) (outer (map m (inner entries))) (lt-leb (q + 2) (m e).at (omega arith))
+      ∙ more ∙ ap (map m) (sym skip))
+      (λ not_past.
+      ap (λ l. outer (map m l)) (cond-false (ltb (at + removed) e.at) (e ∷ inner entries) (inner entries) (le-ltb (at + removed) e.at not_past))
+      ∙ more ∙ ap (map m) (sym skip))
+      (cases_lt (at + removed) e.at))
       (λ from.
-        ap (λ l. outer (map m l)) (cond-true (ltb (at + removed) e.at) (e ∷ inner entries) (inner entries) (lt-ltb (at + removed) e.at (omega arith)))
-        ∙ cond-true (leb (q + 2) (m e).at) (m e ∷ outer (map m (inner entries))) (outer (map m (inner entries))) (le-leb (q + 2) (m e).at (omega arith))
-        ∙ ap (λ l. m e ∷ l) more
-        ∙ ap (map m) (sym (cond-true (leb (q' + 2) e.at) (e ∷ kept entries) (kept entries) (le-leb (q' + 2) e.at from))))
+      ap (λ l. outer (map m l)) (cond-true (ltb (at + removed) e.at) (e ∷ inner entries) (inner entries) (lt-ltb (at + removed) e.at (omega arith)))
+      ∙ cond-true (leb (q + 2) (m e).at) (m e ∷ outer (map m (inner entries))) (outer (map m (inner entries))) (le-leb (q + 2) (m e).at (omega arith))
+      ∙ ap (λ l. m e ∷ l) more
+      ∙ ap (map m) (sym (cond-true (leb (q' + 2) e.at) (e ∷ kept entries) (kept entries) (le-leb (q' + 2) e.at from))))
       (cases_lt e.at (q' + 2))
 
   -- the run's anchor isn't behind the pair
@@ -244,7 +244,7 @@ module _ (table : Table) (valid : IsValidTable table) (x y : List ℕ) (at remov
       let of : List Entry → Run = λ entries. record { anchor = q; entries = entries; leads = false } in
       subst (λ entries. IsTrueRun table y (of entries)) (sym kept)
       (subst (λ a. IsTrueRun table y (record { anchor = a; entries = map m later.later; leads = false })) back
-        (moved_later (q + removed - inserted) behind room safe (anchor_before (q + removed - inserted) behind fails) later.front later.later later.whole later.each (omega (arith, ap length kept, length-map later.later m))))
+      (moved_later (q + removed - inserted) behind room safe (anchor_before (q + removed - inserted) behind fails) later.front later.later later.whole later.each (omega (arith, ap length kept, length-map later.later m))))
     where
       moved_later : (q' : ℕ) → at + removed ≤ q' → q' + 2 ≤ length x → IsSafePair table (category_at table x q') (category_at table x (q' + 1)) → run.anchor ≤ q' →
           (front later : List Entry) → run.entries ≡ front ++ later → AllByRecursion (λ e. q' + 2 ≤ e.at) later → 1 ≤ length later →
@@ -279,15 +279,15 @@ module _ (table : Table) (valid : IsValidTable table) (x y : List ℕ) (at remov
         let a : ℕ = run.anchor + inserted - removed in
         true_moves table valid x y at removed inserted edited run is_true behind room safe (run.leads && not (eqb (run.anchor + inserted - removed) 0)) first more whole
         (inr (all_through (λ e. (run.anchor ≡ 0) ⊎ (run.anchor + 2 ≤ e.at)) (λ e. run.anchor + inserted - removed + 2 ≤ e.at + inserted - removed)
-          (λ e place. ⊎_elim (λ zero. absurd (other zero)) (λ past. omega arith) place) run.entries is_true.places))
+        (λ e place. ⊎_elim (λ zero. absurd (other zero)) (λ past. omega arith) place) run.entries is_true.places))
         (λ leads.
-          let parts = and_parts run.leads (not (eqb (run.anchor + inserted - removed) 0)) leads in
-          let low_here : low (run.anchor + inserted - removed) ≡ run.anchor + inserted - removed + 2 =
-          low_other (run.anchor + inserted - removed) (λ zero. absurd (false≢true (sym (ap not (eq-eqb (run.anchor + inserted - removed) 0 zero)) ∙ parts.1))) in
-          let low_there = low_other run.anchor other in
-          all_through (λ m. run.anchor + 2 ≤ m.at → first.at ≤ m.at) (λ m. low (run.anchor + inserted - removed) ≤ m.at + inserted - removed → first.at ≤ m.at)
-            (λ m holds from. holds (omega arith)) (fresh table x run.anchor)
-            (leads_on table valid x run is_true (run.anchor + 2) [] first more whole (omega arith) tt parts.0))
+        let parts = and_parts run.leads (not (eqb (run.anchor + inserted - removed) 0)) leads in
+        let low_here : low (run.anchor + inserted - removed) ≡ run.anchor + inserted - removed + 2 =
+        low_other (run.anchor + inserted - removed) (λ zero. absurd (false≢true (sym (ap not (eq-eqb (run.anchor + inserted - removed) 0 zero)) ∙ parts.1))) in
+        let low_there = low_other run.anchor other in
+        all_through (λ m. run.anchor + 2 ≤ m.at → first.at ≤ m.at) (λ m. low (run.anchor + inserted - removed) ≤ m.at + inserted - removed → first.at ≤ m.at)
+        (λ m holds from. holds (omega arith)) (fresh table x run.anchor)
+        (leads_on table valid x run is_true (run.anchor + 2) [] first more whole (omega arith) tt parts.0))
 
     -- the last entries of a run of anchor 0
     zero_true : run.anchor ≡ 0 → (k : ℕ) → 1 ≤ k → ((m : ℕ) → low (run.anchor + inserted - removed) ≤ m + inserted - removed → k ≤ m) →
@@ -299,9 +299,9 @@ module _ (table : Table) (valid : IsValidTable table) (x y : List ℕ) (at remov
         true_moves table valid x y at removed inserted edited (record { anchor = run.anchor; entries = first ∷ more; leads = false })
         (true_suffix table valid x run is_true front first more whole) behind room safe run.leads first more refl far
         (λ leads.
-          all_through (λ m. k ≤ m.at → first.at ≤ m.at) (λ m. low (run.anchor + inserted - removed) ≤ m.at + inserted - removed → first.at ≤ m.at)
-            (λ m holds from. holds (high m.at from)) (fresh table x run.anchor)
-            (leads_on table valid x run is_true k front first more whole (omega (arith, low_zero run.anchor zero)) earlier leads))
+        all_through (λ m. k ≤ m.at → first.at ≤ m.at) (λ m. low (run.anchor + inserted - removed) ≤ m.at + inserted - removed → first.at ≤ m.at)
+        (λ m holds from. holds (high m.at from)) (fresh table x run.anchor)
+        (leads_on table valid x run is_true k front first more whole (omega (arith, low_zero run.anchor zero)) earlier leads))
 
     whole_true : 1 ≤ length (moved_run at removed inserted run).entries → IsTrueRun table y (moved_run at removed inserted run)
     whole_true some =
@@ -313,41 +313,41 @@ module _ (table : Table) (valid : IsValidTable table) (x y : List ℕ) (at remov
         let of_other : Run = record { anchor = run.anchor + inserted - removed; entries = map m run.entries; leads = run.leads && not (eqb (run.anchor + inserted - removed) 0) } in
         ⊎_elim
         (λ zero.
-          let is : moved_run at removed inserted run ≡ of_zero = cond-true (eqb run.anchor 0) of_zero of_other (eq-eqb run.anchor 0 zero) in
-          let first = are_first at run.entries is_true.reaches_rise in
-          let dropped : filter (λ e. ltb at e.reach) run.entries ≡ first.rest =
-          ap (filter (λ e. ltb at e.reach)) first.whole
-          ∙ filter-append (λ e. ltb at e.reach) first.left first.rest
-          ∙ ap (λ l. l ++ filter (λ e. ltb at e.reach) first.rest) (filter_none (λ e. ltb at e.reach) first.left (all_through (λ e. e.reach ≤ at) (λ e. ltb at e.reach ≡ false) (λ e less. le-ltb at e.reach less) first.left first.each))
-          ∙ filter_all (λ e. ltb at e.reach) first.rest (all_through (λ e. at < e.reach) (λ e. ltb at e.reach ≡ true) (λ e more. lt-ltb at e.reach more) first.rest first.later) in
-          let held_is : held ≡ map m (filter (λ e. keep (m e)) first.rest) = ap (λ l. filter keep (map m l)) dropped ∙ filter_map m keep first.rest in
-          let left_low : AllByRecursion (λ e. e.at < 1) first.left = left_at zero first.left first.rest first.whole first.each in
-          subst (IsTrueRun table y) (sym is)
-          (⊎_elim
-            (λ stays.
-              let all : filter (λ e. keep (m e)) first.rest ≡ first.rest =
-              filter_all (λ e. keep (m e)) first.rest (everywhere (λ e. keep (m e) ≡ true) (λ e. or_left (eqb (run.anchor + inserted - removed) 0) (leb (run.anchor + inserted - removed + 2) (m e).at) (eq-eqb (run.anchor + inserted - removed) 0 stays)) first.rest) in
-              let kept : held ≡ map m first.rest = held_is ∙ ap (map m) all in
-              subst (λ l. IsTrueRun table y (record { anchor = run.anchor + inserted - removed; entries = l; leads = run.leads })) (sym kept)
-              (zero_true zero 1 (omega arith) (λ n from. omega (arith, low_zero (run.anchor + inserted - removed) stays)) first.left first.rest first.whole left_low (inl stays)
-                (omega (arith, ap (λ r. length r.entries) is, ap length kept, length-map first.rest m))))
-            (λ moves.
-              let rises : IsRising (map (λ e. e.at) first.rest) = rising_rest first.left first.rest (subst (λ l. IsRising (map (λ e. e.at) l)) first.whole (entries_rise table valid x run is_true)) in
-              let later = are_later 2 first.rest rises in
-              let same : filter (λ e. keep (m e)) first.rest ≡ filter (λ e. leb 2 e.at) first.rest =
-              filter_same (λ e. keep (m e)) (λ e. leb 2 e.at) first.rest
-              (λ e. ap (λ b. b || leb (run.anchor + inserted - removed + 2) (m e).at) (ne_eqb (run.anchor + inserted - removed) 0 moves) ∙ same_tests (run.anchor + inserted - removed + 2) (m e).at 2 e.at (omega arith)) in
-              let kept : held ≡ map m later.later = held_is ∙ ap (map m) (same ∙ later.kept) in
-              subst (λ l. IsTrueRun table y (record { anchor = run.anchor + inserted - removed; entries = l; leads = run.leads })) (sym kept)
-              (zero_true zero 2 (omega arith) (λ n from. omega (arith, low_other (run.anchor + inserted - removed) moves)) (first.left ++ later.front) later.later
-                (first.whole ∙ ap (λ l. first.left ++ l) later.whole ∙ sym (append_assoc first.left later.front later.later))
-                (all_join (λ e. e.at < 2) first.left later.front (all_through (λ e. e.at < 1) (λ e. e.at < 2) (λ e less. omega arith) first.left left_low) later.earlier)
-                (inr (all_through (λ e. 2 ≤ e.at) (λ e. run.anchor + inserted - removed + 2 ≤ e.at + inserted - removed) (λ e past. omega arith) later.later later.each))
-                (omega (arith, ap (λ r. length r.entries) is, ap length kept, length-map later.later m))))
-            (cases_eq (run.anchor + inserted - removed) 0)))
+        let is : moved_run at removed inserted run ≡ of_zero = cond-true (eqb run.anchor 0) of_zero of_other (eq-eqb run.anchor 0 zero) in
+        let first = are_first at run.entries is_true.reaches_rise in
+        let dropped : filter (λ e. ltb at e.reach) run.entries ≡ first.rest =
+        ap (filter (λ e. ltb at e.reach)) first.whole
+        ∙ filter-append (λ e. ltb at e.reach) first.left first.rest
+        ∙ ap (λ l. l ++ filter (λ e. ltb at e.reach) first.rest) (filter_none (λ e. ltb at e.reach) first.left (all_through (λ e. e.reach ≤ at) (λ e. ltb at e.reach ≡ false) (λ e less. le-ltb at e.reach less) first.left first.each))
+        ∙ filter_all (λ e. ltb at e.reach) first.rest (all_through (λ e. at < e.reach) (λ e. ltb at e.reach ≡ true) (λ e more. lt-ltb at e.reach more) first.rest first.later) in
+        let held_is : held ≡ map m (filter (λ e. keep (m e)) first.rest) = ap (λ l. filter keep (map m l)) dropped ∙ filter_map m keep first.rest in
+        let left_low : AllByRecursion (λ e. e.at < 1) first.left = left_at zero first.left first.rest first.whole first.each in
+        subst (IsTrueRun table y) (sym is)
+        (⊎_elim
+        (λ stays.
+        let all : filter (λ e. keep (m e)) first.rest ≡ first.rest =
+        filter_all (λ e. keep (m e)) first.rest (everywhere (λ e. keep (m e) ≡ true) (λ e. or_left (eqb (run.anchor + inserted - removed) 0) (leb (run.anchor + inserted - removed + 2) (m e).at) (eq-eqb (run.anchor + inserted - removed) 0 stays)) first.rest) in
+        let kept : held ≡ map m first.rest = held_is ∙ ap (map m) all in
+        subst (λ l. IsTrueRun table y (record { anchor = run.anchor + inserted - removed; entries = l; leads = run.leads })) (sym kept)
+        (zero_true zero 1 (omega arith) (λ n from. omega (arith, low_zero (run.anchor + inserted - removed) stays)) first.left first.rest first.whole left_low (inl stays)
+        (omega (arith, ap (λ r. length r.entries) is, ap length kept, length-map first.rest m))))
+        (λ moves.
+        let rises : IsRising (map (λ e. e.at) first.rest) = rising_rest first.left first.rest (subst (λ l. IsRising (map (λ e. e.at) l)) first.whole (entries_rise table valid x run is_true)) in
+        let later = are_later 2 first.rest rises in
+        let same : filter (λ e. keep (m e)) first.rest ≡ filter (λ e. leb 2 e.at) first.rest =
+        filter_same (λ e. keep (m e)) (λ e. leb 2 e.at) first.rest
+        (λ e. ap (λ b. b || leb (run.anchor + inserted - removed + 2) (m e).at) (ne_eqb (run.anchor + inserted - removed) 0 moves) ∙ same_tests (run.anchor + inserted - removed + 2) (m e).at 2 e.at (omega arith)) in
+        let kept : held ≡ map m later.later = held_is ∙ ap (map m) (same ∙ later.kept) in
+        subst (λ l. IsTrueRun table y (record { anchor = run.anchor + inserted - removed; entries = l; leads = run.leads })) (sym kept)
+        (zero_true zero 2 (omega arith) (λ n from. omega (arith, low_other (run.anchor + inserted - removed) moves)) (first.left ++ later.front) later.later
+        (first.whole ∙ ap (λ l. first.left ++ l) later.whole ∙ sym (append_assoc first.left later.front later.later))
+        (all_join (λ e. e.at < 2) first.left later.front (all_through (λ e. e.at < 1) (λ e. e.at < 2) (λ e less. omega arith) first.left left_low) later.earlier)
+        (inr (all_through (λ e. 2 ≤ e.at) (λ e. run.anchor + inserted - removed + 2 ≤ e.at + inserted - removed) (λ e past. omega arith) later.later later.each))
+        (omega (arith, ap (λ r. length r.entries) is, ap length kept, length-map later.later m))))
+        (cases_eq (run.anchor + inserted - removed) 0)))
         (λ other.
-          let is : moved_run at removed inserted run ≡ of_other = cond-false (eqb run.anchor 0) of_zero of_other (ne_eqb run.anchor 0 other) in
-          subst (IsTrueRun table y) (sym is) (other_true other run.entries refl is_true.some))
+        let is : moved_run at removed inserted run ≡ of_other = cond-false (eqb run.anchor 0) of_zero of_other (ne_eqb run.anchor 0 other) in
+        subst (IsTrueRun table y) (sym is) (other_true other run.entries refl is_true.some))
         (cases_eq run.anchor 0)
       where
         same_tests : (a b c d : ℕ) → (a ≤ b → c ≤ d) × (c ≤ d → a ≤ b) → leb a b ≡ leb c d
@@ -355,9 +355,9 @@ module _ (table : Table) (valid : IsValidTable table) (x y : List ℕ) (at remov
             ⊎_elim
             (λ yes. yes ∙ sym (le-leb c d (both.0 (leb-true a b yes))))
             (λ no. ⊎_elim
-              (λ yes'. absurd (false≢true (sym no ∙ le-leb a b (both.1 (leb-true c d yes')))))
-              (λ no'. no ∙ sym no')
-              (cases_Bool (leb c d)))
+            (λ yes'. absurd (false≢true (sym no ∙ le-leb a b (both.1 (leb-true c d yes')))))
+            (λ no'. no ∙ sym no')
+            (cases_Bool (leb c d)))
             (cases_Bool (leb a b))
 
         rising_rest : (left rest : List Entry) → IsRising (map (λ e. e.at) (left ++ rest)) → IsRising (map (λ e. e.at) rest)
@@ -367,8 +367,8 @@ module _ (table : Table) (valid : IsValidTable table) (x y : List ℕ) (at remov
         left_at : run.anchor ≡ 0 → (left rest : List Entry) → run.entries ≡ left ++ rest → AllByRecursion (λ e. e.reach ≤ at) left → AllByRecursion (λ e. e.at < 1) left
         left_at zero left rest whole each = facts.all_by_splits (λ e. e.at < 1) left
             (λ front e after is.
-              let reach : e.reach ≤ at = (all_right (λ f. f.reach ≤ at) front (e ∷ after) (subst (λ l. AllByRecursion (λ f. f.reach ≤ at) l) is each)).0 in
-              omega (arith, facts.at_by_reach table valid x run is_true front e (after ++ rest) (whole ∙ ap (λ l. l ++ rest) is ∙ append_assoc front (e ∷ after) rest)))
+            let reach : e.reach ≤ at = (all_right (λ f. f.reach ≤ at) front (e ∷ after) (subst (λ l. AllByRecursion (λ f. f.reach ≤ at) l) is each)).0 in
+            omega (arith, facts.at_by_reach table valid x run is_true front e (after ++ rest) (whole ∙ ap (λ l. l ++ rest) is ∙ append_assoc front (e ∷ after) rest)))
 
   -- the right part is true of the new text, where it has an entry
   pub right_true : (right : Run) → IsRightPart table x y at removed inserted run right → 1 ≤ length right.entries → IsTrueRun table y right

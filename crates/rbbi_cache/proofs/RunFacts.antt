@@ -35,9 +35,9 @@ pub at_by_look : (table : Table) (x : List ℕ) → IsValidTable table → (b : 
 at_by_look table x valid _ _ _ (Here b) = inl refl
 at_by_look table x valid _ _ _ (Then b done c short path) =
     inr (⊎_elim
-      (λ is. omega (arith, ap (λ d. d.at) is, found_up_to table valid x b.at short, end_by_look table x b.at short))
-      (λ by. omega (arith, by))
-      (at_by_look table x valid (next_boundary table x b.at) done c path))
+    (λ is. omega (arith, ap (λ d. d.at) is, found_up_to table valid x b.at short, end_by_look table x b.at short))
+    (λ by. omega (arith, by))
+    (at_by_look table x valid (next_boundary table x b.at) done c path))
 
 -- a member lies within the text
 pub path_within : (table : Table) (x : List ℕ) (b : Boundary) (done : List Boundary) (c : Boundary) → Path table x b done c → b.at ≤ length x → c.at ≤ length x

@@ -148,9 +148,9 @@ module _ (table : Table) (valid : IsValidTable table) (x : List ℕ) (p i : ℕ)
           before = scan.skipped ++ map b (take is.cut (scan.known ++ scan.found));
           after = rest;
           whole =
-            fresh_is
-            ∙ ap (λ bs. (scan.skipped ++ bs) ++ rest) (ap (map b) split ∙ map-append b (take is.cut (scan.known ++ scan.found)) run.entries)
-            ∙ ap (λ bs. bs ++ rest) (sym (append_assoc scan.skipped (map b (take is.cut (scan.known ++ scan.found))) (map b run.entries)));
+              fresh_is
+              ∙ ap (λ bs. (scan.skipped ++ bs) ++ rest) (ap (map b) split ∙ map-append b (take is.cut (scan.known ++ scan.found)) run.entries)
+              ∙ ap (λ bs. bs ++ rest) (sym (append_assoc scan.skipped (map b (take is.cut (scan.known ++ scan.found))) (map b run.entries)));
         };
         places = own (λ e. (p ≡ 0) ⊎ (p + 2 ≤ e.at)) is.places;
         reach_enough = own (λ e. farthest_look table x p e.at ≤ e.reach) is.enough;
@@ -169,10 +169,11 @@ module _ (table : Table) (valid : IsValidTable table) (x : List ℕ) (p i : ℕ)
           fresh_is ∙ ap (λ l. (scan.skipped ++ map b l) ++ rest) (sym are) ∙ append_assoc scan.skipped (map b (first ∷ more)) rest in
           subst (λ bs. AllByRecursion P bs) (sym whole)
           (all_join P scan.skipped (b first ∷ (map b more ++ rest))
-            (all_through (λ m. m.at < low p) P (λ m less from. absurd (omega arith)) scan.skipped low_skipped)
-            (λ _. omega arith,
-             all_through (λ m. first.at < m.at) P (λ m less _. omega (arith, less)) (map b more ++ rest)
-               (rises_after (b first) (map b more ++ rest) (rising_right scan.skipped (b first ∷ (map b more ++ rest)) (subst (λ bs. IsRising (places bs)) whole (fresh_rises table x p))))))
+          (all_through (λ m. m.at < low p) P (λ m less from. absurd (omega arith)) scan.skipped low_skipped) (
+            λ _. omega arith,
+            all_through (λ m. first.at < m.at) P (λ m less _. omega (arith, less)) (map b more ++ rest)
+                (rises_after (b first) (map b more ++ rest) (rising_right scan.skipped (b first ∷ (map b more ++ rest)) (subst (λ bs. IsRising (places bs)) whole (fresh_rises table x p)))),
+          ))
 
   -- the entries before the last aren't past i
   front_up_to : (front : List Entry) → scan.known ++ scan.found ≡ front ++ scan.here ∷ [] → AllByRecursion (λ e. e.at ≤ i) front
@@ -210,11 +211,11 @@ module _ (table : Table) (valid : IsValidTable table) (x : List ℕ) (p i : ℕ)
       ⊎_elim
       (λ nothing. absurd (omega (arith, ap length is.entries, length-drop is.cut (scan.known ++ scan.found), ap length nothing)))
       (λ last.
-        let short : is.cut ≤ length last.0 = omega (arith, ap length is.entries, length-drop is.cut (scan.known ++ scan.found), ap length last.1, length-append last.0 (scan.here ∷ [])) in (
-          drop is.cut last.0,
-          is.entries ∙ ap (drop is.cut) last.1 ∙ drop-append-le is.cut last.0 (scan.here ∷ []) short,
-          all_drop (λ e. e.at ≤ i) is.cut last.0 (front_up_to last.0 last.1),
-        ))
+      let short : is.cut ≤ length last.0 = omega (arith, ap length is.entries, length-drop is.cut (scan.known ++ scan.found), ap length last.1, length-append last.0 (scan.here ∷ [])) in (
+        drop is.cut last.0,
+        is.entries ∙ ap (drop is.cut) last.1 ∙ drop-append-le is.cut last.0 (scan.here ∷ []) short,
+        all_drop (λ e. e.at ≤ i) is.cut last.0 (front_up_to last.0 last.1),
+      ))
       is.last
 
   -- the new entries have the least reaches

@@ -72,8 +72,8 @@ module _ (table : Table) (x : List ℕ) (p i : ℕ) (scan : Scan) (run : Run) (i
       let enough = is.here_enough in
       ⊎_elim
       (λ nothing.
-        let none = is.none nothing in
-        omega (arith, farthest_next, next_is.reach, none.1, reach_after_is scan.known scan.found, ap last_reach nothing))
+      let none = is.none nothing in
+      omega (arith, farthest_next, next_is.reach, none.1, reach_after_is scan.known scan.found, ap last_reach nothing))
       (λ last. omega (arith, farthest_next, next_is.reach, reach_after_is scan.known scan.found, ap last_reach last.1, last_is last.0 scan.here))
       is.last
 
@@ -146,24 +146,24 @@ module _ (table : Table) (x : List ℕ) (p i : ℕ) (scan : Scan) (run : Run) (i
         let kept_length : length run.entries ≡ length (scan.known ++ scan.found) - is.cut = ap length is.entries ∙ length-drop is.cut (scan.known ++ scan.found) in
         ⊎_elim
         (λ full.
-          let pushed_is : pushed run next ≡ full_run = cond-true (eqb (length run.entries) 256) full_run more_run (eq-eqb (length run.entries) 256 full) in
-          let cut' : ℕ = is.cut + 128 in
-          let entries : drop 128 run.entries ++ next ∷ [] ≡ drop (is.cut + 128) ((scan.known ++ scan.found) ++ next ∷ []) =
-          ap (λ l. drop 128 l ++ next ∷ []) is.entries
-          ∙ ap (λ l. l ++ next ∷ []) (drop-drop 128 is.cut (scan.known ++ scan.found))
-          ∙ sym (drop-append-le (is.cut + 128) (scan.known ++ scan.found) (next ∷ []) (omega arith)) in
-          let long : length (drop 128 run.entries ++ next ∷ []) ≡ 129 = omega (arith, length-append (drop 128 run.entries) (next ∷ []), length-drop 128 run.entries, full) in
-          subst (λ r. IsScan table x p i found_scan r) (sym pushed_is)
-          (kept_so full_run (is.cut + 128) is.anchor (omega (arith, length-append (scan.known ++ scan.found) (next ∷ []))) entries (inr (omega (arith, long))) (omega (arith, long))
-            (λ so. absurd (never so), λ zero. absurd (omega arith))))
+        let pushed_is : pushed run next ≡ full_run = cond-true (eqb (length run.entries) 256) full_run more_run (eq-eqb (length run.entries) 256 full) in
+        let cut' : ℕ = is.cut + 128 in
+        let entries : drop 128 run.entries ++ next ∷ [] ≡ drop (is.cut + 128) ((scan.known ++ scan.found) ++ next ∷ []) =
+        ap (λ l. drop 128 l ++ next ∷ []) is.entries
+        ∙ ap (λ l. l ++ next ∷ []) (drop-drop 128 is.cut (scan.known ++ scan.found))
+        ∙ sym (drop-append-le (is.cut + 128) (scan.known ++ scan.found) (next ∷ []) (omega arith)) in
+        let long : length (drop 128 run.entries ++ next ∷ []) ≡ 129 = omega (arith, length-append (drop 128 run.entries) (next ∷ []), length-drop 128 run.entries, full) in
+        subst (λ r. IsScan table x p i found_scan r) (sym pushed_is)
+        (kept_so full_run (is.cut + 128) is.anchor (omega (arith, length-append (scan.known ++ scan.found) (next ∷ []))) entries (inr (omega (arith, long))) (omega (arith, long))
+        (λ so. absurd (never so), λ zero. absurd (omega arith))))
         (λ room.
-          let pushed_is : pushed run next ≡ more_run = cond-false (eqb (length run.entries) 256) full_run more_run (ne_eqb (length run.entries) 256 room) in
-          let entries : run.entries ++ next ∷ [] ≡ drop is.cut ((scan.known ++ scan.found) ++ next ∷ []) =
-          ap (λ l. l ++ next ∷ []) is.entries ∙ sym (drop-append-le is.cut (scan.known ++ scan.found) (next ∷ []) is.cut_within) in
-          let long : length (run.entries ++ next ∷ []) ≡ length run.entries + 1 = length-append run.entries (next ∷ []) in
-          subst (λ r. IsScan table x p i found_scan r) (sym pushed_is)
-          (kept_so more_run is.cut is.anchor (omega (arith, length-append (scan.known ++ scan.found) (next ∷ []))) entries
-            (⊎_elim inl (λ more. inr (omega (arith, long, more))) is.enough_left) (omega (arith, long)) is.leads))
+        let pushed_is : pushed run next ≡ more_run = cond-false (eqb (length run.entries) 256) full_run more_run (ne_eqb (length run.entries) 256 room) in
+        let entries : run.entries ++ next ∷ [] ≡ drop is.cut ((scan.known ++ scan.found) ++ next ∷ []) =
+        ap (λ l. l ++ next ∷ []) is.entries ∙ sym (drop-append-le is.cut (scan.known ++ scan.found) (next ∷ []) is.cut_within) in
+        let long : length (run.entries ++ next ∷ []) ≡ length run.entries + 1 = length-append run.entries (next ∷ []) in
+        subst (λ r. IsScan table x p i found_scan r) (sym pushed_is)
+        (kept_so more_run is.cut is.anchor (omega (arith, length-append (scan.known ++ scan.found) (next ∷ []))) entries
+        (⊎_elim inl (λ more. inr (omega (arith, long, more))) is.enough_left) (omega (arith, long)) is.leads))
         (cases_eq (length run.entries) 256)
       where
         never : IsTrue false → ⊥
@@ -179,14 +179,14 @@ module _ (table : Table) (x : List ℕ) (p i : ℕ) (scan : Scan) (run : Run) (i
         ⊎_elim
         (λ nothing. nothing)
         (λ last.
-          let place : (p ≡ 0) ⊎ (p + 2 ≤ scan.here.at) = (all_right (λ e. (p ≡ 0) ⊎ (p + 2 ≤ e.at)) last.0 (scan.here ∷ []) (subst (λ l. AllByRecursion (λ e. (p ≡ 0) ⊎ (p + 2 ≤ e.at)) l) last.1 is.places)).0 in
-          ⊎_elim
-          (λ zero. absurd (omega (arith, cond-true (eqb p 0) 1 (p + 2) (eq-eqb p 0 zero), next_is.at, (found_lies table x scan.here.at short).0)))
-          (λ past. absurd (⊎_elim
-            (λ zero. omega (arith, cond-true (eqb p 0) 1 (p + 2) (eq-eqb p 0 zero), next_is.at, (found_lies table x scan.here.at short).0))
-            (λ other. omega (arith, cond-false (eqb p 0) 1 (p + 2) (ne_eqb p 0 other), next_is.at, (found_lies table x scan.here.at short).0))
-            (cases_eq p 0)))
-          place)
+        let place : (p ≡ 0) ⊎ (p + 2 ≤ scan.here.at) = (all_right (λ e. (p ≡ 0) ⊎ (p + 2 ≤ e.at)) last.0 (scan.here ∷ []) (subst (λ l. AllByRecursion (λ e. (p ≡ 0) ⊎ (p + 2 ≤ e.at)) l) last.1 is.places)).0 in
+        ⊎_elim
+        (λ zero. absurd (omega (arith, cond-true (eqb p 0) 1 (p + 2) (eq-eqb p 0 zero), next_is.at, (found_lies table x scan.here.at short).0)))
+        (λ past. absurd (⊎_elim
+        (λ zero. omega (arith, cond-true (eqb p 0) 1 (p + 2) (eq-eqb p 0 zero), next_is.at, (found_lies table x scan.here.at short).0))
+        (λ other. omega (arith, cond-false (eqb p 0) 1 (p + 2) (ne_eqb p 0 other), next_is.at, (found_lies table x scan.here.at short).0))
+        (cases_eq p 0)))
+        place)
         is.last
 
     pub skipped_next : IsScan table x p i skipped_scan run
@@ -198,9 +198,9 @@ module _ (table : Table) (x : List ℕ) (p i : ℕ) (scan : Scan) (run : Run) (i
           up_to = up_to;
           within = omega (arith, next_is.at, (found_lies table x scan.here.at short).1);
           whole =
-            ap (λ bs. bs ++ b next ∷ []) (is.whole ∙ ap (λ l. scan.skipped ++ map b l) still_none ∙ append-nil scan.skipped)
-            ∙ sym (append-nil (scan.skipped ++ b next ∷ []))
-            ∙ ap (λ l. (scan.skipped ++ b next ∷ []) ++ map b l) (sym still_none);
+              ap (λ bs. bs ++ b next ∷ []) (is.whole ∙ ap (λ l. scan.skipped ++ map b l) still_none ∙ append-nil scan.skipped)
+              ∙ sym (append-nil (scan.skipped ++ b next ∷ []))
+              ∙ ap (λ l. (scan.skipped ++ b next ∷ []) ++ map b l) (sym still_none);
           last = inl still_none;
           places = is.places;
           none = λ _. (near, omega (arith, farthest_next, next_is.reach, none.1));

@@ -63,10 +63,10 @@ module _ (x y : List ℕ) (at removed inserted : ℕ) (edited : IsEdited x y at 
       record {
         within = short;
         characters =
-          piece_before x s (search_end table x s) (omega (arith, lies.0)) (omega arith)
-          ∙ ap (λ z. drop s (take (search_end table x s) z)) (sym left_stays)
-          ∙ sym (piece_before y s (search_end table x s) (omega (arith, lies.0)) (omega arith))
-          ∙ ap (slice_range y s) (sym there);
+            piece_before x s (search_end table x s) (omega (arith, lies.0)) (omega arith)
+            ∙ ap (λ z. drop s (take (search_end table x s) z)) (sym left_stays)
+            ∙ sym (piece_before y s (search_end table x s) (omega (arith, lies.0)) (omega arith))
+            ∙ ap (slice_range y s) (sym there);
         end = inl (omega arith, omega (arith, length_is, (look_lies table x s short).0));
       }
 
@@ -92,8 +92,8 @@ module _ (x y : List ℕ) (at removed inserted : ℕ) (edited : IsEdited x y at 
       record {
         within = short;
         characters =
-          ap (take (search_end table x s - s)) (sym (same_behind s from))
-          ∙ ap (λ n. take n (drop (s + inserted - removed) y)) (sym size);
+            ap (take (search_end table x s - s)) (sym (same_behind s from))
+            ∙ ap (λ n. take n (drop (s + inserted - removed) y)) (sym size);
         end = inr (omega (arith, length_is));
       }
 

@@ -2,3 +2,4 @@ pub mod Kept
 pub mod Pushed
 pub mod Edits
 pub mod Scans
+pub mod Shown

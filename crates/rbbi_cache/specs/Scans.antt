@@ -1,10 +1,11 @@
 -- Fresh searches on their way: what they have found from an anchor, and what of it a run keeps.
-use Rattle.std.specs.Prelude.{◌≡◌, ◌≢◌, ℕ, ◌+◌, ◌<◌, ◌≤◌, max, ◌⊎◌, ◌↔◌, List, [], ◌∷◌, ◌++◌, length, map, drop, IsTrue}
+use Rattle.std.specs.Prelude.{◌≡◌, ◌≢◌, ℕ, ◌+◌, ◌<◌, ◌≤◌, max, ◌⊎◌, ◌↔◌, List, [], ◌∷◌, ◌++◌, length, map, drop, IsTrue, sum_by}
 use Rattle.std.specs.List.{AllByRecursion}
 use Rattle.rbbi_model.specs.Boundaries.{Boundary}
 use Rattle.rbbi_model.specs.Tables.{Table}
 use Rattle.rbbi_model.specs.Searches.{found, look_end, next_boundary, follow_by, fresh}
 use Rattle.rbbi_model.specs.Runs.{Entry, Run, low, boundary_of, farthest_look, ReachesRise}
+use Rattle.rbbi_model.specs.Costs.{characters_read}
 use Rattle.rbbi_cache.specs.Kept.{HaveLeastReaches, last_reach}
 
 -- the searches from the anchor have done these members and come to this one
@@ -60,3 +61,24 @@ pub record IsNextEntry (table : Table) (x : List ℕ) (here next : Entry) : Type
   pub at : next.at ≡ (found table x here.at).at
   pub status : next.status ≡ (found table x here.at).list
   pub reach : next.reach ≡ max here.reach (look_end table x here.at)
+
+-- A scan has begun with this run and come to this entry.
+pub record HasBegun (table : Table) (x : List ℕ) (p i : ℕ) (here : Entry) (run : Run) : Type 0 where
+  pub scan : Scan
+  pub is : IsScan table x p i scan run
+  pub here_is : scan.here ≡ here
+
+-- The scan went on from where it began, and a step was counted for each character that its searches read.
+pub record HasGoneOn (table : Table) (x : List ℕ) (p i : ℕ) (start : Scan) (here : Entry) (run : Run) (before now : ℕ) : Type 0 where
+  pub scan : Scan
+  pub is : IsScan table x p i scan run
+  pub here_is : scan.here ≡ here
+  pub known : scan.known ≡ start.known
+  pub searched : List Boundary
+  pub done : scan.done ≡ start.done ++ searched
+  pub read : now ≡ before + sum_by (λ b. characters_read table x b.at) searched
+
+-- From each way in which it may have begun the scan went on.
+abbrev pub GoesOn : Table → List ℕ → ℕ → ℕ → Entry → Run → Entry → Run → ℕ → ℕ → Type 0
+GoesOn table x p i from first here run before now =
+    (start : Scan) → IsScan table x p i start first → start.here ≡ from → HasGoneOn table x p i start here run before now

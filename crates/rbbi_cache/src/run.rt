@@ -88,4 +88,26 @@ impl Run {
         self.slots[self.len] = entry;
         self.len += 1;
     }
+
+    /// Whether it leads: nothing found from its anchor lies between the low place and the first entry.
+    pub(crate) fn leads(&self) -> bool
+        ensures { result ≡ self.now.leads }
+    {
+        self.leads
+    }
+
+    /// How many entries it has.
+    pub(crate) fn len(&self) -> usize
+        ensures exact { result ≡ length self.now.entries }
+        ensures most { result ≤ 256 }
+    {
+        self.len
+    }
+
+    /// Says that it no longer leads.
+    pub(crate) fn follow(&mut self)
+        ensures { self.new ≡ record self.old { leads = false } }
+    {
+        self.leads = false;
+    }
 }
