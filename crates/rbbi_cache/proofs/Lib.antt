@@ -13,3 +13,4 @@ pub mod Extending
 pub mod Walks
 pub mod Goes
 pub mod Showing
+pub mod RunLists

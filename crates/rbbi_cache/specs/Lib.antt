@@ -3,3 +3,4 @@ pub mod Pushed
 pub mod Edits
 pub mod Scans
 pub mod Shown
+pub mod Lists

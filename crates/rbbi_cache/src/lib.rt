@@ -4,6 +4,7 @@
 mod anchors;
 mod entry;
 mod run;
+mod runs;
 mod scan;
 mod shown;
 

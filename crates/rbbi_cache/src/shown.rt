@@ -1,9 +1,10 @@
 //! Which boundary a run shows to be the next one after a place, or the last one before it.
-ghost use Rattle.std.specs.Prelude.{◌≡◌, ℕ, ◌+◌, ◌-◌, ◌<◌, ◌≤◌, map, take, drop, length, List, MatchOption, IsTrue, ◌↔◌};
+ghost use Rattle.std.specs.Prelude.{◌≡◌, ℕ, ◌+◌, ◌-◌, ◌<◌, ◌≤◌, map, take, drop, length, List, MatchOption, IsTrue, ◌↔◌, ⊤};
 ghost use Rattle.std.specs.List.{AllByRecursion};
 ghost use Rattle.rbbi_model.specs.Lists.{IsRising};
 ghost use Rattle.rbbi_model.specs.Words.{most_characters};
 ghost use Rattle.rbbi_model.specs.Runs.{low, ShowsAfter, ShowsBefore};
+ghost use Rattle.rbbi_cache.specs.Lists.{GoesOnFrom};
 ghost use Rattle.rbbi_cache.specs.Shown.{AreUpTo, IsShownAfter, IsShownBefore};
 
 use crate::scan::low;
@@ -80,6 +81,24 @@ impl Run {
             return Some(entry);
         }
         if entry.at == len {
+            return Some(entry);
+        }
+        None
+    }
+
+    /// Its last entry, where it has this anchor and that entry isn't past `i`.
+    pub(crate) fn last_up_to(&self, anchor: u32, i: u32) -> Option<Entry>
+        ensures { MatchOption result ⊤ (λ entry. GoesOnFrom anchor i entry self.now) }
+    {
+        if self.anchor() != anchor {
+            return None;
+        }
+        let entries = self.entries();
+        if entries.is_empty() {
+            return None;
+        }
+        let entry = entries[entries.len() - 1];
+        if entry.at <= i {
             return Some(entry);
         }
         None
