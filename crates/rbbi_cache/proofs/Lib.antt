@@ -14,3 +14,5 @@ pub mod Walks
 pub mod Goes
 pub mod Showing
 pub mod RunLists
+pub mod Ready
+pub mod Begins

@@ -10,6 +10,7 @@ use Rattle.rbbi_model.specs.ValidTables.{IsValidTable, BeginsWithZeroAlone}
 use Rattle.rbbi_model.specs.Searches.{next_boundary, follow_by, fresh}
 use Rattle.rbbi_model.specs.Runs.{Entry, Run, IsAnchor, low, boundary_of, farthest_look, ReachesRise, LeadsTruly, IsTrueRun, EndsUpTo, ShowsAfter}
 use Rattle.rbbi_cache.specs.Kept.{HaveLeastReaches, last_reach, HasLeastReaches, EndFormerRun, IsExtendedBy}
+use Rattle.rbbi_cache.specs.Shown.{IsShownAfter}
 use Rattle.rbbi_cache.specs.Scans.{Reached, Scan, EndWith, IsScan}
 use Rattle.rbbi_cache.proofs.Lists.{all_join, all_left, all_right, all_through, all_unmap}
 use Rattle.rbbi_cache.proofs.Reached.{first_member, reached_start, farthest_start, done_before, done_is, rest_after, rises_after, rising_right}
@@ -176,7 +177,7 @@ module _ (table : Table) (valid : IsValidTable table) (x : List ℕ) (p i : ℕ)
           ))
 
   -- the entries before the last aren't past i
-  front_up_to : (front : List Entry) → scan.known ++ scan.found ≡ front ++ scan.here ∷ [] → AllByRecursion (λ e. e.at ≤ i) front
+  pub front_up_to : (front : List Entry) → scan.known ++ scan.found ≡ front ++ scan.here ∷ [] → AllByRecursion (λ e. e.at ≤ i) front
   front_up_to front whole =
       let b : Entry → Boundary = boundary_of table in
       let done : scan.done ≡ scan.skipped ++ map b front =
@@ -185,25 +186,31 @@ module _ (table : Table) (valid : IsValidTable table) (x : List ℕ) (p i : ℕ)
       all_unmap b (λ c. c.at ≤ i) front (all_right (λ c. c.at ≤ i) scan.skipped (map b front) (subst (λ bs. AllByRecursion (λ c. c.at ≤ i) bs) done is.up_to))
 
   -- A run that ends with the scan's last entry shows it, where another entry stands before it, or it leads and the scan went far enough.
-  pub scan_shows : (run' : Run) (front : List Entry) → run'.entries ≡ front ++ scan.here ∷ [] → AllByRecursion (λ e. e.at ≤ i) front → i < scan.here.at → ((front ≢ []) ⊎ (IsTrue run'.leads × (low run'.anchor ≤ i + 1))) → ShowsAfter run' i scan.here.at
-  scan_shows run' [] whole each past nearest = record {
-    before = [];
-    entry = scan.here;
-    after = [];
-    whole = whole;
-    at = refl;
-    past = past;
-    nearest = ⊎_elim (λ some. absurd (some refl)) (λ leads. inr (refl, leads.0, leads.1)) nearest;
-  }
-  scan_shows run' (e ∷ front) whole each past nearest = record {
-    before = e ∷ front;
-    entry = scan.here;
-    after = [];
-    whole = whole;
-    at = refl;
-    past = past;
-    nearest = inl (ends_up_to e front i each);
-  }
+  pub scan_shows : (run' : Run) (front : List Entry) → run'.entries ≡ front ++ scan.here ∷ [] → AllByRecursion (λ e. e.at ≤ i) front → i < scan.here.at → ((front ≢ []) ⊎ (IsTrue run'.leads × (low run'.anchor ≤ i + 1))) → IsShownAfter run' i scan.here
+  scan_shows run' [] whole each past nearest = (
+    record {
+      before = [];
+      entry = scan.here;
+      after = [];
+      whole = whole;
+      at = refl;
+      past = past;
+      nearest = ⊎_elim (λ some. absurd (some refl)) (λ leads. inr (refl, leads.0, leads.1)) nearest;
+    },
+    refl,
+  )
+  scan_shows run' (e ∷ front) whole each past nearest = (
+    record {
+      before = e ∷ front;
+      entry = scan.here;
+      after = [];
+      whole = whole;
+      at = refl;
+      past = past;
+      nearest = inl (ends_up_to e front i each);
+    },
+    refl,
+  )
 
   -- the entries of the run end with the last
   pub run_ends : 1 ≤ length run.entries → (front : List Entry) × (run.entries ≡ front ++ scan.here ∷ []) × AllByRecursion (λ e. e.at ≤ i) front
@@ -219,8 +226,8 @@ module _ (table : Table) (valid : IsValidTable table) (x : List ℕ) (p i : ℕ)
       is.last
 
   -- the new entries have the least reaches
-  pub scan_least : (former : List Run) → ((scan.known ≡ []) ⊎ EndFormerRun former p scan.known) → HasLeastReaches table x former (record { anchor = p; entries = run.entries; leads = run.leads })
-  scan_least former known =
+  pub scan_least : (former : List Run) (leads : Bool) → ((scan.known ≡ []) ⊎ EndFormerRun former p scan.known) → HasLeastReaches table x former (record { anchor = p; entries = run.entries; leads = leads })
+  scan_least former leads known =
       let rest : List Boundary = follow_by (next_boundary table x) (length x) is.reached.most (boundary_of table scan.here) in
       record {
         known = scan.known;

@@ -1,9 +1,16 @@
 -- What the calls of a cache leave of the runs that it keeps.
-use Rattle.std.specs.Prelude.{◌≡◌, ℕ, ◌+◌, ◌<◌, ◌≤◌, max, ◌⊎◌, List, [], ◌∷◌, ◌++◌, map, length, drop, IsTrue}
+use Rattle.std.specs.Prelude.{◌≡◌, ℕ, ◌+◌, ◌<◌, ◌≤◌, max, ◌⊎◌, List, [], ◌∷◌, ◌++◌, map, length, drop, Some, IsTrue}
 use Rattle.std.specs.List.{AllByRecursion}
 use Rattle.rbbi_model.specs.Tables.{Table}
-use Rattle.rbbi_model.specs.Searches.{fresh}
+use Rattle.rbbi_model.specs.Boundaries.{Boundary}
+use Rattle.rbbi_model.specs.Searches.{fresh, table_boundaries}
+use Rattle.rbbi_model.specs.Answers.{first_after, last_before}
 use Rattle.rbbi_model.specs.Runs.{Entry, Run, boundary_of, AreConsecutive, farthest_look, IsTrueRun}
+
+-- what a cache keeps: its runs, the most recently used first, and for how many look-ahead rules it is made
+pub record KeptRuns : Type 0 where
+  pub runs : List Run
+  pub slashes : ℕ
 
 -- the most runs that are kept
 abbrev pub most_runs : ℕ
@@ -70,3 +77,24 @@ pub record Keeps (table : Table) (x : List ℕ) (Shows : Run → Type 0) (former
   pub shows : Shows first
   pub reaches : HasLeastReaches table x former first
   pub left : AreLeft first former rest
+
+-- the entry is one of the boundaries, with its statuses
+pub record IsBoundaryOf (table : Table) (x : List ℕ) (entry : Entry) : Type 0 where
+  pub before : List Boundary
+  pub after : List Boundary
+  pub whole : table_boundaries table x ≡ before ++ boundary_of table entry ∷ after
+
+-- the entry is the first boundary past i
+pub record IsFirstAfter (table : Table) (x : List ℕ) (i : ℕ) (entry : Entry) : Type 0 where
+  pub first : first_after (table_boundaries table x) i ≡ Some entry.at
+  pub boundary : IsBoundaryOf table x entry
+
+-- the entry is the last boundary before i
+pub record IsLastBefore (table : Table) (x : List ℕ) (i : ℕ) (entry : Entry) : Type 0 where
+  pub last : last_before (table_boundaries table x) i ≡ Some entry.at
+  pub boundary : IsBoundaryOf table x entry
+
+-- some kept run is such a one
+abbrev pub SomeRun : (Run → Type 0) → List Run → Type 0
+SomeRun IsSuch [] = ⊥
+SomeRun IsSuch (run ∷ runs) = IsSuch run ⊎ SomeRun IsSuch runs

@@ -4,3 +4,4 @@ pub mod Edits
 pub mod Scans
 pub mod Shown
 pub mod Lists
+pub mod Ready

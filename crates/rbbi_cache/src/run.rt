@@ -110,4 +110,14 @@ impl Run {
     {
         self.leads = false;
     }
+
+    /// Adds entries at the end. There is room for them.
+    pub(crate) fn append(&mut self, entries: &[Entry])
+        requires { length self.old.entries + length entries.now ≤ 256 }
+        ensures { self.new ≡ record self.old { entries = self.old.entries ++ entries.now } }
+    {
+        let len = self.len;
+        self.slots[len..len + entries.len()].copy_from_slice(entries);
+        self.len += entries.len();
+    }
 }
