@@ -61,7 +61,7 @@ module _ (table : Table) (valid : IsValidTable table) (x : List ℕ) (i : ℕ) w
       )
 
   -- a scan that came past i has an entry
-  some_entry : (p : ℕ) (scan : Scan) (run : Run) → IsScan table x p i scan run → i < scan.here.at → low p ≤ i + 1 → 1 ≤ length run.entries
+  pub some_entry : (p : ℕ) (scan : Scan) (run : Run) → IsScan table x p i scan run → i < scan.here.at → low p ≤ i + 1 → 1 ≤ length run.entries
   some_entry p scan run is past high =
       ⊎_elim
       (λ whole. ⊎_elim

@@ -1,8 +1,9 @@
-//! Boundaries that are kept between questions, and what an edit leaves of them.
+//! What boundaries are kept in between questions: runs that were found from one anchor.
+//!
+//! The list of kept runs isn't there yet; what it is made of is (see the README).
 #![tactic(auto)]
 
 mod anchors;
-mod cache;
 mod entry;
 mod run;
 mod runs;
@@ -10,6 +11,5 @@ mod scan;
 mod search;
 mod shown;
 
-pub use cache::Cache;
 pub use entry::Entry;
 pub use run::{MOST_ENTRIES, Run};
