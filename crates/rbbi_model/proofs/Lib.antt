@@ -27,3 +27,4 @@ pub mod Shown
 pub mod Replies
 pub mod WorkedChains
 pub mod Texts
+pub mod SearchesAlike

@@ -1,12 +1,12 @@
 -- From a safe pair of characters on, a search that began there runs along with one that began before.
-use Rattle.std.proofs.Common.{◌≡◌, ℕ, zero, suc, ◌+◌, ◌-◌, ◌<◌, ◌≤◌, ◌⊎◌, true, false, eqb, List, length, take, drop, get_or, sym, ap, ◌∙◌, subst, inl, inr, ⊎_elim, arith}
+use Rattle.std.proofs.Common.{◌≡◌, ℕ, zero, suc, ◌+◌, ◌-◌, ◌<◌, ◌≤◌, ◌⊎◌, true, false, cond, eqb, List, length, take, drop, get_or, sym, ap, ◌∙◌, subst, inl, inr, ⊎_elim, arith}
 use Rattle.std.specs.Prelude.{IsTrue}
-use Rattle.std.proofs.lemmas.Bool.{cases_Bool, cases_lt, cases_eq, false≢true, or_left, eq-eqb}
+use Rattle.std.proofs.lemmas.Bool.{cases_Bool, cases_lt, cases_eq, false≢true, or_left, eq-eqb, cond-true}
 use Rattle.rbbi_model.specs.Places.{has_bit}
 use Rattle.rbbi_model.specs.Tables.{Table, accept_of, fronts_of, list_of, step, row_after, completes, stops}
 use Rattle.rbbi_model.specs.SafePairs.{IsOpen, IsSafePair}
 use Rattle.rbbi_model.specs.ValidTables.{IsValidTable}
-use Rattle.rbbi_model.specs.Searches.{row_at, search_end, found}
+use Rattle.rbbi_model.specs.Searches.{row_at, search_end, look_end, found}
 use Rattle.rbbi_model.specs.Runs.{category_at}
 use Rattle.rbbi_model.proofs.Categories.{category_within}
 use Rattle.rbbi_model.proofs.Found.{end_lies, found_lies}
@@ -44,6 +44,17 @@ module _ (table : Table) (valid : IsValidTable table) (x : List ℕ) where
   -- a search that stops at a place ends there at the latest
   ends_by : (s q : ℕ) → s < q → stops table (row_at table x s q) ≡ true → search_end table x s ≤ q
   ends_by s q past stopped = ⊎_elim (λ before. absurd (false≢true (sym (goes_before s q past before) ∙ stopped))) (λ by. by) (cases_lt q (search_end table x s))
+
+  -- and looks no farther
+  looks_by : (s q : ℕ) → s < length x → s < q → q ≤ length x → stops table (row_at table x s q) ≡ true → look_end table x s ≤ q
+  looks_by s q short past within stopped =
+      let by = ends_by s q past stopped in
+      let is_end : stops table (row_at table x s (search_end table x s)) ≡ true =
+      ⊎_elim
+      (λ is. ap (λ z. stops table (row_at table x s z)) is ∙ stopped)
+      (λ other. ⊎_elim (λ holds. holds) (λ all. absurd (omega (arith, all))) (least_is (λ z. stops table (row_at table x s z)) (s + 1) (length x - (s + 1))).1)
+      (cases_eq (search_end table x s) q) in
+      omega (arith, cond-true (stops table (row_at table x s (search_end table x s))) (search_end table x s) (length x + 1) is_end)
 
   module _ (b p : ℕ) (room : p + 2 ≤ length x) (safe : IsSafePair table (category_at table x p) (category_at table x (p + 1))) (order : b < p) (spans : p < (found table x b).at) where
     short_b : b < length x
@@ -231,5 +242,20 @@ module _ (table : Table) (valid : IsValidTable table) (x : List ℕ) where
         ⊎_elim
         (λ stopped'. dead_case (from_b ∙ sym from_p ∙ dead_after p (omega arith) stopped'))
         (λ going_p. going_agree going_b going_p)
+        (cases_Bool (stops table (row_at table x p (p + 1)))))
+        (cases_Bool (stops table (row_at table x b (p + 1))))
+
+    -- the search from the pair looks past the two characters only where the other one does too, and as far
+    pub look_agrees : (look_end table x p ≤ p + 2) ⊎ (look_end table x p ≡ look_end table x b)
+    look_agrees =
+        let by_two : row_at table x p (p + 2) ≡ 0 → (look_end table x p ≤ p + 2) ⊎ (look_end table x p ≡ look_end table x b) =
+        λ dead. inl (looks_by p (p + 2) short_p (omega arith) room (zero_stops table (row_at table x p (p + 2)) dead)) in
+        ⊎_elim
+        (λ stopped. by_two (from_p ∙ sym from_b ∙ dead_after b (omega arith) stopped))
+        (λ going_b.
+        ⊎_elim
+        (λ stopped'. by_two (dead_after p (omega arith) stopped'))
+        (λ going_p. inr (ap (λ z. cond (stops table (row_at table x p z)) z (length x + 1)) (sym (same_end going_b going_p))
+          ∙ ap (λ row. cond (stops table row) (search_end table x b) (length x + 1)) (ap (λ z. row_at table x p z) (same_end going_b going_p) ∙ sym (same_last going_b going_p))))
         (cases_Bool (stops table (row_at table x p (p + 1)))))
         (cases_Bool (stops table (row_at table x b (p + 1))))

@@ -23,3 +23,4 @@ pub mod Compiled
 pub mod Canonical
 pub mod Costs
 pub mod TableFile
+pub mod ReadAlike

@@ -35,7 +35,7 @@ pub use runs::{
 };
 pub use searches::{
     completed_search_has_a_cut, look_end_is_past_the_start, next_boundary_is_past_the_start,
-    table_boundaries_cover_the_text,
+    searches_depend_on_what_they_read, table_boundaries_cover_the_text,
 };
 pub use table_file::spelling_tells_the_table;
 pub use tables::{category_is_within, code_point_has_one_category};

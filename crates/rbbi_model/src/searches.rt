@@ -5,6 +5,7 @@ ghost use Rattle.rbbi_model.specs.Cover.{CoverText};
 ghost use Rattle.rbbi_model.specs.Places.{has_bit};
 ghost use Rattle.rbbi_model.specs.Tables.{Table, accept_of, fronts_of, completes};
 ghost use Rattle.rbbi_model.specs.ValidTables.{IsValidTable};
+ghost use Rattle.rbbi_model.specs.ReadAlike.{ReadsAlike, FindsAlike};
 ghost use Rattle.rbbi_model.specs.Searches.{row_at, search_end, look_end, cut_place, next_boundary, table_boundaries};
 
 /// The next boundary by a table, valid or not, is greater than the start and at most the text's length.
@@ -33,4 +34,11 @@ pub fn completed_search_has_a_cut()
         let cut : ℕ = cut_place table x s z k in
         IsTrue (completes table (row_at table x s z)) →
         (s < cut) × (cut < z) × IsTrue (has_bit (fronts_of table (row_at table x s cut)) k) }
+{}
+
+/// A search depends on the characters that it reads alone. Where another text has the same ones from
+/// some place on, a search from there finds and looks as far, moved by the distance of the starts. So
+/// an edit past the look end changes nothing, and one before the start only moves it.
+pub fn searches_depend_on_what_they_read()
+    ensures { (table : Table) (x y : List ℕ) (s t : ℕ) → ReadsAlike table x y s t → FindsAlike table x y s t }
 {}

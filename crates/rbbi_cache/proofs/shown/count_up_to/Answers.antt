@@ -1,0 +1,29 @@
+use Rattle.std.proofs.Common.{◌≡◌, ℕ, ◌+◌, ◌-◌, ◌*◌, ◌/◌, ◌<◌, ◌≤◌, length, get_or, take, drop, sym, ap, ◌∙◌, subst, add-one, arith}
+use Rattle.std.specs.List.{AllByRecursion}
+use Rattle.rbbi_cache.proofs.Showing.{up_to_one, past_one}
+use Rattle.rbbi_cache.proofs.shown.count_up_to.Goals as goal
+
+pub loop-start-preserved-then-entry-i : goal.loop-start-preserved-then-entry-i
+loop-start-preserved-then-entry-i c =
+    let within = c.loop-start.invariant.1 in
+    let middle : ℕ = c.loop-start.start + (c.loop-start.end - c.loop-start.start) / 2 in
+    let short : c.loop-start.start + (c.loop-start.end - c.loop-start.start) / 2 < c.loop-start.end = omega arith in (
+      omega arith,
+      c.loop-start.invariant.1,
+      subst (λ n. AllByRecursion (λ e. e.at ≤ c.args.i) (take n c.args.entries.now)) (sym (add-one middle))
+          (up_to_one c.args.entries.now c.args.i middle c.index-entries-middle.result c.requires (omega arith)
+          (omega (arith, ap (λ e. e.at) c.index-entries-middle.is, ap (λ e. e.at) c.entry.view_is, c.if-entry-i.true))),
+      c.loop-start.invariant.3,
+    )
+
+pub loop-start-preserved : goal.loop-start-preserved
+loop-start-preserved c =
+    let within = c.loop-start.invariant.1 in
+    let middle : ℕ = c.loop-start.start + (c.loop-start.end - c.loop-start.start) / 2 in
+    let short : c.loop-start.start + (c.loop-start.end - c.loop-start.start) / 2 < c.loop-start.end = omega arith in (
+      omega arith,
+      omega arith,
+      c.loop-start.invariant.2,
+      past_one c.args.entries.now c.args.i middle c.index-entries-middle.result c.requires (omega arith)
+          (omega (arith, ap (λ e. e.at) c.index-entries-middle.is, ap (λ e. e.at) c.entry.view_is, c.if-entry-i.false)),
+    )

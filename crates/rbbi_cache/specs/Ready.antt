@@ -1,0 +1,25 @@
+-- Runs that are ready to be kept first.
+use Rattle.std.specs.Prelude.{◌≡◌, ℕ, ◌≤◌, ◌⊎◌, ◌+◌, Bool, true, false, List, [], ◌∷◌, ◌++◌}
+use Rattle.rbbi_model.specs.Tables.{Table}
+use Rattle.rbbi_model.specs.Runs.{Entry, Run, IsTrueRun}
+use Rattle.rbbi_cache.specs.Kept.{HasLeastReaches, IsExtendedBy}
+use Rattle.rbbi_cache.specs.Shown.{IsShownAfter}
+
+-- The run is true, shows the entry to be the first boundary past i, and its new entries have the least reaches.
+pub record IsReady (table : Table) (x : List ℕ) (i : ℕ) (former : List Run) (entry : Entry) (run : Run) : Type 0 where
+  pub is_true : IsTrueRun table x run
+  pub shows : IsShownAfter run i entry
+  pub reaches : HasLeastReaches table x former run
+
+-- the run is one of those
+pub record IsAmong (runs : List Run) (run : Run) : Type 0 where
+  pub before : List Run
+  pub after : List Run
+  pub whole : runs ≡ before ++ run ∷ after
+
+-- The kept run was extended and is ready, or it is as before and another one is ready.
+abbrev pub GoesOnAs : Table → List ℕ → ℕ → Run → Entry → Bool → Run → Run → Type 0
+GoesOnAs table x i former entry true run spare =
+    IsExtendedBy former run × ((kept : List Run) → IsAmong kept former → IsReady table x i kept entry run)
+GoesOnAs table x i former entry false run spare =
+    (run ≡ former) × ((kept : List Run) → IsAmong kept former → IsReady table x i kept entry spare)

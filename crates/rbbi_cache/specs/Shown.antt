@@ -1,0 +1,18 @@
+-- Entries that a run shows.
+use Rattle.std.specs.Prelude.{◌≡◌, ℕ, ◌<◌, ◌≤◌, List, length, take, drop}
+use Rattle.std.specs.List.{AllByRecursion}
+use Rattle.rbbi_model.specs.Runs.{Entry, Run, ShowsAfter, ShowsBefore}
+
+-- so many of the entries aren't past the place, and the others are
+pub record AreUpTo (entries : List Entry) (i count : ℕ) : Type 0 where
+  pub within : count ≤ length entries
+  pub up_to : AllByRecursion (λ entry. entry.at ≤ i) (take count entries)
+  pub past : AllByRecursion (λ entry. i < entry.at) (drop count entries)
+
+-- the run shows the entry to be the first boundary past i
+abbrev pub IsShownAfter : Run → ℕ → Entry → Type 0
+IsShownAfter run i entry = (shows : ShowsAfter run i entry.at) × (shows.entry ≡ entry)
+
+-- the run shows the entry to be the last boundary before i
+abbrev pub IsShownBefore : List ℕ → Run → ℕ → Entry → Type 0
+IsShownBefore x run i entry = (shows : ShowsBefore x run i entry.at) × (shows.entry ≡ entry)

@@ -1,0 +1,24 @@
+//! Boundaries as they are kept.
+
+use std::marker::Model;
+
+/// A kept boundary.
+#[derive(Clone, Copy, Debug)]
+pub struct Entry {
+    /// Its place, in characters from 0.
+    pub at: u32,
+    /// The number of its status list in the table.
+    pub status: u16,
+    /// How far the searches that led to it have looked: a place, or the text's length and one more.
+    pub reach: u32,
+}
+
+impl Model for Entry {
+    ghost use Rattle.rbbi_model.specs.Runs.{Entry};
+
+    ghost Value = { Entry };
+
+    ghost view = { λ e. record { at = e.at; status = e.status; reach = e.reach } };
+
+    ghost inverse = { λ e. record { at = e.at; status = e.status; reach = e.reach } };
+}

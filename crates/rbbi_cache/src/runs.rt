@@ -1,0 +1,99 @@
+//! The list of kept runs, the most recently used first.
+ghost use Rattle.std.specs.Prelude.{◌≡◌, ◌≢◌, ℕ, ◌+◌, ◌-◌, ◌<◌, ◌≤◌, ◌∷◌, ◌++◌, [], length, take, drop, min, MatchOption, List, ⊤};
+ghost use Rattle.std.specs.List.{AllByRecursion};
+ghost use Rattle.rbbi_model.specs.Words.{most_characters};
+ghost use Rattle.rbbi_model.specs.Runs as model;
+ghost use Rattle.rbbi_model.specs.Runs.{ShowsAfter, ShowsBefore};
+ghost use Rattle.rbbi_cache.specs.Shown.{IsShownAfter, IsShownBefore};
+ghost use Rattle.rbbi_cache.specs.Lists.{IsOrdered, HasAt, GoesOnFrom};
+
+use crate::{Entry, Run};
+use std::mem;
+
+/// The most runs that are kept.
+pub(crate) const MOST_RUNS: usize = 16;
+
+/// An entry that a kept run shows to be an answer, and the number of the run.
+#[derive(Drop)]
+pub(crate) struct Shown {
+    pub(crate) run: usize,
+    pub(crate) entry: Entry,
+}
+
+/// The first run that shows the first boundary past `i`.
+pub(crate) fn find_after(runs: &[Run], i: u32) -> Option<Shown>
+    requires ordered { AllByRecursion (IsOrdered most_characters) runs.now }
+    requires small { i < most_characters }
+    ensures { MatchOption result (AllByRecursion (λ run. (a : ℕ) → ¬ ShowsAfter run i a) runs.now)
+        (λ shown. HasAt runs.now shown.run (λ run. IsShownAfter run i shown.entry)) }
+{
+    for (k, run) in runs.iter().enumerate() {
+        if let Some(entry) = run.shown_after(i) {
+            return Some(Shown { run: k, entry });
+        }
+    }
+    None
+}
+
+/// The first run that shows the last boundary before `i`, in a text of this length.
+pub(crate) fn find_before(runs: &[Run], len: u32, i: u32) -> Option<Shown>
+    requires ordered { AllByRecursion (IsOrdered len) runs.now }
+    requires some { 0 < i }
+    ensures { (x : List ℕ) → len ≡ length x →
+        MatchOption result (AllByRecursion (λ run. (a : ℕ) → ¬ ShowsBefore x run i a) runs.now)
+        (λ shown. HasAt runs.now shown.run (λ run. IsShownBefore x run i shown.entry)) }
+{
+    for (k, run) in runs.iter().enumerate() {
+        if let Some(entry) = run.shown_before(len, i) {
+            return Some(Shown { run: k, entry });
+        }
+    }
+    None
+}
+
+/// A run of this anchor that can go on to what lies past `i`: its last entry isn't past it. Of several
+/// the one that has come farthest is taken.
+pub(crate) fn find_to_extend(runs: &[Run], anchor: u32, i: u32) -> Option<Shown>
+    ensures { MatchOption result ⊤ (λ shown. HasAt runs.now shown.run (GoesOnFrom anchor i shown.entry)) }
+{
+    let mut best: Option<Shown> = None;
+    for (k, run) in runs.iter().enumerate() {
+        if let Some(entry) = run.last_up_to(anchor, i) {
+            let is_farther = match &best {
+                Some(other) => entry.at > other.entry.at,
+                None => true,
+            };
+            if is_farther {
+                best = Some(Shown { run: k, entry });
+            }
+        }
+    }
+    best
+}
+
+/// Moves a run to the front. The runs before it go back by one.
+pub(crate) fn to_front(runs: &mut [Run], k: usize)
+    requires { k < length runs.old }
+    ensures { (before after : List model.Run) (run : model.Run) → runs.old ≡ before ++ run ∷ after →
+        length before ≡ k → runs.new ≡ run ∷ (before ++ after) }
+{
+    let first = &mut runs[..k + 1];
+    first.rotate_right(1);
+}
+
+/// Puts a new run before those that are kept, of which there are `count`. Where 16 are kept, the last
+/// one goes. What was in the last place comes back in the new run's place.
+pub(crate) fn put_first(runs: &mut [Run], count: usize, run: &mut Run) -> usize
+    requires room { length runs.old ≡ 16 }
+    requires count { count ≤ 16 }
+    ensures count { result ≡ min (count + 1) 16 }
+    ensures len { length runs.new ≡ 16 }
+    ensures runs { take result runs.new ≡ run.old ∷ take (min count 15) runs.old }
+{
+    let last = count.min(MOST_RUNS - 1);
+    let slot = &mut runs[last];
+    mem::swap(slot, run);
+    let first = &mut runs[..last + 1];
+    first.rotate_right(1);
+    last + 1
+}

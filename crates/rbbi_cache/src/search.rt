@@ -1,0 +1,80 @@
+//! What is past a place: found by searches from an anchor, or from the last entry of a kept run.
+ghost use Rattle.std.specs.Prelude.{◌≡◌, ℕ, ◌+◌, ◌<◌, ◌≤◌, length, List};
+ghost use Rattle.rbbi_model.specs.Words.{most_characters};
+ghost use Rattle.rbbi_model.specs.Runs as model;
+ghost use Rattle.rbbi_model.specs.Costs.{anchor_below, searches_cost};
+ghost use Rattle.rbbi_cache.specs.Lists.{GoesOnFrom};
+ghost use Rattle.rbbi_cache.specs.Ready.{IsReady, GoesOnAs};
+
+use crate::scan::scan;
+use crate::{Entry, Run};
+use rbbi_table::{Marks, Table};
+use rbbi_text::{Chars, Steps};
+use std::sync::ledger::Ledger;
+
+/// The most entries of a run and a copy of the one from which others were found.
+const MOST_WITH_COPY: usize = 257;
+
+/// Searches from the greatest anchor before `i`, and makes a run of what is found.
+pub(crate) fn search<T: Chars, L: Ledger>(
+    table: &Table,
+    text: &T,
+    anchor: u32,
+    i: u32,
+    run: &mut Run,
+    marks: &mut Marks,
+    steps: &mut Steps<L>,
+) -> Entry
+    requires fit { marks.old ≡ table.now.slashes }
+    requires within { i < length (T.characters text.now) }
+    requires small { i < most_characters }
+    requires anchor { anchor ≡ anchor_below table.now (T.characters text.now) i }
+    ensures ready { (kept : List model.Run) → IsReady table.now (T.characters text.now) i kept result run.new }
+    ensures more { steps.old ≤ steps.new }
+    ensures cost { steps.new ≤ steps.old + searches_cost table.now (T.characters text.now) anchor i }
+    ensures fit { marks.new ≡ marks.old }
+{
+    table.valid();
+    run.begin(anchor);
+    let from = Entry {
+        at: anchor,
+        status: 0,
+        reach: 0,
+    };
+    scan(table, text, run, from, i, marks, steps)
+}
+
+/// Searches on from the last entry of a true run of that anchor. What is found is added to the run,
+/// where it has room for all, and then the answer is true; otherwise it makes a run of its own.
+pub(crate) fn go_on<T: Chars, L: Ledger>(
+    table: &Table,
+    text: &T,
+    i: u32,
+    run: &mut Run,
+    from: Entry,
+    spare: &mut Run,
+    marks: &mut Marks,
+    steps: &mut Steps<L>,
+) -> (Entry, bool)
+    requires fit { marks.old ≡ table.now.slashes }
+    requires within { i < length (T.characters text.now) }
+    requires small { i < most_characters }
+    requires is_true { model.IsTrueRun table.now (T.characters text.now) run.old }
+    requires from { GoesOnFrom (anchor_below table.now (T.characters text.now) i) i from run.old }
+    ensures gone_on { GoesOnAs table.now (T.characters text.now) i run.old result.0 result.1 run.new spare.new }
+    ensures more { steps.old ≤ steps.new }
+    ensures cost { steps.new ≤ steps.old + searches_cost table.now (T.characters text.now)
+        (anchor_below table.now (T.characters text.now) i) i }
+    ensures fit { marks.new ≡ marks.old }
+{
+    table.valid();
+    spare.begin(run.anchor());
+    spare.push(from);
+    let entry = scan(table, text, spare, from, i, marks, steps);
+    if spare.leads() && run.len() + spare.len() <= MOST_WITH_COPY {
+        run.append(&spare.entries()[1..]);
+        return (entry, true);
+    }
+    spare.follow();
+    (entry, false)
+}

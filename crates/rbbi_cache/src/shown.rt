@@ -1,0 +1,106 @@
+//! Which boundary a run shows to be the next one after a place, or the last one before it.
+ghost use Rattle.std.specs.Prelude.{◌≡◌, ℕ, ◌+◌, ◌-◌, ◌<◌, ◌≤◌, map, take, drop, length, List, MatchOption, IsTrue, ◌↔◌, ⊤};
+ghost use Rattle.std.specs.List.{AllByRecursion};
+ghost use Rattle.rbbi_model.specs.Lists.{IsRising};
+ghost use Rattle.rbbi_model.specs.Words.{most_characters};
+ghost use Rattle.rbbi_model.specs.Runs.{low, ShowsAfter, ShowsBefore};
+ghost use Rattle.rbbi_cache.specs.Lists.{GoesOnFrom};
+ghost use Rattle.rbbi_cache.specs.Shown.{AreUpTo, IsShownAfter, IsShownBefore};
+
+use crate::scan::low;
+use crate::{Entry, Run};
+
+/// How many of the entries, which rise, aren't past this place.
+pub(crate) fn count_up_to(entries: &[Entry], i: u32) -> usize
+    requires { IsRising (map (λ entry. entry.at) entries.now) }
+    ensures { AreUpTo entries.now i result }
+{
+    let mut start = 0;
+    let mut end = entries.len();
+    while start < end {
+        let middle = start + (end - start) / 2;
+        let entry = entries[middle];
+        if entry.at <= i {
+            start = middle + 1;
+        } else {
+            end = middle;
+        }
+    }
+    start
+}
+
+impl Run {
+    /// Whether the run leads, from a low place that `i` isn't before.
+    fn leads_to(&self, i: u32) -> bool
+        requires small { i < most_characters }
+        requires anchor { self.now.anchor ≤ most_characters }
+        ensures { IsTrue result ↔ (IsTrue self.now.leads × (low self.now.anchor ≤ i + 1)) }
+    {
+        if !self.leads() {
+            return false;
+        }
+        low(self.anchor()) <= i + 1
+    }
+
+    /// The entry of the run that is shown to be the first boundary past `i`.
+    pub(crate) fn shown_after(&self, i: u32) -> Option<Entry>
+        requires rising { IsRising (map (λ entry. entry.at) self.now.entries) }
+        requires small { i < most_characters }
+        requires anchor { self.now.anchor ≤ most_characters }
+        ensures { MatchOption result ((a : ℕ) → ¬ ShowsAfter self.now i a) (IsShownAfter self.now i) }
+    {
+        let entries = self.entries();
+        let k = count_up_to(entries, i);
+        if k == entries.len() {
+            return None;
+        }
+        if k > 0 {
+            return Some(entries[k]);
+        }
+        if self.leads_to(i) {
+            return Some(entries[0]);
+        }
+        None
+    }
+
+    /// The entry of the run that is shown to be the last boundary before `i`, in a text of this length.
+    pub(crate) fn shown_before(&self, len: u32, i: u32) -> Option<Entry>
+        requires rising { IsRising (map (λ entry. entry.at) self.now.entries) }
+        requires within { AllByRecursion (λ entry. entry.at ≤ len) self.now.entries }
+        requires some { 0 < i }
+        ensures { (x : List ℕ) → len ≡ length x →
+            MatchOption result ((a : ℕ) → ¬ ShowsBefore x self.now i a) (IsShownBefore x self.now i) }
+    {
+        let entries = self.entries();
+        let k = count_up_to(entries, i - 1);
+        if k == 0 {
+            return None;
+        }
+        let entry = entries[k - 1];
+        if k < entries.len() {
+            return Some(entry);
+        }
+        if entry.at == len {
+            return Some(entry);
+        }
+        None
+    }
+
+    /// Its last entry, where it has this anchor and that entry isn't past `i`.
+    pub(crate) fn last_up_to(&self, anchor: u32, i: u32) -> Option<Entry>
+        ensures { MatchOption result ⊤ (λ entry. GoesOnFrom anchor i entry self.now) }
+    {
+        if self.anchor() != anchor {
+            return None;
+        }
+        let entries = self.entries();
+        if entries.is_empty() {
+            return None;
+        }
+        let entry = entries[entries.len() - 1];
+        if entry.at <= i {
+            return Some(entry);
+        }
+        None
+    }
+}
