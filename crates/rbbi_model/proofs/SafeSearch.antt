@@ -256,6 +256,6 @@ module _ (table : Table) (valid : IsValidTable table) (x : List ℕ) where
         ⊎_elim
         (λ stopped'. by_two (dead_after p (omega arith) stopped'))
         (λ going_p. inr (ap (λ z. cond (stops table (row_at table x p z)) z (length x + 1)) (sym (same_end going_b going_p))
-          ∙ ap (λ row. cond (stops table row) (search_end table x b) (length x + 1)) (ap (λ z. row_at table x p z) (same_end going_b going_p) ∙ sym (same_last going_b going_p))))
+        ∙ ap (λ row. cond (stops table row) (search_end table x b) (length x + 1)) (ap (λ z. row_at table x p z) (same_end going_b going_p) ∙ sym (same_last going_b going_p))))
         (cases_Bool (stops table (row_at table x p (p + 1)))))
         (cases_Bool (stops table (row_at table x b (p + 1))))

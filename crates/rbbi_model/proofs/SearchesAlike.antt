@@ -18,15 +18,15 @@ least_unique test low count p from to fails here =
     ⊎_elim
     (λ same. same)
     (λ other. ⊎_elim
-      (λ less. ⊎_elim
-        (λ holds. absurd (false≢true (sym (fails (least_from test low count) lies.0 less) ∙ holds)))
-        (λ all. absurd (omega arith))
-        is.1)
-      (λ more. ⊎_elim
-        (λ holds. absurd (false≢true (sym (is.0 p from more) ∙ holds)))
-        (λ all. absurd (omega (arith, lies.1)))
-        here)
-      other)
+    (λ less. ⊎_elim
+    (λ holds. absurd (false≢true (sym (fails (least_from test low count) lies.0 less) ∙ holds)))
+    (λ all. absurd (omega arith))
+    is.1)
+    (λ more. ⊎_elim
+    (λ holds. absurd (false≢true (sym (is.0 p from more) ∙ holds)))
+    (λ all. absurd (omega (arith, lies.1)))
+    here)
+    other)
     (cases_order (least_from test low count) p)
 
 -- there is no place below high at which the test holds
@@ -62,14 +62,14 @@ greatest_moved f g s t most (suc j) agree short =
     let tests : f (s + j) ≡ g (t + j) = at_same f g s t most j agree (omega arith) in
     subst (λ n. AreMoved s t most (greatest_below f n) (greatest_below g (t + suc j))) (sym (add-suc s j))
     (subst (λ n. AreMoved s t most (greatest_below f (suc (s + j))) (greatest_below g n)) (sym (add-suc t j))
-      (⊎_elim
-        (λ holds.
-          subst (λ a. AreMoved s t most a (greatest_below g (suc (t + j)))) (sym (cond-true (f (s + j)) (Some (s + j)) (greatest_below f (s + j)) holds))
-          (subst (λ b. AreMoved s t most (Some (s + j)) b) (sym (cond-true (g (t + j)) (Some (t + j)) (greatest_below g (t + j)) (sym tests ∙ holds))) (Both j (omega arith))))
-        (λ fails.
-          subst (λ a. AreMoved s t most a (greatest_below g (suc (t + j)))) (sym (cond-false (f (s + j)) (Some (s + j)) (greatest_below f (s + j)) fails))
-          (subst (λ b. AreMoved s t most (greatest_below f (s + j)) b) (sym (cond-false (g (t + j)) (Some (t + j)) (greatest_below g (t + j)) (sym tests ∙ fails))) before))
-        (cases_Bool (f (s + j)))))
+    (⊎_elim
+    (λ holds.
+    subst (λ a. AreMoved s t most a (greatest_below g (suc (t + j)))) (sym (cond-true (f (s + j)) (Some (s + j)) (greatest_below f (s + j)) holds))
+    (subst (λ b. AreMoved s t most (Some (s + j)) b) (sym (cond-true (g (t + j)) (Some (t + j)) (greatest_below g (t + j)) (sym tests ∙ holds))) (Both j (omega arith))))
+    (λ fails.
+    subst (λ a. AreMoved s t most a (greatest_below g (suc (t + j)))) (sym (cond-false (f (s + j)) (Some (s + j)) (greatest_below f (s + j)) fails))
+    (subst (λ b. AreMoved s t most (greatest_below f (s + j)) b) (sym (cond-false (g (t + j)) (Some (t + j)) (greatest_below g (t + j)) (sym tests ∙ fails))) before))
+    (cases_Bool (f (s + j)))))
 
 and_first : (a b : Bool) → a ≡ false → a && b ≡ false
 and_first a b is = ap (λ v. v && b) is
@@ -128,15 +128,15 @@ module _ (table : Table) (x y : List ℕ) (s t : ℕ) (alike : ReadsAlike table 
       least_unique (λ q. stops table (row_at table y t q)) (t + 1) (length y - (t + 1)) (t + (search_end table x s - s))
       (omega (arith, in_x.0)) (omega (arith, room, in_x.0))
       (λ q low high.
-        let k : ℕ = q - t in
-        let there : t + (q - t) ≡ q = omega arith in
-        ap (λ p. stops table (row_at table y t p)) (sym there)
-        ∙ ap (stops table) (sym (same_row (q - t) (omega arith)))
-        ∙ is.0 (s + (q - t)) (omega arith) (omega arith))
+      let k : ℕ = q - t in
+      let there : t + (q - t) ≡ q = omega arith in
+      ap (λ p. stops table (row_at table y t p)) (sym there)
+      ∙ ap (stops table) (sym (same_row (q - t) (omega arith)))
+      ∙ is.0 (s + (q - t)) (omega arith) (omega arith))
       (⊎_elim
-        (λ holds. inl (ap (stops table) (sym last_row) ∙ holds))
-        (λ fails. inr (omega (arith, ends_as_far fails, in_x.0, in_x.1, room, all_read fails)))
-        (cases_Bool (stops table (row_at table x s (search_end table x s)))))
+      (λ holds. inl (ap (stops table) (sym last_row) ∙ holds))
+      (λ fails. inr (omega (arith, ends_as_far fails, in_x.0, in_x.1, room, all_read fails)))
+      (cases_Bool (stops table (row_at table x s (search_end table x s)))))
 
   look_moved : look_end table y t + s ≡ look_end table x s + t
   look_moved =
@@ -153,8 +153,8 @@ module _ (table : Table) (x y : List ℕ) (s t : ℕ) (alike : ReadsAlike table 
         low = λ q low. and_first (ltb s q) (passes (row_at table x s q)) (not_past s q low);
         low' = λ q low. and_first (ltb t q) (passes (row_at table y t q)) (not_past t q low);
         same = λ k some short.
-          ap (λ b. b && passes (row_at table x s (s + k))) (lt-ltb s (s + k) (omega arith) ∙ sym (lt-ltb t (t + k) (omega arith)))
-          ∙ ap (λ row. ltb t (t + k) && passes row) (same_row k short);
+            ap (λ b. b && passes (row_at table x s (s + k))) (lt-ltb s (s + k) (omega arith) ∙ sym (lt-ltb t (t + k) (omega arith)))
+            ∙ ap (λ row. ltb t (t + k) && passes row) (same_row k short);
       }
 
   places_moved : (passes : ℕ → Bool) (j : ℕ) → j ≤ suc (search_end table x s - s) →
@@ -198,7 +198,7 @@ module _ (table : Table) (x y : List ℕ) (s t : ℕ) (alike : ReadsAlike table 
       let there : t + suc (search_end table x s - s) ≡ t + (search_end table x s - s) + 1 = omega arith in
       subst (λ n. AreMoved s t (search_end table x s - s) (greatest_below (λ q. ltb s q && passes (row_at table x s q)) n) (longest_place table y t (t + (search_end table x s - s)))) here
       (subst (λ n. AreMoved s t (search_end table x s - s) (greatest_below (λ q. ltb s q && passes (row_at table x s q)) (s + suc (search_end table x s - s))) (greatest_below (λ q. ltb t q && passes (row_at table y t q)) n)) there
-        (places_moved passes (suc (search_end table x s - s)) (omega arith)))
+      (places_moved passes (suc (search_end table x s - s)) (omega arith)))
 
   found_alike : AreAlike (found table x s) (found_to y t (t + (search_end table x s - s)))
   unfolding found_to
@@ -211,13 +211,13 @@ module _ (table : Table) (x y : List ℕ) (s t : ℕ) (alike : ReadsAlike table 
       let longest' : Found = found_longest table y t (longest_place table y t z) in
       ⊎_elim
       (λ holds.
-        subst (λ f. AreAlike f (found_to y t z)) (sym (cond-true (completes table last) cut longest holds))
-        (subst (λ f. AreAlike cut f) (sym (cond-true (completes table (row_at table y t z)) cut' longest' (ap (completes table) (sym last_row) ∙ holds)))
-          (subst (λ row. AreAlike cut (record { at = cut_place table y t z (accept_of table row - 2); list = list_of table (row_at table y t z) })) last_row (cut_alike (accept_of table last - 2)))))
+      subst (λ f. AreAlike f (found_to y t z)) (sym (cond-true (completes table last) cut longest holds))
+      (subst (λ f. AreAlike cut f) (sym (cond-true (completes table (row_at table y t z)) cut' longest' (ap (completes table) (sym last_row) ∙ holds)))
+      (subst (λ row. AreAlike cut (record { at = cut_place table y t z (accept_of table row - 2); list = list_of table (row_at table y t z) })) last_row (cut_alike (accept_of table last - 2)))))
       (λ fails.
-        subst (λ f. AreAlike f (found_to y t z)) (sym (cond-false (completes table last) cut longest fails))
-        (subst (λ f. AreAlike longest f) (sym (cond-false (completes table (row_at table y t z)) cut' longest' (ap (completes table) (sym last_row) ∙ fails)))
-          (longest_alike (longest_place table x s (search_end table x s)) (longest_place table y t z) longest_place_alike)))
+      subst (λ f. AreAlike f (found_to y t z)) (sym (cond-false (completes table last) cut longest fails))
+      (subst (λ f. AreAlike longest f) (sym (cond-false (completes table (row_at table y t z)) cut' longest' (ap (completes table) (sym last_row) ∙ fails)))
+      (longest_alike (longest_place table x s (search_end table x s)) (longest_place table y t z) longest_place_alike)))
       (cases_Bool (completes table last))
 
   -- the search from t in y finds and looks like the one from s in x
