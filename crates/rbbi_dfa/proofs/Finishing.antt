@@ -14,16 +14,16 @@ AreSteps-from_valid table all valid = record {
   all = all;
   within = λ i h.
       ⊎_elim
-        (λ (some : 0 < table.categories).
-          let row = i / table.categories in
-          let row_below : i / table.categories < length table.rows = div_below i table.categories (length table.rows) some (subst (λ (n : ℕ). i < n) all h) in
-          subst (λ (place : ℕ). slice_index table.cells place < length table.rows) (div-add-mod' i table.categories)
-            ((valid.each (i / table.categories) row_below).next (i % table.categories) (mod_below i table.categories some)))
-        (λ (none : table.categories ≤ 0).
-          let zero : table.categories ≡ 0 = omega arith in
-          let empty : length table.cells ≡ length table.rows * 0 = all ∙ ap (λ n. length table.rows * n) zero in
-          absurd (omega arith))
-        (cases_lt 0 table.categories);
+      (λ (some : 0 < table.categories).
+      let row = i / table.categories in
+      let row_below : i / table.categories < length table.rows = div_below i table.categories (length table.rows) some (subst (λ (n : ℕ). i < n) all h) in
+      subst (λ (place : ℕ). slice_index table.cells place < length table.rows) (div-add-mod' i table.categories)
+      ((valid.each (i / table.categories) row_below).next (i % table.categories) (mod_below i table.categories some)))
+      (λ (none : table.categories ≤ 0).
+      let zero : table.categories ≡ 0 = omega arith in
+      let empty : length table.cells ≡ length table.rows * 0 = all ∙ ap (λ n. length table.rows * n) zero in
+      absurd (omega arith))
+      (cases_lt 0 table.categories);
 }
 
 -- safe pairs of the rows are those of a table with these rows
@@ -35,3 +35,10 @@ ArePairsOf-finished table ranges safe h = record {
 
 pub HasFittingParts-finished : (table : Table) (ranges : List CategoryRange) (safe : List ℕ) → length table.cells ≡ length table.rows * table.categories → ArePairsOf (finished table ranges safe) → HasFittingParts (finished table ranges safe)
 HasFittingParts-finished table ranges safe all pairs = record { cells = all; safe = pairs.all }
+
+pub ArePairsOf-parts : (categories slashes : ℕ) (ranges : List CategoryRange) (lists : List (List ℕ)) (rows : List RowHead) (cells safe : List ℕ) → ArePairsOf (rows_of categories rows cells safe) →
+    ArePairsOf (record { categories = categories; slashes = slashes; ranges = ranges; lists = lists; rows = rows; cells = cells; safe = safe })
+ArePairsOf-parts categories slashes ranges lists rows cells safe h = record {
+  all = h.all;
+  pairs = record { exactly = h.pairs.exactly; filling = h.pairs.filling };
+}

@@ -1,5 +1,5 @@
 //! The table of an automaton.
-ghost use Rattle.std.specs.Prelude.{◌≡◌, ◌*◌, length, IfOk};
+ghost use Rattle.std.specs.Prelude.{◌≡◌, ◌*◌, length, map, IfOk};
 ghost use Rattle.rbbi_model.specs.ValidTables.{AreValidRanges, AreValidRows};
 ghost use Rattle.rbbi_table.specs.Parts.{table_of};
 ghost use Rattle.rbbi_table.specs.Targets.{ArePairsOf};
@@ -49,17 +49,25 @@ fn parts_of(alloc: Global, least: Automaton, ranges: RangeList) -> Result<Parts,
         cells,
     } = least;
     let safe = safe_pairs(alloc, categories, &heads, &cells)?;
-    let mut numbers = NumberLists::new(alloc);
-    for list in lists {
-        numbers.push(NumberList::from_vec(list))?;
-    }
+    let lists = number_lists_of(alloc, lists)?;
     Ok(Parts {
         categories,
         slashes,
         ranges,
-        lists: numbers,
+        lists,
         rows: RowList::from_vec(heads),
         cells: CellList::from_vec(cells),
         safe,
     })
+}
+
+/// The same status lists, as a table's parts hold them.
+fn number_lists_of(alloc: Global, lists: Vec<Vec<u32>>) -> Result<NumberLists, AllocError>
+    ensures { IfOk result (λ made. made ≡ map (λ statuses. statuses.items) lists.items) }
+{
+    let mut made = NumberLists::new(alloc);
+    for list in lists {
+        made.push(NumberList::from_vec(list))?;
+    }
+    Ok(made)
 }
