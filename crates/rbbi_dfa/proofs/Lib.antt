@@ -11,3 +11,4 @@ pub mod Merging
 pub mod Leastness
 pub mod RuleNeeds
 pub mod Compiling
+pub mod Finishing
