@@ -30,3 +30,4 @@ pub mod Merging
 pub mod Leastness
 pub mod RuleNeeds
 pub mod Compiling
+pub mod Finishing

@@ -1,7 +1,7 @@
 -- The least table with the marks of an automaton.
 use Rattle.std.specs.Prelude.{◌≡◌, ◌*◌, ℕ, List, length, Result, Ok, Err}
 use Rattle.rbbi_model.specs.Tables.{Table, CategoryRange, row_along}
-use Rattle.rbbi_model.specs.ValidTables.{IsWay, AreValidLists, AreValidRows, AreFronted}
+use Rattle.rbbi_model.specs.ValidTables.{IsWay, AreValidLists, AreValidRows, AreFronted, IsValidTable}
 use Rattle.rbbi_model.specs.Marks.{marks_of}
 use Rattle.rbbi_model.specs.Compiled.{IsLeast}
 use Rattle.rbbi_dfa.specs.Partitions.{NeedsRows}
@@ -32,3 +32,13 @@ GivesLeast automaton (Err Memory) = Unit {0}
 -- the table with these ranges and safe pairs in place of its own
 abbrev pub finished : Table → List CategoryRange → List ℕ → Table
 finished table ranges safe = record table { ranges = ranges; safe = safe }
+
+-- The automaton's least table with these ranges and all safe pairs, or too many rows exactly where more than 4,095 are needed, row 0
+-- counted. Want of memory tells nothing.
+abbrev pub GivesTable : Table → List CategoryRange → Result Table BuildErr → Type 0
+GivesTable automaton ranges (Ok table) =
+    (least : Table) × IsLeastOf automaton least × (table ≡ finished least ranges table.safe) × IsValidTable table
+GivesTable automaton ranges (Err TooManySets) = ⊥
+GivesTable automaton ranges (Err TooManyRows) = NeedsRows automaton 4095
+GivesTable automaton ranges (Err TooManyStatuses) = ⊥
+GivesTable automaton ranges (Err Memory) = Unit {0}

@@ -3,34 +3,8 @@ ghost use Rattle.std.specs.Prelude.{◌≡◌, ◌<◌, length};
 ghost use Rattle.rbbi_model.specs.Tables.{head_of, step};
 ghost use Rattle.rbbi_dfa.specs.Automata.{IsDetermined};
 
+pub(crate) use rbbi_table::RowHead as Head;
 use std::marker::Model;
-
-/// What is marked at a row: its accept number, its front mask and the number of its status list, as
-/// in a table. Contracts see it as a `RowHead` of `rbbi_model`.
-#[derive(Clone, Copy, Debug, PartialEq, Eq)]
-pub(crate) struct Head {
-    pub accept: u16,
-    pub fronts: u32,
-    pub list: u16,
-}
-
-impl Model for Head {
-    ghost use Rattle.rbbi_model.specs.Tables.{RowHead};
-
-    ghost Value = { RowHead };
-
-    ghost view = { λ head. record {
-      accept = head.accept;
-      fronts = head.fronts;
-      list = head.list;
-    } };
-
-    ghost inverse = { λ head. record {
-      accept = head.accept;
-      fronts = head.fronts;
-      list = head.list;
-    } };
-}
 
 /// A determinised automaton. Rows are numbered as in a table: row 0 is the stop row, row 1 the start.
 /// Contracts see it as a table that has no ranges and no safe pairs. Rows that can't be told apart are

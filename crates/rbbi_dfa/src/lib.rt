@@ -7,5 +7,6 @@ mod error;
 mod laws;
 mod least;
 mod minimize;
+mod table;
 
 pub use error::BuildErr;
