@@ -17,4 +17,4 @@ returns-clause-safe c =
     let inside = c.least.inside in
     let pairs = subst (λ (rows : List RowHead). ArePairsOf (rows_of inside.categories rows c.deref-2.result.now c.in_ok-safe.safe)) (c.deref.ensures.value ∙ sym c.from_vec.ensures) c.in_ok-safe.ensures in
     ArePairsOf-parts inside.categories inside.slashes c.args.ranges c.in_ok-lists.lists c.from_vec.result c.from_vec-2.result c.in_ok-safe.safe
-      (subst (λ (cells : List ℕ). ArePairsOf (rows_of inside.categories c.from_vec.result cells c.in_ok-safe.safe)) (c.deref-2.ensures.value ∙ sym c.from_vec-2.ensures) pairs)
+    (subst (λ (cells : List ℕ). ArePairsOf (rows_of inside.categories c.from_vec.result cells c.in_ok-safe.safe)) (c.deref-2.ensures.value ∙ sym c.from_vec-2.ensures) pairs)
