@@ -101,17 +101,17 @@ fn table_of(rt: &impl Abort, alloc: Global, sample: &Sample) -> Result<Table, Ta
 
 /// The searches from 0 on: for each the boundary, its list and the look end.
 fn searches<L: Ledger>(
-    alloc: Global,
+    rt: &HostRuntime,
     table: &Table,
-    text: &str,
+    text: &PlainText,
     blank: Blank,
 ) -> Result<Vec<u32>, Fail>
     requires name { blank.name ≡ L.name }
     requires parts { blank.parts ≡ L.parts }
     requires some { 0 < blank.parts }
 {
-    let mut steps = Steps::<L>::new(blank);
-    let text = PlainText::new(alloc, text)?;
+    let alloc = rt.alloc();
+    let mut steps = Steps::<L>::new(rt, blank);
     let mut marks = Marks::new(alloc, table)?;
     let mut found = Vec::new(alloc);
     let mut at = 0;
@@ -119,7 +119,7 @@ fn searches<L: Ledger>(
         if at >= text.len() {
             break;
         }
-        let next = table.next(&text, at, &mut marks, &mut steps);
+        let next = table.next(text, at, &mut marks, &mut steps);
         at = next.at;
         found.push(next.at)?;
         found.push(u32::from(next.status))?;
@@ -149,7 +149,8 @@ fn parts_that_make_a_table(rt: HostRuntime) -> Result<(), Fail> {
     ];
     for (sample, text, wanted) in rows {
         let table = table_of(&rt, alloc, &sample)?;
-        let found = searches::<Brand>(alloc, &table, text, Blank::new(1))?;
+        let plain = PlainText::new(alloc, text)?;
+        let found = searches::<Brand>(&rt, &table, &plain, Blank::new(1))?;
         assert_eq!(rt; found.as_slice(), wanted, "in {text:?}");
     }
     Ok(())
@@ -230,7 +231,7 @@ fn parts_that_make_none(rt: HostRuntime) -> Result<(), Fail> {
     ];
     for (sample, label) in rows {
         match table_of(&rt, alloc, &sample) {
-            Ok(_) => assert!(rt; false, "{label} is wanted"),
+            Ok(_) => assert!(rt; false),
             Err(error) => {
                 assert_eq!(rt; error.label(), label);
                 assert_eq!(rt; error.place(), None);
