@@ -1,2 +1,17 @@
 pub mod RuleTrees
 pub mod RuleLists
+pub mod SetValues
+pub mod Meanings
+pub mod Contexts
+pub mod Expressions
+pub mod Parts
+pub mod Emptiness
+pub mod Faults
+pub mod Files
+pub mod Counts
+pub mod Refusals
+pub mod Summaries
+pub mod Scopes
+pub mod Outcomes
+pub mod Questions
+pub mod SetsSoFar

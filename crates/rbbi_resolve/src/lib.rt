@@ -2,6 +2,24 @@
 //! least fault.
 #![tactic(auto)]
 
+mod build;
+mod check;
+mod counts;
+mod error;
+mod fault;
+mod file;
+mod joining;
+mod outcome;
+mod properties;
 mod rules;
+mod scope;
+mod set_value;
+mod so_far;
+mod summary;
+#[cfg(test)]
+mod tests;
+mod variables;
 
+pub use error::ResolveErr;
+pub use outcome::resolve;
 pub use rules::{Rule, Rules, SetList, Tree, Trees};

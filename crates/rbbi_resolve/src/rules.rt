@@ -102,6 +102,16 @@ impl Model for Rules {
 }
 
 impl Rules {
+    /// These rules with these sets, and so many leaves and rules with a rest.
+    pub(crate) fn new(rules: Vec<Rule>, sets: Vec<CodeSet>, leaves: u32, slashes: u32) -> Rules {
+        Rules {
+            rules,
+            sets: SetList { items: sets },
+            leaves,
+            slashes,
+        }
+    }
+
     /// The number of rules.
     pub fn len(&self) -> usize
         ensures value { result ≡ length self.now.rules }

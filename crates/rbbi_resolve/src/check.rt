@@ -1,0 +1,299 @@
+//! The faults of expressions, and their counts.
+ghost use Rattle.std.specs.Prelude.{◌≡◌, ◌+◌, ℕ, List, Option, Some, None, IfOk, OnOk, IsTrue, ◌↔◌, [], ◌∷◌};
+ghost use Rattle.rbbi_model.specs.Words.{IsSurrogate};
+ghost use Rattle.rbbi_model.specs.Ranges.{Has};
+ghost use Rattle.rbbi_model.specs.SetTrees as model;
+ghost use Rattle.rbbi_props.specs.Rows.{File};
+ghost use Rattle.rbbi_tree.specs.Trees.{name as named_atom, property as property_atom, set as set_atom, placed};
+ghost use Rattle.rbbi_tree.specs.declared.syntax.Quant.{Quant};
+ghost use Rattle.rbbi_tree.specs.Values.{expr_tree, seq_tree, item_tree, atom_tree, set_tree};
+ghost use Rattle.rbbi_resolve.specs.SetValues.{IsValue, value_of_set, value_of_property};
+ghost use Rattle.rbbi_resolve.specs.Contexts as contexts;
+ghost use Rattle.rbbi_resolve.specs.Contexts.{value_of_name, variable_of};
+ghost use Rattle.rbbi_resolve.specs.Expressions.{meaning_of_expr, meaning_of_seq, meaning_of_item, meaning_of_atom, meaning_of_variable, height_of_expr, height_of_seq, height_of_item, height_of_atom, height_of_variable, variable_for};
+ghost use Rattle.rbbi_resolve.specs.Parts.{Outside, parts_of_expr, parts_of_seq, parts_of_item};
+ghost use Rattle.rbbi_resolve.specs.Faults.{noted_parts, is_empty_value};
+ghost use Rattle.rbbi_resolve.specs.Scopes.{IsScope, IsKindOf, context_of};
+ghost use Rattle.rbbi_resolve.specs.Summaries.{Summarizes};
+
+use crate::fault::{Fault, note, note_where};
+use crate::properties::Properties;
+use crate::scope::Scope;
+use crate::set_value::value_of_set;
+use crate::variables::{Kind, Summary};
+use rbbi_sets::CodeSet;
+use rbbi_text::Word;
+use rbbi_tree::{Atom, Expr, Item, Quant, Seq, SetExpr};
+use std::alloc::{AllocError, Global};
+
+/// Notes the faults of an expression, and counts it.
+#[cycle(check)]
+pub(crate) fn check_expr(
+    alloc: Global,
+    scope: &Scope,
+    properties: &mut Properties,
+    least: &mut Option<Fault>,
+    expr: &Expr,
+) -> Result<Summary, AllocError>
+    requires { IsScope properties.old scope.now }
+    ensures noted { OnOk result (least.new ≡ noted_parts (context_of properties.old scope.now) least.old
+        (parts_of_expr (expr_tree expr.now))) }
+    ensures counts { IfOk result (λ summary. Summarizes summary
+        (meaning_of_expr (context_of properties.old scope.now) (expr_tree expr.now))
+        (height_of_expr (context_of properties.old scope.now) (expr_tree expr.now))) }
+    ensures same { properties.new ≡ properties.old }
+{
+    let mut whole = Summary::never();
+    for seq in &expr.items {
+        let part = check_seq(alloc, scope, properties, least, seq)?;
+        whole = whole.or(part);
+    }
+    Ok(if expr.items.len() > 1 {
+        whole.higher()
+    } else {
+        whole
+    })
+}
+
+/// Notes the faults of a sequence, and counts it.
+#[cycle(check)]
+fn check_seq(
+    alloc: Global,
+    scope: &Scope,
+    properties: &mut Properties,
+    least: &mut Option<Fault>,
+    seq: &Seq,
+) -> Result<Summary, AllocError>
+    requires { IsScope properties.old scope.now }
+    ensures noted { OnOk result (least.new ≡ noted_parts (context_of properties.old scope.now) least.old
+        (parts_of_seq (seq_tree seq.now))) }
+    ensures counts { IfOk result (λ summary. Summarizes summary
+        (meaning_of_seq (context_of properties.old scope.now) (seq_tree seq.now))
+        (height_of_seq (context_of properties.old scope.now) (seq_tree seq.now))) }
+    ensures same { properties.new ≡ properties.old }
+{
+    let mut whole = Summary::empty();
+    for item in &seq.items {
+        let part = check_item(alloc, scope, properties, least, item)?;
+        whole = whole.then(part);
+    }
+    Ok(if seq.items.len() > 1 {
+        whole.higher()
+    } else {
+        whole
+    })
+}
+
+/// Notes the faults of an item, and counts it.
+#[cycle(check)]
+fn check_item(
+    alloc: Global,
+    scope: &Scope,
+    properties: &mut Properties,
+    least: &mut Option<Fault>,
+    item: &Item,
+) -> Result<Summary, AllocError>
+    requires { IsScope properties.old scope.now }
+    ensures noted { OnOk result (least.new ≡ noted_parts (context_of properties.old scope.now) least.old
+        (parts_of_item (item_tree item.now))) }
+    ensures counts { IfOk result (λ summary. Summarizes summary
+        (meaning_of_item (context_of properties.old scope.now) (item_tree item.now))
+        (height_of_item (context_of properties.old scope.now) (item_tree item.now))) }
+    ensures same { properties.new ≡ properties.old }
+{
+    let atom = check_atom(alloc, scope, properties, least, item.place, &item.atom)?;
+    Ok(atom.repeated(item.quant))
+}
+
+/// Notes the faults of an atom, and counts it.
+#[cycle(check)]
+fn check_atom(
+    alloc: Global,
+    scope: &Scope,
+    properties: &mut Properties,
+    least: &mut Option<Fault>,
+    place: u32,
+    atom: &Atom,
+) -> Result<Summary, AllocError>
+    requires { IsScope properties.old scope.now }
+    ensures noted { OnOk result ((quant : Quant) → least.new ≡ noted_parts (context_of properties.old scope.now) least.old
+        (parts_of_item (placed place (atom_tree atom.now) quant))) }
+    ensures counts { IfOk result (λ summary. Summarizes summary
+        (meaning_of_atom (context_of properties.old scope.now) (atom_tree atom.now))
+        (height_of_atom (context_of properties.old scope.now) (atom_tree atom.now))) }
+    ensures same { properties.new ≡ properties.old }
+{
+    match atom {
+        Atom::Char { bare, .. } => {
+            note_where(least, *bare && scope.quoted_only, place, 10);
+            Ok(Summary::leaf())
+        }
+        Atom::Quoted(word) => Ok(Summary::of_word(word)),
+        Atom::Any => Ok(Summary::leaf()),
+        Atom::Name(name) => Ok(check_name(scope, least, place, name)),
+        Atom::Prop {
+            negated,
+            name,
+            value,
+        } => {
+            check_property(alloc, properties, least, place, *negated, name, value)?;
+            Ok(Summary::leaf())
+        }
+        Atom::Set(set) => {
+            check_set(alloc, scope, properties, least, place, set)?;
+            Ok(Summary::leaf())
+        }
+        Atom::Group(inner) => {
+            let whole = check_expr(alloc, scope, properties, least, inner)?;
+            Ok(whole.higher())
+        }
+    }
+}
+
+/// Counts a variable, and notes where it is undefined.
+fn check_name(scope: &Scope, least: &mut Option<Fault>, place: u32, name: &Word) -> Summary
+    ensures noted { (files : List File) → IsScope files scope.now
+        → least.new ≡ noted_parts (context_of files scope.now) least.old (Outside place (named_atom name.now) ∷ []) }
+    ensures counts { (files : List File) → IsScope files scope.now → Summarizes result
+        (meaning_of_variable (variable_of (context_of files scope.now) name.now))
+        (height_of_variable (variable_of (context_of files scope.now) name.now)) }
+{
+    match scope.variable(name) {
+        Some(variable) => summary_of(&variable.kind),
+        None => {
+            note(least, place, 5);
+            Summary::never()
+        }
+    }
+}
+
+/// The counts of a variable, used as an atom.
+fn summary_of(kind: &Kind) -> Summary
+    ensures { (files : List File) (variable : contexts.Variable) → IsKindOf files kind.now variable
+        → Summarizes result (meaning_of_variable (Some variable)) (height_of_variable (Some variable)) }
+{
+    match kind {
+        Kind::Set(_) => Summary::leaf(),
+        Kind::Expression(summary) => summary.higher(),
+    }
+}
+
+/// The value of a property that stands as an atom. Notes where it is unknown or holds no character.
+fn check_property(
+    alloc: Global,
+    properties: &mut Properties,
+    least: &mut Option<Fault>,
+    place: u32,
+    negated: bool,
+    name: &Word,
+    value: &Option<Word>,
+) -> Result<Option<CodeSet>, AllocError>
+    ensures noted { OnOk result ((context : contexts.Context) → context.files ≡ properties.old
+        → least.new ≡ noted_parts context least.old (Outside place (property_atom negated name.now value.now) ∷ [])) }
+    ensures value { IfOk result (λ set.
+        IsValue properties.old (value_of_property properties.old negated name.now value.now) set) }
+    ensures same { properties.new ≡ properties.old }
+{
+    let set = properties.set_of(alloc, negated, name, value)?;
+    note_where(least, set.is_none(), place, 7);
+    note_where(least, is_empty_value(&set), place, 9);
+    Ok(set)
+}
+
+/// The value of a set that stands as an atom. Notes the faults in it, and where it holds no character.
+fn check_set(
+    alloc: Global,
+    scope: &Scope,
+    properties: &mut Properties,
+    least: &mut Option<Fault>,
+    place: u32,
+    set: &SetExpr,
+) -> Result<Option<CodeSet>, AllocError>
+    requires { IsScope properties.old scope.now }
+    ensures noted { OnOk result ((quant : Quant) → least.new ≡ noted_parts (context_of properties.old scope.now) least.old
+        (parts_of_item (placed place (set_atom (set_tree set.now)) quant))) }
+    ensures value { IfOk result (λ value. IsValue properties.old
+        (value_of_set properties.old (value_of_name (context_of properties.old scope.now)) (set_tree set.now)) value) }
+    ensures same { properties.new ≡ properties.old }
+{
+    let value = value_of_set(alloc, scope, properties, least, set)?;
+    note_where(least, is_empty_value(&value), place, 9);
+    Ok(value)
+}
+
+/// Whether a set has a value and holds no character.
+fn is_empty_value(value: &Option<CodeSet>) -> bool
+    ensures { (files : List File) (tree : Option model.SetTree) → IsValue files tree value.now
+        → result ≡ is_empty_value files tree }
+{
+    match value {
+        Some(set) => !holds_character(set),
+        None => false,
+    }
+}
+
+/// Whether a set holds a character, and not surrogates alone.
+fn holds_character(set: &CodeSet) -> bool
+    ensures { IsTrue result ↔ ((c : ℕ) × Has set.now c × ¬ IsSurrogate c) }
+{
+    for range in set.ranges() {
+        if range.low < 0xD800 || range.high > 0xDFFF {
+            return true;
+        }
+    }
+    false
+}
+
+/// Notes the faults of an expression that is assigned, and tells what it makes of its name.
+pub(crate) fn check_definition(
+    alloc: Global,
+    scope: &Scope,
+    properties: &mut Properties,
+    least: &mut Option<Fault>,
+    expr: &Expr,
+) -> Result<Kind, AllocError> {
+    if let Some(item) = lone_item(expr) {
+        match &item.atom {
+            Atom::Prop {
+                negated,
+                name,
+                value,
+            } => {
+                let set = check_property(
+                    alloc, properties, least, item.place, *negated, name, value,
+                )?;
+                return Ok(Kind::Set(set));
+            }
+            Atom::Set(set) => {
+                let value = check_set(alloc, scope, properties, least, item.place, set)?;
+                return Ok(Kind::Set(value));
+            }
+            Atom::Name(name) => {
+                if let Some(variable) = scope.variable(name) {
+                    if let Kind::Set(value) = &variable.kind {
+                        return Ok(Kind::Set(value.clone()?));
+                    }
+                }
+            }
+            Atom::Char { .. } | Atom::Quoted(_) | Atom::Any | Atom::Group(_) => {}
+        }
+    }
+    let summary = check_expr(alloc, scope, properties, least, expr)?;
+    Ok(Kind::Expression(summary))
+}
+
+/// The one item of an expression that is a single atom with no quantifier.
+fn lone_item(expr: &Expr) -> Option<&Item> {
+    if expr.items.len() != 1 {
+        return None;
+    }
+    let seq = &expr.items[0];
+    if seq.items.len() != 1 {
+        return None;
+    }
+    let item = &seq.items[0];
+    match item.quant {
+        Quant::Once => Some(item),
+        Quant::Star | Quant::Plus | Quant::Quest => None,
+    }
+}

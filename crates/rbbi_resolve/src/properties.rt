@@ -1,0 +1,224 @@
+//! The sets of properties, each looked up once.
+ghost use Rattle.std.specs.Prelude.{◌≡◌, IfOk, IfSome, IsTrue};
+ghost use Rattle.rbbi_props.specs.Lookups.{IsSetOf};
+ghost use Rattle.rbbi_resolve.specs.SetValues.{IsValue, value_of_property, found};
+ghost use Rattle.rbbi_resolve.specs.Questions.{IsFor, IsAnswer};
+ghost use Rattle.std.specs.Prelude.{string_bytes, chars, option_map};
+
+use indexmap::IndexMap;
+use rbbi_props::PropTable;
+use rbbi_sets::CodeSet;
+use rbbi_text::Word;
+use std::alloc::{AllocError, Global};
+use std::marker::Model;
+
+/// A property that was asked for, and what was found.
+#[derive(Debug, Drop)]
+struct Answer {
+    negated: bool,
+    name: String,
+    value: Option<String>,
+    set: Option<CodeSet>,
+}
+
+impl Answer {
+    /// Whether this is the answer for a property.
+    fn is_for(&self, negated: bool, name: &Word, value: &Option<Word>) -> bool
+        ensures { IsTrue result → IsFor self.now negated name.now value.now }
+    {
+        self.negated == negated
+            && self.name.as_str() == name.as_str()
+            && is_text_of(&self.value, value)
+    }
+}
+
+/// Whether both are absent, or the text is that of the word.
+fn is_text_of(text: &Option<String>, word: &Option<Word>) -> bool
+    ensures { IsTrue result → option_map (λ t. chars (string_bytes t)) text.now ≡ word.now }
+{
+    match text {
+        Some(text) => match word {
+            Some(word) => text.as_str() == word.as_str(),
+            None => false,
+        },
+        None => word.is_none(),
+    }
+}
+
+/// The sets of properties, by a table of property files and the database.
+///
+/// What was found is kept, so that each property is looked up once however often it is written.
+#[derive(Drop)]
+pub(crate) struct Properties<'a> {
+    table: &'a PropTable,
+    /// What was found for each property so far, by a text that is made of its name and value.
+    answers: IndexMap<String, Answer>,
+}
+
+impl<'a> Model for Properties<'a> {
+    ghost use Rattle.std.specs.Prelude.{List};
+    ghost use Rattle.rbbi_props.specs.Rows.{File};
+
+    ghost Value = { List File };
+
+    ghost use Rattle.std.specs.HashMap.{values};
+    ghost use Rattle.std.specs.List.{All};
+    ghost use Rattle.rbbi_resolve.specs.Questions.{IsAnswer};
+
+    ghost view = { λ properties. properties.table.now };
+
+    ghost invariant = { λ properties. All (IsAnswer properties.table.now) (values properties.answers) };
+}
+
+impl<'a> Properties<'a> {
+    /// The properties of a table.
+    pub(crate) fn new(alloc: Global, table: &'a PropTable) -> Properties<'a>
+        ensures { result ≡ table.now }
+    {
+        Properties {
+            table,
+            answers: IndexMap::new(alloc),
+        }
+    }
+
+    /// The set of a property, and None where it is unknown.
+    pub(crate) fn set_of(
+        &mut self,
+        alloc: Global,
+        negated: bool,
+        name: &Word,
+        value: &Option<Word>,
+    ) -> Result<Option<CodeSet>, AllocError>
+        ensures value { IfOk result (λ set.
+            IsValue self.old (value_of_property self.old negated name.now value.now) set) }
+        ensures same { self.new ≡ self.old }
+    {
+        let key = key_of(alloc, negated, name, value)?;
+        if let Some(set) = self.kept(alloc, key.as_str(), negated, name, value)? {
+            return Ok(set);
+        }
+        let answer = answer_for(alloc, self.table, negated, name, value)?;
+        let copy = copy_of(alloc, &answer.set)?;
+        self.answers.insert(key, answer)?;
+        Ok(copy)
+    }
+
+    /// What was found for a property before, if it was asked for under this key.
+    fn kept(
+        &self,
+        alloc: Global,
+        key: &str,
+        negated: bool,
+        name: &Word,
+        value: &Option<Word>,
+    ) -> Result<Option<Option<CodeSet>>, AllocError>
+        ensures { IfOk result (λ kept. IfSome kept (λ set.
+            IsValue self.now (value_of_property self.now negated name.now value.now) set)) }
+    {
+        match self.answers.get(key) {
+            Some(answer) => {
+                if answer.is_for(negated, name, value) {
+                    let set = copy_of(alloc, &answer.set)?;
+                    Ok(Some(set))
+                } else {
+                    Ok(None)
+                }
+            }
+            None => Ok(None),
+        }
+    }
+}
+
+/// A text for a property, another one for each name, value and sign.
+fn key_of(
+    alloc: Global,
+    negated: bool,
+    name: &Word,
+    value: &Option<Word>,
+) -> Result<String, AllocError> {
+    let mut key = String::from_str(alloc, if negated { "^" } else { "" })?;
+    key.push_str(name.as_str())?;
+    if let Some(value) = value {
+        key.push_str("=")?;
+        key.push_str(value.as_str())?;
+    }
+    Ok(key)
+}
+
+/// The answer for a property, by a look-up.
+fn answer_for(
+    alloc: Global,
+    table: &PropTable,
+    negated: bool,
+    name: &Word,
+    value: &Option<Word>,
+) -> Result<Answer, AllocError>
+    ensures is_for { IfOk result (λ answer. IsFor answer negated name.now value.now) }
+    ensures right { IfOk result (IsAnswer table.now) }
+{
+    let set = find(alloc, table, negated, name, value)?;
+    Ok(Answer {
+        negated,
+        name: String::from_str(alloc, name.as_str())?,
+        value: text_of(alloc, value)?,
+        set,
+    })
+}
+
+/// A copy of a set that may be absent.
+pub(crate) fn copy_of(_alloc: Global, set: &Option<CodeSet>) -> Result<Option<CodeSet>, AllocError>
+    ensures { IfOk result (λ copy. copy ≡ set.now) }
+{
+    match set {
+        Some(set) => Ok(Some(set.clone()?)),
+        None => Ok(None),
+    }
+}
+
+/// A copy of a word that may be absent.
+fn text_of(alloc: Global, word: &Option<Word>) -> Result<Option<String>, AllocError>
+    ensures { IfOk result (λ text. option_map (λ t. chars (string_bytes t)) text ≡ word.now) }
+{
+    match word {
+        Some(word) => Ok(Some(String::from_str(alloc, word.as_str())?)),
+        None => Ok(None),
+    }
+}
+
+/// The set of a property by a look-up, and None where it is unknown.
+fn find(
+    alloc: Global,
+    table: &PropTable,
+    negated: bool,
+    name: &Word,
+    value: &Option<Word>,
+) -> Result<Option<CodeSet>, AllocError>
+    ensures { IfOk result (λ set.
+        IsValue table.now (value_of_property table.now negated name.now value.now) set) }
+{
+    match own_set(alloc, table, name, value)? {
+        Some(set) => {
+            if negated {
+                Ok(Some(set.complement(alloc)?))
+            } else {
+                Ok(Some(set))
+            }
+        }
+        None => Ok(None),
+    }
+}
+
+/// The code points of a property that isn't negated.
+fn own_set(
+    alloc: Global,
+    table: &PropTable,
+    name: &Word,
+    value: &Option<Word>,
+) -> Result<Option<CodeSet>, AllocError>
+    ensures { IfOk result (λ set. IsSetOf set (found table.now name.now value.now)) }
+{
+    match value {
+        Some(value) => table.lookup(alloc, name.as_str(), Some(value.as_str())),
+        None => table.lookup(alloc, name.as_str(), None),
+    }
+}

@@ -1,0 +1,39 @@
+//! What an expression may use.
+ghost use Rattle.std.specs.Prelude.{◌≡◌, encode_utf8_all};
+ghost use Rattle.std.specs.Option.{option_copied};
+ghost use Rattle.std.specs.HashMap.{get_by_text};
+ghost use Rattle.rbbi_resolve.specs.Scopes.{visible};
+
+use crate::variables::{Variable, Variables};
+use rbbi_text::Word;
+use rbbi_tree::Statements;
+
+/// What an expression may use: the variables that are assigned before the statement with the number
+/// `limit`.
+#[derive(Clone, Copy)]
+pub(crate) struct Scope<'a> {
+    pub(crate) statements: &'a Statements,
+    pub(crate) variables: &'a Variables,
+    pub(crate) limit: usize,
+    /// Whether only quoted characters may stand outside of sets.
+    pub(crate) quoted_only: bool,
+}
+
+impl<'a> Scope<'a> {
+    /// The variable of this name, where a statement before the limit assigns it.
+    pub(crate) fn variable(&self, name: &Word) -> Option<&'a Variable>
+        ensures { option_copied result ≡ visible self.now.limit
+            (get_by_text self.now.variables.now (encode_utf8_all name.now)) }
+    {
+        match self.variables.get(name.as_str()) {
+            Some(variable) => {
+                if variable.statement < self.limit {
+                    Some(variable)
+                } else {
+                    None
+                }
+            }
+            None => None,
+        }
+    }
+}

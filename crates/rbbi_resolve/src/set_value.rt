@@ -1,0 +1,148 @@
+//! The value of a set, and the faults in it.
+ghost use Rattle.std.specs.Prelude.{◌≡◌, List, Option, IfOk, OnOk, [], ◌∷◌};
+ghost use Rattle.rbbi_model.specs.SetTrees as model;
+ghost use Rattle.rbbi_props.specs.Rows.{File};
+ghost use Rattle.rbbi_tree.specs.Trees.{set_name};
+ghost use Rattle.rbbi_tree.specs.Values.{set_tree, part_tree};
+ghost use Rattle.rbbi_resolve.specs.SetValues.{IsValue, joined_to, value_of_set, value_of_part};
+ghost use Rattle.rbbi_resolve.specs.SetsSoFar.{IsSoFar};
+ghost use Rattle.rbbi_resolve.specs.Contexts.{value_of_name};
+ghost use Rattle.rbbi_resolve.specs.Parts.{Within, parts_of_set, parts_of_part};
+ghost use Rattle.rbbi_resolve.specs.Faults.{noted_parts};
+ghost use Rattle.rbbi_resolve.specs.Scopes.{IsScope, context_of};
+
+use crate::fault::{Fault, note};
+use crate::properties::Properties;
+use crate::scope::Scope;
+use crate::so_far::SoFar;
+use crate::variables::Kind;
+use rbbi_sets::CodeSet;
+use rbbi_text::Word;
+use rbbi_tree::{Join, SetExpr, SetItem, SetPart};
+use std::alloc::{AllocError, Global};
+
+/// The value of a set, and None where a part of it has none. The faults of its parts are noted.
+#[cycle(sets)]
+pub(crate) fn value_of_set(
+    alloc: Global,
+    scope: &Scope,
+    properties: &mut Properties,
+    least: &mut Option<Fault>,
+    set: &SetExpr,
+) -> Result<Option<CodeSet>, AllocError>
+    requires { IsScope properties.old scope.now }
+    ensures value { IfOk result (λ value. IsValue properties.old
+        (value_of_set properties.old (value_of_name (context_of properties.old scope.now)) (set_tree set.now)) value) }
+    ensures noted { OnOk result (least.new ≡ noted_parts (context_of properties.old scope.now) least.old
+        (parts_of_set (set_tree set.now))) }
+    ensures same { properties.new ≡ properties.old }
+{
+    let mut so_far = SoFar::new(alloc);
+    for part in &set.parts.items {
+        join_part(alloc, scope, properties, least, &mut so_far, part)?;
+    }
+    let value = so_far.finish(alloc, set.negated)?;
+    Ok(value)
+}
+
+/// Joins a part to what stands to its left, and notes its faults.
+#[cycle(sets)]
+#[tactic(auto, using(crate::proofs::Noting::noted_parts_of_append))]
+fn join_part(
+    alloc: Global,
+    scope: &Scope,
+    properties: &mut Properties,
+    least: &mut Option<Fault>,
+    so_far: &mut SoFar,
+    part: &SetPart,
+) -> Result<(), AllocError>
+    requires { IsScope properties.old scope.now }
+    ensures joined { OnOk result ((left : Option model.SetTree) → IsSoFar properties.old left so_far.old
+        → IsSoFar properties.old (value_of_part properties.old
+        (value_of_name (context_of properties.old scope.now)) left (part_tree part.now)) so_far.new) }
+    ensures noted { OnOk result (least.new ≡ noted_parts (context_of properties.old scope.now) least.old
+        (parts_of_part (part_tree part.now))) }
+    ensures same { properties.new ≡ properties.old }
+{
+    match &part.item {
+        SetItem::Char(c) => so_far.join_char(alloc, part.join, *c),
+        SetItem::Range(first, last) => {
+            let low = *first as u32;
+            let high = *last as u32;
+            if low <= high {
+                return so_far.join_range(alloc, part.join, low, high);
+            }
+            note(least, part.place, 8);
+            so_far.spoil();
+            Ok(())
+        }
+        SetItem::Name(name) => join_name(alloc, scope, least, so_far, part.place, part.join, name),
+        SetItem::Prop {
+            negated,
+            name,
+            value,
+        } => {
+            let set = properties.set_of(alloc, *negated, name, value)?;
+            if set.is_none() {
+                note(least, part.place, 7);
+            }
+            join_value(alloc, so_far, part.join, &set)
+        }
+        SetItem::Set(inner) => {
+            let set = value_of_set(alloc, scope, properties, least, inner)?;
+            join_value(alloc, so_far, part.join, &set)
+        }
+    }
+}
+
+/// Joins a set that may have no value.
+fn join_value(
+    alloc: Global,
+    so_far: &mut SoFar,
+    join: Join,
+    value: &Option<CodeSet>,
+) -> Result<(), AllocError>
+    ensures { OnOk result ((files : List File) (left item : Option model.SetTree) → IsSoFar files left so_far.old
+        → IsValue files item value.now → IsSoFar files (joined_to join item left) so_far.new) }
+{
+    match value {
+        Some(set) => so_far.join(alloc, join, set),
+        None => {
+            so_far.spoil();
+            Ok(())
+        }
+    }
+}
+
+/// Joins the set of a name, and notes where it has none.
+fn join_name(
+    alloc: Global,
+    scope: &Scope,
+    least: &mut Option<Fault>,
+    so_far: &mut SoFar,
+    place: u32,
+    join: Join,
+    name: &Word,
+) -> Result<(), AllocError>
+    ensures joined { OnOk result ((files : List File) (left : Option model.SetTree) → IsScope files scope.now
+        → IsSoFar files left so_far.old
+        → IsSoFar files (joined_to join (value_of_name (context_of files scope.now) name.now) left) so_far.new) }
+    ensures noted { OnOk result ((files : List File) → IsScope files scope.now
+        → least.new ≡ noted_parts (context_of files scope.now) least.old (Within place (set_name name.now) ∷ [])) }
+{
+    match scope.variable(name) {
+        Some(variable) => match &variable.kind {
+            Kind::Set(value) => join_value(alloc, so_far, join, value),
+            Kind::Expression(_) => {
+                note(least, place, 6);
+                so_far.spoil();
+                Ok(())
+            }
+        },
+        None => {
+            note(least, place, 5);
+            so_far.spoil();
+            Ok(())
+        }
+    }
+}

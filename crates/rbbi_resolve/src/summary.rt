@@ -1,0 +1,151 @@
+//! Counts of expressions without expanding them.
+ghost use Rattle.std.specs.Prelude.{◌≡◌, ◌+◌, ◌≤◌, ◌&&◌, ◌||◌, ℕ, Bool, true, false, max, length};
+ghost use Rattle.rbbi_resolve.specs.Summaries.{IsCapped, Sums, Summarizes, empty_of_quant};
+ghost use Rattle.rbbi_resolve.specs.Expressions.{word_of, height_of_word, height_of_quant};
+
+use crate::variables::{MANY_LEAVES, Summary, TALL};
+use rbbi_text::Word;
+use rbbi_tree::Quant;
+
+/// The sum of two numbers, but the cap where it is greater.
+fn capped_sum(left: u32, right: u32, cap: u32) -> u32
+    requires left_low { left ≤ 65536 }
+    requires right_low { right ≤ 65536 }
+    ensures within { result ≤ cap }
+    ensures sum { (a b : ℕ) → IsCapped cap a left → IsCapped cap b right → IsCapped cap (a + b) result }
+{
+    let sum = left + right;
+    if sum > cap { cap } else { sum }
+}
+
+/// The greater of two capped numbers.
+fn greater(left: u32, right: u32) -> u32
+    ensures within { (cap : ℕ) → left ≤ cap → right ≤ cap → result ≤ cap }
+    ensures greater { (cap a b : ℕ) → IsCapped cap a left → IsCapped cap b right → IsCapped cap (max a b) result }
+{
+    if left < right { right } else { left }
+}
+
+/// The number of characters of a word.
+fn count_of(word: &Word) -> usize
+    ensures { result ≡ length word.now }
+{
+    word.as_str().chars().count()
+}
+
+/// A number of leaves as it is kept.
+fn capped(count: usize) -> u32
+    ensures { IsCapped 8193 count result }
+{
+    if count < MANY_LEAVES as usize {
+        count as u32
+    } else {
+        MANY_LEAVES
+    }
+}
+
+impl Summary {
+    /// One leaf.
+    pub(crate) fn leaf() -> Summary
+        ensures { Sums result 1 0 false }
+    {
+        Summary {
+            leaves: 1,
+            height: 0,
+            spells_empty: false,
+        }
+    }
+
+    /// No alternative.
+    pub(crate) fn never() -> Summary
+        ensures { Sums result 0 0 false }
+    {
+        Summary {
+            leaves: 0,
+            height: 0,
+            spells_empty: false,
+        }
+    }
+
+    /// The empty word.
+    pub(crate) fn empty() -> Summary
+        ensures { Sums result 0 0 true }
+    {
+        Summary {
+            leaves: 0,
+            height: 0,
+            spells_empty: true,
+        }
+    }
+
+    /// A quoted sequence.
+    pub(crate) fn of_word(word: &Word) -> Summary
+        ensures { Summarizes result (word_of word.now) (height_of_word word.now) }
+    {
+        let len = count_of(word);
+        Summary {
+            leaves: capped(len),
+            height: if len > 1 { 1 } else { 0 },
+            spells_empty: len == 0,
+        }
+    }
+
+    /// One or the other; the height is that of the higher one.
+    pub(crate) fn or(self, other: Summary) -> Summary
+        ensures { (a b h k : ℕ) (e f : Bool) → Sums self a h e → Sums other b k f
+            → Sums result (a + b) (max h k) (e || f) }
+    {
+        Summary {
+            leaves: capped_sum(self.leaves, other.leaves, MANY_LEAVES),
+            height: greater(self.height, other.height),
+            spells_empty: self.spells_empty || other.spells_empty,
+        }
+    }
+
+    /// One after the other; the height is that of the higher one.
+    pub(crate) fn then(self, other: Summary) -> Summary
+        ensures { (a b h k : ℕ) (e f : Bool) → Sums self a h e → Sums other b k f
+            → Sums result (a + b) (max h k) (e && f) }
+    {
+        Summary {
+            leaves: capped_sum(self.leaves, other.leaves, MANY_LEAVES),
+            height: greater(self.height, other.height),
+            spells_empty: self.spells_empty && other.spells_empty,
+        }
+    }
+
+    /// What is higher by 1.
+    pub(crate) fn higher(self) -> Summary
+        ensures { (a h : ℕ) (e : Bool) → Sums self a h e → Sums result a (h + 1) e }
+    {
+        Summary {
+            leaves: self.leaves,
+            height: capped_sum(self.height, 1, TALL),
+            spells_empty: self.spells_empty,
+        }
+    }
+
+    /// What may also be the empty word, and is higher by 1.
+    fn optional(self) -> Summary
+        ensures { (a h : ℕ) (e : Bool) → Sums self a h e → Sums result a (h + 1) true }
+    {
+        Summary {
+            leaves: self.leaves,
+            height: capped_sum(self.height, 1, TALL),
+            spells_empty: true,
+        }
+    }
+
+    /// As often as it stands.
+    pub(crate) fn repeated(self, quant: Quant) -> Summary
+        ensures { (a h : ℕ) (e : Bool) → Sums self a h e
+            → Sums result a (h + height_of_quant quant) (empty_of_quant quant e) }
+    {
+        match quant {
+            Quant::Once => self,
+            Quant::Plus => self.higher(),
+            Quant::Star => self.optional(),
+            Quant::Quest => self.optional(),
+        }
+    }
+}

@@ -1,0 +1,41 @@
+//! The variables of a rule file.
+ghost use Rattle.std.specs.Prelude.{◌≡◌, ◌≤◌};
+
+use indexmap::IndexMap;
+use rbbi_sets::CodeSet;
+
+/// The most leaves that are told apart: one more than rules may have.
+pub(crate) const MANY_LEAVES: u32 = 8193;
+
+/// The greatest height that is told apart: one more than a rule may have.
+pub(crate) const TALL: u32 = 257;
+
+/// What is kept of an expression: how many leaves it has, or `MANY_LEAVES` where it has more; its
+/// height, or `TALL` where it is higher; and whether it spells the empty word.
+#[derive(Clone, Copy, Debug)]
+pub(crate) struct Summary {
+    pub(crate) leaves: u32,
+    pub(crate) height: u32,
+    pub(crate) spells_empty: bool,
+    ghost few_leaves: { leaves ≤ 8193 },
+    ghost not_higher: { height ≤ 257 },
+}
+
+/// What a variable stands for.
+#[derive(Debug, Drop)]
+pub(crate) enum Kind {
+    /// A set, and None where it has no value, since a variable or a part in it is faulty.
+    Set(Option<CodeSet>),
+    /// An expression that is no set.
+    Expression(Summary),
+}
+
+/// A variable, with the number of the statement that assigns it first.
+#[derive(Debug, Drop)]
+pub(crate) struct Variable {
+    pub(crate) statement: usize,
+    pub(crate) kind: Kind,
+}
+
+/// The variables so far, in the order of their assignments.
+pub(crate) type Variables = IndexMap<String, Variable>;
