@@ -5,3 +5,8 @@ pub mod SetJoins
 pub mod Noting
 pub mod SetLoops
 pub mod Answered
+pub mod Named
+pub mod Characters
+pub mod Counting
+pub mod Kept
+pub mod ItemTrees

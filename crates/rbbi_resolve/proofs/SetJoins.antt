@@ -1,5 +1,6 @@
 -- A range that is collected, and the whole at the end.
-use Rattle.std.proofs.Common.{◌≡◌, ℕ, Bool, true, false, ◌⊎◌, ◌↔◌, inl, inr, List, [], ◌∷◌, ◌++◌, Option, Some, None, option_map, ◌≤◌, sym, ◌∙◌, refl, subst, arith}
+use Rattle.std.proofs.Common.{◌≡◌, ℕ, Bool, true, false, ◌⊎◌, ◌↔◌, inl, inr, List, [], ◌∷◌, ◌++◌, Option, Some, None, option_map, ◌<◌, ◌≤◌, cond, leb, sym, ap, ◌∙◌, refl, subst, arith}
+use Rattle.std.proofs.lemmas.Bool.Decides.{nat_tests}
 use Rattle.rbbi_model.specs.Ranges.{Range, Has, InRange}
 use Rattle.rbbi_model.specs.SetTrees as model
 use Rattle.rbbi_sets.specs.Rising.{AreRising}
@@ -7,7 +8,7 @@ use Rattle.rbbi_props.specs.Rows.{File}
 use Rattle.rbbi_tree.specs.declared.syntax.Join.{Join}
 use Rattle.rbbi_tree.specs.declared.syntax.Join.TheVariants.{Add, Both, Minus}
 use Rattle.rbbi_resolve.specs.declared.so_far.SoFar.{SoFar}
-use Rattle.rbbi_resolve.specs.SetValues.{HasProperty, HasMembers, IsValue, join_of, joined_to, signed}
+use Rattle.rbbi_resolve.specs.SetValues.{HasProperty, HasMembers, IsValue, join_of, joined_to, signed, value_of_range}
 use Rattle.rbbi_resolve.specs.SetsSoFar.{IsSoFar, IsJoined}
 use Rattle.rbbi_resolve.proofs.Ranges.{has-append}
 
@@ -87,3 +88,15 @@ pub spoils : (files : List File) (join : Join) (left item : Option model.SetTree
     value ≡ None → so_far.known ≡ false → IsValue files item value → IsSoFar files (joined_to join item left) so_far
 spoils files join left None value so_far none known is = known
 spoils files join left (Some tree) value so_far none known is = absurd (subst (IsValue files (Some tree)) none is)
+
+-- a range whose first character is greater than its last has no value
+pub value_of_falling : (first last : ℕ) → last < first → value_of_range first last ≡ None
+value_of_falling first last falls =
+    let e : leb first last ≡ false = grind (arith, nat_tests) in
+    ap (λ b. cond b (Some (model.Span (record { low = first; high = last }))) None) e
+
+-- any other has the code points from one to the other
+pub value_of_rising : (first last : ℕ) → first ≤ last → value_of_range first last ≡ Some (model.Span (record { low = first; high = last }))
+value_of_rising first last rises =
+    let e : leb first last ≡ true = grind (arith, nat_tests) in
+    ap (λ b. cond b (Some (model.Span (record { low = first; high = last }))) None) e

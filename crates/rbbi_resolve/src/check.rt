@@ -23,7 +23,7 @@ use crate::set_value::value_of_set;
 use crate::variables::{Kind, Summary};
 use rbbi_sets::CodeSet;
 use rbbi_text::Word;
-use rbbi_tree::{Atom, Expr, Item, Quant, Seq, SetExpr};
+use rbbi_tree::{Atom, Expr, Item, Seq, SetExpr};
 use std::alloc::{AllocError, Global};
 
 /// Notes the faults of an expression, and counts it.
@@ -48,11 +48,7 @@ pub(crate) fn check_expr(
         let part = check_seq(alloc, scope, properties, least, seq)?;
         whole = whole.or(part);
     }
-    Ok(if expr.items.len() > 1 {
-        whole.higher()
-    } else {
-        whole
-    })
+    Ok(whole.raised(expr.items.len() > 1))
 }
 
 /// Notes the faults of a sequence, and counts it.
@@ -77,11 +73,7 @@ fn check_seq(
         let part = check_item(alloc, scope, properties, least, item)?;
         whole = whole.then(part);
     }
-    Ok(if seq.items.len() > 1 {
-        whole.higher()
-    } else {
-        whole
-    })
+    Ok(whole.raised(seq.items.len() > 1))
 }
 
 /// Notes the faults of an item, and counts it.
@@ -179,7 +171,7 @@ fn summary_of(kind: &Kind) -> Summary
 }
 
 /// The value of a property that stands as an atom. Notes where it is unknown or holds no character.
-fn check_property(
+pub(crate) fn check_property(
     alloc: Global,
     properties: &mut Properties,
     least: &mut Option<Fault>,
@@ -196,12 +188,13 @@ fn check_property(
 {
     let set = properties.set_of(alloc, negated, name, value)?;
     note_where(least, set.is_none(), place, 7);
-    note_where(least, is_empty_value(&set), place, 9);
+    let is_empty = is_empty_value(alloc, &set)?;
+    note_where(least, is_empty, place, 9);
     Ok(set)
 }
 
 /// The value of a set that stands as an atom. Notes the faults in it, and where it holds no character.
-fn check_set(
+pub(crate) fn check_set(
     alloc: Global,
     scope: &Scope,
     properties: &mut Properties,
@@ -217,83 +210,29 @@ fn check_set(
     ensures same { properties.new ≡ properties.old }
 {
     let value = value_of_set(alloc, scope, properties, least, set)?;
-    note_where(least, is_empty_value(&value), place, 9);
+    let is_empty = is_empty_value(alloc, &value)?;
+    note_where(least, is_empty, place, 9);
     Ok(value)
 }
 
 /// Whether a set has a value and holds no character.
-fn is_empty_value(value: &Option<CodeSet>) -> bool
-    ensures { (files : List File) (tree : Option model.SetTree) → IsValue files tree value.now
-        → result ≡ is_empty_value files tree }
+fn is_empty_value(alloc: Global, value: &Option<CodeSet>) -> Result<bool, AllocError>
+    ensures { IfOk result (λ is_empty. (files : List File) (tree : Option model.SetTree)
+        → IsValue files tree value.now → is_empty ≡ is_empty_value files tree) }
 {
     match value {
-        Some(set) => !holds_character(set),
-        None => false,
+        Some(set) => {
+            let holds = holds_character(alloc, set)?;
+            Ok(!holds)
+        }
+        None => Ok(false),
     }
 }
 
 /// Whether a set holds a character, and not surrogates alone.
-fn holds_character(set: &CodeSet) -> bool
-    ensures { IsTrue result ↔ ((c : ℕ) × Has set.now c × ¬ IsSurrogate c) }
+fn holds_character(alloc: Global, set: &CodeSet) -> Result<bool, AllocError>
+    ensures { IfOk result (λ holds. IsTrue holds ↔ ((c : ℕ) × Has set.now c × ¬ IsSurrogate c)) }
 {
-    for range in set.ranges() {
-        if range.low < 0xD800 || range.high > 0xDFFF {
-            return true;
-        }
-    }
-    false
-}
-
-/// Notes the faults of an expression that is assigned, and tells what it makes of its name.
-pub(crate) fn check_definition(
-    alloc: Global,
-    scope: &Scope,
-    properties: &mut Properties,
-    least: &mut Option<Fault>,
-    expr: &Expr,
-) -> Result<Kind, AllocError> {
-    if let Some(item) = lone_item(expr) {
-        match &item.atom {
-            Atom::Prop {
-                negated,
-                name,
-                value,
-            } => {
-                let set = check_property(
-                    alloc, properties, least, item.place, *negated, name, value,
-                )?;
-                return Ok(Kind::Set(set));
-            }
-            Atom::Set(set) => {
-                let value = check_set(alloc, scope, properties, least, item.place, set)?;
-                return Ok(Kind::Set(value));
-            }
-            Atom::Name(name) => {
-                if let Some(variable) = scope.variable(name) {
-                    if let Kind::Set(value) = &variable.kind {
-                        return Ok(Kind::Set(value.clone()?));
-                    }
-                }
-            }
-            Atom::Char { .. } | Atom::Quoted(_) | Atom::Any | Atom::Group(_) => {}
-        }
-    }
-    let summary = check_expr(alloc, scope, properties, least, expr)?;
-    Ok(Kind::Expression(summary))
-}
-
-/// The one item of an expression that is a single atom with no quantifier.
-fn lone_item(expr: &Expr) -> Option<&Item> {
-    if expr.items.len() != 1 {
-        return None;
-    }
-    let seq = &expr.items[0];
-    if seq.items.len() != 1 {
-        return None;
-    }
-    let item = &seq.items[0];
-    match item.quant {
-        Quant::Once => Some(item),
-        Quant::Star | Quant::Plus | Quant::Quest => None,
-    }
+    let characters = set.without_surrogates(alloc)?;
+    Ok(characters.first().is_some())
 }

@@ -1,7 +1,8 @@
 //! The faults of a rule file, and the counts of its active rules.
 
-use crate::check::{check_definition, check_expr};
+use crate::check::check_expr;
 use crate::counts::Counts;
+use crate::definition::check_definition;
 use crate::fault::{Fault, note_where};
 use crate::properties::Properties;
 use crate::scope::Scope;

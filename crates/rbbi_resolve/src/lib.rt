@@ -5,6 +5,7 @@
 mod build;
 mod check;
 mod counts;
+mod definition;
 mod error;
 mod fault;
 mod file;

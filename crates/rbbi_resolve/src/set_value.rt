@@ -1,17 +1,17 @@
 //! The value of a set, and the faults in it.
-ghost use Rattle.std.specs.Prelude.{◌≡◌, List, Option, IfOk, OnOk, [], ◌∷◌};
+ghost use Rattle.std.specs.Prelude.{◌≡◌, nat_lt, List, Option, IfOk, OnOk, [], ◌∷◌};
 ghost use Rattle.rbbi_model.specs.SetTrees as model;
 ghost use Rattle.rbbi_props.specs.Rows.{File};
 ghost use Rattle.rbbi_tree.specs.Trees.{set_name};
 ghost use Rattle.rbbi_tree.specs.Values.{set_tree, part_tree};
-ghost use Rattle.rbbi_resolve.specs.SetValues.{IsValue, joined_to, value_of_set, value_of_part};
+ghost use Rattle.rbbi_resolve.specs.SetValues.{IsValue, joined_to, value_of_set, value_of_part, value_of_range};
 ghost use Rattle.rbbi_resolve.specs.SetsSoFar.{IsSoFar};
 ghost use Rattle.rbbi_resolve.specs.Contexts.{value_of_name};
 ghost use Rattle.rbbi_resolve.specs.Parts.{Within, parts_of_set, parts_of_part};
-ghost use Rattle.rbbi_resolve.specs.Faults.{noted_parts};
+ghost use Rattle.rbbi_resolve.specs.Faults.{noted, noted_parts, faults_where};
 ghost use Rattle.rbbi_resolve.specs.Scopes.{IsScope, context_of};
 
-use crate::fault::{Fault, note};
+use crate::fault::{Fault, note, note_where};
 use crate::properties::Properties;
 use crate::scope::Scope;
 use crate::so_far::SoFar;
@@ -67,14 +67,7 @@ fn join_part(
     match &part.item {
         SetItem::Char(c) => so_far.join_char(alloc, part.join, *c),
         SetItem::Range(first, last) => {
-            let low = *first as u32;
-            let high = *last as u32;
-            if low <= high {
-                return so_far.join_range(alloc, part.join, low, high);
-            }
-            note(least, part.place, 8);
-            so_far.spoil();
-            Ok(())
+            join_span(alloc, least, so_far, part.place, part.join, *first, *last)
         }
         SetItem::Name(name) => join_name(alloc, scope, least, so_far, part.place, part.join, name),
         SetItem::Prop {
@@ -83,16 +76,41 @@ fn join_part(
             value,
         } => {
             let set = properties.set_of(alloc, *negated, name, value)?;
-            if set.is_none() {
-                note(least, part.place, 7);
-            }
-            join_value(alloc, so_far, part.join, &set)
+            note_where(least, set.is_none(), part.place, 7);
+            join_value(alloc, so_far, part.join, &set)?;
+            Ok(())
         }
         SetItem::Set(inner) => {
             let set = value_of_set(alloc, scope, properties, least, inner)?;
-            join_value(alloc, so_far, part.join, &set)
+            join_value(alloc, so_far, part.join, &set)?;
+            Ok(())
         }
     }
+}
+
+/// Joins a range, and notes where its first character is greater than its last.
+fn join_span(
+    alloc: Global,
+    least: &mut Option<Fault>,
+    so_far: &mut SoFar,
+    place: u32,
+    join: Join,
+    first: char,
+    last: char,
+) -> Result<(), AllocError>
+    ensures joined { OnOk result ((files : List File) (left : Option model.SetTree) → IsSoFar files left so_far.old
+        → IsSoFar files (joined_to join (value_of_range first last) left) so_far.new) }
+    ensures noted { OnOk result (least.new ≡ noted least.old (faults_where (nat_lt last first) place 8)) }
+{
+    let low = first as u32;
+    let high = last as u32;
+    note_where(least, high < low, place, 8);
+    if high < low {
+        so_far.spoil();
+        return Ok(());
+    }
+    so_far.join_range(alloc, join, low, high)?;
+    Ok(())
 }
 
 /// Joins a set that may have no value.

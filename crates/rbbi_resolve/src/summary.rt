@@ -1,5 +1,5 @@
 //! Counts of expressions without expanding them.
-ghost use Rattle.std.specs.Prelude.{◌≡◌, ◌+◌, ◌≤◌, ◌&&◌, ◌||◌, ℕ, Bool, true, false, max, length};
+ghost use Rattle.std.specs.Prelude.{◌≡◌, ◌+◌, ◌≤◌, ◌&&◌, ◌||◌, ℕ, Bool, true, false, max, length, if◌then◌else◌};
 ghost use Rattle.rbbi_resolve.specs.Summaries.{IsCapped, Sums, Summarizes, empty_of_quant};
 ghost use Rattle.rbbi_resolve.specs.Expressions.{word_of, height_of_word, height_of_quant};
 
@@ -123,6 +123,13 @@ impl Summary {
             height: capped_sum(self.height, 1, TALL),
             spells_empty: self.spells_empty,
         }
+    }
+
+    /// What is higher by 1 where it has many parts.
+    pub(crate) fn raised(self, many: bool) -> Summary
+        ensures { (a h : ℕ) (e : Bool) → Sums self a h e → Sums result a (h + (if many then 1 else 0)) e }
+    {
+        if many { self.higher() } else { self }
     }
 
     /// What may also be the empty word, and is higher by 1.
