@@ -10,3 +10,5 @@ pub mod Characters
 pub mod Counting
 pub mod Kept
 pub mod ItemTrees
+pub mod OneMeaning
+pub mod Earliest

@@ -15,3 +15,4 @@ pub mod Scopes
 pub mod Outcomes
 pub mod Questions
 pub mod SetsSoFar
+pub mod Laws

@@ -10,6 +10,7 @@ mod error;
 mod fault;
 mod file;
 mod joining;
+mod laws;
 mod outcome;
 mod properties;
 mod rules;
@@ -22,5 +23,6 @@ mod tests;
 mod variables;
 
 pub use error::ResolveErr;
+pub use laws::{at_most_one_meaning, the_earliest_is_noted};
 pub use outcome::resolve;
 pub use rules::{Rule, Rules, SetList, Tree, Trees};
