@@ -1,0 +1,30 @@
+-- What reading a table file answers, by cases on the answer.
+use Rattle.std.specs.Prelude.{◌≡◌, ◌≢◌, ℕ, ◌<◌, List, length, Result, Ok, Err}
+use Rattle.rbbi_model.specs.Tables.{Table}
+use Rattle.rbbi_model.specs.ValidTables.{IsValidTable}
+use Rattle.rbbi_model.specs.TableFile.{spelling}
+use Rattle.rbbi_table.specs.declared.error.TableErr.{TableErr}
+use Rattle.rbbi_table.specs.declared.error.TableErr.TheVariants as table
+use Rattle.rbbi_table.specs.Parts.{HasFittingParts}
+use Rattle.rbbi_table.specs.Answers.{MakesTable}
+use Rattle.rbbi_file.specs.declared.error.FileErr.{FileErr}
+use Rattle.rbbi_file.specs.declared.error.FileErr.TheVariants.{BadMagic, Short, Trailing, Part, Memory}
+use Rattle.rbbi_file.specs.Lengths.{HasMagic, parts_end, FitsBytes}
+
+-- The bytes spell parts, of which the error tells the first that isn't valid.
+pub record SpellBadParts (bytes : List ℕ) (error : TableErr) : Type 0 where
+  pub parts : Table
+  pub fitting : HasFittingParts parts
+  pub fits : FitsBytes parts
+  pub spelled : bytes ≡ spelling parts
+  pub bad : MakesTable parts (Err error)
+  pub not_memory : error ≢ table.Memory
+
+-- the table that the bytes spell, or the first fault
+abbrev pub ReadsTable : List ℕ → Result Table FileErr → Type 0
+ReadsTable bytes (Ok table) = IsValidTable table × (bytes ≡ spelling table)
+ReadsTable bytes (Err BadMagic) = ¬ HasMagic bytes
+ReadsTable bytes (Err (Short at)) = HasMagic bytes × (length bytes < parts_end bytes) × (at ≡ length bytes)
+ReadsTable bytes (Err (Trailing at)) = HasMagic bytes × (parts_end bytes < length bytes) × (at ≡ parts_end bytes)
+ReadsTable bytes (Err (Part error)) = SpellBadParts bytes error
+ReadsTable bytes (Err Memory) = Unit {0}
