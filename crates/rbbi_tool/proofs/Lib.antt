@@ -5,3 +5,4 @@ pub mod Reading
 pub mod Commands
 pub mod OneOutcome
 pub mod Runs
+pub mod SettingLemmas

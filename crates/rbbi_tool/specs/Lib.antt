@@ -1,5 +1,6 @@
 pub mod Stages
 pub mod Refusals
+pub mod Settings
 pub mod Words
 pub mod Files
 pub mod Reads

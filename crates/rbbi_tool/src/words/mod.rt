@@ -5,6 +5,7 @@ ghost use Rattle.rbbi_tool.specs.Words.{Asks, AreNoForm, BeginsWithoutOption, op
 ghost use Rattle.rbbi_tool.specs.Files.{in_roles};
 
 mod command;
+mod setting;
 
 use crate::files::{Role, Source};
 use crate::name::Name;

@@ -1,0 +1,100 @@
+//! The options between the word of a command and its first operand.
+ghost use Rattle.std.specs.Prelude.{◌≡◌, ◌≢◌, ◌++◌, ◌∷◌, [], ℕ, List, length, codes, map, drop, MatchOption, IfOk};
+ghost use Rattle.std.specs.List.{list_all, list_any};
+ghost use Rattle.std.specs.Char.{is_ascii_alphanumeric};
+ghost use Rattle.std.specs.String.{string_bytes};
+ghost use Rattle.rbbi_tool.specs.declared.words.setting.Setting.{Setting};
+ghost use Rattle.rbbi_tool.specs.Settings as spec;
+
+use crate::name::Name;
+use std::alloc::{AllocError, Global};
+
+/// An option and what it takes.
+#[derive(Debug, Drop)]
+pub(crate) enum Setting {
+    /// Hand in a property file under the name of its property.
+    Property { name: Name, file: Name },
+    /// Let `$dictionary` be a variable like others.
+    IgnoreDictionary,
+}
+
+impl Setting {
+    /// How many words it has.
+    pub(crate) fn words(&self) -> usize
+        ensures { result ≡ length (spec.spelled self.now) }
+    {
+        match self {
+            Setting::Property { .. } => 2,
+            Setting::IgnoreDictionary => 1,
+        }
+    }
+}
+
+fn is_name_byte(byte: u8) -> bool
+    ensures { result ≡ spec.is_name_byte byte }
+{
+    byte.is_ascii_alphanumeric() || matches!(byte, b' ' | b'_' | b'-')
+}
+
+fn has_letter_or_digit(name: &[u8]) -> bool
+    ensures { result ≡ list_any is_ascii_alphanumeric name.now }
+{
+    name.iter().any(|byte| byte.is_ascii_alphanumeric())
+}
+
+fn are_name_bytes(name: &[u8]) -> bool
+    ensures { result ≡ list_all spec.is_name_byte name.now }
+{
+    name.iter().all(|byte| is_name_byte(*byte))
+}
+
+/// Whether it is the name of a property: letters, digits, spaces, `_` and `-` of ASCII, with a letter
+/// or digit among them.
+fn is_property_name(name: &str) -> bool
+    ensures { result ≡ spec.is_property_name name.now }
+{
+    has_letter_or_digit(name.as_bytes()) && are_name_bytes(name.as_bytes())
+}
+
+/// The property file that `NAME=FILE` hands in, where the word is of this form.
+fn property_of(alloc: Global, word: &str) -> Result<Option<Setting>, AllocError>
+    ensures { IfOk result (λ found. MatchOption found
+        ((name file : List ℕ) → spec.IsSetting (Setting.Property name file)
+            → word.now ≢ name ++ 61 ∷ file)
+        (λ setting. spec.IsSetting setting
+            × (spec.spelled setting ≡ codes "--prop" ∷ word.now ∷ []))) }
+{
+    let Some((name, file)) = word.split_once('=') else {
+        return Ok(None);
+    };
+    if !is_property_name(name) {
+        return Ok(None);
+    }
+    if file.is_empty() {
+        return Ok(None);
+    }
+    let name = Name::new(alloc, name)?;
+    let file = Name::new(alloc, file)?;
+    Ok(Some(Setting::Property { name, file }))
+}
+
+/// The option that these words begin with, where they begin with one.
+pub(crate) fn setting_of(alloc: Global, words: &[String]) -> Result<Option<Setting>, AllocError>
+    ensures { IfOk result (λ found. MatchOption found
+        ((setting : Setting) (more : List (List ℕ)) → spec.IsSetting setting
+            → map string_bytes words.now ≢ spec.spelled setting ++ more)
+        (λ setting. spec.IsSetting setting × (map string_bytes words.now
+            ≡ spec.spelled setting ++ drop (length (spec.spelled setting)) (map string_bytes words.now)))) }
+{
+    let Some((first, more)) = words.split_first() else {
+        return Ok(None);
+    };
+    match first.as_str() {
+        "--ignore-dictionary" => Ok(Some(Setting::IgnoreDictionary)),
+        "--prop" => match more.first() {
+            Some(word) => property_of(alloc, word.as_str()),
+            None => Ok(None),
+        },
+        _ => Ok(None),
+    }
+}
