@@ -2,13 +2,14 @@
 use Rattle.std.proofs.Common.{◌≡◌, ◌≢◌, ◌<◌, ◌+◌, ℕ, suc, Bool, true, false, not, cond, eqb, ◌&&◌, List, [], ◌∷◌, ◌++◌, length, take, drop, refl, sym, ap, ◌∙◌, subst, arith}
 use Rattle.std.specs.Prelude.{codes}
 use Rattle.std.specs.Char.{is_ascii_alphanumeric}
-use Rattle.std.specs.List.{list_any, list_all, position_or_len, before_first, after_first}
+use Rattle.std.specs.List.{list_any, list_all, flat_map, AllByRecursion, position_or_len, before_first, after_first}
 use Rattle.std.proofs.lemmas.Bool.{false≢true}
 use Rattle.std.proofs.lemmas.Bool.Decides.{Decides-eqb}
-use Rattle.std.proofs.lemmas.List.{length-append}
+use Rattle.std.proofs.lemmas.List.{length-append, append_assoc, append-nil, drop-drop}
+use Rattle.std.proofs.lemmas.Grind.{flat_map-append}
 use Rattle.rbbi_tool.specs.declared.words.setting.Setting.{Setting}
 use Rattle.rbbi_tool.specs.declared.words.setting.Setting.TheVariants.{Property, IgnoreDictionary}
-use Rattle.rbbi_tool.specs.Settings.{is_name_byte, is_property_name, IsSetting, spelled}
+use Rattle.rbbi_tool.specs.Settings.{is_name_byte, is_property_name, IsSetting, spelled, BeginsWithoutOption, BeginWithSettings}
 
 -- both sides of a test hold
 pub and_both : (a b : Bool) → a && b ≡ true → (a ≡ true) × (b ≡ true)
@@ -17,8 +18,10 @@ and_both false b both = absurd cc
 
 -- a text without bytes
 pub no_bytes : (xs : List ℕ) (empty : Bool) → empty ≡ eqb (length xs) 0 → empty ≡ true → xs ≡ []
-no_bytes [] empty is yes = refl
-no_bytes (x ∷ xs) empty is yes = absurd cc
+no_bytes [] empty is holds = refl
+no_bytes (x ∷ xs) empty is holds =
+    let none : length (x ∷ xs) ≡ 0 = (Decides-eqb (length (x ∷ xs)) 0).0 (sym is ∙ holds) in
+    absurd (omega arith)
 
 -- no byte of a name is `=`
 no_equals_by : (x : ℕ) (same : Bool) → eqb x 61 ≡ same → is_name_byte x ≡ true → eqb x 61 ≡ false
@@ -81,3 +84,52 @@ same_setting (Property name file) (Property name' file') more others form form' 
 same_setting (Property name file) IgnoreDictionary more others form form' same = absurd cc
 same_setting IgnoreDictionary (Property name file) more others form form' same = absurd cc
 same_setting IgnoreDictionary IgnoreDictionary more others form form' same = refl
+
+-- an option begins as an option does
+option_begins : (s : Setting) (more : List (List ℕ)) → BeginsWithoutOption (spelled s ++ more) → ⊥
+option_begins (Property name file) more none = none (codes "prop", refl)
+option_begins IgnoreDictionary more none = none (codes "ignore-dictionary", refl)
+
+-- what stands behind the same option
+behind_option : (s : Setting) (more others : List (List ℕ)) → spelled s ++ more ≡ spelled s ++ others → more ≡ others
+behind_option (Property name file) more others same = cc
+behind_option IgnoreDictionary more others same = cc
+
+-- options that words begin with are among those of any other reading of them
+pub further_settings : (ss ts : List Setting) (w v : List (List ℕ)) → AllByRecursion IsSetting ss → AllByRecursion IsSetting ts → BeginsWithoutOption v
+    → flat_map spelled ss ++ w ≡ flat_map spelled ts ++ v → (more : List Setting) × BeginWithSettings w more v
+further_settings [] ts w v each each' none same = (ts, record { are = same; each = each'; no_option = none })
+further_settings (s ∷ ss) [] w v each each' none same =
+    absurd (option_begins s (flat_map spelled ss ++ w) (subst BeginsWithoutOption (sym same ∙ append_assoc (spelled s) (flat_map spelled ss) w) none))
+further_settings (s ∷ ss) (t ∷ ts) w v each each' none same =
+    let whole : spelled s ++ (flat_map spelled ss ++ w) ≡ spelled t ++ (flat_map spelled ts ++ v) =
+    sym (append_assoc (spelled s) (flat_map spelled ss) w) ∙ same ∙ append_assoc (spelled t) (flat_map spelled ts) v in
+    let one : s ≡ t = same_setting s t (flat_map spelled ss ++ w) (flat_map spelled ts ++ v) each.0 each'.0 whole in
+    let rest : flat_map spelled ss ++ w ≡ flat_map spelled ts ++ v =
+    behind_option t (flat_map spelled ss ++ w) (flat_map spelled ts ++ v) (subst (λ u. spelled u ++ (flat_map spelled ss ++ w) ≡ spelled t ++ (flat_map spelled ts ++ v)) one whole) in
+    further_settings ss ts w v each.1 each'.1 none rest
+
+-- where words go on with something that begins as an option does and is none, there is no reading of them
+pub no_settings : (words w : List (List ℕ)) (ss ts : List Setting) (v : List (List ℕ)) → words ≡ flat_map spelled ss ++ w → AllByRecursion IsSetting ss → ¬ BeginsWithoutOption w
+    → ((s : Setting) (more : List (List ℕ)) → IsSetting s → w ≢ spelled s ++ more) → ¬ BeginWithSettings words ts v
+no_settings words w ss ts v are each begins none reading =
+    let further = further_settings ss ts w v each reading.each reading.no_option (sym are ∙ reading.are) in
+    no_further further.0 further.1
+  where
+    no_further : (more : List Setting) → BeginWithSettings w more v → ⊥
+    no_further [] is = begins (subst BeginsWithoutOption (sym is.are) is.no_option)
+    no_further (m ∷ more) is = none m (flat_map spelled more ++ v) is.each.0 (is.are ∙ append_assoc (spelled m) (flat_map spelled more) v)
+
+-- one option more
+pub settings_push : (ss : List Setting) (s : Setting) → AllByRecursion IsSetting ss → IsSetting s → AllByRecursion IsSetting (ss ++ s ∷ [])
+settings_push [] s each is = (is, tt)
+settings_push (t ∷ ss) s each is = (each.0, settings_push ss s each.1 is)
+
+-- the words of the options so far and of one more
+pub words_push : (words : List (List ℕ)) (ss : List Setting) (s : Setting) (at : ℕ) → words ≡ flat_map spelled ss ++ drop at words → drop at words ≡ spelled s ++ drop (length (spelled s)) (drop at words)
+    → words ≡ flat_map spelled (ss ++ s ∷ []) ++ drop (at + length (spelled s)) words
+words_push words ss s at are next =
+    let rest : List (List ℕ) = drop (at + length (spelled s)) words in
+    are ∙ ap (λ w. flat_map spelled ss ++ w) (next ∙ ap (λ w. spelled s ++ w) (drop-drop (length (spelled s)) at words))
+    ∙ sym (append_assoc (flat_map spelled ss) (spelled s) rest) ∙ ap (λ w. (flat_map spelled ss ++ w) ++ rest) (sym (append-nil (spelled s)))
+    ∙ ap (λ w. w ++ rest) (sym (flat_map-append spelled ss (s ∷ [])))

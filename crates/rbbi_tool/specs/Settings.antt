@@ -1,6 +1,6 @@
 -- The options between the word of a command and its first operand.
-use Rattle.std.specs.Prelude.{◌≡◌, ◌≢◌, ◌≤◌, ℕ, Bool, true, false, ◌&&◌, ◌||◌, ◌==◌, List, [], ◌∷◌, ◌++◌, codes, count_by}
-use Rattle.std.specs.List.{list_any, list_all}
+use Rattle.std.specs.Prelude.{◌≡◌, ◌≢◌, ◌≤◌, ℕ, Bool, true, false, ◌&&◌, ◌||◌, ◌==◌, List, [], ◌∷◌, ◌++◌, length, drop, codes, count_by}
+use Rattle.std.specs.List.{list_any, list_all, flat_map, AllByRecursion}
 use Rattle.std.specs.Char.{is_ascii_alphanumeric}
 use Rattle.rbbi_tool.specs.declared.words.setting.Setting.{Setting}
 use Rattle.rbbi_tool.specs.declared.words.setting.Setting.TheVariants.{Property, IgnoreDictionary}
@@ -36,3 +36,18 @@ is_ignoring IgnoreDictionary = true
 -- at most 16 property files, and the other option once
 abbrev pub AreFew : List Setting → Type 0
 AreFew settings = (count_by is_property settings ≤ 16) × (count_by is_ignoring settings ≤ 1)
+
+-- the word begins as an option does
+abbrev pub IsOption : List ℕ → Type 0
+IsOption word = (rest : List ℕ) × (word ≡ codes "--" ++ rest)
+
+-- the first word, if there is one, doesn't begin as an option does
+abbrev pub BeginsWithoutOption : List (List ℕ) → Type 0
+BeginsWithoutOption [] = Unit {0}
+BeginsWithoutOption (word ∷ words) = ¬ IsOption word
+
+-- the words are these options, and then so many further words, of which the first doesn't begin as an option does
+pub record BeginWithSettings (words : List (List ℕ)) (settings : List Setting) (rest : List (List ℕ)) : Type 0 where
+  pub are : words ≡ flat_map spelled settings ++ rest
+  pub each : AllByRecursion IsSetting settings
+  pub no_option : BeginsWithoutOption rest

@@ -1,9 +1,12 @@
 -- The forms of the command line.
 use Rattle.std.specs.Prelude.{◌≡◌, ◌++◌, List, [], ◌∷◌, ℕ, length, codes}
+use Rattle.std.specs.List.{flat_map, AllByRecursion}
 use Rattle.rbbi_tool.specs.declared.words.command.Command.{Command}
 use Rattle.rbbi_tool.specs.declared.words.command.Command.TheVariants.{Breaks}
 use Rattle.rbbi_tool.specs.declared.files.Role.{Role}
 use Rattle.rbbi_tool.specs.declared.files.Role.TheVariants.{Rules, Text}
+use Rattle.rbbi_tool.specs.declared.words.setting.Setting.{Setting}
+use Rattle.rbbi_tool.specs.Settings.{IsSetting, AreFew, spelled, BeginsWithoutOption}
 
 -- the word of a command
 abbrev pub name_of : Command → List ℕ
@@ -13,23 +16,17 @@ name_of Breaks = codes "breaks"
 abbrev pub operands_of : Command → List Role
 operands_of Breaks = Rules ∷ Text ∷ []
 
--- what the words ask for: a command and its operands
+-- what the words ask for: a command, its options and its operands
 pub record Request : Type 0 where
   pub command : Command
+  pub settings : List Setting
   pub operands : List (List ℕ)
 
--- the word begins as an option does
-abbrev pub IsOption : List ℕ → Type 0
-IsOption word = (rest : List ℕ) × (word ≡ codes "--" ++ rest)
-
--- the first word, if there is one, doesn't begin as an option does
-abbrev pub BeginsWithoutOption : List (List ℕ) → Type 0
-BeginsWithoutOption [] = Unit {0}
-BeginsWithoutOption (word ∷ words) = ¬ IsOption word
-
--- The words are a command and just its operands. The first operand doesn't begin as an option does.
+-- The words are a command, options and just the operands of the command. The first operand doesn't begin as an option does.
 pub record Asks (words : List (List ℕ)) (request : Request) : Type 0 where
-  pub are : words ≡ name_of request.command ∷ request.operands
+  pub are : words ≡ name_of request.command ∷ (flat_map spelled request.settings ++ request.operands)
+  pub each : AllByRecursion IsSetting request.settings
+  pub few : AreFew request.settings
   pub count : length request.operands ≡ length (operands_of request.command)
   pub no_option : BeginsWithoutOption request.operands
 

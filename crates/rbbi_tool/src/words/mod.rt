@@ -1,7 +1,8 @@
 //! What the words of the command line ask for.
 ghost use Rattle.std.specs.Prelude.{◌≡◌, MatchOption, MatchBool, map, length, IfOk};
 ghost use Rattle.std.specs.String.{string_bytes};
-ghost use Rattle.rbbi_tool.specs.Words.{Asks, AreNoForm, BeginsWithoutOption, operands_of};
+ghost use Rattle.rbbi_tool.specs.Words.{Asks, AreNoForm, operands_of};
+ghost use Rattle.rbbi_tool.specs.Settings.{BeginsWithoutOption};
 ghost use Rattle.rbbi_tool.specs.Files.{in_roles};
 
 mod command;

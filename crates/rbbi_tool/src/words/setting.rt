@@ -1,5 +1,5 @@
 //! The options between the word of a command and its first operand.
-ghost use Rattle.std.specs.Prelude.{◌≡◌, ◌≢◌, ◌++◌, ◌∷◌, [], ℕ, List, length, codes, map, drop, MatchOption, IfOk};
+ghost use Rattle.std.specs.Prelude.{◌≡◌, ◌≢◌, ◌++◌, ◌∷◌, [], ℕ, List, length, codes, map, drop, MatchOption, MatchBool, IfOk, ◌≤◌};
 ghost use Rattle.std.specs.List.{list_all, list_any};
 ghost use Rattle.std.specs.Char.{is_ascii_alphanumeric};
 ghost use Rattle.std.specs.String.{string_bytes};
@@ -97,4 +97,45 @@ pub(crate) fn setting_of(alloc: Global, words: &[String]) -> Result<Option<Setti
         },
         _ => Ok(None),
     }
+}
+
+/// Whether the first of the words, if there is one, begins as an option does.
+fn begins_with_option(words: &[String]) -> bool
+    ensures { MatchBool result (¬ spec.BeginsWithoutOption (map string_bytes words.now))
+        (spec.BeginsWithoutOption (map string_bytes words.now)) }
+{
+    match words.first() {
+        Some(word) => word.as_str().starts_with("--"),
+        None => false,
+    }
+}
+
+/// Options in a row.
+#[derive(Debug, Drop)]
+pub(crate) struct Settings {
+    /// The options, in order.
+    pub(crate) list: Vec<Setting>,
+    /// How many words they have.
+    pub(crate) words: usize,
+}
+
+/// The options that the words begin with, up to a word that doesn't begin as an option does; and
+/// nothing where a word before that begins as one and is none.
+pub(crate) fn settings_of(alloc: Global, words: &[String]) -> Result<Option<Settings>, AllocError>
+    ensures { IfOk result (λ found. MatchOption found
+        ((settings : List Setting) (rest : List (List ℕ))
+            → ¬ spec.BeginWithSettings (map string_bytes words.now) settings rest)
+        (λ settings. (settings.words ≤ length words.now) × spec.BeginWithSettings (map string_bytes words.now)
+            settings.list.items (drop settings.words (map string_bytes words.now)))) }
+{
+    let mut list = Vec::new(alloc);
+    let mut at = 0;
+    'options: while begins_with_option(&words[at..]) {
+        let Some(setting) = setting_of(alloc, &words[at..])? else {
+            return Ok(None);
+        };
+        at += setting.words();
+        list.push(setting)?;
+    }
+    Ok(Some(Settings { list, words: at }))
 }
