@@ -1,0 +1,6 @@
+pub mod Cuts
+pub mod Words
+pub mod LineKinds
+pub mod EditLines
+pub mod Lines
+pub mod Says

@@ -1,0 +1,7 @@
+pub mod Meaning
+pub mod Grammar
+pub mod Readings
+pub mod Files
+pub mod LineReadings
+pub mod Refusals
+pub mod Saying

@@ -1,0 +1,14 @@
+-- What reading one line of a script answers.
+use Rattle.std.specs.Prelude.{◌≡◌, ℕ, List, ◌++◌, Result, Ok, Err}
+use Rattle.rbbi_script.specs.declared.command.Command.{Command}
+use Rattle.rbbi_script.specs.declared.error.ScriptErr.{ScriptErr}
+use Rattle.rbbi_script.specs.declared.error.ScriptErr.TheVariants.{NotUtf8, BadLine, Memory}
+use Rattle.rbbi_script.specs.Grammar.{IsBad}
+use Rattle.rbbi_script.specs.Files.{LineWrites}
+
+-- what reading a line with this number answers, and the commands after it
+abbrev pub ReadsLine : {T : Type 0} → List ℕ → ℕ → List Command → Result T ScriptErr → List Command → Type 0
+ReadsLine line number old (Ok done) new = (these : List Command) × LineWrites line these × (new ≡ old ++ these)
+ReadsLine line number old (Err (NotUtf8 at)) new = ⊥
+ReadsLine line number old (Err (BadLine bad)) new = IsBad line × (bad ≡ number)
+ReadsLine line number old (Err Memory) new = Unit {0}

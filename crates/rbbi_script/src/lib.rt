@@ -1,0 +1,21 @@
+//! Scripts of questions and edits, and the lines of their replies.
+//!
+//! [`read_script`] takes the bytes of a script as its commands, or tells the first bad line. `say`,
+//! `say_list` and `say_bound` append the lines of replies.
+#![tactic(auto)]
+
+mod command;
+mod error;
+mod escape;
+mod line;
+mod pieces;
+mod question;
+mod reader;
+mod saying;
+#[cfg(test)]
+mod tests;
+
+pub use command::{Command, Commands};
+pub use error::ScriptErr;
+pub use reader::read_script;
+pub use saying::{Said, say, say_bound, say_list};
