@@ -1,0 +1,14 @@
+pub mod Truth
+pub mod RangeLemmas
+pub mod ListLemmas
+pub mod BitLemmas
+pub mod NoteLemmas
+pub mod TargetLemmas
+pub mod BlockLemmas
+pub mod MoveLemmas
+pub mod RowLemmas
+pub mod PairLemmas
+pub mod FrontLemmas
+pub mod SearchLemmas
+pub mod StepLemmas
+pub mod PartLemmas

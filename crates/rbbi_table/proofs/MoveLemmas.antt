@@ -1,0 +1,98 @@
+-- One more row's moves.
+use Rattle.std.proofs.Common.{◌≡◌, ℕ, ◌+◌, ◌-◌, ◌*◌, ◌<◌, ◌≤◌, List, [], ◌∷◌, ◌++◌, length, take, drop, map, get_or, sym, refl, ap, ◌∙◌, subst, ⊎_elim, arith}
+use Rattle.std.proofs.lemmas.Bool.{cases_eq}
+use Rattle.std.proofs.lemmas.List.{get_or_append_left, get_or-append_right, get_or-take, get_or-drop, get_or-map, length-take, length-drop, length-append, length-map}
+use Rattle.std.proofs.Math.Nat.{mul-le-mul_right}
+use Rattle.rbbi_model.specs.Tables.{RowHead, Table, empty_head, head_of, step}
+use Rattle.rbbi_table.specs.Parts.{rows_of, AreSteps}
+use Rattle.rbbi_table.specs.Kept.{stride, move_to, move_flags, row_moves, HasMoves, AreFirstMoves}
+
+-- the next rows of a row
+abbrev pub steps_of : ℕ → List ℕ → ℕ → List ℕ
+steps_of categories cells row = take (row * categories + categories - row * categories) (drop (row * categories) cells)
+
+-- rows before another take no more room than those before the next
+pub row_end : (row count width : ℕ) → row < count → row * width + width ≤ count * width
+row_end row count width short = let up : (row + 1) * width ≤ count * width = mul-le-mul_right width (let e : row + 1 ≤ count = omega arith in e) in omega arith
+
+pub steps_long : (categories : ℕ) (cells : List ℕ) (row count : ℕ) → length cells ≡ count * categories → row < count → length (steps_of categories cells row) ≡ categories
+steps_long categories cells row count all short =
+    omega (arith, length-take (row * categories + categories - row * categories) (drop (row * categories) cells), length-drop (row * categories) cells, row_end row count categories short, all)
+
+pub steps_are : (categories : ℕ) (cells : List ℕ) (row k : ℕ) → k < categories → get_or (steps_of categories cells row) k 0 ≡ get_or cells (row * categories + k) 0
+steps_are categories cells row k short =
+    get_or-take (row * categories + categories - row * categories) (drop (row * categories) cells) k 0 (omega arith) ∙ get_or-drop (row * categories) cells k 0
+
+module _ (categories : ℕ) (rows : List RowHead) (cells moves : List ℕ) (row : ℕ) (steps : AreSteps categories rows cells) (within : row < length rows) (first : AreFirstMoves (rows_of categories rows cells []) moves row) where
+  abbrev grid : Table
+  grid = rows_of categories rows cells []
+
+  abbrev own : List ℕ
+  own = steps_of categories cells row
+
+  -- the move to a row, in rows of this width
+  abbrev entry : ℕ → ℕ → ℕ
+  entry width next = next * width * 8 + move_flags (get_or rows next empty_head) next
+
+  abbrev more : ℕ → List ℕ
+  more width = map (λ next. entry width next) own ++ (get_or rows row empty_head).fronts ∷ (get_or rows row empty_head).list ∷ (get_or rows row empty_head).accept ∷ []
+
+  long : length own ≡ categories
+  long = steps_long categories cells row (length rows) steps.all within
+
+  old_row : (width r : ℕ) → r < row → HasMoves grid (moves ++ more width) r
+  old_row width r short =
+      let has = first.rows r short in
+      let room = row_end r row (categories + 3) short in
+      let keep = λ (i : ℕ) (inside : i < length moves). get_or_append_left moves (more width) 0 i inside in
+      record {
+        each = λ category low. keep (r * (categories + 3) + category) (omega (arith, first.all, room, low)) ∙ has.each category low;
+        fronts = keep (r * (categories + 3) + categories) (omega (arith, first.all, room)) ∙ has.fronts;
+        list = keep (r * (categories + 3) + categories + 1) (omega (arith, first.all, room)) ∙ has.list;
+        accept = keep (r * (categories + 3) + categories + 2) (omega (arith, first.all, room)) ∙ has.accept;
+      }
+
+  -- what stands k places behind the rows before
+  behind : (width k : ℕ) → get_or (moves ++ more width) (row * (categories + 3) + k) 0 ≡ get_or (more width) k 0
+  behind width k =
+      get_or-append_right moves (more width) (row * (categories + 3)) (row * (categories + 3) + k) 0 first.all (omega arith)
+      ∙ ap (λ n. get_or (more width) n 0) (let e : row * (categories + 3) + k - row * (categories + 3) ≡ k = omega arith in e)
+
+  -- what stands k places behind the moves of the row
+  head_at : (width k : ℕ) → get_or (more width) (categories + k) 0 ≡ get_or ((get_or rows row empty_head).fronts ∷ (get_or rows row empty_head).list ∷ (get_or rows row empty_head).accept ∷ []) k 0
+  head_at width k =
+      let moved : List ℕ = map (λ next. entry width next) own in
+      let tail : List ℕ = (get_or rows row empty_head).fronts ∷ (get_or rows row empty_head).list ∷ (get_or rows row empty_head).accept ∷ [] in
+      get_or-append_right moved tail categories (categories + k) 0 (length-map own (λ next. entry width next) ∙ long) (omega arith)
+      ∙ ap (λ n. get_or tail n 0) (let e : categories + k - categories ≡ k = omega arith in e)
+
+  new_row : HasMoves grid (moves ++ more (categories + 3)) row
+  new_row = record {
+    each = λ category low.
+        let moved : List ℕ = map (λ next. entry (categories + 3) next) own in
+        let inside : category < length own = omega (arith, long, low) in
+        behind (categories + 3) category
+        ∙ get_or_append_left moved _ 0 category (omega (arith, inside, length-map own (λ next. entry (categories + 3) next)))
+        ∙ get_or-map (λ next. entry (categories + 3) next) own category 0 0 inside
+        ∙ ap (λ next. entry (categories + 3) next) (steps_are categories cells row category low);
+    fronts = ap (λ n. get_or (moves ++ more (categories + 3)) n 0) (let e : row * (categories + 3) + categories ≡ row * (categories + 3) + (categories + 0) = omega arith in e) ∙ behind (categories + 3) (categories + 0) ∙ head_at (categories + 3) 0;
+    list = ap (λ n. get_or (moves ++ more (categories + 3)) n 0) (let e : row * (categories + 3) + categories + 1 ≡ row * (categories + 3) + (categories + 1) = omega arith in e) ∙ behind (categories + 3) (categories + 1) ∙ head_at (categories + 3) 1;
+    accept = ap (λ n. get_or (moves ++ more (categories + 3)) n 0) (let e : row * (categories + 3) + categories + 2 ≡ row * (categories + 3) + (categories + 2) = omega arith in e) ∙ behind (categories + 3) (categories + 2) ∙ head_at (categories + 3) 2;
+  }
+
+  more_moves : AreFirstMoves grid (moves ++ more (categories + 3)) (row + 1)
+  more_moves = record {
+    all =
+        let moved : List ℕ = map (λ next. entry (categories + 3) next) own in
+        let one = length-append moves (more (categories + 3)) in
+        let two = length-append moved ((get_or rows row empty_head).fronts ∷ (get_or rows row empty_head).list ∷ (get_or rows row empty_head).accept ∷ []) in
+        omega (arith, one, two, length-map own (λ next. entry (categories + 3) next), long, first.all);
+    rows = λ r short.
+        ⊎_elim
+        (λ same. subst (λ n. HasMoves grid (moves ++ more (categories + 3)) n) (sym same) new_row)
+        (λ other. old_row (categories + 3) r (omega arith))
+        (cases_eq r row);
+  }
+
+  pub push_moves : AreFirstMoves grid (moves ++ row_moves (length own + 3) rows own (get_or rows row empty_head)) (row + 1)
+  push_moves = subst (λ n. AreFirstMoves grid (moves ++ row_moves (n + 3) rows own (get_or rows row empty_head)) (row + 1)) (sym long) more_moves

@@ -1,0 +1,101 @@
+-- The bits of the first pairs.
+use Rattle.std.proofs.Common.{◌≡◌, ◌≢◌, ℕ, ◌+◌, ◌*◌, ◌/◌, ◌%◌, ◌<◌, ◌≤◌, ◌⊎◌, ◌↔◌, Bool, true, false, cond, eqb, IsTrue, List, [], length, get_or, sym, refl, ap, ◌∙◌, subst, ⊎_elim, arith}
+use Rattle.std.proofs.lemmas.Bool.{cases_eq, cases_lt, cond-true, cond-false, eq-eqb, ne_eqb, false≢true}
+use Rattle.rbbi_model.specs.Tables.{Table, RowHead, step}
+use Rattle.rbbi_model.specs.SafePairs.{IsSafePair, stored_bit}
+use Rattle.rbbi_table.specs.Parts.{rows_of, AreSteps}
+use Rattle.rbbi_table.specs.Targets.{AreTargets, LeadToOne, ArePairsOf}
+use Rattle.rbbi_table.proofs.MoveLemmas.{row_end}
+
+-- the bits below a number are those of the safe pairs, and none is set from there on
+pub record AreFirstPairs (table : Table) (bytes : List ℕ) (count : ℕ) : Type 0 where
+  pub exactly : (first second : ℕ) → first < table.categories → second < table.categories → first * table.categories + second < count → IsTrue (stored_bit bytes (first * table.categories + second)) ↔ IsSafePair table first second
+  pub none : (i : ℕ) → count ≤ i → ¬ IsTrue (stored_bit bytes i)
+
+-- a pair is safe where all rows that open rows lead to lead on to one
+pub safe_where_one : (table : Table) (first second : ℕ) (targets : List ℕ) → AreTargets table first targets → LeadToOne table second targets ↔ IsSafePair table first second
+safe_where_one table first second targets are = (
+  λ one. (
+    one.0,
+    λ from short opened.
+        let there = are.all from short opened in
+        ap (λ r. step table r second) (sym there.2) ∙ one.1 there.0 there.1,
+  ),
+  λ safe. (
+    safe.0,
+    λ i short.
+        let from = are.only i short in
+        ap (λ r. step table r second) (sym from.3) ∙ safe.1 from.0 from.1 from.2,
+  ),
+)
+
+-- rows before another take no more room than those before the next
+row_after : (row count width : ℕ) → row < count → row * width + width ≤ count * width
+row_after row count width short = row_end row count width short
+
+-- two pairs with one number are the same
+same_pair : (width first second first' second' : ℕ) → second < width → second' < width → first * width + second ≡ first' * width + second' → (first ≡ first') × (second ≡ second')
+same_pair width first second first' second' low low' is =
+    ⊎_elim
+    (λ same. (same, omega (arith, is, ap (λ n. n * width) same)))
+    (λ other.
+    ⊎_elim
+    (λ less. absurd (omega (arith, is, row_after first first' width less, low, low')))
+    (λ most. absurd (omega (arith, is, row_after first' first width (let e : first' < first = omega arith in e), low, low')))
+    (cases_lt first first'))
+    (cases_eq first first')
+
+-- one more pair that is safe
+pub pair_set : (table : Table) (old new : List ℕ) (first second : ℕ) → second < table.categories → AreFirstPairs table old (first * table.categories + second) → IsSafePair table first second →
+    ((i : ℕ) → stored_bit new i ≡ cond (eqb i (first * table.categories + second)) true (stored_bit old i)) → AreFirstPairs table new (first * table.categories + second + 1)
+pair_set table old new first second low pairs safe bits =
+    let at : ℕ = first * table.categories + second in
+    let other_bit = λ (i : ℕ) (ne : i ≢ at). bits i ∙ cond-false (eqb i at) true (stored_bit old i) (ne_eqb i at ne) in
+    record {
+      exactly = λ f s f_low s_low short.
+          ⊎_elim
+          (λ same.
+          let pair = same_pair table.categories f s first second s_low low same in (
+            λ _. subst (λ n. IsSafePair table n s) (sym pair.0) (subst (λ n. IsSafePair table first n) (sym pair.1) safe),
+            λ _. bits (f * table.categories + s) ∙ cond-true (eqb (f * table.categories + s) at) true (stored_bit old (f * table.categories + s)) (eq-eqb (f * table.categories + s) at same),
+          ))
+          (λ other.
+          subst (λ b. IsTrue b ↔ IsSafePair table f s) (sym (other_bit (f * table.categories + s) other)) (pairs.exactly f s f_low s_low (omega arith)))
+          (cases_eq (f * table.categories + s) at);
+      none = λ i past is. pairs.none i (omega arith) (sym (other_bit i (λ same. omega (arith, past, same))) ∙ is);
+    }
+
+-- one more pair that isn't
+pub pair_unset : (table : Table) (bytes : List ℕ) (first second : ℕ) → second < table.categories → AreFirstPairs table bytes (first * table.categories + second) → ¬ IsSafePair table first second → AreFirstPairs table bytes (first * table.categories + second + 1)
+pair_unset table bytes first second low pairs unsafe =
+    let at : ℕ = first * table.categories + second in
+    record {
+      exactly = λ f s f_low s_low short.
+          ⊎_elim
+          (λ same.
+          let pair = same_pair table.categories f s first second s_low low same in (
+            λ is. absurd (pairs.none (f * table.categories + s) (omega (arith, same)) is),
+            λ safe. absurd (unsafe (subst (λ n. IsSafePair table first n) pair.1 (subst (λ n. IsSafePair table n s) pair.0 safe))),
+          ))
+          (λ other. pairs.exactly f s f_low s_low (omega arith))
+          (cases_eq (f * table.categories + s) at);
+      none = λ i past. pairs.none i (omega arith);
+    }
+
+-- the rows that open rows lead to are rows, and have a next row for each category
+pub targets_within : (width : ℕ) (rows : List RowHead) (cells : List ℕ) (category second : ℕ) (targets : List ℕ) → AreSteps width rows cells → AreTargets (rows_of width rows cells []) category targets → category < width → second < width →
+    (i : ℕ) → i < length targets → get_or targets i 0 * width + second < length cells
+targets_within width rows cells category second targets steps are low second_low i short =
+    let from = are.only i short in
+    let place : from.0 * width + category < length cells = omega (arith, row_after from.0 (length rows) width from.1, low, steps.all) in
+    let row : get_or targets i 0 < length rows = omega (arith, from.3, steps.within (from.0 * width + category) place) in
+    omega (arith, row_after (get_or targets i 0) (length rows) width row, second_low, steps.all)
+
+pub all_pairs : (width : ℕ) (rows : List RowHead) (cells bytes : List ℕ) → length bytes ≡ (width * width + 7) / 8 → AreFirstPairs (rows_of width rows cells []) bytes (width * width) → ArePairsOf (rows_of width rows cells bytes)
+all_pairs width rows cells bytes long pairs = record {
+  all = long;
+  pairs = record {
+    exactly = λ first second first_low second_low. pairs.exactly first second first_low second_low (omega (arith, row_after first width width first_low, second_low));
+    filling = λ i past short. pairs.none i past;
+  };
+}

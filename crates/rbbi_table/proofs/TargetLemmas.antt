@@ -1,0 +1,104 @@
+-- The rows that the first open rows lead to, and the rows that are gathered.
+use Rattle.std.proofs.Common.{◌≡◌, ◌≢◌, ℕ, suc, zero, ◌+◌, ◌*◌, ◌/◌, ◌%◌, ◌<◌, ◌≤◌, ◌⊎◌, Bool, true, false, cond, List, [], ◌∷◌, ◌++◌, length, get_or, set, replicate, slice_index, sym, refl, ap, ◌∙◌, subst, inl, inr, ⊎_elim, arith}
+use Rattle.std.specs.List.{count_by}
+use Rattle.std.proofs.lemmas.Bool.{cases_eq, false≢true}
+use Rattle.std.proofs.lemmas.List.{get_or-set_same, get_or-set_other, get_or_append_left, get_or_push, length_push, length-set, get_or-replicate, length-replicate}
+use Rattle.std.proofs.lemmas.List.Sums.{sum_by-set}
+use Rattle.rbbi_model.specs.Tables.{Table, step, accept_of}
+use Rattle.rbbi_model.specs.SafePairs.{IsOpen}
+use Rattle.rbbi_table.specs.Targets.{AreTargets, IsGathered, AddsTarget}
+
+-- these are the rows that open rows below a row lead to by the category
+pub record AreTargetsBelow (table : Table) (category : ℕ) (targets : List ℕ) (count : ℕ) : Type 0 where
+  pub all : (row : ℕ) → row < count → IsOpen table row → (i : ℕ) × (i < length targets) × (slice_index targets i ≡ step table row category)
+  pub only : (i : ℕ) → i < length targets → (row : ℕ) × (row < length table.rows) × IsOpen table row × (step table row category ≡ slice_index targets i)
+
+-- row 0 isn't open
+pub none_below : (table : Table) (category : ℕ) (targets : List ℕ) → targets ≡ [] → AreTargetsBelow table category targets 1
+none_below table category targets none = record {
+  all = λ row short opened. absurd (opened.0 (omega arith));
+  only = λ i short. absurd (omega (arith, short, ap length none));
+}
+
+pub skip_closed : (table : Table) (category : ℕ) (targets : List ℕ) (row : ℕ) → AreTargetsBelow table category targets row → 2 ≤ accept_of table row → AreTargetsBelow table category targets (row + 1)
+skip_closed table category targets row below closed = record {
+  all = λ r short opened.
+      ⊎_elim
+      (λ same. absurd (omega (arith, opened.1, closed, ap (λ n. accept_of table n) same)))
+      (λ other. below.all r (omega arith) opened)
+      (cases_eq r row);
+  only = below.only;
+}
+
+pub add_open : (table : Table) (category : ℕ) (old new : List ℕ) (row : ℕ) → AreTargetsBelow table category old row → row < length table.rows → IsOpen table row → AddsTarget old (step table row category) new → AreTargetsBelow table category new (row + 1)
+add_open table category old new row below within opened adds = record {
+  all = λ r short open_row.
+      ⊎_elim
+      (λ same. (adds.has.0, adds.has.1, adds.has.2 ∙ ap (λ n. step table n category) (sym same)))
+      (λ other.
+      let was = below.all r (omega arith) open_row in
+      let kept = adds.keeps was.0 was.1 in
+      (was.0, kept.0, kept.1 ∙ was.2))
+      (cases_eq r row);
+  only = λ i short.
+      ⊎_elim
+      (λ old_one.
+      let was = below.only i old_one.0 in
+      (was.0, was.1, was.2, was.3 ∙ sym old_one.1))
+      (λ new_one. (row, within, opened, sym new_one))
+      (adds.only i short);
+}
+
+pub none_gathered : (seen : List Bool) (targets : List ℕ) → ((i : ℕ) → i < length seen → get_or seen i false ≡ false) → targets ≡ [] → count_by (λ is. is) seen ≡ 0 → IsGathered seen targets
+none_gathered seen targets unseen none nothing = record {
+  each = λ target short is. absurd (false≢true (sym (unseen target short) ∙ is));
+  count = ap length none ∙ sym nothing;
+}
+
+-- a row that was seen is there already
+pub adds_nothing : (seen : List Bool) (targets : List ℕ) (target : ℕ) → target < length seen → IsGathered seen targets → get_or seen target false ≡ true → AddsTarget targets target targets
+adds_nothing seen targets target short gathered is = record {
+  has = gathered.each target short is;
+  keeps = λ i within. (within, refl);
+  only = λ i within. inl (within, refl);
+}
+
+-- one that wasn't comes behind the others
+pub adds_one : (targets : List ℕ) (target : ℕ) → AddsTarget targets target (targets ++ target ∷ [])
+adds_one targets target = record {
+  has = (length targets, omega (arith, length_push targets target), get_or_push targets target 0 (length targets) refl);
+  keeps = λ i within. (omega (arith, within, length_push targets target), get_or_append_left targets (target ∷ []) 0 i within);
+  only = λ i within.
+      ⊎_elim
+      (λ same. inr (ap (λ n. get_or (targets ++ target ∷ []) n 0) same ∙ get_or_push targets target 0 (length targets) refl))
+      (λ other.
+      let short : i < length targets = omega (arith, within, length_push targets target) in
+      inl (short, get_or_append_left targets (target ∷ []) 0 i short))
+      (cases_eq i (length targets));
+}
+
+pub gathers_one : (seen : List Bool) (targets : List ℕ) (target : ℕ) → target < length seen → IsGathered seen targets → get_or seen target false ≡ false → IsGathered (set seen target true) (targets ++ target ∷ [])
+gathers_one seen targets target short gathered isnt = record {
+  each = λ t within is.
+      ⊎_elim
+      (λ same. (length targets, omega (arith, length_push targets target), get_or_push targets target 0 (length targets) refl ∙ sym same))
+      (λ other.
+      let was = gathered.each t (omega (arith, within, length-set seen target true)) (sym (get_or-set_other seen target t true false other) ∙ is) in
+      (was.0, omega (arith, was.1, length_push targets target), get_or_append_left targets (target ∷ []) 0 was.0 was.1 ∙ was.2))
+      (cases_eq t target);
+  count =
+      let weight : Bool → ℕ = λ is. cond is 1 0 in
+      let isnt_zero : weight (get_or seen target false) ≡ 0 = ap weight isnt in
+      let more = sum_by-set weight seen target true false short in
+      omega (arith, more, gathered.count, length_push targets target, isnt_zero);
+}
+
+pub count_none : (n : ℕ) → count_by (λ is. is) (replicate n false) ≡ 0
+count_none zero = refl
+count_none (suc n) = omega (arith, count_none n)
+
+-- nothing is gathered at the start
+pub gathers_none : (n : ℕ) (seen : List Bool) (targets : List ℕ) → seen ≡ replicate n false → targets ≡ [] → IsGathered seen targets
+gathers_none n seen targets unseen none =
+    subst (λ (l : List Bool). IsGathered l targets) (sym unseen)
+    (none_gathered (replicate n false) targets (λ i short. get_or-replicate n i false false (omega (arith, short, length-replicate n false))) none (count_none n))

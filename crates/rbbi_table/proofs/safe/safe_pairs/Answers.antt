@@ -1,0 +1,49 @@
+use Rattle.std.proofs.Common.{◌≡◌, ℕ, ◌+◌, ◌*◌, ◌/◌, ◌<◌, ◌↔◌, IsTrue, true, cond, eqb, [], List, Vec, Global, length, get_or, ap, sym, ◌∙◌, subst, arith}
+use Rattle.rbbi_model.specs.Tables.{Table}
+use Rattle.rbbi_model.specs.SafePairs.{stored_bit}
+use Rattle.rbbi_table.specs.Parts.{rows_of}
+use Rattle.rbbi_table.specs.Targets.{LeadToOne, ArePairsOf}
+use Rattle.rbbi_table.proofs.Truth.{fails}
+use Rattle.rbbi_table.proofs.PairLemmas.{AreFirstPairs, targets_within, safe_where_one, pair_set, pair_unset, all_pairs}
+use Rattle.rbbi_table.proofs.safe.safe_pairs.Goals as goal
+use Rattle.rbbi_table.proofs.safe.safe_pairs.Goals.{then-lead_to_one, else-lead_to_one}
+
+pub lead_to_one-requires : goal.lead_to_one-requires
+lead_to_one-requires c =
+    subst (λ (ts : List ℕ). (i : ℕ) → i < length ts → get_or ts i 0 * c.args.categories + c.loop-second.second < length c.args.cells.now) (sym c.deref.ensures.value)
+    (targets_within c.args.categories c.args.rows.now c.args.cells.now c.loop-first.first c.loop-second.second c.gather_targets.new.targets.items c.requires.steps c.loop-second.invariant.targets c.loop-first-test.true c.loop-second-test.true)
+
+pub loop-second-preserved : goal.loop-second-preserved
+loop-second-preserved c =
+    let inv = c.loop-second.invariant in
+    let table : Table = rows_of c.args.categories c.args.rows.now c.args.cells.now [] in
+    let first : ℕ = c.loop-first.first in
+    let second : ℕ = c.loop-second.second in
+    let next : first * c.args.categories + second + 1 ≡ first * c.args.categories + (second + 1) = omega arith in
+    let one = safe_where_one table first second c.gather_targets.new.targets.items inv.targets in
+    let means = subst (λ (ts : List ℕ). IsTrue c.lead_to_one.result ↔ LeadToOne table second ts) c.deref.ensures.value c.lead_to_one.ensures in
+    elim c.if-lead_to_one.branch [
+      | then-lead_to_one w ↦ record {
+        all = omega (arith, inv.all, w.store.ensures.len, ap (λ (v : Vec ℕ Global). length v.items) w.bytes-is);
+        targets = inv.targets;
+        pairs = subst (λ n. AreFirstPairs table c.if-lead_to_one.bytes.items n) next
+            (pair_set table c.loop-second.bytes.items c.if-lead_to_one.bytes.items first second c.loop-second-test.true inv.pairs (one.0 (means.0 w.if-lead_to_one.true))
+            (subst (λ (v : Vec ℕ Global). (i : ℕ) → stored_bit v.items i ≡ cond (eqb i (first * c.args.categories + second)) true (stored_bit c.loop-second.bytes.items i)) (sym w.bytes-is) w.store.ensures.bits));
+      }
+      | else-lead_to_one w ↦ record {
+        all = omega (arith, inv.all, ap (λ (v : Vec ℕ Global). length v.items) w.bytes-is);
+        targets = inv.targets;
+        pairs = subst (λ n. AreFirstPairs table c.if-lead_to_one.bytes.items n) next
+            (subst (λ (v : Vec ℕ Global). AreFirstPairs table v.items (first * c.args.categories + second + 1)) (sym w.bytes-is)
+            (pair_unset table c.loop-second.bytes.items first second c.loop-second-test.true inv.pairs (λ safe. fails c.lead_to_one.result means w.if-lead_to_one.false (one.1 safe))));
+      }
+    ]
+
+pub returns : goal.returns
+returns c =
+    let inv = c.loop-first.invariant in
+    let w : ℕ = c.args.categories in
+    let whole : c.loop-first.first ≡ w = omega (arith, c.loop-first-test.false, c.loop-first.auto.first-end) in
+    subst (λ (l : List ℕ). ArePairsOf (rows_of w c.args.rows.now c.args.cells.now l)) (sym c.from_vec.ensures)
+    (all_pairs w c.args.rows.now c.args.cells.now c.loop-first.bytes.items inv.all
+    (subst (λ n. AreFirstPairs (rows_of w c.args.rows.now c.args.cells.now []) c.loop-first.bytes.items (n * w)) whole inv.pairs))

@@ -1,0 +1,83 @@
+-- What a table keeps beside its parts: the categories in blocks, and the rows in one flat list.
+use Rattle.std.specs.Prelude.{◌≡◌, ◌≢◌, ℕ, ◌+◌, ◌*◌, ◌/◌, ◌%◌, ◌<◌, ◌≤◌, List, [], ◌∷◌, ◌++◌, map, length, slice_index, slice_index_or, Bool, ◌||◌, if◌then◌else◌, ◌==◌, nat_le}
+use Rattle.rbbi_model.specs.Tables.{Table, CategoryRange, category_of, RowHead, empty_head, head_of, accept_of, fronts_of, list_of, step}
+use Rattle.rbbi_model.specs.ValidTables.{IsWithin, IsValidTable}
+
+-- where the range with this number starts
+abbrev pub start_of : List CategoryRange → ℕ → ℕ
+start_of ranges range = (slice_index_or ranges range (record { start = 0; category = 0 })).start
+
+-- the range is valid behind the one before it
+abbrev pub GoesOn : ℕ → CategoryRange → CategoryRange → Type 0
+GoesOn categories previous range = (previous.start < range.start) × (previous.category ≢ range.category) × IsWithin categories range
+
+-- The range begins at c or before it, and the next one doesn't begin before c.
+pub record IsUpTo (ranges : List CategoryRange) (range c : ℕ) : Type 0 where
+  pub within : range < length ranges
+  pub begins : start_of ranges range ≤ c
+  pub ends : range + 1 < length ranges → c ≤ start_of ranges (range + 1)
+
+-- the range holds the code point
+pub record Holds (ranges : List CategoryRange) (range c : ℕ) : Type 0 where
+  pub within : range < length ranges
+  pub begins : start_of ranges range ≤ c
+  pub ends : range + 1 < length ranges → c < start_of ranges (range + 1)
+
+-- what is found in two steps: the number of the block of 256, then the place in the block
+abbrev pub in_block : List ℕ → List ℕ → ℕ → ℕ
+in_block numbers kept c = slice_index kept (slice_index numbers (c / 256) * 256 + c % 256)
+
+-- the first so many blocks are kept whole, and two steps give the category of each of their code points
+pub record AreFirstBlocks (ranges : List CategoryRange) (numbers kept : List ℕ) (count : ℕ) : Type 0 where
+  pub all : length numbers ≡ count
+  pub whole : (block : ℕ) → block < count → slice_index numbers block * 256 + 256 ≤ length kept
+  pub same : (c : ℕ) → c < count * 256 → in_block numbers kept c ≡ category_of ranges c
+
+-- all 4,352 blocks of code points
+abbrev pub AreBlocks : List CategoryRange → List ℕ → List ℕ → Type 0
+AreBlocks ranges numbers kept = AreFirstBlocks ranges numbers kept 4352
+
+-- how many numbers of the flat list belong to a row
+abbrev pub stride : Table → ℕ
+stride table = table.categories + 3
+
+-- a search ends at a row with this head and number
+abbrev pub stops_at : RowHead → ℕ → Bool
+stops_at head row = (row == 0) || nat_le 2 head.accept
+
+-- the flags of a row with this head and number
+abbrev pub move_flags : RowHead → ℕ → ℕ
+move_flags head row = (if head.accept == 1 then 1 else 0) + (if head.fronts == 0 then 0 else 2) + (if stops_at head row then 4 else 0)
+
+-- The move to a row: eight times the place at which the row begins, 1 where some rule ends there and no look-ahead rule, 2 where
+-- a front ends there, and 4 where a search ends there.
+abbrev pub move_to : Table → ℕ → ℕ
+move_to table row = row * stride table * 8 + move_flags (head_of table row) row
+
+-- the moves to these next rows, and behind them the row's front mask, its list and its accept number
+abbrev pub row_moves : ℕ → List RowHead → List ℕ → RowHead → List ℕ
+row_moves width rows steps head =
+    map (λ next. next * width * 8 + move_flags (slice_index_or rows next empty_head) next) steps
+    ++ head.fronts ∷ head.list ∷ head.accept ∷ []
+
+-- the moves of the row, one for each category, and behind them its front mask, its list and its accept number
+pub record HasMoves (table : Table) (moves : List ℕ) (row : ℕ) : Type 0 where
+  pub each : (category : ℕ) → category < table.categories → slice_index moves (row * stride table + category) ≡ move_to table (step table row category)
+  pub fronts : slice_index moves (row * stride table + table.categories) ≡ fronts_of table row
+  pub list : slice_index moves (row * stride table + table.categories + 1) ≡ list_of table row
+  pub accept : slice_index moves (row * stride table + table.categories + 2) ≡ accept_of table row
+
+-- the moves of the first so many rows
+pub record AreFirstMoves (table : Table) (moves : List ℕ) (count : ℕ) : Type 0 where
+  pub all : length moves ≡ count * stride table
+  pub rows : (row : ℕ) → row < count → HasMoves table moves row
+
+-- all rows' moves
+abbrev pub AreMoves : Table → List ℕ → Type 0
+AreMoves table moves = AreFirstMoves table moves (length table.rows)
+
+-- the table is valid, and what is kept beside it is its own
+pub record IsKept (table : Table) (numbers kept moves : List ℕ) : Type 0 where
+  pub valid : IsValidTable table
+  pub in_blocks : AreBlocks table.ranges numbers kept
+  pub in_moves : AreMoves table moves

@@ -1,0 +1,32 @@
+//! Tables: what a compiled list of break rules is when it runs, and one search in it.
+//!
+//! A [`Table`] is made of its [`Parts`] and is always valid. [`Table::next`] finds the next boundary
+//! and reads each character once.
+#![tactic(auto)]
+
+mod bits;
+mod blocks;
+mod error;
+mod fronts;
+mod gather;
+mod limits;
+mod list;
+mod lists;
+mod marks;
+mod moves;
+mod parts;
+mod ranges;
+mod rows;
+mod safe;
+mod search;
+mod table;
+#[cfg(test)]
+mod tests;
+
+pub use error::TableErr;
+pub use list::{ByteList, CellList, NumberList, NumberLists, PartList, RangeList, RowList};
+pub use marks::Marks;
+pub use parts::{Parts, RangeRow, RowHead};
+pub use safe::safe_pairs;
+pub use search::Found;
+pub use table::Table;

@@ -1,0 +1,94 @@
+//! The safe pairs of categories: after both, it no longer matters where a search was.
+ghost use Rattle.std.specs.Prelude.{◌≡◌, ℕ, ◌↔◌, ◌+◌, ◌*◌, ◌^◌, ◌<◌, ◌≤◌, [], length, slice_index, IfOk, OnOk, IsTrue};
+ghost use Rattle.rbbi_table.specs.Parts.{rows_of, AreSteps};
+ghost use Rattle.rbbi_table.specs.Targets.{AreTargets, LeadToOne, ArePairsOf};
+
+use crate::bits::store;
+use crate::gather::add_target;
+use crate::{ByteList, RowHead};
+use std::alloc::{AllocError, Global};
+
+/// Gathers the distinct rows that open rows lead to by one category. An open row is neither row 0 nor
+/// one at which a look-ahead rule is completed.
+fn gather_targets(
+    alloc: Global,
+    rows: &[RowHead],
+    cells: &[u16],
+    width: usize,
+    category: usize,
+    targets: &mut Vec<u16>,
+) -> Result<(), AllocError>
+    requires steps { AreSteps width rows.now cells.now }
+    requires few { length rows.now < 2 ^ 16 }
+    requires category { category < width }
+    ensures { OnOk result
+        (AreTargets (rows_of width rows.now cells.now []) category targets.new.items) }
+{
+    let mut seen = vec![in alloc; false; rows.len()]?;
+    targets.clear();
+    for row in 1..rows.len() {
+        let head = rows[row];
+        if head.accept >= 2 {
+            continue;
+        }
+        add_target(&mut seen, targets, cells[row * width + category])?;
+    }
+    Ok(())
+}
+
+/// Whether all of these rows lead by one category to one row. It stops at the first difference.
+fn lead_to_one(cells: &[u16], width: usize, category: usize, targets: &[u16]) -> bool
+    requires { (i : ℕ) → i < length targets.now →
+        slice_index targets.now i * width + category < length cells.now }
+    ensures { IsTrue result ↔ LeadToOne (rows_of width [] cells.now []) category targets.now }
+{
+    if targets.is_empty() {
+        return true;
+    }
+    let goal = cells[targets[0] as usize * width + category];
+    for target in targets {
+        if cells[*target as usize * width + category] != goal {
+            return false;
+        }
+    }
+    true
+}
+
+/// The bytes of the safe pairs of these rows: the pair of `first` and `second` has the bit with the
+/// number `first * categories + second`, eight a byte, the one of least value first, and the bits that
+/// fill the last byte are 0.
+///
+/// For each first category it gathers the distinct rows that open rows lead to, so that its time grows
+/// with these and not with ways through the table.
+pub fn safe_pairs(
+    alloc: Global,
+    categories: u16,
+    rows: &[RowHead],
+    cells: &[u16],
+) -> Result<ByteList, AllocError>
+    requires steps { AreSteps categories rows.now cells.now }
+    requires few { length rows.now < 2 ^ 16 }
+    ensures { IfOk result (λ bytes. ArePairsOf (rows_of categories rows.now cells.now bytes)) }
+{
+    let width = categories as usize;
+    let mut bytes = vec![in alloc; 0u8; (width * width + 7) / 8]?;
+    let mut targets = Vec::with_capacity(alloc, rows.len())?;
+    for first in 0..width {
+        gather_targets(alloc, rows, cells, width, first, &mut targets)?;
+        for second in 0..width {
+            if lead_to_one(cells, width, second, &targets) {
+                store(&mut bytes, first * width + second);
+            }
+        }
+    }
+    Ok(ByteList::from_vec(bytes))
+}
+
+/// Whether the stored bytes are these.
+pub(crate) fn are_same(bytes: &[u8], stored: &[u8]) -> bool
+    ensures same { IsTrue result ↔ (bytes.now ≡ stored.now) }
+    ensures bytes { (i : ℕ) → slice_index bytes.now i < 256 }
+    ensures stored { (i : ℕ) → slice_index stored.now i < 256 }
+{
+    bytes == stored
+}
