@@ -1,13 +1,18 @@
-// A library with one function.
+//! Conformance tests: texts whose places are marked as boundaries or not, and the verdict on one.
+//!
+//! [`read_tests`] takes the bytes of a test file as its tests, or tells the first bad line. [`judge`]
+//! tells the first place at which a table and a test differ.
 #![tactic(auto)]
 
-ghost use Rattle.std.specs.Prelude.{◌≡◌};
-ghost use Rattle.rbbi_conform.specs.Echo.{echo_of};
+mod error;
+mod line;
+mod reader;
+mod test;
+#[cfg(test)]
+mod tests;
+mod verdict;
 
-// The `ensures` clause is the contract: what `echo` returns is `echo_of` of its argument, a definition
-// in `specs/Echo.antt`, which a caller's clause can cite too.
-pub fn echo(x: usize) -> usize
-    ensures { result ≡ echo_of x }
-{
-    x
-}
+pub use error::TestErr;
+pub use reader::read_tests;
+pub use test::{Test, Tests};
+pub use verdict::{Verdict, judge};
