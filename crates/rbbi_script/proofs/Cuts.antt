@@ -65,6 +65,7 @@ no_field-none text none n rest field =
     seam : (xs ys : List ℕ) → get_or (xs ++ 32 ∷ ys) (length xs) 0 ≡ 32
     seam [] ys = refl
     seam (x ∷ xs) ys = seam xs ys
+
     length_seam : (xs ys : List ℕ) → length xs < length (xs ++ 32 ∷ ys)
     length_seam [] ys = omega arith
     length_seam (x ∷ xs) ys = let l = length_seam xs ys in omega arith

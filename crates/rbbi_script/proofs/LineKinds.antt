@@ -46,6 +46,7 @@ asks_no_edit line k l e question = asks_none line k (omega arith) e (λ n h. abs
     word_is (suc (suc zero)) l = absurd (omega arith)
     word_is (suc zero) l = absurd (omega arith)
     word_is zero l = absurd (omega arith)
+
     none : (n : ℕ) → IsNumbered line (word_of k) n → ⊥
     none n h =
         let z = ap kind (h.spelled ∙ ap (λ w. w ++ h.digits) (word_is k l)) in omega arith

@@ -1,6 +1,7 @@
 -- The characters that the text of an edit writes, piece by piece.
 use Rattle.std.proofs.Common.{◌≡◌, ◌≢◌, ℕ, ◌+◌, ◌<◌, ◌≤◌, List, [], ◌∷◌, ◌++◌, length, get_or, Option, Some, None, refl, ap, sym, subst, ◌∙◌, inl, inr, append_assoc, append-nil, length-append, drop, if◌then◌else◌, ◌==◌, arith}
 use Rattle.std.specs.Prelude.{encode_utf8, encode_utf8_all, IsUtf8, chars, codes, ◌⊎◌}
+use Rattle.std.specs.Char.{InScalarRange, OutOfScalarRange}
 use Rattle.std.specs.List.{AllByRecursion}
 use Rattle.std.proofs.lemmas.Str.{encode_same, encode_ascii, encodes-chars, byte_from_char, length-encode, len_utf8_bounds}
 use Rattle.std.proofs.lemmas.List.{get_or-append-add}
@@ -32,10 +33,12 @@ only_letter b c rest no_number is only = record {
   where
     tail_of : (x y : ℕ) (xs ys : List ℕ) → x ∷ xs ≡ y ∷ ys → (x ≡ y) × (xs ≡ ys)
     tail_of x y xs ys e = (cc, cc)
+
     letter : (x d : ℕ) (other others : List ℕ) → other ≡ x ∷ [] → IsEscape other d → b ∷ rest ≡ other ++ others → (d ≡ c) × (others ≡ rest)
     letter x d other others spelled escape e =
         let parts = tail_of b x rest others (e ∙ ap (λ s. s ++ others) spelled) in
         (only d (subst (λ s. IsEscape s d) (spelled ∙ ap (λ y. y ∷ []) (sym parts.0)) escape), sym parts.1)
+
     each : (other : List ℕ) (d : ℕ) (others : List ℕ) → IsEscape other d → b ∷ rest ≡ other ++ others → (d ≡ c) × (others ≡ rest)
     each other d others (inl n) e = letter 110 d other others n.0 (inl n) e
     each other d others (inr (inl r)) e = letter 114 d other others r.0 (inr (inl r)) e
@@ -101,6 +104,7 @@ only_number text before after c e none number character = record {
   where
     head : (x : ℕ) (xs ys : List ℕ) → 117 ∷ xs ≡ x ∷ ys → 117 ≡ x
     head x xs ys h = cc
+
     each : (other : List ℕ) (d : ℕ) (others : List ℕ) → IsEscape other d → text ≡ other ++ others → (d ≡ c) × (others ≡ after)
     each other d others (inl h) f = absurd (let k = head 110 _ _ (sym e ∙ at_letter 110 other others text h.0 f) in omega arith)
     each other d others (inr (inl h)) f = absurd (let k = head 114 _ _ (sym e ∙ at_letter 114 other others text h.0 f) in omega arith)
@@ -259,3 +263,12 @@ IsWriting-end text word rest h none utf8 =
     nothing [] h = refl
     nothing (c ∷ more) (others, inl p, h) = absurd (empty_is_no_character c others p.spelled)
     nothing (c ∷ more) (others, inr p, h) = absurd (let e = p.spelled in cc)
+
+-- a number of no character that is no greater than the last code point
+pub surrogate_is : (n : ℕ) → OutOfScalarRange n → n ≤ 0x10FFFF → IsSurrogate n
+surrogate_is n (inl within) below = within
+surrogate_is n (inr past) below = absurd (omega arith)
+
+pub no_surrogate : (n : ℕ) → InScalarRange n → ¬ IsSurrogate n
+no_surrogate n (inl low) (above, below) = omega arith
+no_surrogate n (inr high) (above, below) = let bound = high.0 in omega arith

@@ -1,5 +1,5 @@
 -- The lines of replies, and what a call that appends one leaves where memory runs out.
-use Rattle.std.specs.Prelude.{◌≡◌, ℕ, List, ◌++◌, Result, Ok, Err}
+use Rattle.std.specs.Prelude.{◌≡◌, ℕ, List, ◌∷◌, ◌++◌, Result, Ok, Err, decimal}
 use Rattle.rbbi_model.specs.Answers as reply
 use Rattle.rbbi_model.specs.Answers.{Reply}
 use Rattle.rbbi_script.specs.declared.saying.Said.{Said}
@@ -16,6 +16,10 @@ reply_of (Edited length) = reply.Edited length
 reply_of Outside = reply.Outside
 reply_of Inside = reply.Inside
 reply_of TooLong = reply.TooLong
+
+-- a comma and the status
+abbrev pub next_status : ℕ → List ℕ
+next_status status = 44 ∷ decimal status
 
 -- the line was appended; where memory ran out, some front of it
 abbrev pub Appends : {T E : Type 0} → List ℕ → List ℕ → Result T E → List ℕ → Type 0

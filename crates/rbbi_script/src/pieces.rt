@@ -26,8 +26,11 @@ pub(crate) fn cut_at(text: &str, at: char) -> Option<Cut<'_>>
     ensures { MatchOption result (HasNone at text.now)
         (λ cut. IsFirstCut at text.now cut.before.now cut.after.now) }
 {
-    let (before, after) = text.split_once(at)?;
-    Some(Cut { before, after })
+    let parts = text.split_once(at)?;
+    Some(Cut {
+        before: parts.0,
+        after: parts.1,
+    })
 }
 
 /// A number and what follows it and a space.

@@ -1,7 +1,8 @@
 //! The lines of replies.
 ghost use Rattle.std.specs.Prelude.{◌≡◌, ◌++◌, ◌∷◌, [], List, ℕ, decimal};
 ghost use Rattle.rbbi_model.specs.Lines.{reply_lines, joined_statuses, boundary_line};
-ghost use Rattle.rbbi_script.specs.Saying.{reply_of, Appends};
+ghost use Rattle.std.specs.List.{flat_map};
+ghost use Rattle.rbbi_script.specs.Saying.{reply_of, next_status, Appends};
 
 use itoa::Buffer;
 use std::alloc::AllocError;
@@ -74,17 +75,33 @@ pub fn say(said: Said, reply: &mut Vec<u8>) -> Result<(), AllocError>
     }
 }
 
+/// Appends a comma and a status in decimal, or a front of that where memory runs out.
+fn put_next(status: u32, reply: &mut Vec<u8>) -> Result<(), AllocError>
+    ensures { Appends reply.old.items (next_status status) result reply.new.items }
+{
+    put(b",", reply)?;
+    put_number(status, reply)
+}
+
+/// Appends statuses, each behind a comma, or a front of that where memory runs out.
+fn put_others(statuses: &[u32], reply: &mut Vec<u8>) -> Result<(), AllocError>
+    ensures { Appends reply.old.items (flat_map next_status statuses.now) result reply.new.items }
+{
+    for status in statuses {
+        put_next(*status, reply)?;
+    }
+    Ok(())
+}
+
 /// Appends statuses in decimal with commas between, or a front of that where memory runs out.
 fn put_list(list: &[u32], reply: &mut Vec<u8>) -> Result<(), AllocError>
     ensures { Appends reply.old.items (joined_statuses list.now) result reply.new.items }
 {
-    for (i, status) in list.iter().enumerate() {
-        if i > 0 {
-            put(b",", reply)?;
-        }
-        put_number(*status, reply)?;
+    if list.is_empty() {
+        return Ok(());
     }
-    Ok(())
+    put_number(list[0], reply)?;
+    put_others(&list[1..], reply)
 }
 
 /// Appends the line of a list of statuses: the numbers in decimal with commas between, and LF. After
