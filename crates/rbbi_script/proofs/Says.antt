@@ -1,32 +1,35 @@
 -- Fronts of lines that were appended.
-use Rattle.std.proofs.Common.{◌≡◌, ℕ, suc, ◌<◌, length, take, drop, get_or, List, [], ◌∷◌, ◌++◌, Result, Ok, Err, is_ok, cond, refl, ap, sym, ◌∙◌, append_assoc, append-nil, drop-cons, ◌+◌, arith}
+use Rattle.std.proofs.Common.{◌≡◌, ℕ, suc, ◌<◌, length, take, drop, get_or, List, [], ◌∷◌, ◌++◌, Result, Ok, Err, refl, ap, sym, ◌∙◌, append_assoc, append-nil, drop-cons, ◌+◌, arith}
 use Rattle.std.specs.Prelude.{decimal}
 use Rattle.std.specs.List.{flat_map}
 use Rattle.std.proofs.lemmas.List.{take-append-drop, take_more, get_or_default}
 use Rattle.std.proofs.lemmas.Grind.{flat_map-append}
 use Rattle.rbbi_model.specs.Lines.{joined_statuses}
-use Rattle.rbbi_script.specs.Saying.{next_status, Appends}
+use Rattle.rbbi_script.specs.Saying.{next_status, AppendsFront, Appends}
 
--- one call that appends all or nothing
-pub appends_slice : {T E : Type 0} (old line new : List ℕ) (r : Result T E) → new ≡ cond (is_ok r) (old ++ line) old → Appends old line r new
-appends_slice old line new (Ok done) e = e
-appends_slice old line new (Err error) e = ([], line, refl, e ∙ sym (append-nil old))
+-- the first of several parts was not appended whole
+pub front_first : (old first second line new : List ℕ) → line ≡ first ++ second → AppendsFront old first new → AppendsFront old line new
+front_first old first second line new e h = record {
+  front = h.front;
+  back = h.back ++ second;
+  parts = e ∙ ap (λ x. x ++ second) h.parts ∙ append_assoc h.front h.back second;
+  appended = h.appended;
+}
+
+-- a later part was not appended whole
+pub front_later : (old first second line middle new : List ℕ) → middle ≡ old ++ first → line ≡ first ++ second → AppendsFront middle second new → AppendsFront old line new
+front_later old first second line middle new m e h = record {
+  front = first ++ h.front;
+  back = h.back;
+  parts = e ∙ ap (λ x. first ++ x) h.parts ∙ sym (append_assoc first h.front h.back);
+  appended = h.appended ∙ ap (λ x. x ++ h.front) m ∙ append_assoc old first h.front;
+}
 
 -- a second call after one that appended all
 pub appends_then : {T E : Type 0} (old first second line middle new : List ℕ) (r : Result T E) → middle ≡ old ++ first → line ≡ first ++ second → Appends middle second r new → Appends old line r new
-appends_then old first second line middle new (Ok done) m l h =
-    h ∙ ap (λ x. x ++ second) m ∙ append_assoc old first second ∙ ap (λ x. old ++ x) (sym l)
-appends_then old first second line middle new (Err error) m l (front, back, e, f) = (
-  first ++ front,
-  back,
-  l ∙ ap (λ x. first ++ x) e ∙ sym (append_assoc first front back),
-  f ∙ ap (λ x. x ++ front) m ∙ append_assoc old first front,
-)
-
--- the first call of several was refused
-pub appends_front : {T U E F : Type 0} (old first second line new : List ℕ) (error : E) (other : F) → line ≡ first ++ second → Appends {T = T} {E = E} old first (Err error) new → Appends {T = U} {E = F} old line (Err other) new
-appends_front old first second line new error other l (front, back, e, f) =
-    (front, back ++ second, l ∙ ap (λ x. x ++ second) e ∙ append_assoc front back second, f)
+appends_then old first second line middle new (Ok done) m e h =
+    h ∙ ap (λ x. x ++ second) m ∙ append_assoc old first second ∙ ap (λ x. old ++ x) (sym e)
+appends_then old first second line middle new (Err error) m e h = front_later old first second line middle new m e h
 
 -- the first status, and the others behind commas
 pub joined_is : (status : ℕ) (statuses : List ℕ) → joined_statuses (status ∷ statuses) ≡ decimal status ++ flat_map next_status statuses

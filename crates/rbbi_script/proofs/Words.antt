@@ -1,16 +1,18 @@
 -- The characters that the text of an edit writes, piece by piece.
-use Rattle.std.proofs.Common.{◌≡◌, ◌≢◌, ℕ, ◌+◌, ◌<◌, ◌≤◌, List, [], ◌∷◌, ◌++◌, length, get_or, Option, Some, None, refl, ap, sym, subst, ◌∙◌, inl, inr, append_assoc, append-nil, length-append, drop, if◌then◌else◌, ◌==◌, arith}
+use Rattle.std.proofs.Common.{◌≡◌, ◌≢◌, ℕ, Bool, true, false, ◌&&◌, lit<, ◌+◌, ◌<◌, ◌≤◌, List, [], ◌∷◌, ◌++◌, length, get_or, Option, Some, None, refl, ap, sym, subst, ◌∙◌, inl, inr, append_assoc, append-nil, length-append, drop, if◌then◌else◌, ◌==◌, arith}
 use Rattle.std.specs.Prelude.{encode_utf8, encode_utf8_all, IsUtf8, chars, codes, ◌⊎◌}
-use Rattle.std.specs.Char.{InScalarRange, OutOfScalarRange}
-use Rattle.std.specs.List.{AllByRecursion}
-use Rattle.std.proofs.lemmas.Str.{encode_same, encode_ascii, encodes-chars, byte_from_char, length-encode, len_utf8_bounds}
+use Rattle.std.specs.Char.{InScalarRange, OutOfScalarRange, IsScalar, is_ascii_hexdigit}
+use Rattle.std.specs.List.{AllByRecursion, list_all}
+use Rattle.std.proofs.lemmas.Str.{encode_same, encode_ascii, encodes-chars, byte_from_char, length-encode, len_utf8_bounds, chars-append, chars_past_char, chars-nil, IsUtf8-encode, IsUtf8-take, IsUtf8-drop, IsUtf8-past_char, IsCharBoundary-before_ascii, IsCharBoundary-after_ascii}
 use Rattle.std.proofs.lemmas.List.{get_or-append-add}
-use Rattle.std.proofs.Math.Seq.{get_or-append_seam}
+use Rattle.std.proofs.Math.Seq.{get_or-append_seam, take-append_seam, drop-append-add}
+use Rattle.std.proofs.lemmas.Bool.Decides.{nat_tests}
+use Rattle.std.proofs.lemmas.List.Sums.{AllPass-from_list_all}
 use Rattle.rbbi_model.specs.Words.{IsSurrogate}
 use Rattle.rbbi_text.specs.Numbers.{hexadecimal}
 use Rattle.rbbi_script.specs.Grammar.{IsNumberEscape, IsEscape, IsPlain, IsEscaped, Spells}
 use Rattle.rbbi_script.specs.Readings.{HasNone, IsNoEscape, IsNoNumberEscape, IsOnlyEscape, IsOnlyWord}
-use Rattle.rbbi_script.proofs.Cuts.{same_cut, no_brace}
+use Rattle.rbbi_script.proofs.Cuts.{same_cut, no_brace, hexadecimal_pass}
 
 -- the escapes of one letter, or of a number
 at_letter : (b : ℕ) (s r text : List ℕ) → s ≡ b ∷ [] → text ≡ s ++ r → text ≡ b ∷ r
@@ -272,3 +274,62 @@ surrogate_is n (inr past) below = absurd (omega arith)
 pub no_surrogate : (n : ℕ) → InScalarRange n → ¬ IsSurrogate n
 no_surrogate n (inl low) (above, below) = omega arith
 no_surrogate n (inr high) (above, below) = let bound = high.0 in omega arith
+
+-- what stands before and behind a backslash is text
+pub utf8_before : (before after : List ℕ) → IsUtf8 (before ++ 92 ∷ after) → IsUtf8 before
+utf8_before before after utf8 =
+    let at : get_or (before ++ 92 ∷ after) (length before) 0 ≡ 92 = get_or-append_seam before 92 after 0 in
+    let long = length-append before (92 ∷ after) in
+    subst IsUtf8 (take-append_seam before (92 ∷ after))
+    (IsUtf8-take (before ++ 92 ∷ after) (length before) utf8 (IsCharBoundary-before_ascii (before ++ 92 ∷ after) (length before) (omega arith) (omega arith)))
+
+pub utf8_after : (before after : List ℕ) → IsUtf8 (before ++ 92 ∷ after) → IsUtf8 after
+utf8_after before after utf8 =
+    let at : get_or (before ++ 92 ∷ after) (length before) 0 ≡ 92 = get_or-append_seam before 92 after 0 in
+    let long = length-append before (92 ∷ after) in
+    subst IsUtf8 (drop-append-add before (92 ∷ after) 1)
+    (IsUtf8-drop (before ++ 92 ∷ after) (length before + 1) utf8 (IsCharBoundary-after_ascii (before ++ 92 ∷ after) (length before) utf8 (omega arith) (omega arith)))
+
+-- bytes of ASCII
+abbrev AreAscii : List ℕ → Type 0
+AreAscii bytes = AllByRecursion (λ b. b < 128) bytes
+
+utf8_past : (ascii rest : List ℕ) → AreAscii ascii → IsUtf8 (ascii ++ rest) → IsUtf8 rest
+utf8_past [] rest small utf8 = utf8
+utf8_past (b ∷ ascii) rest small utf8 =
+    utf8_past ascii rest small.1 (IsUtf8-past_char (b ∷ ascii ++ rest) (ascii ++ rest) b utf8 (ap (λ x. x ++ (ascii ++ rest)) (sym (encode_ascii b small.0))))
+
+ascii_append : (xs ys : List ℕ) → AreAscii xs → AreAscii ys → AreAscii (xs ++ ys)
+ascii_append [] ys h k = k
+ascii_append (x ∷ xs) ys h k = (h.0, ascii_append xs ys h.1 k)
+
+hexdigit_is_ascii : (b : ℕ) → is_ascii_hexdigit b ≡ true → b < 128
+hexdigit_is_ascii b h = grind (arith, nat_tests)
+
+ascii_digits : (digits : List ℕ) → list_all is_ascii_hexdigit digits ≡ true → AreAscii digits
+ascii_digits [] h = tt
+ascii_digits (d ∷ digits) h = (hexdigit_is_ascii d (AllPass-from_list_all is_ascii_hexdigit (d ∷ digits) h 0 0 (omega arith)), ascii_digits digits (and_true_right (is_ascii_hexdigit d) (list_all is_ascii_hexdigit digits) h))
+  where
+    and_true_right : (a b : Bool) → (a && b) ≡ true → b ≡ true
+    and_true_right true b e = e
+    and_true_right false b e = absurd (cc)
+
+ascii_escape : (spelling : List ℕ) (c : ℕ) → IsEscape spelling c → AreAscii spelling
+ascii_escape s c (inl h) = subst AreAscii (sym h.0) (lit< tt, tt)
+ascii_escape s c (inr (inl h)) = subst AreAscii (sym h.0) (lit< tt, tt)
+ascii_escape s c (inr (inr (inl h))) = subst AreAscii (sym h.0) (lit< tt, tt)
+ascii_escape s c (inr (inr (inr (inl h)))) = subst AreAscii (sym h.0) (lit< tt, tt)
+ascii_escape s c (inr (inr (inr (inr h)))) =
+    subst AreAscii (sym h.spelled)
+    (lit< tt, lit< tt, ascii_append h.digits (codes "}") (ascii_digits h.digits (hexadecimal_pass h.digits 1 6 0x10FFFF c h.number)) (lit< tt, tt))
+
+-- what stands behind an escape is text
+pub utf8_left : (before after : List ℕ) (c : ℕ) (left : List ℕ) → IsUtf8 (before ++ 92 ∷ after) → IsOnlyEscape after c left → IsUtf8 left
+utf8_left before after c left utf8 escape =
+    utf8_past escape.spelling left (ascii_escape escape.spelling c escape.is) (subst IsUtf8 escape.parts (utf8_after before after utf8))
+
+-- a character more
+pub chars-push : (bs : List ℕ) (c : ℕ) → IsUtf8 bs → IsScalar c → chars (bs ++ encode_utf8 c) ≡ chars bs ++ c ∷ []
+chars-push bs c utf8 scalar =
+    chars-append bs (encode_utf8 c) utf8
+    ∙ ap (λ x. chars bs ++ x) (chars_past_char (encode_utf8 c) [] c (IsUtf8-encode c scalar) (sym (append-nil (encode_utf8 c))) ∙ ap (λ x. c ∷ x) chars-nil)

@@ -21,7 +21,14 @@ reply_of TooLong = reply.TooLong
 abbrev pub next_status : ℕ → List ℕ
 next_status status = 44 ∷ decimal status
 
--- the line was appended; where memory ran out, some front of it
+-- a front of the line was appended
+pub record AppendsFront (old line new : List ℕ) : Type 0 where
+  pub front : List ℕ
+  pub back : List ℕ
+  pub parts : line ≡ front ++ back
+  pub appended : new ≡ old ++ front
+
+-- the line was appended; where memory ran out, a front of it
 abbrev pub Appends : {T E : Type 0} → List ℕ → List ℕ → Result T E → List ℕ → Type 0
 Appends old line (Ok done) new = new ≡ old ++ line
-Appends old line (Err error) new = (front : List ℕ) × (back : List ℕ) × (line ≡ front ++ back) × (new ≡ old ++ front)
+Appends old line (Err error) new = AppendsFront old line new

@@ -1,5 +1,5 @@
 //! The text of an edit.
-ghost use Rattle.std.specs.Prelude.{◌≡◌, IfOk, MatchOption};
+ghost use Rattle.std.specs.Prelude.{◌≡◌, ◌∷◌, [], ◌++◌, IfOk, OnOk, MatchOption, chars, string_bytes};
 ghost use Rattle.rbbi_script.specs.Readings.{IsNoEscape, IsNoNumberEscape, IsOnlyEscape, IsWordOf};
 
 use crate::pieces::{after, cut_at};
@@ -63,6 +63,14 @@ fn numbered(text: &str) -> Option<Escape<'_>>
     })
 }
 
+/// Adds a character to a word.
+fn push_character(word: &mut String, c: char) -> Result<(), AllocError>
+    ensures { OnOk result
+        (chars (string_bytes word.new) ≡ chars (string_bytes word.old) ++ c ∷ []) }
+{
+    word.push(c)
+}
+
 /// The characters that the text of an edit writes, each as itself or as an escape; none where a
 /// backslash begins no escape.
 pub(crate) fn word_of(alloc: Global, text: &str) -> Result<Option<Word>, AllocError>
@@ -75,7 +83,7 @@ pub(crate) fn word_of(alloc: Global, text: &str) -> Result<Option<Word>, AllocEr
             return Ok(None);
         };
         word.push_str(cut.before)?;
-        word.push(escape.character)?;
+        push_character(&mut word, escape.character)?;
         rest = escape.rest;
     }
     word.push_str(rest)?;

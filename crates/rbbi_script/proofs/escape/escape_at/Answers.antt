@@ -1,23 +1,28 @@
-use Rattle.std.proofs.Common.{rules, ◌≡◌, IfOk, MatchOption, ℕ, ◌+◌, ◌-◌, ◌*◌, ◌<◌, ◌≤◌, length, ◌/◌, ◌%◌, Bool, true, false, nat_eq, nat_lt, List, [], ◌∷◌, ◌++◌, slice_index_or, slice_set, bit_and, bit_or, Fits, w8, w32, w64, Bor, MutBor}
-use Rattle.rbbi_script.specs.Readings.{IsNoEscape, IsNoNumberEscape, IsOnlyEscape, IsWordOf}
+use Rattle.std.proofs.Common.{List, ℕ, Option, Some, None, MatchOption, arith}
+use Rattle.rbbi_script.specs.declared.escape.Escape.{Escape}
+use Rattle.rbbi_script.specs.Readings.{IsNoEscape, IsNoNumberEscape, IsOnlyEscape}
+use Rattle.rbbi_script.proofs.Words.{letter, line_feed, carriage_return, tab, backslash, no_escape}
 use Rattle.rbbi_script.proofs.escape.escape_at.Goals as goal
 
--- src/escape.rt:25:9
 pub returns-in-Some : goal.returns-in-Some
-returns-in-Some c = ?
+returns-in-Some c = letter 110 10 c.args.text.now c.in-Some.rest.now (λ k. omega arith) line_feed c.in-Some.ensures
 
--- src/escape.rt:31:9
 pub returns-in-Some-after : goal.returns-in-Some-after
-returns-in-Some-after c = ?
+returns-in-Some-after c = letter 114 13 c.args.text.now c.in-Some-after.rest.now (λ k. omega arith) carriage_return c.in-Some-after.ensures
 
--- src/escape.rt:37:9
 pub returns-in-Some-after-2 : goal.returns-in-Some-after-2
-returns-in-Some-after-2 c = ?
+returns-in-Some-after-2 c = letter 116 9 c.args.text.now c.in-Some-after-2.rest.now (λ k. omega arith) tab c.in-Some-after-2.ensures
 
--- src/escape.rt:43:9
 pub returns-in-Some-after-3 : goal.returns-in-Some-after-3
-returns-in-Some-after-3 c = ?
+returns-in-Some-after-3 c = letter 92 92 c.args.text.now c.in-Some-after-3.rest.now (λ k. omega arith) backslash c.in-Some-after-3.ensures
 
--- src/escape.rt:20:1
+numbers_alone : (text : List ℕ) (found : Option Escape) → (IsNoNumberEscape text → IsNoEscape text) → MatchOption found (IsNoNumberEscape text) (λ e. IsOnlyEscape text e.character e.rest.now) →
+    MatchOption found (IsNoEscape text) (λ e. IsOnlyEscape text e.character e.rest.now)
+numbers_alone text None none h = none h
+numbers_alone text (Some e) none h = h
+
 pub returns : goal.returns
-returns c = ?
+returns c =
+    numbers_alone c.args.text.now c.numbered.result
+    (no_escape c.args.text.now c.in_default.ensures c.in_default-after.ensures c.in_default-after-2.ensures c.in_default-after-3.ensures)
+    c.numbered.ensures

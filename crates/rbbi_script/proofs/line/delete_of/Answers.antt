@@ -1,15 +1,26 @@
-use Rattle.std.proofs.Common.{rules, ◌++◌, IfOk, codes, ◌≡◌, ℕ, ◌+◌, ◌-◌, ◌*◌, ◌<◌, ◌≤◌, length, ◌/◌, ◌%◌, Bool, true, false, nat_eq, nat_lt, List, [], ◌∷◌, slice_index_or, slice_set, bit_and, bit_or, Fits, w8, w32, w64, Bor, MutBor}
-use Rattle.rbbi_script.specs.Readings.{IsCommandOf}
+use Rattle.std.proofs.Common.{◌≡◌, ℕ, List, [], Some, None, ap, sym, subst, ◌∙◌}
+use Rattle.std.specs.Prelude.{chars}
+use Rattle.std.proofs.lemmas.Str.{chars-nil}
+use Rattle.rbbi_model.specs.Scripts.{Replace}
+use Rattle.rbbi_text.specs.Numbers.{decimal}
+use Rattle.rbbi_script.specs.Grammar.{most_number, Writes}
+use Rattle.rbbi_script.proofs.EditLines.{delete_no_place, delete_no_count, deletes}
 use Rattle.rbbi_script.proofs.line.delete_of.Goals as goal
 
--- src/line.rt:50:9
 pub returns-in_default : goal.returns-in_default
-returns-in_default c = ?
+returns-in_default c = delete_no_place c.args.fields.now c.in_default.ensures
 
--- src/line.rt:53:9
+no_count : (digits : List ℕ) → None ≡ decimal most_number digits → (m : ℕ) → decimal most_number digits ≡ Some m → ⊥
+no_count digits none m some = let clash : None ≡ Some m = none ∙ some in cc
+
 pub returns-in_default-decimal : goal.returns-in_default-decimal
-returns-in_default-decimal c = ?
+returns-in_default-decimal c =
+    delete_no_count c.args.fields.now c.in-Some.at.number c.in-Some.at.rest.now c.in-Some.ensures
+    (no_count c.in-Some.at.rest.now (c.in_default-decimal.ensures.value ∙ ap (decimal most_number) c.as_bytes.ensures.value))
 
--- src/line.rt:46:1
 pub returns : goal.returns
-returns c = ?
+returns c =
+    let empty : c.in_ok-text.text ≡ [] = c.in_ok-text.ensures ∙ chars-nil in
+    rw empty
+    (deletes c.args.fields.now c.in-Some.at.number c.in-Some.at.rest.now c.in-Some-decimal.remove c.in-Some.ensures.is
+    (ap (decimal most_number) (sym c.as_bytes.ensures.value) ∙ sym c.in-Some-decimal.ensures.value))

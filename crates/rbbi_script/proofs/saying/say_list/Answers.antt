@@ -1,13 +1,13 @@
 use Rattle.std.proofs.Common.{[], ◌∷◌, refl}
 use Rattle.std.proofs.lemmas.Result.{err_from_is_err_and}
 use Rattle.rbbi_model.specs.Lines.{joined_statuses}
-use Rattle.rbbi_script.proofs.Says.{appends_then, appends_front}
+use Rattle.rbbi_script.proofs.Says.{front_first, appends_then}
 use Rattle.rbbi_script.proofs.saying.say_list.Goals as goal
 
 pub returns-in_err-put_list : goal.returns-in_err-put_list
 returns-in_err-put_list c =
     let told = err_from_is_err_and c.from_residual.result c.from_residual.ensures.1 in
-    rw told.1 (appends_front c.args.reply.now.items (joined_statuses c.args.list.now) (10 ∷ []) _ _ _ _ refl c.in_err-put_list.ensures)
+    rw told.1 (front_first c.args.reply.now.items (joined_statuses c.args.list.now) (10 ∷ []) _ _ refl c.in_err-put_list.ensures)
 
 pub returns : goal.returns
 returns c =
