@@ -20,7 +20,10 @@ kind line =
 
 -- the word of a question with a number
 abbrev pub word_of : ℕ → List ℕ
-word_of k = if k == 1 then codes "following " else (if k == 2 then codes "preceding " else codes "is ")
+word_of zero = []
+word_of (suc zero) = codes "following "
+word_of (suc (suc zero)) = codes "preceding "
+word_of (suc (suc (suc k))) = codes "is "
 
 -- a line of this kind asks no question but one with its word and a number
 pub asks_none : (line : List ℕ) (k : ℕ) → 0 < k → kind line ≡ k → ((n : ℕ) → ¬ IsNumbered line (word_of k) n) → (question : Question) → ¬ Asks line question
@@ -50,43 +53,3 @@ asks_no_edit line k l e question = asks_none line k (omega arith) e (λ n h. abs
     none : (n : ℕ) → IsNumbered line (word_of k) n → ⊥
     none n h =
         let z = ap kind (h.spelled ∙ ap (λ w. w ++ h.digits) (word_is k l)) in omega arith
-
--- a line of a question with a number writes nothing but that question and edits
-pub numbered_none : (line : List ℕ) (k : ℕ) → 0 < k → kind line ≡ k → ((n : ℕ) → ¬ IsNumbered line (word_of k) n) → (command : model.Command) → Writes line command → IsEdit command
-numbered_none line k l e none (Ask question) h = absurd (asks_none line k l e none question h)
-numbered_none line k l e none (Replace at removed inserted) h = tt
-numbered_none line k l e none ShowText h = absurd (let z = ap kind h in omega arith)
-
--- a line with no number behind its word isn't numbered
-pub no_number : (word line digits : List ℕ) (n : ℕ) → line ≡ word ++ digits → ((m : ℕ) → ¬ WritesNumber digits m) → ((xs ys : List ℕ) → word ++ xs ≡ word ++ ys → xs ≡ ys) → ¬ IsNumbered line word n
-no_number word line digits n e bad cancel h =
-    bad n (subst (λ t. WritesNumber t n) (cancel h.digits digits (sym h.spelled ∙ e)) h.number)
-
-some_same : (a b : model.Command) → Some a ≡ Some b → a ≡ b
-some_same a b e = cc
-
--- a line that is no question with a number and no name of a command
-pub unnamed_none : (line : List ℕ) → ((r : List ℕ) → line ≢ codes "following " ++ r) → ((r : List ℕ) → line ≢ codes "preceding " ++ r) → ((r : List ℕ) → line ≢ codes "is " ++ r) → named line ≡ None →
-    (command : model.Command) → Writes line command → IsEdit command
-unnamed_none line f p i n (Replace at removed inserted) h = tt
-unnamed_none line f p i n (Ask First) h = absurd (let z = sym n ∙ ap named h in cc)
-unnamed_none line f p i n (Ask Last) h = absurd (let z = sym n ∙ ap named h in cc)
-unnamed_none line f p i n (Ask Next) h = absurd (let z = sym n ∙ ap named h in cc)
-unnamed_none line f p i n (Ask Previous) h = absurd (let z = sym n ∙ ap named h in cc)
-unnamed_none line f p i n (Ask (Following m)) h = absurd (f h.digits h.spelled)
-unnamed_none line f p i n (Ask (Preceding m)) h = absurd (p h.digits h.spelled)
-unnamed_none line f p i n (Ask (IsBoundary m)) h = absurd (i h.digits h.spelled)
-unnamed_none line f p i n (Ask Current) h = absurd (let z = sym n ∙ ap named h in cc)
-unnamed_none line f p i n (Ask Status) h = absurd (let z = sym n ∙ ap named h in cc)
-unnamed_none line f p i n (Ask Statuses) h = absurd (let z = sym n ∙ ap named h in cc)
-unnamed_none line f p i n (Ask Breaks) h = absurd (let z = sym n ∙ ap named h in cc)
-unnamed_none line f p i n ShowText h = absurd (let z = sym n ∙ ap named h in cc)
-
--- a line that is none of the three edits writes no command where it writes no other
-pub unedited_none : (line : List ℕ) → ((r : List ℕ) → line ≢ codes "insert " ++ r) → ((r : List ℕ) → line ≢ codes "delete " ++ r) → ((r : List ℕ) → line ≢ codes "replace " ++ r) →
-    ((command : model.Command) → Writes line command → IsEdit command) → (command : model.Command) → ¬ Writes line command
-unedited_none line i d r others (Ask question) h = others (Ask question) h
-unedited_none line i d r others ShowText h = others ShowText h
-unedited_none line i d r others (Replace at removed inserted) (inl h) = i h.fields h.spelled
-unedited_none line i d r others (Replace at removed inserted) (inr (inl h)) = d h.fields h.spelled
-unedited_none line i d r others (Replace at removed inserted) (inr (inr h)) = r h.fields h.spelled

@@ -321,7 +321,7 @@ ascii_escape s c (inr (inr (inl h))) = subst AreAscii (sym h.0) (lit< tt, tt)
 ascii_escape s c (inr (inr (inr (inl h)))) = subst AreAscii (sym h.0) (lit< tt, tt)
 ascii_escape s c (inr (inr (inr (inr h)))) =
     subst AreAscii (sym h.spelled)
-    (lit< tt, lit< tt, ascii_append h.digits (codes "}") (ascii_digits h.digits (hexadecimal_pass h.digits 1 6 0x10FFFF c h.number)) (lit< tt, tt))
+    (lit< tt, (lit< tt, ascii_append h.digits (codes "}") (ascii_digits h.digits (hexadecimal_pass h.digits 1 6 0x10FFFF c h.number)) (lit< tt, tt)))
 
 -- what stands behind an escape is text
 pub utf8_left : (before after : List ℕ) (c : ℕ) (left : List ℕ) → IsUtf8 (before ++ 92 ∷ after) → IsOnlyEscape after c left → IsUtf8 left

@@ -27,12 +27,16 @@ pub record IsFirstBadLine (lines : List (List ℕ)) (number : ℕ) : Type 0 wher
   pub good : (commands : List Command) × LinesWrite before commands
   pub bad : IsBad line
 
+-- why the lines are refused
+abbrev pub RefusesLines : List (List ℕ) → ScriptErr → Type 0
+RefusesLines lines (NotUtf8 at) = ⊥
+RefusesLines lines (BadLine line) = IsFirstBadLine lines line
+RefusesLines lines Memory = Unit {0}
+
 -- what reading the lines answers
 abbrev pub ReadsLines : List (List ℕ) → Result (List Command) ScriptErr → Type 0
 ReadsLines lines (Ok commands) = LinesWrite lines commands
-ReadsLines lines (Err (NotUtf8 at)) = ⊥
-ReadsLines lines (Err (BadLine line)) = IsFirstBadLine lines line
-ReadsLines lines (Err Memory) = Unit {0}
+ReadsLines lines (Err error) = RefusesLines lines error
 
 -- what reading a script answers
 abbrev pub ReadsScript : List ℕ → Result (List Command) ScriptErr → Type 0

@@ -43,7 +43,7 @@ returns c =
     let word = string_bytes c.loop-cut.word in
     let whole : c.in_ok-word.word ≡ chars word ++ chars c.loop-cut.rest.now =
     c.in_ok-word.ensures
-    ∙ ap chars c.deref.ensures.value
+    ∙ ap chars c.deref.ensures
     ∙ ap chars c.in_ok-push_str-2.ensures.bytes
     ∙ chars-append word c.loop-cut.rest.now (IsUtf8-string_bytes c.loop-cut.word) in
     subst (IsOnlyWord c.args.text.now) (sym whole)
