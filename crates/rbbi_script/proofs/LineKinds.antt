@@ -1,12 +1,9 @@
 -- Lines that begin with different words write different commands.
-use Rattle.std.proofs.Common.{◌≡◌, ◌≢◌, ℕ, zero, suc, ◌≤◌, ◌<◌, Bool, true, false, List, [], ◌∷◌, ◌++◌, Option, Some, None, refl, ap, sym, subst, ◌∙◌, inl, inr, drop, if◌then◌else◌, ◌==◌, arith}
-use Rattle.std.specs.Prelude.{nat_eq, codes, ◌⊎◌, option_map, bytes_eq}
+use Rattle.std.proofs.Common.{◌≡◌, ℕ, zero, suc, ◌<◌, List, [], ◌++◌, refl, ap, sym, subst, ◌∙◌, if◌then◌else◌, arith}
+use Rattle.std.specs.Prelude.{nat_eq, codes}
 use Rattle.std.specs.List.{starts_with}
 use Rattle.rbbi_model.specs.Answers.{Question, First, Last, Next, Previous, Following, Preceding, IsBoundary, Current, Status, Statuses, Breaks}
-use Rattle.rbbi_model.specs.Scripts.{Ask, Replace, ShowText}
-use Rattle.rbbi_model.specs.Scripts as model
-use Rattle.rbbi_script.specs.Grammar.{WritesNumber, IsNumbered, Asks, Writes, IsInsert, IsDelete, IsReplace}
-use Rattle.rbbi_script.specs.Readings.{IsEdit, named}
+use Rattle.rbbi_script.specs.Grammar.{IsNumbered, Asks}
 
 -- the number of the word with a space behind it that begins the line, or 0
 abbrev pub kind : List ℕ → ℕ

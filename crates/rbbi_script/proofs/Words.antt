@@ -1,6 +1,6 @@
 -- The characters that the text of an edit writes, piece by piece.
 use Rattle.std.proofs.Common.{◌≡◌, ◌≢◌, ℕ, Bool, true, false, ◌&&◌, lit<, ◌+◌, ◌<◌, ◌≤◌, List, [], ◌∷◌, ◌++◌, length, get_or, Option, Some, None, refl, ap, sym, subst, ◌∙◌, inl, inr, append_assoc, append-nil, length-append, drop, if◌then◌else◌, ◌==◌, arith}
-use Rattle.std.specs.Prelude.{encode_utf8, encode_utf8_all, IsUtf8, chars, codes, ◌⊎◌}
+use Rattle.std.specs.Prelude.{encode_utf8, encode_utf8_all, IsUtf8, chars, codes}
 use Rattle.std.specs.Char.{InScalarRange, OutOfScalarRange, IsScalar, is_ascii_hexdigit}
 use Rattle.std.specs.List.{AllByRecursion, list_all}
 use Rattle.std.proofs.lemmas.Str.{encode_same, encode_ascii, encodes-chars, byte_from_char, length-encode, len_utf8_bounds, chars-append, chars_past_char, chars-nil, IsUtf8-encode, IsUtf8-take, IsUtf8-drop, IsUtf8-past_char, IsCharBoundary-before_ascii, IsCharBoundary-after_ascii}
@@ -10,7 +10,7 @@ use Rattle.std.proofs.lemmas.Bool.Decides.{nat_tests}
 use Rattle.std.proofs.lemmas.List.Sums.{AllPass-from_list_all}
 use Rattle.rbbi_model.specs.Words.{IsSurrogate}
 use Rattle.rbbi_text.specs.Numbers.{hexadecimal}
-use Rattle.rbbi_script.specs.Grammar.{IsNumberEscape, IsEscape, IsPlain, IsEscaped, Spells}
+use Rattle.rbbi_script.specs.Grammar.{IsNumberEscape, IsEscape, Spells}
 use Rattle.rbbi_script.specs.Readings.{HasNone, IsNoEscape, IsNoNumberEscape, IsOnlyEscape, IsOnlyWord}
 use Rattle.rbbi_script.proofs.Cuts.{same_cut, no_brace, hexadecimal_pass}
 

@@ -1,5 +1,5 @@
 -- What the calls that read parts of a line answer.
-use Rattle.std.specs.Prelude.{◌≡◌, ◌≢◌, ℕ, ◌+◌, ◌<◌, List, [], ◌∷◌, ◌++◌, length, get_or, Option, Some, None, bytes_eq, codes, if◌then◌else◌}
+use Rattle.std.specs.Prelude.{◌≡◌, ◌≢◌, ℕ, ◌<◌, List, ◌∷◌, ◌++◌, length, get_or, Option, Some, None, bytes_eq, codes, if◌then◌else◌}
 use Rattle.rbbi_model.specs.Scripts.{Ask, Replace, ShowText}
 use Rattle.rbbi_model.specs.Scripts as model
 use Rattle.rbbi_model.specs.Answers as question

@@ -1,4 +1,4 @@
-use Rattle.std.proofs.Common.{◌≡◌, ℕ, List, [], ◌∷◌, ◌++◌, ap, sym, subst, ◌∙◌}
+use Rattle.std.proofs.Common.{◌≡◌, [], ◌∷◌, ◌++◌, ap, sym, subst, ◌∙◌}
 use Rattle.std.specs.Prelude.{chars, string_bytes, IsUtf8}
 use Rattle.std.proofs.lemmas.Str.{IsUtf8-string_bytes, chars-nil, chars-append}
 use Rattle.rbbi_script.specs.Readings.{IsOnlyWord}

@@ -1,9 +1,7 @@
-use Rattle.std.proofs.Common.{◌≡◌, ℕ, List, [], Some, None, ap, sym, subst, ◌∙◌}
-use Rattle.std.specs.Prelude.{chars}
+use Rattle.std.proofs.Common.{◌≡◌, ℕ, List, [], Some, None, ap, sym, ◌∙◌}
 use Rattle.std.proofs.lemmas.Str.{chars-nil}
-use Rattle.rbbi_model.specs.Scripts.{Replace}
 use Rattle.rbbi_text.specs.Numbers.{decimal}
-use Rattle.rbbi_script.specs.Grammar.{most_number, Writes}
+use Rattle.rbbi_script.specs.Grammar.{most_number}
 use Rattle.rbbi_script.proofs.EditLines.{delete_no_place, delete_no_count, deletes}
 use Rattle.rbbi_script.proofs.line.delete_of.Goals as goal
 
