@@ -1,5 +1,5 @@
 //! A test, and the list of the tests of a file.
-ghost use Rattle.std.specs.Prelude.{◌≡◌, ◌-◌, ◌<◌, ◌≤◌, List, [], ◌∷◌, ◌++◌, length, slice_get, slice_index, Some, OnOk, OnErr};
+ghost use Rattle.std.specs.Prelude.{◌≡◌, ◌-◌, ◌<◌, ◌≤◌, List, [], ◌∷◌, ◌++◌, length, slice_get, slice_index_or, false, Some, OnOk, OnErr};
 ghost use Rattle.rbbi_conform.specs.Tests.{Test};
 
 use rbbi_text::PlainText;
@@ -54,7 +54,7 @@ impl Test {
     pub fn mark(&self, i: u32) -> bool
         requires first { 1 ≤ i }
         requires last { i ≤ length self.now.text }
-        ensures { result ≡ slice_index self.now.marks (i - 1) }
+        ensures { result ≡ slice_index_or self.now.marks (i - 1) false }
     {
         self.marks[i as usize - 1]
     }

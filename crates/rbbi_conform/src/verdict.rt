@@ -1,7 +1,7 @@
 //! The verdict on a test.
-ghost use Rattle.std.specs.Prelude.{◌≡◌};
+ghost use Rattle.std.specs.Prelude.{◌≡◌, ◌<◌, ◌≤◌, length, MatchOption};
 ghost use Rattle.rbbi_model.specs.Searches.{table_boundaries};
-ghost use Rattle.rbbi_conform.specs.Verdicts.{IsVerdict};
+ghost use Rattle.rbbi_conform.specs.Verdicts.{IsVerdict, AreRight, IsFirstWrong};
 
 use crate::Test;
 use rbbi_table::{Marks, Table};
@@ -43,7 +43,12 @@ pub fn judge<L: Ledger>(
 
 /// The first place past `last` and up to `next` whose mark is wrong, where `next` is the first boundary
 /// past `last`.
-fn first_wrong(test: &Test, last: u32, next: u32) -> Option<u32> {
+fn first_wrong(test: &Test, last: u32, next: u32) -> Option<u32>
+    requires past { last < next }
+    requires within { next ≤ length test.now.text }
+    ensures { MatchOption result (AreRight test.now last next next)
+        (IsFirstWrong test.now last next) }
+{
     for place in last + 1..next {
         if test.mark(place) {
             return Some(place);
