@@ -1,5 +1,5 @@
 -- What a line of a test file writes. A line is a list of bytes. 9 is a tab, 32 a space and 35 is `#`.
-use Rattle.std.specs.Prelude.{◌≡◌, ℕ, Bool, true, false, not, ◌||◌, ◌==◌, List, [], ◌∷◌, length, filter, Some, encode_utf8}
+use Rattle.std.specs.Prelude.{◌≡◌, ℕ, Bool, true, false, not, ◌||◌, ◌==◌, List, [], ◌∷◌, length, filter, Some}
 use Rattle.std.specs.List.{list_all, before_first, slice_split}
 use Rattle.rbbi_model.specs.Words.{IsSurrogate}
 use Rattle.rbbi_text.specs.Numbers.{hexadecimal}
@@ -20,10 +20,10 @@ is_skipped line = list_all is_blank (before_comment line)
 abbrev pub words_of : List ℕ → List (List ℕ)
 words_of text = filter (λ word. not (length word == 0)) (slice_split is_blank text)
 
--- the word is the mark of a boundary, U+00F7, or of none, U+00D7
+-- the word is the mark of a boundary, U+00F7, or of none, U+00D7, in UTF-8
 abbrev pub IsMark : List ℕ → Bool → Type 0
-IsMark word true = word ≡ encode_utf8 0xF7
-IsMark word false = word ≡ encode_utf8 0xD7
+IsMark word true = word ≡ 0xC3 ∷ 0xB7 ∷ []
+IsMark word false = word ≡ 0xC3 ∷ 0x97 ∷ []
 
 -- the word is four to six hexadecimal digits of the character
 pub record IsCodePoint (word : List ℕ) (c : ℕ) : Type 0 where
