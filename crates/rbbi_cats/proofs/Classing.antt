@@ -1,5 +1,6 @@
 -- The numbered ranges are the classes of code points that the sets don't tell apart.
-use Rattle.std.proofs.Common.{◌≡◌, ℕ, zero, suc, ◌+◌, ◌-◌, ◌≤◌, ◌<◌, ◌⊎◌, ◌↔◌, cond, List, [], ◌∷◌, ◌++◌, length, get_or, refl, ap, sym, ◌∙◌, subst, inl, inr, arith}
+use Rattle.std.proofs.Common.{◌≡◌, ℕ, zero, suc, ◌+◌, ◌-◌, ◌≤◌, ◌<◌, ◌⊎◌, ◌↔◌, cond, List, [], ◌∷◌, ◌++◌, length, get_or, refl, ap, sym, ◌∙◌, subst, inl, inr}
+use Rattle.std.proofs.Common.{arith}
 use Rattle.std.specs.Prelude.{Contains, flat_map}
 use Rattle.std.specs.List.{AllByRecursion}
 use Rattle.std.specs.List.Sorted.{IsStrictlyIncreasing}
@@ -43,8 +44,10 @@ in_second (x ∷ xs) ys n h = inr (in_second xs ys n h)
 -- where membership may change at one range
 in_ends : (range : Range) → In (ends_of range) range.low × (range.high < last_code_point → In (ends_of range) (range.high + 1))
 in_ends range = elim (cases_lt range.high last_code_point) [
-  | inl inside ↦ subst (λ (l : List ℕ). In l range.low × (range.high < last_code_point → In l (range.high + 1))) (sym (if_inside range inside)) (inl refl, λ less. inr (inl refl))
-  | inr last ↦ subst (λ (l : List ℕ). In l range.low × (range.high < last_code_point → In l (range.high + 1))) (sym (if_last range last)) (inl refl, λ less. absurd (omega (arith, less, last)))
+  | inl inside ↦ subst (λ (l : List ℕ). In l range.low × (range.high < last_code_point → In l (range.high + 1))) (sym (if_inside range inside))
+      (inl refl, λ less. inr (inl refl))
+  | inr last ↦ subst (λ (l : List ℕ). In l range.low × (range.high < last_code_point → In l (range.high + 1))) (sym (if_last range last))
+      (inl refl, λ less. absurd (omega (arith, less, last)))
 ]
   where
     if_inside : (range : Range) → range.high < last_code_point → ends_of range ≡ range.low ∷ (range.high + 1) ∷ []
@@ -69,15 +72,29 @@ alike_set (range ∷ set) c d ordered small none =
     let high : (d ≤ range.high) ⊎ (range.high < c) = elim (cases_lt range.high d) [
       | inl short ↦ elim (cases_lt range.high c) [
         | inl before ↦ inr before
-        | inr between ↦ absurd (none (range.high + 1) (in_first (ends_of range) (set_ends set) (range.high + 1) (ends.1 (omega (arith, short, small)))) (omega (arith, between)) (omega (arith, short)))
+        | inr between ↦ absurd (none (range.high + 1) (in_first (ends_of range) (set_ends set) (range.high + 1) (ends.1 (omega (arith, short, small))))
+            (omega (arith, between)) (omega (arith, short)))
       ]
       | inr long ↦ inl long
     ] in (
-      λ h. elim h [ inl i ↦ inl (elim low [ inl a ↦ omega (arith, i.0, ordered) | inr b ↦ omega (arith, i.0, ordered) ], elim high [ inl a ↦ a | inr b ↦ absurd (omega (arith, i.1, b)) ]) | inr l ↦ inr (rest.0 l) ],
-      λ h. elim h [ inl i ↦ inl (elim low [ inl a ↦ a | inr b ↦ absurd (omega (arith, i.0, b)) ], elim high [ inl a ↦ omega (arith, i.1, ordered) | inr b ↦ omega (arith, i.1, ordered) ]) | inr l ↦ inr (rest.1 l) ],
+      λ h. elim h [
+        | inl i ↦ inl (
+          elim low [ inl a ↦ omega (arith, i.0, ordered) | inr b ↦ omega (arith, i.0, ordered) ],
+          elim high [ inl a ↦ a | inr b ↦ absurd (omega (arith, i.1, b)) ],
+        )
+        | inr l ↦ inr (rest.0 l)
+      ],
+      λ h. elim h [
+        | inl i ↦ inl (
+          elim low [ inl a ↦ a | inr b ↦ absurd (omega (arith, i.0, b)) ],
+          elim high [ inl a ↦ omega (arith, i.1, ordered) | inr b ↦ omega (arith, i.1, ordered) ],
+        )
+        | inr l ↦ inr (rest.1 l)
+      ],
     )
 
-alike_sets : (sets : List (List Range)) (c d : ℕ) → c ≤ d → d ≤ last_code_point → ((e : ℕ) → In (flat_map set_ends sets) e → c < e → e ≤ d → ⊥) → NoneTells sets c d
+alike_sets : (sets : List (List Range)) (c d : ℕ) → c ≤ d → d ≤ last_code_point → ((e : ℕ) → In (flat_map set_ends sets) e → c < e → e ≤ d → ⊥) →
+    NoneTells sets c d
 alike_sets [] c d ordered small none = tt
 alike_sets (set ∷ sets) c d ordered small none = (
   alike_set set c d ordered small (λ e h. none e (in_first (set_ends set) (flat_map set_ends sets) e h)),
@@ -90,7 +107,8 @@ pub record IsStretchOf (cuts : List ℕ) (c i : ℕ) : Type 0 where
   pub from : get_or cuts i 0 ≤ c
   pub to : i + 1 < length cuts → c < get_or cuts (i + 1) 0
 
-stretch_up_to : (cuts : List ℕ) (c n : ℕ) → n < length cuts → get_or cuts 0 0 ≤ c → (n + 1 < length cuts → c < get_or cuts (n + 1) 0) → (i : ℕ) × IsStretchOf cuts c i
+stretch_up_to : (cuts : List ℕ) (c n : ℕ) → n < length cuts → get_or cuts 0 0 ≤ c → (n + 1 < length cuts → c < get_or cuts (n + 1) 0) → (i : ℕ) ×
+    IsStretchOf cuts c i
 stretch_up_to cuts c zero below from to = (0, record { within = below; from = from; to = to })
 stretch_up_to cuts c (suc n) below from to =
     elim (cases_lt c (get_or cuts (suc n) 0)) [
@@ -119,7 +137,8 @@ cuts_from_zero sets cuts h =
     ]
 
 -- a code point and the first of its stretch are alike
-stretch_alike : (sets : List (List Range)) (cuts : List ℕ) (c i : ℕ) → AreCuts sets cuts → c ≤ last_code_point → IsStretchOf cuts c i → NoneTells sets (get_or cuts i 0) c
+stretch_alike : (sets : List (List Range)) (cuts : List ℕ) (c i : ℕ) → AreCuts sets cuts → c ≤ last_code_point → IsStretchOf cuts c i →
+    NoneTells sets (get_or cuts i 0) c
 stretch_alike sets cuts c i h small s = alike_sets sets (get_or cuts i 0) c s.from small none
   where
     none : (e : ℕ) → In (flat_map set_ends sets) e → get_or cuts i 0 < e → e ≤ c → ⊥
@@ -179,11 +198,13 @@ module _ (sets : List (List Range)) (cuts classes sizes numbers : List ℕ) (ran
     λ e. ap (λ n. get_or numbers n 0) e ∙ numbered.zero,
   )
 
-  same_number : (i j : ℕ) → i < length cuts → j < length cuts → get_or numbers (get_or classes i 0) 0 ≡ get_or numbers (get_or classes j 0) 0 → get_or classes i 0 ≡ get_or classes j 0
+  same_number : (i j : ℕ) → i < length cuts → j < length cuts → get_or numbers (get_or classes i 0) 0 ≡ get_or numbers (get_or classes j 0) 0 →
+      get_or classes i 0 ≡ get_or classes j 0
   same_number i j inside inside' e =
       elim (cases_eq (get_or classes i 0) 0) [
         | inl z ↦ z ∙ sym ((zero_number j inside').0 (sym e ∙ (zero_number i inside).1 z))
-        | inr other ↦ numbered.apart (get_or classes i 0) (get_or classes j 0) (class_within i inside) (class_within j inside') (numbered.some i (in_classes i inside) other) e
+        | inr other ↦ numbered.apart (get_or classes i 0) (get_or classes j 0) (class_within i inside) (class_within j inside')
+            (numbered.some i (in_classes i inside) other) e
       ]
 
   stretch : (c : ℕ) → (i : ℕ) × IsStretchOf cuts c i
@@ -195,12 +216,14 @@ module _ (sets : List (List Range)) (cuts classes sizes numbers : List ℕ) (ran
   none_there : (c : ℕ) → IsCodePoint c → category_of ranges c ≡ 0 → ¬ SomeHas sets c
   none_there c code e some =
       let (i, s) = stretch c in
-      (tells.none i s.within).0 ((zero_number i s.within).0 (sym (category_at c i s) ∙ e)) (none_some sets c (get_or cuts i 0) (none_sym sets (get_or cuts i 0) c (stretch_alike sets cuts c i cut code s)) some)
+      (tells.none i s.within).0 ((zero_number i s.within).0 (sym (category_at c i s) ∙ e))
+      (none_some sets c (get_or cuts i 0) (none_sym sets (get_or cuts i 0) c (stretch_alike sets cuts c i cut code s)) some)
 
   none_back : (c : ℕ) → IsCodePoint c → ¬ SomeHas sets c → category_of ranges c ≡ 0
   none_back c code none =
       let (i, s) = stretch c in
-      category_at c i s ∙ (zero_number i s.within).1 ((tells.none i s.within).1 (λ some. none (none_some sets (get_or cuts i 0) c (stretch_alike sets cuts c i cut code s) some)))
+      category_at c i s ∙ (zero_number i s.within).1 ((tells.none i s.within).1
+      (λ some. none (none_some sets (get_or cuts i 0) c (stretch_alike sets cuts c i cut code s) some)))
 
   alike_there : (c d : ℕ) → IsCodePoint c → IsCodePoint d → category_of ranges c ≡ category_of ranges d → NoneTells sets c d
   alike_there c d code code' e =
@@ -224,7 +247,8 @@ module _ (sets : List (List Range)) (cuts classes sizes numbers : List ℕ) (ran
       let here : i < length cuts = omega (arith, inside, tells.many) in
       (get_or cuts i 0, small i here, category_at (get_or cuts i 0) i (first_stretch i here) ∙ e)
 
-  numbered_before : (category later d : ℕ) → 1 ≤ category → category < later → IsCodePoint d → category_of ranges d ≡ later → (c : ℕ) × (c < d) × (category_of ranges c ≡ category)
+  numbered_before : (category later d : ℕ) → 1 ≤ category → category < later → IsCodePoint d → category_of ranges d ≡ later → (c : ℕ) × (c < d) ×
+      (category_of ranges c ≡ category)
   numbered_before category later d one less code e =
       let (j, t) = stretch d in
       let at = category_at d j t in
@@ -250,7 +274,8 @@ module _ (sets : List (List Range)) (cuts classes sizes numbers : List ℕ) (ran
     within = all_within ranges are.starts;
   }
     where
-      all_within : (rs : List CategoryRange) → AllByRecursion (λ (range : CategoryRange). Contains cuts range.start × ((c : ℕ) × (range.category ≡ get_or numbers c 0))) rs → AllByRecursion (IsWithin (greatest + 1)) rs
+      all_within : (rs : List CategoryRange) → AllByRecursion (λ (range : CategoryRange). Contains cuts range.start ×
+          ((c : ℕ) × (range.category ≡ get_or numbers c 0))) rs → AllByRecursion (IsWithin (greatest + 1)) rs
       all_within [] h = tt
       all_within (range ∷ rs) (((k, below, is), (c, e)), h) =
           ((omega (arith, small k below, get_or_default cuts k 0 range.start below, is), omega (arith, e, numbered.small c)), all_within rs h)
@@ -271,14 +296,16 @@ ends_small (range ∷ set) bound e rise h =
 
     first_small : (range : Range) (e : ℕ) → range.low ≤ last_code_point → range.high ≤ last_code_point → In (ends_of range) e → e ≤ last_code_point
     first_small range e low high h = elim (cases_lt range.high last_code_point) [
-      | inl inside ↦ elim (subst (λ (l : List ℕ). In l e) (ap (λ t. cond t (range.low ∷ (range.high + 1) ∷ []) (range.low ∷ [])) (lt-ltb range.high last_code_point inside)) h) [
-        | inl a ↦ omega (arith, a, low)
-        | inr b ↦ elim b [ inl c ↦ omega (arith, c, inside) | inr d ↦ absurd d ]
-      ]
-      | inr last ↦ elim (subst (λ (l : List ℕ). In l e) (ap (λ t. cond t (range.low ∷ (range.high + 1) ∷ []) (range.low ∷ [])) (le-ltb range.high last_code_point last)) h) [
-        | inl a ↦ omega (arith, a, low)
-        | inr d ↦ absurd d
-      ]
+      | inl inside ↦ elim (subst (λ (l : List ℕ). In l e) (ap (λ t. cond t (range.low ∷ (range.high + 1) ∷ []) (range.low ∷ []))
+          (lt-ltb range.high last_code_point inside)) h) [
+            | inl a ↦ omega (arith, a, low)
+            | inr b ↦ elim b [ inl c ↦ omega (arith, c, inside) | inr d ↦ absurd d ]
+          ]
+      | inr last ↦ elim (subst (λ (l : List ℕ). In l e) (ap (λ t. cond t (range.low ∷ (range.high + 1) ∷ []) (range.low ∷ []))
+          (le-ltb range.high last_code_point last)) h) [
+            | inl a ↦ omega (arith, a, low)
+            | inr d ↦ absurd d
+          ]
     ]
 
 all_ends_small : (sets : List (List Range)) (e : ℕ) → AllByRecursion AreRising sets → In (flat_map set_ends sets) e → e ≤ last_code_point
@@ -291,9 +318,11 @@ all_ends_small (set ∷ sets) e rise h =
     in_either (x ∷ xs) ys n (inl e) = inl (inl e)
     in_either (x ∷ xs) ys n (inr h) = elim (in_either xs ys n h) [ inl a ↦ inl (inr a) | inr b ↦ inr b ]
 
-pub cuts_small : (sets : List (List Range)) (cuts : List ℕ) → AreCuts sets cuts → AllByRecursion AreRising sets → (i : ℕ) → i < length cuts → get_or cuts i 0 ≤ last_code_point
+pub cuts_small : (sets : List (List Range)) (cuts : List ℕ) → AreCuts sets cuts → AllByRecursion AreRising sets → (i : ℕ) → i < length cuts →
+    get_or cuts i 0 ≤ last_code_point
 cuts_small sets cuts h rise i below =
-    elim (in_contains (0 ∷ flat_map set_ends sets) (get_or cuts i 0) ((h.exactly (get_or cuts i 0)).0 (i, below, get_or_default cuts i (get_or cuts i 0) 0 below))) [
+    elim (in_contains (0 ∷ flat_map set_ends sets) (get_or cuts i 0) ((h.exactly (get_or cuts i 0)).0
+    (i, below, get_or_default cuts i (get_or cuts i 0) 0 below))) [
       | inl e ↦ omega (arith, e)
       | inr there ↦ all_ends_small sets (get_or cuts i 0) rise there
     ]

@@ -64,7 +64,8 @@ select_cases (m ∷ members) i =
       ]
     ]
   where
-    not_there : (m : ℕ) (members : List ℕ) (i : ℕ) → m ≢ i → ((j : ℕ) → j < length members → get_or members j 0 ≡ i → ⊥) → (j : ℕ) → j < length (m ∷ members) → get_or (m ∷ members) j 0 ≡ i → ⊥
+    not_there : (m : ℕ) (members : List ℕ) (i : ℕ) → m ≢ i → ((j : ℕ) → j < length members → get_or members j 0 ≡ i → ⊥) → (j : ℕ) → j < length (m ∷ members) →
+        get_or (m ∷ members) j 0 ≡ i → ⊥
     not_there m members i other none zero within e = other e
     not_there m members i other none (suc j) within e = none j (omega (arith, within)) e
 

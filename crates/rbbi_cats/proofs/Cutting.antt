@@ -13,19 +13,24 @@ use Rattle.std.proofs.lemmas.List.Sorted.{Contains-permutation}
 use Rattle.rbbi_model.specs.Ranges.{Range}
 use Rattle.rbbi_cats.specs.Cuts.{set_ends, AreCuts}
 
-pub ends_more : (sets : List (List Range)) (i : ℕ) (set : List Range) → slice_get sets i ≡ Some set → (0 ∷ flat_map set_ends (take i sets)) ++ set_ends set ≡ 0 ∷ flat_map set_ends (take (i + 1) sets)
+pub ends_more : (sets : List (List Range)) (i : ℕ) (set : List Range) → slice_get sets i ≡ Some set →
+    (0 ∷ flat_map set_ends (take i sets)) ++ set_ends set ≡ 0 ∷ flat_map set_ends (take (i + 1) sets)
 ends_more sets i set at =
     let more = take_more sets i set (slice_get_within sets i set at) in
     let e : flat_map set_ends (take (i + 1) sets) ≡ flat_map set_ends (take i sets) ++ set_ends set =
-    ap (flat_map set_ends) (more ∙ ap (λ (s : List Range). take i sets ++ s ∷ []) (get_or_from_slice_get sets i set set at)) ∙ flat_map-append set_ends (take i sets) (set ∷ [])
+    ap (flat_map set_ends) (more ∙ ap (λ (s : List Range). take i sets ++ s ∷ []) (get_or_from_slice_get sets i set set at)) ∙
+    flat_map-append set_ends (take i sets) (set ∷ [])
     ∙ ap (λ (l : List ℕ). flat_map set_ends (take i sets) ++ l) (append-nil (set_ends set)) in
     ap (λ (l : List ℕ). 0 ∷ l) (sym e)
 
-pub cuts_are : (sets : List (List Range)) (raw sorted cuts : List ℕ) → raw ≡ 0 ∷ flat_map set_ends sets → IsPermutation raw sorted → IsPermutation sorted raw → IsSorted nat_cmp sorted → cuts ≡ dedup eqb sorted → AreCuts sets cuts
+pub cuts_are : (sets : List (List Range)) (raw sorted cuts : List ℕ) → raw ≡ 0 ∷ flat_map set_ends sets → IsPermutation raw sorted → IsPermutation sorted raw →
+    IsSorted nat_cmp sorted → cuts ≡ dedup eqb sorted → AreCuts sets cuts
 cuts_are sets raw sorted cuts e there back order d = record {
   rising = subst IsStrictlyIncreasing (sym d) (IsStrictlyIncreasing-dedup sorted order);
   exactly = λ c. (
-    λ h. subst (λ (l : List ℕ). Contains l c) e (Contains-permutation sorted raw c back (Contains-from_dedup eqb sorted c (subst (λ (l : List ℕ). Contains l c) d h))),
-    λ h. subst (λ (l : List ℕ). Contains l c) (sym d) (Contains-dedup_nat sorted c (Contains-permutation raw sorted c there (subst (λ (l : List ℕ). Contains l c) (sym e) h))),
+    λ h. subst (λ (l : List ℕ). Contains l c) e (Contains-permutation sorted raw c back
+        (Contains-from_dedup eqb sorted c (subst (λ (l : List ℕ). Contains l c) d h))),
+    λ h. subst (λ (l : List ℕ). Contains l c) (sym d) (Contains-dedup_nat sorted c
+        (Contains-permutation raw sorted c there (subst (λ (l : List ℕ). Contains l c) (sym e) h))),
   );
 }

@@ -18,7 +18,8 @@ use Rattle.rbbi_cats.specs.Tells.{SomeHas, HasTold}
 use Rattle.rbbi_cats.proofs.Classing.{Classed}
 use Rattle.rbbi_cats.proofs.LeafSets.{read_is, alike_is}
 
-pub classes_are : (list : RuleList) (categories : ℕ) (ranges : List CategoryRange) → AreWellFormed list → Classed list.sets categories ranges → AreClasses (rules_of list) categories ranges
+pub classes_are : (list : RuleList) (categories : ℕ) (ranges : List CategoryRange) → AreWellFormed list → Classed list.sets categories ranges →
+    AreClasses (rules_of list) categories ranges
 classes_are list categories ranges w h = record {
   none = λ c code. (λ e read. (h.none c code).0 e ((read_is list c w).0 read), λ n. (h.none c code).1 (λ some. n ((read_is list c w).1 some)));
   alike = λ c d code code'. (λ e. (alike_is list c d w).1 ((h.alike c d code code').0 e), λ a. (h.alike c d code code').1 ((alike_is list c d w).0 a));
@@ -43,7 +44,8 @@ module _ (list : RuleList) (cuts : List ℕ) (w : AreWellFormed list) (small : (
   }
 
 -- no more classes than there are categories beside category 0
-module _ (rules : List Rule) (categories : ℕ) (ranges : List CategoryRange) (h : AreClasses rules categories ranges) (within : (c : ℕ) → IsCodePoint c → category_of ranges c < categories) where
+module _ (rules : List Rule) (categories : ℕ) (ranges : List CategoryRange) (h : AreClasses rules categories ranges)
+    (within : (c : ℕ) → IsCodePoint c → category_of ranges c < categories) where
   place : ℕ → ℕ
   place c = category_of ranges c - 1
 
@@ -62,14 +64,18 @@ module _ (rules : List Rule) (categories : ℕ) (ranges : List CategoryRange) (h
         | inr other ↦ places_below codes each q (subst (λ (t : Bool). (t || list_any (eqb q) (map place codes)) ≡ true) (other_test q (place c) other) e)
       ]
 
-  apart_from : (c : ℕ) → IsReadCodePoint rules c → (codes : List ℕ) → AllByRecursion (IsReadCodePoint rules) codes → AllByRecursion (λ d. ¬ AreAlike rules c d) codes →
+  apart_from : (c : ℕ) → IsReadCodePoint rules c → (codes : List ℕ) → AllByRecursion (IsReadCodePoint rules) codes →
+      AllByRecursion (λ d. ¬ AreAlike rules c d) codes →
       AllByRecursion (λ y. eqb (place c) y ≡ false) (map place codes)
   unfolding place
   apart_from c read [] each apart = tt
-  apart_from c read (d ∷ codes) (read', each) (other, apart) =
-      (other_test (place c) (place d) (λ e. other ((h.alike c d read.0 read'.0).0 (omega (arith, e, read_positive c read, read_positive d read')))), apart_from c read codes each apart)
+  apart_from c read (d ∷ codes) (read', each) (other, apart) = (
+    other_test (place c) (place d) (λ e. other ((h.alike c d read.0 read'.0).0 (omega (arith, e, read_positive c read, read_positive d read')))),
+    apart_from c read codes each apart,
+  )
 
-  places_apart : (codes : List ℕ) → AllByRecursion (IsReadCodePoint rules) codes → AllPairs (λ c d. ¬ AreAlike rules c d) codes → IsDistinct eqb (map place codes)
+  places_apart : (codes : List ℕ) → AllByRecursion (IsReadCodePoint rules) codes → AllPairs (λ c d. ¬ AreAlike rules c d) codes →
+      IsDistinct eqb (map place codes)
   unfolding place IsDistinct
   places_apart [] each apart = tt
   places_apart (c ∷ codes) (read, each) apart = (

@@ -17,7 +17,8 @@ use Rattle.rbbi_resolve.specs.declared.rules.Tree.TheOpen.{Tree-F, Trees-F}
 use Rattle.rbbi_resolve.specs.declared.rules.Tree.TheFolds.{map-Tree, map-Trees}
 use Rattle.rbbi_resolve.specs.declared.rules.Tree.TheViews.{roll-Tree, roll-Trees}
 use Rattle.rbbi_resolve.specs.declared.rules.Tree.TheFolds.{ind-Tree, fold-roll-Tree, fold-roll-Trees}
-use Rattle.rbbi_resolve.specs.RuleTrees.{set_at, repeated, tree_step, trees_step, tree_of, trees_of, numbers_step, numbers_of_parts_step, numbers_of, numbers_of_parts}
+use Rattle.rbbi_resolve.specs.RuleTrees.{set_at, repeated, tree_step, trees_step, tree_of, trees_of, numbers_step, numbers_of_parts_step, numbers_of}
+use Rattle.rbbi_resolve.specs.RuleTrees.{numbers_of_parts}
 use Rattle.rbbi_resolve.specs.RuleLists.{RuleList, rule_of, rules_of, numbers_of_rule, leaf_numbers, AreWellFormed}
 use Rattle.rbbi_cats.specs.Tells.{SomeHas, NoneTells}
 
@@ -52,24 +53,30 @@ module _ (sets : List (List Range)) where
       ≡ map (set_at sets) (numbers_step (map-Tree Tree Trees (List ℕ) (List ℕ) numbers_of numbers_of_parts x)) → Named (roll-Tree x)
   unfolding Named
   named_step x h =
-      ap sets_of (fold-roll-Tree spelling.Tree (List spelling.Tree) (tree_step sets) trees_step x) ∙ h ∙ ap (map (set_at sets)) (sym (fold-roll-Tree (List ℕ) (List ℕ) numbers_step numbers_of_parts_step x))
+      ap sets_of (fold-roll-Tree spelling.Tree (List spelling.Tree) (tree_step sets) trees_step x) ∙ h ∙
+      ap (map (set_at sets)) (sym (fold-roll-Tree (List ℕ) (List ℕ) numbers_step numbers_of_parts_step x))
 
-  named_tree : (y : Tree-F ((t : Tree) × Named t) ((ts : Trees) × AreNamed ts)) → Named (roll-Tree (map-Tree ((t : Tree) × Named t) ((ts : Trees) × AreNamed ts) Tree Trees (λ e. e.0) (λ e. e.0) y))
+  named_tree : (y : Tree-F ((t : Tree) × Named t) ((ts : Trees) × AreNamed ts)) →
+      Named (roll-Tree (map-Tree ((t : Tree) × Named t) ((ts : Trees) × AreNamed ts) Tree Trees (λ e. e.0) (λ e. e.0) y))
   unfolding Named AreNamed
   named_tree (Tree-F.Leaf n) = named_step (Tree-F.Leaf n) refl
   named_tree (Tree-F.Seq parts) = named_step (Tree-F.Seq parts.0) (sets-sequence (trees_of sets parts.0) ∙ parts.1)
   named_tree (Tree-F.Alt parts) = named_step (Tree-F.Alt parts.0) (sets-choice (trees_of sets parts.0) ∙ parts.1)
   named_tree (Tree-F.Rep quant part) =
-      named_step (Tree-F.Rep quant (record { ptr = part.ptr; alloc = part.alloc; value = part.value.0 })) (sets-repeated quant (tree_of sets part.value.0) ∙ part.value.1)
+      named_step (Tree-F.Rep quant (record { ptr = part.ptr; alloc = part.alloc; value = part.value.0 }))
+      (sets-repeated quant (tree_of sets part.value.0) ∙ part.value.1)
 
-  named_parts : (es : List ((t : Tree) × Named t)) → flat_map sets_of (map (tree_of sets) (map (λ e. e.0) es)) ≡ map (set_at sets) (flat_map (λ numbers. numbers) (map numbers_of (map (λ e. e.0) es)))
+  named_parts : (es : List ((t : Tree) × Named t)) → flat_map sets_of (map (tree_of sets) (map (λ e. e.0) es)) ≡ map (set_at sets)
+      (flat_map (λ numbers. numbers) (map numbers_of (map (λ e. e.0) es)))
   unfolding Named
   named_parts [] = refl
   named_parts (e ∷ es) =
-      ap (λ (l : List (List Range)). l ++ flat_map sets_of (map (tree_of sets) (map (λ e. e.0) es))) e.1 ∙ ap (λ (l : List (List Range)). map (set_at sets) (numbers_of e.0) ++ l) (named_parts es)
+      ap (λ (l : List (List Range)). l ++ flat_map sets_of (map (tree_of sets) (map (λ e. e.0) es))) e.1 ∙
+      ap (λ (l : List (List Range)). map (set_at sets) (numbers_of e.0) ++ l) (named_parts es)
       ∙ sym (map-append' (set_at sets) (numbers_of e.0) (flat_map (λ numbers. numbers) (map numbers_of (map (λ e. e.0) es))))
 
-  named_trees : (y : Trees-F ((t : Tree) × Named t) ((ts : Trees) × AreNamed ts)) → AreNamed (roll-Trees (map-Trees ((t : Tree) × Named t) ((ts : Trees) × AreNamed ts) Tree Trees (λ e. e.0) (λ e. e.0) y))
+  named_trees : (y : Trees-F ((t : Tree) × Named t) ((ts : Trees) × AreNamed ts)) →
+      AreNamed (roll-Trees (map-Trees ((t : Tree) × Named t) ((ts : Trees) × AreNamed ts) Tree Trees (λ e. e.0) (λ e. e.0) y))
   unfolding Named AreNamed
   named_trees y =
       let x : Trees-F Tree Trees = map-Trees ((t : Tree) × Named t) ((ts : Trees) × AreNamed ts) Tree Trees (λ e. e.0) (λ e. e.0) y in
@@ -77,7 +84,8 @@ module _ (sets : List (List Range)) where
       ∙ ap (map (set_at sets)) (sym (fold-roll-Trees (List ℕ) (List ℕ) numbers_step numbers_of_parts_step x))
 
   named : (tree : Tree) → Named tree
-  named = ind-Tree Named AreNamed (λ x y is. subst (λ z. Named (roll-Tree z)) is (named_tree y)) (λ x y is. subst (λ z. AreNamed (roll-Trees z)) is (named_trees y))
+  named = ind-Tree Named AreNamed (λ x y is. subst (λ z. Named (roll-Tree z)) is (named_tree y))
+      (λ x y is. subst (λ z. AreNamed (roll-Trees z)) is (named_trees y))
 
   named_option : (rest : Option Tree) → option_map_or sets_of (option_map (tree_of sets) rest) [] ≡ map (set_at sets) (option_map_or numbers_of rest [])
   unfolding Named
@@ -87,13 +95,15 @@ module _ (sets : List (List Range)) where
   named_rule : (rule : Rule) → sets_of_rule (rule_of sets rule) ≡ map (set_at sets) (numbers_of_rule rule)
   unfolding Named
   named_rule rule =
-      ap (λ (l : List (List Range)). l ++ option_map_or sets_of (option_map (tree_of sets) rule.rest) []) (named rule.front) ∙ ap (λ (l : List (List Range)). map (set_at sets) (numbers_of rule.front) ++ l) (named_option rule.rest)
+      ap (λ (l : List (List Range)). l ++ option_map_or sets_of (option_map (tree_of sets) rule.rest) []) (named rule.front) ∙
+      ap (λ (l : List (List Range)). map (set_at sets) (numbers_of rule.front) ++ l) (named_option rule.rest)
       ∙ sym (map-append' (set_at sets) (numbers_of rule.front) (option_map_or numbers_of rule.rest []))
 
   named_rules : (rules : List Rule) → flat_map sets_of_rule (map (rule_of sets) rules) ≡ map (set_at sets) (flat_map numbers_of_rule rules)
   named_rules [] = refl
   named_rules (rule ∷ rules) =
-      ap (λ (l : List (List Range)). l ++ flat_map sets_of_rule (map (rule_of sets) rules)) (named_rule rule) ∙ ap (λ (l : List (List Range)). map (set_at sets) (numbers_of_rule rule) ++ l) (named_rules rules)
+      ap (λ (l : List (List Range)). l ++ flat_map sets_of_rule (map (rule_of sets) rules)) (named_rule rule) ∙
+      ap (λ (l : List (List Range)). map (set_at sets) (numbers_of_rule rule) ++ l) (named_rules rules)
       ∙ sym (map-append' (set_at sets) (numbers_of_rule rule) (flat_map numbers_of_rule rules))
 
 pub all_sets_are : (list : RuleList) → all_sets (rules_of list) ≡ map (set_at list.sets) (leaf_numbers list)
@@ -132,9 +142,11 @@ named_each P f (m ∷ ns) n (suc k) below e h = named_each P f ns n k (omega (ar
 any_named : (P : List Range → Type 0) (f : ℕ → List Range) (ns : List ℕ) (n k : ℕ) → k < length ns → get_or ns k n ≡ n → P (f n) → Any P (map f ns)
 any_named P f [] n k below e h = absurd (omega (arith, below))
 any_named P f (m ∷ ns) n zero below e h = (0, f m, omega arith, refl, subst (λ (x : ℕ). P (f x)) (sym e) h)
-any_named P f (m ∷ ns) n (suc k) below e h = (let (j, x, inside, is, p) = any_named P f ns n k (omega (arith, below)) e h in (suc j, x, omega (arith, inside), is, p))
+any_named P f (m ∷ ns) n (suc k) below e h = (let (j, x, inside, is, p) = any_named P f ns n k (omega (arith, below)) e h in
+    (suc j, x, omega (arith, inside), is, p))
 
-named_any : (P : List Range → Type 0) (f : ℕ → List Range) (ns : List ℕ) (k : ℕ) (x : List Range) → k < length (map f ns) → get_or (map f ns) k x ≡ x → P x → (n : ℕ) × Contains ns n × P (f n)
+named_any : (P : List Range → Type 0) (f : ℕ → List Range) (ns : List ℕ) (k : ℕ) (x : List Range) → k < length (map f ns) → get_or (map f ns) k x ≡ x → P x →
+    (n : ℕ) × Contains ns n × P (f n)
 named_any P f [] k x below e h = absurd (omega (arith, below))
 named_any P f (m ∷ ns) zero x below e h = (m, (0, omega arith, refl), subst P (sym e) h)
 named_any P f (m ∷ ns) (suc k) x below e h = (let (n, c, p) = named_any P f ns k x (omega (arith, below)) e h in (n, (suc c.0, omega (arith, c.1), c.2), p))
@@ -165,9 +177,11 @@ alike_is list c d w = (there, back)
     there : AreAlike (rules_of list) c d → NoneTells list.sets c d
     there h =
         let named' = subst (AllByRecursion (λ set. Has set c ↔ Has set d)) (all_sets_are list) h in
-        none_from list.sets list.sets c d (λ n below. let (k, inside, e) = w.used n below in named_each (λ set. Has set c ↔ Has set d) (set_at list.sets) (leaf_numbers list) n k inside e named')
+        none_from list.sets list.sets c d (λ n below. let (k, inside, e) = w.used n below in
+        named_each (λ set. Has set c ↔ Has set d) (set_at list.sets) (leaf_numbers list) n k inside e named')
 
     back : NoneTells list.sets c d → AreAlike (rules_of list) c d
     back h =
         subst (AllByRecursion (λ set. Has set c ↔ Has set d)) (sym (all_sets_are list))
-        (all_named (λ set. Has set c ↔ Has set d) (set_at list.sets) (leaf_numbers list) (λ n contained. none_at list.sets c d n (number_within list (leaf_numbers list) n w.numbered contained) h))
+        (all_named (λ set. Has set c ↔ Has set d) (set_at list.sets) (leaf_numbers list)
+        (λ n contained. none_at list.sets c d n (number_within list (leaf_numbers list) n w.numbered contained) h))

@@ -1,5 +1,6 @@
 -- The classes get their numbers, stretch by stretch.
-use Rattle.std.proofs.Common.{◌≡◌, ◌≢◌, ℕ, zero, suc, ◌+◌, ◌≤◌, ◌<◌, ◌⊎◌, List, length, get_or, set, refl, ap, sym, ◌∙◌, inl, inr, arith, get_or-set_same, get_or-set_other}
+use Rattle.std.proofs.Common.{◌≡◌, ◌≢◌, ℕ, zero, suc, ◌+◌, ◌≤◌, ◌<◌, ◌⊎◌, List, length, get_or, set, refl, ap, sym, ◌∙◌, inl, inr, arith, get_or-set_same}
+use Rattle.std.proofs.Common.{get_or-set_other}
 use Rattle.std.specs.Prelude.{replicate}
 use Rattle.std.proofs.Math.ListN.{length-set}
 use Rattle.std.proofs.lemmas.Bool.{cases_eq, cases_lt}
@@ -12,7 +13,8 @@ pub record NumberedSoFar (classes numbers : List ℕ) (greatest count k : ℕ) :
   pub zero_is : get_or numbers 0 0 ≡ 0
   pub some : (i : ℕ) → i < k → get_or classes i 0 ≢ 0 → get_or numbers (get_or classes i 0) 0 ≢ 0
   pub apart : (c d : ℕ) → c < length numbers → d < length numbers → get_or numbers c 0 ≢ 0 → get_or numbers c 0 ≡ get_or numbers d 0 → c ≡ d
-  pub earlier : (i number : ℕ) → i < k → 1 ≤ number → number < get_or numbers (get_or classes i 0) 0 → (j : ℕ) × (j < i) × (get_or numbers (get_or classes j 0) 0 ≡ number)
+  pub earlier : (i number : ℕ) → i < k → 1 ≤ number → number < get_or numbers (get_or classes i 0) 0 → (j : ℕ) × (j < i) ×
+      (get_or numbers (get_or classes j 0) 0 ≡ number)
   pub used : (number : ℕ) → 1 ≤ number → number ≤ greatest → (i : ℕ) × (i < k) × (get_or numbers (get_or classes i 0) 0 ≡ number)
   pub small : (c : ℕ) → get_or numbers c 0 ≤ greatest
   pub left : count_of numbers 0 + greatest ≡ count
@@ -46,7 +48,8 @@ pub number_room : (classes numbers : List ℕ) (greatest count k : ℕ) → 1 �
 number_room classes numbers greatest count k some h = omega (arith, h.left, counted numbers 0 0 (omega (arith, h.many)) h.zero_is)
 
 -- the class of the next stretch has its number already, or is class 0
-pub number_kept : (classes numbers : List ℕ) (greatest count k : ℕ) → (get_or classes k 0 ≡ 0) ⊎ (get_or numbers (get_or classes k 0) 0 ≢ 0) → NumberedSoFar classes numbers greatest count k → NumberedSoFar classes numbers greatest count (k + 1)
+pub number_kept : (classes numbers : List ℕ) (greatest count k : ℕ) → (get_or classes k 0 ≡ 0) ⊎ (get_or numbers (get_or classes k 0) 0 ≢ 0) →
+    NumberedSoFar classes numbers greatest count k → NumberedSoFar classes numbers greatest count (k + 1)
 number_kept classes numbers greatest count k known h = record {
   many = h.many;
   zero_is = h.zero_is;
@@ -73,7 +76,8 @@ number_kept classes numbers greatest count k known h = record {
 }
 
 -- the class of the next stretch gets the next number
-pub number_made : (classes numbers : List ℕ) (greatest count k class : ℕ) → class ≡ get_or classes k 0 → class < length numbers → class ≢ 0 → get_or numbers class 0 ≡ 0 →
+pub number_made : (classes numbers : List ℕ) (greatest count k class : ℕ) → class ≡ get_or classes k 0 → class < length numbers → class ≢ 0 →
+    get_or numbers class 0 ≡ 0 →
     NumberedSoFar classes numbers greatest count k → NumberedSoFar classes (set numbers class (greatest + 1)) (greatest + 1) count (k + 1)
 number_made classes numbers greatest count k class is inside other free h = record {
   many = length-set numbers class (greatest + 1) ∙ h.many;
@@ -83,7 +87,13 @@ number_made classes numbers greatest count k class is inside other free h = reco
   earlier = earlier_more;
   used = used_more;
   small = small_more;
-  left = omega (arith, count_of-set numbers class (greatest + 1) 0 inside, one_if_same (get_or numbers class 0) 0 free, one_if_other (greatest + 1) 0 (λ e. absurd (omega (arith, e))), h.left);
+  left = omega (
+    arith,
+    count_of-set numbers class (greatest + 1) 0 inside,
+    one_if_same (get_or numbers class 0) 0 free,
+    one_if_other (greatest + 1) 0 (λ e. absurd (omega (arith, e))),
+    h.left,
+  );
 }
   where
     there : get_or (set numbers class (greatest + 1)) class 0 ≡ greatest + 1
@@ -106,7 +116,8 @@ number_made classes numbers greatest count k class is inside other free h = reco
           ]
         ]
 
-    apart_more : (c d : ℕ) → c < length (set numbers class (greatest + 1)) → d < length (set numbers class (greatest + 1)) → get_or (set numbers class (greatest + 1)) c 0 ≢ 0 →
+    apart_more : (c d : ℕ) → c < length (set numbers class (greatest + 1)) → d < length (set numbers class (greatest + 1)) →
+        get_or (set numbers class (greatest + 1)) c 0 ≢ 0 →
         get_or (set numbers class (greatest + 1)) c 0 ≡ get_or (set numbers class (greatest + 1)) d 0 → c ≡ d
     apart_more c d below below' n e =
         let long = length-set numbers class (greatest + 1) in
@@ -117,7 +128,8 @@ number_made classes numbers greatest count k class is inside other free h = reco
           ]
           | inr other ↦ elim (cases_eq d class) [
             | inl same' ↦ absurd (omega (arith, h.small c, elsewhere c other, e, ap (λ m. get_or (set numbers class (greatest + 1)) m 0) same', there))
-            | inr other' ↦ h.apart c d (omega (arith, below, long)) (omega (arith, below', long)) (λ z. n (elsewhere c other ∙ z)) (sym (elsewhere c other) ∙ e ∙ elsewhere d other')
+            | inr other' ↦ h.apart c d (omega (arith, below, long)) (omega (arith, below', long)) (λ z. n (elsewhere c other ∙ z))
+                (sym (elsewhere c other) ∙ e ∙ elsewhere d other')
           ]
         ]
 
@@ -139,7 +151,8 @@ number_made classes numbers greatest count k class is inside other free h = reco
               (j, omega (arith, before, same), kept (get_or classes j 0) number one e)
         ]
 
-    used_more : (number : ℕ) → 1 ≤ number → number ≤ greatest + 1 → (i : ℕ) × (i < k + 1) × (get_or (set numbers class (greatest + 1)) (get_or classes i 0) 0 ≡ number)
+    used_more : (number : ℕ) → 1 ≤ number → number ≤ greatest + 1 → (i : ℕ) × (i < k + 1) ×
+        (get_or (set numbers class (greatest + 1)) (get_or classes i 0) 0 ≡ number)
     used_more number one few =
         elim (cases_lt greatest number) [
           | inl last ↦ (k, omega arith, ap (λ m. get_or (set numbers class (greatest + 1)) m 0) (sym is) ∙ there ∙ omega (arith, last, few))
@@ -152,7 +165,8 @@ number_made classes numbers greatest count k class is inside other free h = reco
       | inr other ↦ omega (arith, elsewhere c other, h.small c)
     ]
 
-pub all_numbered : (classes numbers : List ℕ) (greatest count k : ℕ) → 1 ≤ count → k ≡ length classes → NumberedSoFar classes numbers greatest count k → AreNumbers classes numbers greatest
+pub all_numbered : (classes numbers : List ℕ) (greatest count k : ℕ) → 1 ≤ count → k ≡ length classes → NumberedSoFar classes numbers greatest count k →
+    AreNumbers classes numbers greatest
 all_numbered classes numbers greatest count k some e h = record {
   zero = h.zero_is;
   some = λ i below. h.some i (omega (arith, below, e));

@@ -1,5 +1,6 @@
 -- The members are put into the targets of their former classes, one after another.
-use Rattle.std.proofs.Common.{◌≡◌, ◌≢◌, ℕ, ◌+◌, ◌≤◌, ◌<◌, ◌⊎◌, List, [], ◌∷◌, ◌++◌, length, get_or, set, refl, ap, sym, ◌∙◌, subst, inl, inr, arith, get_or-set_same, get_or-set_other, length-append}
+use Rattle.std.proofs.Common.{◌≡◌, ◌≢◌, ℕ, ◌+◌, ◌≤◌, ◌<◌, ◌⊎◌, List, [], ◌∷◌, ◌++◌, length, get_or, set, refl, ap, sym, ◌∙◌, subst, inl, inr, arith}
+use Rattle.std.proofs.Common.{get_or-set_same, get_or-set_other, length-append}
 use Rattle.std.proofs.Math.ListN.{length-set}
 use Rattle.std.proofs.lemmas.List.{get_or_append_left}
 use Rattle.std.proofs.Math.Seq.{get_or-append_seam}
@@ -17,7 +18,8 @@ pub record TargetsSoFar (start sizes targets : List ℕ) (moving : ℕ) : Type 0
 -- the first so many members are in their targets
 pub record PlacedSoFar (before classes members origins start sizes targets : List ℕ) (moving k : ℕ) : Type 0 where
   pub many : length classes ≡ length before
-  pub done : (j : ℕ) → j < k → (get_or targets (get_or origins j 0) 0 ≢ moving) × (get_or classes (get_or members j 0) 0 ≡ get_or targets (get_or origins j 0) 0)
+  pub done : (j : ℕ) → j < k → (get_or targets (get_or origins j 0) 0 ≢ moving) ×
+      (get_or classes (get_or members j 0) 0 ≡ get_or targets (get_or origins j 0) 0)
   pub others : (i : ℕ) → i < length before → ((j : ℕ) → j < k → get_or members j 0 ≡ i → ⊥) → get_or classes i 0 ≡ get_or before i 0
   pub left : (c : ℕ) → c < length start → get_or targets c 0 ≡ moving → get_or sizes c 0 ≡ get_or start c 0
   pub within : (i : ℕ) → i < length classes → (get_or classes i 0 < length sizes) ⊎ (get_or classes i 0 ≡ moving)
@@ -41,7 +43,8 @@ pub record Decided (before classes members origins start sizes targets : List �
   pub known : target ≢ moving
 
 -- more classes, and perhaps one more target: what was decided stays so
-module _ (start sizes targets : List ℕ) (moving origin target : ℕ) (h : TargetsSoFar start sizes targets moving) (origin_within : origin < length start) (free : get_or targets origin 0 ≡ moving) where
+module _ (start sizes targets : List ℕ) (moving origin target : ℕ) (h : TargetsSoFar start sizes targets moving) (origin_within : origin < length start)
+    (free : get_or targets origin 0 ≡ moving) where
   inside : origin < length targets
   inside = omega (arith, h.many)
 
@@ -53,7 +56,8 @@ module _ (start sizes targets : List ℕ) (moving origin target : ℕ) (h : Targ
 
   -- a target that was decided isn't this one
   pub targeted_more : (sizes' : List ℕ) → length sizes ≤ length sizes' → target ≢ moving → IsTarget start (length sizes') origin target →
-      ((d : ℕ) → d < length start → get_or targets d 0 ≢ moving → get_or targets d 0 ≡ target → ⊥) → TargetsSoFar start sizes' (set targets origin target) moving
+      ((d : ℕ) → d < length start → get_or targets d 0 ≢ moving → get_or targets d 0 ≡ target → ⊥) →
+      TargetsSoFar start sizes' (set targets origin target) moving
   targeted_more sizes' grown known decided' fresh = record {
     many = length-set targets origin target ∙ h.many;
     more = omega (arith, h.more);
@@ -61,7 +65,8 @@ module _ (start sizes targets : List ℕ) (moving origin target : ℕ) (h : Targ
     apart = apart_more;
   }
     where
-      decided_more : (c : ℕ) → c < length start → get_or (set targets origin target) c 0 ≢ moving → IsTarget start (length sizes') c (get_or (set targets origin target) c 0)
+      decided_more : (c : ℕ) → c < length start → get_or (set targets origin target) c 0 ≢ moving →
+          IsTarget start (length sizes') c (get_or (set targets origin target) c 0)
       decided_more c below some =
           elim (cases_eq c origin) [
             | inl same ↦
@@ -93,8 +98,10 @@ module _ (start sizes targets : List ℕ) (moving origin target : ℕ) (h : Targ
           ]
 
   -- what is placed stays so
-  pub placed_more : (before classes members origins sizes' : List ℕ) (k : ℕ) → PlacedSoFar before classes members origins start sizes targets moving k → target ≢ moving → length sizes ≤ length sizes' →
-      ((c : ℕ) → c < length start → get_or sizes' c 0 ≡ get_or sizes c 0) → AreSizes classes sizes' → PlacedSoFar before classes members origins start sizes' (set targets origin target) moving k
+  pub placed_more : (before classes members origins sizes' : List ℕ) (k : ℕ) → PlacedSoFar before classes members origins start sizes targets moving k →
+      target ≢ moving → length sizes ≤ length sizes' →
+      ((c : ℕ) → c < length start → get_or sizes' c 0 ≡ get_or sizes c 0) → AreSizes classes sizes' →
+      PlacedSoFar before classes members origins start sizes' (set targets origin target) moving k
   placed_more before classes members origins sizes' k g known grown same_sizes sized = record {
     many = g.many;
     done = λ j below. stays j (g.done j below);
@@ -105,7 +112,8 @@ module _ (start sizes targets : List ℕ) (moving origin target : ℕ) (h : Targ
   }
     where
       stays : (j : ℕ) → (get_or targets (get_or origins j 0) 0 ≢ moving) × (get_or classes (get_or members j 0) 0 ≡ get_or targets (get_or origins j 0) 0) →
-          (get_or (set targets origin target) (get_or origins j 0) 0 ≢ moving) × (get_or classes (get_or members j 0) 0 ≡ get_or (set targets origin target) (get_or origins j 0) 0)
+          (get_or (set targets origin target) (get_or origins j 0) 0 ≢ moving) ×
+          (get_or classes (get_or members j 0) 0 ≡ get_or (set targets origin target) (get_or origins j 0) 0)
       stays j (some, e) =
           let same = elsewhere (get_or origins j 0) (λ at. some (ap (λ n. get_or targets n 0) at ∙ free)) in
           (λ m. some (sym same ∙ m), e ∙ sym same)
@@ -119,12 +127,14 @@ module _ (start sizes targets : List ℕ) (moving origin target : ℕ) (h : Targ
       wider n (inl below) = inl (omega (arith, below, grown))
       wider n (inr e) = inr e
 
-  pub member_more : (origins : List ℕ) (k class : ℕ) → ((j : ℕ) → j < k → get_or targets (get_or origins j 0) 0 ≢ moving) → HasMember origins targets k class → HasMember origins (set targets origin target) k class
+  pub member_more : (origins : List ℕ) (k class : ℕ) → ((j : ℕ) → j < k → get_or targets (get_or origins j 0) 0 ≢ moving) → HasMember origins targets k class →
+      HasMember origins (set targets origin target) k class
   member_more origins k class done (j, below, e) =
       (j, below, elsewhere (get_or origins j 0) (λ at. done j below (ap (λ n. get_or targets n 0) at ∙ free)) ∙ e)
 
 -- no stretch has the next new number
-pub none_new : (classes sizes : List ℕ) (moving : ℕ) → length sizes < moving → ((i : ℕ) → i < length classes → (get_or classes i 0 < length sizes) ⊎ (get_or classes i 0 ≡ moving)) → count_of classes (length sizes) ≡ 0
+pub none_new : (classes sizes : List ℕ) (moving : ℕ) → length sizes < moving →
+    ((i : ℕ) → i < length classes → (get_or classes i 0 < length sizes) ⊎ (get_or classes i 0 ≡ moving)) → count_of classes (length sizes) ≡ 0
 none_new classes sizes moving few within =
     elim (cases_eq (count_of classes (length sizes)) 0) [
       | inl none ↦ none
@@ -133,17 +143,20 @@ none_new classes sizes moving few within =
           absurd (elim (within i below) [ inl h ↦ omega (arith, h, e) | inr h ↦ omega (arith, h, e, few) ])
     ]
 
-pub sized_new : (classes sizes : List ℕ) (moving : ℕ) → length sizes < moving → ((i : ℕ) → i < length classes → (get_or classes i 0 < length sizes) ⊎ (get_or classes i 0 ≡ moving)) →
+pub sized_new : (classes sizes : List ℕ) (moving : ℕ) → length sizes < moving →
+    ((i : ℕ) → i < length classes → (get_or classes i 0 < length sizes) ⊎ (get_or classes i 0 ≡ moving)) →
     AreSizes classes sizes → AreSizes classes (sizes ++ 0 ∷ [])
 sized_new classes sizes moving few within sized class below =
     elim (cases_lt class (length sizes)) [
       | inl old ↦ get_or_append_left sizes (0 ∷ []) 0 class old ∙ sized class old
       | inr new ↦
           let same : class ≡ length sizes = omega (arith, length-append sizes (0 ∷ [])) in
-          ap (λ n. get_or (sizes ++ 0 ∷ []) n 0) same ∙ get_or-append_seam sizes 0 [] 0 ∙ sym (none_new classes sizes moving few within) ∙ ap (count_of classes) (sym same)
+          ap (λ n. get_or (sizes ++ 0 ∷ []) n 0) same ∙ get_or-append_seam sizes 0 [] 0 ∙ sym (none_new classes sizes moving few within) ∙
+          ap (count_of classes) (sym same)
     ]
 
-pub decide : (before classes members origins start sizes targets sizes' targets' : List ℕ) (moving k origin target : ℕ) → origin < length start → length sizes < moving →
+pub decide : (before classes members origins start sizes targets sizes' targets' : List ℕ) (moving k origin target : ℕ) → origin < length start →
+    length sizes < moving →
     PutSoFar before classes members origins start sizes targets moving k → Targets moving targets sizes origin targets' sizes' target →
     Decided before classes members origins start sizes' targets' moving k origin target
 decide before classes members origins start sizes targets sizes' targets' moving k origin target below few h (Had some) =
@@ -156,9 +169,12 @@ decide before classes members origins start sizes targets sizes' targets' moving
       | inr made ↦ omega (arith, made.0, e)
     ] in
     record {
-      targeted = targeted_more start sizes targets moving origin origin h.targeted below free sizes (omega arith) known (inl (refl, some, sym (h.placed.left origin below free) ∙ none)) fresh;
-      placed = placed_more start sizes targets moving origin origin h.targeted below free before classes members origins sizes k h.placed known (omega arith) (λ c inside. refl) h.placed.sized;
-      new = λ class from to. inl (member_more start sizes targets moving origin origin h.targeted below free origins k class (λ j s. (h.placed.done j s).0) (h.new class from to));
+      targeted = targeted_more start sizes targets moving origin origin h.targeted below free sizes (omega arith) known
+          (inl (refl, some, sym (h.placed.left origin below free) ∙ none)) fresh;
+      placed = placed_more start sizes targets moving origin origin h.targeted below free before classes members origins sizes k h.placed known (omega arith)
+          (λ c inside. refl) h.placed.sized;
+      new = λ class from to. inl (member_more start sizes targets moving origin origin
+          h.targeted below free origins k class (λ j s. (h.placed.done j s).0) (h.new class from to));
       target_is = there start sizes targets moving origin origin h.targeted below free;
       known = known;
     }
@@ -170,13 +186,21 @@ decide before classes members origins start sizes targets sizes' targets' moving
       | inl kept ↦ omega (arith, kept.0, e, h.targeted.more)
       | inr made ↦ omega (arith, made.1, e)
     ] in
-    let split' : (origin ≡ 0) ⊎ (get_or start origin 0 ≢ 0) = elim split [ inl zero' ↦ inl zero' | inr some ↦ inr (λ e. some (h.placed.left origin below free ∙ e)) ] in
+    let split' : (origin ≡ 0) ⊎ (get_or start origin 0 ≢ 0) = elim split [
+      | inl zero' ↦ inl zero'
+      | inr some ↦
+          inr (λ e. some (h.placed.left origin below free ∙ e))
+    ] in
     record {
-      targeted = targeted_more start sizes targets moving origin (length sizes) h.targeted below free (sizes ++ 0 ∷ []) (omega (arith, long)) known (inr (h.targeted.more, omega (arith, long), split')) fresh;
-      placed = placed_more start sizes targets moving origin (length sizes) h.targeted below free before classes members origins (sizes ++ 0 ∷ []) k h.placed known (omega (arith, long))
-          (λ c inside. get_or_append_left sizes (0 ∷ []) 0 c (omega (arith, h.targeted.more))) (sized_new classes sizes moving few h.placed.within h.placed.sized);
+      targeted = targeted_more start sizes targets moving origin (length sizes) h.targeted below free (sizes ++ 0 ∷ []) (omega (arith, long)) known
+          (inr (h.targeted.more, omega (arith, long), split')) fresh;
+      placed = placed_more start sizes targets moving origin (length sizes) h.targeted below free before classes members origins
+          (sizes ++ 0 ∷ []) k h.placed known (omega (arith, long))
+          (λ c inside. get_or_append_left sizes (0 ∷ []) 0 c (omega (arith, h.targeted.more)))
+          (sized_new classes sizes moving few h.placed.within h.placed.sized);
       new = λ class from to. elim (cases_lt class (length sizes)) [
-        | inl old ↦ inl (member_more start sizes targets moving origin (length sizes) h.targeted below free origins k class (λ j s. (h.placed.done j s).0) (h.new class from old))
+        | inl old ↦ inl (member_more start sizes targets moving origin (length sizes) h.targeted below free origins k class (λ j s. (h.placed.done j s).0)
+            (h.new class from old))
         | inr last ↦ inr (omega (arith, long))
       ];
       target_is = there start sizes targets moving origin (length sizes) h.targeted below free;
@@ -184,8 +208,10 @@ decide before classes members origins start sizes targets sizes' targets' moving
     }
 
 -- the next member goes into its target
-module _ (before classes members origins start sizes targets : List ℕ) (moving k m origin target : ℕ) (stretches : AreStretches before members) (within : k < length members)
-    (m_is : m ≡ get_or members k 0) (origin_is : origin ≡ get_or origins k 0) (origin_within : origin < length start) (out : get_or before m 0 ≡ moving) (few : length sizes < moving)
+module _ (before classes members origins start sizes targets : List ℕ) (moving k m origin target : ℕ) (stretches : AreStretches before members)
+    (within : k < length members)
+    (m_is : m ≡ get_or members k 0) (origin_is : origin ≡ get_or origins k 0) (origin_within : origin < length start) (out : get_or before m 0 ≡ moving)
+    (few : length sizes < moving)
     (h : Decided before classes members origins start sizes targets moving k origin target) where
   pub target_within : target < length sizes
   target_within =
@@ -207,15 +233,22 @@ module _ (before classes members origins start sizes targets : List ℕ) (moving
   size : ℕ
   size = get_or sizes target 0 + 1
 
-  done_more : (j : ℕ) → j < k + 1 → (get_or targets (get_or origins j 0) 0 ≢ moving) × (get_or (set classes m target) (get_or members j 0) 0 ≡ get_or targets (get_or origins j 0) 0)
+  done_more : (j : ℕ) → j < k + 1 → (get_or targets (get_or origins j 0) 0 ≢ moving) ×
+      (get_or (set classes m target) (get_or members j 0) 0 ≡ get_or targets (get_or origins j 0) 0)
   done_more j below =
       elim (cases_lt j k) [
-        | inl sooner ↦ ((h.placed.done j sooner).0, get_or-set_other classes m (get_or members j 0) target 0 (place_apart j sooner) ∙ (h.placed.done j sooner).1)
+        | inl sooner ↦ (
+          (h.placed.done j sooner).0,
+          get_or-set_other classes m (get_or members j 0) target 0 (place_apart j sooner) ∙
+              (h.placed.done j sooner).1,
+        )
         | inr now ↦
             let same : j ≡ k = omega arith in
-            let there' : get_or targets (get_or origins j 0) 0 ≡ target = ap (λ n. get_or targets (get_or origins n 0) 0) same ∙ ap (λ n. get_or targets n 0) (sym origin_is) ∙ h.target_is in (
+            let there' : get_or targets (get_or origins j 0) 0 ≡ target = ap (λ n. get_or targets (get_or origins n 0) 0) same ∙
+            ap (λ n. get_or targets n 0) (sym origin_is) ∙ h.target_is in (
               λ e. h.known (sym there' ∙ e),
-              ap (λ n. get_or (set classes m target) n 0) (ap (λ n. get_or members n 0) same ∙ sym m_is) ∙ get_or-set_same classes m target 0 place_within ∙ sym there',
+              ap (λ n. get_or (set classes m target) n 0) (ap (λ n. get_or members n 0) same ∙ sym m_is) ∙ get_or-set_same classes m target 0 place_within ∙
+                  sym there',
             )
       ]
 
@@ -232,7 +265,8 @@ module _ (before classes members origins start sizes targets : List ℕ) (moving
       ] in
       get_or-set_other sizes target c (get_or sizes target 0 + 1) 0 other ∙ h.placed.left c below free
 
-  within_more : (i : ℕ) → i < length (set classes m target) → (get_or (set classes m target) i 0 < length (set sizes target (get_or sizes target 0 + 1))) ⊎ (get_or (set classes m target) i 0 ≡ moving)
+  within_more : (i : ℕ) → i < length (set classes m target) → (get_or (set classes m target) i 0 < length (set sizes target (get_or sizes target 0 + 1))) ⊎
+      (get_or (set classes m target) i 0 ≡ moving)
   within_more i below =
       let long = length-set sizes target (get_or sizes target 0 + 1) in
       elim (cases_eq i m) [
@@ -252,7 +286,8 @@ module _ (before classes members origins start sizes targets : List ℕ) (moving
         | inl same ↦
             let one : one_if target class ≡ 1 = one_if_same target class (sym same) in
             let size' : get_or sizes target 0 ≡ count_of classes class = ap (λ i. get_or sizes i 0) (sym same) ∙ h.placed.sized class inside' in
-            ap (λ i. get_or (set sizes target (get_or sizes target 0 + 1)) i 0) same ∙ get_or-set_same sizes target (get_or sizes target 0 + 1) 0 target_within ∙ omega (arith, counts, one, gone, size')
+            ap (λ i. get_or (set sizes target (get_or sizes target 0 + 1)) i 0) same ∙ get_or-set_same sizes target (get_or sizes target 0 + 1) 0 target_within
+            ∙ omega (arith, counts, one, gone, size')
         | inr other ↦
             let zero' : one_if target class ≡ 0 = one_if_other target class (λ e. other (sym e)) in
             get_or-set_other sizes target class (get_or sizes target 0 + 1) 0 other ∙ h.placed.sized class inside' ∙ omega (arith, counts, zero', gone)
@@ -265,7 +300,8 @@ module _ (before classes members origins start sizes targets : List ℕ) (moving
         | inr e ↦ (k, omega arith, ap (λ n. get_or targets n 0) (sym origin_is) ∙ h.target_is ∙ e)
       ]
 
-  targeted_same : (grown : ℕ) → grown ≡ length sizes → (c : ℕ) → IsTarget start (length sizes) c (get_or targets c 0) → IsTarget start grown c (get_or targets c 0)
+  targeted_same : (grown : ℕ) → grown ≡ length sizes → (c : ℕ) → IsTarget start (length sizes) c (get_or targets c 0) →
+      IsTarget start grown c (get_or targets c 0)
   targeted_same grown e c t = subst (λ (n : ℕ). IsTarget start n c (get_or targets c 0)) (sym e) t
 
   pub placed : PutSoFar before (set classes m target) members origins start (set sizes target (get_or sizes target 0 + 1)) targets moving (k + 1)
@@ -302,7 +338,8 @@ all_put before classes members origins start sizes targets moving k e within h =
   put = λ j below. (h.placed.done j (omega (arith, e))).1;
   others = λ i inside none. h.placed.others i inside (λ j below s. none j (omega (arith, e)) s);
   decided = λ j below. h.targeted.decided (get_or origins j 0) (within j below) (h.placed.done j (omega (arith, e))).0;
-  apart = λ i j below below' s. h.targeted.apart (get_or origins i 0) (get_or origins j 0) (within i below) (within j below') (h.placed.done i (omega (arith, e))).0 s;
+  apart = λ i j below below' s. h.targeted.apart (get_or origins i 0) (get_or origins j 0) (within i below) (within j below')
+      (h.placed.done i (omega (arith, e))).0 s;
   new = λ class from to. (let (j, below, s) = h.new class from to in (j, omega (arith, e, below), s));
   more = h.targeted.more;
   sized = h.placed.sized;

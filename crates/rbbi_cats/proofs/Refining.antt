@@ -18,7 +18,8 @@ record Stayed (before mid after members : List ℕ) (i : ℕ) : Type 0 where
   same_mid : get_or mid i 0 ≡ get_or before i 0
   same : get_or after i 0 ≡ get_or before i 0
 
-module _ (before mid after members origins start left grown : List ℕ) (moving : ℕ) (partition : IsPartition before start) (stretches : AreStretches before members)
+module _ (before mid after members origins start left grown : List ℕ) (moving : ℕ) (partition : IsPartition before start)
+    (stretches : AreStretches before members)
     (long : length mid ≡ length before) (many : length left ≡ length start) (few : length start < moving)
     (out : TakesOut before mid members origins left moving) (put : PutsBack mid after members origins left grown) where
   Went : ℕ → Type 0
@@ -32,19 +33,32 @@ module _ (before mid after members origins start left grown : List ℕ) (moving 
             let was : get_or origins j 0 ≡ get_or before i 0 = out.from j below ∙ ap (λ n. get_or before n 0) is in
             let now : get_or after i 0 ≡ get_or put.targets (get_or origins j 0) 0 = ap (λ n. get_or after n 0) (sym is) ∙ put.put j below in
             let T : ℕ → ℕ → Type 0 = IsTarget left (length grown) in
-            inl (record { j = j; below = below; is = is; was = was; target = subst (T (get_or before i 0)) (sym now) (subst (λ (n : ℕ). T n (get_or put.targets (get_or origins j 0) 0)) was (put.decided j below)) })
+            inl (record {
+              j = j;
+              below = below;
+              is = is;
+              was = was;
+              target =
+                  subst (T (get_or before i 0)) (sym now) (subst (λ (n : ℕ). T n (get_or put.targets (get_or origins j 0) 0)) was (put.decided j below));
+            })
         | inr none ↦
             let same_mid = out.others i inside none in
             inr (record { none = none; same_mid = same_mid; same = put.others i (omega (arith, inside, long)) none ∙ same_mid })
       ]
 
   -- a class that keeps its members has no other stretches
-  not_both : (i j : ℕ) → j < length before → Moved before after left (length grown) origins members i → Stayed before mid after members j → get_or after i 0 ≡ get_or after j 0 → ⊥
+  not_both : (i j : ℕ) → j < length before → Moved before after left (length grown) origins members i → Stayed before mid after members j →
+      get_or after i 0 ≡ get_or after j 0 → ⊥
   not_both i j inside m s e =
       elim m.target [
         | inl (kept, some, none) ↦
             let there : get_or mid j 0 ≡ get_or before i 0 = s.same_mid ∙ sym s.same ∙ sym e ∙ kept in
-            omega (arith, counted mid j (get_or before i 0) (omega (arith, inside, long)) there, out.sized (get_or before i 0) (omega (arith, partition.within i (member_within m), many)), none)
+            omega (
+              arith,
+              counted mid j (get_or before i 0) (omega (arith, inside, long)) there,
+              out.sized (get_or before i 0) (omega (arith, partition.within i (member_within m), many)),
+              none,
+            )
         | inr (from, to, split) ↦ omega (arith, from, e, s.same, partition.within j inside, many)
       ]
     where
@@ -59,18 +73,23 @@ module _ (before mid after members origins start left grown : List ℕ) (moving 
   unfolding Went
   together i j inside inside' (inl m) (inl m') = (
     λ e. (
-      sym m.was ∙ put.apart m.j m'.j m.below m'.below (sym (put.put m.j m.below) ∙ ap (λ n. get_or after n 0) m.is ∙ e ∙ ap (λ n. get_or after n 0) (sym m'.is) ∙ put.put m'.j m'.below) ∙ m'.was,
+      sym m.was ∙ put.apart m.j m'.j m.below m'.below (sym (put.put m.j m.below) ∙ ap (λ n. get_or after n 0) m.is ∙ e ∙
+          ap (λ n. get_or after n 0) (sym m'.is) ∙ put.put m'.j m'.below) ∙ m'.was,
       (λ s. selected j m', λ s. selected i m),
     ),
     λ (e, both).
-        ap (λ n. get_or after n 0) (sym m.is) ∙ put.put m.j m.below ∙ ap (λ n. get_or put.targets n 0) (m.was ∙ e ∙ sym m'.was) ∙ sym (put.put m'.j m'.below) ∙ ap (λ n. get_or after n 0) m'.is,
+        ap (λ n. get_or after n 0) (sym m.is) ∙ put.put m.j m.below ∙ ap (λ n. get_or put.targets n 0) (m.was ∙ e ∙ sym m'.was) ∙ sym (put.put m'.j m'.below) ∙
+        ap (λ n. get_or after n 0) m'.is,
   )
   together i j inside inside' (inl m) (inr s) =
       (λ e. absurd (not_both i j inside' m s e), λ (e, both). absurd (let (k, below, is) = both.0 (selected i m) in s.none k below is))
   together i j inside inside' (inr s) (inl m) =
       (λ e. absurd (not_both j i inside m s (sym e)), λ (e, both). absurd (let (k, below, is) = both.1 (selected j m) in s.none k below is))
-  together i j inside inside' (inr s) (inr s') =
-      (λ e. (sym s.same ∙ e ∙ s'.same, (λ (k, below, is). absurd (s.none k below is), λ (k, below, is). absurd (s'.none k below is))), λ (e, both). s.same ∙ e ∙ sym s'.same)
+  together i j inside inside' (inr s) (inr s') = (
+    λ e. (sym s.same ∙ e ∙ s'.same, (λ (k, below, is). absurd (s.none k below is), λ (k, below, is). absurd (s'.none k below is))),
+    λ (e, both). s.same ∙ e ∙
+        sym s'.same,
+  )
 
   in_none : (i : ℕ) → Went i → (get_or after i 0 ≡ 0) ↔ ((get_or before i 0 ≡ 0) × ¬ Selects members i)
   unfolding Went
@@ -143,7 +162,8 @@ module _ (before mid after members origins start left grown : List ℕ) (moving 
   }
 
 -- what is left of a stretch's class once the members are out
-pub class_or_out : (before mid members origins start left : List ℕ) (moving : ℕ) → IsPartition before start → length mid ≡ length before → length left ≡ length start →
+pub class_or_out : (before mid members origins start left : List ℕ) (moving : ℕ) → IsPartition before start → length mid ≡ length before →
+    length left ≡ length start →
     TakesOut before mid members origins left moving → (i : ℕ) → i < length mid → (get_or mid i 0 < length left) ⊎ (get_or mid i 0 ≡ moving)
 class_or_out before mid members origins start left moving partition long many out i inside =
     elim (select_cases members i) [

@@ -1,5 +1,6 @@
 -- The cuts that a set holds, range by range.
-use Rattle.std.proofs.Common.{◌≡◌, ℕ, zero, suc, ◌+◌, ◌≤◌, ◌<◌, ◌⊎◌, ◌↔◌, true, false, ltb, leb, List, [], ◌∷◌, ◌++◌, length, get_or, take, refl, ap, sym, ◌∙◌, subst, inl, inr, arith, length-append}
+use Rattle.std.proofs.Common.{◌≡◌, ℕ, zero, suc, ◌+◌, ◌≤◌, ◌<◌, ◌⊎◌, ◌↔◌, true, false, ltb, leb, List, [], ◌∷◌, ◌++◌, length, get_or, take, refl, ap, sym, ◌∙◌}
+use Rattle.std.proofs.Common.{subst, inl, inr, arith, length-append}
 use Rattle.std.specs.List.Sorted.{IsStrictlyIncreasing, IsNonDecreasingBy, IsPartitionPoint}
 use Rattle.std.proofs.lemmas.List.{get_or_append_left}
 use Rattle.std.proofs.Math.Seq.{get_or-append_seam}
@@ -25,7 +26,8 @@ pub record Added (base members : List ℕ) (from to : ℕ) : Type 0 where
   pub below : (j : ℕ) → j < length members → get_or members j 0 < to
   pub exactly : (i : ℕ) → Selects members i ↔ (Selects base i ⊎ ((from ≤ i) × (i < to)))
 
-pub none_added : (base : List ℕ) (from : ℕ) → ((i j : ℕ) → i < j → j < length base → get_or base i 0 < get_or base j 0) → ((j : ℕ) → j < length base → get_or base j 0 < from) → Added base base from from
+pub none_added : (base : List ℕ) (from : ℕ) → ((i j : ℕ) → i < j → j < length base → get_or base i 0 < get_or base j 0) →
+    ((j : ℕ) → j < length base → get_or base j 0 < from) → Added base base from from
 none_added base from rising below = record {
   rising = rising;
   below = below;
@@ -52,7 +54,8 @@ selects_more members y i = (there, back)
 pub one_added : (base members : List ℕ) (from i : ℕ) → from ≤ i → Added base members from i → Added base (members ++ i ∷ []) from (i + 1)
 one_added base members from i low h = record { rising = rising_more; below = below_more; exactly = exactly_more }
   where
-    at : (j : ℕ) → j < length (members ++ i ∷ []) → ((j < length members) × (get_or (members ++ i ∷ []) j 0 ≡ get_or members j 0)) ⊎ (get_or (members ++ i ∷ []) j 0 ≡ i)
+    at : (j : ℕ) → j < length (members ++ i ∷ []) → ((j < length members) × (get_or (members ++ i ∷ []) j 0 ≡ get_or members j 0)) ⊎
+        (get_or (members ++ i ∷ []) j 0 ≡ i)
     at j below =
         elim (cases_lt j (length members)) [
           | inl sooner ↦ inl (sooner, get_or_append_left members (i ∷ []) 0 j sooner)
@@ -86,7 +89,8 @@ one_added base members from i low h = record { rising = rising_more; below = bel
           | inr now ↦ (selects_more members i x).1 (inr (omega (arith, now, to')))
         ]
 
-has_suc : (ranges : List Range) (k c : ℕ) (d : Range) → k < length ranges → Has (take (suc k) ranges) c ↔ (Has (take k ranges) c ⊎ InRange (get_or ranges k d) c)
+has_suc : (ranges : List Range) (k c : ℕ) (d : Range) → k < length ranges →
+    Has (take (suc k) ranges) c ↔ (Has (take k ranges) c ⊎ InRange (get_or ranges k d) c)
 has_suc [] k c d below = absurd (omega (arith, below))
 has_suc (range ∷ ranges) zero c d below = (λ h. elim h [ inl i ↦ inr i | inr n ↦ absurd n ], λ h. elim h [ inl n ↦ absurd n | inr i ↦ inl i ])
 has_suc (range ∷ ranges) (suc k) c d below =
@@ -101,7 +105,8 @@ has_suc (range ∷ ranges) (suc k) c d below =
       ],
     )
 
-pub has_more : (ranges : List Range) (k c : ℕ) (d : Range) → k < length ranges → Has (take (k + 1) ranges) c ↔ (Has (take k ranges) c ⊎ InRange (get_or ranges k d) c)
+pub has_more : (ranges : List Range) (k c : ℕ) (d : Range) → k < length ranges →
+    Has (take (k + 1) ranges) c ↔ (Has (take k ranges) c ⊎ InRange (get_or ranges k d) c)
 has_more ranges k c d below =
     let e : suc k ≡ k + 1 = omega arith in
     subst (λ (n : ℕ). Has (take n ranges) c ↔ (Has (take k ranges) c ⊎ InRange (get_or ranges k d) c)) e (has_suc ranges k c d below)
@@ -121,15 +126,22 @@ pub record IsPoint (P : ℕ → Type 0) (Q : ℕ → Type 0) (cuts : List ℕ) (
   pub later : (k : ℕ) → point ≤ k → k < length cuts → Q (get_or cuts k 0)
 
 -- the members so far come before the next range's first
-pub members_below : (cuts : List ℕ) (ranges : List Range) (members : List ℕ) (k from : ℕ) (range : Range) → k < length ranges → range ≡ get_or ranges k range → Selected cuts ranges members k →
+pub members_below : (cuts : List ℕ) (ranges : List Range) (members : List ℕ) (k from : ℕ) (range : Range) → k < length ranges → range ≡ get_or ranges k range →
+    Selected cuts ranges members k →
     IsPoint (λ c. c < range.low) (λ c. range.low ≤ c) cuts from → (j : ℕ) → j < length members → get_or members j 0 < from
 members_below cuts ranges members k from range below is h point j inside =
     elim (cases_lt (get_or members j 0) from) [
       | inl sooner ↦ sooner
-      | inr later ↦ absurd (omega (arith, point.later (get_or members j 0) later (h.within j inside), h.before j k range inside (omega arith) below, ap (λ (r : Range). r.low) is))
+      | inr later ↦ absurd (omega (
+        arith,
+        point.later (get_or members j 0) later (h.within j inside),
+        h.before j k range inside (omega arith) below,
+        ap (λ (r : Range). r.low) is,
+      ))
     ]
 
-pub one_selected : (cuts : List ℕ) (ranges : List Range) (base members : List ℕ) (k from to : ℕ) (range : Range) → k < length ranges → range ≡ get_or ranges k range →
+pub one_selected : (cuts : List ℕ) (ranges : List Range) (base members : List ℕ) (k from to : ℕ) (range : Range) → k < length ranges →
+    range ≡ get_or ranges k range →
     ((r : ℕ) (d : Range) → k < r → r < length ranges → range.high < (get_or ranges r d).low) →
     IsPoint (λ c. c < range.low) (λ c. range.low ≤ c) cuts from → IsPoint (λ c. c ≤ range.high) (λ c. range.high < c) cuts to →
     Selected cuts ranges base k → Added base members from to → Selected cuts ranges members (k + 1)
@@ -144,7 +156,10 @@ one_selected cuts ranges base members k from to range below is apart low high h 
     there i inside s =
         (has_more ranges k (get_or cuts i 0) range below).1 (elim ((added.exactly i).0 s) [
           | inl b ↦ inl ((h.exactly i inside).0 b)
-          | inr (from', to') ↦ inr (omega (arith, low.later i from' inside, ap (λ (r : Range). r.low) is), omega (arith, high.sooner i to', ap (λ (r : Range). r.high) is))
+          | inr (from', to') ↦ inr (
+            omega (arith, low.later i from' inside, ap (λ (r : Range). r.low) is),
+            omega (arith, high.sooner i to', ap (λ (r : Range). r.high) is),
+          )
         ])
 
     back : (i : ℕ) → i < length cuts → Has (take (k + 1) ranges) (get_or cuts i 0) → Selects members i
@@ -167,14 +182,16 @@ one_selected cuts ranges base members k from to range below is apart low high h 
         ]
 
     before_more : (j r : ℕ) (d : Range) → j < length members → k + 1 ≤ r → r < length ranges →
-        (Selects members (get_or members j 0) → Selects base (get_or members j 0) ⊎ ((from ≤ get_or members j 0) × (get_or members j 0 < to))) → get_or cuts (get_or members j 0) 0 < (get_or ranges r d).low
+        (Selects members (get_or members j 0) → Selects base (get_or members j 0) ⊎ ((from ≤ get_or members j 0) × (get_or members j 0 < to))) →
+        get_or cuts (get_or members j 0) 0 < (get_or ranges r d).low
     before_more j r d inside late rest split =
         elim (split (j, inside, refl)) [
           | inl (i, inside', e) ↦ omega (arith, h.before i r d inside' (omega (arith, late)) rest, ap (λ n. get_or cuts n 0) e)
           | inr (from', to') ↦ omega (arith, high.sooner (get_or members j 0) to', apart r d (omega (arith, late)) rest)
         ]
 
-pub all_selected : (cuts : List ℕ) (ranges : List Range) (members : List ℕ) (k : ℕ) → k ≡ length ranges → take k ranges ≡ ranges → Selected cuts ranges members k → AreMembers cuts ranges members
+pub all_selected : (cuts : List ℕ) (ranges : List Range) (members : List ℕ) (k : ℕ) → k ≡ length ranges → take k ranges ≡ ranges →
+    Selected cuts ranges members k → AreMembers cuts ranges members
 all_selected cuts ranges members k e all h = record {
   rising = h.rising;
   within = h.within;
@@ -189,14 +206,16 @@ cuts_rise cuts rising i j d ordered below =
       | inr other ↦ omega (arith, AllPairs-from_increasing cuts rising i j d (omega arith) below)
     ]
 
-pub point_below : (cuts : List ℕ) (t point : ℕ) → point ≤ length cuts → IsPartitionPoint (λ (x : ℕ). ltb x t ≡ true) (λ (x : ℕ). ltb x t ≡ false) cuts point → IsPoint (λ (x : ℕ). x < t) (λ (x : ℕ). t ≤ x) cuts point
+pub point_below : (cuts : List ℕ) (t point : ℕ) → point ≤ length cuts → IsPartitionPoint (λ (x : ℕ). ltb x t ≡ true) (λ (x : ℕ). ltb x t ≡ false) cuts point →
+    IsPoint (λ (x : ℕ). x < t) (λ (x : ℕ). t ≤ x) cuts point
 point_below cuts t point within h = record {
   within = within;
   sooner = λ k below. ltb-true _ _ (h.0 k 0 (omega arith) below);
   later = λ k from below. ltb-false _ _ (h.1 k 0 from below);
 }
 
-pub point_up_to : (cuts : List ℕ) (t point : ℕ) → point ≤ length cuts → IsPartitionPoint (λ (x : ℕ). leb x t ≡ true) (λ (x : ℕ). leb x t ≡ false) cuts point → IsPoint (λ (x : ℕ). x ≤ t) (λ (x : ℕ). t < x) cuts point
+pub point_up_to : (cuts : List ℕ) (t point : ℕ) → point ≤ length cuts → IsPartitionPoint (λ (x : ℕ). leb x t ≡ true) (λ (x : ℕ). leb x t ≡ false) cuts point →
+    IsPoint (λ (x : ℕ). x ≤ t) (λ (x : ℕ). t < x) cuts point
 point_up_to cuts t point within h = record {
   within = within;
   sooner = λ k below. leb-true _ _ (h.0 k 0 (omega arith) below);
@@ -204,17 +223,20 @@ point_up_to cuts t point within h = record {
 }
 
 -- the end of a range is before the starts of the later ones
-pub later_apart : (ranges : List Range) (k : ℕ) (range : Range) → AreRising ranges → range ≡ get_or ranges k range → (r : ℕ) (d : Range) → k < r → r < length ranges → range.high < (get_or ranges r d).low
+pub later_apart : (ranges : List Range) (k : ℕ) (range : Range) → AreRising ranges → range ≡ get_or ranges k range → (r : ℕ) (d : Range) → k < r →
+    r < length ranges → range.high < (get_or ranges r d).low
 later_apart ranges k range rise is r d less below =
     let first : get_or ranges k range ≡ get_or ranges k d = get_or_default ranges k range d (omega arith) in
     omega (arith, rising-apart 0 ranges rise k r d less below, ap (λ (x : Range). x.high) (is ∙ first))
 
-pub range_ordered : (ranges : List Range) (k : ℕ) (range : Range) → AreRising ranges → k < length ranges → range ≡ get_or ranges k range → range.low ≤ range.high
+pub range_ordered : (ranges : List Range) (k : ℕ) (range : Range) → AreRising ranges → k < length ranges → range ≡ get_or ranges k range →
+    range.low ≤ range.high
 range_ordered ranges k range rise below is =
     omega (arith, (rising-range 0 ranges rise k range below).0, ap (λ (x : Range). x.high) is, ap (λ (x : Range). x.low) is)
 
 -- the members of a range reach no further than its end, so the points are in order
-pub points_ordered : (cuts : List ℕ) (low high from to : ℕ) → low ≤ high → IsPoint (λ (x : ℕ). x < low) (λ (x : ℕ). low ≤ x) cuts from → IsPoint (λ (x : ℕ). x ≤ high) (λ (x : ℕ). high < x) cuts to → from ≤ to
+pub points_ordered : (cuts : List ℕ) (low high from to : ℕ) → low ≤ high → IsPoint (λ (x : ℕ). x < low) (λ (x : ℕ). low ≤ x) cuts from →
+    IsPoint (λ (x : ℕ). x ≤ high) (λ (x : ℕ). high < x) cuts to → from ≤ to
 points_ordered cuts low high from to ordered first last =
     elim (cases_lt to from) [
       | inl wrong ↦ absurd (omega (arith, first.sooner to wrong, last.later to (omega arith) (omega (arith, first.within)), ordered))

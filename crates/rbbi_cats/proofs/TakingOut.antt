@@ -1,5 +1,6 @@
 -- The members are taken out of their classes, one after another.
-use Rattle.std.proofs.Common.{◌≡◌, ◌≢◌, ℕ, ◌+◌, ◌-◌, ◌≤◌, ◌<◌, List, [], ◌∷◌, ◌++◌, length, get_or, set, refl, ap, sym, ◌∙◌, inl, inr, arith, get_or-set_same, get_or-set_other, length-append}
+use Rattle.std.proofs.Common.{◌≡◌, ◌≢◌, ℕ, ◌+◌, ◌-◌, ◌≤◌, ◌<◌, List, [], ◌∷◌, ◌++◌, length, get_or, set, refl, ap, sym, ◌∙◌, inl, inr, arith, get_or-set_same}
+use Rattle.std.proofs.Common.{get_or-set_other, length-append}
 use Rattle.std.proofs.Math.ListN.{length-set}
 use Rattle.std.proofs.lemmas.List.{get_or_append_left}
 use Rattle.std.proofs.Math.Seq.{get_or-append_seam}
@@ -27,10 +28,12 @@ none_taken before members sizes moving sized = record {
 }
 
 -- the next member is none of those before it
-pub next_apart : (members : List ℕ) (k : ℕ) → ((i j : ℕ) → i < j → j < length members → get_or members i 0 < get_or members j 0) → k < length members → (j : ℕ) → j < k → get_or members j 0 ≢ get_or members k 0
+pub next_apart : (members : List ℕ) (k : ℕ) → ((i j : ℕ) → i < j → j < length members → get_or members i 0 < get_or members j 0) → k < length members →
+    (j : ℕ) → j < k → get_or members j 0 ≢ get_or members k 0
 next_apart members k rising within j below e = absurd (omega (arith, rising j k below within, e))
 
-pub next_in_class : (before classes members origins sizes : List ℕ) (moving k : ℕ) → AreStretches before members → k < length members → TakenSoFar before classes members origins sizes moving k →
+pub next_in_class : (before classes members origins sizes : List ℕ) (moving k : ℕ) → AreStretches before members → k < length members →
+    TakenSoFar before classes members origins sizes moving k →
     get_or classes (get_or members k 0) 0 ≡ get_or before (get_or members k 0) 0
 next_in_class before classes members origins sizes moving k stretches within h =
     h.others (get_or members k 0) (stretches.within k within) (λ j below e. next_apart members k stretches.rising within j below e)
@@ -80,7 +83,8 @@ module _ (before classes members origins sizes : List ℕ) (moving k m origin : 
             let one : one_if (get_or classes m 0) class ≡ 1 = one_if_same (get_or classes m 0) class (sym origin_is ∙ sym same) in
             let size : get_or sizes class 0 ≡ count_of classes class = h.sized class inside in
             let size' : get_or sizes origin 0 ≡ count_of classes class = ap (λ i. get_or sizes i 0) (sym same) ∙ size in
-            ap (λ i. get_or (set sizes origin (get_or sizes origin 0 - 1)) i 0) same ∙ get_or-set_same sizes origin (get_or sizes origin 0 - 1) 0 origin_within ∙ omega (arith, counts, one, gone, size')
+            ap (λ i. get_or (set sizes origin (get_or sizes origin 0 - 1)) i 0) same ∙ get_or-set_same sizes origin (get_or sizes origin 0 - 1) 0 origin_within
+            ∙ omega (arith, counts, one, gone, size')
         | inr other ↦
             let zero' : one_if (get_or classes m 0) class ≡ 0 = one_if_other (get_or classes m 0) class (λ e. other (sym e ∙ sym origin_is)) in
             get_or-set_other sizes origin class (get_or sizes origin 0 - 1) 0 other ∙ h.sized class inside ∙ omega (arith, counts, zero', gone)
@@ -97,7 +101,8 @@ module _ (before classes members origins sizes : List ℕ) (moving k m origin : 
     sized = sized_more origin_within few;
   }
 
-pub all_taken : (before classes members origins sizes : List ℕ) (moving k : ℕ) → k ≡ length members → TakenSoFar before classes members origins sizes moving k → TakesOut before classes members origins sizes moving
+pub all_taken : (before classes members origins sizes : List ℕ) (moving k : ℕ) → k ≡ length members → TakenSoFar before classes members origins sizes moving k →
+    TakesOut before classes members origins sizes moving
 all_taken before classes members origins sizes moving k e h = record {
   many = h.many_origins ∙ e;
   from = λ j below. h.from j (omega (arith, e));
@@ -107,7 +112,8 @@ all_taken before classes members origins sizes moving k e h = record {
 }
 
 -- the class of the next member has a stretch to lose
-pub some_left : (before classes members origins sizes : List ℕ) (moving k m origin : ℕ) → AreStretches before members → k < length members → m ≡ get_or members k 0 →
+pub some_left : (before classes members origins sizes : List ℕ) (moving k m origin : ℕ) → AreStretches before members → k < length members →
+    m ≡ get_or members k 0 →
     origin ≡ get_or classes m 0 → origin < length sizes → TakenSoFar before classes members origins sizes moving k → 1 ≤ get_or sizes origin 0
 some_left before classes members origins sizes moving k m origin stretches within m_is origin_is few h =
     omega (arith, h.sized origin few, counted classes m origin (omega (arith, m_is, stretches.within k within, h.many)) (sym origin_is))

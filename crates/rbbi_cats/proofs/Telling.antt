@@ -1,5 +1,6 @@
 -- What one more set tells apart.
-use Rattle.std.proofs.Common.{◌≡◌, ℕ, zero, suc, ◌+◌, ◌≤◌, ◌<◌, ◌⊎◌, ◌↔◌, Some, List, [], ◌∷◌, ◌++◌, length, get_or, take, refl, ap, sym, ◌∙◌, subst, inl, inr, arith}
+use Rattle.std.proofs.Common.{◌≡◌, ℕ, zero, suc, ◌+◌, ◌≤◌, ◌<◌, ◌⊎◌, ◌↔◌, Some, List, [], ◌∷◌, ◌++◌, length, get_or, take, refl, ap, sym, ◌∙◌, subst, inl, inr}
+use Rattle.std.proofs.Common.{arith}
 use Rattle.std.specs.Prelude.{replicate, slice_get, Contains, AllPairs}
 use Rattle.std.specs.List.{AllByRecursion}
 use Rattle.std.proofs.lemmas.List.{take_more, get_or_default}
@@ -65,9 +66,11 @@ some_take (set ∷ sets) (suc k) c (inr h) = inr (some_take sets k c h)
 
 -- the next set after the first so many
 next_set : (sets : List (List Range)) (k : ℕ) (set : List Range) → slice_get sets k ≡ Some set → take (k + 1) sets ≡ take k sets ++ set ∷ []
-next_set sets k set at = take_more sets k set (slice_get_within sets k set at) ∙ ap (λ (s : List Range). take k sets ++ s ∷ []) (get_or_from_slice_get sets k set set at)
+next_set sets k set at = take_more sets k set (slice_get_within sets k set at) ∙
+    ap (λ (s : List Range). take k sets ++ s ∷ []) (get_or_from_slice_get sets k set set at)
 
-pub none_told : (sets : List (List Range)) (cuts classes : List ℕ) → length classes ≡ length cuts → classes ≡ replicate (length cuts) 0 → Tells (take 0 sets) cuts classes
+pub none_told : (sets : List (List Range)) (cuts classes : List ℕ) → length classes ≡ length cuts → classes ≡ replicate (length cuts) 0 →
+    Tells (take 0 sets) cuts classes
 none_told sets cuts classes many e = record {
   many = many;
   alike = λ i j inside inside'. (λ s. tt, λ t. at i inside ∙ sym (at j inside'));
@@ -103,10 +106,12 @@ one_class n classes sizes e d = subst (λ (s : List ℕ). IsPartition classes s)
     sized zero below = sym (all_zero n)
     sized (suc class) below = absurd (omega (arith, below))
 
-pub stretches_of : (cuts classes members : List ℕ) (set : List Range) → length classes ≡ length cuts → AreMembers cuts set members → AreStretches classes members
+pub stretches_of : (cuts classes members : List ℕ) (set : List Range) → length classes ≡ length cuts → AreMembers cuts set members →
+    AreStretches classes members
 stretches_of cuts classes members set many h = record { rising = h.rising; within = λ j below. omega (arith, h.within j below, many) }
 
-pub told_more : (sets : List (List Range)) (cuts before after members : List ℕ) (k : ℕ) (set : List Range) → slice_get sets k ≡ Some set → AreMembers cuts set members → Refines before after members →
+pub told_more : (sets : List (List Range)) (cuts before after members : List ℕ) (k : ℕ) (set : List Range) → slice_get sets k ≡ Some set →
+    AreMembers cuts set members → Refines before after members →
     Tells (take k sets) cuts before → Tells (take (k + 1) sets) cuts after
 told_more sets cuts before after members k set at m r h = subst (λ (s : List (List Range)). Tells s cuts after) (sym (next_set sets k set at)) (record {
   many = r.many ∙ h.many;
@@ -117,7 +122,8 @@ told_more sets cuts before after members k set at m r h = subst (λ (s : List (L
     within : (i : ℕ) → i < length cuts → i < length before
     within i inside = omega (arith, inside, h.many)
 
-    alike_there : (i j : ℕ) → i < length cuts → j < length cuts → get_or after i 0 ≡ get_or after j 0 → NoneTells (take k sets ++ set ∷ []) (get_or cuts i 0) (get_or cuts j 0)
+    alike_there : (i j : ℕ) → i < length cuts → j < length cuts → get_or after i 0 ≡ get_or after j 0 →
+        NoneTells (take k sets ++ set ∷ []) (get_or cuts i 0) (get_or cuts j 0)
     alike_there i j inside inside' e =
         let both = (r.alike i j (within i inside) (within j inside')).0 e in
         (none_push (take k sets) set (get_or cuts i 0) (get_or cuts j 0)).1 (
@@ -125,7 +131,8 @@ told_more sets cuts before after members k set at m r h = subst (λ (s : List (L
           (λ s. (m.exactly j inside').0 (both.1.0 ((m.exactly i inside).1 s)), λ s. (m.exactly i inside).0 (both.1.1 ((m.exactly j inside').1 s))),
         )
 
-    alike_back : (i j : ℕ) → i < length cuts → j < length cuts → NoneTells (take k sets ++ set ∷ []) (get_or cuts i 0) (get_or cuts j 0) → get_or after i 0 ≡ get_or after j 0
+    alike_back : (i j : ℕ) → i < length cuts → j < length cuts → NoneTells (take k sets ++ set ∷ []) (get_or cuts i 0) (get_or cuts j 0) →
+        get_or after i 0 ≡ get_or after j 0
     alike_back i j inside inside' n =
         let both = (none_push (take k sets) set (get_or cuts i 0) (get_or cuts j 0)).0 n in
         (r.alike i j (within i inside) (within j inside')).1 (
@@ -156,8 +163,16 @@ record Representatives (sets : List (List Range)) (cuts classes : List ℕ) (cou
   classed : AllByRecursion (λ c. (i : ℕ) × (i < length cuts) × (get_or cuts i 0 ≡ c) × (get_or classes i 0 ≤ count)) starts
   apart : AllPairs (λ c d. ¬ NoneTells sets c d) starts
 
-representatives : (sets : List (List Range)) (cuts classes sizes : List ℕ) (k count : ℕ) → IsPartition classes sizes → Tells (take k sets) cuts classes → count < length sizes → Representatives sets cuts classes count
-representatives sets cuts classes sizes k zero p t below = record { starts = []; many = refl; each = tt; classed = tt; apart = λ i j d less inside. absurd (omega (arith, inside)) }
+representatives : (sets : List (List Range)) (cuts classes sizes : List ℕ) (k count : ℕ) → IsPartition classes sizes → Tells (take k sets) cuts classes →
+    count < length sizes → Representatives sets cuts classes count
+representatives sets cuts classes sizes k zero p t below = record {
+  starts = [];
+  many = refl;
+  each = tt;
+  classed = tt;
+  apart =
+      λ i j d less inside. absurd (omega (arith, inside));
+}
 representatives sets cuts classes sizes k (suc count) p t below =
     let old = representatives sets cuts classes sizes k count p t (omega (arith, below)) in
     let (i, inside, class_is) = p.used (suc count) (omega arith) below in
@@ -167,7 +182,8 @@ representatives sets cuts classes sizes k (suc count) p t below =
       many = ap (λ n. suc n) old.many;
       each = ((is_held i here class_is, (i, here, get_or_default cuts i (get_or cuts i 0) 0 here)), old.each);
       classed = ((i, here, refl, omega (arith, class_is)), wider old.starts old.classed);
-      apart = AllPairs-cons (λ c d. ¬ NoneTells sets c d) (get_or cuts i 0) old.starts (All-from_recursion (λ d. ¬ NoneTells sets (get_or cuts i 0) d) old.starts (new_apart i here class_is old.starts old.classed)) old.apart;
+      apart = AllPairs-cons (λ c d. ¬ NoneTells sets c d) (get_or cuts i 0) old.starts
+          (All-from_recursion (λ d. ¬ NoneTells sets (get_or cuts i 0) d) old.starts (new_apart i here class_is old.starts old.classed)) old.apart;
     }
   where
     is_held : (i : ℕ) → i < length cuts → get_or classes i 0 ≡ suc count → SomeHas sets (get_or cuts i 0)
@@ -183,12 +199,22 @@ representatives sets cuts classes sizes k (suc count) p t below =
     wider (c ∷ starts) ((i, here, is, few), h) = ((i, here, is, omega (arith, few)), wider starts h)
 
     new_apart : (i : ℕ) → i < length cuts → get_or classes i 0 ≡ suc count → (starts : List ℕ) →
-        AllByRecursion (λ c. (i : ℕ) × (i < length cuts) × (get_or cuts i 0 ≡ c) × (get_or classes i 0 ≤ count)) starts → AllByRecursion (λ d. ¬ NoneTells sets (get_or cuts i 0) d) starts
+        AllByRecursion (λ c. (i : ℕ) × (i < length cuts) × (get_or cuts i 0 ≡ c) × (get_or classes i 0 ≤ count)) starts →
+        AllByRecursion (λ d. ¬ NoneTells sets (get_or cuts i 0) d) starts
     new_apart i here class_is [] h = tt
-    new_apart i here class_is (d ∷ starts) ((j, there, is, few), h) =
-        (λ n. absurd (omega (arith, (t.alike i j here there).1 (none_take sets k (get_or cuts i 0) (get_or cuts j 0) (subst (NoneTells sets (get_or cuts i 0)) (sym is) n)), class_is, few)), new_apart i here class_is starts h)
+    new_apart i here class_is (d ∷ starts) ((j, there, is, few), h) = (
+      λ n. absurd (omega (
+        arith,
+        (t.alike i j here there).1 (none_take sets k (get_or cuts i 0) (get_or cuts j 0)
+            (subst (NoneTells sets (get_or cuts i 0)) (sym is) n)),
+        class_is,
+        few,
+      )),
+      new_apart i here class_is starts h,
+    )
 
-pub too_many_told : (sets : List (List Range)) (cuts classes sizes : List ℕ) (k count : ℕ) → IsPartition classes sizes → Tells (take k sets) cuts classes → count < length sizes → HasTold sets cuts count
+pub too_many_told : (sets : List (List Range)) (cuts classes sizes : List ℕ) (k count : ℕ) → IsPartition classes sizes → Tells (take k sets) cuts classes →
+    count < length sizes → HasTold sets cuts count
 too_many_told sets cuts classes sizes k count p t below =
     let h = representatives sets cuts classes sizes k count p t below in
     record { starts = h.starts; many = h.many; each = h.each; apart = h.apart }

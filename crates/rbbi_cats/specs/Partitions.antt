@@ -38,7 +38,8 @@ IsTarget sizes count origin target =
 -- A class that has its target keeps it. One that has none gets itself where it has no stretches left, or else a new class.
 pub data Targets (moving : ℕ) (targets sizes : List ℕ) (origin : ℕ) : List ℕ → List ℕ → ℕ → Type 0 where
   Had : slice_index targets origin ≢ moving → Targets moving targets sizes origin targets sizes (slice_index targets origin)
-  Kept : slice_index targets origin ≡ moving → origin ≢ 0 → slice_index sizes origin ≡ 0 → Targets moving targets sizes origin (slice_set targets origin origin) sizes origin
+  Kept : slice_index targets origin ≡ moving → origin ≢ 0 → slice_index sizes origin ≡ 0 → Targets moving targets sizes origin
+      (slice_set targets origin origin) sizes origin
   Made : slice_index targets origin ≡ moving → (origin ≡ 0) ⊎ (slice_index sizes origin ≢ 0) →
       Targets moving targets sizes origin (slice_set targets origin (length sizes)) (sizes ++ 0 ∷ []) (length sizes)
 

@@ -8,16 +8,19 @@ use Rattle.rbbi_io.specs.Memory.{failed_reads_of, failed_writes_of}
 use Rattle.rbbi_io.proofs.NamedFiles.{same_name, other_name}
 
 -- one more call counts where it passes the test
-count_by-push : (test : List ℕ × CallKind → Bool) (calls : List (List ℕ × CallKind)) (call : List ℕ × CallKind) → count_by test (calls ++ call ∷ []) ≡ count_by test calls + cond (test call) 1 0
+count_by-push : (test : List ℕ × CallKind → Bool) (calls : List (List ℕ × CallKind)) (call : List ℕ × CallKind) →
+    count_by test (calls ++ call ∷ []) ≡ count_by test calls + cond (test call) 1 0
 count_by-push test calls call =
     sum_by-append (λ (x : List ℕ × CallKind). cond (test x) 1 0) calls (call ∷ [])
     ∙ ap (λ n. count_by test calls + n) (zero-add (cond (test call) 1 0))
 
 -- one more call doesn't count where it fails the test
-count_by-passed_over : (test : List ℕ × CallKind → Bool) (calls : List (List ℕ × CallKind)) (call : List ℕ × CallKind) → test call ≡ false → count_by test (calls ++ call ∷ []) ≡ count_by test calls
+count_by-passed_over : (test : List ℕ × CallKind → Bool) (calls : List (List ℕ × CallKind)) (call : List ℕ × CallKind) → test call ≡ false →
+    count_by test (calls ++ call ∷ []) ≡ count_by test calls
 count_by-passed_over test calls call e = count_by-push test calls call ∙ ap (λ b. count_by test calls + cond b 1 0) e ∙ add-zero (count_by test calls)
 
-count_by-counted : (test : List ℕ × CallKind → Bool) (calls : List (List ℕ × CallKind)) (call : List ℕ × CallKind) → test call ≡ true → count_by test (calls ++ call ∷ []) ≡ count_by test calls + 1
+count_by-counted : (test : List ℕ × CallKind → Bool) (calls : List (List ℕ × CallKind)) (call : List ℕ × CallKind) → test call ≡ true →
+    count_by test (calls ++ call ∷ []) ≡ count_by test calls + 1
 count_by-counted test calls call e = count_by-push test calls call ∙ ap (λ b. count_by test calls + cond b 1 0) e
 
 module _ (failed : List (List ℕ × CallKind)) (name : List ℕ) where

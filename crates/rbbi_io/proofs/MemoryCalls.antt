@@ -21,15 +21,18 @@ Rose-one before now e =
 
 module _ (old new : FilesInMemory) (name : List ℕ) where
   -- a read that failed is counted
-  pub ReadsMemory-failed : (limit : ℕ) (result : Result (List ℕ) ReadErr) → ReadsMemory old name limit result new → result ≡ Err read.Failed → Rose (reads_failed old name) (reads_failed new name)
+  pub ReadsMemory-failed : (limit : ℕ) (result : Result (List ℕ) ReadErr) → ReadsMemory old name limit result new → result ≡ Err read.Failed →
+      Rose (reads_failed old name) (reads_failed new name)
   ReadsMemory-failed limit (Ok bytes) h e = cc
   ReadsMemory-failed limit (Err read.Failed) h e =
-      Rose-one (failed_reads_of old.failed name) (failed_reads_of new.failed name) (ap (λ m. failed_reads_of m.failed name) h.1 ∙ failed_reads_of-read old.failed name)
+      Rose-one (failed_reads_of old.failed name) (failed_reads_of new.failed name)
+      (ap (λ m. failed_reads_of m.failed name) h.1 ∙ failed_reads_of-read old.failed name)
   ReadsMemory-failed limit (Err read.TooLong) h e = cc
   ReadsMemory-failed limit (Err read.Memory) h e = cc
 
   -- no other name's count changes by a read
-  pub ReadsMemory-others : (limit : ℕ) (result : Result (List ℕ) ReadErr) → ReadsMemory old name limit result new → (other : List ℕ) → other ≢ name → reads_failed new other ≡ reads_failed old other
+  pub ReadsMemory-others : (limit : ℕ) (result : Result (List ℕ) ReadErr) → ReadsMemory old name limit result new → (other : List ℕ) → other ≢ name →
+      reads_failed new other ≡ reads_failed old other
   ReadsMemory-others limit (Ok bytes) h other ne = ap (λ m. reads_failed m other) h.3
   ReadsMemory-others limit (Err read.Failed) h other ne =
       ap (λ m. reads_failed m other) h.1 ∙ ap capped (failed_reads_of-other old.failed name other ne)
@@ -37,21 +40,25 @@ module _ (old new : FilesInMemory) (name : List ℕ) where
   ReadsMemory-others limit (Err read.Memory) h other ne = ap (λ m. reads_failed m other) h
 
   -- a write that failed is counted
-  pub WritesMemory-failed : {T : Type 0} (bytes : List ℕ) (result : Result T WriteErr) → WritesMemory old name bytes result new → result ≡ Err write.Failed → Rose (writes_failed old name) (writes_failed new name)
+  pub WritesMemory-failed : {T : Type 0} (bytes : List ℕ) (result : Result T WriteErr) → WritesMemory old name bytes result new → result ≡ Err write.Failed →
+      Rose (writes_failed old name) (writes_failed new name)
   WritesMemory-failed bytes (Ok _) h e = cc
   WritesMemory-failed bytes (Err write.Failed) h e =
-      Rose-one (failed_writes_of old.failed name) (failed_writes_of new.failed name) (ap (λ m. failed_writes_of m.failed name) h.1 ∙ failed_writes_of-write old.failed name)
+      Rose-one (failed_writes_of old.failed name) (failed_writes_of new.failed name)
+      (ap (λ m. failed_writes_of m.failed name) h.1 ∙ failed_writes_of-write old.failed name)
   WritesMemory-failed bytes (Err write.Memory) h e = cc
 
   -- no other name's count changes by a write
-  pub WritesMemory-others : {T : Type 0} (bytes : List ℕ) (result : Result T WriteErr) → WritesMemory old name bytes result new → (other : List ℕ) → other ≢ name → writes_failed new other ≡ writes_failed old other
+  pub WritesMemory-others : {T : Type 0} (bytes : List ℕ) (result : Result T WriteErr) → WritesMemory old name bytes result new → (other : List ℕ) →
+      other ≢ name → writes_failed new other ≡ writes_failed old other
   WritesMemory-others bytes (Ok _) h other ne = ap (λ m. writes_failed m other) h.1
   WritesMemory-others bytes (Err write.Failed) h other ne =
       ap (λ m. writes_failed m other) h.1 ∙ ap capped (failed_writes_of-other old.failed name other ne)
   WritesMemory-others bytes (Err write.Memory) h other ne = ap (λ m. writes_failed m other) h
 
   -- what the names hold after a write
-  pub WritesMemory-held : {T : Type 0} (bytes : List ℕ) (result : Result T WriteErr) → WritesMemory old name bytes result new → LeavesWritten name bytes result (held_by old.files) (held_by new.files)
+  pub WritesMemory-held : {T : Type 0} (bytes : List ℕ) (result : Result T WriteErr) → WritesMemory old name bytes result new →
+      LeavesWritten name bytes result (held_by old.files) (held_by new.files)
   WritesMemory-held bytes (Ok _) h = (
     ap (λ m. held_by m.files name) h.1 ∙ held_by-with_file old.files name bytes,
     λ other ne. ap (λ m. held_by m.files other) h.1 ∙ held_by-with_other old.files name bytes other ne,

@@ -1,5 +1,6 @@
 -- Files and sinks in memory.
-use Rattle.std.specs.Prelude.{◌≡◌, ◌≢◌, ◌<◌, ◌≤◌, ◌⊎◌, ◌++◌, ℕ, Bool, true, false, List, [], ◌∷◌, length, Option, Some, None, Result, Ok, Err, bytes_eq, if◌then◌else◌, ◌&&◌, unwrap_or, count_by, Contains, slice_index_or}
+use Rattle.std.specs.Prelude.{◌≡◌, ◌≢◌, ◌<◌, ◌≤◌, ◌⊎◌, ◌++◌, ℕ, Bool, true, false, List, [], ◌∷◌, length, Option, Some, None, Result, Ok, Err, bytes_eq}
+use Rattle.std.specs.Prelude.{if◌then◌else◌, ◌&&◌, unwrap_or, count_by, Contains, slice_index_or}
 use Rattle.rbbi_io.specs.Counts.{capped, one_more}
 use Rattle.rbbi_io.specs.declared.mem_files.CallKind.{CallKind}
 use Rattle.rbbi_io.specs.declared.mem_files.CallKind.TheVariants.{Read, Write}
@@ -33,7 +34,7 @@ with_file [] name bytes = (name, bytes) ∷ []
 with_file (file ∷ files) name bytes = if bytes_eq file.0 name then (file.0, bytes) ∷ files else file ∷ with_file files name bytes
 
 -- the number of the first file of this name
-pub record IsPlaceOf (files : List (List ℕ × List ℕ)) (name : List ℕ) (place : ℕ) : Type 0 where
+pub record IsIndexOf (files : List (List ℕ × List ℕ)) (name : List ℕ) (place : ℕ) : Type 0 where
   pub within : place < length files
   pub named : (slice_index_or files place ([], [])).0 ≡ name
   pub first : (k : ℕ) → k < place → (slice_index_or files k ([], [])).0 ≢ name

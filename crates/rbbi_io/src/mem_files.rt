@@ -2,7 +2,7 @@
 ghost use Rattle.std.specs.Prelude.{◌≡◌, ◌≤◌, ◌↔◌, ◌++◌, [], ◌∷◌, length, IsTrue, OnOk, OnErr, IsErrOf, MatchOption, option_copied};
 ghost use Rattle.rbbi_io.specs.Counts.{Rose, OthersStay};
 ghost use Rattle.rbbi_io.specs.Answers.{LeavesWritten};
-ghost use Rattle.rbbi_io.specs.Memory.{reads_failed, writes_failed, held_by, file_of, with_file, called, IsAbsent, IsPlaceOf, IsToFail, ReadsMemory, WritesMemory};
+ghost use Rattle.rbbi_io.specs.Memory.{reads_failed, writes_failed, held_by, file_of, with_file, called, IsAbsent, IsIndexOf, IsToFail, ReadsMemory, WritesMemory};
 
 use crate::{Files, ReadErr, WriteErr};
 use rbbi_text::Raw;
@@ -99,7 +99,7 @@ impl Model for MemFiles {
 
 /// The number of the first file of this name.
 fn place_of(files: &[MemFile], name: &str) -> Option<usize>
-    ensures { MatchOption result (IsAbsent files.now name.now) (IsPlaceOf files.now name.now) }
+    ensures { MatchOption result (IsAbsent files.now name.now) (IsIndexOf files.now name.now) }
 {
     for (i, file) in files.iter().enumerate() {
         if file.name() == name {

@@ -1,4 +1,4 @@
--- By each row a place spells a token, or none.
+-- By each case a place spells a token, or none.
 use Rattle.std.proofs.Common.{◌≡◌, ℕ, zero, suc, ◌+◌, ◌≤◌, ◌⊎◌, inl, inr, true, false, List, [], ◌∷◌, length, refl, sym, ap, subst, ◌∙◌, arith, slice_get}
 use Rattle.std.proofs.Common.{slice_range}
 use Rattle.std.proofs.Math.Utf8.{scalar}
@@ -9,13 +9,13 @@ use Rattle.rbbi_lex.specs.declared.token.TokenKind.{TokenKind}
 use Rattle.rbbi_lex.specs.declared.token.TokenKind.TheVariants.{SetOpen, Char, Quoted, Name, Control, Tag}
 use Rattle.rbbi_lex.specs.declared.escape.Form.{Form}
 use Rattle.rbbi_lex.specs.declared.escape.Form.TheVariants.{FourDigits, EightDigits, BracedDigits, FewDigits, StandsFor, Unknown}
-use Rattle.rbbi_lex.specs.declared.run.Run.TheVariants.{NameText, ControlText, HexadecimalDigits, BracedBody, BracedName, BracketedBody, BracketedName}
-use Rattle.rbbi_lex.specs.declared.row.Row.{Row}
-use Rattle.rbbi_lex.specs.declared.row.Row.TheVariants.{Sign, SetSign, BracketedProperty, SetStart, Variable, ControlName, StatusNumber, QuotePair, Quotation}
-use Rattle.rbbi_lex.specs.declared.row.Row.TheVariants.{BracedProperty, Escape, Brace, BareCharacter, SetCharacter, OtherCharacter}
+use Rattle.rbbi_lex.specs.declared.stretch.Stretch.TheVariants.{NameText, ControlText, HexadecimalDigits, BracedBody, BracedName, BracketedBody, BracketedName}
+use Rattle.rbbi_lex.specs.declared.case.Case.{Case}
+use Rattle.rbbi_lex.specs.declared.case.Case.TheVariants.{Sign, SetSign, BracketedProperty, SetStart, Variable, ControlName, StatusNumber, QuotePair, Quotation}
+use Rattle.rbbi_lex.specs.declared.case.Case.TheVariants.{BracedProperty, Escape, Brace, BareCharacter, SetCharacter, OtherCharacter}
 use Rattle.rbbi_lex.specs.Characters.{is_name_start, is_line_end, is_sign, passes}
-use Rattle.rbbi_lex.specs.Runs.{run_end}
-use Rattle.rbbi_lex.specs.Rows.{outer_sign, inner_sign}
+use Rattle.rbbi_lex.specs.Stretches.{stretch_end}
+use Rattle.rbbi_lex.specs.Cases.{outer_sign, inner_sign}
 use Rattle.rbbi_lex.specs.Points.{CharacterAt, is_at}
 use Rattle.rbbi_text.specs.Numbers.{number}
 use Rattle.rbbi_lex.specs.Escapes.{form_of, braced_end, few_end, WritesCharacter, FixedDigits, DigitsInBraces, OneOrTwoDigits, EscapeGoesOn}
@@ -36,14 +36,14 @@ some_kind (Some kind) i = inl (i + 1, kind, (refl, refl))
 decide_name : (x : List ℕ) (i : ℕ) → Decided (SpellsName x i)
 decide_name x i =
     elim (cases_Bool (passes is_name_start (slice_get x (i + 1)))) [
-      | inl holds ↦ inl (run_end NameText x (i + 1), Name (slice_range x (i + 1) (run_end NameText x (i + 1))), (holds, refl, refl))
+      | inl holds ↦ inl (stretch_end NameText x (i + 1), Name (slice_range x (i + 1) (stretch_end NameText x (i + 1))), (holds, refl, refl))
       | inr fails ↦ inr (λ j kind p. false≢true (sym fails ∙ p.0))
     ]
 
 decide_control : (x : List ℕ) (i : ℕ) → Decided (SpellsControl x i)
 decide_control x i =
-    elim (cases_lt (i + 2) (run_end ControlText x (i + 2))) [
-      | inl some ↦ inl (run_end ControlText x (i + 2), Control (slice_range x (i + 2) (run_end ControlText x (i + 2))), (some, refl, refl))
+    elim (cases_lt (i + 2) (stretch_end ControlText x (i + 2))) [
+      | inl some ↦ inl (stretch_end ControlText x (i + 2), Control (slice_range x (i + 2) (stretch_end ControlText x (i + 2))), (some, refl, refl))
       | inr none ↦ inr (λ j kind p. absurd (omega (arith, none, p.0)))
     ]
 
@@ -71,19 +71,29 @@ decide_pair x i =
 
 decide_braced : (x : List ℕ) (i : ℕ) → Decided (SpellsBraced x i)
 decide_braced x i =
-    elim (cases_Bool (is_at x (run_end BracedBody x (i + 3)) 125)) [
-      | inl holds ↦ inl (run_end BracedBody x (i + 3) + 1, property x (is_at x (i + 1) 80) (i + 3) (run_end BracedName x (i + 3)) (run_end BracedBody x (i + 3)), (holds, refl, refl))
+    elim (cases_Bool (is_at x (stretch_end BracedBody x (i + 3)) 125)) [
+      | inl holds ↦ inl (
+        stretch_end BracedBody x (i + 3) + 1,
+        property x (is_at x (i + 1) 80) (i + 3) (stretch_end BracedName x (i + 3))
+            (stretch_end BracedBody x (i + 3)),
+        (holds, refl, refl),
+      )
       | inr fails ↦ inr (λ j kind p. false≢true (sym fails ∙ p.0))
     ]
 
 decide_bracketed : (x : List ℕ) (i : ℕ) → Decided (SpellsBracketed x i)
 decide_bracketed x i =
-    elim (cases_Bool (is_at x (run_end BracketedBody x (i + 2)) 58)) [
+    elim (cases_Bool (is_at x (stretch_end BracketedBody x (i + 2)) 58)) [
       | inr fails ↦ inr (λ j kind p. false≢true (sym fails ∙ p.0))
       | inl colon ↦
-          elim (cases_Bool (is_at x (run_end BracketedBody x (i + 2) + 1) 93)) [
+          elim (cases_Bool (is_at x (stretch_end BracketedBody x (i + 2) + 1) 93)) [
             | inr fails ↦ inr (λ j kind p. false≢true (sym fails ∙ p.1))
-            | inl holds ↦ inl (run_end BracketedBody x (i + 2) + 2, property x (is_at x (i + 2) 94) (body_start x i) (run_end BracketedName x (body_start x i)) (run_end BracketedBody x (i + 2)), (colon, holds, refl, refl))
+            | inl holds ↦ inl (
+              stretch_end BracketedBody x (i + 2) + 2,
+              property x (is_at x (i + 2) 94) (body_start x i) (stretch_end BracketedName x (body_start x i))
+                  (stretch_end BracketedBody x (i + 2)),
+              (colon, holds, refl, refl),
+            )
           ]
     ]
 
@@ -96,7 +106,7 @@ not_scalar x i j c fails w = false≢true (sym fails ∙ ap scalar (sym w.0) ∙
 
 decide_fixed : (x : List ℕ) (n i : ℕ) → Written (FixedDigits x n i)
 decide_fixed x n i =
-    elim (cases_lt (run_end HexadecimalDigits x i) (i + n)) [
+    elim (cases_lt (stretch_end HexadecimalDigits x i) (i + n)) [
       | inl short ↦ inr (λ j c p. absurd (omega (arith, short, p.0)))
       | inr there ↦
           elim (cases_Bool (scalar (number 16 (slice_range x i (i + n))))) [
@@ -126,7 +136,7 @@ decide_in_braces x i =
 
 decide_few : (x : List ℕ) (i : ℕ) → Written (OneOrTwoDigits x i)
 decide_few x i =
-    elim (cases_lt i (run_end HexadecimalDigits x i)) [
+    elim (cases_lt i (stretch_end HexadecimalDigits x i)) [
       | inr none ↦ inr (λ j c p. absurd (omega (arith, none, p.0)))
       | inl some ↦
           elim (cases_Bool (scalar (number 16 (slice_range x i (few_end x i))))) [
@@ -149,7 +159,8 @@ decide_second x i None e =
 decide_second x i (Some d) e =
     elim (decide_rest x (form_of d (slice_get x (i + 2))) (i + 2)) [
       | inl r ↦ inl (r.0, Char r.1 false, (r.1, (d, e, r.2), refl))
-      | inr fails ↦ inr (λ j kind p. fails j p.0 (subst (λ (v : ℕ). EscapeGoesOn x (form_of v (slice_get x (i + 2))) (i + 2) j p.0) (CharacterAt-unique x (i + 1) p.1.0 d p.1.1 e) p.1.2))
+      | inr fails ↦ inr (λ j kind p. fails j p.0 (subst (λ (v : ℕ). EscapeGoesOn x (form_of v (slice_get x (i + 2))) (i + 2) j p.0)
+          (CharacterAt-unique x (i + 1) p.1.0 d p.1.1 e) p.1.2))
     ]
 
 -- a line terminator isn't written within quotes
@@ -240,8 +251,8 @@ decide_quotation x i =
           ]
     ]
 
--- by each row a place spells a token, or none
-pub decide : (x : List ℕ) (row : Row) (i : ℕ) → Decided (Spells x row i)
+-- by each case a place spells a token, or none
+pub decide : (x : List ℕ) (case : Case) (i : ℕ) → Decided (Spells x case i)
 decide x Sign i = some_kind (option_and_then outer_sign (slice_get x i)) i
 decide x SetSign i = some_kind (option_and_then inner_sign (slice_get x i)) i
 decide x BracketedProperty i = decide_bracketed x i

@@ -3,7 +3,7 @@ use Rattle.std.proofs.Common.{◌≡◌, ℕ, ◌+◌, ◌<◌, ◌≤◌, List,
 use Rattle.rbbi_lex.specs.declared.token.Token.{Token}
 use Rattle.rbbi_lex.specs.declared.token.TokenKind.{TokenKind}
 use Rattle.rbbi_lex.specs.declared.state.State.{State}
-use Rattle.rbbi_lex.specs.Rows.{start, state_after}
+use Rattle.rbbi_lex.specs.Cases.{start, state_after}
 use Rattle.rbbi_lex.specs.Spellings.{TokenAt}
 use Rattle.rbbi_lex.specs.Faults.{Fault, FaultAt}
 use Rattle.rbbi_lex.specs.Faults as Faults
@@ -112,7 +112,8 @@ read_once x from i (a ∷ ts) (b ∷ us) to to' j j' d e u p v q =
     let place = Skipped-unique x from i b.place a.place v.1 u.1 in
     let same = TokenAt-unique x from a.place v.0 u.0 b.kind a.kind (subst (λ (n : ℕ). TokenAt x from n v.0 b.kind) place v.2) u.2 in
     let v' =
-    subst (λ (kind : TokenKind). UsesUp x (state_after from kind) u.0 us to' j') same.1 (subst (λ (n : ℕ). UsesUp x (state_after from b.kind) n us to' j') same.0 v.3) in
+    subst (λ (kind : TokenKind). UsesUp x (state_after from kind) u.0 us to' j') same.1
+    (subst (λ (n : ℕ). UsesUp x (state_after from b.kind) n us to' j') same.0 v.3) in
     let rest = read_once x (state_after from a.kind) u.0 ts us to to' j j' d e u.3 p v' q in
     let token = Token-equal a b (sym same.1) (sym place) in
     (cc, rest.1)

@@ -1,5 +1,5 @@
-pub mod RunLemmas
-pub mod LongestRuns
+pub mod StretchLemmas
+pub mod LongestStretches
 pub mod PointLemmas
 pub mod SpellingLemmas
 pub mod Decisions

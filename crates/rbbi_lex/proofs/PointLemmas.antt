@@ -1,4 +1,4 @@
--- At a place one row decides, and what it spells is determined.
+-- At a place one case decides, and what it spells is determined.
 use Rattle.std.proofs.Common.{◌≡◌, ℕ, ◌+◌, ◌<◌, ◌≤◌, inl, inr, true, false, List, [], ◌∷◌, length, refl, sym, ap, subst, ◌∙◌, arith, slice_get}
 use Rattle.std.proofs.lemmas.Bool.{false≢true}
 use Rattle.std.proofs.lemmas.Option.{slice_get_within}
@@ -7,23 +7,23 @@ use Rattle.rbbi_lex.specs.declared.token.TokenKind.{TokenKind}
 use Rattle.rbbi_lex.specs.declared.state.State.{State}
 use Rattle.rbbi_lex.specs.declared.escape.Form.{Form}
 use Rattle.rbbi_lex.specs.declared.escape.Form.TheVariants.{FourDigits, EightDigits, BracedDigits, FewDigits, StandsFor, Unknown}
-use Rattle.rbbi_lex.specs.declared.row.Row.{Row}
-use Rattle.rbbi_lex.specs.declared.row.Row.TheVariants.{Sign, SetSign, BracketedProperty, SetStart, Variable, ControlName, StatusNumber, QuotePair, Quotation}
-use Rattle.rbbi_lex.specs.declared.row.Row.TheVariants.{BracedProperty, Escape, Brace, BareCharacter, SetCharacter, OtherCharacter}
+use Rattle.rbbi_lex.specs.declared.case.Case.{Case}
+use Rattle.rbbi_lex.specs.declared.case.Case.TheVariants.{Sign, SetSign, BracketedProperty, SetStart, Variable, ControlName, StatusNumber, QuotePair, Quotation}
+use Rattle.rbbi_lex.specs.declared.case.Case.TheVariants.{BracedProperty, Escape, Brace, BareCharacter, SetCharacter, OtherCharacter}
 use Rattle.rbbi_lex.specs.Characters.{is_sign}
-use Rattle.rbbi_lex.specs.Rows.{first_row}
-use Rattle.rbbi_lex.specs.Points.{CharacterAt, is_at, RowAt}
+use Rattle.rbbi_lex.specs.Cases.{first_case}
+use Rattle.rbbi_lex.specs.Points.{CharacterAt, is_at, CaseAt}
 use Rattle.rbbi_lex.specs.Escapes.{form_of, EscapeGoesOn, IsEscape}
 use Rattle.rbbi_lex.specs.Quotations.{IsQuoted, QuotesUpTo}
 use Rattle.rbbi_lex.specs.Spellings.{Spells}
-use Rattle.rbbi_lex.proofs.RunLemmas.{is_at-within}
+use Rattle.rbbi_lex.proofs.StretchLemmas.{is_at-within}
 
 pub CharacterAt-unique : (x : List ℕ) (i c d : ℕ) → CharacterAt x i c → CharacterAt x i d → c ≡ d
 CharacterAt-unique x i c d p q = let e : Some c ≡ Some d = sym p ∙ q in cc
 
-pub RowAt-unique : (x : List ℕ) (state : State) (i : ℕ) (r s : Row) → RowAt x state i r → RowAt x state i s → r ≡ s
-RowAt-unique x state i r s p q =
-    let same = ap (λ c. first_row state c (slice_get x (i + 1)) (slice_get x (i + 2))) (CharacterAt-unique x i p.0 q.0 p.1 q.1) in
+pub CaseAt-unique : (x : List ℕ) (state : State) (i : ℕ) (r s : Case) → CaseAt x state i r → CaseAt x state i s → r ≡ s
+CaseAt-unique x state i r s p q =
+    let same = ap (λ c. first_case state c (slice_get x (i + 1)) (slice_get x (i + 2))) (CharacterAt-unique x i p.0 q.0 p.1 q.1) in
     let e : Some r ≡ Some s = sym p.2 ∙ same ∙ q.2 in cc
 
 -- a character that stands at a place is this one where this one stands there
@@ -105,7 +105,7 @@ QuotesUpTo-close x i j (c ∷ w) p = QuotesUpTo-close x p.0 j w p.2
 same_Some : (a b : TokenKind) (o : Option TokenKind) → o ≡ Some a → o ≡ Some b → a ≡ b
 same_Some a b o p q = let e : Some a ≡ Some b = sym p ∙ q in cc
 
-pub Spells-unique : (x : List ℕ) (row : Row) (i j k : ℕ) (a b : TokenKind) → Spells x row i j a → Spells x row i k b → (j ≡ k) × (a ≡ b)
+pub Spells-unique : (x : List ℕ) (case : Case) (i j k : ℕ) (a b : TokenKind) → Spells x case i j a → Spells x case i k b → (j ≡ k) × (a ≡ b)
 Spells-unique x Sign i j k a b p q = (p.1 ∙ sym q.1, same_Some a b _ p.0 q.0)
 Spells-unique x SetSign i j k a b p q = (p.1 ∙ sym q.1, same_Some a b _ p.0 q.0)
 Spells-unique x BracketedProperty i j k a b p q = (p.2 ∙ sym q.2, p.3 ∙ sym q.3)

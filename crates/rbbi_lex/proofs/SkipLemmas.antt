@@ -6,12 +6,12 @@ use Rattle.ucd_props.specs.Binary.{is_pattern_white_space}
 use Rattle.ucd_props.specs.Ranges.{pattern_white_space_ranges}
 use Rattle.ucd_table.specs.Rows.{in_ranges}
 use Rattle.rbbi_lex.specs.declared.state.State.{State}
-use Rattle.rbbi_lex.specs.declared.run.Run.TheVariants.{CommentText}
+use Rattle.rbbi_lex.specs.declared.stretch.Stretch.TheVariants.{CommentText}
 use Rattle.rbbi_lex.specs.Characters.{is_sign, passes}
-use Rattle.rbbi_lex.specs.Runs.{run_end}
+use Rattle.rbbi_lex.specs.Stretches.{stretch_end}
 use Rattle.rbbi_lex.specs.Points.{is_at}
 use Rattle.rbbi_lex.specs.Skips.{Piece, SkippedIn, Skipped}
-use Rattle.rbbi_lex.proofs.RunLemmas.{run_end-within, is_at-within, passes-within}
+use Rattle.rbbi_lex.proofs.StretchLemmas.{stretch_end-within, is_at-within, passes-within}
 
 -- `#` isn't white space
 white_sign : (o : Option ℕ) → IsTrue (passes is_pattern_white_space o) → IsTrue (is_sign o 35) → ⊥
@@ -42,7 +42,7 @@ Piece-ends x state i j (inl p) =
     let within = passes-within is_pattern_white_space x i p.0 in omega (arith, p.1)
 Piece-ends x state i j (inr p) =
     let within = is_at-within x i 35 p.1 in
-    let ends = run_end-within CommentText x (i + 1) (omega arith) in omega (arith, p.2, ends)
+    let ends = stretch_end-within CommentText x (i + 1) (omega arith) in omega (arith, p.2, ends)
 
 -- where no piece begins, nothing is skipped
 pub Skipped-none : (x : List ℕ) (state : State) (i : ℕ) → ((j : ℕ) → ¬ Piece x state i j) → Skipped x state i i
@@ -70,7 +70,7 @@ decide_piece x state i =
             | inl inside ↦ inr (λ j p. no_piece x state i j plain (inl inside) p)
             | inr outside ↦
                 elim (cases_Bool (is_at x i 35)) [
-                  | inl sign ↦ inl (run_end CommentText x (i + 1), inr (omega arith, sign, refl))
+                  | inl sign ↦ inl (stretch_end CommentText x (i + 1), inr (omega arith, sign, refl))
                   | inr other ↦ inr (λ j p. no_piece x state i j plain (inr other) p)
                 ]
           ]

@@ -4,29 +4,29 @@ use Rattle.std.proofs.lemmas.Option.{slice_get_within}
 use Rattle.rbbi_lex.specs.declared.token.TokenKind.{TokenKind}
 use Rattle.rbbi_lex.specs.declared.token.TokenKind.TheVariants.{SetOpen, SetClose}
 use Rattle.rbbi_lex.specs.declared.state.State.{State}
-use Rattle.rbbi_lex.specs.Rows.{state_after}
+use Rattle.rbbi_lex.specs.Cases.{state_after}
 use Rattle.rbbi_lex.specs.declared.escape.Form.{Form}
 use Rattle.rbbi_lex.specs.declared.escape.Form.TheVariants.{FourDigits, EightDigits, BracedDigits, FewDigits, StandsFor, Unknown}
-use Rattle.rbbi_lex.specs.declared.run.Run.TheVariants.{NameText, ControlText, HexadecimalDigits}
-use Rattle.rbbi_lex.specs.declared.row.Row.{Row}
-use Rattle.rbbi_lex.specs.declared.row.Row.TheVariants.{Sign, SetSign, BracketedProperty, SetStart, Variable, ControlName, StatusNumber, QuotePair, Quotation}
-use Rattle.rbbi_lex.specs.declared.row.Row.TheVariants.{BracedProperty, Escape, Brace, BareCharacter, SetCharacter, OtherCharacter}
+use Rattle.rbbi_lex.specs.declared.stretch.Stretch.TheVariants.{NameText, ControlText, HexadecimalDigits}
+use Rattle.rbbi_lex.specs.declared.case.Case.{Case}
+use Rattle.rbbi_lex.specs.declared.case.Case.TheVariants.{Sign, SetSign, BracketedProperty, SetStart, Variable, ControlName, StatusNumber, QuotePair, Quotation}
+use Rattle.rbbi_lex.specs.declared.case.Case.TheVariants.{BracedProperty, Escape, Brace, BareCharacter, SetCharacter, OtherCharacter}
 use Rattle.rbbi_lex.specs.Characters.{is_name_start}
 use Rattle.rbbi_lex.specs.Escapes.{form_of, braced_end, EscapeGoesOn, IsEscape}
 use Rattle.rbbi_lex.specs.Spellings.{tag_close, Spells, TokenAt}
 use Rattle.rbbi_lex.specs.Faults.{Fault, fault_of, FaultAt}
-use Rattle.rbbi_lex.proofs.RunLemmas.{run_end-within, run_end-moved, is_at-within, passes-within}
-use Rattle.rbbi_lex.proofs.PointLemmas.{RowAt-unique, QuotesUpTo-forward, QuotesUpTo-close, Spells-unique}
+use Rattle.rbbi_lex.proofs.StretchLemmas.{stretch_end-within, stretch_end-moved, is_at-within, passes-within}
+use Rattle.rbbi_lex.proofs.PointLemmas.{CaseAt-unique, QuotesUpTo-forward, QuotesUpTo-close, Spells-unique}
 
 EscapeGoesOn-bounds : (x : List ℕ) (form : Form) (i j c : ℕ) → i ≤ length x → EscapeGoesOn x form i j c → (i ≤ j) × (j ≤ length x)
 EscapeGoesOn-bounds x FourDigits i j c h p =
-    let ends = run_end-within HexadecimalDigits x i h in (omega (arith, p.1), omega (arith, p.0, p.1, ends))
+    let ends = stretch_end-within HexadecimalDigits x i h in (omega (arith, p.1), omega (arith, p.0, p.1, ends))
 EscapeGoesOn-bounds x EightDigits i j c h p =
-    let ends = run_end-within HexadecimalDigits x i h in (omega (arith, p.1), omega (arith, p.0, p.1, ends))
+    let ends = stretch_end-within HexadecimalDigits x i h in (omega (arith, p.1), omega (arith, p.0, p.1, ends))
 EscapeGoesOn-bounds x BracedDigits i j c h p =
     let close = is_at-within x (braced_end x i) 125 p.2 in (omega (arith, p.0, p.3), omega (arith, p.3, close))
 EscapeGoesOn-bounds x FewDigits i j c h p =
-    let ends = run_end-within HexadecimalDigits x i h in (omega (arith, p.0, p.1), omega (arith, p.0, p.1, ends))
+    let ends = stretch_end-within HexadecimalDigits x i h in (omega (arith, p.0, p.1), omega (arith, p.0, p.1, ends))
 EscapeGoesOn-bounds x (StandsFor d) i j c h p = (omega (arith, p.0), omega (arith, p.0))
 EscapeGoesOn-bounds x Unknown i j c h p = absurd p
 
@@ -37,7 +37,7 @@ IsEscape-bounds x i j c p =
     (omega (arith, rest.0), rest.1)
 
 -- a token goes forward, and ends within the text
-Spells-bounds : (x : List ℕ) (row : Row) (i j : ℕ) (kind : TokenKind) → i < length x → Spells x row i j kind → (i < j) × (j ≤ length x)
+Spells-bounds : (x : List ℕ) (case : Case) (i j : ℕ) (kind : TokenKind) → i < length x → Spells x case i j kind → (i < j) × (j ≤ length x)
 Spells-bounds x Sign i j kind h p = (omega (arith, p.1), omega (arith, p.1))
 Spells-bounds x SetSign i j kind h p = (omega (arith, p.1), omega (arith, p.1))
 Spells-bounds x BracketedProperty i j kind h p =
@@ -45,9 +45,9 @@ Spells-bounds x BracketedProperty i j kind h p =
 Spells-bounds x SetStart i j kind h p = (omega (arith, p.0), omega (arith, p.0))
 Spells-bounds x Variable i j kind h p =
     let within = passes-within is_name_start x (i + 1) p.0 in
-    let ends = run_end-within NameText x (i + 1) (omega arith) in (omega (arith, p.1), omega (arith, p.1, ends))
+    let ends = stretch_end-within NameText x (i + 1) (omega arith) in (omega (arith, p.1), omega (arith, p.1, ends))
 Spells-bounds x ControlName i j kind h p =
-    let ends = run_end-moved ControlText x (i + 2) p.0 in (omega (arith, p.1), omega (arith, p.1, ends))
+    let ends = stretch_end-moved ControlText x (i + 2) p.0 in (omega (arith, p.1), omega (arith, p.1, ends))
 Spells-bounds x StatusNumber i j kind h p =
     let close = is_at-within x (tag_close x i) 125 p.1 in (omega (arith, p.3), omega (arith, p.3, close))
 Spells-bounds x QuotePair i j kind h p =
@@ -85,19 +85,19 @@ FaultAt-within x state i fault f = slice_get_within x i f.1.0 f.1.1
 -- at a place stands at most one token
 pub TokenAt-unique : (x : List ℕ) (state : State) (i j k : ℕ) (a b : TokenKind) → TokenAt x state i j a → TokenAt x state i k b → (j ≡ k) × (a ≡ b)
 TokenAt-unique x state i j k a b t u =
-    let same = RowAt-unique x state i u.0 t.0 u.1 t.1 in
-    Spells-unique x t.0 i j k a b t.2 (subst (λ (row : Row). Spells x row i k b) same u.2)
+    let same = CaseAt-unique x state i u.0 t.0 u.1 t.1 in
+    Spells-unique x t.0 i j k a b t.2 (subst (λ (case : Case). Spells x case i k b) same u.2)
 
 -- at a place stands at most one fault
 pub FaultAt-unique : (x : List ℕ) (state : State) (i : ℕ) (f g : Fault) → FaultAt x state i f → FaultAt x state i g → f ≡ g
 FaultAt-unique x state i f g p q =
-    p.3 ∙ ap fault_of (RowAt-unique x state i p.0 q.0 p.1 q.1) ∙ sym q.3
+    p.3 ∙ ap fault_of (CaseAt-unique x state i p.0 q.0 p.1 q.1) ∙ sym q.3
 
 -- where a token stands, there is no fault
 pub TokenAt-no_fault : (x : List ℕ) (state : State) (i j : ℕ) (kind : TokenKind) (fault : Fault) → TokenAt x state i j kind → FaultAt x state i fault → ⊥
 TokenAt-no_fault x state i j kind fault t f =
-    let same = RowAt-unique x state i t.0 f.0 t.1 f.1 in
-    f.2 j kind (subst (λ (row : Row). Spells x row i j kind) same t.2)
+    let same = CaseAt-unique x state i t.0 f.0 t.1 f.1 in
+    f.2 j kind (subst (λ (case : Case). Spells x case i j kind) same t.2)
 
 -- a token opens at most one bracket
 pub state_after-depth : (state : State) (kind : TokenKind) → (state_after state kind).depth ≤ state.depth + 1

@@ -8,11 +8,11 @@ use Rattle.std.specs.List.{find}
 use Rattle.rbbi_lex.specs.declared.token.Token.{Token}
 use Rattle.rbbi_lex.specs.declared.token.TokenKind.{TokenKind}
 use Rattle.rbbi_lex.specs.declared.state.State.{State}
-use Rattle.rbbi_lex.specs.declared.row.Row.{Row}
-use Rattle.rbbi_lex.specs.declared.row.Row.TheVariants.{Sign, SetSign, BracketedProperty, SetStart, Variable, ControlName, StatusNumber, QuotePair, Quotation}
-use Rattle.rbbi_lex.specs.declared.row.Row.TheVariants.{BracedProperty, Escape, Brace, BareCharacter, SetCharacter, OtherCharacter}
-use Rattle.rbbi_lex.specs.Rows.{start, state_after, fits, outer_rows, inner_rows, first_row}
-use Rattle.rbbi_lex.specs.Points.{CharacterAt, RowAt}
+use Rattle.rbbi_lex.specs.declared.case.Case.{Case}
+use Rattle.rbbi_lex.specs.declared.case.Case.TheVariants.{Sign, SetSign, BracketedProperty, SetStart, Variable, ControlName, StatusNumber, QuotePair, Quotation}
+use Rattle.rbbi_lex.specs.declared.case.Case.TheVariants.{BracedProperty, Escape, Brace, BareCharacter, SetCharacter, OtherCharacter}
+use Rattle.rbbi_lex.specs.Cases.{start, state_after, fits, outer_cases, inner_cases, first_case}
+use Rattle.rbbi_lex.specs.Points.{CharacterAt, CaseAt}
 use Rattle.rbbi_lex.specs.Spellings.{Spells, TokenAt}
 use Rattle.rbbi_lex.specs.Faults.{Fault, fault_of, FaultAt}
 use Rattle.rbbi_lex.specs.Skips.{Skipped}
@@ -22,40 +22,43 @@ use Rattle.rbbi_lex.proofs.SpellingLemmas.{TokenAt-forward, TokenAt-ends}
 use Rattle.rbbi_lex.proofs.Decisions.{Decided, decide}
 use Rattle.rbbi_lex.proofs.LexingLemmas.{Ending, Finished, Stopped, EndsAs}
 
-tried : (b : Bool) (row : Row) (others : Option Row) → ((found : Row) × (others ≡ Some found)) → (found : Row) × (cond b (Some row) others ≡ Some found)
-tried true row others h = (row, refl)
-tried false row others h = h
+tried : (b : Bool) (case : Case) (others : Option Case) → ((found : Case) × (others ≡ Some found)) → (found : Case) × (cond b (Some case) others ≡ Some found)
+tried true case others h = (case, refl)
+tried false case others h = h
 
--- a row fits where the last one always does
-some_fit : (test : Row → Bool) (rows : List Row) (last : Row) → test last ≡ true → (found : Row) × (find test (rows ++ last ∷ []) ≡ Some found)
+-- a case fits where the last one always does
+some_fit : (test : Case → Bool) (cases : List Case) (last : Case) → test last ≡ true → (found : Case) × (find test (cases ++ last ∷ []) ≡ Some found)
 some_fit test [] last h = (last, ap (λ b. cond b (Some last) (find test [])) h)
-some_fit test (row ∷ rows) last h =
-    tried (test row) row (find test (rows ++ last ∷ [])) (some_fit test rows last h)
+some_fit test (case ∷ cases) last h =
+    tried (test case) case (find test (cases ++ last ∷ [])) (some_fit test cases last h)
 
-chosen : (b : Bool) (outer inner : Option Row) → ((found : Row) × (outer ≡ Some found)) → ((found : Row) × (inner ≡ Some found)) →
-    (found : Row) × (cond b outer inner ≡ Some found)
+chosen : (b : Bool) (outer inner : Option Case) → ((found : Case) × (outer ≡ Some found)) → ((found : Case) × (inner ≡ Some found)) →
+    (found : Case) × (cond b outer inner ≡ Some found)
 chosen true outer inner p q = p
 chosen false outer inner p q = q
 
--- some row fits
-some_row : (state : State) (c : ℕ) (next third : Option ℕ) → (row : Row) × (first_row state c next third ≡ Some row)
+-- some case fits
+some_row : (state : State) (c : ℕ) (next third : Option ℕ) → (case : Case) × (first_case state c next third ≡ Some case)
 some_row state c next third =
-    chosen (eqb state.depth 0) (find (fits c next third) outer_rows) (find (fits c next third) inner_rows) (some_fit (fits c next third) (Sign ∷ BracketedProperty ∷ SetStart ∷ Variable ∷ ControlName ∷ StatusNumber ∷ QuotePair ∷ Quotation ∷ BracedProperty ∷ Escape ∷ BareCharacter ∷ []) OtherCharacter refl) (some_fit (fits c next third) (SetSign ∷ BracketedProperty ∷ SetStart ∷ Variable ∷ Brace ∷ BracedProperty ∷ Escape ∷ []) SetCharacter refl)
+    chosen (eqb state.depth 0) (find (fits c next third) outer_cases) (find (fits c next third) inner_cases)
+    (some_fit (fits c next third) (Sign ∷ BracketedProperty ∷ SetStart ∷ Variable ∷ ControlName ∷ StatusNumber ∷ QuotePair ∷ Quotation ∷ BracedProperty ∷
+    Escape ∷ BareCharacter ∷ []) OtherCharacter refl) (some_fit (fits c next third)
+    (SetSign ∷ BracketedProperty ∷ SetStart ∷ Variable ∷ Brace ∷ BracedProperty ∷ Escape ∷ []) SetCharacter refl)
 
 abbrev AtPoint : List ℕ → State → ℕ → Type 0
 AtPoint x state i =
     ((j : ℕ) × (kind : TokenKind) × TokenAt x state i j kind) ⊎ ((fault : Fault) × FaultAt x state i fault)
 
-by_row : (x : List ℕ) (state : State) (i : ℕ) (row : Row) → RowAt x state i row → Decided (Spells x row i) → AtPoint x state i
-by_row x state i row r (inl t) = inl (t.0, t.1, (row, r, t.2))
-by_row x state i row r (inr none) = inr (fault_of row, (row, r, none, refl))
+by_row : (x : List ℕ) (state : State) (i : ℕ) (case : Case) → CaseAt x state i case → Decided (Spells x case i) → AtPoint x state i
+by_row x state i case r (inl t) = inl (t.0, t.1, (case, r, t.2))
+by_row x state i case r (inr none) = inr (fault_of case, (case, r, none, refl))
 
 -- at each place of the text stands a token or a fault
 at_point : (x : List ℕ) (state : State) (i : ℕ) → i < length x → AtPoint x state i
 at_point x state i h =
     let at : CharacterAt x i (get_or x i 0) = slice_get-get_or x i 0 h in
-    let row = some_row state (get_or x i 0) (slice_get x (i + 1)) (slice_get x (i + 2)) in
-    by_row x state i row.0 (get_or x i 0, at, row.1) (decide x row.0 i)
+    let case = some_row state (get_or x i 0) (slice_get x (i + 1)) (slice_get x (i + 2)) in
+    by_row x state i case.0 (get_or x i 0, at, case.1) (decide x case.0 i)
 
 some_skipped : (n : ℕ) (x : List ℕ) (state : State) (i : ℕ) → i ≤ length x → length x ≤ i + n → (k : ℕ) × Skipped x state i k × (k ≤ length x)
 some_skipped zero x state i h l = (i, Skipped-at_end x state i (omega arith), h)

@@ -1,14 +1,14 @@
--- What a row spells is well made.
+-- What a case spells is well made.
 use Rattle.std.proofs.Common.{◌≡◌, ℕ, ◌+◌, ◌<◌, Bool, true, false, cond, List, [], ◌∷◌, length, sym, ap, subst, ◌∙◌, arith, slice_get}
 use Rattle.std.proofs.lemmas.Bool.{false≢true}
 use Rattle.std.specs.Prelude.{Option, None, Some, option_and_then, option_map}
 use Rattle.rbbi_lex.specs.declared.token.TokenKind.{TokenKind}
 use Rattle.rbbi_lex.specs.declared.token.TokenKind.TheVariants.{Semi, Equals, Bar, Slash, Caret, Star, Plus, Quest, Dot, ParenOpen, ParenClose, SetClose}
 use Rattle.rbbi_lex.specs.declared.token.TokenKind.TheVariants.{Hyphen, Amp, Char}
-use Rattle.rbbi_lex.specs.declared.row.Row.{Row}
-use Rattle.rbbi_lex.specs.declared.row.Row.TheVariants.{Sign, SetSign, BracketedProperty, SetStart, Variable, ControlName, StatusNumber, QuotePair, Quotation}
-use Rattle.rbbi_lex.specs.declared.row.Row.TheVariants.{BracedProperty, Escape, Brace, BareCharacter, SetCharacter, OtherCharacter}
-use Rattle.rbbi_lex.specs.Rows.{outer_sign, inner_sign}
+use Rattle.rbbi_lex.specs.declared.case.Case.{Case}
+use Rattle.rbbi_lex.specs.declared.case.Case.TheVariants.{Sign, SetSign, BracketedProperty, SetStart, Variable, ControlName, StatusNumber, QuotePair, Quotation}
+use Rattle.rbbi_lex.specs.declared.case.Case.TheVariants.{BracedProperty, Escape, Brace, BareCharacter, SetCharacter, OtherCharacter}
+use Rattle.rbbi_lex.specs.Cases.{outer_sign, inner_sign}
 use Rattle.rbbi_lex.specs.Points.{is_at}
 use Rattle.rbbi_lex.specs.Quotations.{QuotesUpTo}
 use Rattle.rbbi_lex.specs.Spellings.{Spells}
@@ -35,7 +35,9 @@ choice false kind others h g = g
 outer : (c : ℕ) → HasWellMade (outer_sign c)
 unfolding outer_sign
 outer c =
-    choice _ Semi _ tt (choice _ Equals _ tt (choice _ Bar _ tt (choice _ Slash _ tt (choice _ Caret _ tt (choice _ Star _ tt (choice _ Plus _ tt (choice _ Quest _ tt (choice _ Dot _ tt (choice _ ParenOpen _ tt (choice _ ParenClose _ tt none))))))))))
+    choice _ Semi _ tt (choice _ Equals _ tt (choice _ Bar _ tt (choice _ Slash _ tt
+    (choice _ Caret _ tt (choice _ Star _ tt (choice _ Plus _ tt (choice _ Quest _ tt
+    (choice _ Dot _ tt (choice _ ParenOpen _ tt (choice _ ParenClose _ tt none))))))))))
 
 inner : (c : ℕ) → HasWellMade (inner_sign c)
 unfolding inner_sign
@@ -55,8 +57,8 @@ quoted_some x i [] close single q =
     absurd (false≢true (sym single ∙ ap (λ k. is_at x k 39) q.0 ∙ q.1))
 quoted_some x i (c ∷ word) close single q = omega arith
 
--- what a row spells is well made
-pub Spells-well_made : (x : List ℕ) (row : Row) (i j : ℕ) (kind : TokenKind) → Spells x row i j kind → IsWellMade kind
+-- what a case spells is well made
+pub Spells-well_made : (x : List ℕ) (case : Case) (i j : ℕ) (kind : TokenKind) → Spells x case i j kind → IsWellMade kind
 Spells-well_made x Sign i j kind p =
     made kind (subst HasWellMade p.0 (at_sign outer_sign (slice_get x i) outer))
 Spells-well_made x SetSign i j kind p =

@@ -7,9 +7,9 @@ use Rattle.rbbi_lex.specs.Signs.{backspace, bell, brace_close, brace_open, capit
 use Rattle.rbbi_lex.specs.Signs.{letter_e, letter_f, letter_n, letter_r, letter_t, letter_u, letter_v, letter_x, line_feed, tab, vertical_tab}
 use Rattle.rbbi_lex.specs.declared.escape.Form.{Form}
 use Rattle.rbbi_lex.specs.declared.escape.Form.TheVariants.{FourDigits, EightDigits, BracedDigits, FewDigits, StandsFor, Unknown}
-use Rattle.rbbi_lex.specs.declared.run.Run.TheVariants.{HexadecimalDigits}
+use Rattle.rbbi_lex.specs.declared.stretch.Stretch.TheVariants.{HexadecimalDigits}
 use Rattle.rbbi_lex.specs.Characters.{is_sign}
-use Rattle.rbbi_lex.specs.Runs.{run_end}
+use Rattle.rbbi_lex.specs.Stretches.{stretch_end}
 use Rattle.rbbi_lex.specs.Points.{CharacterAt, is_at}
 
 -- the form of an escape, by the character behind the `\` and the next one
@@ -35,11 +35,11 @@ WritesCharacter x i j c = (c ≡ number 16 (slice_range x i j)) × IsScalar c
 -- behind the first two characters of an escape: so many digits
 abbrev pub FixedDigits : List ℕ → ℕ → ℕ → ℕ → ℕ → Type 0
 FixedDigits x n i j c =
-    (i + n ≤ run_end HexadecimalDigits x i) × (j ≡ i + n) × WritesCharacter x i (i + n) c
+    (i + n ≤ stretch_end HexadecimalDigits x i) × (j ≡ i + n) × WritesCharacter x i (i + n) c
 
 -- the place at which the digits in braces end
 abbrev pub braced_end : List ℕ → ℕ → ℕ
-braced_end x i = run_end HexadecimalDigits x (i + 1)
+braced_end x i = stretch_end HexadecimalDigits x (i + 1)
 
 -- one to six digits in braces
 abbrev pub DigitsInBraces : List ℕ → ℕ → ℕ → ℕ → Type 0
@@ -49,12 +49,12 @@ DigitsInBraces x i j c =
 
 -- the place behind the longer of one or two digits
 abbrev pub few_end : List ℕ → ℕ → ℕ
-few_end x i = min (run_end HexadecimalDigits x i) (i + 2)
+few_end x i = min (stretch_end HexadecimalDigits x i) (i + 2)
 
 -- one or two digits, two where they are there
 abbrev pub OneOrTwoDigits : List ℕ → ℕ → ℕ → ℕ → Type 0
 OneOrTwoDigits x i j c =
-    (i < run_end HexadecimalDigits x i) × (j ≡ few_end x i) × WritesCharacter x i (few_end x i) c
+    (i < stretch_end HexadecimalDigits x i) × (j ≡ few_end x i) × WritesCharacter x i (few_end x i) c
 
 -- behind the first two characters an escape of this form goes on from one place to another, and
 -- stands for this character

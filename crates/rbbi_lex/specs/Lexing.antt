@@ -2,7 +2,7 @@
 use Rattle.std.specs.Prelude.{ℕ, ◌≡◌, List, [], ◌∷◌, length}
 use Rattle.rbbi_lex.specs.declared.token.Token.{Token}
 use Rattle.rbbi_lex.specs.declared.state.State.{State}
-use Rattle.rbbi_lex.specs.Rows.{start, state_after}
+use Rattle.rbbi_lex.specs.Cases.{start, state_after}
 use Rattle.rbbi_lex.specs.Spellings.{TokenAt}
 use Rattle.rbbi_lex.specs.Faults.{Fault, FaultAt}
 use Rattle.rbbi_lex.specs.Skips.{Skipped}

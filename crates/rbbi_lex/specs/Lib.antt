@@ -1,7 +1,7 @@
 pub mod Signs
 pub mod Characters
-pub mod Runs
-pub mod Rows
+pub mod Stretches
+pub mod Cases
 pub mod Points
 pub mod Escapes
 pub mod Quotations

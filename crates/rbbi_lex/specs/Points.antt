@@ -1,10 +1,10 @@
--- What stands at a place of a text, and the row of the table that decides there.
+-- What stands at a place of a text, and the case of the table that decides there.
 use Rattle.std.specs.Prelude.{ℕ, ◌≡◌, ◌+◌, Bool, List, slice_get}
 use Rattle.std.specs.Prelude.{Some}
 use Rattle.rbbi_lex.specs.declared.state.State.{State}
-use Rattle.rbbi_lex.specs.declared.row.Row.{Row}
+use Rattle.rbbi_lex.specs.declared.case.Case.{Case}
 use Rattle.rbbi_lex.specs.Characters.{is_sign}
-use Rattle.rbbi_lex.specs.Rows.{first_row}
+use Rattle.rbbi_lex.specs.Cases.{first_case}
 
 -- this character stands at the place
 abbrev pub CharacterAt : List ℕ → ℕ → ℕ → Type 0
@@ -14,8 +14,8 @@ CharacterAt x i c = slice_get x i ≡ Some c
 abbrev pub is_at : List ℕ → ℕ → ℕ → Bool
 is_at x i sign = is_sign (slice_get x i) sign
 
--- the row is the first that fits at the place
-abbrev pub RowAt : List ℕ → State → ℕ → Row → Type 0
-RowAt x state i row =
+-- the case is the first that fits at the place
+abbrev pub CaseAt : List ℕ → State → ℕ → Case → Type 0
+CaseAt x state i case =
     (c : ℕ) × CharacterAt x i c
-    × (first_row state c (slice_get x (i + 1)) (slice_get x (i + 2)) ≡ Some row)
+    × (first_case state c (slice_get x (i + 1)) (slice_get x (i + 2)) ≡ Some case)

@@ -4,8 +4,8 @@ use Rattle.std.specs.Prelude.{Option, None, Some}
 use Rattle.rbbi_lex.specs.Signs.{brace_close, bracket_close, capital_p, caret, colon}
 use Rattle.rbbi_lex.specs.declared.token.TokenKind.{TokenKind}
 use Rattle.rbbi_lex.specs.declared.token.TokenKind.TheVariants.{Prop}
-use Rattle.rbbi_lex.specs.declared.run.Run.TheVariants.{BracedBody, BracedName, BracketedBody, BracketedName}
-use Rattle.rbbi_lex.specs.Runs.{run_end}
+use Rattle.rbbi_lex.specs.declared.stretch.Stretch.TheVariants.{BracedBody, BracedName, BracketedBody, BracketedName}
+use Rattle.rbbi_lex.specs.Stretches.{stretch_end}
 use Rattle.rbbi_lex.specs.Points.{is_at}
 
 -- the value of a property whose name and body end at these places: what is behind the `=`
@@ -22,8 +22,8 @@ property x negated i name_end body_end =
 -- name to the first `=`, in one line
 abbrev pub SpellsBraced : List ℕ → ℕ → ℕ → TokenKind → Type 0
 SpellsBraced x i j kind =
-    IsTrue (is_at x (run_end BracedBody x (i + 3)) brace_close) × (j ≡ run_end BracedBody x (i + 3) + 1)
-    × (kind ≡ property x (is_at x (i + 1) capital_p) (i + 3) (run_end BracedName x (i + 3)) (run_end BracedBody x (i + 3)))
+    IsTrue (is_at x (stretch_end BracedBody x (i + 3)) brace_close) × (j ≡ stretch_end BracedBody x (i + 3) + 1)
+    × (kind ≡ property x (is_at x (i + 1) capital_p) (i + 3) (stretch_end BracedName x (i + 3)) (stretch_end BracedBody x (i + 3)))
 
 -- where the body of `[:BODY:]` at the place begins, behind a `^`
 abbrev pub body_start : List ℕ → ℕ → ℕ
@@ -33,7 +33,7 @@ body_start x i = if is_at x (i + 2) caret then i + 3 else i + 2
 -- first `=`, in one line
 abbrev pub SpellsBracketed : List ℕ → ℕ → ℕ → TokenKind → Type 0
 SpellsBracketed x i j kind =
-    IsTrue (is_at x (run_end BracketedBody x (i + 2)) colon)
-    × IsTrue (is_at x (run_end BracketedBody x (i + 2) + 1) bracket_close)
-    × (j ≡ run_end BracketedBody x (i + 2) + 2)
-    × (kind ≡ property x (is_at x (i + 2) caret) (body_start x i) (run_end BracketedName x (body_start x i)) (run_end BracketedBody x (i + 2)))
+    IsTrue (is_at x (stretch_end BracketedBody x (i + 2)) colon)
+    × IsTrue (is_at x (stretch_end BracketedBody x (i + 2) + 1) bracket_close)
+    × (j ≡ stretch_end BracketedBody x (i + 2) + 2)
+    × (kind ≡ property x (is_at x (i + 2) caret) (body_start x i) (stretch_end BracketedName x (body_start x i)) (stretch_end BracketedBody x (i + 2)))

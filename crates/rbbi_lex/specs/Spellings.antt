@@ -1,18 +1,18 @@
--- What a row of the table spells from a place on, one definition for each row, and the token at a place.
+-- What a case of the table spells from a place on, one definition for each case, and the token at a place.
 use Rattle.std.specs.Prelude.{ℕ, ◌≡◌, ◌+◌, ◌<◌, ◌≤◌, true, false, IsTrue, List, slice_get, slice_range}
 use Rattle.std.specs.Prelude.{Option, Some, option_map, option_and_then}
 use Rattle.rbbi_lex.specs.Signs.{brace_close, quote}
 use Rattle.rbbi_lex.specs.declared.token.TokenKind.{TokenKind}
 use Rattle.rbbi_lex.specs.declared.token.TokenKind.TheVariants.{SetOpen, Char, Quoted, Name, Control, Tag}
 use Rattle.rbbi_lex.specs.declared.state.State.{State}
-use Rattle.rbbi_lex.specs.declared.run.Run.TheVariants.{WhiteSpace, NameText, ControlText, Digits}
-use Rattle.rbbi_lex.specs.declared.row.Row.{Row}
-use Rattle.rbbi_lex.specs.declared.row.Row.TheVariants.{Sign, SetSign, BracketedProperty, SetStart, Variable, ControlName, StatusNumber, QuotePair, Quotation}
-use Rattle.rbbi_lex.specs.declared.row.Row.TheVariants.{BracedProperty, Escape, Brace, BareCharacter, SetCharacter, OtherCharacter}
+use Rattle.rbbi_lex.specs.declared.stretch.Stretch.TheVariants.{WhiteSpace, NameText, ControlText, Digits}
+use Rattle.rbbi_lex.specs.declared.case.Case.{Case}
+use Rattle.rbbi_lex.specs.declared.case.Case.TheVariants.{Sign, SetSign, BracketedProperty, SetStart, Variable, ControlName, StatusNumber, QuotePair, Quotation}
+use Rattle.rbbi_lex.specs.declared.case.Case.TheVariants.{BracedProperty, Escape, Brace, BareCharacter, SetCharacter, OtherCharacter}
 use Rattle.rbbi_lex.specs.Characters.{is_name_start, passes}
-use Rattle.rbbi_lex.specs.Runs.{run_end}
-use Rattle.rbbi_lex.specs.Rows.{outer_sign, inner_sign}
-use Rattle.rbbi_lex.specs.Points.{is_at, RowAt}
+use Rattle.rbbi_lex.specs.Stretches.{stretch_end}
+use Rattle.rbbi_lex.specs.Cases.{outer_sign, inner_sign}
+use Rattle.rbbi_lex.specs.Points.{is_at, CaseAt}
 use Rattle.rbbi_text.specs.Numbers.{number}
 use Rattle.rbbi_lex.specs.Escapes.{IsEscape}
 use Rattle.rbbi_lex.specs.Quotations.{QuotesUpTo}
@@ -33,24 +33,24 @@ SpellsBare x i j kind = (option_map (λ c. Char c true) (slice_get x i) ≡ Some
 -- `$` and the longest name behind it
 abbrev pub SpellsName : List ℕ → ℕ → ℕ → TokenKind → Type 0
 SpellsName x i j kind =
-    IsTrue (passes is_name_start (slice_get x (i + 1))) × (j ≡ run_end NameText x (i + 1))
-    × (kind ≡ Name (slice_range x (i + 1) (run_end NameText x (i + 1))))
+    IsTrue (passes is_name_start (slice_get x (i + 1))) × (j ≡ stretch_end NameText x (i + 1))
+    × (kind ≡ Name (slice_range x (i + 1) (stretch_end NameText x (i + 1))))
 
--- `!!` and the longest run of letters, digits and `_` behind it, which isn't empty
+-- `!!` and the longest stretch of letters, digits and `_` behind it, which isn't empty
 abbrev pub SpellsControl : List ℕ → ℕ → ℕ → TokenKind → Type 0
 SpellsControl x i j kind =
-    (i + 2 < run_end ControlText x (i + 2)) × (j ≡ run_end ControlText x (i + 2))
-    × (kind ≡ Control (slice_range x (i + 2) (run_end ControlText x (i + 2))))
+    (i + 2 < stretch_end ControlText x (i + 2)) × (j ≡ stretch_end ControlText x (i + 2))
+    × (kind ≡ Control (slice_range x (i + 2) (stretch_end ControlText x (i + 2))))
 
 -- the places within a tag at which its digits begin and end, and at which it has to close
 abbrev pub digits_start : List ℕ → ℕ → ℕ
-digits_start x i = run_end WhiteSpace x (i + 1)
+digits_start x i = stretch_end WhiteSpace x (i + 1)
 
 abbrev pub digits_end : List ℕ → ℕ → ℕ
-digits_end x i = run_end Digits x (digits_start x i)
+digits_end x i = stretch_end Digits x (digits_start x i)
 
 abbrev pub tag_close : List ℕ → ℕ → ℕ
-tag_close x i = run_end WhiteSpace x (digits_end x i)
+tag_close x i = stretch_end WhiteSpace x (digits_end x i)
 
 -- the number that a tag writes
 abbrev pub tag_number : List ℕ → ℕ → ℕ
@@ -76,8 +76,8 @@ SpellsQuotation x i j kind =
 abbrev pub SpellsEscape : List ℕ → ℕ → ℕ → TokenKind → Type 0
 SpellsEscape x i j kind = (c : ℕ) × IsEscape x i j c × (kind ≡ Char c false)
 
--- by this row the characters from one place to another spell a token of this kind
-abbrev pub Spells : List ℕ → Row → ℕ → ℕ → TokenKind → Type 0
+-- by this case the characters from one place to another spell a token of this kind
+abbrev pub Spells : List ℕ → Case → ℕ → ℕ → TokenKind → Type 0
 Spells x Sign i j kind = SpellsSign outer_sign x i j kind
 Spells x SetSign i j kind = SpellsSign inner_sign x i j kind
 Spells x BracketedProperty i j kind = SpellsBracketed x i j kind
@@ -94,6 +94,6 @@ Spells x BareCharacter i j kind = SpellsBare x i j kind
 Spells x SetCharacter i j kind = SpellsBare x i j kind
 Spells x OtherCharacter i j kind = ⊥
 
--- the first row that fits at one place spells a token of this kind up to the other
+-- the first case that fits at one place spells a token of this kind up to the other
 abbrev pub TokenAt : List ℕ → State → ℕ → ℕ → TokenKind → Type 0
-TokenAt x state i j kind = (row : Row) × RowAt x state i row × Spells x row i j kind
+TokenAt x state i j kind = (case : Case) × CaseAt x state i case × Spells x case i j kind

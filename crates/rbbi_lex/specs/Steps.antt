@@ -4,21 +4,21 @@ use Rattle.std.specs.Prelude.{Option, None, Some}
 use Rattle.std.specs.Prelude.{Result, Ok, Err}
 use Rattle.rbbi_lex.specs.declared.token.Token.{Token}
 use Rattle.rbbi_lex.specs.declared.state.State.{State}
-use Rattle.rbbi_lex.specs.declared.row.Row.{Row}
+use Rattle.rbbi_lex.specs.declared.case.Case.{Case}
 use Rattle.rbbi_lex.specs.declared.spelled.Spelled.{Spelled}
 use Rattle.rbbi_lex.specs.declared.escape.Escaped.{Escaped}
 use Rattle.rbbi_lex.specs.declared.error.LexErr.{LexErr}
-use Rattle.rbbi_lex.specs.Rows.{state_after}
+use Rattle.rbbi_lex.specs.Cases.{state_after}
 use Rattle.rbbi_lex.specs.Spellings.{Spells, TokenAt}
 use Rattle.rbbi_lex.specs.Quotations.{IsQuoted}
 use Rattle.rbbi_lex.specs.Faults.{SpellsNone, FaultAt}
 use Rattle.rbbi_lex.specs.Errors.{Tells}
 use Rattle.rbbi_lex.specs.Skips.{Skipped, Piece}
 
--- what the row spells from the place on, or nothing where it spells no token
-abbrev pub IsSpelling : List ℕ → Row → ℕ → Option Spelled → Type 0
-IsSpelling x row i None = SpellsNone x row i
-IsSpelling x row i (Some spelled) = Spells x row i spelled.end spelled.kind
+-- what the case spells from the place on, or nothing where it spells no token
+abbrev pub IsSpelling : List ℕ → Case → ℕ → Option Spelled → Type 0
+IsSpelling x case i None = SpellsNone x case i
+IsSpelling x case i (Some spelled) = Spells x case i spelled.end spelled.kind
 
 -- a character and the place behind it that are so related, or nothing where there are none
 abbrev pub IsRestBy : (ℕ → ℕ → Type 0) → Option Escaped → Type 0

@@ -3,7 +3,7 @@ ghost use Rattle.std.specs.Prelude.{◌≡◌, ◌+◌, ◌<◌, ◌≤◌, leng
 ghost use Rattle.std.specs.Char.{IsScalar};
 ghost use Rattle.std.specs.Prelude.{SomeIff, slice_range};
 ghost use Rattle.rbbi_text.specs.Numbers.{number};
-ghost use Rattle.rbbi_lex.specs.declared.row.Row.TheVariants.{Escape};
+ghost use Rattle.rbbi_lex.specs.declared.case.Case.TheVariants.{Escape};
 ghost use Rattle.rbbi_lex.specs.Escapes.{
   form_of,
   FixedDigits,
@@ -14,8 +14,8 @@ ghost use Rattle.rbbi_lex.specs.Escapes.{
 ghost use Rattle.rbbi_lex.specs.Steps.{IsRestBy, IsSpelling};
 
 use crate::character::{character_at, is_sign, stands_at};
-use crate::run::{Run, run_end};
 use crate::spelled::Spelled;
+use crate::stretch::{Stretch, stretch_end};
 use crate::token::TokenKind;
 use rbbi_text::number_of_characters;
 
@@ -85,7 +85,7 @@ fn digits(text: &[char], from: usize, count: usize) -> Option<Escaped>
     requires within { from ≤ length text.now }
     ensures { IsRestBy (FixedDigits text.now count from) result }
 {
-    if run_end(Run::HexadecimalDigits, text, from) < from + count {
+    if stretch_end(Stretch::HexadecimalDigits, text, from) < from + count {
         return None;
     }
     let end = from + count;
@@ -101,7 +101,7 @@ fn braced_digits(text: &[char], from: usize) -> Option<Escaped>
     ensures { IsRestBy (DigitsInBraces text.now from) result }
 {
     let start = from + 1;
-    let end = run_end(Run::HexadecimalDigits, text, start);
+    let end = stretch_end(Stretch::HexadecimalDigits, text, start);
     if end == start || end > start + 6 || !stands_at(text, end, '}') {
         return None;
     }
@@ -119,11 +119,11 @@ fn few_digits(text: &[char], from: usize) -> Option<Escaped>
     requires { from ≤ length text.now }
     ensures { IsRestBy (OneOrTwoDigits text.now from) result }
 {
-    let run = run_end(Run::HexadecimalDigits, text, from);
-    if run == from {
+    let stretch = stretch_end(Stretch::HexadecimalDigits, text, from);
+    if stretch == from {
         return None;
     }
-    let end = run.min(from + 2);
+    let end = stretch.min(from + 2);
     match character_between(text, from, end) {
         Some(character) => Some(Escaped { character, end }),
         None => None,

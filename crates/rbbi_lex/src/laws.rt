@@ -2,8 +2,8 @@
 //! its contract.
 ghost use Rattle.std.specs.Prelude.{◌≡◌, ℕ, List, ◌⊎◌, length};
 ghost use Rattle.rbbi_lex.specs.declared.token.Token.{Token};
-ghost use Rattle.rbbi_lex.specs.declared.run.Run.{Run};
-ghost use Rattle.rbbi_lex.specs.Runs.{run_end, IsLongestRun};
+ghost use Rattle.rbbi_lex.specs.declared.stretch.Stretch.{Stretch};
+ghost use Rattle.rbbi_lex.specs.Stretches.{stretch_end, IsLongestStretch};
 ghost use Rattle.rbbi_lex.specs.Faults.{Fault};
 ghost use Rattle.rbbi_lex.specs.Lexing.{AreTokens, IsLexFault};
 ghost use Rattle.rbbi_lex.specs.Places.{PlacesRise};
@@ -37,7 +37,7 @@ pub fn places_rise()
     ensures { (x : List ℕ) (ts : List Token) → AreTokens x ts → PlacesRise 0 (length x) ts }
 {}
 
-/// A run ends at the first place, from where it begins on, at which it doesn't go on.
-pub fn runs_are_longest()
-    ensures { (run : Run) (x : List ℕ) (i : ℕ) → IsLongestRun run x i (run_end run x i) }
+/// A stretch ends at the first place, from where it begins on, at which it doesn't go on.
+pub fn stretches_are_longest()
+    ensures { (stretch : Stretch) (x : List ℕ) (i : ℕ) → IsLongestStretch stretch x i (stretch_end stretch x i) }
 {}

@@ -1,16 +1,16 @@
 //! Reads a text token by token.
 ghost use Rattle.std.specs.Prelude.{◌≡◌, ◌≤◌, ◌<◌, vec_len, length};
 ghost use Rattle.rbbi_text.specs.Bytes.{most_bytes};
-ghost use Rattle.rbbi_lex.specs.Points.{RowAt};
+ghost use Rattle.rbbi_lex.specs.Points.{CaseAt};
 ghost use Rattle.rbbi_lex.specs.Skips.{Skipped};
 ghost use Rattle.rbbi_lex.specs.Steps.{IsPieceEnd, IsStep};
 
+use crate::case::{Case, case_of};
 use crate::character::character_at;
 use crate::error::LexErr;
-use crate::row::{Row, row_of};
-use crate::run::{Run, run_end};
 use crate::spell::spell;
 use crate::state::State;
+use crate::stretch::{Stretch, stretch_end};
 use crate::token::Token;
 use std::alloc::Global;
 use unicode::properties::is_pattern_white_space;
@@ -36,7 +36,7 @@ fn piece_end(text: &[char], state: &State, at: usize) -> Option<usize>
         return Some(at + 1);
     }
     if c == '#' && state.depth == 0 {
-        return Some(run_end(Run::CommentText, text, at + 1));
+        return Some(stretch_end(Stretch::CommentText, text, at + 1));
     }
     None
 }
@@ -54,15 +54,15 @@ impl Lexer {
         }
     }
 
-    /// The row of the tables of tokens that decides at this place.
-    fn row(&self) -> Row
+    /// The case of the tables of tokens that decides at this place.
+    fn case(&self) -> Case
         requires { self.now.place < vec_len self.now.characters }
-        ensures { RowAt self.now.characters.items self.now.state self.now.place result }
+        ensures { CaseAt self.now.characters.items self.now.state self.now.place result }
     {
         let text = self.characters.as_slice();
         let next = character_at(text, self.place + 1);
         let third = character_at(text, self.place + 2);
-        row_of(&self.state, self.characters[self.place], next, third)
+        case_of(&self.state, self.characters[self.place], next, third)
     }
 
     /// Reads the next token, or `None` at the end of the text.
@@ -76,8 +76,8 @@ impl Lexer {
             return Ok(None);
         }
         let place = self.place as u32;
-        let row = self.row();
-        match spell(alloc, self.characters.as_slice(), row, self.place)? {
+        let case = self.case();
+        match spell(alloc, self.characters.as_slice(), case, self.place)? {
             Some(spelled) => {
                 self.place = spelled.end;
                 self.state.note(&spelled.kind);
@@ -86,7 +86,7 @@ impl Lexer {
                     place,
                 }))
             }
-            None => Err(row.fault(place)),
+            None => Err(case.fault(place)),
         }
     }
 }

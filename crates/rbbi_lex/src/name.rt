@@ -1,11 +1,11 @@
 //! Names of variables and of controls.
 ghost use Rattle.std.specs.Prelude.{◌<◌, length, IfOk};
-ghost use Rattle.rbbi_lex.specs.declared.row.Row.TheVariants.{Variable, ControlName};
+ghost use Rattle.rbbi_lex.specs.declared.case.Case.TheVariants.{Variable, ControlName};
 ghost use Rattle.rbbi_lex.specs.Steps.{IsSpelling};
 
 use crate::character::{character_at, is_name_start};
-use crate::run::{Run, run_end};
 use crate::spelled::Spelled;
+use crate::stretch::{Stretch, stretch_end};
 use crate::token::TokenKind;
 use crate::words::word_between;
 use std::alloc::{AllocError, Global};
@@ -21,7 +21,7 @@ pub(crate) fn variable(
 {
     match character_at(text, at + 1) {
         Some(c) if is_name_start(c) => {
-            let end = run_end(Run::NameText, text, at + 1);
+            let end = stretch_end(Stretch::NameText, text, at + 1);
             let kind = TokenKind::Name(word_between(alloc, text, at + 1, end)?);
             Ok(Some(Spelled { kind, end }))
         }
@@ -38,7 +38,7 @@ pub(crate) fn control(
     requires { at < length text.now }
     ensures { IfOk result (IsSpelling text.now ControlName at) }
 {
-    let end = run_end(Run::ControlText, text, at + 2);
+    let end = stretch_end(Stretch::ControlText, text, at + 2);
     if end == at + 2 {
         return Ok(None);
     }

@@ -1,12 +1,12 @@
 //! Properties, in both spellings.
 ghost use Rattle.std.specs.Prelude.{◌≡◌, ◌<◌, ◌≤◌, length, IfOk};
-ghost use Rattle.rbbi_lex.specs.declared.row.Row.TheVariants.{BracedProperty, BracketedProperty};
+ghost use Rattle.rbbi_lex.specs.declared.case.Case.TheVariants.{BracedProperty, BracketedProperty};
 ghost use Rattle.rbbi_lex.specs.Properties.{value_between};
 ghost use Rattle.rbbi_lex.specs.Steps.{IsSpelling};
 
 use crate::character::stands_at;
-use crate::run::{Run, run_end};
 use crate::spelled::Spelled;
+use crate::stretch::{Stretch, stretch_end};
 use crate::token::TokenKind;
 use crate::words::word_between;
 use rbbi_text::Word;
@@ -39,11 +39,11 @@ pub(crate) fn braced_property(
     ensures { IfOk result (IsSpelling text.now BracedProperty at) }
 {
     let start = at + 3;
-    let body_end = run_end(Run::BracedBody, text, start);
+    let body_end = stretch_end(Stretch::BracedBody, text, start);
     if !stands_at(text, body_end, '}') {
         return Ok(None);
     }
-    let name_end = run_end(Run::BracedName, text, start);
+    let name_end = stretch_end(Stretch::BracedName, text, start);
     let kind = TokenKind::Prop {
         negated: stands_at(text, at + 1, 'P'),
         name: word_between(alloc, text, start, name_end)?,
@@ -62,13 +62,13 @@ pub(crate) fn bracketed_property(
     requires { at < length text.now }
     ensures { IfOk result (IsSpelling text.now BracketedProperty at) }
 {
-    let body_end = run_end(Run::BracketedBody, text, at + 2);
+    let body_end = stretch_end(Stretch::BracketedBody, text, at + 2);
     if !(stands_at(text, body_end, ':') && stands_at(text, body_end + 1, ']')) {
         return Ok(None);
     }
     let negated = stands_at(text, at + 2, '^');
     let start = if negated { at + 3 } else { at + 2 };
-    let name_end = run_end(Run::BracketedName, text, start);
+    let name_end = stretch_end(Stretch::BracketedName, text, start);
     let kind = TokenKind::Prop {
         negated,
         name: word_between(alloc, text, start, name_end)?,

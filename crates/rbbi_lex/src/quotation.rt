@@ -1,6 +1,6 @@
 //! Quoted sequences.
 ghost use Rattle.std.specs.Prelude.{◌<◌, length, IfOk};
-ghost use Rattle.rbbi_lex.specs.declared.row.Row.TheVariants.{Quotation};
+ghost use Rattle.rbbi_lex.specs.declared.case.Case.TheVariants.{Quotation};
 ghost use Rattle.rbbi_lex.specs.Steps.{IsNextQuoted, IsSpelling};
 
 use crate::character::{character_at, is_line_end, stands_at};

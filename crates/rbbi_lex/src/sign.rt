@@ -1,11 +1,11 @@
 //! Characters that are tokens by themselves.
 ghost use Rattle.std.specs.Prelude.{◌≡◌};
-ghost use Rattle.rbbi_lex.specs.Rows.{outer_sign, inner_sign};
+ghost use Rattle.rbbi_lex.specs.Cases.{outer_sign, inner_sign};
 
 use crate::token::TokenKind;
 
 /// The token that a character is by itself outside of sets, if it is one.
-#[tactic(auto, unfolding(crate::specs::Rows::outer_sign))]
+#[tactic(auto, unfolding(crate::specs::Cases::outer_sign))]
 pub(crate) fn outer_sign(c: char) -> Option<TokenKind>
     ensures { result ≡ outer_sign c }
 {
@@ -26,7 +26,7 @@ pub(crate) fn outer_sign(c: char) -> Option<TokenKind>
 }
 
 /// The token that a character is by itself inside of sets, if it is one.
-#[tactic(auto, unfolding(crate::specs::Rows::inner_sign))]
+#[tactic(auto, unfolding(crate::specs::Cases::inner_sign))]
 pub(crate) fn inner_sign(c: char) -> Option<TokenKind>
     ensures { result ≡ inner_sign c }
 {

@@ -1,16 +1,16 @@
-//! What a row of the tables spells.
+//! What a case of the tables spells.
 ghost use Rattle.std.specs.Prelude.{◌≡◌, ◌+◌, ◌<◌, length, IfOk};
-ghost use Rattle.rbbi_lex.specs.declared.row.Row.TheVariants.{Sign, SetSign, SetStart, QuotePair, BareCharacter};
-ghost use Rattle.rbbi_lex.specs.Points.{RowAt};
+ghost use Rattle.rbbi_lex.specs.declared.case.Case.TheVariants.{Sign, SetSign, SetStart, QuotePair, BareCharacter};
+ghost use Rattle.rbbi_lex.specs.Points.{CaseAt};
 ghost use Rattle.rbbi_lex.specs.Spellings.{SpellsBare};
 ghost use Rattle.rbbi_lex.specs.Steps.{IsSpelling};
 
+use crate::case::Case;
 use crate::character::{character_at, stands_at};
 use crate::escape::escape;
 use crate::name::{control, variable};
 use crate::property::{braced_property, bracketed_property};
 use crate::quotation::quotation;
-use crate::row::Row;
 use crate::sign::{inner_sign, outer_sign};
 use crate::spelled::Spelled;
 use crate::tag::tag;
@@ -64,34 +64,34 @@ fn quote_pair(text: &[char], at: usize) -> Option<Spelled>
     })
 }
 
-/// What a row spells from a place on, if it spells a token there.
+/// What a case spells from a place on, if it spells a token there.
 pub(crate) fn spell(
     alloc: Global,
     text: &[char],
-    row: Row,
+    case: Case,
     at: usize,
 ) -> Result<Option<Spelled>, AllocError>
     requires { at < length text.now }
-    ensures { IfOk result (IsSpelling text.now row at) }
+    ensures { IfOk result (IsSpelling text.now case at) }
 {
-    match row {
-        Row::Sign => Ok(outer(text, at)),
-        Row::SetSign => Ok(inner(text, at)),
-        Row::BracketedProperty => bracketed_property(alloc, text, at),
-        Row::SetStart => Ok(Some(Spelled {
+    match case {
+        Case::Sign => Ok(outer(text, at)),
+        Case::SetSign => Ok(inner(text, at)),
+        Case::BracketedProperty => bracketed_property(alloc, text, at),
+        Case::SetStart => Ok(Some(Spelled {
             kind: TokenKind::SetOpen,
             end: at + 1,
         })),
-        Row::Variable => variable(alloc, text, at),
-        Row::ControlName => control(alloc, text, at),
-        Row::StatusNumber => Ok(tag(text, at)),
-        Row::QuotePair => Ok(quote_pair(text, at)),
-        Row::Quotation => quotation(alloc, text, at),
-        Row::BracedProperty => braced_property(alloc, text, at),
-        Row::Escape => Ok(escape(text, at)),
-        Row::Brace => Ok(None),
-        Row::BareCharacter => Ok(Some(bare(text, at))),
-        Row::SetCharacter => Ok(Some(bare(text, at))),
-        Row::OtherCharacter => Ok(None),
+        Case::Variable => variable(alloc, text, at),
+        Case::ControlName => control(alloc, text, at),
+        Case::StatusNumber => Ok(tag(text, at)),
+        Case::QuotePair => Ok(quote_pair(text, at)),
+        Case::Quotation => quotation(alloc, text, at),
+        Case::BracedProperty => braced_property(alloc, text, at),
+        Case::Escape => Ok(escape(text, at)),
+        Case::Brace => Ok(None),
+        Case::BareCharacter => Ok(Some(bare(text, at))),
+        Case::SetCharacter => Ok(Some(bare(text, at))),
+        Case::OtherCharacter => Ok(None),
     }
 }

@@ -1,7 +1,7 @@
 //! What the lexer remembers of the tokens that it has read.
 ghost use Rattle.std.specs.Prelude.{◌≡◌, ◌<◌};
 ghost use Rattle.rbbi_text.specs.Bytes.{most_bytes};
-ghost use Rattle.rbbi_lex.specs.Rows.{state_after};
+ghost use Rattle.rbbi_lex.specs.Cases.{state_after};
 
 use crate::token::TokenKind;
 

@@ -1,11 +1,11 @@
 //! Status numbers in braces.
 ghost use Rattle.std.specs.Prelude.{◌<◌, length};
-ghost use Rattle.rbbi_lex.specs.declared.row.Row.TheVariants.{StatusNumber};
+ghost use Rattle.rbbi_lex.specs.declared.case.Case.TheVariants.{StatusNumber};
 ghost use Rattle.rbbi_lex.specs.Steps.{IsSpelling};
 
 use crate::character::stands_at;
-use crate::run::{Run, run_end};
 use crate::spelled::Spelled;
+use crate::stretch::{Stretch, stretch_end};
 use crate::token::TokenKind;
 use rbbi_text::number_of_characters;
 
@@ -17,9 +17,9 @@ pub(crate) fn tag(text: &[char], at: usize) -> Option<Spelled>
     requires { at < length text.now }
     ensures { IsSpelling text.now StatusNumber at result }
 {
-    let start = run_end(Run::WhiteSpace, text, at + 1);
-    let end = run_end(Run::Digits, text, start);
-    let close = run_end(Run::WhiteSpace, text, end);
+    let start = stretch_end(Stretch::WhiteSpace, text, at + 1);
+    let end = stretch_end(Stretch::Digits, text, start);
+    let close = stretch_end(Stretch::WhiteSpace, text, end);
     if start == end || !stands_at(text, close, '}') {
         return None;
     }

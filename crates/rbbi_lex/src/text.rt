@@ -24,7 +24,7 @@ fn characters_of(alloc: Global, text: &str) -> Result<Vec<char>, AllocError>
 /// The tokens of a rule file, with their places in characters from 0 (ICU User Guide, "Break
 /// Rules"). The text has at most 100,663,296 bytes.
 ///
-/// At each place the first row that fits decides, inside of sets by a table of their own. Refuses
+/// At each place the first case that fits decides, inside of sets by a table of their own. Refuses
 /// the first place at which it spells no token: `BadEscape` at a `\` that begins no escape,
 /// `OpenQuote` at the quote and `OpenProperty` at the `\p`, `\P` or `[:` that isn't closed in its
 /// line, `BadTag` at a `{` that begins no status number up to 2,147,483,647, `BadName` at a `$` or

@@ -10,10 +10,12 @@ use Rattle.rbbi_model.proofs.Categories.{category_within}
 use Rattle.std.specs.Prelude.{slice_index}
 
 module _ (table : Table) (valid : IsValidTable table) (x : List ℕ) (p : ℕ) where
-  safe_here : IsTrue (is_safe table (category_at table x p) (category_at table x (p + 1))) ↔ IsSafePair table (category_at table x p) (category_at table x (p + 1))
+  safe_here : IsTrue (is_safe table (category_at table x p) (category_at table x (p + 1))) ↔ IsSafePair table (category_at table x p)
+      (category_at table x (p + 1))
   safe_here =
       valid.safe.exactly (category_at table x p) (category_at table x (p + 1))
-      (category_within table.categories table.ranges (slice_index x p) valid.ranges) (category_within table.categories table.ranges (slice_index x (p + 1)) valid.ranges)
+      (category_within table.categories table.ranges (slice_index x p) valid.ranges)
+      (category_within table.categories table.ranges (slice_index x (p + 1)) valid.ranges)
 
   pub anchors_stored : IsTrue (is_anchor table x p) ↔ IsAnchor table x p
   anchors_stored =

@@ -5,7 +5,8 @@ use Rattle.std.proofs.lemmas.Bool.{cases_Bool, cond-true, cond-false}
 use Rattle.rbbi_model.specs.Boundaries.{Boundary}
 use Rattle.rbbi_model.specs.Cover.{IsPlaceOf, BeginAtZero, end_of}
 use Rattle.rbbi_model.proofs.Found.{some_same, none_some}
-use Rattle.rbbi_model.specs.Answers.{Question, First, Last, Next, Previous, Following, Preceding, IsBoundary, Current, Status, Statuses, Breaks, first_place, last_place, first_after, last_before, first_from, moved, answer}
+use Rattle.rbbi_model.specs.Answers.{Question, First, Last, Next, Previous, Following, Preceding, IsBoundary, Current, Status, Statuses, Breaks, first_place}
+use Rattle.rbbi_model.specs.Answers.{last_place, first_after, last_before, first_from, moved, answer}
 
 first_in : (test : ℕ → Bool) (bs : List Boundary) (p : ℕ) → first_place test bs ≡ Some p → IsPlaceOf bs p
 first_in test [] p is = absurd (none_some p is)
@@ -32,11 +33,13 @@ end_in b [] = inl refl
 end_in b (next ∷ bs) = inr (end_in next bs)
 
 module _ (bs : List Boundary) where
-  moved_in : (place : Option ℕ) (otherwise : ℕ) → ((p : ℕ) → place ≡ Some p → IsPlaceOf bs p) → IsPlaceOf bs otherwise → IsPlaceOf bs (moved place otherwise).cursor
+  moved_in : (place : Option ℕ) (otherwise : ℕ) → ((p : ℕ) → place ≡ Some p → IsPlaceOf bs p) → IsPlaceOf bs otherwise →
+      IsPlaceOf bs (moved place otherwise).cursor
   moved_in None otherwise lies here = here
   moved_in (Some p) otherwise lies here = lies p refl
 
-  unwrapped_in : (place : Option ℕ) (otherwise : ℕ) → ((p : ℕ) → place ≡ Some p → IsPlaceOf bs p) → IsPlaceOf bs otherwise → IsPlaceOf bs (unwrap_or place otherwise)
+  unwrapped_in : (place : Option ℕ) (otherwise : ℕ) → ((p : ℕ) → place ≡ Some p → IsPlaceOf bs p) → IsPlaceOf bs otherwise →
+      IsPlaceOf bs (unwrap_or place otherwise)
   unwrapped_in None otherwise lies here = here
   unwrapped_in (Some p) otherwise lies here = lies p refl
 
@@ -49,7 +52,8 @@ module _ (bs : List Boundary) where
   before_in : (o p : ℕ) → last_before bs o ≡ Some p → IsPlaceOf bs p
   before_in o p is = ⊎_elim (λ none. absurd (none_some p none)) (λ here. here) (last_in (λ at. ltb at o) None bs p is)
 
-  answered_in : (cursor : ℕ) → IsPlaceOf bs 0 → IsPlaceOf bs (end_of bs) → IsPlaceOf bs cursor → (question : Question) → IsPlaceOf bs (answer bs cursor question).cursor
+  answered_in : (cursor : ℕ) → IsPlaceOf bs 0 → IsPlaceOf bs (end_of bs) → IsPlaceOf bs cursor → (question : Question) →
+      IsPlaceOf bs (answer bs cursor question).cursor
   answered_in cursor begin end here First = begin
   answered_in cursor begin end here Last = end
   answered_in cursor begin end here Next = moved_in (first_after bs cursor) cursor (after_in cursor) here
@@ -62,6 +66,7 @@ module _ (bs : List Boundary) where
   answered_in cursor begin end here Statuses = here
   answered_in cursor begin end here Breaks = here
 
-pub cursor_stays : (bs : List Boundary) (cursor : ℕ) (question : Question) → BeginAtZero bs → IsPlaceOf bs cursor → IsPlaceOf bs (answer bs cursor question).cursor
+pub cursor_stays : (bs : List Boundary) (cursor : ℕ) (question : Question) → BeginAtZero bs → IsPlaceOf bs cursor →
+    IsPlaceOf bs (answer bs cursor question).cursor
 cursor_stays [] cursor question begin here = absurd begin
 cursor_stays (b ∷ bs) cursor question begin here = answered_in (b ∷ bs) cursor (inl begin) (end_in b bs) here question

@@ -11,7 +11,8 @@ digits_push : (digits : List ℕ) (digit : ℕ) → AllByRecursion IsDigit digit
 digits_push [] digit all is = (is, tt)
 digits_push (d ∷ digits) digit all is = (all.0, digits_push digits digit all.1 is)
 
-fold_push : (n : ℕ) (digits : List ℕ) (digit : ℕ) → fold (λ m d. m * 10 + (d - 48)) n (digits ++ digit ∷ []) ≡ fold (λ m d. m * 10 + (d - 48)) n digits * 10 + (digit - 48)
+fold_push : (n : ℕ) (digits : List ℕ) (digit : ℕ) → fold (λ m d. m * 10 + (d - 48)) n (digits ++ digit ∷ []) ≡ fold (λ m d. m * 10 + (d - 48)) n digits * 10 +
+    (digit - 48)
 fold_push n [] digit = refl
 fold_push n (d ∷ digits) digit = fold_push (n * 10 + (d - 48)) digits digit
 

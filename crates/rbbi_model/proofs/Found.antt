@@ -1,5 +1,6 @@
 -- Where a search ends, what it finds, and how far it looks.
-use Rattle.std.proofs.Common.{◌≡◌, ℕ, zero, suc, ◌+◌, ◌-◌, ◌<◌, ◌≤◌, Bool, true, ◌&&◌, ltb, eqb, List, Option, Some, None, length, sym, refl, ap, ◌∙◌, subst, ⊎_elim, arith}
+use Rattle.std.proofs.Common.{◌≡◌, ℕ, zero, suc, ◌+◌, ◌-◌, ◌<◌, ◌≤◌, Bool, true, ◌&&◌, ltb, eqb, List, Option, Some, None, length, sym, refl, ap, ◌∙◌, subst}
+use Rattle.std.proofs.Common.{⊎_elim, arith}
 use Rattle.std.specs.Prelude.{unwrap_or}
 use Rattle.std.proofs.lemmas.Bool.{cases_Bool, cond-true, cond-false, cond_both, and_parts, ltb-true}
 use Rattle.rbbi_model.specs.Places.{least_from, greatest_below, has_bit}
@@ -78,7 +79,8 @@ module _ (table : Table) (x : List ℕ) (s : ℕ) (short : s < length x) where
   found_between =
       let z : ℕ = search_end table x s in
       let last : ℕ = row_at table x s z in
-      cond_both (completes table last) (record { at = cut_place table x s z (accept_of table last - 2); list = list_of table last }) (found_longest table x s (longest_place table x s z)) (λ f. Between s (length x) f.at)
+      cond_both (completes table last) (record { at = cut_place table x s z (accept_of table last - 2); list = list_of table last })
+      (found_longest table x s (longest_place table x s z)) (λ f. Between s (length x) f.at)
       (λ _. cut_lies (accept_of table last - 2))
       (λ _. longest_lies (longest_place table x s z) longest_place_lies)
 

@@ -20,7 +20,8 @@ module _ (next : ℕ → Boundary) (n : ℕ) (lies : (s : ℕ) → s < n → (s 
   done (suc most) last end = cond-false (ltb last.at n) (next last.at ∷ follow_by next n most (next last.at)) [] (le-ltb last.at n end)
 
   -- what follows depends on the place alone, where the bound suffices
-  same_follow : (most other : ℕ) (last that : Boundary) → last.at ≡ that.at → n ≤ last.at + most → n ≤ that.at + other → follow_by next n most last ≡ follow_by next n other that
+  same_follow : (most other : ℕ) (last that : Boundary) → last.at ≡ that.at → n ≤ last.at + most → n ≤ that.at + other →
+      follow_by next n most last ≡ follow_by next n other that
   same_follow zero other last that same enough enough' = sym (done other that (omega arith))
   same_follow (suc most) zero last that same enough enough' = done (suc most) last (omega arith)
   same_follow (suc most) (suc other) last that same enough enough' =
@@ -42,7 +43,8 @@ kept place b bs from = cond-true (leb place b.at) (b ∷ from_place place bs) (f
 pub dropped : (place : ℕ) (b : Boundary) (bs : List Boundary) → b.at < place → from_place place (b ∷ bs) ≡ from_place place bs
 dropped place b bs before = cond-false (leb place b.at) (b ∷ from_place place bs) (from_place place bs) (lt-leb place b.at before)
 
-module _ (table : Table) (valid : IsValidTable table) (x : List ℕ) (p : ℕ) (room : p + 2 ≤ length x) (safe : IsSafePair table (category_at table x p) (category_at table x (p + 1))) where
+module _ (table : Table) (valid : IsValidTable table) (x : List ℕ) (p : ℕ) (room : p + 2 ≤ length x)
+    (safe : IsSafePair table (category_at table x p) (category_at table x (p + 1))) where
   n : ℕ
   n = length x
 
@@ -68,7 +70,8 @@ module _ (table : Table) (valid : IsValidTable table) (x : List ℕ) (p : ℕ) (
       same_follow (next_boundary table x) (length x) lies (length x) (suc (length x)) anchored anchored refl (omega arith) (omega arith)
       ∙ goes_on (next_boundary table x) (length x) lies (length x) anchored (omega arith)
 
-  met : (most : ℕ) (last : Boundary) → last.at < p → length x ≤ last.at + suc most → p < (next_boundary table x last.at).at → Agree (next_boundary table x last.at ∷ follow_by (next_boundary table x) (length x) most (next_boundary table x last.at))
+  met : (most : ℕ) (last : Boundary) → last.at < p → length x ≤ last.at + suc most → p < (next_boundary table x last.at).at →
+      Agree (next_boundary table x last.at ∷ follow_by (next_boundary table x) (length x) most (next_boundary table x last.at))
   met most last before enough spans =
       let short : last.at < length x = omega arith in
       let agrees = next_agrees table valid x last.at p room safe before spans in
@@ -77,7 +80,8 @@ module _ (table : Table) (valid : IsValidTable table) (x : List ℕ) (p : ℕ) (
       let rest : List Boundary = follow_by (next_boundary table x) (length x) most b in
       let further = lies last.at short in
       let further' = lies p (omega arith) in
-      let same_rest : follow_by (next_boundary table x) (length x) (length x) f ≡ rest = same_follow (next_boundary table x) (length x) lies (length x) most f b agrees.0 (omega arith) (omega (arith, further.0)) in
+      let same_rest : follow_by (next_boundary table x) (length x) (length x) f ≡ rest =
+      same_follow (next_boundary table x) (length x) lies (length x) most f b agrees.0 (omega arith) (omega (arith, further.0)) in
       let same_after : after ≡ f ∷ rest = after_is ∙ ap (λ bs. f ∷ bs) same_rest in (
         ap (λ bs. places (from_place (p + 1) bs)) same_after
             ∙ ap places (kept (p + 1) f rest (omega (arith, further'.0)))
@@ -116,7 +120,8 @@ module _ (table : Table) (valid : IsValidTable table) (x : List ℕ) (p : ℕ) (
       (cases_eq last.at p)
 
   -- past a safe pair
-  agree_past : 0 < p → (places (from_place (p + 1) (fresh table x p)) ≡ places (from_place (p + 1) (table_boundaries table x))) × (from_place (p + 2) (fresh table x p) ≡ from_place (p + 2) (table_boundaries table x))
+  agree_past : 0 < p → (places (from_place (p + 1) (fresh table x p)) ≡ places (from_place (p + 1) (table_boundaries table x))) ×
+      (from_place (p + 2) (fresh table x p) ≡ from_place (p + 2) (table_boundaries table x))
   agree_past some =
       let true_rest : List Boundary = follow_by (next_boundary table x) (length x) (length x) start in
       let agree = agree_from (length x) start (omega arith) (omega arith) in (
@@ -125,7 +130,8 @@ module _ (table : Table) (valid : IsValidTable table) (x : List ℕ) (p : ℕ) (
       )
 
 pub fresh_true : (table : Table) → IsValidTable table → (x : List ℕ) (p : ℕ) → IsAnchor table x p →
-    (places (from_place (p + 1) (fresh table x p)) ≡ places (from_place (p + 1) (table_boundaries table x))) × (from_place (low p) (fresh table x p) ≡ from_place (low p) (table_boundaries table x))
+    (places (from_place (p + 1) (fresh table x p)) ≡ places (from_place (p + 1) (table_boundaries table x))) ×
+    (from_place (low p) (fresh table x p) ≡ from_place (low p) (table_boundaries table x))
 fresh_true table valid x p anchor =
     ⊎_elim
     (λ is. (ap (λ q. places (from_place (p + 1) (fresh table x q))) is, ap (λ q. from_place (low p) (fresh table x q)) is))

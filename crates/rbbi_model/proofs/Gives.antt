@@ -1,7 +1,9 @@
 -- A valid table with the marks of the rules gives their boundaries.
-use Rattle.std.proofs.Common.{◌≡◌, ℕ, zero, suc, ◌+◌, ◌-◌, ◌<◌, ◌≤◌, ◌⊎◌, Bool, true, false, ◌&&◌, ltb, eqb, List, [], ◌∷◌, Option, Some, None, length, drop, sym, refl, ap, ◌∙◌, subst, inl, inr, ⊎_elim, arith}
+use Rattle.std.proofs.Common.{◌≡◌, ℕ, zero, suc, ◌+◌, ◌-◌, ◌<◌, ◌≤◌, ◌⊎◌, Bool, true, false, ◌&&◌, ltb, eqb, List, [], ◌∷◌, Option, Some, None, length, drop}
+use Rattle.std.proofs.Common.{sym, refl, ap, ◌∙◌, subst, inl, inr, ⊎_elim, arith}
 use Rattle.std.specs.Prelude.{slice_range, slice_index_or}
-use Rattle.std.proofs.lemmas.Bool.{cases_Bool, cases_eq, cases_lt, cases_order, cond-true, cond-false, cond_both, or_parts, or_cases, and_parts, and_from, leb-true, leb-false, ltb-true, ltb-false, lt-ltb, eqb-true, eq-eqb, false≢true}
+use Rattle.std.proofs.lemmas.Bool.{cases_Bool, cases_eq, cases_lt, cases_order, cond-true, cond-false, cond_both, or_parts, or_cases, and_parts, and_from}
+use Rattle.std.proofs.lemmas.Bool.{leb-true, leb-false, ltb-true, ltb-false, lt-ltb, eqb-true, eq-eqb, false≢true}
 use Rattle.rbbi_model.specs.Words.{IsText}
 use Rattle.rbbi_model.specs.Places.{has_bit, greatest_below}
 use Rattle.rbbi_model.specs.Rules.{Rule, LooksAhead}
@@ -13,7 +15,8 @@ use Rattle.rbbi_model.specs.Searches.{Found, row_at, search_end, cut_place, long
 use Rattle.rbbi_model.specs.Marks.{look_ahead_number, IsCompleted, AreMarksAtEnd, AreMarks, marks_of, HasSameMarks}
 use Rattle.rbbi_model.proofs.Texts.{word_take, text_drop}
 use Rattle.rbbi_model.proofs.RulesCover.{ends_lie, front_lies}
-use Rattle.rbbi_model.proofs.Local.{length_piece, look_ahead_from, ends_to_end, ends_from_end, look_ahead_to_end, look_ahead_from_end, front_to_end, front_from_end, tags_from_end}
+use Rattle.rbbi_model.proofs.Local.{length_piece, look_ahead_from, ends_to_end, ends_from_end, look_ahead_to_end, look_ahead_from_end, front_to_end}
+use Rattle.rbbi_model.proofs.Local.{front_from_end, tags_from_end}
 use Rattle.rbbi_model.proofs.LookAheadNumbers.{same_number}
 use Rattle.rbbi_model.proofs.Found.{end_lies, greatest_lies, found_lies}
 use Rattle.rbbi_model.proofs.SearchFacts.{at_most, least_is, none_passes, greatest_is_most, stays_stopped}
@@ -23,7 +26,8 @@ first_list : (lists : List (List ℕ)) → BeginsWithZeroAlone lists → (table 
 first_list [] begins table same = absurd begins
 first_list (statuses ∷ lists) begins table same = ap (λ l. slice_index_or l 0 []) same ∙ begins
 
-module _ (table : Table) (rules : List Rule) (valid : IsValidTable table) (same : HasSameMarks table rules) (x : List ℕ) (text : IsText x) (s : ℕ) (short : s < length x) where
+module _ (table : Table) (rules : List Rule) (valid : IsValidTable table) (same : HasSameMarks table rules) (x : List ℕ) (text : IsText x) (s : ℕ)
+    (short : s < length x) where
   -- the marks at a place of the search are those of the rules
   mark_at : (q : ℕ) → s < q → q ≤ length x → AreMarks rules (slice_range x s q) (marks_of table (row_at table x s q))
   mark_at q past within =
@@ -39,12 +43,14 @@ module _ (table : Table) (rules : List Rule) (valid : IsValidTable table) (same 
       ⊎_elim
       (λ ended.
       let before = ended.0.before in
-      absurd (quiet (s + ended.0.e) ended.0.number (omega (arith, length_piece x s q within)) (look_ahead_from rules x s q (omega arith) within ended.0.e ended.0.number ended.0.ends)))
+      absurd (quiet (s + ended.0.e) ended.0.number (omega (arith, length_piece x s q within))
+      (look_ahead_from rules x s q (omega arith) within ended.0.e ended.0.number ended.0.ends)))
       (λ at. at.1)
       (mark_at q past within)
 
   -- where the accept number is small, no look-ahead rule ends
-  small_accept : (q : ℕ) (past : s < q) (within : q ≤ length x) → AreMarksAtEnd rules (slice_range x s q) (marks_of table (row_at table x s q)) → accept_of table (row_at table x s q) < 2 → (number : ℕ) → LookAheadEndsAt rules x s q number → ⊥
+  small_accept : (q : ℕ) (past : s < q) (within : q ≤ length x) → AreMarksAtEnd rules (slice_range x s q) (marks_of table (row_at table x s q)) →
+      accept_of table (row_at table x s q) < 2 → (number : ℕ) → LookAheadEndsAt rules x s q number → ⊥
   small_accept q past within at small number ends =
       let local = look_ahead_to_end rules x s q (omega arith) within number ends in
       ⊎_elim
@@ -53,7 +59,8 @@ module _ (table : Table) (rules : List Rule) (valid : IsValidTable table) (same 
       at.accept
 
   -- where a rule ends and the accept number is small, it is 1
-  accept_is_one : (q : ℕ) (past : s < q) (within : q ≤ length x) → AreMarksAtEnd rules (slice_range x s q) (marks_of table (row_at table x s q)) → accept_of table (row_at table x s q) < 2 → (number : ℕ) → EndsAt rules x s q number → accept_of table (row_at table x s q) ≡ 1
+  accept_is_one : (q : ℕ) (past : s < q) (within : q ≤ length x) → AreMarksAtEnd rules (slice_range x s q) (marks_of table (row_at table x s q)) →
+      accept_of table (row_at table x s q) < 2 → (number : ℕ) → EndsAt rules x s q number → accept_of table (row_at table x s q) ≡ 1
   accept_is_one q past within at small number ends =
       let local = ends_to_end rules x s q (omega arith) within number ends in
       ⊎_elim
@@ -62,11 +69,13 @@ module _ (table : Table) (rules : List Rule) (valid : IsValidTable table) (same 
       at.accept
 
   -- where it is 1, a rule ends
-  one_ends : (q : ℕ) (past : s < q) (within : q ≤ length x) → AreMarksAtEnd rules (slice_range x s q) (marks_of table (row_at table x s q)) → accept_of table (row_at table x s q) ≡ 1 → (number : ℕ) × EndsAt rules x s q number
+  one_ends : (q : ℕ) (past : s < q) (within : q ≤ length x) → AreMarksAtEnd rules (slice_range x s q) (marks_of table (row_at table x s q)) →
+      accept_of table (row_at table x s q) ≡ 1 → (number : ℕ) × EndsAt rules x s q number
   one_ends q past within at one =
       ⊎_elim
       (λ completed. absurd (omega (arith, completed.numbered, one)))
-      (⊎_elim (λ ended. (ended.number, ends_from_end rules x s q (omega arith) within ended.number ended.ends)) (λ unended. absurd (omega (arith, unended.is_zero, one))))
+      (⊎_elim (λ ended. (ended.number, ends_from_end rules x s q (omega arith) within ended.number ended.ends))
+      (λ unended. absurd (omega (arith, unended.is_zero, one))))
       at.accept
 
   -- where the accept numbers are small before a place, no look-ahead rule ends before it
@@ -82,20 +91,23 @@ module _ (table : Table) (rules : List Rule) (valid : IsValidTable table) (same 
       (λ other. earlier e number (omega arith) ends)
       (cases_eq e bound)
 
-  search_stops : ((q : ℕ) → s + 1 ≤ q → q < search_end table x s → stops table (row_at table x s q) ≡ false) × ((stops table (row_at table x s (search_end table x s)) ≡ true) ⊎ (search_end table x s ≡ s + 1 + (length x - (s + 1))))
+  search_stops : ((q : ℕ) → s + 1 ≤ q → q < search_end table x s → stops table (row_at table x s q) ≡ false) ×
+      ((stops table (row_at table x s (search_end table x s)) ≡ true) ⊎ (search_end table x s ≡ s + 1 + (length x - (s + 1))))
   search_stops = least_is (λ z. stops table (row_at table x s z)) (s + 1) (length x - (s + 1))
 
   -- before the end of the search no look-ahead rule is completed
   small_before : (q : ℕ) → s < q → q < search_end table x s → accept_of table (row_at table x s q) < 2
   small_before q past before =
-      leb-false 2 (accept_of table (row_at table x s q)) (or_parts (eqb (row_at table x s q) 0) (completes table (row_at table x s q)) (search_stops.0 q (omega arith) before)).1
+      leb-false 2 (accept_of table (row_at table x s q)) (or_parts (eqb (row_at table x s q) 0) (completes table (row_at table x s q))
+      (search_stops.0 q (omega arith) before)).1
 
   -- a look-ahead rule is completed at the end of the search
 
   looks_ahead_of : (q number : ℕ) (ends : FrontEndsAt rules x s q number) → LooksAhead ends.rule
   looks_ahead_of q number ends = ⊎_elim (λ piece. piece.word.0) (λ chained. chained.piece.word.0) ends.front
 
-  greatest_cut : (p number : ℕ) → p < search_end table x s → accept_of table (row_at table x s (search_end table x s)) - 2 ≡ look_ahead_number rules number → Quiet (search_end table x s) → FrontEndsAt rules x s p number →
+  greatest_cut : (p number : ℕ) → p < search_end table x s → accept_of table (row_at table x s (search_end table x s)) - 2 ≡ look_ahead_number rules number →
+      Quiet (search_end table x s) → FrontEndsAt rules x s p number →
       p ≤ cut_place table x s (search_end table x s) (accept_of table (row_at table x s (search_end table x s)) - 2)
   unfolding Quiet
   greatest_cut p number less numbered quiet ends =
@@ -105,7 +117,12 @@ module _ (table : Table) (rules : List Rule) (valid : IsValidTable table) (same 
       let test : ℕ → Bool = λ q. ltb s q && has_bit (fronts_of table (row_at table x s q)) k in
       let past : s < p = (front_lies rules x s p number ends).0 in
       let at_p = marks_at p past (omega arith) (λ e n below. quiet e n (omega arith)) in
-      let bit = (at_p.fronts (small_before p past less) k).1 (record { number = number; numbered = sym numbered; front = front_to_end rules x s p (omega arith) (omega arith) number ends }) in
+      let bit = (at_p.fronts (small_before p past less) k).1 (record {
+        number = number;
+        numbered = sym numbered;
+        front =
+            front_to_end rules x s p (omega arith) (omega arith) number ends;
+      }) in
       at_most test z p (s + 1) (greatest_below test z) refl less (and_from (ltb s p) (has_bit (fronts_of table (row_at table x s p)) k) (lt-ltb s p past) bit)
 
   cut_next : completes table (row_at table x s (search_end table x s)) ≡ true → IsNext rules x s (next_boundary table x s)
@@ -119,9 +136,11 @@ module _ (table : Table) (rules : List Rule) (valid : IsValidTable table) (same 
       let quiet = quiet_below z (omega (arith, lies.1)) small_before in
       let at = marks_at z lies.0 lies.1 quiet in
       let many = leb-true 2 (accept_of table last) is in
-      let is_found : found table x s ≡ record { at = q; list = list_of table last } = cond-true (completes table last) (record { at = q; list = list_of table last }) (found_longest table x s (longest_place table x s z)) is in
+      let is_found : found table x s ≡ record { at = q; list = list_of table last } =
+      cond-true (completes table last) (record { at = q; list = list_of table last }) (found_longest table x s (longest_place table x s z)) is in
       let cut = cut_is table valid x s short is in
-      let by_completed : IsCompleted rules (slice_range x s z) (accept_of table last) → IsNext rules x s (record { at = q; statuses = statuses_of table (list_of table last) }) =
+      let by_completed : IsCompleted rules (slice_range x s z) (accept_of table last) →
+      IsNext rules x s (record { at = q; statuses = statuses_of table (list_of table last) }) =
       λ completed.
       let number : ℕ = completed.number in
       let ends = look_ahead_from_end rules x s z (omega (arith, lies.0)) lies.1 number completed.ends in
@@ -130,7 +149,8 @@ module _ (table : Table) (rules : List Rule) (valid : IsValidTable table) (same 
       let at_cut = marks_at q cut.0 (omega (arith, cut.1, lies.1)) (quiet_at q (omega (arith, cut.1))) in
       let front = (at_cut.fronts (small_before q cut.0 cut.1) k).0 cut.2 in
       let front_here = front_from_end rules x s q (omega (arith, cut.0)) (omega (arith, cut.1, lies.1)) front.number front.front in
-      let same_rule : front.number ≡ number = same_number rules front.number number front_here.rule ends.rule front_here.is_rule (looks_ahead_of q front.number front_here) ends.is_rule ends.looks_ahead (front.numbered ∙ numbered) in
+      let same_rule : front.number ≡ number = same_number rules front.number number front_here.rule ends.rule front_here.is_rule
+      (looks_ahead_of q front.number front_here) ends.is_rule ends.looks_ahead (front.numbered ∙ numbered) in
       inl (record {
         e = z;
         number = number;
@@ -149,7 +169,8 @@ module _ (table : Table) (rules : List Rule) (valid : IsValidTable table) (same 
 
   -- no look-ahead rule is completed there
 
-  small_everywhere : completes table (row_at table x s (search_end table x s)) ≡ false → (q : ℕ) → s < q → q < length x + 1 → accept_of table (row_at table x s q) < 2
+  small_everywhere : completes table (row_at table x s (search_end table x s)) ≡ false → (q : ℕ) → s < q → q < length x + 1 →
+      accept_of table (row_at table x s q) < 2
   small_everywhere isnt q past within =
       let z : ℕ = search_end table x s in
       ⊎_elim
@@ -170,7 +191,8 @@ module _ (table : Table) (rules : List Rule) (valid : IsValidTable table) (same 
       (cases_order q z)
 
   -- past the end of the search no rule ends
-  ends_within : completes table (row_at table x s (search_end table x s)) ≡ false → (q : ℕ) → s < q → q ≤ length x → accept_of table (row_at table x s q) ≡ 1 → q ≤ search_end table x s
+  ends_within : completes table (row_at table x s (search_end table x s)) ≡ false → (q : ℕ) → s < q → q ≤ length x → accept_of table (row_at table x s q) ≡ 1 →
+      q ≤ search_end table x s
   ends_within isnt q past within one =
       let z : ℕ = search_end table x s in
       ⊎_elim
@@ -204,8 +226,11 @@ module _ (table : Table) (rules : List Rule) (valid : IsValidTable table) (same 
     passes : (e number : ℕ) → EndsAt rules x s e number → (e < search_end table x s + 1) × ((ltb s e && eqb (accept_of table (row_at table x s e)) 1) ≡ true)
     passes e number ends =
         let lies = ends_lie rules x s e number ends in
-        let one = accept_is_one e lies.0 lies.1 (marks_here e lies.0 lies.1) (small_everywhere isnt e lies.0 (omega (arith, lies.1))) number ends in
-        (omega (arith, ends_within isnt e lies.0 lies.1 one), and_from (ltb s e) (eqb (accept_of table (row_at table x s e)) 1) (lt-ltb s e lies.0) (eq-eqb (accept_of table (row_at table x s e)) 1 one))
+        let one = accept_is_one e lies.0 lies.1 (marks_here e lies.0 lies.1) (small_everywhere isnt e lies.0 (omega (arith, lies.1))) number ends in (
+          omega (arith, ends_within isnt e lies.0 lies.1 one),
+          and_from (ltb s e) (eqb (accept_of table (row_at table x s e)) 1) (lt-ltb s e lies.0)
+              (eq-eqb (accept_of table (row_at table x s e)) 1 one),
+        )
 
     boundary_at : Found → Boundary
     boundary_at f = record { at = f.at; statuses = statuses_of table f.list }
@@ -239,18 +264,22 @@ module _ (table : Table) (rules : List Rule) (valid : IsValidTable table) (same 
     plain_next =
         let last : ℕ = row_at table x s (search_end table x s) in
         let is_found : found table x s ≡ found_longest table x s (longest_place table x s (search_end table x s)) =
-        cond-false (completes table last) (record { at = cut_place table x s (search_end table x s) (accept_of table last - 2); list = list_of table last }) (found_longest table x s (longest_place table x s (search_end table x s))) isnt in
-        subst (λ f. IsNext rules x s (record { at = f.at; statuses = statuses_of table f.list })) (sym is_found) (longest_next (longest_place table x s (search_end table x s)) refl)
+        cond-false (completes table last) (record { at = cut_place table x s (search_end table x s) (accept_of table last - 2); list = list_of table last })
+        (found_longest table x s (longest_place table x s (search_end table x s))) isnt in
+        subst (λ f. IsNext rules x s (record { at = f.at; statuses = statuses_of table f.list })) (sym is_found)
+        (longest_next (longest_place table x s (search_end table x s)) refl)
 
   -- the next boundary by the table is that by the rules
   pub table_next : IsNext rules x s (next_boundary table x s)
   table_next = ⊎_elim cut_next plain_next (cases_Bool (completes table (row_at table x s (search_end table x s))))
 
 module _ (table : Table) (rules : List Rule) (valid : IsValidTable table) (same : HasSameMarks table rules) (x : List ℕ) (text : IsText x) where
-  table_follow : (most : ℕ) (last : Boundary) → last.at ≤ length x → length x ≤ last.at + most → Follow rules x last (follow_by (next_boundary table x) (length x) most last)
+  table_follow : (most : ℕ) (last : Boundary) → last.at ≤ length x → length x ≤ last.at + most →
+      Follow rules x last (follow_by (next_boundary table x) (length x) most last)
   table_follow zero last low high = omega arith
   table_follow (suc most) last low high =
-      cond_both (ltb last.at (length x)) (next_boundary table x last.at ∷ follow_by (next_boundary table x) (length x) most (next_boundary table x last.at)) [] (λ bs. Follow rules x last bs)
+      cond_both (ltb last.at (length x)) (next_boundary table x last.at ∷ follow_by (next_boundary table x) (length x) most (next_boundary table x last.at)) []
+      (λ bs. Follow rules x last bs)
       (λ is.
       let short = ltb-true last.at (length x) is in
       let lies = found_lies table x last.at short in

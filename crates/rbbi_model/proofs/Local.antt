@@ -24,7 +24,8 @@ piece_of_piece x s q a b low high =
     ∙ ap (λ l. take (b - a) l) (drop-drop a s x)
     ∙ ap (λ n. take n (drop (s + a) x)) same
 
-piece_to : (Such : List ℕ → Type 0) (x : List ℕ) (s q a b : ℕ) → s ≤ a → b ≤ q → q ≤ length x → IsPiece x a b Such → IsPiece (slice_range x s q) (a - s) (b - s) Such
+piece_to : (Such : List ℕ → Type 0) (x : List ℕ) (s q a b : ℕ) → s ≤ a → b ≤ q → q ≤ length x → IsPiece x a b Such →
+    IsPiece (slice_range x s q) (a - s) (b - s) Such
 piece_to Such x s q a b low high within piece =
     let order = piece.starts in
     let same : slice_range (slice_range x s q) (a - s) (b - s) ≡ slice_range x a b =
@@ -42,23 +43,33 @@ piece_from Such x s q a b order within piece =
 module _ (rules : List Rule) (x : List ℕ) (s q : ℕ) (order : s ≤ q) (within : q ≤ length x) where
   pub ends_to : (e number : ℕ) → e ≤ q → EndsAt rules x s e number → EndsAt rules (slice_range x s q) 0 (e - s) number
   ends_to _ _ short (Word e number rule is_rule piece) =
-      Word (e - s) number rule is_rule (subst (λ a. IsPiece (slice_range x s q) a (e - s) (IsWordOf rule)) (let z : s - s ≡ 0 = omega arith in z) (piece_to (IsWordOf rule) x s q s e (omega arith) short within piece))
+      Word (e - s) number rule is_rule (subst (λ a. IsPiece (slice_range x s q) a (e - s) (IsWordOf rule)) (let z : s - s ≡ 0 = omega arith in z)
+      (piece_to (IsWordOf rule) x s q s e (omega arith) short within piece))
   ends_to _ _ short (Chained m before e number rule ends is_rule chained_into piece) =
       let earlier = ends_lie rules x s m before ends in
       let further = some_piece x (m - 1) e piece.starts piece.word.0 in
       Chained (m - s) before (e - s) number rule (ends_to m before (omega arith) ends) is_rule chained_into
-      (subst (λ a. IsPiece (slice_range x s q) a (e - s) (IsWordOf rule)) (let z : m - 1 - s ≡ m - s - 1 = omega arith in z) (piece_to (IsWordOf rule) x s q (m - 1) e (omega (arith, earlier.0)) short within piece))
+      (subst (λ a. IsPiece (slice_range x s q) a (e - s) (IsWordOf rule)) (let z : m - 1 - s ≡ m - s - 1 = omega arith in z)
+      (piece_to (IsWordOf rule) x s q (m - 1) e (omega (arith, earlier.0)) short within piece))
 
   pub ends_from : (r number : ℕ) → EndsAt rules (slice_range x s q) 0 r number → EndsAt rules x s (s + r) number
   ends_from _ _ (Word r number rule is_rule piece) =
-      Word (s + r) number rule is_rule (subst (λ a. IsPiece x a (s + r) (IsWordOf rule)) (let z : s + 0 ≡ s = omega arith in z) (piece_from (IsWordOf rule) x s q 0 r order within piece))
+      Word (s + r) number rule is_rule (subst (λ a. IsPiece x a (s + r) (IsWordOf rule)) (let z : s + 0 ≡ s = omega arith in z)
+      (piece_from (IsWordOf rule) x s q 0 r order within piece))
   ends_from _ _ (Chained m before r number rule ends is_rule chained_into piece) =
       let earlier = ends_lie rules (slice_range x s q) 0 m before ends in
       Chained (s + m) before (s + r) number rule (ends_from m before ends) is_rule chained_into
-      (subst (λ a. IsPiece x a (s + r) (IsWordOf rule)) (let z : s + (m - 1) ≡ s + m - 1 = omega (arith, earlier.0) in z) (piece_from (IsWordOf rule) x s q (m - 1) r order within piece))
+      (subst (λ a. IsPiece x a (s + r) (IsWordOf rule)) (let z : s + (m - 1) ≡ s + m - 1 = omega (arith, earlier.0) in z)
+      (piece_from (IsWordOf rule) x s q (m - 1) r order within piece))
 
   pub look_ahead_to : (e number : ℕ) → e ≤ q → LookAheadEndsAt rules x s e number → LookAheadEndsAt rules (slice_range x s q) 0 (e - s) number
-  look_ahead_to e number short ends = record { rule = ends.rule; is_rule = ends.is_rule; looks_ahead = ends.looks_ahead; ends = ends_to e number short ends.ends }
+  look_ahead_to e number short ends = record {
+    rule = ends.rule;
+    is_rule = ends.is_rule;
+    looks_ahead = ends.looks_ahead;
+    ends =
+        ends_to e number short ends.ends;
+  }
 
   pub look_ahead_from : (r number : ℕ) → LookAheadEndsAt rules (slice_range x s q) 0 r number → LookAheadEndsAt rules x s (s + r) number
   look_ahead_from r number ends = record { rule = ends.rule; is_rule = ends.is_rule; looks_ahead = ends.looks_ahead; ends = ends_from r number ends.ends }
@@ -81,7 +92,8 @@ module _ (rules : List Rule) (x : List ℕ) (s q : ℕ) (order : s ≤ q) (withi
   look_ahead_to_end number ends = subst (λ r. LookAheadEndsAt rules (slice_range x s q) 0 r number) (sym at_length) (look_ahead_to q number (omega arith) ends)
 
   pub look_ahead_from_end : (number : ℕ) → LookAheadEndsAt rules (slice_range x s q) 0 (length (slice_range x s q)) number → LookAheadEndsAt rules x s q number
-  look_ahead_from_end number ends = subst (λ e. LookAheadEndsAt rules x s e number) (ap (λ r. s + r) at_length ∙ here) (look_ahead_from (length (slice_range x s q)) number ends)
+  look_ahead_from_end number ends = subst (λ e. LookAheadEndsAt rules x s e number) (ap (λ r. s + r) at_length ∙ here)
+      (look_ahead_from (length (slice_range x s q)) number ends)
 
   pub front_to_end : (number : ℕ) → FrontEndsAt rules x s q number → FrontEndsAt rules (slice_range x s q) 0 (length (slice_range x s q)) number
   front_to_end number ends =
@@ -90,7 +102,8 @@ module _ (rules : List Rule) (x : List ℕ) (s q : ℕ) (order : s ≤ q) (withi
         rule = ends.rule;
         is_rule = ends.is_rule;
         front = ⊎_elim
-            (λ piece. inl (subst (λ a. IsPiece (slice_range x s q) a (q - s) (IsFrontWordOf ends.rule)) (let z : s - s ≡ 0 = omega arith in z) (piece_to (IsFrontWordOf ends.rule) x s q s q (omega arith) (omega arith) within piece)))
+            (λ piece. inl (subst (λ a. IsPiece (slice_range x s q) a (q - s) (IsFrontWordOf ends.rule)) (let z : s - s ≡ 0 = omega arith in z)
+            (piece_to (IsFrontWordOf ends.rule) x s q s q (omega arith) (omega arith) within piece)))
             (λ chained.
             let earlier = ends_lie rules x s chained.m chained.before chained.ends in
             let further = some_piece x (chained.m - 1) q chained.piece.starts chained.piece.word.1 in
@@ -99,7 +112,9 @@ module _ (rules : List Rule) (x : List ℕ) (s q : ℕ) (order : s ≤ q) (withi
               before = chained.before;
               ends = ends_to chained.m chained.before (omega arith) chained.ends;
               chained_into = chained.chained_into;
-              piece = subst (λ a. IsPiece (slice_range x s q) a (q - s) (IsFrontWordOf ends.rule)) (let z : chained.m - 1 - s ≡ chained.m - s - 1 = omega arith in z) (piece_to (IsFrontWordOf ends.rule) x s q (chained.m - 1) q (omega (arith, earlier.0)) (omega arith) within chained.piece);
+              piece = subst (λ a. IsPiece (slice_range x s q) a (q - s) (IsFrontWordOf ends.rule))
+                  (let z : chained.m - 1 - s ≡ chained.m - s - 1 = omega arith in z)
+                  (piece_to (IsFrontWordOf ends.rule) x s q (chained.m - 1) q (omega (arith, earlier.0)) (omega arith) within chained.piece);
             }))
             ends.front;
       })
@@ -112,7 +127,8 @@ module _ (rules : List Rule) (x : List ℕ) (s q : ℕ) (order : s ≤ q) (withi
         rule = ends.rule;
         is_rule = ends.is_rule;
         front = ⊎_elim
-            (λ piece. inl (subst (λ a. IsPiece x a (s + r) (IsFrontWordOf ends.rule)) (let z : s + 0 ≡ s = omega arith in z) (piece_from (IsFrontWordOf ends.rule) x s q 0 r order within piece)))
+            (λ piece. inl (subst (λ a. IsPiece x a (s + r) (IsFrontWordOf ends.rule)) (let z : s + 0 ≡ s = omega arith in z)
+            (piece_from (IsFrontWordOf ends.rule) x s q 0 r order within piece)))
             (λ chained.
             let earlier = ends_lie rules (slice_range x s q) 0 chained.m chained.before chained.ends in
             inr (record {
@@ -120,7 +136,9 @@ module _ (rules : List Rule) (x : List ℕ) (s q : ℕ) (order : s ≤ q) (withi
               before = chained.before;
               ends = ends_from chained.m chained.before chained.ends;
               chained_into = chained.chained_into;
-              piece = subst (λ a. IsPiece x a (s + r) (IsFrontWordOf ends.rule)) (let z : s + (chained.m - 1) ≡ s + chained.m - 1 = omega (arith, earlier.0) in z) (piece_from (IsFrontWordOf ends.rule) x s q (chained.m - 1) r order within chained.piece);
+              piece = subst (λ a. IsPiece x a (s + r) (IsFrontWordOf ends.rule))
+                  (let z : s + (chained.m - 1) ≡ s + chained.m - 1 = omega (arith, earlier.0) in z)
+                  (piece_from (IsFrontWordOf ends.rule) x s q (chained.m - 1) r order within chained.piece);
             }))
             ends.front;
       })

@@ -50,7 +50,8 @@ module _ (rules : List Rule) (w : List ℕ) (these those : Marks) where
       let high = completed'.first completed.number completed.ends in
       let same : completed.number ≡ completed'.number = omega arith in
       completed.numbered ∙ ap (λ n. look_ahead_number rules n + 2) same ∙ sym completed'.numbered)
-      (⊎_elim (λ ended'. absurd (ended'.no_look_ahead completed.number completed.ends)) (λ unended'. absurd (unended'.no_end completed.number completed.ends.ends)))
+      (⊎_elim (λ ended'. absurd (ended'.no_look_ahead completed.number completed.ends))
+      (λ unended'. absurd (unended'.no_end completed.number completed.ends.ends)))
       at'.accept)
       (⊎_elim
       (λ ended.
@@ -71,7 +72,8 @@ module _ (rules : List Rule) (w : List ℕ) (these those : Marks) where
       ⊎_elim
       (λ small.
       let small' : those.accept < 2 = omega arith in
-      same_bits these.fronts those.fronts (λ k is. (at'.fronts small' k).1 ((at.fronts small k).0 is)) (λ k is. (at.fronts small k).1 ((at'.fronts small' k).0 is)))
+      same_bits these.fronts those.fronts (λ k is. (at'.fronts small' k).1 ((at.fronts small k).0 is))
+      (λ k is. (at.fronts small k).1 ((at'.fronts small' k).0 is)))
       (λ many. at.no_fronts many ∙ sym (at'.no_fronts (omega arith)))
       (cases_lt these.accept 2)
 

@@ -9,11 +9,13 @@ use Rattle.rbbi_model.specs.Tables.{Table}
 use Rattle.rbbi_model.specs.Searches.{table_boundaries}
 use Rattle.rbbi_model.specs.Compiled.{GivesBoundaries}
 use Rattle.rbbi_model.specs.Answers.{Reply, Outside, TooLong}
-use Rattle.rbbi_model.specs.Scripts.{Command, Ask, Replace, ShowText, Edit, Refused, Accepted, State, splice, edit, edited, opened, turn_by, AreRepliesBy, replies_by, AreReplies, table_replies, InsertsText}
+use Rattle.rbbi_model.specs.Scripts.{Command, Ask, Replace, ShowText, Edit, Refused, Accepted, State, splice, edit, edited, opened, turn_by, AreRepliesBy}
+use Rattle.rbbi_model.specs.Scripts.{replies_by, AreReplies, table_replies, InsertsText}
 use Rattle.rbbi_model.proofs.Texts.{text_take, text_drop, text_append}
 use Rattle.rbbi_model.proofs.Uniqueness.{same_boundaries}
 
-edited_text : (state : State) (at removed : ℕ) (inserted : List ℕ) → IsText state.text → IsText inserted → IsText (edited state (edit state.text at removed inserted)).state.text
+edited_text : (state : State) (at removed : ℕ) (inserted : List ℕ) → IsText state.text → IsText inserted →
+    IsText (edited state (edit state.text at removed inserted)).state.text
 edited_text state at removed inserted text text' =
     let x : List ℕ = state.text in
     let spliced : List ℕ = splice x at removed inserted in
@@ -24,14 +26,17 @@ edited_text state at removed inserted text text' =
     (λ _.
     cond_both (ltb most_characters (length x - removed + length inserted)) (Refused TooLong) accepted (λ e. IsText (edited state e).state.text)
     (λ _. text)
-    (λ _. text_append (take at x ++ inserted) (drop (at + removed) x) (text_append (take at x) inserted (text_take at x text) text') (text_drop (at + removed) x text)))
+    (λ _. text_append (take at x ++ inserted) (drop (at + removed) x) (text_append (take at x) inserted (text_take at x text) text')
+    (text_drop (at + removed) x text)))
 
-text_after : (boundaries : List Boundary) (state : State) (command : Command) → IsText state.text → InsertsText command → IsText (turn_by edit boundaries state command).state.text
+text_after : (boundaries : List Boundary) (state : State) (command : Command) → IsText state.text → InsertsText command →
+    IsText (turn_by edit boundaries state command).state.text
 text_after boundaries state (Ask question) text inserts = text
 text_after boundaries state (Replace at removed inserted) text inserts = edited_text state at removed inserted text inserts
 text_after boundaries state ShowText text inserts = text
 
-replies_from : (table : Table) (rules : List Rule) → GivesBoundaries table rules → (state : State) (commands : List Command) → IsText state.text → AllByRecursion InsertsText commands → AreRepliesBy edit (AreBoundaries rules) state commands (replies_by edit (table_boundaries table) state commands)
+replies_from : (table : Table) (rules : List Rule) → GivesBoundaries table rules → (state : State) (commands : List Command) → IsText state.text →
+    AllByRecursion InsertsText commands → AreRepliesBy edit (AreBoundaries rules) state commands (replies_by edit (table_boundaries table) state commands)
 replies_from table rules gives state [] text inserts = tt
 replies_from table rules gives state (command ∷ commands) text inserts =
     let boundaries : List Boundary = table_boundaries table state.text in (
@@ -41,10 +46,12 @@ replies_from table rules gives state (command ∷ commands) text inserts =
       replies_from table rules gives (turn_by edit boundaries state command).state commands (text_after boundaries state command text inserts.0) inserts.1,
     )
 
-pub table_replies_are : (table : Table) (rules : List Rule) → GivesBoundaries table rules → (x : List ℕ) (commands : List Command) → IsText x → AllByRecursion InsertsText commands → AreReplies rules x commands (table_replies table x commands)
+pub table_replies_are : (table : Table) (rules : List Rule) → GivesBoundaries table rules → (x : List ℕ) (commands : List Command) → IsText x →
+    AllByRecursion InsertsText commands → AreReplies rules x commands (table_replies table x commands)
 table_replies_are table rules gives x commands text inserts = replies_from table rules gives (opened x) commands text inserts
 
-same_from : (rules : List Rule) (state : State) (commands : List Command) (these those : List Reply) → AreRepliesBy edit (AreBoundaries rules) state commands these → AreRepliesBy edit (AreBoundaries rules) state commands those → these ≡ those
+same_from : (rules : List Rule) (state : State) (commands : List Command) (these those : List Reply) →
+    AreRepliesBy edit (AreBoundaries rules) state commands these → AreRepliesBy edit (AreBoundaries rules) state commands those → these ≡ those
 same_from rules state [] [] [] are are' = refl
 same_from rules state [] [] (r ∷ those) are are' = absurd are'
 same_from rules state [] (r ∷ these) those are are' = absurd are
@@ -56,5 +63,6 @@ same_from rules state (command ∷ commands) (r ∷ these) (q ∷ those) are are
     let next = subst (λ bs. AreRepliesBy edit (AreBoundaries rules) (turn_by edit bs state command).state commands these) same are.3 in
     ap (λ p. p ∷ these) reply ∙ ap (λ l. q ∷ l) (same_from rules (turn_by edit are'.0 state command).state commands these those next are'.3)
 
-pub same_replies : (rules : List Rule) (x : List ℕ) (commands : List Command) (these those : List Reply) → AreReplies rules x commands these → AreReplies rules x commands those → these ≡ those
+pub same_replies : (rules : List Rule) (x : List ℕ) (commands : List Command) (these those : List Reply) → AreReplies rules x commands these →
+    AreReplies rules x commands those → these ≡ those
 same_replies rules x commands these those are are' = same_from rules (opened x) commands these those are are'

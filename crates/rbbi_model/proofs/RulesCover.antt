@@ -38,7 +38,8 @@ module _ (rules : List Rule) (x : List ℕ) (s : ℕ) where
       (⊎_elim (λ longest. ends_lie b.at longest.ends.0 longest.ends.1) (λ single. (omega (arith, single.at), omega (arith, single.at))))
       next
 
-follow_covers : (rules : List Rule) (x : List ℕ) (last : Boundary) (bs : List Boundary) → Follow rules x last bs → IsRising (places (last ∷ bs)) × (end_of (last ∷ bs) ≡ length x)
+follow_covers : (rules : List Rule) (x : List ℕ) (last : Boundary) (bs : List Boundary) → Follow rules x last bs → IsRising (places (last ∷ bs)) ×
+    (end_of (last ∷ bs) ≡ length x)
 follow_covers rules x last [] follow = (tt, follow)
 follow_covers rules x last (b ∷ bs) follow =
     let rest = follow_covers rules x b bs follow.2 in

@@ -1,5 +1,6 @@
 -- From a safe pair of characters on, a search that began there runs along with one that began before.
-use Rattle.std.proofs.Common.{◌≡◌, ℕ, zero, suc, ◌+◌, ◌-◌, ◌<◌, ◌≤◌, ◌⊎◌, true, false, cond, eqb, List, length, take, drop, get_or, sym, ap, ◌∙◌, subst, inl, inr, ⊎_elim, arith}
+use Rattle.std.proofs.Common.{◌≡◌, ℕ, zero, suc, ◌+◌, ◌-◌, ◌<◌, ◌≤◌, ◌⊎◌, true, false, cond, eqb, List, length, take, drop, get_or, sym, ap, ◌∙◌, subst, inl}
+use Rattle.std.proofs.Common.{inr, ⊎_elim, arith}
 use Rattle.std.specs.Prelude.{IsTrue}
 use Rattle.std.proofs.lemmas.Bool.{cases_Bool, cases_lt, cases_eq, false≢true, or_left, eq-eqb, cond-true}
 use Rattle.rbbi_model.specs.Places.{has_bit}
@@ -34,7 +35,8 @@ module _ (table : Table) (valid : IsValidTable table) (x : List ℕ) where
   found_alive : (s : ℕ) → s < length x → s + 1 < (found table x s).at → row_at table x s (found table x s).at ≡ 0 → ⊥
   found_alive s short far dead =
       found_cases table valid x s short
-      (λ cut. no_bit (fronts_of table (row_at table x s (found table x s).at)) (accept_of table (row_at table x s (search_end table x s)) - 2) (ap (λ r. fronts_of table r) dead ∙ valid.rows.stop.1) cut.bit)
+      (λ cut. no_bit (fronts_of table (row_at table x s (found table x s).at)) (accept_of table (row_at table x s (search_end table x s)) - 2)
+      (ap (λ r. fronts_of table r) dead ∙ valid.rows.stop.1) cut.bit)
       (λ longest. omega (arith, zero_accept table valid (row_at table x s (found table x s).at) dead, longest.one))
       (λ single. omega (arith, single.at, far))
 
@@ -56,7 +58,8 @@ module _ (table : Table) (valid : IsValidTable table) (x : List ℕ) where
       (cases_eq (search_end table x s) q) in
       omega (arith, cond-true (stops table (row_at table x s (search_end table x s))) (search_end table x s) (length x + 1) is_end)
 
-  module _ (b p : ℕ) (room : p + 2 ≤ length x) (safe : IsSafePair table (category_at table x p) (category_at table x (p + 1))) (order : b < p) (spans : p < (found table x b).at) where
+  module _ (b p : ℕ) (room : p + 2 ≤ length x) (safe : IsSafePair table (category_at table x p) (category_at table x (p + 1))) (order : b < p)
+      (spans : p < (found table x b).at) where
     short_b : b < length x
     short_b = omega arith
 
@@ -78,7 +81,8 @@ module _ (table : Table) (valid : IsValidTable table) (x : List ℕ) where
         ∙ ap (λ row. step table row (category_at table x (p + 1))) (row_goes_on table x s p before short_p)
 
     from_b : row_at table x b (p + 2) ≡ safe.0
-    from_b = two_on b (omega arith) ∙ safe.1 (row_at table x b p) (row_within table valid x b p) (going_is_open table valid (row_at table x b p) (goes_before b p order end_past))
+    from_b = two_on b (omega arith) ∙ safe.1 (row_at table x b p) (row_within table valid x b p)
+        (going_is_open table valid (row_at table x b p) (goes_before b p order end_past))
 
     at_start : row_at table x p p ≡ 1
     at_start = row_of_nothing (p - p) (omega arith)
@@ -94,7 +98,8 @@ module _ (table : Table) (valid : IsValidTable table) (x : List ℕ) where
 
     same_on : (d : ℕ) → p + 2 + d ≤ length x → row_at table x b (p + 2 + d) ≡ row_at table x p (p + 2 + d)
     same_on zero within =
-        ap (λ q. row_at table x b q) (let e : p + 2 + 0 ≡ p + 2 = omega arith in e) ∙ from_b ∙ sym from_p ∙ ap (λ q. row_at table x p q) (let e : p + 2 ≡ p + 2 + 0 = omega arith in e)
+        ap (λ q. row_at table x b q) (let e : p + 2 + 0 ≡ p + 2 = omega arith in e) ∙ from_b ∙ sym from_p ∙
+        ap (λ q. row_at table x p q) (let e : p + 2 ≡ p + 2 + 0 = omega arith in e)
     same_on (suc d) within =
         let further : p + 2 + suc d ≡ p + 2 + d + 1 = omega arith in
         ap (λ q. row_at table x b q) further
@@ -115,7 +120,8 @@ module _ (table : Table) (valid : IsValidTable table) (x : List ℕ) where
     dead_after s before stopped =
         ap (λ q. row_at table x s q) (let e : p + 2 ≡ p + 1 + 1 = omega arith in e)
         ∙ row_goes_on table x s (p + 1) (omega arith) (omega arith)
-        ∙ stopped_leads table valid (row_at table x s (p + 1)) (category_at table x (p + 1)) (row_within table valid x s (p + 1)) (category_fits (p + 1)) stopped
+        ∙ stopped_leads table valid (row_at table x s (p + 1)) (category_at table x (p + 1)) (row_within table valid x s (p + 1))
+        (category_fits (p + 1)) stopped
 
     found_next : (s : ℕ) (short : s < length x) → s ≤ p → p < (found table x s).at → row_at table x s (p + 2) ≡ 0 → (found table x s).at ≡ p + 1
     found_next s short before past dead =
@@ -158,7 +164,8 @@ module _ (table : Table) (valid : IsValidTable table) (x : List ℕ) where
       far_p : p + 2 ≤ search_end table x p
       far_p = far p short_p (end_lies table x p short_p).0 going_p
 
-      not_later : (s t : ℕ) → s < length x → t < length x → s ≤ p → t ≤ p → p + 2 ≤ search_end table x t → row_at table x s (search_end table x t) ≡ row_at table x t (search_end table x t) → search_end table x s ≤ search_end table x t
+      not_later : (s t : ℕ) → s < length x → t < length x → s ≤ p → t ≤ p → p + 2 ≤ search_end table x t →
+          row_at table x s (search_end table x t) ≡ row_at table x t (search_end table x t) → search_end table x s ≤ search_end table x t
       not_later s t short short' low low' far_t same =
           ⊎_elim
           (λ stopped. ends_by s (search_end table x t) (omega arith) (ap (λ row. stops table row) same ∙ stopped))
@@ -188,9 +195,15 @@ module _ (table : Table) (valid : IsValidTable table) (x : List ℕ) where
           let up_p = (found_lies table x p short_p).1 in
           let same_k = ap (λ row. accept_of table row - 2) same_last in
           let low : p + 2 ≤ fb → fb ≤ fp = λ from.
-          cut'.most fb (omega arith) (omega (arith, cut.before, same_end)) (subst (λ k. IsTrue (has_bit (fronts_of table (row_at table x p fb)) k)) same_k (subst (λ row. IsTrue (has_bit (fronts_of table row) (accept_of table (row_at table x b (search_end table x b)) - 2))) (same_row fb from up_b) cut.bit)) in
+          cut'.most fb (omega arith) (omega (arith, cut.before, same_end))
+          (subst (λ k. IsTrue (has_bit (fronts_of table (row_at table x p fb)) k)) same_k
+          (subst (λ row. IsTrue (has_bit (fronts_of table row) (accept_of table (row_at table x b (search_end table x b)) - 2)))
+          (same_row fb from up_b) cut.bit)) in
           let high : p + 2 ≤ fp → fp ≤ fb = λ from.
-          cut.most fp (omega arith) (omega (arith, cut'.before, same_end)) (subst (λ k. IsTrue (has_bit (fronts_of table (row_at table x b fp)) k)) (sym same_k) (subst (λ row. IsTrue (has_bit (fronts_of table row) (accept_of table (row_at table x p (search_end table x p)) - 2))) (sym (same_row fp from up_p)) cut'.bit)) in (
+          cut.most fp (omega arith) (omega (arith, cut'.before, same_end))
+          (subst (λ k. IsTrue (has_bit (fronts_of table (row_at table x b fp)) k)) (sym same_k)
+          (subst (λ row. IsTrue (has_bit (fronts_of table row) (accept_of table (row_at table x p (search_end table x p)) - 2)))
+          (sym (same_row fp from up_p)) cut'.bit)) in (
             agree_at fb fp spans past_p low high,
             λ _. cut'.list ∙ ap (λ row. list_of table row) (sym same_last) ∙ sym cut.list,
           )
@@ -202,11 +215,14 @@ module _ (table : Table) (valid : IsValidTable table) (x : List ℕ) where
           let fp : ℕ = (found table x p).at in
           let up_b = (found_lies table x b short_b).1 in
           let up_p = (found_lies table x p short_p).1 in
-          let low : p + 2 ≤ fb → fb ≤ fp = λ from. longest'.most fb (omega arith) (omega (arith, longest.up_to, same_end)) (ap (λ row. accept_of table row) (sym (same_row fb from up_b)) ∙ longest.one) in
-          let high : p + 2 ≤ fp → fp ≤ fb = λ from. longest.most fp (omega arith) (omega (arith, longest'.up_to, same_end)) (ap (λ row. accept_of table row) (same_row fp from up_p) ∙ longest'.one) in
+          let low : p + 2 ≤ fb → fb ≤ fp = λ from. longest'.most fb (omega arith) (omega (arith, longest.up_to, same_end))
+          (ap (λ row. accept_of table row) (sym (same_row fb from up_b)) ∙ longest.one) in
+          let high : p + 2 ≤ fp → fp ≤ fb = λ from. longest.most fp (omega arith) (omega (arith, longest'.up_to, same_end))
+          (ap (λ row. accept_of table row) (same_row fp from up_p) ∙ longest'.one) in
           let same : fp ≡ fb = agree_at fb fp spans past_p low high in (
             same,
-            λ from. longest'.list ∙ ap (λ q. list_of table (row_at table x p q)) same ∙ ap (λ row. list_of table row) (sym (same_row fb from up_b)) ∙ sym longest.list,
+            λ from. longest'.list ∙ ap (λ q. list_of table (row_at table x p q)) same ∙ ap (λ row. list_of table row) (sym (same_row fb from up_b)) ∙
+                sym longest.list,
           )
 
       single_agrees : FoundLongest table x b (found table x b) → FoundSingle table x p (found table x p) → Agree
@@ -216,7 +232,8 @@ module _ (table : Table) (valid : IsValidTable table) (x : List ℕ) where
           let up_b = (found_lies table x b short_b).1 in
           ⊎_elim
           (λ near. (omega (arith, single.at, spans), λ from. absurd (omega (arith, from, near))))
-          (λ from. absurd (single.none fb spans (omega (arith, longest.up_to, same_end)) (ap (λ row. accept_of table row) (sym (same_row fb from up_b)) ∙ longest.one)))
+          (λ from. absurd (single.none fb spans (omega (arith, longest.up_to, same_end))
+          (ap (λ row. accept_of table row) (sym (same_row fb from up_b)) ∙ longest.one)))
           (cases_lt fb (p + 2))
 
       same_completed : completes table (row_at table x b (search_end table x b)) ≡ completes table (row_at table x p (search_end table x p))
@@ -226,15 +243,19 @@ module _ (table : Table) (valid : IsValidTable table) (x : List ℕ) where
       unfolding Agree
       going_agree =
           found_cases table valid x b short_b
-          (λ cut. found_cases table valid x p short_p (cut_agrees cut) (λ longest. absurd (false≢true (sym longest.uncompleted ∙ sym same_completed ∙ cut.completed))) (λ single. absurd (false≢true (sym single.uncompleted ∙ sym same_completed ∙ cut.completed))))
-          (λ longest. found_cases table valid x p short_p (λ cut. absurd (false≢true (sym longest.uncompleted ∙ same_completed ∙ cut.completed))) (longest_agrees longest) (single_agrees longest))
+          (λ cut. found_cases table valid x p short_p (cut_agrees cut) (λ longest. absurd
+          (false≢true (sym longest.uncompleted ∙ sym same_completed ∙ cut.completed)))
+          (λ single. absurd (false≢true (sym single.uncompleted ∙ sym same_completed ∙ cut.completed))))
+          (λ longest. found_cases table valid x p short_p (λ cut. absurd (false≢true (sym longest.uncompleted ∙ same_completed ∙ cut.completed)))
+          (longest_agrees longest) (single_agrees longest))
           (λ single. absurd (omega (arith, single.at, spans)))
 
     -- from both starts the next boundary past p is at one place, and where it lies two characters on, with the same statuses
     pub next_agrees : ((found table x p).at ≡ (found table x b).at) × (p + 2 ≤ (found table x b).at → (found table x p).list ≡ (found table x b).list)
     unfolding Agree
     next_agrees =
-        let dead_case : row_at table x b (p + 2) ≡ 0 → ((found table x p).at ≡ (found table x b).at) × (p + 2 ≤ (found table x b).at → (found table x p).list ≡ (found table x b).list) =
+        let dead_case : row_at table x b (p + 2) ≡ 0 → ((found table x p).at ≡ (found table x b).at) ×
+        (p + 2 ≤ (found table x b).at → (found table x p).list ≡ (found table x b).list) =
         λ dead. (both_next dead, λ from. absurd (omega (arith, from, found_next b short_b (omega arith) spans dead))) in
         ⊎_elim
         (λ stopped. dead_case (dead_after b (omega arith) stopped))
@@ -256,6 +277,7 @@ module _ (table : Table) (valid : IsValidTable table) (x : List ℕ) where
         ⊎_elim
         (λ stopped'. by_two (dead_after p (omega arith) stopped'))
         (λ going_p. inr (ap (λ z. cond (stops table (row_at table x p z)) z (length x + 1)) (sym (same_end going_b going_p))
-        ∙ ap (λ row. cond (stops table row) (search_end table x b) (length x + 1)) (ap (λ z. row_at table x p z) (same_end going_b going_p) ∙ sym (same_last going_b going_p))))
+        ∙ ap (λ row. cond (stops table row) (search_end table x b) (length x + 1))
+        (ap (λ z. row_at table x p z) (same_end going_b going_p) ∙ sym (same_last going_b going_p))))
         (cases_Bool (stops table (row_at table x p (p + 1)))))
         (cases_Bool (stops table (row_at table x b (p + 1))))

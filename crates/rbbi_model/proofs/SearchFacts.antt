@@ -1,5 +1,6 @@
 -- What the least and the greatest place say of the others, and where a search is after row 0.
-use Rattle.std.proofs.Common.{Option, ◌≡◌, ℕ, zero, suc, ◌+◌, ◌-◌, ◌<◌, ◌≤◌, ◌⊎◌, Bool, true, false, List, [], ◌∷◌, ◌++◌, Some, None, take, drop, map, sym, refl, ap, ◌∙◌, inl, inr, ⊎_elim, arith}
+use Rattle.std.proofs.Common.{Option, ◌≡◌, ℕ, zero, suc, ◌+◌, ◌-◌, ◌<◌, ◌≤◌, ◌⊎◌, Bool, true, false, List, [], ◌∷◌, ◌++◌, Some, None, take, drop, map, sym}
+use Rattle.std.proofs.Common.{refl, ap, ◌∙◌, inl, inr, ⊎_elim, arith}
 use Rattle.std.specs.Prelude.{slice_range, unwrap_or}
 use Rattle.std.proofs.lemmas.Bool.{cases_Bool, cases_eq, cond-true, cond-false, false≢true}
 use Rattle.std.proofs.lemmas.List.{map-append, take-append-drop, take-take}
@@ -11,7 +12,8 @@ use Rattle.rbbi_model.proofs.Found.{none_some}
 use Rattle.rbbi_model.proofs.Categories.{category_within}
 
 -- the test fails at each place before the least, and holds there, or there is none
-pub least_is : (test : ℕ → Bool) (low count : ℕ) → ((q : ℕ) → low ≤ q → q < least_from test low count → test q ≡ false) × ((test (least_from test low count) ≡ true) ⊎ (least_from test low count ≡ low + count))
+pub least_is : (test : ℕ → Bool) (low count : ℕ) → ((q : ℕ) → low ≤ q → q < least_from test low count → test q ≡ false) ×
+    ((test (least_from test low count) ≡ true) ⊎ (least_from test low count ≡ low + count))
 least_is test low zero = (λ q from to. absurd (omega (arith, from, to)), inr (omega arith))
 least_is test low (suc count) =
     ⊎_elim
@@ -55,11 +57,13 @@ greatest_is_most test (suc high) top q is short holds =
     (cases_Bool (test high))
 
 -- what passes is at most the greatest that does
-pub at_most : (test : ℕ → Bool) (high p otherwise : ℕ) (place : Option ℕ) → greatest_below test high ≡ place → p < high → test p ≡ true → p ≤ unwrap_or place otherwise
+pub at_most : (test : ℕ → Bool) (high p otherwise : ℕ) (place : Option ℕ) → greatest_below test high ≡ place → p < high → test p ≡ true →
+    p ≤ unwrap_or place otherwise
 at_most test high p otherwise None is less holds = absurd (none_passes test high p is less holds)
 at_most test high p otherwise (Some top) is less holds = greatest_is_most test high top p is less holds
 
-pub row_along_append : (table : Table) (row : ℕ) (these those : List ℕ) → row_along table row (these ++ those) ≡ row_along table (row_along table row these) those
+pub row_along_append : (table : Table) (row : ℕ) (these those : List ℕ) →
+    row_along table row (these ++ those) ≡ row_along table (row_along table row these) those
 row_along_append table row [] those = refl
 row_along_append table row (k ∷ these) those = row_along_append table (step table row k) these those
 
@@ -68,7 +72,8 @@ module _ (table : Table) (valid : IsValidTable table) where
   stuck : (w : List ℕ) → row_along table 0 (map (category_of table.ranges) w) ≡ 0
   stuck [] = refl
   stuck (c ∷ w) =
-      ap (λ row. row_along table row (map (category_of table.ranges) w)) (valid.rows.stop_leads (category_of table.ranges c) (category_within table.categories table.ranges c valid.ranges)) ∙ stuck w
+      ap (λ row. row_along table row (map (category_of table.ranges) w)) (valid.rows.stop_leads (category_of table.ranges c)
+      (category_within table.categories table.ranges c valid.ranges)) ∙ stuck w
 
   -- a search that was in row 0 stays there
   pub stays_stopped : (x : List ℕ) (s z q : ℕ) → z ≤ q → row_at table x s z ≡ 0 → row_at table x s q ≡ 0
@@ -76,7 +81,8 @@ module _ (table : Table) (valid : IsValidTable table) where
       let of : ℕ → ℕ = category_of table.ranges in
       let w : List ℕ = slice_range x s q in
       let front : take (z - s) w ≡ slice_range x s z = take-take (z - s) (q - s) (drop s x) (omega arith) in
-      let split : map of w ≡ map of (take (z - s) w) ++ map of (drop (z - s) w) = ap (λ l. map of l) (sym (take-append-drop (z - s) w)) ∙ map-append of (take (z - s) w) (drop (z - s) w) in
+      let split : map of w ≡ map of (take (z - s) w) ++ map of (drop (z - s) w) = ap (λ l. map of l) (sym (take-append-drop (z - s) w)) ∙
+      map-append of (take (z - s) w) (drop (z - s) w) in
       ap (λ l. row_along table 1 l) split
       ∙ row_along_append table 1 (map of (take (z - s) w)) (map of (drop (z - s) w))
       ∙ ap (λ row. row_along table row (map of (drop (z - s) w))) (ap (λ l. row_along table 1 (map of l)) front ∙ stopped)

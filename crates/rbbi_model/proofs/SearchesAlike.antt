@@ -1,5 +1,6 @@
 -- A search depends on the characters that it reads alone.
-use Rattle.std.proofs.Common.{◌≡◌, ℕ, zero, suc, ◌+◌, ◌-◌, ◌<◌, ◌≤◌, ◌⊎◌, Bool, true, false, cond, ◌&&◌, ltb, eqb, List, Option, Some, None, length, take, drop, sym, refl, ap, ◌∙◌, subst, inl, inr, ⊎_elim, add-suc, arith}
+use Rattle.std.proofs.Common.{◌≡◌, ℕ, zero, suc, ◌+◌, ◌-◌, ◌<◌, ◌≤◌, ◌⊎◌, Bool, true, false, cond, ◌&&◌, ltb, eqb, List, Option, Some, None, length, take, drop}
+use Rattle.std.proofs.Common.{sym, refl, ap, ◌∙◌, subst, inl, inr, ⊎_elim, add-suc, arith}
 use Rattle.std.specs.Prelude.{slice_range, unwrap_or}
 use Rattle.std.proofs.lemmas.Bool.{cases_Bool, cases_order, cond-true, cond-false, false≢true, lt-ltb, ltb-true}
 use Rattle.std.proofs.lemmas.List.{take-take}
@@ -11,7 +12,8 @@ use Rattle.rbbi_model.proofs.Found.{least_lies, end_lies}
 use Rattle.rbbi_model.proofs.SearchFacts.{least_is}
 
 -- the least place is the one before which the test fails, and at which it holds or there are no more
-pub least_unique : (test : ℕ → Bool) (low count p : ℕ) → low ≤ p → p ≤ low + count → ((q : ℕ) → low ≤ q → q < p → test q ≡ false) → ((test p ≡ true) ⊎ (p ≡ low + count)) → least_from test low count ≡ p
+pub least_unique : (test : ℕ → Bool) (low count p : ℕ) → low ≤ p → p ≤ low + count → ((q : ℕ) → low ≤ q → q < p → test q ≡ false) →
+    ((test p ≡ true) ⊎ (p ≡ low + count)) → least_from test low count ≡ p
 least_unique test low count p from to fails here =
     let lies = least_lies test low count in
     let is = least_is test low count in
@@ -51,7 +53,8 @@ at_same : (f g : ℕ → Bool) (s t most j : ℕ) → TestsAgree f g s t most �
 at_same f g s t most zero agree short = agree.low (s + 0) (omega arith) ∙ sym (agree.low' (t + 0) (omega arith))
 at_same f g s t most (suc j) agree short = agree.same (suc j) (omega arith) short
 
-pub greatest_moved : (f g : ℕ → Bool) (s t most j : ℕ) → TestsAgree f g s t most → j ≤ suc most → AreMoved s t most (greatest_below f (s + j)) (greatest_below g (t + j))
+pub greatest_moved : (f g : ℕ → Bool) (s t most j : ℕ) → TestsAgree f g s t most → j ≤ suc most →
+    AreMoved s t most (greatest_below f (s + j)) (greatest_below g (t + j))
 greatest_moved f g s t most zero agree short =
     let here : greatest_below f (s + 0) ≡ None = none_below f (s + 0) (λ q less. agree.low q (omega arith)) in
     let there : greatest_below g (t + 0) ≡ None = none_below g (t + 0) (λ q less. agree.low' q (omega arith)) in
@@ -65,10 +68,12 @@ greatest_moved f g s t most (suc j) agree short =
     (⊎_elim
     (λ holds.
     subst (λ a. AreMoved s t most a (greatest_below g (suc (t + j)))) (sym (cond-true (f (s + j)) (Some (s + j)) (greatest_below f (s + j)) holds))
-    (subst (λ b. AreMoved s t most (Some (s + j)) b) (sym (cond-true (g (t + j)) (Some (t + j)) (greatest_below g (t + j)) (sym tests ∙ holds))) (Both j (omega arith))))
+    (subst (λ b. AreMoved s t most (Some (s + j)) b) (sym (cond-true (g (t + j)) (Some (t + j)) (greatest_below g (t + j)) (sym tests ∙ holds)))
+    (Both j (omega arith))))
     (λ fails.
     subst (λ a. AreMoved s t most a (greatest_below g (suc (t + j)))) (sym (cond-false (f (s + j)) (Some (s + j)) (greatest_below f (s + j)) fails))
-    (subst (λ b. AreMoved s t most (greatest_below f (s + j)) b) (sym (cond-false (g (t + j)) (Some (t + j)) (greatest_below g (t + j)) (sym tests ∙ fails))) before))
+    (subst (λ b. AreMoved s t most (greatest_below f (s + j)) b) (sym (cond-false (g (t + j)) (Some (t + j)) (greatest_below g (t + j)) (sym tests ∙ fails)))
+    before))
     (cases_Bool (f (s + j)))))
 
 and_first : (a b : Bool) → a ≡ false → a && b ≡ false
@@ -87,7 +92,8 @@ module _ (table : Table) (x y : List ℕ) (s t : ℕ) (alike : ReadsAlike table 
       let characters : take (search_end table x s - s) (drop s x) ≡ take (search_end table x s - s) (drop t y) =
       alike.characters ∙ ap (λ n. take n (drop t y)) whole in
       ap (λ n. row_after table (take n (drop s x))) here
-      ∙ ap (row_after table) (sym (take-take k (search_end table x s - s) (drop s x) short) ∙ ap (λ l. take k l) characters ∙ take-take k (search_end table x s - s) (drop t y) short)
+      ∙ ap (row_after table) (sym (take-take k (search_end table x s - s) (drop s x) short) ∙ ap (λ l. take k l) characters ∙
+      take-take k (search_end table x s - s) (drop t y) short)
       ∙ ap (λ n. row_after table (take n (drop t y))) (sym there)
 
   in_x : (s < search_end table x s) × (search_end table x s ≤ length x)
@@ -143,11 +149,26 @@ module _ (table : Table) (x y : List ℕ) (s t : ℕ) (alike : ReadsAlike table 
       let look : ℕ → ℕ = λ q. cond (stops table (row_at table y t q)) q (length y + 1) in
       let there : look_end table y t ≡ look (t + (search_end table x s - s)) = ap look moved_end in
       ⊎_elim
-      (λ holds. omega (arith, there, in_x.0, look_stopped holds, cond-true (stops table (row_at table y t (t + (search_end table x s - s)))) (t + (search_end table x s - s)) (length y + 1) (ap (stops table) (sym last_row) ∙ holds)))
-      (λ fails. omega (arith, there, look_open fails, ends_as_far fails, cond-false (stops table (row_at table y t (t + (search_end table x s - s)))) (t + (search_end table x s - s)) (length y + 1) (ap (stops table) (sym last_row) ∙ fails)))
+      (λ holds. omega (
+        arith,
+        there,
+        in_x.0,
+        look_stopped holds,
+        cond-true (stops table (row_at table y t (t + (search_end table x s - s))))
+            (t + (search_end table x s - s)) (length y + 1) (ap (stops table) (sym last_row) ∙ holds),
+      ))
+      (λ fails. omega (
+        arith,
+        there,
+        look_open fails,
+        ends_as_far fails,
+        cond-false (stops table (row_at table y t (t + (search_end table x s - s))))
+            (t + (search_end table x s - s)) (length y + 1) (ap (stops table) (sym last_row) ∙ fails),
+      ))
       (cases_Bool (stops table (row_at table x s (search_end table x s))))
 
-  tests_agree : (passes : ℕ → Bool) → TestsAgree (λ q. ltb s q && passes (row_at table x s q)) (λ q. ltb t q && passes (row_at table y t q)) s t (search_end table x s - s)
+  tests_agree : (passes : ℕ → Bool) → TestsAgree (λ q. ltb s q && passes (row_at table x s q)) (λ q. ltb t q && passes (row_at table y t q)) s t
+      (search_end table x s - s)
   tests_agree passes =
       record {
         low = λ q low. and_first (ltb s q) (passes (row_at table x s q)) (not_past s q low);
@@ -158,9 +179,11 @@ module _ (table : Table) (x y : List ℕ) (s t : ℕ) (alike : ReadsAlike table 
       }
 
   places_moved : (passes : ℕ → Bool) (j : ℕ) → j ≤ suc (search_end table x s - s) →
-      AreMoved s t (search_end table x s - s) (greatest_below (λ q. ltb s q && passes (row_at table x s q)) (s + j)) (greatest_below (λ q. ltb t q && passes (row_at table y t q)) (t + j))
+      AreMoved s t (search_end table x s - s) (greatest_below (λ q. ltb s q && passes (row_at table x s q)) (s + j))
+      (greatest_below (λ q. ltb t q && passes (row_at table y t q)) (t + j))
   places_moved passes j short =
-      greatest_moved (λ q. ltb s q && passes (row_at table x s q)) (λ q. ltb t q && passes (row_at table y t q)) s t (search_end table x s - s) j (tests_agree passes) short
+      greatest_moved (λ q. ltb s q && passes (row_at table x s q)) (λ q. ltb t q && passes (row_at table y t q)) s t (search_end table x s - s) j
+      (tests_agree passes) short
 
   unwrap_moved : (a b : Option ℕ) → AreMoved s t (search_end table x s - s) a b → unwrap_or b (t + 1) + s ≡ unwrap_or a (s + 1) + t
   unwrap_moved _ _ Neither = omega arith
@@ -177,27 +200,37 @@ module _ (table : Table) (x y : List ℕ) (s t : ℕ) (alike : ReadsAlike table 
   -- what a search that ends at z finds
   found_to : List ℕ → ℕ → ℕ → Found
   found_to text start z =
-      cond (completes table (row_at table text start z)) (record { at = cut_place table text start z (accept_of table (row_at table text start z) - 2); list = list_of table (row_at table text start z) }) (found_longest table text start (longest_place table text start z))
+      cond (completes table (row_at table text start z)) (record {
+        at = cut_place table text start z (accept_of table (row_at table text start z) - 2);
+        list =
+            list_of table (row_at table text start z);
+      }) (found_longest table text start (longest_place table text start z))
 
   same_place : s + (search_end table x s - s) ≡ search_end table x s
   same_place = omega (arith, in_x.0)
 
-  cut_alike : (k : ℕ) → AreAlike (record { at = cut_place table x s (search_end table x s) k; list = list_of table (row_at table x s (search_end table x s)) }) (record { at = cut_place table y t (t + (search_end table x s - s)) k; list = list_of table (row_at table y t (t + (search_end table x s - s))) })
+  cut_alike : (k : ℕ) → AreAlike (record { at = cut_place table x s (search_end table x s) k; list = list_of table (row_at table x s (search_end table x s)) })
+      (record { at = cut_place table y t (t + (search_end table x s - s)) k; list = list_of table (row_at table y t (t + (search_end table x s - s))) })
   unfolding AreAlike
   cut_alike k =
       let passes : ℕ → Bool = λ row. has_bit (fronts_of table row) k in
       let moved = places_moved passes (search_end table x s - s) (omega arith) in
-      let at : unwrap_or (greatest_below (λ q. ltb t q && passes (row_at table y t q)) (t + (search_end table x s - s))) (t + 1) + s ≡ unwrap_or (greatest_below (λ q. ltb s q && passes (row_at table x s q)) (s + (search_end table x s - s))) (s + 1) + t =
-      unwrap_moved (greatest_below (λ q. ltb s q && passes (row_at table x s q)) (s + (search_end table x s - s))) (greatest_below (λ q. ltb t q && passes (row_at table y t q)) (t + (search_end table x s - s))) moved in
+      let at : unwrap_or (greatest_below (λ q. ltb t q && passes (row_at table y t q)) (t + (search_end table x s - s))) (t + 1) + s ≡ unwrap_or
+      (greatest_below (λ q. ltb s q && passes (row_at table x s q)) (s + (search_end table x s - s))) (s + 1) + t =
+      unwrap_moved (greatest_below (λ q. ltb s q && passes (row_at table x s q)) (s + (search_end table x s - s)))
+      (greatest_below (λ q. ltb t q && passes (row_at table y t q)) (t + (search_end table x s - s))) moved in
       (at ∙ ap (λ n. unwrap_or (greatest_below (λ q. ltb s q && passes (row_at table x s q)) n) (s + 1) + t) same_place, ap (list_of table) (sym last_row))
 
-  longest_place_alike : AreMoved s t (search_end table x s - s) (longest_place table x s (search_end table x s)) (longest_place table y t (t + (search_end table x s - s)))
+  longest_place_alike : AreMoved s t (search_end table x s - s) (longest_place table x s (search_end table x s))
+      (longest_place table y t (t + (search_end table x s - s)))
   longest_place_alike =
       let passes : ℕ → Bool = λ row. eqb (accept_of table row) 1 in
       let here : s + suc (search_end table x s - s) ≡ search_end table x s + 1 = omega (arith, same_place) in
       let there : t + suc (search_end table x s - s) ≡ t + (search_end table x s - s) + 1 = omega arith in
-      subst (λ n. AreMoved s t (search_end table x s - s) (greatest_below (λ q. ltb s q && passes (row_at table x s q)) n) (longest_place table y t (t + (search_end table x s - s)))) here
-      (subst (λ n. AreMoved s t (search_end table x s - s) (greatest_below (λ q. ltb s q && passes (row_at table x s q)) (s + suc (search_end table x s - s))) (greatest_below (λ q. ltb t q && passes (row_at table y t q)) n)) there
+      subst (λ n. AreMoved s t (search_end table x s - s) (greatest_below (λ q. ltb s q && passes (row_at table x s q)) n)
+      (longest_place table y t (t + (search_end table x s - s)))) here
+      (subst (λ n. AreMoved s t (search_end table x s - s) (greatest_below (λ q. ltb s q && passes (row_at table x s q)) (s + suc (search_end table x s - s)))
+      (greatest_below (λ q. ltb t q && passes (row_at table y t q)) n)) there
       (places_moved passes (suc (search_end table x s - s)) (omega arith)))
 
   found_alike : AreAlike (found table x s) (found_to y t (t + (search_end table x s - s)))
@@ -213,7 +246,8 @@ module _ (table : Table) (x y : List ℕ) (s t : ℕ) (alike : ReadsAlike table 
       (λ holds.
       subst (λ f. AreAlike f (found_to y t z)) (sym (cond-true (completes table last) cut longest holds))
       (subst (λ f. AreAlike cut f) (sym (cond-true (completes table (row_at table y t z)) cut' longest' (ap (completes table) (sym last_row) ∙ holds)))
-      (subst (λ row. AreAlike cut (record { at = cut_place table y t z (accept_of table row - 2); list = list_of table (row_at table y t z) })) last_row (cut_alike (accept_of table last - 2)))))
+      (subst (λ row. AreAlike cut (record { at = cut_place table y t z (accept_of table row - 2); list = list_of table (row_at table y t z) })) last_row
+      (cut_alike (accept_of table last - 2)))))
       (λ fails.
       subst (λ f. AreAlike f (found_to y t z)) (sym (cond-false (completes table last) cut longest fails))
       (subst (λ f. AreAlike longest f) (sym (cond-false (completes table (row_at table y t z)) cut' longest' (ap (completes table) (sym last_row) ∙ fails)))

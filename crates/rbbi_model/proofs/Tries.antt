@@ -1,5 +1,6 @@
 -- The tries back from a place end with one that settles it.
-use Rattle.std.proofs.Common.{◌≡◌, ℕ, zero, suc, ◌+◌, ◌-◌, ◌*◌, ◌<◌, ◌≤◌, ◌⊎◌, true, eqb, List, [], ◌∷◌, Option, Some, None, length, sym, refl, ap, ◌∙◌, inl, inr, ⊎_elim, arith}
+use Rattle.std.proofs.Common.{◌≡◌, ℕ, zero, suc, ◌+◌, ◌-◌, ◌*◌, ◌<◌, ◌≤◌, ◌⊎◌, true, eqb, List, [], ◌∷◌, Option, Some, None, length, sym, refl, ap, ◌∙◌, inl}
+use Rattle.std.proofs.Common.{inr, ⊎_elim, arith}
 use Rattle.std.specs.Prelude.{unwrap_or, nat_le, nat_lt, ◌&&◌}
 use Rattle.std.specs.List.{list_any}
 use Rattle.std.proofs.lemmas.Bool.{cond_both, or_left, eq-eqb, false≢true}
@@ -28,12 +29,14 @@ module _ (table : Table) (x : List ℕ) (i : ℕ) where
   some_tries : (most q : ℕ) → 0 < length (tries_from table x i most q)
   some_tries zero q = omega arith
   some_tries (suc most) q =
-      cond_both (settles table x i q) (q ∷ []) (q ∷ tries_from table x i most (anchor_below table x (2 * q + 1 - i))) (λ l. 0 < length l) (λ _. omega arith) (λ _. omega arith)
+      cond_both (settles table x i q) (q ∷ []) (q ∷ tries_from table x i most (anchor_below table x (2 * q + 1 - i))) (λ l. 0 < length l) (λ _. omega arith)
+      (λ _. omega arith)
 
   settled : (most q : ℕ) → q < i → q ≤ most → settles table x i (last_of (tries_from table x i most q)) ≡ true
   settled zero q before few = settles_zero q (omega arith)
   settled (suc most) q before few =
-      cond_both (settles table x i q) (q ∷ []) (q ∷ tries_from table x i most (anchor_below table x (2 * q + 1 - i))) (λ l. settles table x i (last_of l) ≡ true)
+      cond_both (settles table x i q) (q ∷ []) (q ∷ tries_from table x i most (anchor_below table x (2 * q + 1 - i)))
+      (λ l. settles table x i (last_of l) ≡ true)
       (λ holds. holds)
       (λ fails.
       let next : ℕ = anchor_below table x (2 * q + 1 - i) in

@@ -9,7 +9,8 @@ module _ (rules : List Rule) (x : List ℕ) where
   -- the status numbers at a place are determined
   pub same_tags : (s e : ℕ) (tags others : List ℕ) → AreTags rules x s e tags → AreTags rules x s e others → tags ≡ others
   same_tags s e tags others are are' =
-      rising_same tags others are.rising are'.rising (λ tag here. (are'.exactly tag).1 ((are.exactly tag).0 here)) (λ tag here. (are.exactly tag).1 ((are'.exactly tag).0 here))
+      rising_same tags others are.rising are'.rising (λ tag here. (are'.exactly tag).1 ((are.exactly tag).0 here))
+      (λ tag here. (are.exactly tag).1 ((are'.exactly tag).0 here))
 
   -- boundaries with the same place and statuses are the same
   same_boundary : (b c : Boundary) → b.at ≡ c.at → b.statuses ≡ c.statuses → b ≡ c
@@ -36,16 +37,21 @@ module _ (rules : List Rule) (x : List ℕ) where
       let high = longest.greatest c.at longest'.ends.0 longest'.ends.1 in
       let low = longest'.greatest b.at longest.ends.0 longest.ends.1 in
       let same_at : c.at ≡ b.at = omega arith in
-      same_boundary b c (sym same_at) (same_tags s b.at b.statuses c.statuses longest.statuses (subst (λ e. AreTags rules x s e c.statuses) same_at longest'.statuses))
+      same_boundary b c (sym same_at) (same_tags s b.at b.statuses c.statuses longest.statuses
+      (subst (λ e. AreTags rules x s e c.statuses) same_at longest'.statuses))
 
   -- the next boundary is determined
   pub same_next : (s : ℕ) (b c : Boundary) → IsNext rules x s b → IsNext rules x s c → b ≡ c
   same_next s b c =
       ⊎_elim
-      (λ cut. ⊎_elim (same_cut s b c cut) (⊎_elim (λ longest'. absurd (longest'.no_look_ahead cut.e cut.number cut.ends)) (λ single'. absurd (single'.no_end cut.e cut.number cut.ends.ends))))
+      (λ cut. ⊎_elim (same_cut s b c cut) (⊎_elim (λ longest'. absurd (longest'.no_look_ahead cut.e cut.number cut.ends))
+      (λ single'. absurd (single'.no_end cut.e cut.number cut.ends.ends))))
       (⊎_elim
-      (λ longest. ⊎_elim (λ cut'. absurd (longest.no_look_ahead cut'.e cut'.number cut'.ends)) (⊎_elim (same_longest s b c longest) (λ single'. absurd (single'.no_end b.at longest.ends.0 longest.ends.1))))
-      (λ single. ⊎_elim (λ cut'. absurd (single.no_end cut'.e cut'.number cut'.ends.ends)) (⊎_elim (λ longest'. absurd (single.no_end c.at longest'.ends.0 longest'.ends.1)) (λ single'. same_boundary b c (single.at ∙ sym single'.at) (single.statuses ∙ sym single'.statuses)))))
+      (λ longest. ⊎_elim (λ cut'. absurd (longest.no_look_ahead cut'.e cut'.number cut'.ends))
+      (⊎_elim (same_longest s b c longest) (λ single'. absurd (single'.no_end b.at longest.ends.0 longest.ends.1))))
+      (λ single. ⊎_elim (λ cut'. absurd (single.no_end cut'.e cut'.number cut'.ends.ends))
+      (⊎_elim (λ longest'. absurd (single.no_end c.at longest'.ends.0 longest'.ends.1))
+      (λ single'. same_boundary b c (single.at ∙ sym single'.at) (single.statuses ∙ sym single'.statuses)))))
 
   same_following : (last : Boundary) (bs cs : List Boundary) → Follow rules x last bs → Follow rules x last cs → bs ≡ cs
   same_following last [] [] follow follow' = refl

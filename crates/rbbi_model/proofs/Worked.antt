@@ -12,7 +12,8 @@ use Rattle.rbbi_model.specs.SetTrees.{SetTree, Add, Minus, Span, set_of, InSet}
 use Rattle.rbbi_model.specs.Runs.{is_anchor, Run, IsTrueRun, ShowsAfter, ShowsBefore}
 use Rattle.rbbi_model.specs.Costs.{forward_cost, tries, back_cost, script_cost}
 use Rattle.rbbi_model.specs.TableFile.{spelling}
-use Rattle.rbbi_model.specs.Lines.{reply_lines, fault_line_at, fault_line_in, fault_line_within, rules_name, table_name, all_reply_lines, boundary_lines, compile_line, row_of, column_of}
+use Rattle.rbbi_model.specs.Lines.{reply_lines, fault_line_at, fault_line_in, fault_line_within, rules_name, table_name, all_reply_lines, boundary_lines}
+use Rattle.rbbi_model.specs.Lines.{compile_line, row_of, column_of}
 
 -- the table of the rules `a;`
 abbrev pub table_a : Table
@@ -88,7 +89,8 @@ after_edit = bound 0 0 ∷ bound 3 200 ∷ bound 4 0 ∷ bound 5 200 ∷ bound 6
 abbrev by_hand : List ℕ → List Boundary
 by_hand x = if slice_index x 3 == 45 then after_edit else before_edit
 
-words_script : all_reply_lines (replies_by edit by_hand (opened (codes "can't 32.3.")) (Ask (Following 2) ∷ Ask Status ∷ Ask (Preceding 10) ∷ Ask (IsBoundary 7) ∷ Ask Current ∷ Replace 3 1 (codes "-")
+words_script : all_reply_lines (replies_by edit by_hand (opened (codes "can't 32.3."))
+    (Ask (Following 2) ∷ Ask Status ∷ Ask (Preceding 10) ∷ Ask (IsBoundary 7) ∷ Ask Current ∷ Replace 3 1 (codes "-")
     ∷ Ask Previous ∷ Ask Next ∷ Ask Status ∷ Ask Next ∷ Ask Statuses ∷ ShowText ∷ Replace 11 1 [] ∷ []))
     ≡ codes "5\n200\n6\nno\n10\nok 11\ndone\n3\n200\n4\n0\ncan-t 32.3.\noutside\n"
 unfolding digits encode
@@ -116,7 +118,8 @@ costs_in_abab : (forward_cost table_a abab 3 ≡ 5) × (tries table_a abab 4 ≡
 costs_in_abab = (refl, refl, refl)
 
 -- a repeated question costs nothing, but where the answer was 0 it is charged again
-cost_of_scripts : (script_cost table_a ab (Ask (Following 0) ∷ Ask (Following 0) ∷ ShowText ∷ []) ≡ 5) × (script_cost table_a ab (Ask (Preceding 1) ∷ Ask (Preceding 1) ∷ []) ≡ 2 * back_cost table_a ab 1)
+cost_of_scripts : (script_cost table_a ab (Ask (Following 0) ∷ Ask (Following 0) ∷ ShowText ∷ []) ≡ 5) ×
+    (script_cost table_a ab (Ask (Preceding 1) ∷ Ask (Preceding 1) ∷ []) ≡ 2 * back_cost table_a ab 1)
 cost_of_scripts = (refl, refl)
 
 -- the table of the rules `a+ / b; b;`
@@ -125,9 +128,11 @@ table_aab =
     record {
       categories = 3;
       slashes = 1;
-      ranges = record { start = 0; category = 0 } ∷ record { start = 0x61; category = 1 } ∷ record { start = 0x62; category = 2 } ∷ record { start = 0x63; category = 0 } ∷ [];
+      ranges = record { start = 0; category = 0 } ∷ record { start = 0x61; category = 1 } ∷ record { start = 0x62; category = 2 } ∷ record
+          { start = 0x63; category = 0 } ∷ [];
       lists = (0 ∷ []) ∷ [];
-      rows = record { accept = 0; fronts = 0; list = 0 } ∷ record { accept = 0; fronts = 0; list = 0 } ∷ record { accept = 0; fronts = 1; list = 0 } ∷ record { accept = 1; fronts = 0; list = 0 } ∷ record { accept = 2; fronts = 0; list = 0 } ∷ [];
+      rows = record { accept = 0; fronts = 0; list = 0 } ∷ record { accept = 0; fronts = 0; list = 0 } ∷ record { accept = 0; fronts = 1; list = 0 } ∷ record
+          { accept = 1; fronts = 0; list = 0 } ∷ record { accept = 2; fronts = 0; list = 0 } ∷ [];
       cells = 0 ∷ 0 ∷ 0 ∷ 0 ∷ 2 ∷ 3 ∷ 0 ∷ 2 ∷ 4 ∷ 0 ∷ 0 ∷ 0 ∷ 0 ∷ 0 ∷ 0 ∷ [];
       safe = 0xCF ∷ 0x01 ∷ [];
     }
@@ -162,22 +167,47 @@ run_ab_true =
 -- it shows the first boundary past 0, since it leads, that past 1, and the last one before 2
 shows_past_0 : ShowsAfter run_ab 0 1
 shows_past_0 =
-    record { before = []; entry = record { at = 1; status = 0; reach = 2 }; after = record { at = 2; status = 0; reach = 2 } ∷ []; whole = refl; at = refl; past = omega arith; nearest = inr (refl, refl, omega arith) }
+    record {
+      before = [];
+      entry = record { at = 1; status = 0; reach = 2 };
+      after = record { at = 2; status = 0; reach = 2 } ∷ [];
+      whole = refl;
+      at = refl;
+      past = omega arith;
+      nearest = inr (refl, refl, omega arith);
+    }
 
 shows_past_1 : ShowsAfter run_ab 1 2
 shows_past_1 =
-    record { before = record { at = 1; status = 0; reach = 2 } ∷ []; entry = record { at = 2; status = 0; reach = 2 }; after = []; whole = refl; at = refl; past = omega arith; nearest = inl (omega arith) }
+    record {
+      before = record { at = 1; status = 0; reach = 2 } ∷ [];
+      entry = record { at = 2; status = 0; reach = 2 };
+      after = [];
+      whole = refl;
+      at = refl;
+      past = omega arith;
+      nearest = inl (omega arith);
+    }
 
 shows_before_2 : ShowsBefore ab run_ab 2 1
 shows_before_2 =
-    record { before = []; entry = record { at = 1; status = 0; reach = 2 }; after = record { at = 2; status = 0; reach = 2 } ∷ []; whole = refl; at = refl; short_of = omega arith; nearest = inl (omega arith) }
+    record {
+      before = [];
+      entry = record { at = 1; status = 0; reach = 2 };
+      after = record { at = 2; status = 0; reach = 2 } ∷ [];
+      whole = refl;
+      at = refl;
+      short_of = omega arith;
+      nearest = inl (omega arith);
+    }
 
 -- the set `[[ace][bdf] - [abc][def]]` holds `d`: what is added after the difference stays
 abbrev letters : ℕ → ℕ → SetTree
 letters low high = set_of false (record { join = Add; item = Span (record { low = low; high = high }) } ∷ [])
 
 abbrev d_to_f : SetTree
-d_to_f = set_of false (record { join = Add; item = letters 97 102 } ∷ record { join = Minus; item = letters 97 99 } ∷ record { join = Add; item = letters 100 102 } ∷ [])
+d_to_f = set_of false (record { join = Add; item = letters 97 102 } ∷ record { join = Minus; item = letters 97 99 } ∷ record
+    { join = Add; item = letters 100 102 } ∷ [])
 
 d_in_set : (HasProperty : List ℕ → Option (List ℕ) → ℕ → Type 0) → InSet HasProperty d_to_f 100
 d_in_set HasProperty = inr (inr (omega arith, omega arith))
@@ -192,7 +222,8 @@ unfolding encode
 escapes = refl
 
 -- lines of faults
-fault_lines : (fault_line_within rules_name 1 13 (codes "Redefined") ≡ codes "rules:1:13: Redefined\n") × (fault_line_at table_name (codes "Short") 7 ≡ codes "table: Short 7\n") × (fault_line_in (codes "t.txt") 3 (codes "BadLine") ≡ codes "t.txt:3: BadLine\n")
+fault_lines : (fault_line_within rules_name 1 13 (codes "Redefined") ≡ codes "rules:1:13: Redefined\n") ×
+    (fault_line_at table_name (codes "Short") 7 ≡ codes "table: Short 7\n") × (fault_line_in (codes "t.txt") 3 (codes "BadLine") ≡ codes "t.txt:3: BadLine\n")
 unfolding digits
 fault_lines = (refl, refl, refl)
 

@@ -25,15 +25,18 @@ no_fronts (suc (suc zero)) = omega arith
 no_fronts (suc (suc (suc row))) = omega arith
 
 -- row 1 leads to different rows after an `a` and after another code point
-told_apart : (c d : ℕ) → IsCodePoint d → c ≡ 97 → (d ≡ 97 → ⊥) → step table_a 1 (category_of table_a.ranges c) ≡ step table_a 1 (category_of table_a.ranges d) → ⊥
+told_apart : (c d : ℕ) → IsCodePoint d → c ≡ 97 → (d ≡ 97 → ⊥) → step table_a 1 (category_of table_a.ranges c) ≡ step table_a 1 (category_of table_a.ranges d) →
+    ⊥
 told_apart c d small is other same =
     omega (arith, sym (ap (λ k. step table_a 1 k) (category_a c is)) ∙ same ∙ ap (λ k. step table_a 1 k) (other_category d small other))
 
 same_category : (c d : ℕ) → IsCodePoint c → IsCodePoint d → LeadAlike table_a c d → category_of table_a.ranges c ≡ category_of table_a.ranges d
 same_category c d small small' alike =
     ⊎_elim
-    (λ is. ⊎_elim (λ is'. category_a c is ∙ sym (category_a d is')) (λ other'. absurd (told_apart c d small' is other' (alike 1 (omega arith)))) (cases_eq d 97))
-    (λ other. ⊎_elim (λ is'. absurd (told_apart d c small is' other (sym (alike 1 (omega arith))))) (λ other'. other_category c small other ∙ sym (other_category d small' other')) (cases_eq d 97))
+    (λ is. ⊎_elim (λ is'. category_a c is ∙ sym (category_a d is')) (λ other'. absurd (told_apart c d small' is other' (alike 1 (omega arith))))
+    (cases_eq d 97))
+    (λ other. ⊎_elim (λ is'. absurd (told_apart d c small is' other (sym (alike 1 (omega arith)))))
+    (λ other'. other_category c small other ∙ sym (other_category d small' other')) (cases_eq d 97))
     (cases_eq c 97)
 
 canonical_a : IsCanonical table_a table_a

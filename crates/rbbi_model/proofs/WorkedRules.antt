@@ -1,5 +1,6 @@
 -- The rules `a;` and their table, worked by hand: the table is compiled from the rules, and both give the boundaries of `ab`.
-use Rattle.std.proofs.Common.{◌≡◌, ◌≢◌, ℕ, zero, suc, ◌+◌, ◌-◌, ◌<◌, ◌≤◌, ◌⊎◌, ◌↔◌, false, Some, None, List, [], ◌∷◌, length, drop, get_or, map, sym, refl, ap, ◌∙◌, subst, inl, inr, ⊎_elim, arith}
+use Rattle.std.proofs.Common.{◌≡◌, ◌≢◌, ℕ, zero, suc, ◌+◌, ◌-◌, ◌<◌, ◌≤◌, ◌⊎◌, ◌↔◌, false, Some, None, List, [], ◌∷◌, length, drop, get_or, map, sym, refl, ap}
+use Rattle.std.proofs.Common.{◌∙◌, subst, inl, inr, ⊎_elim, arith}
 use Rattle.std.specs.Prelude.{slice_range, IsTrue, unwrap_or}
 use Rattle.std.proofs.lemmas.Bool.{cases_eq, cases_order, false≢true}
 use Rattle.std.proofs.lemmas.List.{length-take, length-drop, take_all}
@@ -56,8 +57,11 @@ is_word_a = (λ same. absurd (omega (arith, ap length same)), (97, inl (omega ar
 -- where a rule ends, an `a` stands
 ends_a : (x : List ℕ) (s e number : ℕ) → EndsAt rules_a x s e number → (slice_range x s e ≡ 97 ∷ []) × (s ≤ e) × (e ≤ length x)
 ends_a x s e number ends =
-    let at = (unchained rules_a x s e number none_chained).0 ends in
-    (word_a (slice_range x s e) (subst (λ r. IsWordOf r (slice_range x s e)) (sym (is_rule_a number at.rule at.is_rule).1) at.piece.word), at.piece.starts, at.piece.ends)
+    let at = (unchained rules_a x s e number none_chained).0 ends in (
+      word_a (slice_range x s e) (subst (λ r. IsWordOf r (slice_range x s e)) (sym (is_rule_a number at.rule at.is_rule).1) at.piece.word),
+      at.piece.starts,
+      at.piece.ends,
+    )
 
 -- so it is one character long
 one_long : (x : List ℕ) (s e number : ℕ) → EndsAt rules_a x s e number → e ≡ s + 1
@@ -179,9 +183,31 @@ small_accept (suc (suc zero)) = omega arith
 small_accept (suc (suc (suc row))) = omega arith
 
 row_valid : (row : ℕ) → row < 3 → IsValidRow table_a row
-row_valid zero r = record { accept = omega arith; fronts = omega arith; list = omega arith; next = λ c short. cell_within 0 c (omega arith) short; unended = λ _. refl; completed = λ many. absurd (omega (arith, many)) }
-row_valid (suc zero) r = record { accept = omega arith; fronts = omega arith; list = omega arith; next = λ c short. cell_within 1 c (omega arith) short; unended = λ _. refl; completed = λ many. absurd (omega (arith, many)) }
-row_valid (suc (suc zero)) r = record { accept = omega arith; fronts = omega arith; list = omega arith; next = λ c short. cell_within 2 c (omega arith) short; unended = λ _. refl; completed = λ many. absurd (omega (arith, many)) }
+row_valid zero r = record {
+  accept = omega arith;
+  fronts = omega arith;
+  list = omega arith;
+  next = λ c short. cell_within 0 c (omega arith) short;
+  unended =
+      λ _. refl;
+  completed = λ many. absurd (omega (arith, many));
+}
+row_valid (suc zero) r = record {
+  accept = omega arith;
+  fronts = omega arith;
+  list = omega arith;
+  next = λ c short. cell_within 1 c (omega arith) short;
+  unended = λ _. refl;
+  completed = λ many. absurd (omega (arith, many));
+}
+row_valid (suc (suc zero)) r = record {
+  accept = omega arith;
+  fronts = omega arith;
+  list = omega arith;
+  next = λ c short. cell_within 2 c (omega arith) short;
+  unended = λ _. refl;
+  completed = λ many. absurd (omega (arith, many));
+}
 row_valid (suc (suc (suc row))) r = absurd (omega (arith, r))
 
 stop_leads : (category : ℕ) → category < 2 → step table_a 0 category ≡ 0
@@ -205,10 +231,31 @@ table_valid =
     record {
       well_formed = record { cells = refl; safe = refl; bytes = (omega arith, tt) };
       ranges = ranges_valid;
-      lists = record { some = omega arith; few = omega arith; each = (record { some = omega arith; few = omega arith; rising = tt; small = (omega arith, tt) }, tt); first = refl; in_order = tt };
-      rows = record { some = omega arith; few = omega arith; few_slashes = omega arith; each = row_valid; stop = (refl, refl, refl); start = (refl, refl, refl); stop_leads = stop_leads };
+      lists = record {
+        some = omega arith;
+        few = omega arith;
+        each = (
+          record { some = omega arith; few = omega arith; rising = tt; small = (omega arith, tt) },
+          tt,
+        );
+        first = refl;
+        in_order = tt;
+      };
+      rows = record {
+        some = omega arith;
+        few = omega arith;
+        few_slashes = omega arith;
+        each = row_valid;
+        stop = (refl, refl, refl);
+        start = (refl, refl, refl);
+        stop_leads = stop_leads;
+      };
       fronts = λ way k is completed. absurd (omega (arith, completed, small_accept (row_along table_a 1 way)));
-      safe = record { exactly = λ first second f s. (λ _. (0, λ from r is. open_leads first second from f s r), λ _. all_safe first second f s); filling = no_filling };
+      safe = record {
+        exactly = λ first second f s. (λ _. (0, λ from r is. open_leads first second from f s r), λ _. all_safe first second f s);
+        filling =
+            no_filling;
+      };
     }
 
 -- the marks of the rules after a word: an `a` ends, and nothing else
@@ -230,7 +277,12 @@ marks_of_a =
     inr (
       none_before (97 ∷ []),
       record {
-        accept = inr (inl (record { number = 0; ends = Word 1 0 rule_a refl (record { starts = omega arith; ends = omega arith; word = is_word_a }); no_look_ahead = λ other. no_look_ahead (97 ∷ []) 0 1 other; is_one = refl }));
+        accept = inr (inl (record {
+          number = 0;
+          ends = Word 1 0 rule_a refl (record { starts = omega arith; ends = omega arith; word = is_word_a });
+          no_look_ahead = λ other. no_look_ahead (97 ∷ []) 0 1 other;
+          is_one = refl;
+        }));
         fronts = λ _ k. no_fronts_here (97 ∷ []) k;
         no_fronts = λ _. refl;
         statuses = tags_a (97 ∷ []) 0 1;
@@ -254,7 +306,8 @@ marks_of_others w other =
 stuck : (w : List ℕ) → row_along table_a 0 (map (category_of table_a.ranges) w) ≡ 0
 stuck [] = refl
 stuck (c ∷ w) =
-    ap (λ row. row_along table_a row (map (category_of table_a.ranges) w)) (stop_leads (category_of table_a.ranges c) (category_within 2 table_a.ranges c ranges_valid)) ∙ stuck w
+    ap (λ row. row_along table_a row (map (category_of table_a.ranges) w))
+    (stop_leads (category_of table_a.ranges c) (category_within 2 table_a.ranges c ranges_valid)) ∙ stuck w
 
 pub other_category : (c : ℕ) → IsCodePoint c → (c ≡ 97 → ⊥) → category_of table_a.ranges c ≡ 0
 other_category c small other =
@@ -270,7 +323,8 @@ row_of_others [] is some other = absurd (some refl)
 row_of_others (c ∷ []) is some other = ap (λ k. step table_a 1 k) (other_category c is.0 (λ same. other (ap (λ d. d ∷ []) same)))
 row_of_others (c ∷ d ∷ w) is some other =
     ap (λ row. row_along table_a row (map (category_of table_a.ranges) w))
-    (open_leads (category_of table_a.ranges c) (category_of table_a.ranges d) 1 (category_within 2 table_a.ranges c ranges_valid) (category_within 2 table_a.ranges d ranges_valid) (omega arith))
+    (open_leads (category_of table_a.ranges c) (category_of table_a.ranges d) 1 (category_within 2 table_a.ranges c ranges_valid)
+    (category_within 2 table_a.ranges d ranges_valid) (omega arith))
     ∙ stuck w
 
 is_a_or_not : (w : List ℕ) → (w ≡ 97 ∷ []) ⊎ (w ≡ 97 ∷ [] → ⊥)
@@ -297,7 +351,8 @@ reached (suc zero) some short = ([], tt, refl)
 reached (suc (suc zero)) some short = (1 ∷ [], (omega arith, tt), refl)
 reached (suc (suc (suc row))) some short = absurd (omega (arith, short))
 
-apart : (this that : ℕ) → this < that → that < 3 → ¬ ((this ≡ 0) × (that ≡ 1)) → (way : List ℕ) × IsWay table_a way × (marks_of table_a (row_along table_a this way) ≢ marks_of table_a (row_along table_a that way))
+apart : (this that : ℕ) → this < that → that < 3 → ¬ ((this ≡ 0) × (that ≡ 1)) → (way : List ℕ) × IsWay table_a way ×
+    (marks_of table_a (row_along table_a this way) ≢ marks_of table_a (row_along table_a that way))
 apart zero zero less short differ = absurd (omega (arith, less))
 apart zero (suc zero) less short differ = absurd (differ (refl, refl))
 apart zero (suc (suc zero)) less short differ = ([], tt, λ same. omega (arith, ap (λ m. m.accept) same))
@@ -330,13 +385,27 @@ alike_a c d small small' =
     ⊎_elim
     (λ is.
     ⊎_elim
-    (λ is'. (λ _. ((λ _. subst (λ e. Has set_a e) (sym is') has_a, λ _. subst (λ e. Has set_a e) (sym is) has_a), tt), λ _. category_a c is ∙ sym (category_a d is')))
-    (λ other. (λ same. absurd (omega (arith, category_a c is, other_category d small' other, same)), λ alike. absurd (other (in_set_a d (alike.0.0 (subst (λ e. Has set_a e) (sym is) has_a))))))
+    (λ is'. (
+      λ _. ((λ _. subst (λ e. Has set_a e) (sym is') has_a, λ _. subst (λ e. Has set_a e) (sym is) has_a), tt),
+      λ _. category_a c is ∙
+          sym (category_a d is'),
+    ))
+    (λ other. (
+      λ same. absurd (omega (arith, category_a c is, other_category d small' other, same)),
+      λ alike. absurd (other (in_set_a d (alike.0.0 (subst (λ e. Has set_a e) (sym is) has_a)))),
+    ))
     (cases_eq d 97))
     (λ other.
     ⊎_elim
-    (λ is'. (λ same. absurd (omega (arith, category_a d is', other_category c small other, same)), λ alike. absurd (other (in_set_a c (alike.0.1 (subst (λ e. Has set_a e) (sym is') has_a))))))
-    (λ other'. (λ _. ((λ has. absurd (other (in_set_a c has)), λ has. absurd (other' (in_set_a d has))), tt), λ _. other_category c small other ∙ sym (other_category d small' other')))
+    (λ is'. (
+      λ same. absurd (omega (arith, category_a d is', other_category c small other, same)),
+      λ alike. absurd (other (in_set_a c (alike.0.1 (subst (λ e. Has set_a e) (sym is') has_a)))),
+    ))
+    (λ other'. (
+      λ _. ((λ has. absurd (other (in_set_a c has)), λ has. absurd (other' (in_set_a d has))), tt),
+      λ _. other_category c small other ∙
+          sym (other_category d small' other'),
+    ))
     (cases_eq d 97))
     (cases_eq c 97)
   where
@@ -346,7 +415,10 @@ alike_a c d small small' =
 classes : AreClasses rules_a table_a.categories table_a.ranges
 classes =
     record {
-      none = λ c small. (λ is read. omega (arith, is, category_a c (read_a c read)), λ unread. other_category c small (λ is. unread (subst (λ d. IsRead rules_a d) (sym is) is_read_a)));
+      none = λ c small. (
+        λ is read. omega (arith, is, category_a c (read_a c read)),
+        λ unread. other_category c small (λ is. unread (subst (λ d. IsRead rules_a d) (sym is) is_read_a)),
+      );
       alike = alike_a;
       used = λ category some short. (97, omega arith, (let is : 1 ≡ category = omega arith in is));
       numbered = λ category later d some less small is. absurd (omega (arith, category_within 2 table_a.ranges d ranges_valid, is, some, less));

@@ -18,7 +18,8 @@ pub record IsPiece (x : List ℕ) (s e : ℕ) (IsSuch : List ℕ → Type 0) : T
 -- and a word of it lies from the character before m on.
 pub data EndsAt (rules : List Rule) (x : List ℕ) (s : ℕ) : ℕ → ℕ → Type 0 where
   Word : (e number : ℕ) (rule : Rule) → IsRule rules number rule → IsPiece x s e (IsWordOf rule) → EndsAt rules x s e number
-  Chained : (m before e number : ℕ) (rule : Rule) → EndsAt rules x s m before → IsRule rules number rule → rule.chained_into ≡ true → IsPiece x (m - 1) e (IsWordOf rule) → EndsAt rules x s e number
+  Chained : (m before e number : ℕ) (rule : Rule) → EndsAt rules x s m before → IsRule rules number rule → rule.chained_into ≡ true →
+      IsPiece x (m - 1) e (IsWordOf rule) → EndsAt rules x s e number
 
 -- some rule ends at m from s, this one may be chained into, and a word of its front lies from the character before m on
 pub record FrontIsChained (rules : List Rule) (x : List ℕ) (s q : ℕ) (rule : Rule) : Type 0 where

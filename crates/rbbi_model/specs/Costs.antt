@@ -1,5 +1,6 @@
 -- How many characters each question and command may read.
-use Rattle.std.specs.Prelude.{ℕ, zero, suc, ◌+◌, ◌-◌, ◌*◌, min, Bool, false, not, ◌&&◌, ◌||◌, List, [], ◌∷◌, length, filter, sum_by, Option, Some, None, unwrap_or, if◌then◌else◌, ◌==◌, nat_lt, nat_le}
+use Rattle.std.specs.Prelude.{ℕ, zero, suc, ◌+◌, ◌-◌, ◌*◌, min, Bool, false, not, ◌&&◌, ◌||◌, List, [], ◌∷◌, length, filter, sum_by, Option, Some, None}
+use Rattle.std.specs.Prelude.{unwrap_or, if◌then◌else◌, ◌==◌, nat_lt, nat_le}
 use Rattle.std.specs.List.{list_any}
 use Rattle.rbbi_model.specs.Places.{greatest_below}
 use Rattle.rbbi_model.specs.Tables.{Table}

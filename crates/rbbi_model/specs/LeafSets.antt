@@ -1,5 +1,6 @@
 -- Positions, which number the leaves over all rules, and the sets of positions by which a word's last code point is read.
-use Rattle.std.specs.Prelude.{◌≡◌, ◌≢◌, ℕ, ◌+◌, ◌-◌, ◌<◌, true, ◌⊎◌, ◌↔◌, Some, List, [], ◌∷◌, ◌++◌, length, take, sum_by, flat_map, slice_get, slice_range, MatchOption, AllPairs}
+use Rattle.std.specs.Prelude.{◌≡◌, ◌≢◌, ℕ, ◌+◌, ◌-◌, ◌<◌, true, ◌⊎◌, ◌↔◌, Some, List, [], ◌∷◌, ◌++◌, length, take, sum_by, flat_map, slice_get, slice_range}
+use Rattle.std.specs.Prelude.{MatchOption, AllPairs}
 use Rattle.std.specs.List.{AllByRecursion, AllZip}
 use Rattle.std.specs.Option.{option_map_or}
 use Rattle.rbbi_model.specs.Words.{IsWord}

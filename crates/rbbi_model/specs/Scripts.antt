@@ -66,7 +66,8 @@ module _ (edit_by : List ℕ → ℕ → ℕ → List ℕ → Edit) where
   AreRepliesBy AreBoundariesOf state [] (reply ∷ replies) = ⊥
   AreRepliesBy AreBoundariesOf state (command ∷ commands) [] = ⊥
   AreRepliesBy AreBoundariesOf state (command ∷ commands) (reply ∷ replies) =
-      (boundaries : List Boundary) × AreBoundariesOf state.text boundaries × (reply ≡ (turn_by boundaries state command).reply) × AreRepliesBy AreBoundariesOf (turn_by boundaries state command).state commands replies
+      (boundaries : List Boundary) × AreBoundariesOf state.text boundaries × (reply ≡ (turn_by boundaries state command).reply) ×
+      AreRepliesBy AreBoundariesOf (turn_by boundaries state command).state commands replies
 
   -- the replies to the commands, where the boundaries of each text are those that a function gives
   abbrev pub replies_by : (List ℕ → List Boundary) → State → List Command → List Reply

@@ -89,7 +89,8 @@ two_fields first parts next others e =
 
 -- two fields or more
 pub row_of_fields-more : (xs : List ℕ) → position_or_len (λ b. eqb b 59) xs < length xs →
-    row_of_fields (slice_split (λ b. eqb b 59) xs) ≡ row_with (range_of (trim (before_first (λ b. eqb b 59) xs))) (trim (last_part (slice_split (λ b. eqb b 59) (after_first (λ b. eqb b 59) xs))))
+    row_of_fields (slice_split (λ b. eqb b 59) xs) ≡ row_with (range_of (trim (before_first (λ b. eqb b 59) xs)))
+    (trim (last_part (slice_split (λ b. eqb b 59) (after_first (λ b. eqb b 59) xs))))
 row_of_fields-more xs l =
     let parts = split_cons (λ b. eqb b 59) (after_first (λ b. eqb b 59) xs) in
     ap row_of_fields (split_some (λ b. eqb b 59) xs l)

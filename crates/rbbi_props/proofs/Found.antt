@@ -35,7 +35,8 @@ covers_pairs (pair ∷ pairs) c = ap (λ b. is_between pair.0 pair.1 c || b) (co
 
 -- a set of the given ranges holds what the pairs hold
 pub set_members : (pairs : List (ℕ × ℕ)) (test : ℕ → Bool) (ranges set : List Range) → HasExactly pairs test →
-    ranges ≡ map (λ pair. record { low = pair.0; high = pair.1 }) pairs → ((c : ℕ) → Has set c ↔ Has ranges c) → (c : ℕ) → c ≤ 0x10FFFF → Has set c ↔ (test c ≡ true)
+    ranges ≡ map (λ pair. record { low = pair.0; high = pair.1 }) pairs → ((c : ℕ) → Has set c ↔ Has ranges c) → (c : ℕ) → c ≤ 0x10FFFF →
+    Has set c ↔ (test c ≡ true)
 set_members pairs test ranges set exactly e same c l =
     let decides = Decides-covers ranges c in
     let test_is : covers ranges c ≡ test c = ap (λ rs. covers rs c) e ∙ covers_pairs pairs c ∙ exactly c l in
@@ -76,10 +77,12 @@ lookup_rows files name value ranges set name_formed value_formed e l rising same
     (filled_ranges ranges set (is_category_or_script (loose name)) value l rising same))
 
 row_kept : (rows : List Row) (i : ℕ) (d : Row) (value : List ℕ) → i < length rows →
-    ranges_of (take (i + 1) rows) value ≡ ranges_of (take i rows) value ++ map (λ (row : Row). row.range) (cond (bytes_eq (get_or rows i d).value value) (get_or rows i d ∷ []) [])
+    ranges_of (take (i + 1) rows) value ≡ ranges_of (take i rows) value ++ map (λ (row : Row). row.range)
+    (cond (bytes_eq (get_or rows i d).value value) (get_or rows i d ∷ []) [])
 row_kept rows i d value l =
     ap (map (λ (row : Row). row.range)) (filter_more (λ (row : Row). bytes_eq row.value value) rows i d l)
-    ∙ map-append (λ (row : Row). row.range) (filter (λ (row : Row). bytes_eq row.value value) (take i rows)) (cond (bytes_eq (get_or rows i d).value value) (get_or rows i d ∷ []) [])
+    ∙ map-append (λ (row : Row). row.range) (filter (λ (row : Row). bytes_eq row.value value) (take i rows))
+    (cond (bytes_eq (get_or rows i d).value value) (get_or rows i d ∷ []) [])
 
 -- one row more, with the value and with another
 pub ranges_of-yes : (rows : List Row) (i : ℕ) (d : Row) (value : List ℕ) (range : Range) → i < length rows → bytes_eq (get_or rows i d).value value ≡ true →

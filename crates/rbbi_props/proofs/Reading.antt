@@ -7,14 +7,14 @@ use Rattle.std.proofs.lemmas.List.{take_more, take_all, get_or_default}
 use Rattle.std.proofs.lemmas.List.Sums.{position_or_len_is}
 use Rattle.std.proofs.lemmas.List.Elements.{filter_map-append}
 use Rattle.rbbi_props.specs.Rows.{Row}
-use Rattle.rbbi_props.specs.RowLines.{row_of, is_bad}
+use Rattle.rbbi_props.specs.RowLines.{property_row, is_bad}
 use Rattle.rbbi_props.specs.Refusals.{IsLineCause, IsOneLineCause}
 use Rattle.rbbi_props.specs.declared.error.PropErr.{PropErr}
 use Rattle.rbbi_props.specs.declared.error.PropErr.TheVariants.{NotUtf8, BadRow, Memory}
 
 -- of so many of the lines, the rows are these, and none is bad
 pub record IsReading (lines : List (List ℕ)) (rows : List Row) (number : ℕ) : Type 0 where
-  pub rows_so_far : rows ≡ filter_map row_of (take number lines)
+  pub rows_so_far : rows ≡ filter_map property_row (take number lines)
   pub none_bad : (k : ℕ) → k < number → is_bad (get_or lines k []) ≡ false
 
 pub IsReading-none : (lines : List (List ℕ)) (rows : List Row) → rows ≡ [] → IsReading lines rows 0
@@ -23,26 +23,27 @@ IsReading-none lines rows none = record { rows_so_far = none; none_bad = λ k be
 -- one line more, which isn't bad
 pub IsReading-more : (lines : List (List ℕ)) (rows more : List Row) (number i : ℕ) (line : List ℕ) → IsReading lines rows number → number ≡ i →
     i < length lines → line ≡ get_or lines i [] →
-    more ≡ rows ++ filter_map row_of (line ∷ []) → is_bad line ≡ false → IsReading lines more (number + 1)
+    more ≡ rows ++ filter_map property_row (line ∷ []) → is_bad line ≡ false → IsReading lines more (number + 1)
 IsReading-more lines rows more number i line h here below at_i rows_are good =
     let within : number < length lines = omega arith in
     let same : get_or lines number [] ≡ line = ap (λ k. get_or lines k []) here ∙ sym at_i in
     let at : line ≡ get_or lines number line = sym same ∙ get_or_default lines number [] line within in record {
       rows_so_far =
           rows_are
-          ∙ ap (λ rs. rs ++ filter_map row_of (line ∷ [])) h.rows_so_far
-          ∙ sym (filter_map-append row_of (take number lines) (line ∷ []))
-          ∙ ap (λ x. filter_map row_of (take number lines ++ x ∷ [])) at
-          ∙ ap (filter_map row_of) (sym (take_more lines number line within));
+          ∙ ap (λ rs. rs ++ filter_map property_row (line ∷ [])) h.rows_so_far
+          ∙ sym (filter_map-append property_row (take number lines) (line ∷ []))
+          ∙ ap (λ x. filter_map property_row (take number lines ++ x ∷ [])) at
+          ∙ ap (filter_map property_row) (sym (take_more lines number line within));
       none_bad = below_more (λ k. is_bad (get_or lines k []) ≡ false) number h.none_bad (ap is_bad same ∙ good);
     }
 
 -- at the end
 pub IsReading-all : (lines : List (List ℕ)) (rows : List Row) (number : ℕ) → IsReading lines rows number → length lines ≤ number →
-    (rows ≡ filter_map row_of lines) × (position is_bad lines ≡ None)
+    (rows ≡ filter_map property_row lines) × (position is_bad lines ≡ None)
 IsReading-all lines rows number h all = (
-  h.rows_so_far ∙ ap (filter_map row_of) (take_all number lines all),
-  ap (λ n. cond (ltb n (length lines)) (Some n) None) (position_or_len_is is_bad lines (length lines) [] (omega arith) (λ k l. h.none_bad k (omega arith)) (λ l. absurd (omega arith)))
+  h.rows_so_far ∙ ap (filter_map property_row) (take_all number lines all),
+  ap (λ n. cond (ltb n (length lines)) (Some n) None) (position_or_len_is is_bad lines (length lines) [] (omega arith) (λ k l. h.none_bad k (omega arith))
+      (λ l. absurd (omega arith)))
       ∙ ap (λ b. cond b (Some (length lines)) None) (le-ltb (length lines) (length lines) (omega arith)),
 )
 

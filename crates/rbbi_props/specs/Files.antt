@@ -3,11 +3,11 @@ use Rattle.std.specs.Prelude.{ℕ, List, filter_map}
 use Rattle.rbbi_text.specs.Bytes.{file_lines}
 use Rattle.rbbi_props.specs.Rows.{Row, File}
 use Rattle.rbbi_props.specs.LooseForms.{loose}
-use Rattle.rbbi_props.specs.RowLines.{row_of}
+use Rattle.rbbi_props.specs.RowLines.{property_row}
 
 -- the rows of a file
 abbrev pub file_rows : List ℕ → List Row
-file_rows bytes = filter_map row_of (file_lines bytes)
+file_rows bytes = filter_map property_row (file_lines bytes)
 
 -- a file under a name
 abbrev pub file_of : List ℕ → List ℕ → File

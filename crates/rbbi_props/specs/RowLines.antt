@@ -68,8 +68,8 @@ abbrev pub before_comment : List ℕ → List ℕ
 before_comment line = before_first (λ byte. byte == 35) line
 
 -- the row that a line writes, and None where it isn't of the form
-abbrev pub row_of : List ℕ → Option Row
-row_of line = row_of_fields (slice_split (λ byte. byte == 59) (before_comment line))
+abbrev pub property_row : List ℕ → Option Row
+property_row line = row_of_fields (slice_split (λ byte. byte == 59) (before_comment line))
 
 -- whether a line is skipped: nothing but spaces and tabs stands before its first `#`
 abbrev pub is_skipped : List ℕ → Bool
@@ -77,4 +77,4 @@ is_skipped line = list_all is_blank (before_comment line)
 
 -- whether a line is neither skipped nor of the form of a row
 abbrev pub is_bad : List ℕ → Bool
-is_bad line = not (is_skipped line) && is_none (row_of line)
+is_bad line = not (is_skipped line) && is_none (property_row line)

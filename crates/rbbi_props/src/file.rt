@@ -3,13 +3,13 @@ ghost use Rattle.std.specs.Prelude.{◌≡◌, ◌≤◌, ◌<◌, ◌∷◌, []
 ghost use Rattle.std.specs.List.{position};
 ghost use Rattle.std.specs.Str.Lines.{lines};
 ghost use Rattle.rbbi_text.specs.Bytes.{most_bytes};
-ghost use Rattle.rbbi_props.specs.RowLines.{row_of, is_bad};
+ghost use Rattle.rbbi_props.specs.RowLines.{property_row, is_bad};
 ghost use Rattle.rbbi_props.specs.Files.{file_of};
 ghost use Rattle.rbbi_props.specs.Refusals.{HasRowsAlone, IsCause, IsLineCause, IsOneLineCause};
 
 use crate::error::PropErr;
 use crate::loose::loose;
-use crate::row::{PropRow, is_skipped, row_of};
+use crate::row::{PropRow, is_skipped, property_row};
 use rbbi_text::{utf8_text, without_mark};
 use std::alloc::Global;
 use std::marker::Model;
@@ -49,7 +49,7 @@ pub(crate) fn read_file(alloc: Global, name: &str, bytes: &[u8]) -> Result<PropF
 /// The rows that the lines of a text write.
 fn read_rows(alloc: Global, text: &str) -> Result<Vec<PropRow>, PropErr>
     requires { length text.now ≤ most_bytes }
-    ensures rows { IfOk result (λ rows. rows.items ≡ filter_map row_of (lines text.now)) }
+    ensures rows { IfOk result (λ rows. rows.items ≡ filter_map property_row (lines text.now)) }
     ensures alone { OnOk result (position is_bad (lines text.now) ≡ None) }
     ensures cause { IfErr result (λ e. IsLineCause e (lines text.now)) }
 {
@@ -70,11 +70,11 @@ fn read_line(
     number: u32,
 ) -> Result<(), PropErr>
     ensures row { OnOk result
-        (rows.new.items ≡ rows.old.items ++ filter_map row_of (line.now ∷ [])) }
+        (rows.new.items ≡ rows.old.items ++ filter_map property_row (line.now ∷ [])) }
     ensures good { OnOk result (is_bad line.now ≡ false) }
     ensures cause { IfErr result (λ e. IsOneLineCause e line.now number) }
 {
-    let Some(row) = row_of(alloc, line)? else {
+    let Some(row) = property_row(alloc, line)? else {
         if is_skipped(line) {
             return Ok(());
         }

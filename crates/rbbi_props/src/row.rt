@@ -36,8 +36,8 @@ impl Model for PropRow {
 }
 
 /// The row that a line writes, and None where it isn't of the form.
-pub(crate) fn row_of(alloc: Global, line: &[u8]) -> Result<Option<PropRow>, AllocError>
-    ensures { IfOk result (λ row. row ≡ spec.row_of line.now) }
+pub(crate) fn property_row(alloc: Global, line: &[u8]) -> Result<Option<PropRow>, AllocError>
+    ensures { IfOk result (λ row. row ≡ spec.property_row line.now) }
 {
     let fields = before(line, b'#');
     let end = place_or_len(fields, b';');

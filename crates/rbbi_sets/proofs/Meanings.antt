@@ -36,7 +36,8 @@ complement_members ys zs e c =
     (λ h. ((one.0 (minus.0 h).0).1, (minus.0 h).1), λ h. minus.1 (one.1 (omega arith, h.0), h.1))
 
 pub without_members : (low high : ℕ) (xs zs : List Range) →
-    ((c : ℕ) → covers zs c ≡ (covers xs c && not (covers (record { low = low; high = high } ∷ []) c))) → (c : ℕ) → Has zs c ↔ (Has xs c × ¬ ((low ≤ c) × (c ≤ high)))
+    ((c : ℕ) → covers zs c ≡ (covers xs c && not (covers (record { low = low; high = high } ∷ []) c))) → (c : ℕ) →
+    Has zs c ↔ (Has xs c × ¬ ((low ≤ c) × (c ≤ high)))
 without_members low high xs zs e c =
     let minus = minus_members xs (record { low = low; high = high } ∷ []) zs e c in
     let one = one_members low high c in

@@ -50,7 +50,8 @@ or-false : (x y : Bool) → y ≡ false → (x || y) ≡ x
 or-false true y e = refl
 or-false false y e = e
 
-pub IsSwept-more : (operation : Operation) (left right kept more : List Range) (next_left next_right after_left after_right at end : ℕ) (in_left in_right is_kept : Bool) → IsSwept operation left right kept next_left next_right at
+pub IsSwept-more : (operation : Operation) (left right kept more : List Range) (next_left next_right after_left after_right at end : ℕ)
+    (in_left in_right is_kept : Bool) → IsSwept operation left right kept next_left next_right at
     → at < end → end ≤ 0x110000
     → ((c : ℕ) → at ≤ c → c < end → covers left c ≡ in_left)
     → ((c : ℕ) → at ≤ c → c < end → covers right c ≡ in_right)
@@ -58,20 +59,21 @@ pub IsSwept-more : (operation : Operation) (left right kept more : List Range) (
     → Joins kept more (λ c. is_kept && is_between at (end - 1) c) at
     → after_left ≤ length left → after_right ≤ length right → IsNextRange left end after_left → IsNextRange right end after_right
     → IsSwept operation left right more after_left after_right end
-IsSwept-more operation left right kept more next_left next_right after_left after_right at end in_left in_right is_kept h past bound same_left same_right kept_is joins left_within right_within left_place right_place = record {
-  left_within = left_within;
-  right_within = right_within;
-  left_place = left_place;
-  right_place = right_place;
-  bound = bound;
-  rising = joins.rising;
-  begin = begin-weaker more at end (omega arith) joins.begin;
-  below = below;
-  above = λ c l.
-      joins.members c
-      ∙ or-false (covers kept c) _ (and-false is_kept _ (is_between-above at (end - 1) c (omega arith)))
-      ∙ h.above c (omega arith);
-}
+IsSwept-more operation left right kept more next_left next_right after_left after_right at end in_left in_right is_kept h past bound same_left same_right
+    kept_is joins left_within right_within left_place right_place = record {
+      left_within = left_within;
+      right_within = right_within;
+      left_place = left_place;
+      right_place = right_place;
+      bound = bound;
+      rising = joins.rising;
+      begin = begin-weaker more at end (omega arith) joins.begin;
+      below = below;
+      above = λ c l.
+          joins.members c
+          ∙ or-false (covers kept c) _ (and-false is_kept _ (is_between-above at (end - 1) c (omega arith)))
+          ∙ h.above c (omega arith);
+    }
   where
     below : (c : ℕ) → c < end → covers more c ≡ keeps operation (covers left c) (covers right c)
     below c l =

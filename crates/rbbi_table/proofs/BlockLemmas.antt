@@ -1,5 +1,6 @@
 -- One more block of categories.
-use Rattle.std.proofs.Common.{◌≡◌, ℕ, ◌+◌, ◌-◌, ◌*◌, ◌/◌, ◌%◌, ◌<◌, ◌≤◌, ◌⊎◌, List, [], ◌∷◌, ◌++◌, length, take, drop, get_or, sym, refl, ap, ◌∙◌, subst, ⊎_elim, arith}
+use Rattle.std.proofs.Common.{◌≡◌, ℕ, ◌+◌, ◌-◌, ◌*◌, ◌/◌, ◌%◌, ◌<◌, ◌≤◌, ◌⊎◌, List, [], ◌∷◌, ◌++◌, length, take, drop, get_or, sym, refl, ap, ◌∙◌, subst}
+use Rattle.std.proofs.Common.{⊎_elim, arith}
 use Rattle.std.specs.Prelude.{slice_range}
 use Rattle.std.proofs.lemmas.Bool.{cases_eq, cases_lt}
 use Rattle.std.proofs.lemmas.List.{get_or_append_left, get_or_push, length_push, get_or-take, get_or-drop, length-take}
@@ -17,14 +18,16 @@ module _ (ranges : List CategoryRange) (numbers kept : List ℕ) (count : ℕ) (
   in_old x c short = ap (λ n. get_or kept (n * 256 + c % 256) 0) (old_number numbers x (c / 256) (omega (arith, first.all)))
 
   -- a block with the categories of the one before it
-  pub push_same : (range x : ℕ) → AreApart ranges → 0 < count → IsUpTo ranges range (count * 256) → start_of ranges range + 256 ≤ count * 256 → IsUpTo ranges range (count * 256 + 256) →
+  pub push_same : (range x : ℕ) → AreApart ranges → 0 < count → IsUpTo ranges range (count * 256) → start_of ranges range + 256 ≤ count * 256 →
+      IsUpTo ranges range (count * 256 + 256) →
       x ≡ get_or numbers (count - 1) 0 → AreFirstBlocks ranges (numbers ++ x ∷ []) kept (count + 1)
   push_same range x apart some up_to begins further is = record {
     all = length_push numbers x ∙ ap (λ n. n + 1) first.all;
     whole = λ block within.
         ⊎_elim
         (λ same.
-        let number : get_or (numbers ++ x ∷ []) block 0 ≡ get_or numbers (count - 1) 0 = ap (λ n. get_or (numbers ++ x ∷ []) n 0) same ∙ get_or_push numbers x 0 count first.all ∙ is in
+        let number : get_or (numbers ++ x ∷ []) block 0 ≡ get_or numbers (count - 1) 0 = ap (λ n. get_or (numbers ++ x ∷ []) n 0) same ∙
+        get_or_push numbers x 0 count first.all ∙ is in
         omega (arith, number, first.whole (count - 1) (omega arith)))
         (λ other.
         let number = old_number numbers x block (omega (arith, first.all)) in
@@ -37,10 +40,21 @@ module _ (ranges : List CategoryRange) (numbers kept : List ℕ) (count : ℕ) (
         let before : ℕ = c - 256 in
         let block : c / 256 ≡ count = omega arith in
         let number : get_or (numbers ++ x ∷ []) (c / 256) 0 ≡ get_or numbers (before / 256) 0 =
-        ap (λ n. get_or (numbers ++ x ∷ []) n 0) block ∙ get_or_push numbers x 0 count first.all ∙ is ∙ ap (λ n. get_or numbers n 0) (let e : count - 1 ≡ before / 256 = omega arith in e) in
+        ap (λ n. get_or (numbers ++ x ∷ []) n 0) block ∙ get_or_push numbers x 0 count first.all ∙ is ∙
+        ap (λ n. get_or numbers n 0) (let e : count - 1 ≡ before / 256 = omega arith in e) in
         let place : c % 256 ≡ before % 256 = omega arith in
-        let here : Holds ranges range c = record { within = up_to.within; begins = omega (arith, begins, long); ends = λ more. omega (arith, further.ends more, within) } in
-        let there : Holds ranges range before = record { within = up_to.within; begins = omega (arith, begins, long); ends = λ more. omega (arith, further.ends more, within) } in
+        let here : Holds ranges range c = record {
+          within = up_to.within;
+          begins = omega (arith, begins, long);
+          ends =
+              λ more. omega (arith, further.ends more, within);
+        } in
+        let there : Holds ranges range before = record {
+          within = up_to.within;
+          begins = omega (arith, begins, long);
+          ends =
+              λ more. omega (arith, further.ends more, within);
+        } in
         ap (λ n. get_or kept (n * 256 + c % 256) 0) number
         ∙ ap (λ k. get_or kept (get_or numbers (before / 256) 0 * 256 + k) 0) place
         ∙ first.same before (omega arith)
@@ -50,7 +64,8 @@ module _ (ranges : List CategoryRange) (numbers kept : List ℕ) (count : ℕ) (
   }
 
   -- a block whose categories are kept
-  pub push_new : (kept' block : List ℕ) (x : ℕ) → take (length kept) kept' ≡ kept → x * 256 + 256 ≤ length kept' → slice_range kept' (x * 256) (x * 256 + 256) ≡ block →
+  pub push_new : (kept' block : List ℕ) (x : ℕ) → take (length kept) kept' ≡ kept → x * 256 + 256 ≤ length kept' →
+      slice_range kept' (x * 256) (x * 256 + 256) ≡ block →
       ((k : ℕ) → k < 256 → get_or block k 0 ≡ category_of ranges (count * 256 + k)) → AreFirstBlocks ranges (numbers ++ x ∷ []) kept' (count + 1)
   push_new kept' block x before inside is categories =
       let long : length kept ≤ length kept' = omega (arith, ap length before, length-take (length kept) kept') in

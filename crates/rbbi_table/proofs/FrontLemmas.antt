@@ -1,5 +1,6 @@
 -- The rows that are reached while a look-ahead rule's front hasn't ended.
-use Rattle.std.proofs.Common.{◌≡◌, ◌≢◌, ℕ, suc, zero, ◌+◌, ◌-◌, ◌*◌, ◌<◌, ◌≤◌, ◌⊎◌, Bool, true, false, List, [], ◌∷◌, ◌++◌, length, take, get_or, sym, refl, ap, ◌∙◌, subst, inl, inr, ⊎_elim, arith}
+use Rattle.std.proofs.Common.{◌≡◌, ◌≢◌, ℕ, suc, zero, ◌+◌, ◌-◌, ◌*◌, ◌<◌, ◌≤◌, ◌⊎◌, Bool, true, false, List, [], ◌∷◌, ◌++◌, length, take, get_or, sym, refl, ap}
+use Rattle.std.proofs.Common.{◌∙◌, subst, inl, inr, ⊎_elim, arith}
 use Rattle.std.specs.Prelude.{IsTrue}
 use Rattle.std.specs.List.{AllByRecursion}
 use Rattle.std.proofs.lemmas.Bool.{cases_Bool, cases_lt, false≢true}
@@ -49,11 +50,14 @@ all_append table [] category is within = (within, tt)
 all_append table (k ∷ way) category is within = (is.0, all_append table way category is.1 within)
 
 -- a step on from a row that is reached
-pub reached_on : (table : Table) (slash row category : ℕ) → IsReached table slash row → category < table.categories → step table row category < length table.rows →
-    accept_of table (step table row category) ≢ slash + 2 → has_bit (fronts_of table (step table row category)) slash ≡ false → IsReached table slash (step table row category)
+pub reached_on : (table : Table) (slash row category : ℕ) → IsReached table slash row → category < table.categories →
+    step table row category < length table.rows →
+    accept_of table (step table row category) ≢ slash + 2 → has_bit (fronts_of table (step table row category)) slash ≡ false →
+    IsReached table slash (step table row category)
 reached_on table slash row category reached within next uncompleted bit =
     let way : List ℕ = reached.way ++ category ∷ [] in
-    let leads : row_along table 1 way ≡ step table row category = row_along_append table 1 reached.way (category ∷ []) ∙ ap (λ r. step table r category) reached.leads in
+    let leads : row_along table 1 way ≡ step table row category = row_along_append table 1 reached.way (category ∷ []) ∙
+    ap (λ r. step table r category) reached.leads in
     let long : length way ≡ length reached.way + 1 = length_push reached.way category in
     record {
       within = next;
@@ -62,20 +66,25 @@ reached_on table slash row category reached within next uncompleted bit =
       leads = leads;
       bits = λ earlier most.
           ⊎_elim
-          (λ short. ap (λ w. has_bit (fronts_of table (row_along table 1 w)) slash) (take-append-le earlier reached.way (category ∷ []) (omega arith)) ∙ reached.bits earlier (omega arith))
-          (λ past. ap (λ w. has_bit (fronts_of table (row_along table 1 w)) slash) (take_all earlier way (omega (arith, long, past))) ∙ ap (λ r. has_bit (fronts_of table r) slash) leads ∙ bit)
+          (λ short. ap (λ w. has_bit (fronts_of table (row_along table 1 w)) slash) (take-append-le earlier reached.way (category ∷ []) (omega arith)) ∙
+          reached.bits earlier (omega arith))
+          (λ past. ap (λ w. has_bit (fronts_of table (row_along table 1 w)) slash) (take_all earlier way (omega (arith, long, past))) ∙
+          ap (λ r. has_bit (fronts_of table r) slash) leads ∙ bit)
           (cases_lt earlier (length reached.way + 1));
       uncompleted = uncompleted;
     }
 
 -- a row at which the rule is completed, entered from one that is reached
-pub unfronted : (table : Table) (slash row category : ℕ) → IsReached table slash row → category < table.categories → accept_of table (step table row category) ≡ slash + 2 → ¬ IsFronted table slash
+pub unfronted : (table : Table) (slash row category : ℕ) → IsReached table slash row → category < table.categories →
+    accept_of table (step table row category) ≡ slash + 2 → ¬ IsFronted table slash
 unfronted table slash row category reached within completed fronted =
     let way : List ℕ = reached.way ++ category ∷ [] in
-    let leads : row_along table 1 way ≡ step table row category = row_along_append table 1 reached.way (category ∷ []) ∙ ap (λ r. step table r category) reached.leads in
+    let leads : row_along table 1 way ≡ step table row category = row_along_append table 1 reached.way (category ∷ []) ∙
+    ap (λ r. step table r category) reached.leads in
     let ends = fronted way (all_append table reached.way category reached.is_way within) (ap (λ r. accept_of table r) leads ∙ completed) in
     let short : ends.0 ≤ length reached.way = omega (arith, ends.1, length_push reached.way category) in
-    let none = ap (λ w. has_bit (fronts_of table (row_along table 1 w)) slash) (take-append-le ends.0 reached.way (category ∷ []) short) ∙ reached.bits ends.0 short in
+    let none = ap (λ w. has_bit (fronts_of table (row_along table 1 w)) slash) (take-append-le ends.0 reached.way (category ∷ []) short) ∙
+    reached.bits ends.0 short in
     false≢true (sym none ∙ ends.2)
 
 module _ (table : Table) (slash : ℕ) (queue : List ℕ) (passed : ArePassed table slash queue (length queue)) where
@@ -94,18 +103,24 @@ module _ (table : Table) (slash : ℕ) (queue : List ℕ) (passed : ArePassed ta
       let row : ℕ = step table (get_or queue i 0) category in
       let same : get_or queue there.0 0 ≡ row = there.2 in
       let further = fronted_from (next ∷ way) there.0 there.1 (subst (λ r. accept_of table r ≢ slash + 2) (sym same) pass.uncompleted) is.1
-      (ap (λ r. accept_of table (row_along table r (next ∷ way))) same ∙ completed) in
-      (suc further.0, omega (arith, further.1), subst (λ r. IsTrue (has_bit (fronts_of table (row_along table r (take further.0 (next ∷ way)))) slash)) same further.2))
+      (ap (λ r. accept_of table (row_along table r (next ∷ way))) same ∙ completed) in (
+        suc further.0,
+        omega (arith, further.1),
+        subst (λ r. IsTrue (has_bit (fronts_of table (row_along table r (take further.0 (next ∷ way)))) slash)) same
+            further.2,
+      ))
       pass.goes_on
 
-pub fronted_by : (table : Table) (slash : ℕ) (seen : List Bool) (queue : List ℕ) → IsWalk table slash seen queue → ArePassed table slash queue (length queue) → IsFronted table slash
+pub fronted_by : (table : Table) (slash : ℕ) (seen : List Bool) (queue : List ℕ) → IsWalk table slash seen queue → ArePassed table slash queue (length queue) →
+    IsFronted table slash
 fronted_by table slash seen queue walk passed way is completed =
     let same : get_or queue walk.start.0 0 ≡ 1 = walk.start.2 in
     let ends = fronted_from table slash queue passed way walk.start.0 walk.start.1 (walk.reached walk.start.0 walk.start.1).uncompleted is
     (ap (λ r. accept_of table (row_along table r way)) same ∙ completed) in
     (ends.0, ends.1, subst (λ r. IsTrue (has_bit (fronts_of table (row_along table r (take ends.0 way))) slash)) same ends.2)
 
-pub passed_more : (table : Table) (slash : ℕ) (old new : List ℕ) (row : ℕ) → ((i : ℕ) → i < length old → (i < length new) × (get_or new i 0 ≡ get_or old i 0)) → IsPassed table slash old row → IsPassed table slash new row
+pub passed_more : (table : Table) (slash : ℕ) (old new : List ℕ) (row : ℕ) → ((i : ℕ) → i < length old → (i < length new) × (get_or new i 0 ≡ get_or old i 0)) →
+    IsPassed table slash old row → IsPassed table slash new row
 passed_more table slash old new row keeps pass = record {
   uncompleted = pass.uncompleted;
   goes_on =
@@ -118,14 +133,16 @@ passed_more table slash old new row keeps pass = record {
 }
 
 -- what a cell of a row's next rows is
-pub cell_is : (width : ℕ) (rows : List RowHead) (cells : List ℕ) (row i : ℕ) → AreSteps width rows cells → row < length rows → i < length (steps_of width cells row) →
+pub cell_is : (width : ℕ) (rows : List RowHead) (cells : List ℕ) (row i : ℕ) → AreSteps width rows cells → row < length rows →
+    i < length (steps_of width cells row) →
     (i < width) × (get_or (steps_of width cells row) i 0 ≡ step (rows_of width rows cells []) row i) × (step (rows_of width rows cells []) row i < length rows)
 cell_is width rows cells row i steps within short =
     let low : i < width = omega (arith, short, steps_long width cells row (length rows) steps.all within) in
     (low, steps_are width cells row i low, steps.within (row * width + i) (omega (arith, steps.all, low, row_end row (length rows) width within)))
 
 -- one more row in the queue
-pub walk_on : (table : Table) (slash : ℕ) (seen seen' : List Bool) (queue queue' : List ℕ) (target : ℕ) → IsWalk table slash seen queue → length seen' ≡ length seen → IsGathered seen' queue' → AddsTarget queue target queue' →
+pub walk_on : (table : Table) (slash : ℕ) (seen seen' : List Bool) (queue queue' : List ℕ) (target : ℕ) → IsWalk table slash seen queue →
+    length seen' ≡ length seen → IsGathered seen' queue' → AddsTarget queue target queue' →
     IsReached table slash target → IsWalk table slash seen' queue'
 walk_on table slash seen seen' queue queue' target walk long gathered adds reached =
     let kept = adds.keeps walk.start.0 walk.start.1 in
@@ -141,7 +158,8 @@ walk_on table slash seen seen' queue queue' target walk long gathered adds reach
     }
 
 -- row 1 is reached by no step at all
-pub walk_start : (table : Table) (slash : ℕ) (seen : List Bool) (queue : List ℕ) → length seen ≡ length table.rows → 2 ≤ length table.rows → IsPlain (head_of table 1) → IsGathered seen queue → AddsTarget [] 1 queue → IsWalk table slash seen queue
+pub walk_start : (table : Table) (slash : ℕ) (seen : List Bool) (queue : List ℕ) → length seen ≡ length table.rows → 2 ≤ length table.rows → IsPlain
+    (head_of table 1) → IsGathered seen queue → AddsTarget [] 1 queue → IsWalk table slash seen queue
 walk_start table slash seen queue long some plain gathered adds = record {
   long = long;
   gathered = gathered;
@@ -154,7 +172,8 @@ walk_start table slash seen queue long some plain gathered adds = record {
         way = [];
         is_way = tt;
         leads = refl;
-        bits = λ earlier most. ap (λ w. has_bit (fronts_of table (row_along table 1 w)) slash) (take_all earlier [] (omega arith)) ∙ no_bit_is (fronts_of table 1) slash plain.1;
+        bits = λ earlier most. ap (λ w. has_bit (fronts_of table (row_along table 1 w)) slash) (take_all earlier [] (omega arith)) ∙
+            no_bit_is (fronts_of table 1) slash plain.1;
         uncompleted = λ is. omega (arith, is, plain.0);
       }))
       (adds.only i short);

@@ -1,5 +1,6 @@
 -- Status lists, number by number and list by list.
-use Rattle.std.proofs.Common.{◌≡◌, ℕ, suc, zero, ◌+◌, min, ◌<◌, ◌≤◌, ◌⊎◌, ◌↔◌, List, [], ◌∷◌, length, drop, get_or, sym, refl, ap, ◌∙◌, subst, inl, inr, ⊎_elim, arith}
+use Rattle.std.proofs.Common.{◌≡◌, ℕ, suc, zero, ◌+◌, min, ◌<◌, ◌≤◌, ◌⊎◌, ◌↔◌, List, [], ◌∷◌, length, drop, get_or, sym, refl, ap, ◌∙◌, subst, inl, inr, ⊎_elim}
+use Rattle.std.proofs.Common.{arith}
 use Rattle.std.proofs.lemmas.Bool.{cases_lt}
 use Rattle.std.proofs.lemmas.List.{drop_more, drop_all}
 use Rattle.std.specs.List.{AllByRecursion}
@@ -16,13 +17,15 @@ rises : (status : ℕ) (statuses : List ℕ) → IsRising (status ∷ statuses) 
 rises status [] rising small = small.0
 rises status (next ∷ statuses) rising small = (rising.0, rises next statuses rising.1 small.1)
 
-is_rising : (status : ℕ) (statuses : List ℕ) → RiseFrom status statuses → IsRising (status ∷ statuses) × (status ≤ largest_tag) × AllByRecursion (λ n. n ≤ largest_tag) statuses
+is_rising : (status : ℕ) (statuses : List ℕ) → RiseFrom status statuses → IsRising (status ∷ statuses) × (status ≤ largest_tag) ×
+    AllByRecursion (λ n. n ≤ largest_tag) statuses
 is_rising status [] rise = (tt, rise, tt)
 is_rising status (next ∷ statuses) rise =
     let rest = is_rising next statuses rise.1 in
     ((rise.0, rest.0), omega (arith, rise.0, rest.1), (rest.1, rest.2))
 
-pub valid_where_rise : (statuses : List ℕ) → 1 ≤ length statuses → length statuses ≤ 4096 → IsValidList statuses ↔ RiseFrom (get_or statuses 0 0) (drop 1 statuses)
+pub valid_where_rise : (statuses : List ℕ) → 1 ≤ length statuses → length statuses ≤ 4096 →
+    IsValidList statuses ↔ RiseFrom (get_or statuses 0 0) (drop 1 statuses)
 valid_where_rise [] some few = absurd (omega (arith, some))
 valid_where_rise (status ∷ statuses) some few = (
   λ valid. rises status statuses valid.rising valid.small,
@@ -31,7 +34,8 @@ valid_where_rise (status ∷ statuses) some few = (
       record { some = some; few = few; rising = parts.0; small = (parts.1, parts.2) },
 )
 
-pub rise_on : (previous : ℕ) (statuses : List ℕ) (i : ℕ) → i < length statuses → RiseFrom previous (drop i statuses) ≡ RiseFrom previous (get_or statuses i 0 ∷ drop (i + 1) statuses)
+pub rise_on : (previous : ℕ) (statuses : List ℕ) (i : ℕ) → i < length statuses →
+    RiseFrom previous (drop i statuses) ≡ RiseFrom previous (get_or statuses i 0 ∷ drop (i + 1) statuses)
 rise_on previous statuses i short = ap (λ l. RiseFrom previous l) (drop_more statuses i 0 short)
 
 pub before_on : (these those : List ℕ) (i : ℕ) → i < length these → i < length those →
@@ -57,7 +61,8 @@ in_order statuses (next ∷ lists) come =
 zero_alone : IsValidList (0 ∷ [])
 zero_alone = record { some = omega arith; few = omega arith; rising = tt; small = (omega arith, tt) }
 
-pub valid_where_come_on : (lists : List (List ℕ)) → 1 ≤ length lists → length lists ≤ 4095 → get_or lists 0 [] ≡ 0 ∷ [] → AreValidLists lists ↔ ComeOn (get_or lists 0 []) (drop 1 lists)
+pub valid_where_come_on : (lists : List (List ℕ)) → 1 ≤ length lists → length lists ≤ 4095 → get_or lists 0 [] ≡ 0 ∷ [] →
+    AreValidLists lists ↔ ComeOn (get_or lists 0 []) (drop 1 lists)
 valid_where_come_on [] some few first = absurd (omega (arith, some))
 valid_where_come_on (statuses ∷ lists) some few first = (
   λ valid. come statuses lists valid.in_order valid.each.1,
@@ -70,7 +75,8 @@ pub first_is_zero : (lists : List (List ℕ)) → AreValidLists lists → get_or
 first_is_zero [] valid = absurd valid.first
 first_is_zero (statuses ∷ lists) valid = valid.first
 
-pub come_on : (previous : List ℕ) (lists : List (List ℕ)) (i : ℕ) → i < length lists → ComeOn previous (drop i lists) ≡ ComeOn previous (get_or lists i [] ∷ drop (i + 1) lists)
+pub come_on : (previous : List ℕ) (lists : List (List ℕ)) (i : ℕ) → i < length lists →
+    ComeOn previous (drop i lists) ≡ ComeOn previous (get_or lists i [] ∷ drop (i + 1) lists)
 come_on previous lists i short = ap (λ l. ComeOn previous l) (drop_more lists i [] short)
 
 nothing_before : (these : List ℕ) → IsBefore these [] → ⊥

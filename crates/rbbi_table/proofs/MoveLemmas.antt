@@ -1,7 +1,8 @@
 -- One more row's moves.
 use Rattle.std.proofs.Common.{◌≡◌, ℕ, ◌+◌, ◌-◌, ◌*◌, ◌<◌, ◌≤◌, List, [], ◌∷◌, ◌++◌, length, take, drop, map, get_or, sym, refl, ap, ◌∙◌, subst, ⊎_elim, arith}
 use Rattle.std.proofs.lemmas.Bool.{cases_eq}
-use Rattle.std.proofs.lemmas.List.{get_or_append_left, get_or-append_right, get_or-take, get_or-drop, get_or-map, length-take, length-drop, length-append, length-map}
+use Rattle.std.proofs.lemmas.List.{get_or_append_left, get_or-append_right, get_or-take, get_or-drop, get_or-map, length-take, length-drop, length-append}
+use Rattle.std.proofs.lemmas.List.{length-map}
 use Rattle.std.proofs.Math.Nat.{mul-le-mul_right}
 use Rattle.rbbi_model.specs.Tables.{RowHead, Table, empty_head, head_of, step}
 use Rattle.rbbi_table.specs.Parts.{rows_of, AreSteps}
@@ -15,15 +16,24 @@ steps_of categories cells row = take (row * categories + categories - row * cate
 pub row_end : (row count width : ℕ) → row < count → row * width + width ≤ count * width
 row_end row count width short = let up : (row + 1) * width ≤ count * width = mul-le-mul_right width (let e : row + 1 ≤ count = omega arith in e) in omega arith
 
-pub steps_long : (categories : ℕ) (cells : List ℕ) (row count : ℕ) → length cells ≡ count * categories → row < count → length (steps_of categories cells row) ≡ categories
+pub steps_long : (categories : ℕ) (cells : List ℕ) (row count : ℕ) → length cells ≡ count * categories → row < count →
+    length (steps_of categories cells row) ≡ categories
 steps_long categories cells row count all short =
-    omega (arith, length-take (row * categories + categories - row * categories) (drop (row * categories) cells), length-drop (row * categories) cells, row_end row count categories short, all)
+    omega (
+      arith,
+      length-take (row * categories + categories - row * categories) (drop (row * categories) cells),
+      length-drop (row * categories) cells,
+      row_end row count categories short,
+      all,
+    )
 
-pub steps_are : (categories : ℕ) (cells : List ℕ) (row k : ℕ) → k < categories → get_or (steps_of categories cells row) k 0 ≡ get_or cells (row * categories + k) 0
+pub steps_are : (categories : ℕ) (cells : List ℕ) (row k : ℕ) → k < categories →
+    get_or (steps_of categories cells row) k 0 ≡ get_or cells (row * categories + k) 0
 steps_are categories cells row k short =
     get_or-take (row * categories + categories - row * categories) (drop (row * categories) cells) k 0 (omega arith) ∙ get_or-drop (row * categories) cells k 0
 
-module _ (categories : ℕ) (rows : List RowHead) (cells moves : List ℕ) (row : ℕ) (steps : AreSteps categories rows cells) (within : row < length rows) (first : AreFirstMoves (rows_of categories rows cells []) moves row) where
+module _ (categories : ℕ) (rows : List RowHead) (cells moves : List ℕ) (row : ℕ) (steps : AreSteps categories rows cells) (within : row < length rows)
+    (first : AreFirstMoves (rows_of categories rows cells []) moves row) where
   abbrev grid : Table
   grid = rows_of categories rows cells []
 
@@ -35,7 +45,8 @@ module _ (categories : ℕ) (rows : List RowHead) (cells moves : List ℕ) (row 
   entry width next = next * width * 8 + move_flags (get_or rows next empty_head) next
 
   abbrev more : ℕ → List ℕ
-  more width = map (λ next. entry width next) own ++ (get_or rows row empty_head).fronts ∷ (get_or rows row empty_head).list ∷ (get_or rows row empty_head).accept ∷ []
+  more width = map (λ next. entry width next) own ++ (get_or rows row empty_head).fronts ∷ (get_or rows row empty_head).list ∷
+      (get_or rows row empty_head).accept ∷ []
 
   long : length own ≡ categories
   long = steps_long categories cells row (length rows) steps.all within
@@ -59,7 +70,8 @@ module _ (categories : ℕ) (rows : List RowHead) (cells moves : List ℕ) (row 
       ∙ ap (λ n. get_or (more width) n 0) (let e : row * (categories + 3) + k - row * (categories + 3) ≡ k = omega arith in e)
 
   -- what stands k places behind the moves of the row
-  head_at : (width k : ℕ) → get_or (more width) (categories + k) 0 ≡ get_or ((get_or rows row empty_head).fronts ∷ (get_or rows row empty_head).list ∷ (get_or rows row empty_head).accept ∷ []) k 0
+  head_at : (width k : ℕ) → get_or (more width) (categories + k) 0 ≡ get_or
+      ((get_or rows row empty_head).fronts ∷ (get_or rows row empty_head).list ∷ (get_or rows row empty_head).accept ∷ []) k 0
   head_at width k =
       let moved : List ℕ = map (λ next. entry width next) own in
       let tail : List ℕ = (get_or rows row empty_head).fronts ∷ (get_or rows row empty_head).list ∷ (get_or rows row empty_head).accept ∷ [] in
@@ -75,9 +87,12 @@ module _ (categories : ℕ) (rows : List RowHead) (cells moves : List ℕ) (row 
         ∙ get_or_append_left moved _ 0 category (omega (arith, inside, length-map own (λ next. entry (categories + 3) next)))
         ∙ get_or-map (λ next. entry (categories + 3) next) own category 0 0 inside
         ∙ ap (λ next. entry (categories + 3) next) (steps_are categories cells row category low);
-    fronts = ap (λ n. get_or (moves ++ more (categories + 3)) n 0) (let e : row * (categories + 3) + categories ≡ row * (categories + 3) + (categories + 0) = omega arith in e) ∙ behind (categories + 3) (categories + 0) ∙ head_at (categories + 3) 0;
-    list = ap (λ n. get_or (moves ++ more (categories + 3)) n 0) (let e : row * (categories + 3) + categories + 1 ≡ row * (categories + 3) + (categories + 1) = omega arith in e) ∙ behind (categories + 3) (categories + 1) ∙ head_at (categories + 3) 1;
-    accept = ap (λ n. get_or (moves ++ more (categories + 3)) n 0) (let e : row * (categories + 3) + categories + 2 ≡ row * (categories + 3) + (categories + 2) = omega arith in e) ∙ behind (categories + 3) (categories + 2) ∙ head_at (categories + 3) 2;
+    fronts = ap (λ n. get_or (moves ++ more (categories + 3)) n 0) (let e : row * (categories + 3) + categories ≡ row * (categories + 3) + (categories + 0) =
+        omega arith in e) ∙ behind (categories + 3) (categories + 0) ∙ head_at (categories + 3) 0;
+    list = ap (λ n. get_or (moves ++ more (categories + 3)) n 0) (let e : row * (categories + 3) + categories + 1 ≡ row * (categories + 3) + (categories + 1) =
+        omega arith in e) ∙ behind (categories + 3) (categories + 1) ∙ head_at (categories + 3) 1;
+    accept = ap (λ n. get_or (moves ++ more (categories + 3)) n 0) (let e : row * (categories + 3) + categories + 2 ≡ row * (categories + 3) +
+        (categories + 2) = omega arith in e) ∙ behind (categories + 3) (categories + 2) ∙ head_at (categories + 3) 2;
   }
 
   more_moves : AreFirstMoves grid (moves ++ more (categories + 3)) (row + 1)

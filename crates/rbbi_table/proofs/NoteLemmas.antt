@@ -1,5 +1,6 @@
 -- Noting a place for each bit of a front mask, the lowest bit first.
-use Rattle.std.proofs.Common.{◌≡◌, ◌≢◌, ℕ, ◌+◌, ◌-◌, ◌*◌, ◌%◌, ◌^◌, ◌<◌, ◌≤◌, Bool, true, false, cond, eqb, List, length, get_or, set, sym, refl, ap, ◌∙◌, subst, ⊎_elim, arith, w32}
+use Rattle.std.proofs.Common.{◌≡◌, ◌≢◌, ℕ, ◌+◌, ◌-◌, ◌*◌, ◌%◌, ◌^◌, ◌<◌, ◌≤◌, Bool, true, false, cond, eqb, List, length, get_or, set, sym, refl, ap, ◌∙◌}
+use Rattle.std.proofs.Common.{subst, ⊎_elim, arith, w32}
 use Rattle.std.specs.Prelude.{bit_and}
 use Rattle.std.specs.Int.{bit_at, bit_not, trailing_zeros}
 use Rattle.std.proofs.lemmas.Bool.{cases_eq, cond-true, cond-false, cases_lt, eq-eqb, ne_eqb}
@@ -38,7 +39,8 @@ cleared_is_less rest fits some =
     (λ other. omega arith)
     (cases_eq (cleared rest) rest)
 
-pub noted_more : (rest fronts at : ℕ) (places before : List ℕ) → rest < 2 ^ 32 → rest ≢ 0 → length places ≤ 32 → IsNoted rest fronts at places before → IsNoted (cleared rest) fronts at (set places (lowest rest) at) before
+pub noted_more : (rest fronts at : ℕ) (places before : List ℕ) → rest < 2 ^ 32 → rest ≢ 0 → length places ≤ 32 → IsNoted rest fronts at places before →
+    IsNoted (cleared rest) fronts at (set places (lowest rest) at) before
 noted_more rest fronts at places before fits some few noted =
     let low = bit_at-trailing_zeros w32 rest (omega arith) fits in
     let inside = lowest_within rest places fits some noted.short in
@@ -50,7 +52,13 @@ noted_more rest fronts at places before fits some few noted =
           let short : k < length places = omega (arith, within, long) in
           ⊎_elim
           (λ same.
-          let unset : has_bit (cleared rest) k ≡ false = has_bit_is (cleared rest) k ∙ ne_eqb (bit_at (cleared rest) k) 1 (λ one. omega (arith, one, ap (λ n. bit_at (cleared rest) n) same, bit_at_clear_same w32 rest (lowest rest) low.0)) in
+          let unset : has_bit (cleared rest) k ≡ false = has_bit_is (cleared rest) k ∙
+          ne_eqb (bit_at (cleared rest) k) 1 (λ one. omega (
+            arith,
+            one,
+            ap (λ n. bit_at (cleared rest) n) same,
+            bit_at_clear_same w32 rest (lowest rest) low.0,
+          )) in
           let was : has_bit rest k ≡ true = has_bit_is rest k ∙ eq-eqb (bit_at rest k) 1 (ap (λ n. bit_at rest n) same ∙ low.1) in
           cond-false (has_bit (cleared rest) k) at (get_or (set places (lowest rest) at) k 0) unset
           ∙ ap (λ n. get_or (set places (lowest rest) at) n 0) same

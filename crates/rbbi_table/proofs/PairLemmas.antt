@@ -1,5 +1,6 @@
 -- The bits of the first pairs.
-use Rattle.std.proofs.Common.{◌≡◌, ◌≢◌, ℕ, ◌+◌, ◌*◌, ◌/◌, ◌%◌, ◌<◌, ◌≤◌, ◌⊎◌, ◌↔◌, Bool, true, false, cond, eqb, IsTrue, List, [], length, get_or, sym, refl, ap, ◌∙◌, subst, ⊎_elim, arith}
+use Rattle.std.proofs.Common.{◌≡◌, ◌≢◌, ℕ, ◌+◌, ◌*◌, ◌/◌, ◌%◌, ◌<◌, ◌≤◌, ◌⊎◌, ◌↔◌, Bool, true, false, cond, eqb, IsTrue, List, [], length, get_or, sym, refl}
+use Rattle.std.proofs.Common.{ap, ◌∙◌, subst, ⊎_elim, arith}
 use Rattle.std.proofs.lemmas.Bool.{cases_eq, cases_lt, cond-true, cond-false, eq-eqb, ne_eqb, false≢true}
 use Rattle.rbbi_model.specs.Tables.{Table, RowHead, step}
 use Rattle.rbbi_model.specs.SafePairs.{IsSafePair, stored_bit}
@@ -9,11 +10,13 @@ use Rattle.rbbi_table.proofs.MoveLemmas.{row_end}
 
 -- the bits below a number are those of the safe pairs, and none is set from there on
 pub record AreFirstPairs (table : Table) (bytes : List ℕ) (count : ℕ) : Type 0 where
-  pub exactly : (first second : ℕ) → first < table.categories → second < table.categories → first * table.categories + second < count → IsTrue (stored_bit bytes (first * table.categories + second)) ↔ IsSafePair table first second
+  pub exactly : (first second : ℕ) → first < table.categories → second < table.categories → first * table.categories + second < count →
+      IsTrue (stored_bit bytes (first * table.categories + second)) ↔ IsSafePair table first second
   pub none : (i : ℕ) → count ≤ i → ¬ IsTrue (stored_bit bytes i)
 
 -- a pair is safe where all rows that open rows lead to lead on to one
-pub safe_where_one : (table : Table) (first second : ℕ) (targets : List ℕ) → AreTargets table first targets → LeadToOne table second targets ↔ IsSafePair table first second
+pub safe_where_one : (table : Table) (first second : ℕ) (targets : List ℕ) → AreTargets table first targets →
+    LeadToOne table second targets ↔ IsSafePair table first second
 safe_where_one table first second targets are = (
   λ one. (
     one.0,
@@ -34,7 +37,8 @@ row_after : (row count width : ℕ) → row < count → row * width + width ≤ 
 row_after row count width short = row_end row count width short
 
 -- two pairs with one number are the same
-same_pair : (width first second first' second' : ℕ) → second < width → second' < width → first * width + second ≡ first' * width + second' → (first ≡ first') × (second ≡ second')
+same_pair : (width first second first' second' : ℕ) → second < width → second' < width → first * width + second ≡ first' * width + second' → (first ≡ first') ×
+    (second ≡ second')
 same_pair width first second first' second' low low' is =
     ⊎_elim
     (λ same. (same, omega (arith, is, ap (λ n. n * width) same)))
@@ -46,8 +50,10 @@ same_pair width first second first' second' low low' is =
     (cases_eq first first')
 
 -- one more pair that is safe
-pub pair_set : (table : Table) (old new : List ℕ) (first second : ℕ) → second < table.categories → AreFirstPairs table old (first * table.categories + second) → IsSafePair table first second →
-    ((i : ℕ) → stored_bit new i ≡ cond (eqb i (first * table.categories + second)) true (stored_bit old i)) → AreFirstPairs table new (first * table.categories + second + 1)
+pub pair_set : (table : Table) (old new : List ℕ) (first second : ℕ) → second < table.categories → AreFirstPairs table old (first * table.categories + second) →
+    IsSafePair table first second →
+    ((i : ℕ) → stored_bit new i ≡ cond (eqb i (first * table.categories + second)) true (stored_bit old i)) →
+    AreFirstPairs table new (first * table.categories + second + 1)
 pair_set table old new first second low pairs safe bits =
     let at : ℕ = first * table.categories + second in
     let other_bit = λ (i : ℕ) (ne : i ≢ at). bits i ∙ cond-false (eqb i at) true (stored_bit old i) (ne_eqb i at ne) in
@@ -57,7 +63,8 @@ pair_set table old new first second low pairs safe bits =
           (λ same.
           let pair = same_pair table.categories f s first second s_low low same in (
             λ _. subst (λ n. IsSafePair table n s) (sym pair.0) (subst (λ n. IsSafePair table first n) (sym pair.1) safe),
-            λ _. bits (f * table.categories + s) ∙ cond-true (eqb (f * table.categories + s) at) true (stored_bit old (f * table.categories + s)) (eq-eqb (f * table.categories + s) at same),
+            λ _. bits (f * table.categories + s) ∙ cond-true (eqb (f * table.categories + s) at) true (stored_bit old (f * table.categories + s))
+                (eq-eqb (f * table.categories + s) at same),
           ))
           (λ other.
           subst (λ b. IsTrue b ↔ IsSafePair table f s) (sym (other_bit (f * table.categories + s) other)) (pairs.exactly f s f_low s_low (omega arith)))
@@ -66,7 +73,9 @@ pair_set table old new first second low pairs safe bits =
     }
 
 -- one more pair that isn't
-pub pair_unset : (table : Table) (bytes : List ℕ) (first second : ℕ) → second < table.categories → AreFirstPairs table bytes (first * table.categories + second) → ¬ IsSafePair table first second → AreFirstPairs table bytes (first * table.categories + second + 1)
+pub pair_unset : (table : Table) (bytes : List ℕ) (first second : ℕ) → second < table.categories →
+    AreFirstPairs table bytes (first * table.categories + second) → ¬ IsSafePair table first second →
+    AreFirstPairs table bytes (first * table.categories + second + 1)
 pair_unset table bytes first second low pairs unsafe =
     let at : ℕ = first * table.categories + second in
     record {
@@ -83,7 +92,8 @@ pair_unset table bytes first second low pairs unsafe =
     }
 
 -- the rows that open rows lead to are rows, and have a next row for each category
-pub targets_within : (width : ℕ) (rows : List RowHead) (cells : List ℕ) (category second : ℕ) (targets : List ℕ) → AreSteps width rows cells → AreTargets (rows_of width rows cells []) category targets → category < width → second < width →
+pub targets_within : (width : ℕ) (rows : List RowHead) (cells : List ℕ) (category second : ℕ) (targets : List ℕ) → AreSteps width rows cells →
+    AreTargets (rows_of width rows cells []) category targets → category < width → second < width →
     (i : ℕ) → i < length targets → get_or targets i 0 * width + second < length cells
 targets_within width rows cells category second targets steps are low second_low i short =
     let from = are.only i short in
@@ -91,11 +101,13 @@ targets_within width rows cells category second targets steps are low second_low
     let row : get_or targets i 0 < length rows = omega (arith, from.3, steps.within (from.0 * width + category) place) in
     omega (arith, row_after (get_or targets i 0) (length rows) width row, second_low, steps.all)
 
-pub all_pairs : (width : ℕ) (rows : List RowHead) (cells bytes : List ℕ) → length bytes ≡ (width * width + 7) / 8 → AreFirstPairs (rows_of width rows cells []) bytes (width * width) → ArePairsOf (rows_of width rows cells bytes)
+pub all_pairs : (width : ℕ) (rows : List RowHead) (cells bytes : List ℕ) → length bytes ≡ (width * width + 7) / 8 →
+    AreFirstPairs (rows_of width rows cells []) bytes (width * width) → ArePairsOf (rows_of width rows cells bytes)
 all_pairs width rows cells bytes long pairs = record {
   all = long;
   pairs = record {
-    exactly = λ first second first_low second_low. pairs.exactly first second first_low second_low (omega (arith, row_after first width width first_low, second_low));
+    exactly = λ first second first_low second_low. pairs.exactly first second first_low second_low
+        (omega (arith, row_after first width width first_low, second_low));
     filling = λ i past short. pairs.none i past;
   };
 }

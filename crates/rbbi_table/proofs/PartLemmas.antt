@@ -1,5 +1,6 @@
 -- A table whose parts are all valid, and the stored bits against those of the rows.
-use Rattle.std.proofs.Common.{◌≡◌, ◌≢◌, ℕ, suc, zero, ◌+◌, ◌*◌, ◌/◌, ◌%◌, ◌^◌, ◌<◌, ◌≤◌, ◌⊎◌, ◌↔◌, Bool, true, false, eqb, IsTrue, List, [], ◌∷◌, length, get_or, sym, refl, ap, ◌∙◌, subst, inl, inr, ⊎_elim, arith}
+use Rattle.std.proofs.Common.{◌≡◌, ◌≢◌, ℕ, suc, zero, ◌+◌, ◌*◌, ◌/◌, ◌%◌, ◌^◌, ◌<◌, ◌≤◌, ◌⊎◌, ◌↔◌, Bool, true, false, eqb, IsTrue, List, [], ◌∷◌, length}
+use Rattle.std.proofs.Common.{get_or, sym, refl, ap, ◌∙◌, subst, inl, inr, ⊎_elim, arith}
 use Rattle.std.specs.List.{AllByRecursion}
 use Rattle.std.specs.Int.{bit_at}
 use Rattle.std.proofs.lemmas.Bool.{cases_Bool, cases_lt, false≢true, eqb-true, eq-eqb}
@@ -19,7 +20,8 @@ pub all_bytes : (bytes : List ℕ) → ((i : ℕ) → get_or bytes i 0 < 256) �
 all_bytes [] small = tt
 all_bytes (byte ∷ bytes) small = (small zero, all_bytes bytes (λ i. small (suc i)))
 
-pub valid_table : (table : Table) → HasFittingParts table → ((i : ℕ) → get_or table.safe i 0 < 256) → AreValidRanges table.categories table.ranges → AreValidLists table.lists → AreValidRows table → AreFronted table → AreValidSafePairs table → IsValidTable table
+pub valid_table : (table : Table) → HasFittingParts table → ((i : ℕ) → get_or table.safe i 0 < 256) → AreValidRanges table.categories table.ranges →
+    AreValidLists table.lists → AreValidRows table → AreFronted table → AreValidSafePairs table → IsValidTable table
 valid_table table fitting small ranges lists rows fronts safe = record {
   well_formed = record { cells = fitting.cells; safe = fitting.safe; bytes = all_bytes table.safe small };
   ranges = ranges;
@@ -29,7 +31,8 @@ valid_table table fitting small ranges lists rows fronts safe = record {
   safe = safe;
 }
 
-pub kept_of : (table : Table) (numbers kept moves : List ℕ) → IsValidTable table → AreBlocks table.ranges numbers kept → AreMoves (rows_of table.categories table.rows table.cells []) moves → IsKept table numbers kept moves
+pub kept_of : (table : Table) (numbers kept moves : List ℕ) → IsValidTable table → AreBlocks table.ranges numbers kept →
+    AreMoves (rows_of table.categories table.rows table.cells []) moves → IsKept table numbers kept moves
 kept_of table numbers kept moves valid blocks own = record {
   valid = valid;
   in_blocks = blocks;
@@ -60,7 +63,8 @@ same_bit m n k is =
     (below_two (bit_at m k) (bit_at-lt m k))
 
 -- lists of bytes with the same bits are the same
-same_bytes : (these those : List ℕ) → length these ≡ length those → ((i : ℕ) → get_or these i 0 < 256) → ((i : ℕ) → get_or those i 0 < 256) → ((i : ℕ) → i < 8 * length these → stored_bit these i ≡ stored_bit those i) → these ≡ those
+same_bytes : (these those : List ℕ) → length these ≡ length those → ((i : ℕ) → get_or these i 0 < 256) → ((i : ℕ) → get_or those i 0 < 256) →
+    ((i : ℕ) → i < 8 * length these → stored_bit these i ≡ stored_bit those i) → these ≡ those
 same_bytes these those long small small' bits =
     ext_get_or 0 these those long (λ k short.
     same_from_bits_below 8 (get_or these k 0) (get_or those k 0) (small k) (small' k) (λ b low.
@@ -69,10 +73,12 @@ same_bytes these those long small small' bits =
     let bit : i % 8 ≡ b = omega arith in
     let is = bits i (omega (arith, short, low)) in
     same_bit (get_or these k 0) (get_or those k 0) b
-    (ap (λ n. has_bit (get_or these n 0) b) (sym byte) ∙ ap (λ n. has_bit (get_or these (i / 8) 0) n) (sym bit) ∙ is ∙ ap (λ n. has_bit (get_or those n 0) (i % 8)) byte ∙ ap (λ n. has_bit (get_or those k 0) n) bit)))
+    (ap (λ n. has_bit (get_or these n 0) b) (sym byte) ∙ ap (λ n. has_bit (get_or these (i / 8) 0) n) (sym bit) ∙ is ∙
+    ap (λ n. has_bit (get_or those n 0) (i % 8)) byte ∙ ap (λ n. has_bit (get_or those k 0) n) bit)))
 
 -- the stored bytes are those of the rows where the stored bits are valid
-pub stored_are : (table : Table) (bytes : List ℕ) → 1 ≤ table.categories → HasFittingParts table → ((i : ℕ) → get_or bytes i 0 < 256) → ((i : ℕ) → get_or table.safe i 0 < 256) → ArePairsOf (rows_of table.categories table.rows table.cells bytes) → AreValidSafePairs table → bytes ≡ table.safe
+pub stored_are : (table : Table) (bytes : List ℕ) → 1 ≤ table.categories → HasFittingParts table → ((i : ℕ) → get_or bytes i 0 < 256) →
+    ((i : ℕ) → get_or table.safe i 0 < 256) → ArePairsOf (rows_of table.categories table.rows table.cells bytes) → AreValidSafePairs table → bytes ≡ table.safe
 stored_are table bytes some fitting small small' pairs stored =
     let long : length bytes ≡ length table.safe = pairs.all ∙ sym fitting.safe in
     same_bytes bytes table.safe long small small' (λ i short.
@@ -86,7 +92,8 @@ stored_are table bytes some fitting small small' pairs stored =
     let own = pairs.pairs.exactly first second first_low low in
     let other = stored.exactly first second first_low low in
     let same : stored_bit bytes (first * table.categories + second) ≡ stored_bit table.safe (first * table.categories + second) =
-    same_bool (stored_bit bytes (first * table.categories + second)) (stored_bit table.safe (first * table.categories + second)) (λ is. other.1 (own.0 is)) (λ is. own.1 (other.0 is)) in
+    same_bool (stored_bit bytes (first * table.categories + second)) (stored_bit table.safe (first * table.categories + second)) (λ is. other.1 (own.0 is))
+    (λ is. own.1 (other.0 is)) in
     subst (λ n. stored_bit bytes n ≡ stored_bit table.safe n) split same)
     (λ past.
     same_bool (stored_bit bytes i) (stored_bit table.safe i)
@@ -95,7 +102,8 @@ stored_are table bytes some fitting small small' pairs stored =
     (cases_lt i (table.categories * table.categories)))
 
 -- bytes that are those of the rows are valid where they are stored
-pub pairs_valid : (table : Table) (bytes : List ℕ) → bytes ≡ table.safe → ArePairsOf (rows_of table.categories table.rows table.cells bytes) → AreValidSafePairs table
+pub pairs_valid : (table : Table) (bytes : List ℕ) → bytes ≡ table.safe → ArePairsOf (rows_of table.categories table.rows table.cells bytes) →
+    AreValidSafePairs table
 pairs_valid table bytes same pairs =
     let own = subst (λ (l : List ℕ). ArePairsOf (rows_of table.categories table.rows table.cells l)) same pairs in
     record { exactly = own.pairs.exactly; filling = own.pairs.filling }

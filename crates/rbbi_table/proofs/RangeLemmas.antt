@@ -10,7 +10,8 @@ use Rattle.rbbi_table.specs.Kept.{GoesOn, start_of, IsUpTo, Holds}
 abbrev pub no_range : CategoryRange
 no_range = record { start = 0; category = 0 }
 
-rise : (range : CategoryRange) (ranges : List CategoryRange) (k : ℕ) → AreApart (range ∷ ranges) → k < length (range ∷ ranges) → range.start ≤ start_of (range ∷ ranges) k
+rise : (range : CategoryRange) (ranges : List CategoryRange) (k : ℕ) → AreApart (range ∷ ranges) → k < length (range ∷ ranges) →
+    range.start ≤ start_of (range ∷ ranges) k
 rise range ranges zero apart short = omega arith
 rise range [] (suc k) apart short = absurd (omega (arith, short))
 rise range (next ∷ ranges) (suc k) apart short = let further = rise next ranges k apart.2 (omega (arith, short)) in omega (arith, further, apart.0)
@@ -26,7 +27,8 @@ rise_next ranges k apart short =
     let one : suc k ≡ k + 1 = omega arith in
     subst (λ m. start_of ranges k < start_of ranges m) one (rise_suc ranges k apart (omega (arith, short)))
 
-held : (before : ℕ) (ranges : List CategoryRange) (k c : ℕ) → AreApart ranges → k < length ranges → start_of ranges k ≤ c → (suc k < length ranges → c < start_of ranges (suc k)) → category_from before ranges c ≡ (get_or ranges k no_range).category
+held : (before : ℕ) (ranges : List CategoryRange) (k c : ℕ) → AreApart ranges → k < length ranges → start_of ranges k ≤ c →
+    (suc k < length ranges → c < start_of ranges (suc k)) → category_from before ranges c ≡ (get_or ranges k no_range).category
 held before [] k c apart short begins ends = absurd (omega (arith, short))
 held before (range ∷ []) zero c apart short begins ends = cond-true (leb range.start c) (category_from range.category [] c) before (le-leb range.start c begins)
 held before (range ∷ next ∷ ranges) zero c apart short begins ends =
@@ -50,11 +52,13 @@ GoOn categories previous [] = Unit {0}
 GoOn categories previous (range ∷ ranges) =
     GoesOn categories previous range × GoOn categories range ranges
 
-all_go_on : (categories : ℕ) (range : CategoryRange) (ranges : List CategoryRange) → AreApart (range ∷ ranges) → AllByRecursion (IsWithin categories) ranges → GoOn categories range ranges
+all_go_on : (categories : ℕ) (range : CategoryRange) (ranges : List CategoryRange) → AreApart (range ∷ ranges) → AllByRecursion (IsWithin categories) ranges →
+    GoOn categories range ranges
 all_go_on categories range [] apart within = tt
 all_go_on categories range (next ∷ ranges) apart within = ((apart.0, apart.1, within.0), all_go_on categories next ranges apart.2 within.1)
 
-are_apart : (categories : ℕ) (range : CategoryRange) (ranges : List CategoryRange) → GoOn categories range ranges → AreApart (range ∷ ranges) × AllByRecursion (IsWithin categories) ranges
+are_apart : (categories : ℕ) (range : CategoryRange) (ranges : List CategoryRange) → GoOn categories range ranges → AreApart (range ∷ ranges) ×
+    AllByRecursion (IsWithin categories) ranges
 are_apart categories range [] go = (tt, tt)
 are_apart categories range (next ∷ ranges) go =
     let rest = are_apart categories next ranges go.1 in
@@ -79,7 +83,8 @@ valid_where_go_on categories (range ∷ ranges) some few one starts within = (
       },
 )
 
-pub no_ranges_where_zero : (categories : ℕ) (ranges : List CategoryRange) → AreValidRanges categories ranges → ((get_or ranges 0 no_range).start ≡ 0) × ((get_or ranges 0 no_range).category < categories)
+pub no_ranges_where_zero : (categories : ℕ) (ranges : List CategoryRange) → AreValidRanges categories ranges → ((get_or ranges 0 no_range).start ≡ 0) ×
+    ((get_or ranges 0 no_range).category < categories)
 no_ranges_where_zero categories [] valid = absurd valid.from_zero
 no_ranges_where_zero categories (range ∷ ranges) valid = (valid.from_zero, valid.within.0.1)
 
@@ -88,12 +93,14 @@ pub goes_on : (categories : ℕ) (previous : CategoryRange) (ranges : List Categ
     GoOn categories previous (drop i ranges) ≡ GoOn categories previous (get_or ranges i no_range ∷ drop (i + 1) ranges)
 goes_on categories previous ranges i short = ap (λ l. GoOn categories previous l) (drop_more ranges i no_range short)
 
-climb : (range : CategoryRange) (ranges : List CategoryRange) (k : ℕ) → AreApart (range ∷ ranges) → k < length (range ∷ ranges) → range.start + k ≤ start_of (range ∷ ranges) k
+climb : (range : CategoryRange) (ranges : List CategoryRange) (k : ℕ) → AreApart (range ∷ ranges) → k < length (range ∷ ranges) →
+    range.start + k ≤ start_of (range ∷ ranges) k
 climb range ranges zero apart short = omega arith
 climb range [] (suc k) apart short = absurd (omega (arith, short))
 climb range (next ∷ ranges) (suc k) apart short = let further = climb next ranges k apart.2 (omega (arith, short)) in omega (arith, further, apart.0)
 
-start_small : (categories : ℕ) (ranges : List CategoryRange) (k : ℕ) → AllByRecursion (IsWithin categories) ranges → k < length ranges → start_of ranges k ≤ 1114111
+start_small : (categories : ℕ) (ranges : List CategoryRange) (k : ℕ) → AllByRecursion (IsWithin categories) ranges → k < length ranges →
+    start_of ranges k ≤ 1114111
 start_small categories [] k within short = absurd (omega (arith, short))
 start_small categories (range ∷ ranges) zero within short = within.0.0
 start_small categories (range ∷ ranges) (suc k) within short = start_small categories ranges k within.1 (omega (arith, short))

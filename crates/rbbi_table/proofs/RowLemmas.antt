@@ -1,5 +1,6 @@
 -- What is checked of each row, and what it says of all.
-use Rattle.std.proofs.Common.{◌≡◌, ◌≢◌, ℕ, ◌+◌, ◌-◌, ◌*◌, ◌/◌, ◌%◌, ◌^◌, ◌<◌, ◌≤◌, ◌⊎◌, ◌↔◌, List, [], ◌∷◌, length, take, drop, get_or, sym, refl, ap, ◌∙◌, subst, inl, inr, ⊎_elim, arith}
+use Rattle.std.proofs.Common.{◌≡◌, ◌≢◌, ℕ, ◌+◌, ◌-◌, ◌*◌, ◌/◌, ◌%◌, ◌^◌, ◌<◌, ◌≤◌, ◌⊎◌, ◌↔◌, List, [], ◌∷◌, length, take, drop, get_or, sym, refl, ap, ◌∙◌}
+use Rattle.std.proofs.Common.{subst, inl, inr, ⊎_elim, arith}
 use Rattle.std.proofs.lemmas.Bool.{cases_eq}
 use Rattle.std.proofs.Math.Nat.{div-lt_iff_lt-mul}
 use Rattle.rbbi_model.specs.Tables.{Table, RowHead, empty_head, head_of, accept_of, step, row_along}
@@ -50,7 +51,8 @@ module _ (table : Table) (all : length table.cells ≡ length table.rows * table
   pub is_entry : AreValidRows table → (row : ℕ) → row < length table.rows → IsEntry table row
   is_entry valid row short =
       let own = valid.each row short in
-      let low = λ (k : ℕ) (within : k < length (steps_of table.categories table.cells row)). (let e : k < table.categories = omega (arith, within, steps_long table.categories table.cells row (length table.rows) all short) in e) in
+      let low = λ (k : ℕ) (within : k < length (steps_of table.categories table.cells row)).
+      (let e : k < table.categories = omega (arith, within, steps_long table.categories table.cells row (length table.rows) all short) in e) in
       record {
         head_is = record {
           accept = own.accept;
@@ -72,7 +74,8 @@ module _ (table : Table) (all : length table.cells ≡ length table.rows * table
 pub entry_of : (table : Table) (rows : List RowHead) (cells : List ℕ) (lists row : ℕ) → rows ≡ table.rows → cells ≡ table.cells → lists ≡ length table.lists →
     IsValidEntry table.slashes lists (length rows) row (get_or rows row empty_head) (steps_of table.categories cells row) ↔ IsEntry table row
 entry_of table rows cells lists row same_rows same_cells same_lists =
-    let P : List RowHead → List ℕ → ℕ → Type 0 = λ rs cs ls. IsValidEntry table.slashes ls (length rs) row (get_or rs row empty_head) (steps_of table.categories cs row) in
+    let P : List RowHead → List ℕ → ℕ → Type 0 = λ rs cs ls. IsValidEntry table.slashes ls (length rs) row (get_or rs row empty_head)
+    (steps_of table.categories cs row) in
     subst (λ (rs : List RowHead). P rs cells lists ↔ IsEntry table row) (sym same_rows)
     (subst (λ (cs : List ℕ). P table.rows cs lists ↔ IsEntry table row) (sym same_cells)
     (subst (λ (ls : ℕ). P table.rows table.cells ls ↔ IsEntry table row) (sym same_lists) (λ h. h, λ h. h)))
@@ -81,7 +84,8 @@ some_of_product : (count width i : ℕ) → i < count * width → 0 < width
 some_of_product count width i short = ⊎_elim (λ none. absurd (omega (arith, short, ap (λ n. count * n) none))) (λ other. omega arith) (cases_eq width 0)
 
 -- the next rows of valid rows are rows
-pub steps_within : (table : Table) → length table.cells ≡ length table.rows * table.categories → AreValidRows table → AreSteps table.categories table.rows table.cells
+pub steps_within : (table : Table) → length table.cells ≡ length table.rows * table.categories → AreValidRows table →
+    AreSteps table.categories table.rows table.cells
 steps_within table all valid = record {
   all = all;
   within = λ i short.
@@ -96,12 +100,14 @@ steps_within table all valid = record {
 }
 
 -- the front of one look-ahead rule, over lists that are the table's
-pub front_of : (table : Table) (rows : List RowHead) (cells : List ℕ) (slash : ℕ) → rows ≡ table.rows → cells ≡ table.cells → IsFronted (rows_of table.categories rows cells []) slash ↔ IsFronted table slash
+pub front_of : (table : Table) (rows : List RowHead) (cells : List ℕ) (slash : ℕ) → rows ≡ table.rows → cells ≡ table.cells →
+    IsFronted (rows_of table.categories rows cells []) slash ↔ IsFronted table slash
 front_of table rows cells slash same_rows same_cells =
     subst (λ (rs : List RowHead). IsFronted (rows_of table.categories rs cells []) slash ↔ IsFronted table slash) (sym same_rows)
     (subst (λ (cs : List ℕ). IsFronted (rows_of table.categories table.rows cs []) slash ↔ IsFronted table slash) (sym same_cells) (λ h. h, λ h. h))
 
-way_within : (table : Table) → AreValidRows table → (row : ℕ) (way : List ℕ) → row < length table.rows → IsWay table way → row_along table row way < length table.rows
+way_within : (table : Table) → AreValidRows table → (row : ℕ) (way : List ℕ) → row < length table.rows → IsWay table way →
+    row_along table row way < length table.rows
 way_within table valid row [] short is = short
 way_within table valid row (category ∷ way) short is = way_within table valid (step table row category) way ((valid.each row short).next category is.0) is.1
 

@@ -1,5 +1,6 @@
 -- One search, character by character.
-use Rattle.std.proofs.Common.{◌≡◌, ◌≢◌, ℕ, suc, zero, ◌+◌, ◌-◌, ◌*◌, ◌/◌, ◌%◌, ◌<◌, ◌≤◌, ◌⊎◌, Bool, true, false, ◌&&◌, cond, ltb, eqb, List, Option, Some, None, length, take, drop, map, get_or, sym, refl, ap, ◌∙◌, subst, inl, inr, ⊎_elim, arith}
+use Rattle.std.proofs.Common.{◌≡◌, ◌≢◌, ℕ, suc, zero, ◌+◌, ◌-◌, ◌*◌, ◌/◌, ◌%◌, ◌<◌, ◌≤◌, ◌⊎◌, Bool, true, false, ◌&&◌, cond, ltb, eqb, List, Option, Some, None}
+use Rattle.std.proofs.Common.{length, take, drop, map, get_or, sym, refl, ap, ◌∙◌, subst, inl, inr, ⊎_elim, arith}
 use Rattle.std.specs.Prelude.{unwrap_or, IsTrue, IsSome}
 use Rattle.std.proofs.lemmas.Bool.{cases_Bool, cases_lt, cases_eq, cond-true, cond-false, and_from, and_parts, lt-ltb, ltb-true, eq-eqb, ne_eqb, false≢true}
 use Rattle.rbbi_model.specs.Places.{least_from, greatest_below, has_bit}
@@ -50,7 +51,8 @@ pub record IsSearch (table : Table) (x : List ℕ) (s at row end end_row : ℕ) 
   pub fronts : (k : ℕ) → k < table.slashes → IsLast (front_at table x s k) at (get_or places k 0)
 
 -- the last place goes on by one
-pub last_on : (test : ℕ → Bool) (at place place' : ℕ) → IsLast test at place → ((test (suc at) ≡ true) × (place' ≡ suc at)) ⊎ ((test (suc at) ≡ false) × (place' ≡ place)) → IsLast test (suc at) place'
+pub last_on : (test : ℕ → Bool) (at place place' : ℕ) → IsLast test at place → ((test (suc at) ≡ true) × (place' ≡ suc at)) ⊎
+    ((test (suc at) ≡ false) × (place' ≡ place)) → IsLast test (suc at) place'
 last_on test at place place' last cases q is =
     ⊎_elim
     (λ yes. yes.1 ∙ some_same (suc at) q (sym (cond-true (test (suc at)) (Some (suc at)) (greatest_below test (suc at)) yes.0) ∙ is))
@@ -62,28 +64,40 @@ abbrev pub EndsOn : Table → ℕ → ℕ → ℕ → ℕ → ℕ → ℕ → �
 EndsOn table next at row' end end' end_row end_row' =
     ((accept_of table next ≡ 1) × (end' ≡ suc at) × (end_row' ≡ row')) ⊎ ((accept_of table next ≢ 1) × (end' ≡ end) × (end_row' ≡ end_row))
 
-pub ended_on : (table : Table) (x : List ℕ) (s at row' end end' end_row end_row' : ℕ) → s ≤ at → row' ≡ row_at table x s (suc at) * stride table → IsEnd table x s at end end_row →
+pub ended_on : (table : Table) (x : List ℕ) (s at row' end end' end_row end_row' : ℕ) → s ≤ at → row' ≡ row_at table x s (suc at) * stride table →
+    IsEnd table x s at end end_row →
     EndsOn table (row_at table x s (suc at)) at row' end end' end_row end_row' → IsEnd table x s (suc at) end' end_row'
 ended_on table x s at row' end end' end_row end_row' from row_is ended on =
     let next : ℕ = row_at table x s (suc at) in
     let rest : Option ℕ = greatest_below (ends_at table x s) (suc at) in
     ⊎_elim
     (λ yes.
-    let holds : ends_at table x s (suc at) ≡ true = and_from (ltb s (suc at)) (eqb (accept_of table next) 1) (lt-ltb s (suc at) (omega arith)) (eq-eqb (accept_of table next) 1 yes.0) in
-    inr (omega (arith, yes.1), yes.2 ∙ row_is ∙ ap (λ q. row_at table x s q * stride table) (sym yes.1), cond-true (ends_at table x s (suc at)) (Some (suc at)) rest holds ∙ ap (λ (q : ℕ). Some q) (sym yes.1)))
+    let holds : ends_at table x s (suc at) ≡ true = and_from (ltb s (suc at)) (eqb (accept_of table next) 1) (lt-ltb s (suc at) (omega arith))
+    (eq-eqb (accept_of table next) 1 yes.0) in
+    inr (
+      omega (arith, yes.1),
+      yes.2 ∙ row_is ∙ ap (λ q. row_at table x s q * stride table) (sym yes.1),
+      cond-true (ends_at table x s (suc at)) (Some (suc at)) rest holds ∙ ap (λ (q : ℕ). Some q) (sym yes.1),
+    ))
     (λ no.
     let fails : ends_at table x s (suc at) ≡ false = and_false (ltb s (suc at)) (eqb (accept_of table next) 1) (ne_eqb (accept_of table next) 1 no.0) in
     let same : greatest_below (ends_at table x s) (suc (suc at)) ≡ rest = cond-false (ends_at table x s (suc at)) (Some (suc at)) rest fails in
     ⊎_elim
     (λ none. inl (no.1 ∙ none.0, no.2 ∙ none.1, same ∙ none.2))
-    (λ some. inr (omega (arith, some.0, no.1), no.2 ∙ some.1 ∙ ap (λ q. row_at table x s q * stride table) (sym no.1), same ∙ some.2 ∙ ap (λ (q : ℕ). Some q) (sym no.1)))
+    (λ some. inr (
+      omega (arith, some.0, no.1),
+      no.2 ∙ some.1 ∙ ap (λ q. row_at table x s q * stride table) (sym no.1),
+      same ∙ some.2 ∙
+          ap (λ (q : ℕ). Some q) (sym no.1),
+    ))
     ended)
     on
 
 module _ (table : Table) (x : List ℕ) (s : ℕ) where
   -- a step on to a row at which the search doesn't stop
   pub search_on : (at row row' end end' end_row end_row' : ℕ) (places places' : List ℕ) → IsSearch table x s at row end end_row places → at < length x →
-      row' ≡ row_at table x s (suc at) * stride table → stops table (row_at table x s (suc at)) ≡ false → EndsOn table (row_at table x s (suc at)) at row' end end' end_row end_row' →
+      row' ≡ row_at table x s (suc at) * stride table → stops table (row_at table x s (suc at)) ≡ false →
+      EndsOn table (row_at table x s (suc at)) at row' end end' end_row end_row' →
       ((k : ℕ) → k < table.slashes → get_or places' k 0 ≡ cond (has_bit (fronts_of table (row_at table x s (suc at))) k) (suc at) (get_or places k 0)) →
       IsSearch table x s (suc at) row' end' end_row' places'
   search_on at row row' end end' end_row end_row' places places' searched short row_is going on noted =
@@ -102,13 +116,18 @@ module _ (table : Table) (x : List ℕ) (s : ℕ) where
             let bit : Bool = has_bit (fronts_of table next) k in
             last_on (front_at table x s k) at (get_or places k 0) (get_or places' k 0) (searched.fronts k low)
             (⊎_elim
-            (λ is. inl (and_from (ltb s (suc at)) bit (lt-ltb s (suc at) (omega (arith, searched.from))) is, noted k low ∙ cond-true bit (suc at) (get_or places k 0) is))
+            (λ is. inl (
+              and_from (ltb s (suc at)) bit (lt-ltb s (suc at) (omega (arith, searched.from))) is,
+              noted k low ∙
+                  cond-true bit (suc at) (get_or places k 0) is,
+            ))
             (λ isnt. inr (and_false (ltb s (suc at)) bit isnt, noted k low ∙ cond-false bit (suc at) (get_or places k 0) isnt))
             (cases_Bool bit));
       }
 
   -- a search ends at the first place at which it stops
-  pub stops_first : (at row end end_row : ℕ) (places : List ℕ) → IsSearch table x s at row end end_row places → at < length x → stops table (row_at table x s (suc at)) ≡ true → search_end table x s ≡ suc at
+  pub stops_first : (at row end end_row : ℕ) (places : List ℕ) → IsSearch table x s at row end end_row places → at < length x →
+      stops table (row_at table x s (suc at)) ≡ true → search_end table x s ≡ suc at
   stops_first at row end end_row places searched short stopped =
       let test : ℕ → Bool = λ z. stops table (row_at table x s z) in
       let least : ℕ = search_end table x s in
@@ -128,7 +147,8 @@ module _ (table : Table) (x : List ℕ) (s : ℕ) where
       (cases_lt least (suc at))
 
   -- or at the text's end
-  pub stops_last : (at row end end_row : ℕ) (places : List ℕ) → IsSearch table x s at row end end_row places → s < length x → at ≡ length x → search_end table x s ≡ at
+  pub stops_last : (at row end end_row : ℕ) (places : List ℕ) → IsSearch table x s at row end end_row places → s < length x → at ≡ length x →
+      search_end table x s ≡ at
   stops_last at row end end_row places searched short whole =
       let test : ℕ → Bool = λ z. stops table (row_at table x s z) in
       let least : ℕ = search_end table x s in
@@ -153,18 +173,26 @@ module _ (table : Table) (x : List ℕ) (s : ℕ) where
       ⊎_elim
       (λ none.
       let same : found table x s ≡ found_longest table x s None = whole ∙ ap (λ o. found_longest table x s o) (up_to ∙ none.2) in
-      let not_past : ltb s end ≡ false = not_less s end (omega (arith, none.0)) in
-      (ap (λ (f : Found). f.at) same ∙ sym (cond-false (ltb s end) end (s + 1) not_past), ap (λ (f : Found). f.list) same ∙ sym (cond-false (ltb s end) (list_of table (row_at table x s end)) 0 not_past)))
+      let not_past : ltb s end ≡ false = not_less s end (omega (arith, none.0)) in (
+        ap (λ (f : Found). f.at) same ∙ sym (cond-false (ltb s end) end (s + 1) not_past),
+        ap (λ (f : Found). f.list) same ∙
+            sym (cond-false (ltb s end) (list_of table (row_at table x s end)) 0 not_past),
+      ))
       (λ some.
       let same : found table x s ≡ found_longest table x s (Some end) = whole ∙ ap (λ o. found_longest table x s o) (up_to ∙ some.2) in
-      let past : ltb s end ≡ true = lt-ltb s end some.0 in
-      (ap (λ (f : Found). f.at) same ∙ sym (cond-true (ltb s end) end (s + 1) past), ap (λ (f : Found). f.list) same ∙ sym (cond-true (ltb s end) (list_of table (row_at table x s end)) 0 past)))
+      let past : ltb s end ≡ true = lt-ltb s end some.0 in (
+        ap (λ (f : Found). f.at) same ∙ sym (cond-true (ltb s end) end (s + 1) past),
+        ap (λ (f : Found). f.list) same ∙
+            sym (cond-true (ltb s end) (list_of table (row_at table x s end)) 0 past),
+      ))
       ended
 
   -- where one is
-  pub finds_cut : IsValidTable table → s < length x → (at row end end_row : ℕ) (places : List ℕ) → IsSearch table x s at row end end_row places → at < length x →
+  pub finds_cut : IsValidTable table → s < length x → (at row end end_row : ℕ) (places : List ℕ) → IsSearch table x s at row end end_row places →
+      at < length x →
       completes table (row_at table x s (suc at)) ≡ true → search_end table x s ≡ suc at → accept_of table (row_at table x s (suc at)) - 2 < table.slashes →
-      ((found table x s).at ≡ get_or places (accept_of table (row_at table x s (suc at)) - 2) 0) × ((found table x s).list ≡ list_of table (row_at table x s (suc at)))
+      ((found table x s).at ≡ get_or places (accept_of table (row_at table x s (suc at)) - 2) 0) ×
+      ((found table x s).list ≡ list_of table (row_at table x s (suc at)))
   finds_cut valid short at row end end_row places searched inside completed is low =
       let last : ℕ = row_at table x s (search_end table x s) in
       let k : ℕ = accept_of table last - 2 in
@@ -172,7 +200,8 @@ module _ (table : Table) (x : List ℕ) (s : ℕ) where
       let same : k ≡ own = ap (λ q. accept_of table (row_at table x s q) - 2) is in
       let cut : Found = record { at = cut_place table x s (search_end table x s) k; list = list_of table last } in
       let holds : completes table last ≡ true = ap (λ q. completes table (row_at table x s q)) is ∙ completed in
-      let whole : found table x s ≡ cut = cond-true (completes table last) cut (found_longest table x s (longest_place table x s (search_end table x s))) holds in
+      let whole : found table x s ≡ cut = cond-true (completes table last) cut
+      (found_longest table x s (longest_place table x s (search_end table x s))) holds in
       let lies = cut_is table valid x s short holds in
       let place : ℕ = cut_place table x s (search_end table x s) k in
       let test : ℕ → Bool = front_at table x s k in
@@ -180,16 +209,21 @@ module _ (table : Table) (x : List ℕ) (s : ℕ) where
       let some = is_some_one (greatest_below test (search_end table x s)) (greatest_is test (search_end table x s) place lies.1 passes) in
       let top : place ≡ some.0 = ap (λ o. unwrap_or o (s + 1)) some.1 in
       let at_own : greatest_below (front_at table x s own) (suc at) ≡ Some some.0 =
-      ap (λ n. greatest_below (front_at table x s n) (suc at)) (sym same) ∙ ap (λ q. greatest_below test q) (sym is) ∙ some.1 in
-      (ap (λ (f : Found). f.at) whole ∙ top ∙ sym (searched.fronts own low some.0 at_own), ap (λ (f : Found). f.list) whole ∙ ap (λ q. list_of table (row_at table x s q)) is)
+      ap (λ n. greatest_below (front_at table x s n) (suc at)) (sym same) ∙ ap (λ q. greatest_below test q) (sym is) ∙ some.1 in (
+        ap (λ (f : Found). f.at) whole ∙ top ∙ sym (searched.fronts own low some.0 at_own),
+        ap (λ (f : Found). f.list) whole ∙
+            ap (λ q. list_of table (row_at table x s q)) is,
+      )
 
   pub looks_to_stop : (z : ℕ) → search_end table x s ≡ z → stops table (row_at table x s z) ≡ true → look_end table x s ≡ z
   looks_to_stop z is stopped =
-      cond-true (stops table (row_at table x s (search_end table x s))) (search_end table x s) (length x + 1) (ap (λ q. stops table (row_at table x s q)) is ∙ stopped) ∙ is
+      cond-true (stops table (row_at table x s (search_end table x s))) (search_end table x s) (length x + 1)
+      (ap (λ q. stops table (row_at table x s q)) is ∙ stopped) ∙ is
 
   pub looks_past : (z : ℕ) → search_end table x s ≡ z → stops table (row_at table x s z) ≡ false → look_end table x s ≡ length x + 1
   looks_past z is going =
-      cond-false (stops table (row_at table x s (search_end table x s))) (search_end table x s) (length x + 1) (ap (λ q. stops table (row_at table x s q)) is ∙ going)
+      cond-false (stops table (row_at table x s (search_end table x s))) (search_end table x s) (length x + 1)
+      (ap (λ q. stops table (row_at table x s q)) is ∙ going)
 
 -- what the number of a move says
 pub record IsDecoded (cell place : ℕ) (ends plain stop : Bool) : Type 0 where
@@ -198,15 +232,64 @@ pub record IsDecoded (cell place : ℕ) (ends plain stop : Bool) : Type 0 where
   pub fronts_is : cell / 2 % 2 ≡ cond plain 0 1
   pub stop_is : cell / 4 % 2 ≡ cond stop 1 0
 
-pub decoded : (cell place : ℕ) (ends plain stop : Bool) → cell ≡ place * 8 + (cond ends 1 0 + cond plain 0 2 + cond stop 4 0) → IsDecoded cell place ends plain stop
-decoded cell place true true true is = record { place_is = omega (arith, is); ends_is = omega (arith, is); fronts_is = omega (arith, is); stop_is = omega (arith, is) }
-decoded cell place true true false is = record { place_is = omega (arith, is); ends_is = omega (arith, is); fronts_is = omega (arith, is); stop_is = omega (arith, is) }
-decoded cell place true false true is = record { place_is = omega (arith, is); ends_is = omega (arith, is); fronts_is = omega (arith, is); stop_is = omega (arith, is) }
-decoded cell place true false false is = record { place_is = omega (arith, is); ends_is = omega (arith, is); fronts_is = omega (arith, is); stop_is = omega (arith, is) }
-decoded cell place false true true is = record { place_is = omega (arith, is); ends_is = omega (arith, is); fronts_is = omega (arith, is); stop_is = omega (arith, is) }
-decoded cell place false true false is = record { place_is = omega (arith, is); ends_is = omega (arith, is); fronts_is = omega (arith, is); stop_is = omega (arith, is) }
-decoded cell place false false true is = record { place_is = omega (arith, is); ends_is = omega (arith, is); fronts_is = omega (arith, is); stop_is = omega (arith, is) }
-decoded cell place false false false is = record { place_is = omega (arith, is); ends_is = omega (arith, is); fronts_is = omega (arith, is); stop_is = omega (arith, is) }
+pub decoded : (cell place : ℕ) (ends plain stop : Bool) → cell ≡ place * 8 + (cond ends 1 0 + cond plain 0 2 + cond stop 4 0) → IsDecoded cell place ends plain
+    stop
+decoded cell place true true true is = record {
+  place_is = omega (arith, is);
+  ends_is = omega (arith, is);
+  fronts_is = omega (arith, is);
+  stop_is =
+      omega (arith, is);
+}
+decoded cell place true true false is = record {
+  place_is = omega (arith, is);
+  ends_is = omega (arith, is);
+  fronts_is = omega (arith, is);
+  stop_is =
+      omega (arith, is);
+}
+decoded cell place true false true is = record {
+  place_is = omega (arith, is);
+  ends_is = omega (arith, is);
+  fronts_is = omega (arith, is);
+  stop_is =
+      omega (arith, is);
+}
+decoded cell place true false false is = record {
+  place_is = omega (arith, is);
+  ends_is = omega (arith, is);
+  fronts_is = omega (arith, is);
+  stop_is =
+      omega (arith, is);
+}
+decoded cell place false true true is = record {
+  place_is = omega (arith, is);
+  ends_is = omega (arith, is);
+  fronts_is = omega (arith, is);
+  stop_is =
+      omega (arith, is);
+}
+decoded cell place false true false is = record {
+  place_is = omega (arith, is);
+  ends_is = omega (arith, is);
+  fronts_is = omega (arith, is);
+  stop_is =
+      omega (arith, is);
+}
+decoded cell place false false true is = record {
+  place_is = omega (arith, is);
+  ends_is = omega (arith, is);
+  fronts_is = omega (arith, is);
+  stop_is =
+      omega (arith, is);
+}
+decoded cell place false false false is = record {
+  place_is = omega (arith, is);
+  ends_is = omega (arith, is);
+  fronts_is = omega (arith, is);
+  stop_is =
+      omega (arith, is);
+}
 
 -- a number that is 1 or 0 by a test
 pub one_means : (b : Bool) (n : ℕ) → n ≡ cond b 1 0 → n ≡ 1 → b ≡ true
@@ -223,7 +306,8 @@ one_means_not false n is other = absurd (other is)
 
 none_before : (test : ℕ → Bool) (n : ℕ) → ((q : ℕ) → q < n → test q ≡ false) → greatest_below test n ≡ None
 none_before test zero fails = refl
-none_before test (suc n) fails = cond-false (test n) (Some n) (greatest_below test n) (fails n (omega arith)) ∙ none_before test n (λ q short. fails q (omega arith))
+none_before test (suc n) fails = cond-false (test n) (Some n) (greatest_below test n) (fails n (omega arith)) ∙
+    none_before test n (λ q short. fails q (omega arith))
 
 none_up_to : (s : ℕ) (test : ℕ → Bool) → greatest_below (λ q. ltb s q && test q) (suc s) ≡ None
 none_up_to s test = none_before (λ q. ltb s q && test q) (suc s) (λ q short. ap (λ b. b && test q) (not_less s q (omega arith)))
@@ -231,7 +315,8 @@ none_up_to s test = none_before (λ q. ltb s q && test q) (suc s) (λ q short. a
 -- a search begins in row 1
 pub search_start : (table : Table) (x : List ℕ) (s row : ℕ) (places : List ℕ) → s < length x → row ≡ table.categories + 3 → IsSearch table x s s row s 0 places
 search_start table x s row places short is =
-    let one : row_at table x s s ≡ 1 = ap (λ n. row_along table 1 (map (category_of table.ranges) (take n (drop s x)))) (let e : s - s ≡ 0 = omega arith in e) in
+    let one : row_at table x s s ≡ 1 = ap (λ n. row_along table 1 (map (category_of table.ranges) (take n (drop s x))))
+    (let e : s - s ≡ 0 = omega arith in e) in
     record {
       from = omega arith;
       to = omega arith;

@@ -1,8 +1,10 @@
 -- The rows that the first open rows lead to, and the rows that are gathered.
-use Rattle.std.proofs.Common.{◌≡◌, ◌≢◌, ℕ, suc, zero, ◌+◌, ◌*◌, ◌/◌, ◌%◌, ◌<◌, ◌≤◌, ◌⊎◌, Bool, true, false, cond, List, [], ◌∷◌, ◌++◌, length, get_or, set, replicate, slice_index, sym, refl, ap, ◌∙◌, subst, inl, inr, ⊎_elim, arith}
+use Rattle.std.proofs.Common.{◌≡◌, ◌≢◌, ℕ, suc, zero, ◌+◌, ◌*◌, ◌/◌, ◌%◌, ◌<◌, ◌≤◌, ◌⊎◌, Bool, true, false, cond, List, [], ◌∷◌, ◌++◌, length, get_or, set}
+use Rattle.std.proofs.Common.{replicate, slice_index, sym, refl, ap, ◌∙◌, subst, inl, inr, ⊎_elim, arith}
 use Rattle.std.specs.List.{count_by}
 use Rattle.std.proofs.lemmas.Bool.{cases_eq, false≢true}
-use Rattle.std.proofs.lemmas.List.{get_or-set_same, get_or-set_other, get_or_append_left, get_or_push, length_push, length-set, get_or-replicate, length-replicate}
+use Rattle.std.proofs.lemmas.List.{get_or-set_same, get_or-set_other, get_or_append_left, get_or_push, length_push, length-set, get_or-replicate}
+use Rattle.std.proofs.lemmas.List.{length-replicate}
 use Rattle.std.proofs.lemmas.List.Sums.{sum_by-set}
 use Rattle.rbbi_model.specs.Tables.{Table, step, accept_of}
 use Rattle.rbbi_model.specs.SafePairs.{IsOpen}
@@ -20,7 +22,8 @@ none_below table category targets none = record {
   only = λ i short. absurd (omega (arith, short, ap length none));
 }
 
-pub skip_closed : (table : Table) (category : ℕ) (targets : List ℕ) (row : ℕ) → AreTargetsBelow table category targets row → 2 ≤ accept_of table row → AreTargetsBelow table category targets (row + 1)
+pub skip_closed : (table : Table) (category : ℕ) (targets : List ℕ) (row : ℕ) → AreTargetsBelow table category targets row → 2 ≤ accept_of table row →
+    AreTargetsBelow table category targets (row + 1)
 skip_closed table category targets row below closed = record {
   all = λ r short opened.
       ⊎_elim
@@ -30,7 +33,8 @@ skip_closed table category targets row below closed = record {
   only = below.only;
 }
 
-pub add_open : (table : Table) (category : ℕ) (old new : List ℕ) (row : ℕ) → AreTargetsBelow table category old row → row < length table.rows → IsOpen table row → AddsTarget old (step table row category) new → AreTargetsBelow table category new (row + 1)
+pub add_open : (table : Table) (category : ℕ) (old new : List ℕ) (row : ℕ) → AreTargetsBelow table category old row → row < length table.rows →
+    IsOpen table row → AddsTarget old (step table row category) new → AreTargetsBelow table category new (row + 1)
 add_open table category old new row below within opened adds = record {
   all = λ r short open_row.
       ⊎_elim
@@ -49,14 +53,16 @@ add_open table category old new row below within opened adds = record {
       (adds.only i short);
 }
 
-pub none_gathered : (seen : List Bool) (targets : List ℕ) → ((i : ℕ) → i < length seen → get_or seen i false ≡ false) → targets ≡ [] → count_by (λ is. is) seen ≡ 0 → IsGathered seen targets
+pub none_gathered : (seen : List Bool) (targets : List ℕ) → ((i : ℕ) → i < length seen → get_or seen i false ≡ false) → targets ≡ [] →
+    count_by (λ is. is) seen ≡ 0 → IsGathered seen targets
 none_gathered seen targets unseen none nothing = record {
   each = λ target short is. absurd (false≢true (sym (unseen target short) ∙ is));
   count = ap length none ∙ sym nothing;
 }
 
 -- a row that was seen is there already
-pub adds_nothing : (seen : List Bool) (targets : List ℕ) (target : ℕ) → target < length seen → IsGathered seen targets → get_or seen target false ≡ true → AddsTarget targets target targets
+pub adds_nothing : (seen : List Bool) (targets : List ℕ) (target : ℕ) → target < length seen → IsGathered seen targets → get_or seen target false ≡ true →
+    AddsTarget targets target targets
 adds_nothing seen targets target short gathered is = record {
   has = gathered.each target short is;
   keeps = λ i within. (within, refl);
@@ -77,7 +83,8 @@ adds_one targets target = record {
       (cases_eq i (length targets));
 }
 
-pub gathers_one : (seen : List Bool) (targets : List ℕ) (target : ℕ) → target < length seen → IsGathered seen targets → get_or seen target false ≡ false → IsGathered (set seen target true) (targets ++ target ∷ [])
+pub gathers_one : (seen : List Bool) (targets : List ℕ) (target : ℕ) → target < length seen → IsGathered seen targets → get_or seen target false ≡ false →
+    IsGathered (set seen target true) (targets ++ target ∷ [])
 gathers_one seen targets target short gathered isnt = record {
   each = λ t within is.
       ⊎_elim
@@ -101,4 +108,5 @@ count_none (suc n) = omega (arith, count_none n)
 pub gathers_none : (n : ℕ) (seen : List Bool) (targets : List ℕ) → seen ≡ replicate n false → targets ≡ [] → IsGathered seen targets
 gathers_none n seen targets unseen none =
     subst (λ (l : List Bool). IsGathered l targets) (sym unseen)
-    (none_gathered (replicate n false) targets (λ i short. get_or-replicate n i false false (omega (arith, short, length-replicate n false))) none (count_none n))
+    (none_gathered (replicate n false) targets (λ i short. get_or-replicate n i false false (omega (arith, short, length-replicate n false))) none
+    (count_none n))

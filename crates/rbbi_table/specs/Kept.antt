@@ -1,5 +1,6 @@
 -- What a table keeps beside its parts: the categories in blocks, and the rows in one flat list.
-use Rattle.std.specs.Prelude.{◌≡◌, ◌≢◌, ℕ, ◌+◌, ◌*◌, ◌/◌, ◌%◌, ◌<◌, ◌≤◌, List, [], ◌∷◌, ◌++◌, map, length, slice_index, slice_index_or, Bool, ◌||◌, if◌then◌else◌, ◌==◌, nat_le}
+use Rattle.std.specs.Prelude.{◌≡◌, ◌≢◌, ℕ, ◌+◌, ◌*◌, ◌/◌, ◌%◌, ◌<◌, ◌≤◌, List, [], ◌∷◌, ◌++◌, map, length, slice_index, slice_index_or, Bool, ◌||◌}
+use Rattle.std.specs.Prelude.{if◌then◌else◌, ◌==◌, nat_le}
 use Rattle.rbbi_model.specs.Tables.{Table, CategoryRange, category_of, RowHead, empty_head, head_of, accept_of, fronts_of, list_of, step}
 use Rattle.rbbi_model.specs.ValidTables.{IsWithin, IsValidTable}
 

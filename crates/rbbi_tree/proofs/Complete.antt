@@ -57,7 +57,8 @@ one : (place : ℕ) (atom : AtomTree) (done : List StatementTree) (head : HeadTr
 one place atom done head groups level reads =
     ap (λ o. option_and_then (run []) (option_map (atom_read place atom) o)) (reads place (inside done head groups level))
 
-run_quant : (quant : Quant) (ts : List Token) (place : ℕ) (atom : AtomTree) (done : List StatementTree) (head : HeadTree) (groups : List GroupTree) (level : LevelTree) → IsQuant ts quant →
+run_quant : (quant : Quant) (ts : List Token) (place : ℕ) (atom : AtomTree) (done : List StatementTree) (head : HeadTree) (groups : List GroupTree)
+    (level : LevelTree) → IsQuant ts quant →
     run ts (inside done head groups (with_item (placed place atom Once) level)) ≡ Some (inside done head groups (with_item (placed place atom quant) level))
 run_quant Once ts place atom done head groups level h = rw h refl
 run_quant Star ts place atom done head groups level (at, h) = rw h refl
@@ -69,7 +70,8 @@ mutual
       IsItem ts i →
       run ts (inside done head groups level) ≡ Some (inside done head groups (with_item i level))
   run_item (placed place atom quant) ts done head groups level reads (a, b, h, is, q) =
-      rw h (run-on a b (inside done head groups level) _ (run_atom atom place a done head groups level reads is) ∙ run_quant quant b place atom done head groups level q)
+      rw h (run-on a b (inside done head groups level) _ (run_atom atom place a done head groups level reads is) ∙
+      run_quant quant b place atom done head groups level q)
 
   run_atom : (atom : AtomTree) (place : ℕ) (ts : List Token) (done : List StatementTree) (head : HeadTree) (groups : List GroupTree) (level : LevelTree) →
       Reads head → IsAtom place ts atom →
@@ -111,7 +113,8 @@ mutual
       let (sequences, k, ks, further, end) = run_more more b done head groups [] j js reads bars rest in
       (sequences, k, ks, rw h (run-on a b (inside done head groups empty_level) _ ran ∙ further), end ∙ ap (λ s. alternative s more) all)
 
-  run_more : (e : ExprTree) (ts : List Token) (done : List StatementTree) (head : HeadTree) (groups : List GroupTree) (sequences : List SeqTree) (i : ItemTree) (is : List ItemTree) →
+  run_more : (e : ExprTree) (ts : List Token) (done : List StatementTree) (head : HeadTree) (groups : List GroupTree) (sequences : List SeqTree) (i : ItemTree)
+      (is : List ItemTree) →
       Reads head → MayBar head groups → AreMoreAlternatives ts e →
       Reaches ts done head groups (record { sequences = sequences; items = i ∷ is }) (sequences_back sequences (alternative (items_back (i ∷ is) no_items) e))
   run_more no_alternatives ts done head groups sequences i is reads bars h = (sequences, i, is, rw h refl, refl)
@@ -222,13 +225,16 @@ run_begin false caret a more place done h well begins =
     rw h (begin_at a more place done well (subst (λ us. BeginsAt place (us ++ (a ++ more))) h begins))
 
 -- a rule ends, with a tag or without one
-run_rule_end : (tag : Option ℕ) (t : List Token) (semi place : ℕ) (no_chain_in : Bool) (done : List StatementTree) (sequences : List SeqTree) (i : ItemTree) (is : List ItemTree) → IsTag t tag →
+run_rule_end : (tag : Option ℕ) (t : List Token) (semi place : ℕ) (no_chain_in : Bool) (done : List StatementTree) (sequences : List SeqTree) (i : ItemTree)
+    (is : List ItemTree) → IsTag t tag →
     let level : LevelTree = record { sequences = sequences; items = i ∷ is } in
-    run (t ++ token Semi semi ∷ []) (inside done (ruling place no_chain_in) [] level) ≡ Some (after (done ++ rule place no_chain_in (whole level) None None tag ∷ []))
+    run (t ++ token Semi semi ∷ []) (inside done (ruling place no_chain_in) [] level) ≡ Some
+    (after (done ++ rule place no_chain_in (whole level) None None tag ∷ []))
 run_rule_end None t semi place no_chain_in done sequences i is h = rw h refl
 run_rule_end (Some status) t semi place no_chain_in done sequences i is (at, h) = rw h refl
 
-run_rest_end : (tag : Option ℕ) (t : List Token) (semi place slash : ℕ) (no_chain_in : Bool) (front : ExprTree) (done : List StatementTree) (i : ItemTree) (is : List ItemTree) → IsTag t tag →
+run_rest_end : (tag : Option ℕ) (t : List Token) (semi place slash : ℕ) (no_chain_in : Bool) (front : ExprTree) (done : List StatementTree) (i : ItemTree)
+    (is : List ItemTree) → IsTag t tag →
     let level : LevelTree = record { sequences = []; items = i ∷ is } in
     run (t ++ token Semi semi ∷ []) (inside done (resting place no_chain_in front slash) [] level)
     ≡ Some (after (done ++ rule place no_chain_in front (Some slash) (Some (whole level)) tag ∷ []))
@@ -236,9 +242,11 @@ run_rest_end None t semi place slash no_chain_in front done i is h = rw h refl
 run_rest_end (Some status) t semi place slash no_chain_in front done i is (at, h) = rw h refl
 
 -- what a rule matches is read, and its end
-run_matcher : (front : ExprTree) (slash : Option ℕ) (rest : Option ExprTree) (tag : Option ℕ) (a t : List Token) (semi place : ℕ) (no_chain_in : Bool) (done : List StatementTree) →
+run_matcher : (front : ExprTree) (slash : Option ℕ) (rest : Option ExprTree) (tag : Option ℕ) (a t : List Token) (semi place : ℕ) (no_chain_in : Bool)
+    (done : List StatementTree) →
     IsMatcher a front slash rest → IsTag t tag →
-    run (a ++ (t ++ token Semi semi ∷ [])) (inside done (ruling place no_chain_in) [] empty_level) ≡ Some (after (done ++ rule place no_chain_in front slash rest tag ∷ []))
+    run (a ++ (t ++ token Semi semi ∷ [])) (inside done (ruling place no_chain_in) [] empty_level) ≡ Some
+    (after (done ++ rule place no_chain_in front slash rest tag ∷ []))
 run_matcher front None None tag a t semi place no_chain_in done e tag_is =
     let (sequences, i, is, ran, all) = run_expr front a done (ruling place no_chain_in) [] (λ place p. refl) (λ done level i is. refl) e in
     run-on a (t ++ token Semi semi ∷ []) (inside done (ruling place no_chain_in) [] empty_level) _ ran

@@ -35,7 +35,8 @@ ended-sets place t (o ∷ outers) sets p = refl
 
 run_end : (spot : Spot) (last : SetState) (close place : ℕ) (negated : Bool) (parts : List PartTree) (outers : List OuterSetTree) (p : Progress) →
     Fits spot last →
-    run (token SetClose close ∷ []) (in_set place negated parts last outers p) ≡ Some (set_ended place (set_of place negated (parts_back (settled last parts) no_parts)) outers p)
+    run (token SetClose close ∷ []) (in_set place negated parts last outers p) ≡ Some
+    (set_ended place (set_of place negated (parts_back (settled last parts) no_parts)) outers p)
 run_end opening state.Opened close place negated parts outers p fits = ap Some (ended-sets place (set_of place negated (parts_back parts no_parts)) outers _ p)
 run_end opening state.Begun close place negated parts outers p fits = ap Some (ended-sets place (set_of place negated (parts_back parts no_parts)) outers _ p)
 run_end behind state.Operand close place negated parts outers p fits = ap Some (ended-sets place (set_of place negated (parts_back parts no_parts)) outers _ p)
@@ -44,7 +45,8 @@ run_end elsewhere (state.Character c at) close place negated parts outers p fits
     ap Some (ended-sets place (set_of place negated (parts_back parts (part (joined at Add (set_character c)) no_parts))) outers _ p)
 run_end spot last close place negated parts outers p fits = absurd fits
 
-run_last_hyphen : (spot : Spot) (last : SetState) (hyphen close place : ℕ) (negated : Bool) (parts : List PartTree) (outers : List OuterSetTree) (p : Progress) → Fits spot last →
+run_last_hyphen : (spot : Spot) (last : SetState) (hyphen close place : ℕ) (negated : Bool) (parts : List PartTree) (outers : List OuterSetTree)
+    (p : Progress) → Fits spot last →
     run (token Hyphen hyphen ∷ token SetClose close ∷ []) (in_set place negated parts last outers p)
     ≡ Some (set_ended place (set_of place negated (parts_back (settled last parts) (part (hyphen_at hyphen) no_parts))) outers p)
 run_last_hyphen opening state.Opened hyphen close place negated parts outers p fits =
@@ -59,16 +61,20 @@ run_last_hyphen elsewhere (state.Character c at) hyphen close place negated part
     ap Some (ended-sets place (set_of place negated (parts_back parts (part (joined at Add (set_character c)) (part (hyphen_at hyphen) no_parts)))) outers _ p)
 run_last_hyphen spot last hyphen close place negated parts outers p fits = absurd fits
 
-run_first_hyphen : (spot : Spot) (last : SetState) (hyphen place : ℕ) (negated : Bool) (parts : List PartTree) (rest : List Token) (outers : List OuterSetTree) (p : Progress) → IsOpening spot → Fits spot last →
-    run (token Hyphen hyphen ∷ rest) (in_set place negated parts last outers p) ≡ run rest (in_set place negated (hyphen_at hyphen ∷ settled last parts) state.Apart outers p)
+run_first_hyphen : (spot : Spot) (last : SetState) (hyphen place : ℕ) (negated : Bool) (parts : List PartTree) (rest : List Token) (outers : List OuterSetTree)
+    (p : Progress) → IsOpening spot → Fits spot last →
+    run (token Hyphen hyphen ∷ rest) (in_set place negated parts last outers p) ≡ run rest
+    (in_set place negated (hyphen_at hyphen ∷ settled last parts) state.Apart outers p)
 run_first_hyphen opening state.Opened hyphen place negated parts rest outers p is fits = refl
 run_first_hyphen opening state.Begun hyphen place negated parts rest outers p is fits = refl
 run_first_hyphen opening last hyphen place negated parts rest outers p is fits = absurd fits
 run_first_hyphen behind last hyphen place negated parts rest outers p is fits = absurd is
 run_first_hyphen elsewhere last hyphen place negated parts rest outers p is fits = absurd is
 
-run_character : (spot : Spot) (last : SetState) (c : ℕ) (bare : Bool) (at place : ℕ) (negated : Bool) (parts : List PartTree) (rest : List Token) (outers : List OuterSetTree) (p : Progress) → Fits spot last →
-    run (token (Char c bare) at ∷ rest) (in_set place negated parts last outers p) ≡ run rest (in_set place negated (settled last parts) (state.Character c at) outers p)
+run_character : (spot : Spot) (last : SetState) (c : ℕ) (bare : Bool) (at place : ℕ) (negated : Bool) (parts : List PartTree) (rest : List Token)
+    (outers : List OuterSetTree) (p : Progress) → Fits spot last →
+    run (token (Char c bare) at ∷ rest) (in_set place negated parts last outers p) ≡ run rest
+    (in_set place negated (settled last parts) (state.Character c at) outers p)
 run_character opening state.Opened c bare at place negated parts rest outers p fits = refl
 run_character opening state.Begun c bare at place negated parts rest outers p fits = refl
 run_character behind state.Operand c bare at place negated parts rest outers p fits = refl
@@ -77,7 +83,8 @@ run_character elsewhere (state.Character d on) c bare at place negated parts res
 run_character spot last c bare at place negated parts rest outers p fits = absurd fits
 
 -- characters are read, and may be parts or wait to be
-run_characters : (first : PartTree) (a rest : List Token) (spot : Spot) (last : SetState) (place : ℕ) (negated : Bool) (parts : List PartTree) (outers : List OuterSetTree) (p : Progress) →
+run_characters : (first : PartTree) (a rest : List Token) (spot : Spot) (last : SetState) (place : ℕ) (negated : Bool) (parts : List PartTree)
+    (outers : List OuterSetTree) (p : Progress) →
     AreCharactersPart a first → Fits spot last →
     (last' : SetState) × (parts' : List PartTree) × Fits elsewhere last' × (settled last' parts' ≡ first ∷ settled last parts)
     × (run (a ++ rest) (in_set place negated parts last outers p) ≡ run rest (in_set place negated parts' last' outers p))
@@ -105,7 +112,8 @@ join-fits elsewhere (state.Character c at) fits = refl
 join-fits spot last fits = absurd fits
 
 -- the sign of a join is read
-run_join : (join : Join) (sign rest : List Token) (spot : Spot) (last : SetState) (place : ℕ) (negated : Bool) (parts : List PartTree) (outers : List OuterSetTree) (p : Progress) →
+run_join : (join : Join) (sign rest : List Token) (spot : Spot) (last : SetState) (place : ℕ) (negated : Bool) (parts : List PartTree)
+    (outers : List OuterSetTree) (p : Progress) →
     IsJoin spot sign join → Fits spot last →
     (last' : SetState) × (parts' : List PartTree) × (join_in last' ≡ Some join) × (settled last' parts' ≡ settled last parts)
     × (run (sign ++ rest) (in_set place negated parts last outers p) ≡ run rest (in_set place negated parts' last' outers p))
@@ -139,7 +147,8 @@ run_caret false caret rest place outers p h = rw h refl
 
 mutual
   -- the parts of a set and its end are read
-  run_parts : (all : PartsTree) (ts : List Token) (spot : Spot) (last : SetState) (place : ℕ) (negated : Bool) (parts : List PartTree) (outers : List OuterSetTree) (p : Progress) →
+  run_parts : (all : PartsTree) (ts : List Token) (spot : Spot) (last : SetState) (place : ℕ) (negated : Bool) (parts : List PartTree)
+      (outers : List OuterSetTree) (p : Progress) →
       AreParts spot ts all → Fits spot last →
       run ts (in_set place negated parts last outers p) ≡ Some (set_ended place (set_of place negated (parts_back (settled last parts) all)) outers p)
   run_parts no_parts ts spot last place negated parts outers p (close, h) fits = rw h (run_end spot last close place negated parts outers p fits)
@@ -161,7 +170,8 @@ mutual
       ∙ ap (λ ps. Some (set_ended place (set_of place negated (parts_back ps (part (joined at join i) more))) outers p)) same)
 
   -- an operand of a set is read
-  run_operand : (i : SetItemTree) (ts : List Token) (at : ℕ) (join : Join) (last : SetState) (place : ℕ) (negated : Bool) (parts : List PartTree) (outers : List OuterSetTree) (p : Progress) →
+  run_operand : (i : SetItemTree) (ts : List Token) (at : ℕ) (join : Join) (last : SetState) (place : ℕ) (negated : Bool) (parts : List PartTree)
+      (outers : List OuterSetTree) (p : Progress) →
       IsOperand at ts i → join_in last ≡ Some join →
       run ts (in_set place negated parts last outers p) ≡ Some (in_set place negated (joined at join i ∷ settled last parts) state.Operand outers p)
   run_operand (set_character c) ts at join last place negated parts outers p is joins = absurd is

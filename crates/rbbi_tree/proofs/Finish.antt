@@ -54,7 +54,8 @@ close_sets [] groups = close_groups groups
 close_sets (o ∷ outers) groups = token SetClose 0 ∷ close_sets outers groups
 
 -- after a set the outer ones are closed
-finish_outers : (outers : List OuterSetTree) (at : ℕ) (t : SetTree) (done : List StatementTree) (head : HeadTree) (groups : List GroupTree) (level : LevelTree) (sets : Option SetsTree) → Reading head →
+finish_outers : (outers : List OuterSetTree) (at : ℕ) (t : SetTree) (done : List StatementTree) (head : HeadTree) (groups : List GroupTree) (level : LevelTree)
+    (sets : Option SetsTree) → Reading head →
     Finishes (close_sets outers groups) (set_ended at t outers (made done head groups level sets))
 finish_outers [] at t done head groups level sets reading = finish_groups groups done head level.sequences (placed at (set t) Once) level.items reading
 finish_outers (o ∷ outers) at t done head groups level sets reading =
@@ -65,7 +66,8 @@ abbrev in_set : SetLevelTree → List OuterSetTree → Option SetsTree
 in_set s outers = Some (record { innermost = s; outers = outers })
 
 -- a set is closed, with an operand before where one must stand
-finish_set : (last : SetState) (place : ℕ) (negated : Bool) (parts : List PartTree) (outers : List OuterSetTree) (done : List StatementTree) (head : HeadTree) (groups : List GroupTree) (level : LevelTree) → Reading head →
+finish_set : (last : SetState) (place : ℕ) (negated : Bool) (parts : List PartTree) (outers : List OuterSetTree) (done : List StatementTree) (head : HeadTree)
+    (groups : List GroupTree) (level : LevelTree) → Reading head →
     (ts : List Token) × Finishes ts (made done head groups level (in_set (record { place = place; negated = negated; parts = parts; state = last }) outers))
 finish_set state.Both place negated parts outers done head groups level reading =
     (token SetOpen 0 ∷ token SetClose 0 ∷ token SetClose 0 ∷ close_sets outers groups, finish_outers outers place _ done head groups level _ reading)

@@ -144,7 +144,8 @@ level-whole : (ts : List Token) (sequences : List SeqTree) (i : ItemTree) (is : 
     let level : LevelTree = record { sequences = sequences; items = i ∷ is } in
     IsLevel ts level → IsExpr ts (whole level)
 level-whole ts sequences i is (a, b, h, bars, items) =
-    rw h (ended-expr sequences (alternative (items_back (i ∷ is) no_items) no_alternatives) a b bars (b, [], sym (append-nil b), items-whole i is b items, refl))
+    rw h (ended-expr sequences (alternative (items_back (i ∷ is) no_items) no_alternatives) a b bars
+    (b, [], sym (append-nil b), items-whole i is b items, refl))
 
 -- and of one sequence where no bar is in it
 level-one : (ts : List Token) (sequences : List SeqTree) (i : ItemTree) (is : List ItemTree) → sequences ≡ [] →
@@ -206,7 +207,8 @@ levels-close g outer close ts sequences i is (a, b, h, around, inner) =
     let closed : IsItem us (placed g.place (group (whole level)) Once) =
     (us, [], sym (append-nil us), (close, b, refl, level-whole b sequences i is inner), refl) in
     rw (ap (λ ts. ts ++ end) h ∙ append_assoc a (token ParenOpen g.place ∷ b) end)
-    (levels-add outer a us g.outer (with_item (placed g.place (group (whole level)) Once) g.outer) (λ ts l. level-item ts us (placed g.place (group (whole level)) Once) g.outer l closed) around)
+    (levels-add outer a us g.outer (with_item (placed g.place (group (whole level)) Once) g.outer)
+    (λ ts l. level-item ts us (placed g.place (group (whole level)) Once) g.outer l closed) around)
 
 begins-push : (place : ℕ) (ts us : List Token) → BeginsAt place ts → BeginsAt place (ts ++ us)
 begins-push place [] us h = absurd h
@@ -319,7 +321,8 @@ remade : (ts us a b : List Token) (done : List StatementTree) (head : HeadTree) 
 remade ts us a b done head groups level h file is starts = (a, b ++ us, grown ts us a b h, file, (b ++ us, [], sym (append-nil (b ++ us)), is, refl, starts))
 
 -- the tokens of an item, or of its beginning
-step_begun : (place : ℕ) (us ts : List Token) (done : List StatementTree) (head : HeadTree) (groups groups' : List GroupTree) (level level' : LevelTree) (f : Progress → Progress) → BeginsAt place us →
+step_begun : (place : ℕ) (us ts : List Token) (done : List StatementTree) (head : HeadTree) (groups groups' : List GroupTree) (level level' : LevelTree)
+    (f : Progress → Progress) → BeginsAt place us →
     ((b : List Token) → AreLevels b groups level → AreLevels (b ++ us) groups' level') → bottom groups' level' ≡ bottom groups level →
     ((h : HeadTree) → f (made done h groups level None) ≡ made done h groups' level' None) →
     IsRead ts (made done head groups level None) → IsStillRead (ts ++ us) (option_map f (begun place head (made done head groups level None)))
@@ -331,11 +334,13 @@ step_begun place us ts done head groups groups' level level' f begins adds same 
     go (inl (is, reading)) (a, b, h, file, begun_is, starts) =
         rw (is, does (head_begun place head))
         (remade ts us a b done (head_begun place head) groups' level' h file
-        (grow (head_begun place head) b us groups groups' level level' reading adds (single-same (head_begun place head) groups groups' level level' same) (begun-begun head place b groups level reading begun_is))
+        (grow (head_begun place head) b us groups groups' level level' reading adds (single-same (head_begun place head) groups groups' level level' same)
+        (begun-begun head place b groups level reading begun_is))
         (starts-begun head place b us groups level begins begun_is starts))
     go (inr is) out = rw is tt
 
-step_atom : (kind : TokenKind) (place : ℕ) (atom : AtomTree) (ts : List Token) (done : List StatementTree) (head : HeadTree) (groups : List GroupTree) (level : LevelTree) → IsAtom place (token kind place ∷ []) atom →
+step_atom : (kind : TokenKind) (place : ℕ) (atom : AtomTree) (ts : List Token) (done : List StatementTree) (head : HeadTree) (groups : List GroupTree)
+    (level : LevelTree) → IsAtom place (token kind place ∷ []) atom →
     IsRead ts (made done head groups level None) → IsStillRead (ts ++ token kind place ∷ []) (at_atom place atom (made done head groups level None))
 step_atom kind place atom ts done head groups level is read =
     let us = token kind place ∷ [] in
@@ -347,7 +352,8 @@ step_atom kind place atom ts done head groups level is read =
 step_open : (place : ℕ) (ts : List Token) (done : List StatementTree) (head : HeadTree) (groups : List GroupTree) (level : LevelTree) →
     IsRead ts (made done head groups level None) → IsStillRead (ts ++ token ParenOpen place ∷ []) (at_open place (made done head groups level None))
 step_open place ts done head groups level read =
-    step_begun place (token ParenOpen place ∷ []) ts done head groups (record { place = place; outer = level } ∷ groups) level empty_level (group_begun place) refl
+    step_begun place (token ParenOpen place ∷ []) ts done head groups (record { place = place; outer = level } ∷ groups) level empty_level
+    (group_begun place) refl
     (λ b l. levels-open groups place b level l) refl (λ h. refl) read
 
 step_set_open : (place : ℕ) (ts : List Token) (done : List StatementTree) (head : HeadTree) (groups : List GroupTree) (level : LevelTree) →
@@ -363,21 +369,31 @@ step_set_open place ts done head groups level read = go (begun-is head place don
           b ++ us,
           grown ts us a b h,
           file,
-          (b, us, refl, begun-begun head place b groups level reading begun_is, (reading, ([], us, refl, refl, opens_set place)), starts-begun head place b us groups level refl begun_is starts),
+          (
+            b,
+            us,
+            refl,
+            begun-begun head place b groups level reading begun_is,
+            (reading, ([], us, refl, refl, opens_set place)),
+            starts-begun head place b us groups level refl begun_is starts,
+          ),
         )
     go (inr is) out = rw is tt
 
 -- the same for a sign after an item
-step_after : (us ts : List Token) (done : List StatementTree) (head : HeadTree) (groups groups' : List GroupTree) (level' : LevelTree) (sequences : List SeqTree) (i : ItemTree) (is : List ItemTree) →
+step_after : (us ts : List Token) (done : List StatementTree) (head : HeadTree) (groups groups' : List GroupTree) (level' : LevelTree)
+    (sequences : List SeqTree) (i : ItemTree) (is : List ItemTree) →
     ((b : List Token) → AreLevels b groups (with sequences (i ∷ is)) → AreLevels (b ++ us) groups' level') →
     (IsSingle head groups (with sequences (i ∷ is)) → IsSingle head groups' level') →
     IsRead ts (made done head groups (with sequences (i ∷ is)) None) → IsRead (ts ++ us) (made done head groups' level' None)
 step_after us ts done head groups groups' level' sequences i is adds single read =
     let (a, b, h, file, begun_is, starts) = outside ts done head groups (with sequences (i ∷ is)) read in
     remade ts us a b done head groups' level' h file
-    (grow head b us groups groups' (with sequences (i ∷ is)) level' (reading-items head b groups sequences i is begun_is) adds single begun_is) (starts-push head b us starts)
+    (grow head b us groups groups' (with sequences (i ∷ is)) level' (reading-items head b groups sequences i is begun_is) adds single begun_is)
+    (starts-push head b us starts)
 
-step_quant : (kind : TokenKind) (place : ℕ) (quant : Quant) (ts : List Token) (done : List StatementTree) (head : HeadTree) (groups : List GroupTree) (sequences : List SeqTree) (items : List ItemTree) →
+step_quant : (kind : TokenKind) (place : ℕ) (quant : Quant) (ts : List Token) (done : List StatementTree) (head : HeadTree) (groups : List GroupTree)
+    (sequences : List SeqTree) (items : List ItemTree) →
     IsQuant (token kind place ∷ []) quant →
     IsRead ts (made done head groups (with sequences items) None) →
     IsStillRead (ts ++ token kind place ∷ []) (at_quant (quantified quant items) (made done head groups (with sequences items) None))
@@ -393,7 +409,8 @@ step_quant kind place quant ts done head groups sequences (placed at atom Once �
     (λ b l. levels-add groups b us level level' (λ ts l. level-quant ts us at atom quant sequences is q l) l)
     (single-same head groups groups level level' (bottom-same groups sequences (placed at atom quant ∷ is) (placed at atom Once ∷ is))) read
 
-step_bar : (place : ℕ) (ts : List Token) (done : List StatementTree) (head : HeadTree) (groups : List GroupTree) (sequences : List SeqTree) (items : List ItemTree) →
+step_bar : (place : ℕ) (ts : List Token) (done : List StatementTree) (head : HeadTree) (groups : List GroupTree) (sequences : List SeqTree)
+    (items : List ItemTree) →
     IsRead ts (made done head groups (with sequences items) None) →
     IsStillRead (ts ++ token Bar place ∷ []) (at_bar items groups (made done head groups (with sequences items) None))
 step_bar place ts done head groups sequences [] read = tt
@@ -404,9 +421,11 @@ step_bar place ts done head (g ∷ groups) sequences (i ∷ is) read =
     (single-same head (g ∷ groups) (g ∷ groups) level (with_sequence level) refl) read
 step_bar place ts done (resting at no_chain_in front slash) [] sequences (i ∷ is) read = tt
 step_bar place ts done (assigning word at) [] sequences (i ∷ is) read =
-    step_after (token Bar place ∷ []) ts done (assigning word at) [] [] (with_sequence (with sequences (i ∷ is))) sequences i is (λ b l. level-bar place b sequences i is l) (λ s. tt) read
+    step_after (token Bar place ∷ []) ts done (assigning word at) [] [] (with_sequence (with sequences (i ∷ is))) sequences i is
+    (λ b l. level-bar place b sequences i is l) (λ s. tt) read
 step_bar place ts done (ruling at no_chain_in) [] sequences (i ∷ is) read =
-    step_after (token Bar place ∷ []) ts done (ruling at no_chain_in) [] [] (with_sequence (with sequences (i ∷ is))) sequences i is (λ b l. level-bar place b sequences i is l) (λ s. tt) read
+    step_after (token Bar place ∷ []) ts done (ruling at no_chain_in) [] [] (with_sequence (with sequences (i ∷ is))) sequences i is
+    (λ b l. level-bar place b sequences i is l) (λ s. tt) read
 step_bar place ts done between [] sequences (i ∷ is) read =
     let (a, b, h, file, begun_is, starts) = outside ts done between [] (with sequences (i ∷ is)) read in
     absurd (reading-items between b [] sequences i is begun_is)
@@ -414,7 +433,8 @@ step_bar place ts done (ended s) [] sequences (i ∷ is) read =
     let (a, b, h, file, begun_is, starts) = outside ts done (ended s) [] (with sequences (i ∷ is)) read in
     absurd (reading-items (ended s) b [] sequences i is begun_is)
 
-step_close : (place : ℕ) (ts : List Token) (done : List StatementTree) (head : HeadTree) (groups : List GroupTree) (sequences : List SeqTree) (items : List ItemTree) →
+step_close : (place : ℕ) (ts : List Token) (done : List StatementTree) (head : HeadTree) (groups : List GroupTree) (sequences : List SeqTree)
+    (items : List ItemTree) →
     IsRead ts (made done head groups (with sequences items) None) →
     IsStillRead (ts ++ token ParenClose place ∷ []) (at_close items groups (made done head groups (with sequences items) None))
 step_close place ts done head groups sequences [] read = tt
@@ -426,7 +446,8 @@ step_close place ts done head (g ∷ outer) sequences (i ∷ is) read =
     (λ b l. levels-close g outer place b sequences i is l)
     (single-same head (g ∷ outer) outer level level' (bottom-item outer (placed g.place (group (whole level)) Once) g.outer)) read
 
-step_slash : (place : ℕ) (ts : List Token) (done : List StatementTree) (head : HeadTree) (groups : List GroupTree) (sequences : List SeqTree) (items : List ItemTree) →
+step_slash : (place : ℕ) (ts : List Token) (done : List StatementTree) (head : HeadTree) (groups : List GroupTree) (sequences : List SeqTree)
+    (items : List ItemTree) →
     IsRead ts (made done head groups (with sequences items) None) →
     IsStillRead (ts ++ token Slash place ∷ []) (at_slash place items sequences groups (made done head groups (with sequences items) None))
 step_slash place ts done head groups sequences [] read = tt
@@ -479,7 +500,8 @@ step_name place at ts done [] (placed on (name word) Once ∷ []) read =
     remade ts us a b done (assigning word at) [] empty_level h file (place, [], rw (all, here) refl, level-empty) tt
 step_name place at ts done sequences items read = tt
 
-step_equals : (place : ℕ) (ts : List Token) (done : List StatementTree) (head : HeadTree) (groups : List GroupTree) (sequences : List SeqTree) (items : List ItemTree) →
+step_equals : (place : ℕ) (ts : List Token) (done : List StatementTree) (head : HeadTree) (groups : List GroupTree) (sequences : List SeqTree)
+    (items : List ItemTree) →
     IsRead ts (made done head groups (with sequences items) None) →
     IsStillRead (ts ++ token Equals place ∷ []) (at_equals head groups (made done head groups (with sequences items) None))
 step_equals place ts done (ruling at false) [] sequences items read = step_name place at ts done sequences items read
@@ -514,15 +536,18 @@ ends (resting at no_chain_in front slash) tag b t semi sequences i is tag_is (ca
       tag_is,
     )
 
-step_tag : (status place : ℕ) (ts : List Token) (done : List StatementTree) (head : HeadTree) (groups : List GroupTree) (sequences : List SeqTree) (items : List ItemTree) →
+step_tag : (status place : ℕ) (ts : List Token) (done : List StatementTree) (head : HeadTree) (groups : List GroupTree) (sequences : List SeqTree)
+    (items : List ItemTree) →
     IsRead ts (made done head groups (with sequences items) None) →
     IsStillRead (ts ++ token (Tag status) place ∷ [])
-    (statement_read (statement_at items groups (Some status) (made done head groups (with sequences items) None)) (made done head groups (with sequences items) None))
+    (statement_read (statement_at items groups (Some status) (made done head groups (with sequences items) None))
+    (made done head groups (with sequences items) None))
 step_tag status place ts done head groups sequences [] read = tt
 step_tag status place ts done head (g ∷ groups) sequences (i ∷ is) read = tt
 step_tag status place ts done head [] sequences (i ∷ is) read =
     let (a, b, h, file, begun_is, starts) = outside ts done head [] (with sequences (i ∷ is)) read in
-    go a b h file (statement_of head (whole (with sequences (i ∷ is))) (Some status)) (λ semi. ends head (Some status) b (token (Tag status) place ∷ []) semi sequences i is (place, refl) begun_is starts)
+    go a b h file (statement_of head (whole (with sequences (i ∷ is))) (Some status))
+    (λ semi. ends head (Some status) b (token (Tag status) place ∷ []) semi sequences i is (place, refl) begun_is starts)
   where
     go : (a b : List Token) → ts ≡ a ++ b → IsFile a done → (o : Option StatementTree) →
         ((semi : ℕ) → Ends (b ++ (token (Tag status) place ∷ token Semi semi ∷ [])) o) →
@@ -542,10 +567,16 @@ statements-push (s' ∷ f) s ts us (a, b, h, first, rest) one =
 added : (ts us a b : List Token) (done : List StatementTree) (s : StatementTree) (groups : List GroupTree) (level : LevelTree) → ts ≡ a ++ b → IsFile a done →
     IsStatement (b ++ us) s → groups ≡ [] → level ≡ empty_level →
     IsRead (ts ++ us) (made (done ++ s ∷ []) between groups level None)
-added ts us a b done s groups level h file is no_group fresh =
-    (a ++ (b ++ us), [], grown ts us a b h ∙ sym (append-nil (a ++ (b ++ us))), statements-push done s a (b ++ us) file is, ([], [], refl, (refl, no_group, fresh), refl, tt))
+added ts us a b done s groups level h file is no_group fresh = (
+  a ++ (b ++ us),
+  [],
+  grown ts us a b h ∙ sym (append-nil (a ++ (b ++ us))),
+  statements-push done s a (b ++ us) file is,
+  ([], [], refl, (refl, no_group, fresh), refl, tt),
+)
 
-step_end : (semi : ℕ) (ts : List Token) (done : List StatementTree) (head : HeadTree) (groups : List GroupTree) (sequences : List SeqTree) (items : List ItemTree) →
+step_end : (semi : ℕ) (ts : List Token) (done : List StatementTree) (head : HeadTree) (groups : List GroupTree) (sequences : List SeqTree)
+    (items : List ItemTree) →
     IsRead ts (made done head groups (with sequences items) None) →
     IsStillRead (ts ++ token Semi semi ∷ [])
     (statement_ended (statement_at items groups None (made done head groups (with sequences items) None)) (made done head groups (with sequences items) None))
@@ -560,7 +591,8 @@ step_end semi ts done head [] sequences (i ∷ is) read =
     go a b h file None is_statement = tt
     go a b h file (Some s) is_statement = added ts (token Semi semi ∷ []) a b done s [] empty_level h file is_statement refl refl
 
-step_semi : (semi : ℕ) (ts : List Token) (done : List StatementTree) (head : HeadTree) (groups : List GroupTree) (sequences : List SeqTree) (items : List ItemTree) →
+step_semi : (semi : ℕ) (ts : List Token) (done : List StatementTree) (head : HeadTree) (groups : List GroupTree) (sequences : List SeqTree)
+    (items : List ItemTree) →
     IsRead ts (made done head groups (with sequences items) None) →
     IsStillRead (ts ++ token Semi semi ∷ []) (at_semi head (made done head groups (with sequences items) None))
 step_semi semi ts done between groups sequences items read =
@@ -575,7 +607,8 @@ step_semi semi ts done (resting at no_chain_in front slash) groups sequences ite
     step_end semi ts done (resting at no_chain_in front slash) groups sequences items read
 
 -- each token outside of sets
-step_outside : (kind : TokenKind) (place : ℕ) (ts : List Token) (done : List StatementTree) (head : HeadTree) (groups : List GroupTree) (sequences : List SeqTree) (items : List ItemTree) →
+step_outside : (kind : TokenKind) (place : ℕ) (ts : List Token) (done : List StatementTree) (head : HeadTree) (groups : List GroupTree)
+    (sequences : List SeqTree) (items : List ItemTree) →
     IsRead ts (made done head groups (with sequences items) None) →
     IsStillRead (ts ++ token kind place ∷ []) (advance_outside kind place (made done head groups (with sequences items) None))
 step_outside Semi place ts done head groups sequences items read = step_semi place ts done head groups sequences items read
@@ -610,7 +643,8 @@ step_outside (Prop negated word value) place ts done head groups sequences items
 abbrev sets_with : SetLevelTree → List OuterSetTree → Option SetsTree
 sets_with s outers = Some (record { innermost = s; outers = outers })
 
-step_kept : (t : Token) (ts : List Token) (done : List StatementTree) (head : HeadTree) (groups : List GroupTree) (level : LevelTree) (s : SetLevelTree) (outers : List OuterSetTree) (o : Option SetLevelTree) →
+step_kept : (t : Token) (ts : List Token) (done : List StatementTree) (head : HeadTree) (groups : List GroupTree) (level : LevelTree) (s : SetLevelTree)
+    (outers : List OuterSetTree) (o : Option SetLevelTree) →
     ((us : List Token) → IsSetRead us s → IsStillSet (us ++ t ∷ []) o) →
     IsRead ts (made done head groups level (sets_with s outers)) →
     IsStillRead (ts ++ t ∷ []) (set_kept outers (made done head groups level (sets_with s outers)) o)
@@ -624,9 +658,11 @@ step_kept t ts done head groups level s outers (Some s') still (a, b, h, file, (
       (c, d ++ us, grown b us c d h', is, (reading, (e, f ++ us, grown d us e f h'', around, still f inner)), starts-push head b us starts),
     )
 
-step_inner_open : (place : ℕ) (ts : List Token) (done : List StatementTree) (head : HeadTree) (groups : List GroupTree) (level : LevelTree) (s : SetLevelTree) (outers : List OuterSetTree) (o : Option Join) →
+step_inner_open : (place : ℕ) (ts : List Token) (done : List StatementTree) (head : HeadTree) (groups : List GroupTree) (level : LevelTree) (s : SetLevelTree)
+    (outers : List OuterSetTree) (o : Option Join) →
     join_in s.state ≡ o → IsRead ts (made done head groups level (sets_with s outers)) →
-    IsStillRead (ts ++ token SetOpen place ∷ []) (at_inner_open place o (record { innermost = s; outers = outers }) (made done head groups level (sets_with s outers)))
+    IsStillRead (ts ++ token SetOpen place ∷ []) (at_inner_open place o (record { innermost = s; outers = outers })
+    (made done head groups level (sets_with s outers)))
 step_inner_open place ts done head groups level s outers None joins read = tt
 step_inner_open place ts done head groups level s outers (Some join) joins (a, b, h, file, (c, d, h', is, (reading, (e, f, h'', around, inner)), starts)) =
     let us = token SetOpen place ∷ [] in (
@@ -634,11 +670,19 @@ step_inner_open place ts done head groups level s outers (Some join) joins (a, b
       b ++ us,
       grown ts us a b h,
       file,
-      (c, d ++ us, grown b us c d h', is, (reading, (d, us, refl, (e, f, h'', around, opens_inner f s join inner joins), opens_set place)), starts-push head b us starts),
+      (
+        c,
+        d ++ us,
+        grown b us c d h',
+        is,
+        (reading, (d, us, refl, (e, f, h'', around, opens_inner f s join inner joins), opens_set place)),
+        starts-push head b us starts,
+      ),
     )
 
 -- a set ends: the outermost is an atom, another an operand
-set_closes : (at : ℕ) (t : SetTree) (a b c d e f us ts : List Token) (done : List StatementTree) (head : HeadTree) (groups : List GroupTree) (level : LevelTree) (s : SetLevelTree) (outers : List OuterSetTree) →
+set_closes : (at : ℕ) (t : SetTree) (a b c d e f us ts : List Token) (done : List StatementTree) (head : HeadTree) (groups : List GroupTree) (level : LevelTree)
+    (s : SetLevelTree) (outers : List OuterSetTree) →
     ts ≡ a ++ b → IsFile a done → b ≡ c ++ d → IsBegun c head groups level → Reading head → d ≡ e ++ f → AreOuters e outers → IsSet at (f ++ us) t →
     StartsAt b head →
     IsRead (ts ++ us) (set_ended at t outers (made done head groups level (sets_with s outers)))
@@ -655,7 +699,8 @@ set_closes at t a b c d e f us ts done head groups level s [] h file h' is readi
         c ++ vs,
         [],
         all ∙ sym (append-nil (c ++ vs)),
-        grow head c vs groups groups level (with_item i level) reading (λ b l. levels-add groups b vs level (with_item i level) (λ ts l. level-item ts vs i level l one) l)
+        grow head c vs groups groups level (with_item i level) reading (λ b l. levels-add groups b vs level (with_item i level)
+            (λ ts l. level-item ts vs i level l one) l)
             (single-same head groups groups level (with_item i level) (bottom-item groups i level)) is,
         refl,
         starts-push head b us starts,
@@ -671,30 +716,44 @@ set_closes at t a b c d e f us ts done head groups level s (o ∷ outers) h file
     d ++ us,
     grown b us c d h',
     is,
-    (reading, (k, l ++ (f ++ us), grown d us e f h'' ∙ ap (λ e. e ++ (f ++ us)) h3 ∙ append_assoc k l (f ++ us), around, resumes l (f ++ us) at t o outer inner)),
+    (
+      reading,
+      (
+        k,
+        l ++ (f ++ us),
+        grown d us e f h'' ∙ ap (λ e. e ++ (f ++ us)) h3 ∙ append_assoc k l (f ++ us),
+        around,
+        resumes l (f ++ us) at t o outer inner,
+      ),
+    ),
     starts-push head b us starts,
   ),
 )
 
-step_inner_close : (place : ℕ) (ts : List Token) (done : List StatementTree) (head : HeadTree) (groups : List GroupTree) (level : LevelTree) (s : SetLevelTree) (outers : List OuterSetTree) (o : Option (List PartTree)) →
+step_inner_close : (place : ℕ) (ts : List Token) (done : List StatementTree) (head : HeadTree) (groups : List GroupTree) (level : LevelTree) (s : SetLevelTree)
+    (outers : List OuterSetTree) (o : Option (List PartTree)) →
     ended_parts s.state s.parts ≡ o → IsRead ts (made done head groups level (sets_with s outers)) →
-    IsStillRead (ts ++ token SetClose place ∷ []) (at_inner_close o (record { innermost = s; outers = outers }) (made done head groups level (sets_with s outers)))
+    IsStillRead (ts ++ token SetClose place ∷ []) (at_inner_close o (record { innermost = s; outers = outers })
+    (made done head groups level (sets_with s outers)))
 step_inner_close place ts done head groups level s outers None joins read = tt
 step_inner_close place ts done head groups level s outers (Some parts) closes (a, b, h, file, (c, d, h', is, (reading, (e, f, h'', around, inner)), starts)) =
     set_closes s.place (set_from s parts) a b c d e f (token SetClose place ∷ []) ts done head groups level s outers h file h' is reading h'' around
     (ends_set s.state place s.place s.negated s.parts parts f inner.1 closes) starts
 
 -- each token within sets
-step_inside : (kind : TokenKind) (place : ℕ) (ts : List Token) (done : List StatementTree) (head : HeadTree) (groups : List GroupTree) (level : LevelTree) (s : SetLevelTree) (outers : List OuterSetTree) →
+step_inside : (kind : TokenKind) (place : ℕ) (ts : List Token) (done : List StatementTree) (head : HeadTree) (groups : List GroupTree) (level : LevelTree)
+    (s : SetLevelTree) (outers : List OuterSetTree) →
     IsRead ts (made done head groups level (sets_with s outers)) →
-    IsStillRead (ts ++ token kind place ∷ []) (advance_inside kind place (record { innermost = s; outers = outers }) (made done head groups level (sets_with s outers)))
+    IsStillRead (ts ++ token kind place ∷ []) (advance_inside kind place (record { innermost = s; outers = outers })
+    (made done head groups level (sets_with s outers)))
 step_inside SetOpen place ts done head groups level s outers read = step_inner_open place ts done head groups level s outers (join_in s.state) refl read
 step_inside SetClose place ts done head groups level s outers read =
     step_inner_close place ts done head groups level s outers (ended_parts s.state s.parts) refl read
 step_inside kind place ts done head groups level s outers read =
     step_kept (token kind place) ts done head groups level s outers (at_set_token kind place s) (λ us is. reads_token kind place us s is) read
 
-step : (sets : Option SetsTree) (kind : TokenKind) (place : ℕ) (ts : List Token) (done : List StatementTree) (head : HeadTree) (groups : List GroupTree) (level : LevelTree) →
+step : (sets : Option SetsTree) (kind : TokenKind) (place : ℕ) (ts : List Token) (done : List StatementTree) (head : HeadTree) (groups : List GroupTree)
+    (level : LevelTree) →
     IsRead ts (made done head groups level sets) → IsStillRead (ts ++ token kind place ∷ []) (advance_by sets kind place (made done head groups level sets))
 step None kind place ts done head groups level read = step_outside kind place ts done head groups level.sequences level.items read
 step (Some sets) kind place ts done head groups level read = step_inside kind place ts done head groups level sets.innermost sets.outers read

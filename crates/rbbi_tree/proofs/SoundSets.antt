@@ -163,8 +163,11 @@ resumes ts us at t o outer is = (tt, λ vs more h. rw (append_assoc ts us vs) (o
 pub reads_operand : (ts a : List Token) (at : ℕ) (i : SetItemTree) (s : SetLevelTree) (join : Join) → IsSetRead ts s → join_in s.state ≡ Some join →
     IsOperand at a i →
     IsSetRead (ts ++ a) (record { place = s.place; negated = s.negated; parts = joined at join i ∷ settled s.state s.parts; state = state.Operand })
-reads_operand ts a at i s join (fresh, leads) joins is =
-    (tt, leads_on ts a s.place s.negated s.parts (joined at join i ∷ settled s.state s.parts) s.state state.Operand leads (λ vs more h. before_operand s.state join at i a vs s.parts more joins is h))
+reads_operand ts a at i s join (fresh, leads) joins is = (
+  tt,
+  leads_on ts a s.place s.negated s.parts (joined at join i ∷ settled s.state s.parts) s.state state.Operand leads
+      (λ vs more h. before_operand s.state join at i a vs s.parts more joins is h),
+)
 
 abbrev made : ℕ → Bool → List PartTree → SetState → SetLevelTree
 made place negated parts last = record { place = place; negated = negated; parts = parts; state = last }
@@ -178,14 +181,23 @@ IsStillSet ts (Some s) = IsSetRead ts s
 reads_character : (last : SetState) (c : ℕ) (bare : Bool) (at place : ℕ) (negated : Bool) (parts : List PartTree) (ts : List Token) →
     IsSetRead ts (made place negated parts last) →
     IsStillSet (ts ++ token (Char c bare) at ∷ []) (at_set_character c at last (made place negated parts last))
-reads_character state.Opened c bare at place negated parts ts (fresh, leads) =
-    (tt, leads_on ts (token (Char c bare) at ∷ []) place negated parts parts state.Opened (state.Character c at) leads (λ vs more h. (more, weaken opening more (token (Char c bare) at ∷ vs) (h bare), refl)))
-reads_character state.Begun c bare at place negated parts ts (fresh, leads) =
-    (tt, leads_on ts (token (Char c bare) at ∷ []) place negated parts parts state.Begun (state.Character c at) leads (λ vs more h. (more, weaken opening more (token (Char c bare) at ∷ vs) (h bare), refl)))
+reads_character state.Opened c bare at place negated parts ts (fresh, leads) = (
+  tt,
+  leads_on ts (token (Char c bare) at ∷ []) place negated parts parts state.Opened (state.Character c at) leads
+      (λ vs more h. (more, weaken opening more (token (Char c bare) at ∷ vs) (h bare), refl)),
+)
+reads_character state.Begun c bare at place negated parts ts (fresh, leads) = (
+  tt,
+  leads_on ts (token (Char c bare) at ∷ []) place negated parts parts state.Begun (state.Character c at) leads
+      (λ vs more h. (more, weaken opening more (token (Char c bare) at ∷ vs) (h bare), refl)),
+)
 reads_character state.Apart c bare at place negated parts ts (fresh, leads) =
     (tt, leads_on ts (token (Char c bare) at ∷ []) place negated parts parts state.Apart (state.Character c at) leads (λ vs more h. (more, h bare, refl)))
-reads_character state.Operand c bare at place negated parts ts (fresh, leads) =
-    (tt, leads_on ts (token (Char c bare) at ∷ []) place negated parts parts state.Operand (state.Character c at) leads (λ vs more h. (more, weaken behind more (token (Char c bare) at ∷ vs) (h bare), refl)))
+reads_character state.Operand c bare at place negated parts ts (fresh, leads) = (
+  tt,
+  leads_on ts (token (Char c bare) at ∷ []) place negated parts parts state.Operand (state.Character c at) leads
+      (λ vs more h. (more, weaken behind more (token (Char c bare) at ∷ vs) (h bare), refl)),
+)
 reads_character (state.Character d on) c bare at place negated parts ts (fresh, leads) = (
   tt,
   leads_on ts (token (Char c bare) at ∷ []) place negated parts (character_at d on ∷ parts) (state.Character d on) (state.Character c at) leads
@@ -212,10 +224,16 @@ leading hyphen us more h = inr (inl (tt, (hyphen, us, refl, refl, h)))
 -- a hyphen is read
 reads_hyphen : (last : SetState) (at place : ℕ) (negated : Bool) (parts : List PartTree) (ts : List Token) → IsSetRead ts (made place negated parts last) →
     IsStillSet (ts ++ token Hyphen at ∷ []) (at_set_hyphen at last (made place negated parts last))
-reads_hyphen state.Opened at place negated parts ts (fresh, leads) =
-    (tt, leads_on ts (token Hyphen at ∷ []) place negated parts (hyphen_at at ∷ parts) state.Opened state.Apart leads (λ vs more h. (part (hyphen_at at) more, leading at vs more h, refl)))
-reads_hyphen state.Begun at place negated parts ts (fresh, leads) =
-    (tt, leads_on ts (token Hyphen at ∷ []) place negated parts (hyphen_at at ∷ parts) state.Begun state.Apart leads (λ vs more h. (part (hyphen_at at) more, leading at vs more h, refl)))
+reads_hyphen state.Opened at place negated parts ts (fresh, leads) = (
+  tt,
+  leads_on ts (token Hyphen at ∷ []) place negated parts (hyphen_at at ∷ parts) state.Opened state.Apart leads
+      (λ vs more h. (part (hyphen_at at) more, leading at vs more h, refl)),
+)
+reads_hyphen state.Begun at place negated parts ts (fresh, leads) = (
+  tt,
+  leads_on ts (token Hyphen at ∷ []) place negated parts (hyphen_at at ∷ parts) state.Begun state.Apart leads
+      (λ vs more h. (part (hyphen_at at) more, leading at vs more h, refl)),
+)
 reads_hyphen state.Apart at place negated parts ts (fresh, leads) =
     (tt, leads_on ts (token Hyphen at ∷ []) place negated parts parts state.Apart (state.Last at) leads (λ vs more h. (more, h, refl)))
 reads_hyphen (state.Character d on) at place negated parts ts (fresh, leads) =

@@ -94,14 +94,16 @@ abbrev mutual
   -- a set that begins at this place: its bracket, perhaps a caret, and the rest
   pub IsSet : ℕ → List Token → SetTree → Type 0
   IsSet place tokens (set_of at negated parts) =
-      (caret : List Token) × (rest : List Token) × (tokens ≡ token SetOpen place ∷ (caret ++ rest)) × (at ≡ place) × IsCaret caret negated × AreParts opening rest parts
+      (caret : List Token) × (rest : List Token) × (tokens ≡ token SetOpen place ∷ (caret ++ rest)) × (at ≡ place) × IsCaret caret negated ×
+      AreParts opening rest parts
 
   -- any number of parts, perhaps a hyphen that stands for itself, and the bracket that ends the set
   pub AreParts : Spot → List Token → PartsTree → Type 0
   AreParts spot tokens no_parts = (close : ℕ) × (tokens ≡ token SetClose close ∷ [])
   AreParts spot tokens (part first more) =
       IsLastHyphen tokens first more
-      ⊎ (IsOpening spot × ((hyphen : ℕ) × (rest : List Token) × (tokens ≡ token Hyphen hyphen ∷ rest) × (first ≡ hyphen_at hyphen) × AreParts elsewhere rest more))
+      ⊎ (IsOpening spot × ((hyphen : ℕ) × (rest : List Token) × (tokens ≡ token Hyphen hyphen ∷ rest) × (first ≡ hyphen_at hyphen) ×
+      AreParts elsewhere rest more))
       ⊎ ((a : List Token) × (b : List Token) × (tokens ≡ a ++ b) × AreCharactersPart a first × AreParts elsewhere b more)
       ⊎ ((a : List Token) × (b : List Token) × (tokens ≡ a ++ b) × IsOperandPart spot a first × AreParts behind b more)
 

@@ -113,7 +113,14 @@ set_begun place p = with_sets (Some (record { innermost = opened place; outers =
 -- the innermost group ends
 abbrev pub group_ended : GroupTree → List GroupTree → Progress → Progress
 group_ended innermost groups p =
-    record { statements = p.statements; head = p.head; groups = groups; level = with_item (placed innermost.place (group (whole p.level)) quant.Once) innermost.outer; sets = p.sets }
+    record {
+      statements = p.statements;
+      head = p.head;
+      groups = groups;
+      level =
+          with_item (placed innermost.place (group (whole p.level)) quant.Once) innermost.outer;
+      sets = p.sets;
+    }
 
 -- what an atom of one token does
 abbrev pub at_atom : ℕ → AtomTree → Progress → Option Progress

@@ -42,7 +42,14 @@ head_tree (Whole statement) = ended (statement_tree statement)
 -- the file so far that a parser stands for
 abbrev pub progress : Parser → Progress
 progress parser =
-    record { statements = statement_trees parser.statements.items; head = head_tree parser.head; groups = reverse (map group_tree parser.groups.items); level = level_tree parser.level; sets = open_sets_tree parser.sets }
+    record {
+      statements = statement_trees parser.statements.items;
+      head = head_tree parser.head;
+      groups = reverse (map group_tree parser.groups.items);
+      level =
+          level_tree parser.level;
+      sets = open_sets_tree parser.sets;
+    }
 
 -- what reading a token of this kind at this place outside of sets answers, and the parser before and after it
 abbrev pub ReadsOutside : TokenKind → ℕ → Parser → Result (Unit {0}) TreeErr → Parser → Type 0

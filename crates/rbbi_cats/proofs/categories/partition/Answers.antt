@@ -23,7 +23,8 @@ returns-in_err-classes-clause-too_many c =
     λ same.
     let error : c.in_err-classes.field-0.0 ≡ TooManyCategories = sym p.2 ∙ cc (p.1, same) in
     let told = c.in_err-classes.ensures.too_many (ap (λ e. Err e) error) in
-    too_many list cuts c.sets-sets.ensures.form small 255 (subst (λ (s : List (List Range)). HasTold s cuts 255) c.sets-sets.ensures.value (rw c.deref.ensures.value at told))
+    too_many list cuts c.sets-sets.ensures.form small 255 (subst (λ (s : List (List Range)). HasTold s cuts 255) c.sets-sets.ensures.value
+    (rw c.deref.ensures.value at told))
 
 pub ranges_of-requires-clause-some : goal.ranges_of-requires-clause-some
 ranges_of-requires-clause-some c = rw c.deref-3.ensures.value (cuts_some c.sets-sets.result.now c.in_ok-cuts.cuts.items c.in_ok-cuts.ensures)
@@ -32,7 +33,14 @@ pub ranges_of-requires-clause-from_zero : goal.ranges_of-requires-clause-from_ze
 ranges_of-requires-clause-from_zero c = rw c.deref-3.ensures.value (cuts_from_zero c.sets-sets.result.now c.in_ok-cuts.cuts.items c.in_ok-cuts.ensures)
 
 pub overflow_add-result : goal.overflow_add-result
-overflow_add-result c = omega (arith, c.in_ok-numbers.ensures.numbers.few, c.in_ok-numbers.ensures.many, c.len.ensures, c.in_ok-classes.sizes.ok, c.in_ok-classes.ensures.few)
+overflow_add-result c = omega (
+  arith,
+  c.in_ok-numbers.ensures.numbers.few,
+  c.in_ok-numbers.ensures.many,
+  c.len.ensures,
+  c.in_ok-classes.sizes.ok,
+  c.in_ok-classes.ensures.few,
+)
 
 pub returns-clause-classes : goal.returns-clause-classes
 returns-clause-classes c =
@@ -45,11 +53,14 @@ returns-clause-classes c =
     let ranges = c.in_ok-ranges.ranges.items in
     let cut : AreCuts list.sets cuts = subst (λ (s : List (List Range)). AreCuts s cuts) c.sets-sets.ensures.value c.in_ok-cuts.ensures in
     let small = cuts_small list.sets cuts cut (all_rising list.sets (subst (AllByRecursion IsLeafSet) refl c.sets-sets.ensures.form.sets)) in
-    let told : Tells list.sets cuts classes = subst (λ (s : List (List Range)). Tells s cuts classes) c.sets-sets.ensures.value (rw c.deref.ensures.value at c.in_ok-classes.ensures.tells) in
+    let told : Tells list.sets cuts classes = subst (λ (s : List (List Range)). Tells s cuts classes) c.sets-sets.ensures.value
+    (rw c.deref.ensures.value at c.in_ok-classes.ensures.tells) in
     let numbered : AreNumbers classes numbers greatest = rw c.deref-2.ensures.value at c.in_ok-numbers.ensures.numbers in
-    let are : AreRangesOf cuts classes numbers ranges = rw (c.deref-3.ensures.value, c.deref-4.ensures.value, c.deref-5.ensures.value) at c.in_ok-ranges.ensures in
+    let are : AreRangesOf cuts classes numbers ranges = rw (c.deref-3.ensures.value, c.deref-4.ensures.value, c.deref-5.ensures.value) at c.in_ok-ranges.ensures
+    in
     let long : length numbers ≡ length sizes = omega (arith, c.in_ok-numbers.ensures.many, c.len.ensures, c.in_ok-classes.sizes.ok) in
-    let form = valid list.sets cuts classes sizes numbers ranges greatest cut small c.in_ok-classes.ensures.partition told long numbered are c.in_ok-classes.ensures.few in
+    let form = valid list.sets cuts classes sizes numbers ranges greatest cut small c.in_ok-classes.ensures.partition told long numbered are
+    c.in_ok-classes.ensures.few in
     let found = classed list.sets cuts classes sizes numbers ranges greatest cut small c.in_ok-classes.ensures.partition told long numbered are in
     let classes_found = classes_are list (greatest + 1) ranges c.sets-sets.ensures.form found in
     classes_found
@@ -65,11 +76,14 @@ returns-clause-form c =
     let ranges = c.in_ok-ranges.ranges.items in
     let cut : AreCuts list.sets cuts = subst (λ (s : List (List Range)). AreCuts s cuts) c.sets-sets.ensures.value c.in_ok-cuts.ensures in
     let small = cuts_small list.sets cuts cut (all_rising list.sets (subst (AllByRecursion IsLeafSet) refl c.sets-sets.ensures.form.sets)) in
-    let told : Tells list.sets cuts classes = subst (λ (s : List (List Range)). Tells s cuts classes) c.sets-sets.ensures.value (rw c.deref.ensures.value at c.in_ok-classes.ensures.tells) in
+    let told : Tells list.sets cuts classes = subst (λ (s : List (List Range)). Tells s cuts classes) c.sets-sets.ensures.value
+    (rw c.deref.ensures.value at c.in_ok-classes.ensures.tells) in
     let numbered : AreNumbers classes numbers greatest = rw c.deref-2.ensures.value at c.in_ok-numbers.ensures.numbers in
-    let are : AreRangesOf cuts classes numbers ranges = rw (c.deref-3.ensures.value, c.deref-4.ensures.value, c.deref-5.ensures.value) at c.in_ok-ranges.ensures in
+    let are : AreRangesOf cuts classes numbers ranges = rw (c.deref-3.ensures.value, c.deref-4.ensures.value, c.deref-5.ensures.value) at c.in_ok-ranges.ensures
+    in
     let long : length numbers ≡ length sizes = omega (arith, c.in_ok-numbers.ensures.many, c.len.ensures, c.in_ok-classes.sizes.ok) in
-    let form = valid list.sets cuts classes sizes numbers ranges greatest cut small c.in_ok-classes.ensures.partition told long numbered are c.in_ok-classes.ensures.few in
+    let form = valid list.sets cuts classes sizes numbers ranges greatest cut small c.in_ok-classes.ensures.partition told long numbered are
+    c.in_ok-classes.ensures.few in
     let found = classed list.sets cuts classes sizes numbers ranges greatest cut small c.in_ok-classes.ensures.partition told long numbered are in
     let classes_found = classes_are list (greatest + 1) ranges c.sets-sets.ensures.form found in
     form
@@ -85,11 +99,14 @@ returns-clause-few c =
     let ranges = c.in_ok-ranges.ranges.items in
     let cut : AreCuts list.sets cuts = subst (λ (s : List (List Range)). AreCuts s cuts) c.sets-sets.ensures.value c.in_ok-cuts.ensures in
     let small = cuts_small list.sets cuts cut (all_rising list.sets (subst (AllByRecursion IsLeafSet) refl c.sets-sets.ensures.form.sets)) in
-    let told : Tells list.sets cuts classes = subst (λ (s : List (List Range)). Tells s cuts classes) c.sets-sets.ensures.value (rw c.deref.ensures.value at c.in_ok-classes.ensures.tells) in
+    let told : Tells list.sets cuts classes = subst (λ (s : List (List Range)). Tells s cuts classes) c.sets-sets.ensures.value
+    (rw c.deref.ensures.value at c.in_ok-classes.ensures.tells) in
     let numbered : AreNumbers classes numbers greatest = rw c.deref-2.ensures.value at c.in_ok-numbers.ensures.numbers in
-    let are : AreRangesOf cuts classes numbers ranges = rw (c.deref-3.ensures.value, c.deref-4.ensures.value, c.deref-5.ensures.value) at c.in_ok-ranges.ensures in
+    let are : AreRangesOf cuts classes numbers ranges = rw (c.deref-3.ensures.value, c.deref-4.ensures.value, c.deref-5.ensures.value) at c.in_ok-ranges.ensures
+    in
     let long : length numbers ≡ length sizes = omega (arith, c.in_ok-numbers.ensures.many, c.len.ensures, c.in_ok-classes.sizes.ok) in
-    let form = valid list.sets cuts classes sizes numbers ranges greatest cut small c.in_ok-classes.ensures.partition told long numbered are c.in_ok-classes.ensures.few in
+    let form = valid list.sets cuts classes sizes numbers ranges greatest cut small c.in_ok-classes.ensures.partition told long numbered are
+    c.in_ok-classes.ensures.few in
     let found = classed list.sets cuts classes sizes numbers ranges greatest cut small c.in_ok-classes.ensures.partition told long numbered are in
     let classes_found = classes_are list (greatest + 1) ranges c.sets-sets.ensures.form found in
     λ h. few (rules_of list) (greatest + 1) ranges classes_found (λ n code. category_within (greatest + 1) ranges n form) 255 form.few_categories h

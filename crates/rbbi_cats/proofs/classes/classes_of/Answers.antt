@@ -15,9 +15,12 @@ returns-then-len-gt-MOST_CATEGORIES-clause-too_many c =
     let set = c.get-set.result.now in
     let k = c.loop-i.i in
     let are : AreMembers cuts set members = subst (λ (s : List Range). AreMembers cuts s members) c.ranges-in-loop-i.ensures.value c.in_ok-members_of.ensures in
-    let refines : Refines c.loop-i.classes.items classes members = subst (Refines c.loop-i.classes.items classes) c.deref.ensures.value c.in_ok-refine.ensures.refines in
-    let told : Tells (take (k + 1) sets) cuts classes = told_more sets cuts c.loop-i.classes.items classes members k set c.get-set.ensures are refines c.loop-i.invariant.tells in
-    λ e. too_many_told sets cuts classes c.refine.new.sizes.items (k + 1) 255 c.in_ok-refine.ensures.partition told (omega (arith, c.if-len-gt-MOST_CATEGORIES.true, c.len.ensures, c.refine.new.sizes.ok))
+    let refines : Refines c.loop-i.classes.items classes members = subst (Refines c.loop-i.classes.items classes) c.deref.ensures.value
+    c.in_ok-refine.ensures.refines in
+    let told : Tells (take (k + 1) sets) cuts classes = told_more sets cuts c.loop-i.classes.items classes members k set c.get-set.ensures are refines
+    c.loop-i.invariant.tells in
+    λ e. too_many_told sets cuts classes c.refine.new.sizes.items (k + 1) 255 c.in_ok-refine.ensures.partition told
+    (omega (arith, c.if-len-gt-MOST_CATEGORIES.true, c.len.ensures, c.refine.new.sizes.ok))
 
 pub loop-i-preserved : goal.loop-i-preserved
 loop-i-preserved c =
@@ -28,7 +31,8 @@ loop-i-preserved c =
     let set = c.get-set.result.now in
     let k = c.loop-i.i in
     let are : AreMembers cuts set members = subst (λ (s : List Range). AreMembers cuts s members) c.ranges-in-loop-i.ensures.value c.in_ok-members_of.ensures in
-    let refines : Refines c.loop-i.classes.items classes members = subst (Refines c.loop-i.classes.items classes) c.deref.ensures.value c.in_ok-refine.ensures.refines in
+    let refines : Refines c.loop-i.classes.items classes members = subst (Refines c.loop-i.classes.items classes) c.deref.ensures.value
+    c.in_ok-refine.ensures.refines in
     record {
       partition = c.in_ok-refine.ensures.partition;
       tells = told_more sets cuts c.loop-i.classes.items classes members k set c.get-set.ensures are refines c.loop-i.invariant.tells;

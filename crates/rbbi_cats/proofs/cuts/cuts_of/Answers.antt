@@ -19,6 +19,8 @@ returns c =
     let raw = c.loop-i.cuts.items in
     let sorted = c.sort_unstable.new.self.items in
     let cuts = c.dedup.new.self.items in
-    let all : raw ≡ 0 ∷ flat_map set_ends c.args.sets.now = c.loop-i.invariant ∙ ap (λ (sets : List (List Range)). 0 ∷ flat_map set_ends sets) (take_all c.loop-i.i c.args.sets.now (omega arith)) in
+    let all : raw ≡ 0 ∷ flat_map set_ends c.args.sets.now = c.loop-i.invariant ∙
+    ap (λ (sets : List (List Range)). 0 ∷ flat_map set_ends sets) (take_all c.loop-i.i c.args.sets.now (omega arith)) in
     let there = c.sort_unstable.ensures.permutation in
-    cuts_are c.args.sets.now raw sorted cuts all there (IsPermutation-sym raw sorted there) c.sort_unstable.ensures.sorted (dedup_is eqb sorted cuts c.dedup.ensures.filtered)
+    cuts_are c.args.sets.now raw sorted cuts all there (IsPermutation-sym raw sorted there) c.sort_unstable.ensures.sorted
+    (dedup_is eqb sorted cuts c.dedup.ensures.filtered)

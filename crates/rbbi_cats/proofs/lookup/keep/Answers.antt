@@ -10,9 +10,11 @@ returns-then-eq c =
     let number = c.loop-number.number in
     let width = number * 256 + 256 - number * 256 in
     let same : take width (drop (number * 256) c.deref.result.now) ≡ c.args.block.now = (slice_eq-Decides Decides-eqb _ _ _ c.eq.ensures).0 c.if-eq.true in
-    kept_found cells c.args.block.now number width (omega arith) (ap (λ l. take width (drop (number * 256) l)) (sym c.deref.ensures.value) ∙ same) (omega (arith, c.loop-number-test.true, c.len-kept.ensures, c.args.cells.now.ok)) c.requires.whole
+    kept_found cells c.args.block.now number width (omega arith) (ap (λ l. take width (drop (number * 256) l)) (sym c.deref.ensures.value) ∙ same)
+    (omega (arith, c.loop-number-test.true, c.len-kept.ensures, c.args.cells.now.ok)) c.requires.whole
 
 pub returns : goal.returns
 returns c =
-    kept_added c.args.cells.now.items c.extend_from_slice.new.self.items c.args.block.now (c.len-kept.result / 256) c.in_ok-extend_from_slice.ensures.items c.requires.block
+    kept_added c.args.cells.now.items c.extend_from_slice.new.self.items c.args.block.now
+    (c.len-kept.result / 256) c.in_ok-extend_from_slice.ensures.items c.requires.block
     (ap (λ n. n / 256) (omega (arith, c.len-kept.ensures, c.args.cells.now.ok))) c.requires.whole

@@ -7,7 +7,8 @@ use Rattle.rbbi_cats.proofs.lookup.past.Goals as goal
 pub returns-then-range-c : goal.returns-then-range-c
 returns-then-range-c c =
     let range = c.index-ranges-next.result in
-    past_more c.args.ranges.now c.args.next c.args.c range c.requires.apart c.if-next-ranges.true c.index-ranges-next.is (omega (arith, c.if-range-c.true, ap (λ (r : CategoryRange). r.start) c.range.view_is)) c.requires.split
+    past_more c.args.ranges.now c.args.next c.args.c range c.requires.apart c.if-next-ranges.true c.index-ranges-next.is
+    (omega (arith, c.if-range-c.true, ap (λ (r : CategoryRange). r.start) c.range.view_is)) c.requires.split
 
 pub returns-else-range-c : goal.returns-else-range-c
 returns-else-range-c c =

@@ -2,7 +2,8 @@ use Rattle.std.proofs.Common.{◌≡◌, ◌≢◌, ◌⊎◌, ◌<◌, ◌+◌,
 use Rattle.rbbi_cats.proofs.Counts.{read}
 use Rattle.rbbi_cats.proofs.Numbering.{NumberedSoFar, number_made, number_kept, all_numbered}
 use Rattle.rbbi_cats.proofs.numbers.numbers_of.Goals as goal
-use Rattle.rbbi_cats.proofs.numbers.numbers_of.Goals.{then-class-ne0+then-index-eq0, else-class-ne0, else-class-ne0-via-then-class-ne0+else-index-eq0, else-class-ne0-via-else-class-ne0}
+use Rattle.rbbi_cats.proofs.numbers.numbers_of.Goals.{then-class-ne0+then-index-eq0, else-class-ne0, else-class-ne0-via-then-class-ne0+else-index-eq0}
+use Rattle.rbbi_cats.proofs.numbers.numbers_of.Goals.{else-class-ne0-via-else-class-ne0}
 
 pub loop-class-preserved : goal.loop-class-preserved
 loop-class-preserved c =
@@ -23,7 +24,8 @@ loop-class-preserved c =
           (subst (λ (v : Vec ℕ Global). P v.items (greatest + 1)) (sym w.numbers-is) made)
       | else-class-ne0 w ↦
           let known : (class ≡ 0) ⊎ (get_or numbers class 0 ≢ 0) = elim w.else-class-ne0.branch [
-            | else-class-ne0-via-then-class-ne0+else-index-eq0 w' ↦ inr (λ e. w'.if-index-eq0.false (read numbers class w'.index.result.now inside w'.index.ensures ∙ e))
+            | else-class-ne0-via-then-class-ne0+else-index-eq0 w' ↦ inr (λ e. w'.if-index-eq0.false
+                (read numbers class w'.index.result.now inside w'.index.ensures ∙ e))
             | else-class-ne0-via-else-class-ne0 w' ↦ inl w'.if-class-ne0.false
           ] in
           subst (λ (n : ℕ). P c.if-class-ne0.numbers.items n) (sym w.greatest-is)
@@ -31,4 +33,5 @@ loop-class-preserved c =
     ]
 
 pub returns-clause-numbers : goal.returns-clause-numbers
-returns-clause-numbers c = all_numbered c.args.classes.now c.loop-class.numbers.items c.loop-class.greatest c.args.count c.loop-class.class-index c.requires.some (omega arith) c.loop-class.invariant
+returns-clause-numbers c = all_numbered c.args.classes.now c.loop-class.numbers.items c.loop-class.greatest c.args.count c.loop-class.class-index
+    c.requires.some (omega arith) c.loop-class.invariant

@@ -2,7 +2,8 @@ use Rattle.std.proofs.Common.{◌≡◌, ◌≢◌, ◌⊎◌, ◌<◌, ◌+◌,
 use Rattle.rbbi_model.specs.Tables.{CategoryRange}
 use Rattle.rbbi_cats.proofs.Ranging.{RangesSoFar, number_of, range_kept, range_made}
 use Rattle.rbbi_cats.proofs.numbers.ranges_of.Goals as goal
-use Rattle.rbbi_cats.proofs.numbers.ranges_of.Goals.{then-i-eq0+in_ok-push, then-i-eq0-via-then-i-eq0, then-i-eq0-via-else-i-eq0+then-numbers-classes, else-i-eq0+else-numbers-classes}
+use Rattle.rbbi_cats.proofs.numbers.ranges_of.Goals.{then-i-eq0+in_ok-push, then-i-eq0-via-then-i-eq0, then-i-eq0-via-else-i-eq0+then-numbers-classes}
+use Rattle.rbbi_cats.proofs.numbers.ranges_of.Goals.{else-i-eq0+else-numbers-classes}
 
 pub loop-i-preserved : goal.loop-i-preserved
 loop-i-preserved c =
@@ -20,8 +21,10 @@ loop-i-preserved c =
             | then-i-eq0-via-then-i-eq0 w' ↦ inl w'.if-i-eq0.true
             | then-i-eq0-via-else-i-eq0+then-numbers-classes w' ↦ inr (omega (arith, w'.if-i-eq0.false), w'.if-numbers-classes.true)
           ] in
-          let made = range_made cuts classes numbers ranges k (record { start = get_or cuts k 0; category = number_of classes numbers k }) c.requires.rising c.requires.from_zero below refl refl when h in
-          let items : w.push.new.self.items ≡ ranges ++ record { start = get_or cuts k 0; category = number_of classes numbers k } ∷ [] = w.in_ok-push.ensures.items in
+          let made = range_made cuts classes numbers ranges k (record { start = get_or cuts k 0; category = number_of classes numbers k }) c.requires.rising
+          c.requires.from_zero below refl refl when h in
+          let items : w.push.new.self.items ≡ ranges ++ record { start = get_or cuts k 0; category = number_of classes numbers k } ∷ [] =
+          w.in_ok-push.ensures.items in
           subst (λ (v : Vec CategoryRange Global). P v.items) (sym w.ranges-is) (subst P (sym items) made)
       | else-i-eq0+else-numbers-classes w ↦
           let kept = range_kept cuts classes numbers ranges k c.requires.rising (omega (arith, w.if-i-eq0.false)) below w.if-numbers-classes.false h in

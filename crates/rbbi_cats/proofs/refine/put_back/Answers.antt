@@ -23,7 +23,8 @@ index_mut-requires c =
     let decided = decide before classes members origins start c.loop-k.sizes.items c.loop-k.targets.items sizes targets MOVING k origin target
     (c.requires.origins k within) few c.loop-k.invariant c.in_ok-target.ensures in
     let out = c.requires.out k within in
-    let below = target_within before classes members origins start sizes targets MOVING k m origin target c.requires.stretches within refl refl (c.requires.origins k within) out few' decided in
+    let below = target_within before classes members origins start sizes targets MOVING k m origin target c.requires.stretches within
+    refl refl (c.requires.origins k within) out few' decided in
     omega (arith, below, c.target_of.new.sizes.ok)
 
 pub overflow_add-index_mut : goal.overflow_add-index_mut
@@ -45,7 +46,8 @@ overflow_add-index_mut c =
     let decided = decide before classes members origins start c.loop-k.sizes.items c.loop-k.targets.items sizes targets MOVING k origin target
     (c.requires.origins k within) few c.loop-k.invariant c.in_ok-target.ensures in
     let out = c.requires.out k within in
-    let below = target_within before classes members origins start sizes targets MOVING k m origin target c.requires.stretches within refl refl (c.requires.origins k within) out few' decided in
+    let below = target_within before classes members origins start sizes targets MOVING k m origin target c.requires.stretches within
+    refl refl (c.requires.origins k within) out few' decided in
     let size_is : c.index_mut.result.now ≡ get_or sizes target 0 = read sizes target c.index_mut.result.now below c.index_mut.ensures.value in
     omega (arith, room classes sizes target decided.placed.sized below, size_is, c.loop-k.classes.small)
 
@@ -68,13 +70,16 @@ loop-k-preserved c =
     let decided = decide before classes members origins start c.loop-k.sizes.items c.loop-k.targets.items sizes targets MOVING k origin target
     (c.requires.origins k within) few c.loop-k.invariant c.in_ok-target.ensures in
     let out = c.requires.out k within in
-    let below = target_within before classes members origins start sizes targets MOVING k m origin target c.requires.stretches within refl refl (c.requires.origins k within) out few' decided in
+    let below = target_within before classes members origins start sizes targets MOVING k m origin target c.requires.stretches within
+    refl refl (c.requires.origins k within) out few' decided in
     let size_is : c.index_mut.result.now ≡ get_or sizes target 0 = read sizes target c.index_mut.result.now below c.index_mut.ensures.value in
     let Put : ℕ → Type 0 = λ size. PutSoFar before (set classes m target) members origins start (set sizes target (size + 1)) targets MOVING (k + 1) in
     subst Put (sym size_is)
-    (placed before classes members origins start sizes targets MOVING k m origin target c.requires.stretches within refl refl (c.requires.origins k within) out few' decided)
+    (placed before classes members origins start sizes targets MOVING k m origin target c.requires.stretches within
+    refl refl (c.requires.origins k within) out few' decided)
 
 pub returns : goal.returns
 returns c =
-    all_put c.args.classes.now.items c.loop-k.classes.items c.args.members.now c.args.origins.now c.args.sizes.now.items c.loop-k.sizes.items c.loop-k.targets.items MOVING c.loop-k.k
+    all_put c.args.classes.now.items c.loop-k.classes.items c.args.members.now c.args.origins.now c.args.sizes.now.items c.loop-k.sizes.items
+    c.loop-k.targets.items MOVING c.loop-k.k
     (omega arith) c.requires.origins c.loop-k.invariant

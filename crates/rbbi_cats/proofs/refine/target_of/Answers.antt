@@ -11,7 +11,8 @@ returns-then-index c =
     let sizes = c.args.sizes.now.items in
     let origin = c.args.origin in
     let first_is : c.index.result.now ≡ get_or targets origin 0 = read targets origin c.index.result.now c.requires.target c.index.ensures in
-    let now_is : c.index-then-index.result.now ≡ get_or targets origin 0 = read targets origin c.index-then-index.result.now c.requires.target c.index-then-index.ensures in
+    let now_is : c.index-then-index.result.now ≡ get_or targets origin 0 = read targets origin
+    c.index-then-index.result.now c.requires.target c.index-then-index.ensures in
     let had : Targets MOVING targets sizes origin targets sizes (get_or targets origin 0) = Had (λ e. c.if-index.true (first_is ∙ e)) in
     subst (Targets MOVING targets sizes origin targets sizes) (sym now_is) had
 
@@ -21,7 +22,8 @@ returns-then-index-eq0 c =
     let sizes = c.args.sizes.now.items in
     let origin = c.args.origin in
     let first_is : c.index.result.now ≡ get_or targets origin 0 = read targets origin c.index.result.now c.requires.target c.index.ensures in
-    let size_is : c.index-then-origin-ne0.result.now ≡ get_or sizes origin 0 = read sizes origin c.index-then-origin-ne0.result.now c.requires.size c.index-then-origin-ne0.ensures in
+    let size_is : c.index-then-origin-ne0.result.now ≡ get_or sizes origin 0 = read sizes origin
+    c.index-then-origin-ne0.result.now c.requires.size c.index-then-origin-ne0.ensures in
     Kept (sym first_is ∙ c.if-index.false) c.if-origin-ne0.true (sym size_is ∙ c.if-index-eq0.true)
 
 pub returns : goal.returns
@@ -32,10 +34,12 @@ returns c =
     let first_is : c.index.result.now ≡ get_or targets origin 0 = read targets origin c.index.result.now c.requires.target c.index.ensures in
     let split : (origin ≡ 0) ⊎ (get_or sizes origin 0 ≢ 0) =
     elim c.else-origin-ne0.branch [
-      | else-origin-ne0-via-then-origin-ne0+else-index-eq0 w ↦ inr (λ e. w.if-index-eq0.false (read sizes origin w.index-then-origin-ne0.result.now c.requires.size w.index-then-origin-ne0.ensures ∙ e))
+      | else-origin-ne0-via-then-origin-ne0+else-index-eq0 w ↦ inr (λ e. w.if-index-eq0.false
+          (read sizes origin w.index-then-origin-ne0.result.now c.requires.size w.index-then-origin-ne0.ensures ∙ e))
       | else-origin-ne0-via-else-origin-ne0 w ↦ inl w.if-origin-ne0.false
     ] in
-    let made : Targets MOVING targets sizes origin (set targets origin (length sizes)) (sizes ++ 0 ∷ []) (length sizes) = Made (sym first_is ∙ c.if-index.false) split in
+    let made : Targets MOVING targets sizes origin (set targets origin (length sizes)) (sizes ++ 0 ∷ []) (length sizes) =
+    Made (sym first_is ∙ c.if-index.false) split in
     let long : length sizes ≡ c.len-target.result = search rules in
     let items : sizes ++ 0 ∷ [] ≡ c.push.new.self.items = sym c.in_ok-push.ensures.items in
     subst (λ (n : ℕ). Targets MOVING targets sizes origin (set targets origin n) c.push.new.self.items n) long

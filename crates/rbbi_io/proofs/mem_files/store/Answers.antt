@@ -1,5 +1,5 @@
 use Rattle.std.proofs.Common.{List, ℕ, [], ◌∷◌, ◌++◌, ◌∙◌, ap, sym, subst}
-use Rattle.rbbi_io.specs.Memory.{IsPlaceOf, IsAbsent}
+use Rattle.rbbi_io.specs.Memory.{IsIndexOf, IsAbsent}
 use Rattle.rbbi_io.proofs.NamedFiles.{set-place, with_file-absent}
 use Rattle.rbbi_io.proofs.mem_files.store.Goals as goal
 
@@ -10,7 +10,7 @@ returns-in-Some-clause-ok c =
     let name = c.args.name.now in
     let bytes = c.args.bytes.items in
     let place = c.in-Some.place in
-    let at : IsPlaceOf files name place = subst (λ (fs : List (List ℕ × List ℕ)). IsPlaceOf fs name place) c.as_slice.ensures.value c.in-Some.ensures in
+    let at : IsIndexOf files name place = subst (λ (fs : List (List ℕ × List ℕ)). IsIndexOf fs name place) c.as_slice.ensures.value c.in-Some.ensures in
     set-place files name bytes place c.index_mut.result.now c.replace.new.self at c.index_mut.ensures.value c.replace.ensures
 
 -- at the end

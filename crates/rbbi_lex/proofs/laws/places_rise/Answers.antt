@@ -1,5 +1,5 @@
 use Rattle.std.proofs.Common.{arith}
-use Rattle.rbbi_lex.specs.Rows.{start}
+use Rattle.rbbi_lex.specs.Cases.{start}
 use Rattle.rbbi_lex.proofs.LexingLemmas.{UsesUp-rise}
 use Rattle.rbbi_lex.proofs.laws.places_rise.Goals as goal
 

@@ -33,7 +33,8 @@ loop-next-preserved c =
       whole = λ word end q.
           let joined : old ++ (next.character ∷ word) ≡ new ++ word =
           sym (ap (λ (v : List ℕ). v ++ word) c.in_ok-push_character.ensures ∙ append_assoc old (next.character ∷ []) word) in
-          subst (λ (v : List ℕ). QuotesUpTo x (c.args.at + 1) v end) joined (c.loop-next.invariant.whole (next.character ∷ word) end (next.end, c.in-Some.ensures, q));
+          subst (λ (v : List ℕ). QuotesUpTo x (c.args.at + 1) v end) joined
+          (c.loop-next.invariant.whole (next.character ∷ word) end (next.end, c.in-Some.ensures, q));
       rest = λ word end q.
           let left = c.loop-next.invariant.rest word end q in
           QuotesUpTo-rest x c.loop-next.close next.end next.character left.0 end c.in-Some.ensures left.1;

@@ -1,7 +1,7 @@
 use Rattle.std.proofs.Common.{◌≡◌, ℕ, List, length, refl, subst, ◌∙◌, arith, vec_len}
 use Rattle.std.proofs.lemmas.Result.{err_from_is_err_and}
 use Rattle.rbbi_lex.specs.Places.{PlacesRise}
-use Rattle.rbbi_lex.specs.Rows.{start}
+use Rattle.rbbi_lex.specs.Cases.{start}
 use Rattle.rbbi_lex.specs.Errors.{TellsFault}
 use Rattle.rbbi_lex.proofs.LexingLemmas.{UsesUp-push, StopsAt-tells, step_forward, UsesUp-rise, UsesUp-well_made}
 use Rattle.rbbi_lex.proofs.text.lex.Goals as goal
@@ -15,7 +15,8 @@ pub returns-in_err-token-clause-exact : goal.returns-in_err-token-clause-exact
 returns-in_err-token-clause-exact c =
     let lexer = c.loop-lexer.lexer in
     let tells =
-    StopsAt-tells lexer.characters.items c.loop-lexer.tokens lexer.state lexer.place c.in_err-token.field-0.0 c.loop-lexer.invariant.read c.in_err-token.ensures.step in
+    StopsAt-tells lexer.characters.items c.loop-lexer.tokens lexer.state lexer.place c.in_err-token.field-0.0 c.loop-lexer.invariant.read
+    c.in_err-token.ensures.step in
     let told = subst (λ (x : List ℕ). TellsFault x c.in_err-token.field-0.0) c.loop-lexer.invariant.characters tells in
     let exit = err_from_is_err_and c.from_residual-in_err-token.result c.from_residual-in_err-token.ensures.1 in
     rw (exit.1, exit.2) told

@@ -1,6 +1,6 @@
 use Rattle.std.proofs.Common.{◌≡◌, ◌-◌, vec_len}
 use Rattle.std.specs.Str.{chars}
-use Rattle.rbbi_lex.specs.Rows.{start}
+use Rattle.rbbi_lex.specs.Cases.{start}
 use Rattle.rbbi_lex.specs.Lexing.{UsesUp}
 use Rattle.rbbi_lex.proofs.text.lex.Given as goal
 

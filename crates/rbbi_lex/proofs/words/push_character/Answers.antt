@@ -14,4 +14,5 @@ pushed (Err u) bs new c e utf8 scalar = tt
 
 pub returns : goal.returns
 returns c =
-    pushed c.push.result (string_bytes c.args.string.now) (string_bytes c.push.new.self) c.args.c c.push.ensures.bytes (IsUtf8-string_bytes c.args.string.now) c.ranges.c.0
+    pushed c.push.result (string_bytes c.args.string.now) (string_bytes c.push.new.self) c.args.c c.push.ensures.bytes
+    (IsUtf8-string_bytes c.args.string.now) c.ranges.c.0

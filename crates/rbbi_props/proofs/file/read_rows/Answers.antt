@@ -24,7 +24,8 @@ loop-line-preserved c =
     YieldsList-from_lines c.args.text.now (ap (λ s. s.rest.now) c.into_iter-line-iterator.ensures.into_iter_gives ∙ c.lines-line-items.ensures.rest) in
     let turn = YieldsList-turn road c.loop-line.yielded _ c.loop-line.yielded_by _ _ c.in-Some.line c.in-Some.is c.next.ensures.steps in (
       omega (arith, c.loop-line.invariant.0, length-append c.loop-line.yielded (c.in-Some.line ∷ [])),
-      IsReading-more (lines c.args.text.now) c.loop-line.rows.items c.read_line.new.rows.items c.loop-line.number (length c.loop-line.yielded) c.as_bytes.result.now c.loop-line.invariant.1 c.loop-line.invariant.0
+      IsReading-more (lines c.args.text.now) c.loop-line.rows.items c.read_line.new.rows.items c.loop-line.number
+          (length c.loop-line.yielded) c.as_bytes.result.now c.loop-line.invariant.1 c.loop-line.invariant.0
           turn.0 (c.as_bytes.ensures.value ∙ turn.1 ∙ get_or_default _ _ _ _ turn.0) c.in_ok-read_line.ensures.row c.in_ok-read_line.ensures.good,
     )
 
@@ -35,7 +36,8 @@ returns-in_err-read_line-clause-cause c =
     let turn = YieldsList-turn road c.loop-line.yielded _ c.loop-line.yielded_by _ _ c.in-Some.line c.in-Some.is c.next.ensures.steps in
     let told = err_from_is_err_and c.from_residual.result c.from_residual.ensures.1 in
     rw (told.1, told.2)
-    (IsLineCause-from_line (lines c.args.text.now) c.loop-line.rows.items c.loop-line.number (length c.loop-line.yielded) c.as_bytes.result.now c.in_err-read_line.field-0.0 c.loop-line.invariant.1 c.loop-line.invariant.0
+    (IsLineCause-from_line (lines c.args.text.now) c.loop-line.rows.items c.loop-line.number
+    (length c.loop-line.yielded) c.as_bytes.result.now c.in_err-read_line.field-0.0 c.loop-line.invariant.1 c.loop-line.invariant.0
     turn.0 (c.as_bytes.ensures.value ∙ turn.1 ∙ get_or_default _ _ _ _ turn.0) c.in_err-read_line.ensures.cause)
 
 pub returns-clause-rows : goal.returns-clause-rows

@@ -29,7 +29,8 @@ pub returns-then-at-range-clause-same : goal.returns-then-at-range-clause-same
 returns-then-at-range-clause-same c =
     let d = c.index-ranges-next.result in
     let read = ap (λ (r : Range). r.low) (c.range.view_is ∙ c.index-ranges-next.is) in
-    λ code l m. covers-gap c.args.ranges.now c.args.at c.args.next code d c.requires.rising c.requires.place (omega (arith, c.requires.within)) l (omega (arith, read))
+    λ code l m. covers-gap c.args.ranges.now c.args.at c.args.next code d c.requires.rising c.requires.place (omega (arith, c.requires.within)) l
+    (omega (arith, read))
 
 pub returns-then-at-range-clause-short : goal.returns-then-at-range-clause-short
 returns-then-at-range-clause-short c =

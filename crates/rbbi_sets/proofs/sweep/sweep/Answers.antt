@@ -9,8 +9,10 @@ pub stretch-in_left-requires-clause-code_point : goal.stretch-in_left-requires-c
 stretch-in_left-requires-clause-code_point c =
     let swept = c.stretches.invariant in
     elim c.if-next_left-left.branch [
-      | then-next_left-left w ↦ code_point_left c.args.left.now c.stretches.at c.stretches.next_left c.requires.left_rises swept.left_place w.if-next_left-left.true
-      | else-next_left-left+then-next_right-right w ↦ code_point_left c.args.right.now c.stretches.at c.stretches.next_right c.requires.right_rises swept.right_place w.if-next_right-right.true
+      | then-next_left-left w ↦ code_point_left c.args.left.now c.stretches.at c.stretches.next_left c.requires.left_rises swept.left_place
+          w.if-next_left-left.true
+      | else-next_left-left+then-next_right-right w ↦ code_point_left c.args.right.now c.stretches.at c.stretches.next_right c.requires.right_rises
+          swept.right_place w.if-next_right-right.true
     ]
 
 pub stretches-preserved : goal.stretches-preserved

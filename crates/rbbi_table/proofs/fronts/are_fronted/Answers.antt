@@ -18,7 +18,8 @@ returns-then-not-fronted c =
     let table : Table = table_of c.args.parts.now in
     refuted (λ fronted.
     fails c.in_ok-fronted.fronted c.in_ok-fronted.ensures c.if-not-fronted.true
-    ((front_of table c.as_slice-rows.result.now c.as_slice-cells.result.now c.loop-slash.slash c.as_slice-rows.ensures c.as_slice-cells.ensures).1 (λ way is completed. fronted way c.loop-slash.slash is completed)))
+    ((front_of table c.as_slice-rows.result.now c.as_slice-cells.result.now c.loop-slash.slash c.as_slice-rows.ensures c.as_slice-cells.ensures).1
+    (λ way is completed. fronted way c.loop-slash.slash is completed)))
 
 pub loop-slash-preserved : goal.loop-slash-preserved
 loop-slash-preserved c = λ slash low.
@@ -26,7 +27,8 @@ loop-slash-preserved c = λ slash low.
     ⊎_elim
     (λ same.
     subst (λ n. IsFronted table n) (sym same)
-    ((front_of table c.as_slice-rows.result.now c.as_slice-cells.result.now c.loop-slash.slash c.as_slice-rows.ensures c.as_slice-cells.ensures).0 (c.in_ok-fronted.ensures.0 c.if-not-fronted.false)))
+    ((front_of table c.as_slice-rows.result.now c.as_slice-cells.result.now c.loop-slash.slash c.as_slice-rows.ensures c.as_slice-cells.ensures).0
+    (c.in_ok-fronted.ensures.0 c.if-not-fronted.false)))
     (λ other. c.loop-slash.invariant slash (omega arith))
     (cases_eq slash c.loop-slash.slash)
 

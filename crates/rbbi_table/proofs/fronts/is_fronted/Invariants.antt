@@ -11,7 +11,8 @@ invariant-loop-cell l = record {
   short : l.done ≤ length l.queue.items;
   row : l.row ≡ get_or l.queue.items (l.done - 1) 0;
   passed : ArePassed (rows_of l.width l.rows l.cells []) l.slash l.queue.items (l.done - 1);
-  now : (category : ℕ) → category < l.cell-index → IsPassed (rows_of l.width l.rows l.cells []) l.slash l.queue.items (step (rows_of l.width l.rows l.cells []) l.row category);
+  now : (category : ℕ) → category < l.cell-index → IsPassed (rows_of l.width l.rows l.cells []) l.slash l.queue.items
+      (step (rows_of l.width l.rows l.cells []) l.row category);
 }
 
 abbrev pub invariant-loop-done : goal.invariant-loop-done

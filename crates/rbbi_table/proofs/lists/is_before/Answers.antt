@@ -10,7 +10,8 @@ returns-then-this-that c =
     let i : ℕ = c.loop-i.i in
     let this : i < length c.args.these.now = omega (arith, c.min-shared.ensures) in
     let that : i < length c.args.those.now = omega (arith, c.min-shared.ensures) in (
-      λ is. c.loop-i.invariant.1 (both_back c.args.these.now c.args.those.now i this that (inl (ltb-true (get_or c.args.these.now i 0) (get_or c.args.those.now i 0) is))),
+      λ is. c.loop-i.invariant.1 (both_back c.args.these.now c.args.those.now i this that
+          (inl (ltb-true (get_or c.args.these.now i 0) (get_or c.args.those.now i 0) is))),
       λ before.
           ⊎_elim
           (λ less. lt-ltb (get_or c.args.these.now i 0) (get_or c.args.those.now i 0) less)

@@ -13,5 +13,6 @@ loop-row-preserved c =
     let own : List ℕ = steps_of c.args.categories c.args.cells.now row in
     let read = get_or_read rows row c.index-rows-row.result c.loop-row-test.true c.index-rows-row.is empty_head in
     subst (λ (l : List ℕ). AreFirstMoves (rows_of c.args.categories rows c.args.cells.now []) l (row + 1)) (sym c.in_ok-push_row.ensures)
-    (subst (λ (h : RowHead). AreFirstMoves (rows_of c.args.categories rows c.args.cells.now []) (c.loop-row.moves.items ++ row_moves (length own + 3) rows own h) (row + 1)) (sym read)
+    (subst (λ (h : RowHead). AreFirstMoves (rows_of c.args.categories rows c.args.cells.now [])
+    (c.loop-row.moves.items ++ row_moves (length own + 3) rows own h) (row + 1)) (sym read)
     (push_moves c.args.categories rows c.args.cells.now c.loop-row.moves.items row c.requires.steps c.loop-row-test.true c.loop-row.invariant))

@@ -5,4 +5,5 @@ use Rattle.rbbi_table.proofs.moves.push_row.Given as goal
 
 abbrev pub invariant-loop-next : goal.invariant-loop-next
 invariant-loop-next l =
-    l.moves.items ≡ l.initial.moves.items ++ map (λ next. next * (length l.steps + 3) * 8 + move_flags (get_or l.rows next empty_head) next) (take l.next-index l.steps)
+    l.moves.items ≡ l.initial.moves.items ++ map (λ next. next * (length l.steps + 3) * 8 + move_flags (get_or l.rows next empty_head) next)
+    (take l.next-index l.steps)

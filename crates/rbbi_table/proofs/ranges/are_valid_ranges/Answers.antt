@@ -23,7 +23,8 @@ returns-then-not-goes_on c =
     let i : ℕ = c.loop-range.range-index in
     let item = item_is ranges i c.range-item.result no_range c.loop-range-test.true c.range-item.is in
     refuted (λ valid.
-    let go = subst (λ (l : List CategoryRange). GoOn c.args.categories c.loop-range.previous l) (drop_more (drop 1 ranges) i no_range item.0) (c.loop-range.invariant.0 valid) in
+    let go = subst (λ (l : List CategoryRange). GoOn c.args.categories c.loop-range.previous l) (drop_more (drop 1 ranges) i no_range item.0)
+    (c.loop-range.invariant.0 valid) in
     fails c.goes_on.result c.goes_on.ensures c.if-not-goes_on.true
     (subst (λ (r : CategoryRange). GoesOn c.args.categories c.loop-range.previous r) (sym item.1) go.0))
 
@@ -45,4 +46,5 @@ loop-range-preserved c =
 pub returns : goal.returns
 returns c =
     let ranges : List CategoryRange = c.args.ranges.now in
-    granted (c.loop-range.invariant.1 (subst (λ (l : List CategoryRange). GoOn c.args.categories c.loop-range.previous l) (sym (items_end ranges c.loop-range.range-index c.loop-range-test.false)) tt))
+    granted (c.loop-range.invariant.1 (subst (λ (l : List CategoryRange). GoOn c.args.categories c.loop-range.previous l)
+    (sym (items_end ranges c.loop-range.range-index c.loop-range-test.false)) tt))

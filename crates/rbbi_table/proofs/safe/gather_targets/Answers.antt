@@ -13,7 +13,8 @@ loop-row-preserved c =
     let accept : c.head.inside.accept ≡ (get_or c.args.rows.now row empty_head).accept = ap (λ (h : RowHead). h.accept) (c.head.view_is ∙ read) in
     record {
       long = c.in_ok-add_target.ensures.len ∙ inv.long;
-      below = add_open (rows_of c.args.width c.args.rows.now c.args.cells.now []) c.args.category c.loop-row.targets.items c.add_target.new.targets.items row inv.below c.loop-row-test.true
+      below = add_open (rows_of c.args.width c.args.rows.now c.args.cells.now []) c.args.category c.loop-row.targets.items c.add_target.new.targets.items row
+          inv.below c.loop-row-test.true
           (λ none. omega (arith, none, c.loop-row.auto.row), omega (arith, accept, c.if-head-ge2.false)) c.in_ok-add_target.ensures.adds;
       gathered = c.in_ok-add_target.ensures.gathered;
     }

@@ -10,8 +10,10 @@ use Rattle.rbbi_table.proofs.safe.safe_pairs.Goals.{then-lead_to_one, else-lead_
 
 pub lead_to_one-requires : goal.lead_to_one-requires
 lead_to_one-requires c =
-    subst (λ (ts : List ℕ). (i : ℕ) → i < length ts → get_or ts i 0 * c.args.categories + c.loop-second.second < length c.args.cells.now) (sym c.deref.ensures.value)
-    (targets_within c.args.categories c.args.rows.now c.args.cells.now c.loop-first.first c.loop-second.second c.gather_targets.new.targets.items c.requires.steps c.loop-second.invariant.targets c.loop-first-test.true c.loop-second-test.true)
+    subst (λ (ts : List ℕ). (i : ℕ) → i < length ts → get_or ts i 0 * c.args.categories + c.loop-second.second < length c.args.cells.now)
+    (sym c.deref.ensures.value)
+    (targets_within c.args.categories c.args.rows.now c.args.cells.now c.loop-first.first c.loop-second.second c.gather_targets.new.targets.items
+    c.requires.steps c.loop-second.invariant.targets c.loop-first-test.true c.loop-second-test.true)
 
 pub loop-second-preserved : goal.loop-second-preserved
 loop-second-preserved c =
@@ -27,15 +29,18 @@ loop-second-preserved c =
         all = omega (arith, inv.all, w.store.ensures.len, ap (λ (v : Vec ℕ Global). length v.items) w.bytes-is);
         targets = inv.targets;
         pairs = subst (λ n. AreFirstPairs table c.if-lead_to_one.bytes.items n) next
-            (pair_set table c.loop-second.bytes.items c.if-lead_to_one.bytes.items first second c.loop-second-test.true inv.pairs (one.0 (means.0 w.if-lead_to_one.true))
-            (subst (λ (v : Vec ℕ Global). (i : ℕ) → stored_bit v.items i ≡ cond (eqb i (first * c.args.categories + second)) true (stored_bit c.loop-second.bytes.items i)) (sym w.bytes-is) w.store.ensures.bits));
+            (pair_set table c.loop-second.bytes.items c.if-lead_to_one.bytes.items first second c.loop-second-test.true inv.pairs
+            (one.0 (means.0 w.if-lead_to_one.true))
+            (subst (λ (v : Vec ℕ Global). (i : ℕ) → stored_bit v.items i ≡ cond (eqb i (first * c.args.categories + second)) true
+            (stored_bit c.loop-second.bytes.items i)) (sym w.bytes-is) w.store.ensures.bits));
       }
       | else-lead_to_one w ↦ record {
         all = omega (arith, inv.all, ap (λ (v : Vec ℕ Global). length v.items) w.bytes-is);
         targets = inv.targets;
         pairs = subst (λ n. AreFirstPairs table c.if-lead_to_one.bytes.items n) next
             (subst (λ (v : Vec ℕ Global). AreFirstPairs table v.items (first * c.args.categories + second + 1)) (sym w.bytes-is)
-            (pair_unset table c.loop-second.bytes.items first second c.loop-second-test.true inv.pairs (λ safe. fails c.lead_to_one.result means w.if-lead_to_one.false (one.1 safe))));
+            (pair_unset table c.loop-second.bytes.items first second c.loop-second-test.true inv.pairs
+            (λ safe. fails c.lead_to_one.result means w.if-lead_to_one.false (one.1 safe))));
       }
     ]
 

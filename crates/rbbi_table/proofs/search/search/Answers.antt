@@ -1,9 +1,11 @@
-use Rattle.std.proofs.Common.{◌≡◌, ◌≢◌, ℕ, suc, ◌+◌, ◌-◌, ◌*◌, ◌/◌, ◌%◌, ◌^◌, ◌<◌, ◌≤◌, Bool, true, false, cond, ltb, eqb, List, length, get_or, refl, ap, sym, ◌∙◌, subst, inl, inr, arith}
+use Rattle.std.proofs.Common.{◌≡◌, ◌≢◌, ℕ, suc, ◌+◌, ◌-◌, ◌*◌, ◌/◌, ◌%◌, ◌^◌, ◌<◌, ◌≤◌, Bool, true, false, cond, ltb, eqb, List, length, get_or, refl, ap, sym}
+use Rattle.std.proofs.Common.{◌∙◌, subst, inl, inr, arith}
 use Rattle.rbbi_model.specs.Tables.{Table, accept_of, fronts_of, list_of, completes, stops}
 use Rattle.rbbi_model.specs.Searches.{row_at, look_end, search_end}
 use Rattle.rbbi_table.specs.Parts.{table_of}
 use Rattle.rbbi_table.proofs.SearchLemmas.{IsSearch, IsEnd, EndsOn, search_start, ended_on}
-use Rattle.rbbi_table.proofs.StepLemmas.{step_by, moves_few, head_within, fronts_read, list_read, accept_read, list_small, ends_yes, ends_no, Noted, noted_yes, noted_no, goes_on, cuts, matches, matches_last, end_list}
+use Rattle.rbbi_table.proofs.StepLemmas.{step_by, moves_few, head_within, fronts_read, list_read, accept_read, list_small, ends_yes, ends_no, Noted, noted_yes}
+use Rattle.rbbi_table.proofs.StepLemmas.{noted_no, goes_on, cuts, matches, matches_last, end_list}
 use Rattle.rbbi_table.proofs.search.search.Goals as goal
 use Rattle.rbbi_table.proofs.search.search.Goals.{then-cell-eq1, else-cell-eq1, then-cell-eq1-2, else-cell-eq1-2}
 
@@ -11,7 +13,8 @@ pub loop-at-init : goal.loop-at-init
 loop-at-init g c =
     record {
       places = c.requires.fit;
-      searched = search_start (table_of c.args.parts.now) (g.T.Chars.characters c.args.text.now) c.args.s (c.args.parts.now.categories + 3) c.args.places.now c.requires.within refl;
+      searched = search_start (table_of c.args.parts.now) (g.T.Chars.characters c.args.text.now) c.args.s
+          (c.args.parts.now.categories + 3) c.args.places.now c.requires.within refl;
       read = omega arith;
     }
 
@@ -24,8 +27,10 @@ overflow_add-cell g c =
     let moves : List ℕ = c.args.moves.now in
     let searched = c.loop-at.invariant.searched in
     let next : ℕ = row_at table x c.args.s (suc c.loop-at.at) in
-    let one = step_by table numbers kept moves c.requires.kept x c.args.s c.loop-at.at c.loop-at.row c.loop-at.end c.loop-at.end_row c.look_up-category.result c.loop-at.places
-    c.as_slice-numbers.result.now c.as_slice-kept.result.now c.char_at.result c.len-len.result c.len-len.ensures.text searched c.loop-at-test.true c.len-len.ensures.exact c.look_up-category.ensures c.as_slice-numbers.ensures.value c.as_slice-kept.ensures.value c.char_at.ensures.character in
+    let one = step_by table numbers kept moves c.requires.kept x c.args.s c.loop-at.at c.loop-at.row c.loop-at.end c.loop-at.end_row c.look_up-category.result
+    c.loop-at.places
+    c.as_slice-numbers.result.now c.as_slice-kept.result.now c.char_at.result c.len-len.result c.len-len.ensures.text searched c.loop-at-test.true
+    c.len-len.ensures.exact c.look_up-category.ensures c.as_slice-numbers.ensures.value c.as_slice-kept.ensures.value c.char_at.ensures.character in
     let short = one.0 in
     let reads = one.1.reads in
     let row : ℕ = get_or moves (c.loop-at.row + c.look_up-category.result) 0 / 8 in
@@ -40,8 +45,10 @@ offset_bounds-moves-row g c =
     let moves : List ℕ = c.args.moves.now in
     let searched = c.loop-at.invariant.searched in
     let next : ℕ = row_at table x c.args.s (suc c.loop-at.at) in
-    let one = step_by table numbers kept moves c.requires.kept x c.args.s c.loop-at.at c.loop-at.row c.loop-at.end c.loop-at.end_row c.look_up-category.result c.loop-at.places
-    c.as_slice-numbers.result.now c.as_slice-kept.result.now c.char_at.result c.len-len.result c.len-len.ensures.text searched c.loop-at-test.true c.len-len.ensures.exact c.look_up-category.ensures c.as_slice-numbers.ensures.value c.as_slice-kept.ensures.value c.char_at.ensures.character in
+    let one = step_by table numbers kept moves c.requires.kept x c.args.s c.loop-at.at c.loop-at.row c.loop-at.end c.loop-at.end_row c.look_up-category.result
+    c.loop-at.places
+    c.as_slice-numbers.result.now c.as_slice-kept.result.now c.char_at.result c.len-len.result c.len-len.ensures.text searched c.loop-at-test.true
+    c.len-len.ensures.exact c.look_up-category.ensures c.as_slice-numbers.ensures.value c.as_slice-kept.ensures.value c.char_at.ensures.character in
     let short = one.0 in
     let reads = one.1.reads in
     let row : ℕ = get_or moves (c.loop-at.row + c.look_up-category.result) 0 / 8 in
@@ -56,8 +63,10 @@ bounds-moves-row g c =
     let moves : List ℕ = c.args.moves.now in
     let searched = c.loop-at.invariant.searched in
     let next : ℕ = row_at table x c.args.s (suc c.loop-at.at) in
-    let one = step_by table numbers kept moves c.requires.kept x c.args.s c.loop-at.at c.loop-at.row c.loop-at.end c.loop-at.end_row c.look_up-category.result c.loop-at.places
-    c.as_slice-numbers.result.now c.as_slice-kept.result.now c.char_at.result c.len-len.result c.len-len.ensures.text searched c.loop-at-test.true c.len-len.ensures.exact c.look_up-category.ensures c.as_slice-numbers.ensures.value c.as_slice-kept.ensures.value c.char_at.ensures.character in
+    let one = step_by table numbers kept moves c.requires.kept x c.args.s c.loop-at.at c.loop-at.row c.loop-at.end c.loop-at.end_row c.look_up-category.result
+    c.loop-at.places
+    c.as_slice-numbers.result.now c.as_slice-kept.result.now c.char_at.result c.len-len.result c.len-len.ensures.text searched c.loop-at-test.true
+    c.len-len.ensures.exact c.look_up-category.ensures c.as_slice-numbers.ensures.value c.as_slice-kept.ensures.value c.char_at.ensures.character in
     let short = one.0 in
     let reads = one.1.reads in
     let row : ℕ = get_or moves (c.loop-at.row + c.look_up-category.result) 0 / 8 in
@@ -72,8 +81,10 @@ bounds-moves-row-then-cell-eq1-2 g c =
     let moves : List ℕ = c.args.moves.now in
     let searched = c.loop-at.invariant.searched in
     let next : ℕ = row_at table x c.args.s (suc c.loop-at.at) in
-    let one = step_by table numbers kept moves c.requires.kept x c.args.s c.loop-at.at c.loop-at.row c.loop-at.end c.loop-at.end_row c.look_up-category.result c.loop-at.places
-    c.as_slice-numbers.result.now c.as_slice-kept.result.now c.char_at.result c.len-len.result c.len-len.ensures.text searched c.loop-at-test.true c.len-len.ensures.exact c.look_up-category.ensures c.as_slice-numbers.ensures.value c.as_slice-kept.ensures.value c.char_at.ensures.character in
+    let one = step_by table numbers kept moves c.requires.kept x c.args.s c.loop-at.at c.loop-at.row c.loop-at.end c.loop-at.end_row c.look_up-category.result
+    c.loop-at.places
+    c.as_slice-numbers.result.now c.as_slice-kept.result.now c.char_at.result c.len-len.result c.len-len.ensures.text searched c.loop-at-test.true
+    c.len-len.ensures.exact c.look_up-category.ensures c.as_slice-numbers.ensures.value c.as_slice-kept.ensures.value c.char_at.ensures.character in
     let short = one.0 in
     let reads = one.1.reads in
     let row : ℕ = get_or moves (c.loop-at.row + c.look_up-category.result) 0 / 8 in
@@ -88,13 +99,16 @@ note-requires-clause-fronts g c =
     let moves : List ℕ = c.args.moves.now in
     let searched = c.loop-at.invariant.searched in
     let next : ℕ = row_at table x c.args.s (suc c.loop-at.at) in
-    let one = step_by table numbers kept moves c.requires.kept x c.args.s c.loop-at.at c.loop-at.row c.loop-at.end c.loop-at.end_row c.look_up-category.result c.loop-at.places
-    c.as_slice-numbers.result.now c.as_slice-kept.result.now c.char_at.result c.len-len.result c.len-len.ensures.text searched c.loop-at-test.true c.len-len.ensures.exact c.look_up-category.ensures c.as_slice-numbers.ensures.value c.as_slice-kept.ensures.value c.char_at.ensures.character in
+    let one = step_by table numbers kept moves c.requires.kept x c.args.s c.loop-at.at c.loop-at.row c.loop-at.end c.loop-at.end_row c.look_up-category.result
+    c.loop-at.places
+    c.as_slice-numbers.result.now c.as_slice-kept.result.now c.char_at.result c.len-len.result c.len-len.ensures.text searched c.loop-at-test.true
+    c.len-len.ensures.exact c.look_up-category.ensures c.as_slice-numbers.ensures.value c.as_slice-kept.ensures.value c.char_at.ensures.character in
     let short = one.0 in
     let reads = one.1.reads in
     let row : ℕ = get_or moves (c.loop-at.row + c.look_up-category.result) 0 / 8 in
     let mask : get_or moves (row + c.args.parts.now.categories + 0) 0 ≡ fronts_of table next =
-    ap (λ n. get_or moves n 0) (let e : row + c.args.parts.now.categories + 0 ≡ row + c.args.parts.now.categories = omega arith in e) ∙ fronts_read table numbers kept moves c.requires.kept next row one.1.next_within reads.place_is in
+    ap (λ n. get_or moves n 0) (let e : row + c.args.parts.now.categories + 0 ≡ row + c.args.parts.now.categories = omega arith in e) ∙
+    fronts_read table numbers kept moves c.requires.kept next row one.1.next_within reads.place_is in
     let bound : fronts_of table next < 2 ^ c.args.parts.now.slashes = (c.requires.kept.valid.rows.each next one.1.next_within).fronts in
     subst (λ n. n < 2 ^ length c.loop-at.places) (sym mask) (subst (λ n. fronts_of table next < 2 ^ n) (sym c.loop-at.invariant.places) bound)
 
@@ -107,8 +121,10 @@ bounds-moves-row-then-cell-eq1-3 g c =
     let moves : List ℕ = c.args.moves.now in
     let searched = c.loop-at.invariant.searched in
     let next : ℕ = row_at table x c.args.s (suc c.loop-at.at) in
-    let one = step_by table numbers kept moves c.requires.kept x c.args.s c.loop-at.at c.loop-at.row c.loop-at.end c.loop-at.end_row c.look_up-category.result c.loop-at.places
-    c.as_slice-numbers.result.now c.as_slice-kept.result.now c.char_at.result c.len-len.result c.len-len.ensures.text searched c.loop-at-test.true c.len-len.ensures.exact c.look_up-category.ensures c.as_slice-numbers.ensures.value c.as_slice-kept.ensures.value c.char_at.ensures.character in
+    let one = step_by table numbers kept moves c.requires.kept x c.args.s c.loop-at.at c.loop-at.row c.loop-at.end c.loop-at.end_row c.look_up-category.result
+    c.loop-at.places
+    c.as_slice-numbers.result.now c.as_slice-kept.result.now c.char_at.result c.len-len.result c.len-len.ensures.text searched c.loop-at-test.true
+    c.len-len.ensures.exact c.look_up-category.ensures c.as_slice-numbers.ensures.value c.as_slice-kept.ensures.value c.char_at.ensures.character in
     let short = one.0 in
     let reads = one.1.reads in
     let row : ℕ = get_or moves (c.loop-at.row + c.look_up-category.result) 0 / 8 in
@@ -123,13 +139,22 @@ bounds-places-accept g c =
     let moves : List ℕ = c.args.moves.now in
     let searched = c.loop-at.invariant.searched in
     let next : ℕ = row_at table x c.args.s (suc c.loop-at.at) in
-    let one = step_by table numbers kept moves c.requires.kept x c.args.s c.loop-at.at c.loop-at.row c.loop-at.end c.loop-at.end_row c.look_up-category.result c.loop-at.places
-    c.as_slice-numbers.result.now c.as_slice-kept.result.now c.char_at.result c.len-len.result c.len-len.ensures.text searched c.loop-at-test.true c.len-len.ensures.exact c.look_up-category.ensures c.as_slice-numbers.ensures.value c.as_slice-kept.ensures.value c.char_at.ensures.character in
+    let one = step_by table numbers kept moves c.requires.kept x c.args.s c.loop-at.at c.loop-at.row c.loop-at.end c.loop-at.end_row c.look_up-category.result
+    c.loop-at.places
+    c.as_slice-numbers.result.now c.as_slice-kept.result.now c.char_at.result c.len-len.result c.len-len.ensures.text searched c.loop-at-test.true
+    c.len-len.ensures.exact c.look_up-category.ensures c.as_slice-numbers.ensures.value c.as_slice-kept.ensures.value c.char_at.ensures.character in
     let short = one.0 in
     let reads = one.1.reads in
     let row : ℕ = get_or moves (c.loop-at.row + c.look_up-category.result) 0 / 8 in
     let accept = accept_read table numbers kept moves c.requires.kept next row one.1.next_within reads.place_is in
-    omega (arith, accept, (c.requires.kept.valid.rows.each next one.1.next_within).accept, c.if-accept-ge2.true, c.if-cell-eq1-2.auto.places, c.loop-at.invariant.places)
+    omega (
+      arith,
+      accept,
+      (c.requires.kept.valid.rows.each next one.1.next_within).accept,
+      c.if-accept-ge2.true,
+      c.if-cell-eq1-2.auto.places,
+      c.loop-at.invariant.places,
+    )
 
 pub overflow_cast-result-then-accept-ge2 : goal.overflow_cast-result-then-accept-ge2
 overflow_cast-result-then-accept-ge2 g c =
@@ -140,12 +165,18 @@ overflow_cast-result-then-accept-ge2 g c =
     let moves : List ℕ = c.args.moves.now in
     let searched = c.loop-at.invariant.searched in
     let next : ℕ = row_at table x c.args.s (suc c.loop-at.at) in
-    let one = step_by table numbers kept moves c.requires.kept x c.args.s c.loop-at.at c.loop-at.row c.loop-at.end c.loop-at.end_row c.look_up-category.result c.loop-at.places
-    c.as_slice-numbers.result.now c.as_slice-kept.result.now c.char_at.result c.len-len.result c.len-len.ensures.text searched c.loop-at-test.true c.len-len.ensures.exact c.look_up-category.ensures c.as_slice-numbers.ensures.value c.as_slice-kept.ensures.value c.char_at.ensures.character in
+    let one = step_by table numbers kept moves c.requires.kept x c.args.s c.loop-at.at c.loop-at.row c.loop-at.end c.loop-at.end_row c.look_up-category.result
+    c.loop-at.places
+    c.as_slice-numbers.result.now c.as_slice-kept.result.now c.char_at.result c.len-len.result c.len-len.ensures.text searched c.loop-at-test.true
+    c.len-len.ensures.exact c.look_up-category.ensures c.as_slice-numbers.ensures.value c.as_slice-kept.ensures.value c.char_at.ensures.character in
     let short = one.0 in
     let reads = one.1.reads in
     let row : ℕ = get_or moves (c.loop-at.row + c.look_up-category.result) 0 / 8 in
-    omega (arith, list_read table numbers kept moves c.requires.kept next row one.1.next_within reads.place_is, list_small table numbers kept moves c.requires.kept next one.1.next_within)
+    omega (
+      arith,
+      list_read table numbers kept moves c.requires.kept next row one.1.next_within reads.place_is,
+      list_small table numbers kept moves c.requires.kept next one.1.next_within,
+    )
 
 pub returns-then-accept-ge2-clause-at : goal.returns-then-accept-ge2-clause-at
 returns-then-accept-ge2-clause-at g c =
@@ -156,13 +187,18 @@ returns-then-accept-ge2-clause-at g c =
     let moves : List ℕ = c.args.moves.now in
     let searched = c.loop-at.invariant.searched in
     let next : ℕ = row_at table x c.args.s (suc c.loop-at.at) in
-    let one = step_by table numbers kept moves c.requires.kept x c.args.s c.loop-at.at c.loop-at.row c.loop-at.end c.loop-at.end_row c.look_up-category.result c.loop-at.places
-    c.as_slice-numbers.result.now c.as_slice-kept.result.now c.char_at.result c.len-len.result c.len-len.ensures.text searched c.loop-at-test.true c.len-len.ensures.exact c.look_up-category.ensures c.as_slice-numbers.ensures.value c.as_slice-kept.ensures.value c.char_at.ensures.character in
+    let one = step_by table numbers kept moves c.requires.kept x c.args.s c.loop-at.at c.loop-at.row c.loop-at.end c.loop-at.end_row c.look_up-category.result
+    c.loop-at.places
+    c.as_slice-numbers.result.now c.as_slice-kept.result.now c.char_at.result c.len-len.result c.len-len.ensures.text searched c.loop-at-test.true
+    c.len-len.ensures.exact c.look_up-category.ensures c.as_slice-numbers.ensures.value c.as_slice-kept.ensures.value c.char_at.ensures.character in
     let short = one.0 in
     let reads = one.1.reads in
     let row : ℕ = get_or moves (c.loop-at.row + c.look_up-category.result) 0 / 8 in
-    let accept_is : get_or moves (row + c.args.parts.now.categories + 2) 0 ≡ accept_of table next = accept_read table numbers kept moves c.requires.kept next row one.1.next_within reads.place_is in
-    let cut = cuts table numbers kept moves c.requires.kept x c.args.s c.loop-at.at c.loop-at.row c.loop-at.end c.loop-at.end_row c.look_up-category.result c.loop-at.places searched short one.1 (get_or moves (row + c.args.parts.now.categories + 2) 0) c.if-cell-eq1-2.places c.requires.within c.if-cell-eq1-3.true accept_is c.if-accept-ge2.true
+    let accept_is : get_or moves (row + c.args.parts.now.categories + 2) 0 ≡ accept_of table next =
+    accept_read table numbers kept moves c.requires.kept next row one.1.next_within reads.place_is in
+    let cut = cuts table numbers kept moves c.requires.kept x c.args.s c.loop-at.at c.loop-at.row c.loop-at.end c.loop-at.end_row c.look_up-category.result
+    c.loop-at.places searched short one.1 (get_or moves (row + c.args.parts.now.categories + 2) 0) c.if-cell-eq1-2.places c.requires.within
+    c.if-cell-eq1-3.true accept_is c.if-accept-ge2.true
     (λ isnt. elim c.if-cell-eq1-2.branch [ then-cell-eq1-2 w ↦ absurd (isnt w.if-cell-eq1-2.true) | else-cell-eq1-2 w ↦ w.places-is ]) in
     cut.0
 
@@ -175,13 +211,18 @@ returns-then-accept-ge2-clause-status g c =
     let moves : List ℕ = c.args.moves.now in
     let searched = c.loop-at.invariant.searched in
     let next : ℕ = row_at table x c.args.s (suc c.loop-at.at) in
-    let one = step_by table numbers kept moves c.requires.kept x c.args.s c.loop-at.at c.loop-at.row c.loop-at.end c.loop-at.end_row c.look_up-category.result c.loop-at.places
-    c.as_slice-numbers.result.now c.as_slice-kept.result.now c.char_at.result c.len-len.result c.len-len.ensures.text searched c.loop-at-test.true c.len-len.ensures.exact c.look_up-category.ensures c.as_slice-numbers.ensures.value c.as_slice-kept.ensures.value c.char_at.ensures.character in
+    let one = step_by table numbers kept moves c.requires.kept x c.args.s c.loop-at.at c.loop-at.row c.loop-at.end c.loop-at.end_row c.look_up-category.result
+    c.loop-at.places
+    c.as_slice-numbers.result.now c.as_slice-kept.result.now c.char_at.result c.len-len.result c.len-len.ensures.text searched c.loop-at-test.true
+    c.len-len.ensures.exact c.look_up-category.ensures c.as_slice-numbers.ensures.value c.as_slice-kept.ensures.value c.char_at.ensures.character in
     let short = one.0 in
     let reads = one.1.reads in
     let row : ℕ = get_or moves (c.loop-at.row + c.look_up-category.result) 0 / 8 in
-    let accept_is : get_or moves (row + c.args.parts.now.categories + 2) 0 ≡ accept_of table next = accept_read table numbers kept moves c.requires.kept next row one.1.next_within reads.place_is in
-    let cut = cuts table numbers kept moves c.requires.kept x c.args.s c.loop-at.at c.loop-at.row c.loop-at.end c.loop-at.end_row c.look_up-category.result c.loop-at.places searched short one.1 (get_or moves (row + c.args.parts.now.categories + 2) 0) c.if-cell-eq1-2.places c.requires.within c.if-cell-eq1-3.true accept_is c.if-accept-ge2.true
+    let accept_is : get_or moves (row + c.args.parts.now.categories + 2) 0 ≡ accept_of table next =
+    accept_read table numbers kept moves c.requires.kept next row one.1.next_within reads.place_is in
+    let cut = cuts table numbers kept moves c.requires.kept x c.args.s c.loop-at.at c.loop-at.row c.loop-at.end c.loop-at.end_row c.look_up-category.result
+    c.loop-at.places searched short one.1 (get_or moves (row + c.args.parts.now.categories + 2) 0) c.if-cell-eq1-2.places c.requires.within
+    c.if-cell-eq1-3.true accept_is c.if-accept-ge2.true
     (λ isnt. elim c.if-cell-eq1-2.branch [ then-cell-eq1-2 w ↦ absurd (isnt w.if-cell-eq1-2.true) | else-cell-eq1-2 w ↦ w.places-is ]) in
     list_read table numbers kept moves c.requires.kept next row one.1.next_within reads.place_is ∙ cut.1
 
@@ -194,13 +235,18 @@ returns-then-accept-ge2-clause-look g c =
     let moves : List ℕ = c.args.moves.now in
     let searched = c.loop-at.invariant.searched in
     let next : ℕ = row_at table x c.args.s (suc c.loop-at.at) in
-    let one = step_by table numbers kept moves c.requires.kept x c.args.s c.loop-at.at c.loop-at.row c.loop-at.end c.loop-at.end_row c.look_up-category.result c.loop-at.places
-    c.as_slice-numbers.result.now c.as_slice-kept.result.now c.char_at.result c.len-len.result c.len-len.ensures.text searched c.loop-at-test.true c.len-len.ensures.exact c.look_up-category.ensures c.as_slice-numbers.ensures.value c.as_slice-kept.ensures.value c.char_at.ensures.character in
+    let one = step_by table numbers kept moves c.requires.kept x c.args.s c.loop-at.at c.loop-at.row c.loop-at.end c.loop-at.end_row c.look_up-category.result
+    c.loop-at.places
+    c.as_slice-numbers.result.now c.as_slice-kept.result.now c.char_at.result c.len-len.result c.len-len.ensures.text searched c.loop-at-test.true
+    c.len-len.ensures.exact c.look_up-category.ensures c.as_slice-numbers.ensures.value c.as_slice-kept.ensures.value c.char_at.ensures.character in
     let short = one.0 in
     let reads = one.1.reads in
     let row : ℕ = get_or moves (c.loop-at.row + c.look_up-category.result) 0 / 8 in
-    let accept_is : get_or moves (row + c.args.parts.now.categories + 2) 0 ≡ accept_of table next = accept_read table numbers kept moves c.requires.kept next row one.1.next_within reads.place_is in
-    let cut = cuts table numbers kept moves c.requires.kept x c.args.s c.loop-at.at c.loop-at.row c.loop-at.end c.loop-at.end_row c.look_up-category.result c.loop-at.places searched short one.1 (get_or moves (row + c.args.parts.now.categories + 2) 0) c.if-cell-eq1-2.places c.requires.within c.if-cell-eq1-3.true accept_is c.if-accept-ge2.true
+    let accept_is : get_or moves (row + c.args.parts.now.categories + 2) 0 ≡ accept_of table next =
+    accept_read table numbers kept moves c.requires.kept next row one.1.next_within reads.place_is in
+    let cut = cuts table numbers kept moves c.requires.kept x c.args.s c.loop-at.at c.loop-at.row c.loop-at.end c.loop-at.end_row c.look_up-category.result
+    c.loop-at.places searched short one.1 (get_or moves (row + c.args.parts.now.categories + 2) 0) c.if-cell-eq1-2.places c.requires.within
+    c.if-cell-eq1-3.true accept_is c.if-accept-ge2.true
     (λ isnt. elim c.if-cell-eq1-2.branch [ then-cell-eq1-2 w ↦ absurd (isnt w.if-cell-eq1-2.true) | else-cell-eq1-2 w ↦ w.places-is ]) in
     omega (arith, cut.2)
 
@@ -213,13 +259,18 @@ returns-then-accept-ge2-clause-read g c =
     let moves : List ℕ = c.args.moves.now in
     let searched = c.loop-at.invariant.searched in
     let next : ℕ = row_at table x c.args.s (suc c.loop-at.at) in
-    let one = step_by table numbers kept moves c.requires.kept x c.args.s c.loop-at.at c.loop-at.row c.loop-at.end c.loop-at.end_row c.look_up-category.result c.loop-at.places
-    c.as_slice-numbers.result.now c.as_slice-kept.result.now c.char_at.result c.len-len.result c.len-len.ensures.text searched c.loop-at-test.true c.len-len.ensures.exact c.look_up-category.ensures c.as_slice-numbers.ensures.value c.as_slice-kept.ensures.value c.char_at.ensures.character in
+    let one = step_by table numbers kept moves c.requires.kept x c.args.s c.loop-at.at c.loop-at.row c.loop-at.end c.loop-at.end_row c.look_up-category.result
+    c.loop-at.places
+    c.as_slice-numbers.result.now c.as_slice-kept.result.now c.char_at.result c.len-len.result c.len-len.ensures.text searched c.loop-at-test.true
+    c.len-len.ensures.exact c.look_up-category.ensures c.as_slice-numbers.ensures.value c.as_slice-kept.ensures.value c.char_at.ensures.character in
     let short = one.0 in
     let reads = one.1.reads in
     let row : ℕ = get_or moves (c.loop-at.row + c.look_up-category.result) 0 / 8 in
-    let accept_is : get_or moves (row + c.args.parts.now.categories + 2) 0 ≡ accept_of table next = accept_read table numbers kept moves c.requires.kept next row one.1.next_within reads.place_is in
-    let cut = cuts table numbers kept moves c.requires.kept x c.args.s c.loop-at.at c.loop-at.row c.loop-at.end c.loop-at.end_row c.look_up-category.result c.loop-at.places searched short one.1 (get_or moves (row + c.args.parts.now.categories + 2) 0) c.if-cell-eq1-2.places c.requires.within c.if-cell-eq1-3.true accept_is c.if-accept-ge2.true
+    let accept_is : get_or moves (row + c.args.parts.now.categories + 2) 0 ≡ accept_of table next =
+    accept_read table numbers kept moves c.requires.kept next row one.1.next_within reads.place_is in
+    let cut = cuts table numbers kept moves c.requires.kept x c.args.s c.loop-at.at c.loop-at.row c.loop-at.end c.loop-at.end_row c.look_up-category.result
+    c.loop-at.places searched short one.1 (get_or moves (row + c.args.parts.now.categories + 2) 0) c.if-cell-eq1-2.places c.requires.within
+    c.if-cell-eq1-3.true accept_is c.if-accept-ge2.true
     (λ isnt. elim c.if-cell-eq1-2.branch [ then-cell-eq1-2 w ↦ absurd (isnt w.if-cell-eq1-2.true) | else-cell-eq1-2 w ↦ w.places-is ]) in
     omega (arith, cut.2, c.char_at.ensures.step, c.loop-at.invariant.read, searched.from, short)
 
@@ -232,17 +283,22 @@ overflow_add-end_row g c =
     let moves : List ℕ = c.args.moves.now in
     let searched = c.loop-at.invariant.searched in
     let next : ℕ = row_at table x c.args.s (suc c.loop-at.at) in
-    let one = step_by table numbers kept moves c.requires.kept x c.args.s c.loop-at.at c.loop-at.row c.loop-at.end c.loop-at.end_row c.look_up-category.result c.loop-at.places
-    c.as_slice-numbers.result.now c.as_slice-kept.result.now c.char_at.result c.len-len.result c.len-len.ensures.text searched c.loop-at-test.true c.len-len.ensures.exact c.look_up-category.ensures c.as_slice-numbers.ensures.value c.as_slice-kept.ensures.value c.char_at.ensures.character in
+    let one = step_by table numbers kept moves c.requires.kept x c.args.s c.loop-at.at c.loop-at.row c.loop-at.end c.loop-at.end_row c.look_up-category.result
+    c.loop-at.places
+    c.as_slice-numbers.result.now c.as_slice-kept.result.now c.char_at.result c.len-len.result c.len-len.ensures.text searched c.loop-at-test.true
+    c.len-len.ensures.exact c.look_up-category.ensures c.as_slice-numbers.ensures.value c.as_slice-kept.ensures.value c.char_at.ensures.character in
     let short = one.0 in
     let reads = one.1.reads in
     let row : ℕ = get_or moves (c.loop-at.row + c.look_up-category.result) 0 / 8 in
     let on : EndsOn table next c.loop-at.at row c.loop-at.end c.if-cell-eq1.end c.loop-at.end_row c.if-cell-eq1.end_row =
     elim c.if-cell-eq1.branch [
-      | then-cell-eq1 w ↦ ends_yes table numbers kept moves c.requires.kept x c.args.s c.loop-at.at c.loop-at.row c.loop-at.end c.loop-at.end_row c.look_up-category.result c.loop-at.places searched short one.1 c.if-cell-eq1.end c.if-cell-eq1.end_row w.if-cell-eq1.true w.end-is w.end_row-is
-      | else-cell-eq1 w ↦ ends_no table numbers kept moves c.requires.kept x c.args.s c.loop-at.at c.loop-at.row c.loop-at.end c.loop-at.end_row c.look_up-category.result c.loop-at.places searched short one.1 c.if-cell-eq1.end c.if-cell-eq1.end_row w.if-cell-eq1.false w.end-is w.end_row-is
+      | then-cell-eq1 w ↦ ends_yes table numbers kept moves c.requires.kept x c.args.s c.loop-at.at c.loop-at.row c.loop-at.end c.loop-at.end_row
+          c.look_up-category.result c.loop-at.places searched short one.1 c.if-cell-eq1.end c.if-cell-eq1.end_row w.if-cell-eq1.true w.end-is w.end_row-is
+      | else-cell-eq1 w ↦ ends_no table numbers kept moves c.requires.kept x c.args.s c.loop-at.at c.loop-at.row c.loop-at.end c.loop-at.end_row
+          c.look_up-category.result c.loop-at.places searched short one.1 c.if-cell-eq1.end c.if-cell-eq1.end_row w.if-cell-eq1.false w.end-is w.end_row-is
     ] in
-    let ended = ended_on table x c.args.s c.loop-at.at row c.loop-at.end c.if-cell-eq1.end c.loop-at.end_row c.if-cell-eq1.end_row searched.from reads.place_is searched.ended on in
+    let ended = ended_on table x c.args.s c.loop-at.at row c.loop-at.end c.if-cell-eq1.end c.loop-at.end_row c.if-cell-eq1.end_row searched.from reads.place_is
+    searched.ended on in
     let list = end_list table numbers kept moves c.requires.kept x c.args.s (suc c.loop-at.at) c.if-cell-eq1.end c.if-cell-eq1.end_row ended in
     omega (arith, list.0, moves_few table numbers kept moves c.requires.kept)
 
@@ -255,17 +311,22 @@ overflow_add-end_row-then-cell-eq1-3 g c =
     let moves : List ℕ = c.args.moves.now in
     let searched = c.loop-at.invariant.searched in
     let next : ℕ = row_at table x c.args.s (suc c.loop-at.at) in
-    let one = step_by table numbers kept moves c.requires.kept x c.args.s c.loop-at.at c.loop-at.row c.loop-at.end c.loop-at.end_row c.look_up-category.result c.loop-at.places
-    c.as_slice-numbers.result.now c.as_slice-kept.result.now c.char_at.result c.len-len.result c.len-len.ensures.text searched c.loop-at-test.true c.len-len.ensures.exact c.look_up-category.ensures c.as_slice-numbers.ensures.value c.as_slice-kept.ensures.value c.char_at.ensures.character in
+    let one = step_by table numbers kept moves c.requires.kept x c.args.s c.loop-at.at c.loop-at.row c.loop-at.end c.loop-at.end_row c.look_up-category.result
+    c.loop-at.places
+    c.as_slice-numbers.result.now c.as_slice-kept.result.now c.char_at.result c.len-len.result c.len-len.ensures.text searched c.loop-at-test.true
+    c.len-len.ensures.exact c.look_up-category.ensures c.as_slice-numbers.ensures.value c.as_slice-kept.ensures.value c.char_at.ensures.character in
     let short = one.0 in
     let reads = one.1.reads in
     let row : ℕ = get_or moves (c.loop-at.row + c.look_up-category.result) 0 / 8 in
     let on : EndsOn table next c.loop-at.at row c.loop-at.end c.if-cell-eq1.end c.loop-at.end_row c.if-cell-eq1.end_row =
     elim c.if-cell-eq1.branch [
-      | then-cell-eq1 w ↦ ends_yes table numbers kept moves c.requires.kept x c.args.s c.loop-at.at c.loop-at.row c.loop-at.end c.loop-at.end_row c.look_up-category.result c.loop-at.places searched short one.1 c.if-cell-eq1.end c.if-cell-eq1.end_row w.if-cell-eq1.true w.end-is w.end_row-is
-      | else-cell-eq1 w ↦ ends_no table numbers kept moves c.requires.kept x c.args.s c.loop-at.at c.loop-at.row c.loop-at.end c.loop-at.end_row c.look_up-category.result c.loop-at.places searched short one.1 c.if-cell-eq1.end c.if-cell-eq1.end_row w.if-cell-eq1.false w.end-is w.end_row-is
+      | then-cell-eq1 w ↦ ends_yes table numbers kept moves c.requires.kept x c.args.s c.loop-at.at c.loop-at.row c.loop-at.end c.loop-at.end_row
+          c.look_up-category.result c.loop-at.places searched short one.1 c.if-cell-eq1.end c.if-cell-eq1.end_row w.if-cell-eq1.true w.end-is w.end_row-is
+      | else-cell-eq1 w ↦ ends_no table numbers kept moves c.requires.kept x c.args.s c.loop-at.at c.loop-at.row c.loop-at.end c.loop-at.end_row
+          c.look_up-category.result c.loop-at.places searched short one.1 c.if-cell-eq1.end c.if-cell-eq1.end_row w.if-cell-eq1.false w.end-is w.end_row-is
     ] in
-    let ended = ended_on table x c.args.s c.loop-at.at row c.loop-at.end c.if-cell-eq1.end c.loop-at.end_row c.if-cell-eq1.end_row searched.from reads.place_is searched.ended on in
+    let ended = ended_on table x c.args.s c.loop-at.at row c.loop-at.end c.if-cell-eq1.end c.loop-at.end_row c.if-cell-eq1.end_row searched.from reads.place_is
+    searched.ended on in
     let list = end_list table numbers kept moves c.requires.kept x c.args.s (suc c.loop-at.at) c.if-cell-eq1.end c.if-cell-eq1.end_row ended in
     omega (arith, list.0, moves_few table numbers kept moves c.requires.kept)
 
@@ -278,17 +339,22 @@ offset_bounds-moves-end_row g c =
     let moves : List ℕ = c.args.moves.now in
     let searched = c.loop-at.invariant.searched in
     let next : ℕ = row_at table x c.args.s (suc c.loop-at.at) in
-    let one = step_by table numbers kept moves c.requires.kept x c.args.s c.loop-at.at c.loop-at.row c.loop-at.end c.loop-at.end_row c.look_up-category.result c.loop-at.places
-    c.as_slice-numbers.result.now c.as_slice-kept.result.now c.char_at.result c.len-len.result c.len-len.ensures.text searched c.loop-at-test.true c.len-len.ensures.exact c.look_up-category.ensures c.as_slice-numbers.ensures.value c.as_slice-kept.ensures.value c.char_at.ensures.character in
+    let one = step_by table numbers kept moves c.requires.kept x c.args.s c.loop-at.at c.loop-at.row c.loop-at.end c.loop-at.end_row c.look_up-category.result
+    c.loop-at.places
+    c.as_slice-numbers.result.now c.as_slice-kept.result.now c.char_at.result c.len-len.result c.len-len.ensures.text searched c.loop-at-test.true
+    c.len-len.ensures.exact c.look_up-category.ensures c.as_slice-numbers.ensures.value c.as_slice-kept.ensures.value c.char_at.ensures.character in
     let short = one.0 in
     let reads = one.1.reads in
     let row : ℕ = get_or moves (c.loop-at.row + c.look_up-category.result) 0 / 8 in
     let on : EndsOn table next c.loop-at.at row c.loop-at.end c.if-cell-eq1.end c.loop-at.end_row c.if-cell-eq1.end_row =
     elim c.if-cell-eq1.branch [
-      | then-cell-eq1 w ↦ ends_yes table numbers kept moves c.requires.kept x c.args.s c.loop-at.at c.loop-at.row c.loop-at.end c.loop-at.end_row c.look_up-category.result c.loop-at.places searched short one.1 c.if-cell-eq1.end c.if-cell-eq1.end_row w.if-cell-eq1.true w.end-is w.end_row-is
-      | else-cell-eq1 w ↦ ends_no table numbers kept moves c.requires.kept x c.args.s c.loop-at.at c.loop-at.row c.loop-at.end c.loop-at.end_row c.look_up-category.result c.loop-at.places searched short one.1 c.if-cell-eq1.end c.if-cell-eq1.end_row w.if-cell-eq1.false w.end-is w.end_row-is
+      | then-cell-eq1 w ↦ ends_yes table numbers kept moves c.requires.kept x c.args.s c.loop-at.at c.loop-at.row c.loop-at.end c.loop-at.end_row
+          c.look_up-category.result c.loop-at.places searched short one.1 c.if-cell-eq1.end c.if-cell-eq1.end_row w.if-cell-eq1.true w.end-is w.end_row-is
+      | else-cell-eq1 w ↦ ends_no table numbers kept moves c.requires.kept x c.args.s c.loop-at.at c.loop-at.row c.loop-at.end c.loop-at.end_row
+          c.look_up-category.result c.loop-at.places searched short one.1 c.if-cell-eq1.end c.if-cell-eq1.end_row w.if-cell-eq1.false w.end-is w.end_row-is
     ] in
-    let ended = ended_on table x c.args.s c.loop-at.at row c.loop-at.end c.if-cell-eq1.end c.loop-at.end_row c.if-cell-eq1.end_row searched.from reads.place_is searched.ended on in
+    let ended = ended_on table x c.args.s c.loop-at.at row c.loop-at.end c.if-cell-eq1.end c.loop-at.end_row c.if-cell-eq1.end_row searched.from reads.place_is
+    searched.ended on in
     let list = end_list table numbers kept moves c.requires.kept x c.args.s (suc c.loop-at.at) c.if-cell-eq1.end c.if-cell-eq1.end_row ended in
     omega (arith, list.0, moves_few table numbers kept moves c.requires.kept)
 
@@ -301,17 +367,22 @@ bounds-moves-end_row g c =
     let moves : List ℕ = c.args.moves.now in
     let searched = c.loop-at.invariant.searched in
     let next : ℕ = row_at table x c.args.s (suc c.loop-at.at) in
-    let one = step_by table numbers kept moves c.requires.kept x c.args.s c.loop-at.at c.loop-at.row c.loop-at.end c.loop-at.end_row c.look_up-category.result c.loop-at.places
-    c.as_slice-numbers.result.now c.as_slice-kept.result.now c.char_at.result c.len-len.result c.len-len.ensures.text searched c.loop-at-test.true c.len-len.ensures.exact c.look_up-category.ensures c.as_slice-numbers.ensures.value c.as_slice-kept.ensures.value c.char_at.ensures.character in
+    let one = step_by table numbers kept moves c.requires.kept x c.args.s c.loop-at.at c.loop-at.row c.loop-at.end c.loop-at.end_row c.look_up-category.result
+    c.loop-at.places
+    c.as_slice-numbers.result.now c.as_slice-kept.result.now c.char_at.result c.len-len.result c.len-len.ensures.text searched c.loop-at-test.true
+    c.len-len.ensures.exact c.look_up-category.ensures c.as_slice-numbers.ensures.value c.as_slice-kept.ensures.value c.char_at.ensures.character in
     let short = one.0 in
     let reads = one.1.reads in
     let row : ℕ = get_or moves (c.loop-at.row + c.look_up-category.result) 0 / 8 in
     let on : EndsOn table next c.loop-at.at row c.loop-at.end c.if-cell-eq1.end c.loop-at.end_row c.if-cell-eq1.end_row =
     elim c.if-cell-eq1.branch [
-      | then-cell-eq1 w ↦ ends_yes table numbers kept moves c.requires.kept x c.args.s c.loop-at.at c.loop-at.row c.loop-at.end c.loop-at.end_row c.look_up-category.result c.loop-at.places searched short one.1 c.if-cell-eq1.end c.if-cell-eq1.end_row w.if-cell-eq1.true w.end-is w.end_row-is
-      | else-cell-eq1 w ↦ ends_no table numbers kept moves c.requires.kept x c.args.s c.loop-at.at c.loop-at.row c.loop-at.end c.loop-at.end_row c.look_up-category.result c.loop-at.places searched short one.1 c.if-cell-eq1.end c.if-cell-eq1.end_row w.if-cell-eq1.false w.end-is w.end_row-is
+      | then-cell-eq1 w ↦ ends_yes table numbers kept moves c.requires.kept x c.args.s c.loop-at.at c.loop-at.row c.loop-at.end c.loop-at.end_row
+          c.look_up-category.result c.loop-at.places searched short one.1 c.if-cell-eq1.end c.if-cell-eq1.end_row w.if-cell-eq1.true w.end-is w.end_row-is
+      | else-cell-eq1 w ↦ ends_no table numbers kept moves c.requires.kept x c.args.s c.loop-at.at c.loop-at.row c.loop-at.end c.loop-at.end_row
+          c.look_up-category.result c.loop-at.places searched short one.1 c.if-cell-eq1.end c.if-cell-eq1.end_row w.if-cell-eq1.false w.end-is w.end_row-is
     ] in
-    let ended = ended_on table x c.args.s c.loop-at.at row c.loop-at.end c.if-cell-eq1.end c.loop-at.end_row c.if-cell-eq1.end_row searched.from reads.place_is searched.ended on in
+    let ended = ended_on table x c.args.s c.loop-at.at row c.loop-at.end c.if-cell-eq1.end c.loop-at.end_row c.if-cell-eq1.end_row searched.from reads.place_is
+    searched.ended on in
     let list = end_list table numbers kept moves c.requires.kept x c.args.s (suc c.loop-at.at) c.if-cell-eq1.end c.if-cell-eq1.end_row ended in
     omega (arith, list.0)
 
@@ -324,17 +395,22 @@ overflow_cast-moves g c =
     let moves : List ℕ = c.args.moves.now in
     let searched = c.loop-at.invariant.searched in
     let next : ℕ = row_at table x c.args.s (suc c.loop-at.at) in
-    let one = step_by table numbers kept moves c.requires.kept x c.args.s c.loop-at.at c.loop-at.row c.loop-at.end c.loop-at.end_row c.look_up-category.result c.loop-at.places
-    c.as_slice-numbers.result.now c.as_slice-kept.result.now c.char_at.result c.len-len.result c.len-len.ensures.text searched c.loop-at-test.true c.len-len.ensures.exact c.look_up-category.ensures c.as_slice-numbers.ensures.value c.as_slice-kept.ensures.value c.char_at.ensures.character in
+    let one = step_by table numbers kept moves c.requires.kept x c.args.s c.loop-at.at c.loop-at.row c.loop-at.end c.loop-at.end_row c.look_up-category.result
+    c.loop-at.places
+    c.as_slice-numbers.result.now c.as_slice-kept.result.now c.char_at.result c.len-len.result c.len-len.ensures.text searched c.loop-at-test.true
+    c.len-len.ensures.exact c.look_up-category.ensures c.as_slice-numbers.ensures.value c.as_slice-kept.ensures.value c.char_at.ensures.character in
     let short = one.0 in
     let reads = one.1.reads in
     let row : ℕ = get_or moves (c.loop-at.row + c.look_up-category.result) 0 / 8 in
     let on : EndsOn table next c.loop-at.at row c.loop-at.end c.if-cell-eq1.end c.loop-at.end_row c.if-cell-eq1.end_row =
     elim c.if-cell-eq1.branch [
-      | then-cell-eq1 w ↦ ends_yes table numbers kept moves c.requires.kept x c.args.s c.loop-at.at c.loop-at.row c.loop-at.end c.loop-at.end_row c.look_up-category.result c.loop-at.places searched short one.1 c.if-cell-eq1.end c.if-cell-eq1.end_row w.if-cell-eq1.true w.end-is w.end_row-is
-      | else-cell-eq1 w ↦ ends_no table numbers kept moves c.requires.kept x c.args.s c.loop-at.at c.loop-at.row c.loop-at.end c.loop-at.end_row c.look_up-category.result c.loop-at.places searched short one.1 c.if-cell-eq1.end c.if-cell-eq1.end_row w.if-cell-eq1.false w.end-is w.end_row-is
+      | then-cell-eq1 w ↦ ends_yes table numbers kept moves c.requires.kept x c.args.s c.loop-at.at c.loop-at.row c.loop-at.end c.loop-at.end_row
+          c.look_up-category.result c.loop-at.places searched short one.1 c.if-cell-eq1.end c.if-cell-eq1.end_row w.if-cell-eq1.true w.end-is w.end_row-is
+      | else-cell-eq1 w ↦ ends_no table numbers kept moves c.requires.kept x c.args.s c.loop-at.at c.loop-at.row c.loop-at.end c.loop-at.end_row
+          c.look_up-category.result c.loop-at.places searched short one.1 c.if-cell-eq1.end c.if-cell-eq1.end_row w.if-cell-eq1.false w.end-is w.end_row-is
     ] in
-    let ended = ended_on table x c.args.s c.loop-at.at row c.loop-at.end c.if-cell-eq1.end c.loop-at.end_row c.if-cell-eq1.end_row searched.from reads.place_is searched.ended on in
+    let ended = ended_on table x c.args.s c.loop-at.at row c.loop-at.end c.if-cell-eq1.end c.loop-at.end_row c.if-cell-eq1.end_row searched.from reads.place_is
+    searched.ended on in
     let list = end_list table numbers kept moves c.requires.kept x c.args.s (suc c.loop-at.at) c.if-cell-eq1.end c.if-cell-eq1.end_row ended in
     omega (arith, list.1)
 
@@ -347,18 +423,25 @@ returns-then-cell-eq1-3-clause-at g c =
     let moves : List ℕ = c.args.moves.now in
     let searched = c.loop-at.invariant.searched in
     let next : ℕ = row_at table x c.args.s (suc c.loop-at.at) in
-    let one = step_by table numbers kept moves c.requires.kept x c.args.s c.loop-at.at c.loop-at.row c.loop-at.end c.loop-at.end_row c.look_up-category.result c.loop-at.places
-    c.as_slice-numbers.result.now c.as_slice-kept.result.now c.char_at.result c.len-len.result c.len-len.ensures.text searched c.loop-at-test.true c.len-len.ensures.exact c.look_up-category.ensures c.as_slice-numbers.ensures.value c.as_slice-kept.ensures.value c.char_at.ensures.character in
+    let one = step_by table numbers kept moves c.requires.kept x c.args.s c.loop-at.at c.loop-at.row c.loop-at.end c.loop-at.end_row c.look_up-category.result
+    c.loop-at.places
+    c.as_slice-numbers.result.now c.as_slice-kept.result.now c.char_at.result c.len-len.result c.len-len.ensures.text searched c.loop-at-test.true
+    c.len-len.ensures.exact c.look_up-category.ensures c.as_slice-numbers.ensures.value c.as_slice-kept.ensures.value c.char_at.ensures.character in
     let short = one.0 in
     let reads = one.1.reads in
     let row : ℕ = get_or moves (c.loop-at.row + c.look_up-category.result) 0 / 8 in
     let on : EndsOn table next c.loop-at.at row c.loop-at.end c.if-cell-eq1.end c.loop-at.end_row c.if-cell-eq1.end_row =
     elim c.if-cell-eq1.branch [
-      | then-cell-eq1 w ↦ ends_yes table numbers kept moves c.requires.kept x c.args.s c.loop-at.at c.loop-at.row c.loop-at.end c.loop-at.end_row c.look_up-category.result c.loop-at.places searched short one.1 c.if-cell-eq1.end c.if-cell-eq1.end_row w.if-cell-eq1.true w.end-is w.end_row-is
-      | else-cell-eq1 w ↦ ends_no table numbers kept moves c.requires.kept x c.args.s c.loop-at.at c.loop-at.row c.loop-at.end c.loop-at.end_row c.look_up-category.result c.loop-at.places searched short one.1 c.if-cell-eq1.end c.if-cell-eq1.end_row w.if-cell-eq1.false w.end-is w.end_row-is
+      | then-cell-eq1 w ↦ ends_yes table numbers kept moves c.requires.kept x c.args.s c.loop-at.at c.loop-at.row c.loop-at.end c.loop-at.end_row
+          c.look_up-category.result c.loop-at.places searched short one.1 c.if-cell-eq1.end c.if-cell-eq1.end_row w.if-cell-eq1.true w.end-is w.end_row-is
+      | else-cell-eq1 w ↦ ends_no table numbers kept moves c.requires.kept x c.args.s c.loop-at.at c.loop-at.row c.loop-at.end c.loop-at.end_row
+          c.look_up-category.result c.loop-at.places searched short one.1 c.if-cell-eq1.end c.if-cell-eq1.end_row w.if-cell-eq1.false w.end-is w.end_row-is
     ] in
-    let accept_is : get_or moves (row + c.args.parts.now.categories + 2) 0 ≡ accept_of table next = accept_read table numbers kept moves c.requires.kept next row one.1.next_within reads.place_is in
-    let match = matches table numbers kept moves c.requires.kept x c.args.s c.loop-at.at c.loop-at.row c.loop-at.end c.loop-at.end_row c.look_up-category.result c.loop-at.places searched short one.1 (get_or moves (row + c.args.parts.now.categories + 2) 0) c.if-cell-eq1.end c.if-cell-eq1.end_row c.if-cell-eq1-3.true accept_is c.if-accept-ge2.false on in
+    let accept_is : get_or moves (row + c.args.parts.now.categories + 2) 0 ≡ accept_of table next =
+    accept_read table numbers kept moves c.requires.kept next row one.1.next_within reads.place_is in
+    let match = matches table numbers kept moves c.requires.kept x c.args.s c.loop-at.at c.loop-at.row c.loop-at.end c.loop-at.end_row c.look_up-category.result
+    c.loop-at.places searched short one.1 (get_or moves (row + c.args.parts.now.categories + 2) 0) c.if-cell-eq1.end c.if-cell-eq1.end_row
+    c.if-cell-eq1-3.true accept_is c.if-accept-ge2.false on in
     c.longest.ensures.at ∙ sym match.0
 
 pub returns-then-cell-eq1-3-clause-status : goal.returns-then-cell-eq1-3-clause-status
@@ -370,19 +453,27 @@ returns-then-cell-eq1-3-clause-status g c =
     let moves : List ℕ = c.args.moves.now in
     let searched = c.loop-at.invariant.searched in
     let next : ℕ = row_at table x c.args.s (suc c.loop-at.at) in
-    let one = step_by table numbers kept moves c.requires.kept x c.args.s c.loop-at.at c.loop-at.row c.loop-at.end c.loop-at.end_row c.look_up-category.result c.loop-at.places
-    c.as_slice-numbers.result.now c.as_slice-kept.result.now c.char_at.result c.len-len.result c.len-len.ensures.text searched c.loop-at-test.true c.len-len.ensures.exact c.look_up-category.ensures c.as_slice-numbers.ensures.value c.as_slice-kept.ensures.value c.char_at.ensures.character in
+    let one = step_by table numbers kept moves c.requires.kept x c.args.s c.loop-at.at c.loop-at.row c.loop-at.end c.loop-at.end_row c.look_up-category.result
+    c.loop-at.places
+    c.as_slice-numbers.result.now c.as_slice-kept.result.now c.char_at.result c.len-len.result c.len-len.ensures.text searched c.loop-at-test.true
+    c.len-len.ensures.exact c.look_up-category.ensures c.as_slice-numbers.ensures.value c.as_slice-kept.ensures.value c.char_at.ensures.character in
     let short = one.0 in
     let reads = one.1.reads in
     let row : ℕ = get_or moves (c.loop-at.row + c.look_up-category.result) 0 / 8 in
     let on : EndsOn table next c.loop-at.at row c.loop-at.end c.if-cell-eq1.end c.loop-at.end_row c.if-cell-eq1.end_row =
     elim c.if-cell-eq1.branch [
-      | then-cell-eq1 w ↦ ends_yes table numbers kept moves c.requires.kept x c.args.s c.loop-at.at c.loop-at.row c.loop-at.end c.loop-at.end_row c.look_up-category.result c.loop-at.places searched short one.1 c.if-cell-eq1.end c.if-cell-eq1.end_row w.if-cell-eq1.true w.end-is w.end_row-is
-      | else-cell-eq1 w ↦ ends_no table numbers kept moves c.requires.kept x c.args.s c.loop-at.at c.loop-at.row c.loop-at.end c.loop-at.end_row c.look_up-category.result c.loop-at.places searched short one.1 c.if-cell-eq1.end c.if-cell-eq1.end_row w.if-cell-eq1.false w.end-is w.end_row-is
+      | then-cell-eq1 w ↦ ends_yes table numbers kept moves c.requires.kept x c.args.s c.loop-at.at c.loop-at.row c.loop-at.end c.loop-at.end_row
+          c.look_up-category.result c.loop-at.places searched short one.1 c.if-cell-eq1.end c.if-cell-eq1.end_row w.if-cell-eq1.true w.end-is w.end_row-is
+      | else-cell-eq1 w ↦ ends_no table numbers kept moves c.requires.kept x c.args.s c.loop-at.at c.loop-at.row c.loop-at.end c.loop-at.end_row
+          c.look_up-category.result c.loop-at.places searched short one.1 c.if-cell-eq1.end c.if-cell-eq1.end_row w.if-cell-eq1.false w.end-is w.end_row-is
     ] in
-    let accept_is : get_or moves (row + c.args.parts.now.categories + 2) 0 ≡ accept_of table next = accept_read table numbers kept moves c.requires.kept next row one.1.next_within reads.place_is in
-    let match = matches table numbers kept moves c.requires.kept x c.args.s c.loop-at.at c.loop-at.row c.loop-at.end c.loop-at.end_row c.look_up-category.result c.loop-at.places searched short one.1 (get_or moves (row + c.args.parts.now.categories + 2) 0) c.if-cell-eq1.end c.if-cell-eq1.end_row c.if-cell-eq1-3.true accept_is c.if-accept-ge2.false on in
-    let ended = ended_on table x c.args.s c.loop-at.at row c.loop-at.end c.if-cell-eq1.end c.loop-at.end_row c.if-cell-eq1.end_row searched.from reads.place_is searched.ended on in
+    let accept_is : get_or moves (row + c.args.parts.now.categories + 2) 0 ≡ accept_of table next =
+    accept_read table numbers kept moves c.requires.kept next row one.1.next_within reads.place_is in
+    let match = matches table numbers kept moves c.requires.kept x c.args.s c.loop-at.at c.loop-at.row c.loop-at.end c.loop-at.end_row c.look_up-category.result
+    c.loop-at.places searched short one.1 (get_or moves (row + c.args.parts.now.categories + 2) 0) c.if-cell-eq1.end c.if-cell-eq1.end_row
+    c.if-cell-eq1-3.true accept_is c.if-accept-ge2.false on in
+    let ended = ended_on table x c.args.s c.loop-at.at row c.loop-at.end c.if-cell-eq1.end c.loop-at.end_row c.if-cell-eq1.end_row searched.from reads.place_is
+    searched.ended on in
     let list = end_list table numbers kept moves c.requires.kept x c.args.s (suc c.loop-at.at) c.if-cell-eq1.end c.if-cell-eq1.end_row ended in
     c.longest.ensures.status ∙ list.2 ∙ sym match.1
 
@@ -395,18 +486,25 @@ returns-then-cell-eq1-3-clause-look g c =
     let moves : List ℕ = c.args.moves.now in
     let searched = c.loop-at.invariant.searched in
     let next : ℕ = row_at table x c.args.s (suc c.loop-at.at) in
-    let one = step_by table numbers kept moves c.requires.kept x c.args.s c.loop-at.at c.loop-at.row c.loop-at.end c.loop-at.end_row c.look_up-category.result c.loop-at.places
-    c.as_slice-numbers.result.now c.as_slice-kept.result.now c.char_at.result c.len-len.result c.len-len.ensures.text searched c.loop-at-test.true c.len-len.ensures.exact c.look_up-category.ensures c.as_slice-numbers.ensures.value c.as_slice-kept.ensures.value c.char_at.ensures.character in
+    let one = step_by table numbers kept moves c.requires.kept x c.args.s c.loop-at.at c.loop-at.row c.loop-at.end c.loop-at.end_row c.look_up-category.result
+    c.loop-at.places
+    c.as_slice-numbers.result.now c.as_slice-kept.result.now c.char_at.result c.len-len.result c.len-len.ensures.text searched c.loop-at-test.true
+    c.len-len.ensures.exact c.look_up-category.ensures c.as_slice-numbers.ensures.value c.as_slice-kept.ensures.value c.char_at.ensures.character in
     let short = one.0 in
     let reads = one.1.reads in
     let row : ℕ = get_or moves (c.loop-at.row + c.look_up-category.result) 0 / 8 in
     let on : EndsOn table next c.loop-at.at row c.loop-at.end c.if-cell-eq1.end c.loop-at.end_row c.if-cell-eq1.end_row =
     elim c.if-cell-eq1.branch [
-      | then-cell-eq1 w ↦ ends_yes table numbers kept moves c.requires.kept x c.args.s c.loop-at.at c.loop-at.row c.loop-at.end c.loop-at.end_row c.look_up-category.result c.loop-at.places searched short one.1 c.if-cell-eq1.end c.if-cell-eq1.end_row w.if-cell-eq1.true w.end-is w.end_row-is
-      | else-cell-eq1 w ↦ ends_no table numbers kept moves c.requires.kept x c.args.s c.loop-at.at c.loop-at.row c.loop-at.end c.loop-at.end_row c.look_up-category.result c.loop-at.places searched short one.1 c.if-cell-eq1.end c.if-cell-eq1.end_row w.if-cell-eq1.false w.end-is w.end_row-is
+      | then-cell-eq1 w ↦ ends_yes table numbers kept moves c.requires.kept x c.args.s c.loop-at.at c.loop-at.row c.loop-at.end c.loop-at.end_row
+          c.look_up-category.result c.loop-at.places searched short one.1 c.if-cell-eq1.end c.if-cell-eq1.end_row w.if-cell-eq1.true w.end-is w.end_row-is
+      | else-cell-eq1 w ↦ ends_no table numbers kept moves c.requires.kept x c.args.s c.loop-at.at c.loop-at.row c.loop-at.end c.loop-at.end_row
+          c.look_up-category.result c.loop-at.places searched short one.1 c.if-cell-eq1.end c.if-cell-eq1.end_row w.if-cell-eq1.false w.end-is w.end_row-is
     ] in
-    let accept_is : get_or moves (row + c.args.parts.now.categories + 2) 0 ≡ accept_of table next = accept_read table numbers kept moves c.requires.kept next row one.1.next_within reads.place_is in
-    let match = matches table numbers kept moves c.requires.kept x c.args.s c.loop-at.at c.loop-at.row c.loop-at.end c.loop-at.end_row c.look_up-category.result c.loop-at.places searched short one.1 (get_or moves (row + c.args.parts.now.categories + 2) 0) c.if-cell-eq1.end c.if-cell-eq1.end_row c.if-cell-eq1-3.true accept_is c.if-accept-ge2.false on in
+    let accept_is : get_or moves (row + c.args.parts.now.categories + 2) 0 ≡ accept_of table next =
+    accept_read table numbers kept moves c.requires.kept next row one.1.next_within reads.place_is in
+    let match = matches table numbers kept moves c.requires.kept x c.args.s c.loop-at.at c.loop-at.row c.loop-at.end c.loop-at.end_row c.look_up-category.result
+    c.loop-at.places searched short one.1 (get_or moves (row + c.args.parts.now.categories + 2) 0) c.if-cell-eq1.end c.if-cell-eq1.end_row
+    c.if-cell-eq1-3.true accept_is c.if-accept-ge2.false on in
     omega (arith, c.longest.ensures.look, match.2)
 
 pub returns-then-cell-eq1-3-clause-read : goal.returns-then-cell-eq1-3-clause-read
@@ -418,18 +516,25 @@ returns-then-cell-eq1-3-clause-read g c =
     let moves : List ℕ = c.args.moves.now in
     let searched = c.loop-at.invariant.searched in
     let next : ℕ = row_at table x c.args.s (suc c.loop-at.at) in
-    let one = step_by table numbers kept moves c.requires.kept x c.args.s c.loop-at.at c.loop-at.row c.loop-at.end c.loop-at.end_row c.look_up-category.result c.loop-at.places
-    c.as_slice-numbers.result.now c.as_slice-kept.result.now c.char_at.result c.len-len.result c.len-len.ensures.text searched c.loop-at-test.true c.len-len.ensures.exact c.look_up-category.ensures c.as_slice-numbers.ensures.value c.as_slice-kept.ensures.value c.char_at.ensures.character in
+    let one = step_by table numbers kept moves c.requires.kept x c.args.s c.loop-at.at c.loop-at.row c.loop-at.end c.loop-at.end_row c.look_up-category.result
+    c.loop-at.places
+    c.as_slice-numbers.result.now c.as_slice-kept.result.now c.char_at.result c.len-len.result c.len-len.ensures.text searched c.loop-at-test.true
+    c.len-len.ensures.exact c.look_up-category.ensures c.as_slice-numbers.ensures.value c.as_slice-kept.ensures.value c.char_at.ensures.character in
     let short = one.0 in
     let reads = one.1.reads in
     let row : ℕ = get_or moves (c.loop-at.row + c.look_up-category.result) 0 / 8 in
     let on : EndsOn table next c.loop-at.at row c.loop-at.end c.if-cell-eq1.end c.loop-at.end_row c.if-cell-eq1.end_row =
     elim c.if-cell-eq1.branch [
-      | then-cell-eq1 w ↦ ends_yes table numbers kept moves c.requires.kept x c.args.s c.loop-at.at c.loop-at.row c.loop-at.end c.loop-at.end_row c.look_up-category.result c.loop-at.places searched short one.1 c.if-cell-eq1.end c.if-cell-eq1.end_row w.if-cell-eq1.true w.end-is w.end_row-is
-      | else-cell-eq1 w ↦ ends_no table numbers kept moves c.requires.kept x c.args.s c.loop-at.at c.loop-at.row c.loop-at.end c.loop-at.end_row c.look_up-category.result c.loop-at.places searched short one.1 c.if-cell-eq1.end c.if-cell-eq1.end_row w.if-cell-eq1.false w.end-is w.end_row-is
+      | then-cell-eq1 w ↦ ends_yes table numbers kept moves c.requires.kept x c.args.s c.loop-at.at c.loop-at.row c.loop-at.end c.loop-at.end_row
+          c.look_up-category.result c.loop-at.places searched short one.1 c.if-cell-eq1.end c.if-cell-eq1.end_row w.if-cell-eq1.true w.end-is w.end_row-is
+      | else-cell-eq1 w ↦ ends_no table numbers kept moves c.requires.kept x c.args.s c.loop-at.at c.loop-at.row c.loop-at.end c.loop-at.end_row
+          c.look_up-category.result c.loop-at.places searched short one.1 c.if-cell-eq1.end c.if-cell-eq1.end_row w.if-cell-eq1.false w.end-is w.end_row-is
     ] in
-    let accept_is : get_or moves (row + c.args.parts.now.categories + 2) 0 ≡ accept_of table next = accept_read table numbers kept moves c.requires.kept next row one.1.next_within reads.place_is in
-    let match = matches table numbers kept moves c.requires.kept x c.args.s c.loop-at.at c.loop-at.row c.loop-at.end c.loop-at.end_row c.look_up-category.result c.loop-at.places searched short one.1 (get_or moves (row + c.args.parts.now.categories + 2) 0) c.if-cell-eq1.end c.if-cell-eq1.end_row c.if-cell-eq1-3.true accept_is c.if-accept-ge2.false on in
+    let accept_is : get_or moves (row + c.args.parts.now.categories + 2) 0 ≡ accept_of table next =
+    accept_read table numbers kept moves c.requires.kept next row one.1.next_within reads.place_is in
+    let match = matches table numbers kept moves c.requires.kept x c.args.s c.loop-at.at c.loop-at.row c.loop-at.end c.loop-at.end_row c.look_up-category.result
+    c.loop-at.places searched short one.1 (get_or moves (row + c.args.parts.now.categories + 2) 0) c.if-cell-eq1.end c.if-cell-eq1.end_row
+    c.if-cell-eq1-3.true accept_is c.if-accept-ge2.false on in
     omega (arith, match.2, c.char_at.ensures.step, c.loop-at.invariant.read, searched.from, short)
 
 pub loop-at-preserved : goal.loop-at-preserved
@@ -441,28 +546,40 @@ loop-at-preserved g c =
     let moves : List ℕ = c.args.moves.now in
     let searched = c.loop-at.invariant.searched in
     let next : ℕ = row_at table x c.args.s (suc c.loop-at.at) in
-    let one = step_by table numbers kept moves c.requires.kept x c.args.s c.loop-at.at c.loop-at.row c.loop-at.end c.loop-at.end_row c.look_up-category.result c.loop-at.places
-    c.as_slice-numbers.result.now c.as_slice-kept.result.now c.char_at.result c.len-len.result c.len-len.ensures.text searched c.loop-at-test.true c.len-len.ensures.exact c.look_up-category.ensures c.as_slice-numbers.ensures.value c.as_slice-kept.ensures.value c.char_at.ensures.character in
+    let one = step_by table numbers kept moves c.requires.kept x c.args.s c.loop-at.at c.loop-at.row c.loop-at.end c.loop-at.end_row c.look_up-category.result
+    c.loop-at.places
+    c.as_slice-numbers.result.now c.as_slice-kept.result.now c.char_at.result c.len-len.result c.len-len.ensures.text searched c.loop-at-test.true
+    c.len-len.ensures.exact c.look_up-category.ensures c.as_slice-numbers.ensures.value c.as_slice-kept.ensures.value c.char_at.ensures.character in
     let short = one.0 in
     let reads = one.1.reads in
     let row : ℕ = get_or moves (c.loop-at.row + c.look_up-category.result) 0 / 8 in
     let on : EndsOn table next c.loop-at.at row c.loop-at.end c.if-cell-eq1.end c.loop-at.end_row c.if-cell-eq1.end_row =
     elim c.if-cell-eq1.branch [
-      | then-cell-eq1 w ↦ ends_yes table numbers kept moves c.requires.kept x c.args.s c.loop-at.at c.loop-at.row c.loop-at.end c.loop-at.end_row c.look_up-category.result c.loop-at.places searched short one.1 c.if-cell-eq1.end c.if-cell-eq1.end_row w.if-cell-eq1.true w.end-is w.end_row-is
-      | else-cell-eq1 w ↦ ends_no table numbers kept moves c.requires.kept x c.args.s c.loop-at.at c.loop-at.row c.loop-at.end c.loop-at.end_row c.look_up-category.result c.loop-at.places searched short one.1 c.if-cell-eq1.end c.if-cell-eq1.end_row w.if-cell-eq1.false w.end-is w.end_row-is
+      | then-cell-eq1 w ↦ ends_yes table numbers kept moves c.requires.kept x c.args.s c.loop-at.at c.loop-at.row c.loop-at.end c.loop-at.end_row
+          c.look_up-category.result c.loop-at.places searched short one.1 c.if-cell-eq1.end c.if-cell-eq1.end_row w.if-cell-eq1.true w.end-is w.end_row-is
+      | else-cell-eq1 w ↦ ends_no table numbers kept moves c.requires.kept x c.args.s c.loop-at.at c.loop-at.row c.loop-at.end c.loop-at.end_row
+          c.look_up-category.result c.loop-at.places searched short one.1 c.if-cell-eq1.end c.if-cell-eq1.end_row w.if-cell-eq1.false w.end-is w.end_row-is
     ] in
-    let noted : Noted table numbers kept moves c.requires.kept x c.args.s c.loop-at.at c.loop-at.row c.loop-at.end c.loop-at.end_row c.look_up-category.result c.loop-at.places searched short one.1 c.if-cell-eq1-2.places =
+    let noted : Noted table numbers kept moves c.requires.kept x c.args.s c.loop-at.at c.loop-at.row c.loop-at.end c.loop-at.end_row c.look_up-category.result
+    c.loop-at.places searched short one.1 c.if-cell-eq1-2.places =
     elim c.if-cell-eq1-2.branch [
       | then-cell-eq1-2 w ↦
           let mask : get_or moves (row + c.args.parts.now.categories + 0) 0 ≡ fronts_of table next =
-          ap (λ n. get_or moves n 0) (let e : row + c.args.parts.now.categories + 0 ≡ row + c.args.parts.now.categories = omega arith in e) ∙ fronts_read table numbers kept moves c.requires.kept next row one.1.next_within reads.place_is in
-          subst (λ (l : List ℕ). Noted table numbers kept moves c.requires.kept x c.args.s c.loop-at.at c.loop-at.row c.loop-at.end c.loop-at.end_row c.look_up-category.result c.loop-at.places searched short one.1 l) (sym w.places-is)
-          (noted_yes table numbers kept moves c.requires.kept x c.args.s c.loop-at.at c.loop-at.row c.loop-at.end c.loop-at.end_row c.look_up-category.result c.loop-at.places searched short one.1 w.note.new.places (get_or moves (row + c.args.parts.now.categories + 0) 0) mask w.note.ensures (omega (arith, w.note.auto.places, c.loop-at.invariant.places)))
-      | else-cell-eq1-2 w ↦ noted_no table numbers kept moves c.requires.kept x c.args.s c.loop-at.at c.loop-at.row c.loop-at.end c.loop-at.end_row c.look_up-category.result c.loop-at.places searched short one.1 c.if-cell-eq1-2.places w.if-cell-eq1-2.false w.places-is
+          ap (λ n. get_or moves n 0) (let e : row + c.args.parts.now.categories + 0 ≡ row + c.args.parts.now.categories = omega arith in e) ∙
+          fronts_read table numbers kept moves c.requires.kept next row one.1.next_within reads.place_is in
+          subst (λ (l : List ℕ). Noted table numbers kept moves c.requires.kept x c.args.s c.loop-at.at c.loop-at.row c.loop-at.end c.loop-at.end_row
+          c.look_up-category.result c.loop-at.places searched short one.1 l) (sym w.places-is)
+          (noted_yes table numbers kept moves c.requires.kept x c.args.s c.loop-at.at c.loop-at.row c.loop-at.end c.loop-at.end_row c.look_up-category.result
+          c.loop-at.places searched short one.1 w.note.new.places (get_or moves (row + c.args.parts.now.categories + 0) 0) mask w.note.ensures
+          (omega (arith, w.note.auto.places, c.loop-at.invariant.places)))
+      | else-cell-eq1-2 w ↦ noted_no table numbers kept moves c.requires.kept x c.args.s c.loop-at.at c.loop-at.row c.loop-at.end c.loop-at.end_row
+          c.look_up-category.result c.loop-at.places searched short one.1 c.if-cell-eq1-2.places w.if-cell-eq1-2.false w.places-is
     ] in
     record {
       places = omega (arith, c.if-cell-eq1-2.auto.places, c.loop-at.invariant.places);
-      searched = goes_on table numbers kept moves c.requires.kept x c.args.s c.loop-at.at c.loop-at.row c.loop-at.end c.loop-at.end_row c.look_up-category.result c.loop-at.places searched short one.1 c.if-cell-eq1.end c.if-cell-eq1.end_row c.if-cell-eq1-2.places c.if-cell-eq1-3.false on noted;
+      searched = goes_on table numbers kept moves c.requires.kept x c.args.s c.loop-at.at c.loop-at.row c.loop-at.end c.loop-at.end_row
+          c.look_up-category.result c.loop-at.places searched short one.1 c.if-cell-eq1.end c.if-cell-eq1.end_row c.if-cell-eq1-2.places c.if-cell-eq1-3.false
+          on noted;
       read = omega (arith, c.char_at.ensures.step, c.loop-at.invariant.read, searched.from);
     }
 
@@ -529,7 +646,8 @@ returns-clause-at g c =
     let kept : List ℕ = c.args.blocks.now.categories.items in
     let moves : List ℕ = c.args.moves.now in
     let searched = c.loop-at.invariant.searched in
-    let match = matches_last table x c.args.s c.loop-at.at c.loop-at.row c.loop-at.end c.loop-at.end_row c.loop-at.places searched c.requires.within (omega (arith, searched.to, c.loop-at-test.false, c.len-len.ensures.exact)) in
+    let match = matches_last table x c.args.s c.loop-at.at c.loop-at.row c.loop-at.end c.loop-at.end_row c.loop-at.places searched c.requires.within
+    (omega (arith, searched.to, c.loop-at-test.false, c.len-len.ensures.exact)) in
     c.longest-2.ensures.at ∙ sym match.0
 
 pub returns-clause-status : goal.returns-clause-status
@@ -540,7 +658,8 @@ returns-clause-status g c =
     let kept : List ℕ = c.args.blocks.now.categories.items in
     let moves : List ℕ = c.args.moves.now in
     let searched = c.loop-at.invariant.searched in
-    let match = matches_last table x c.args.s c.loop-at.at c.loop-at.row c.loop-at.end c.loop-at.end_row c.loop-at.places searched c.requires.within (omega (arith, searched.to, c.loop-at-test.false, c.len-len.ensures.exact)) in
+    let match = matches_last table x c.args.s c.loop-at.at c.loop-at.row c.loop-at.end c.loop-at.end_row c.loop-at.places searched c.requires.within
+    (omega (arith, searched.to, c.loop-at-test.false, c.len-len.ensures.exact)) in
     let list = end_list table numbers kept moves c.requires.kept x c.args.s c.loop-at.at c.loop-at.end c.loop-at.end_row searched.ended in
     c.longest-2.ensures.status ∙ list.2 ∙ sym match.1
 
@@ -552,7 +671,8 @@ returns-clause-look g c =
     let kept : List ℕ = c.args.blocks.now.categories.items in
     let moves : List ℕ = c.args.moves.now in
     let searched = c.loop-at.invariant.searched in
-    let match = matches_last table x c.args.s c.loop-at.at c.loop-at.row c.loop-at.end c.loop-at.end_row c.loop-at.places searched c.requires.within (omega (arith, searched.to, c.loop-at-test.false, c.len-len.ensures.exact)) in
+    let match = matches_last table x c.args.s c.loop-at.at c.loop-at.row c.loop-at.end c.loop-at.end_row c.loop-at.places searched c.requires.within
+    (omega (arith, searched.to, c.loop-at-test.false, c.len-len.ensures.exact)) in
     omega (arith, c.longest-2.ensures.look, match.2, c.len-len.ensures.exact)
 
 pub returns-clause-read : goal.returns-clause-read
@@ -563,5 +683,6 @@ returns-clause-read g c =
     let kept : List ℕ = c.args.blocks.now.categories.items in
     let moves : List ℕ = c.args.moves.now in
     let searched = c.loop-at.invariant.searched in
-    let match = matches_last table x c.args.s c.loop-at.at c.loop-at.row c.loop-at.end c.loop-at.end_row c.loop-at.places searched c.requires.within (omega (arith, searched.to, c.loop-at-test.false, c.len-len.ensures.exact)) in
+    let match = matches_last table x c.args.s c.loop-at.at c.loop-at.row c.loop-at.end c.loop-at.end_row c.loop-at.places searched c.requires.within
+    (omega (arith, searched.to, c.loop-at-test.false, c.len-len.ensures.exact)) in
     omega (arith, match.2, c.loop-at.invariant.read, searched.from, searched.to, c.loop-at-test.false, c.len-len.ensures.exact)

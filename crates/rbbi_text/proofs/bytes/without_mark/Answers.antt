@@ -11,7 +11,8 @@ use Rattle.rbbi_text.proofs.bytes.without_mark.Goals as goal
 
 abbrev Stripped : List ℕ → Option (Bor (List ℕ)) → Type 0
 Stripped bs found =
-    MatchOption found (FindsCharPrefix 0xFEFF bs None) (λ x. (n : ℕ) × FindsCharPrefix 0xFEFF bs (Some n) × (x.now ≡ drop n bs) × (length x.now + n ≡ length bs))
+    MatchOption found (FindsCharPrefix 0xFEFF bs None) (λ x. (n : ℕ) × FindsCharPrefix 0xFEFF bs (Some n) × (x.now ≡ drop n bs) ×
+    (length x.now + n ≡ length bs))
 
 stripped : (bs : List ℕ) (found : Option (Bor (List ℕ))) (whole : Bor (List ℕ)) → whole.now ≡ bs → Stripped bs found →
     (unwrap_or found whole).now ≡ without_mark bs

@@ -10,7 +10,8 @@ use Rattle.rbbi_text.proofs.plain.decoded.Goals as goal
 pub returns-then-len-eq-MOST_CHARACTERS : goal.returns-then-len-eq-MOST_CHARACTERS
 returns-then-len-eq-MOST_CHARACTERS c =
     let t =
-    YieldsList-turn (YieldsList-from_chars c.args.text.now c.utf8.text cc) c.loop-c.yielded _ c.loop-c.yielded_by _ _ c.in-Some.c c.in-Some.is c.next.ensures.steps in
+    YieldsList-turn (YieldsList-from_chars c.args.text.now c.utf8.text cc) c.loop-c.yielded _ c.loop-c.yielded_by _ _ c.in-Some.c c.in-Some.is
+    c.next.ensures.steps in
     omega (arith, t.0, c.len.ensures, c.loop-c.items.ok.0, ap length c.loop-c.invariant.0)
 
 -- the characters so far are all

@@ -12,7 +12,8 @@ pub returns-in_err-read-clause-refused : goal.returns-in_err-read-clause-refused
 returns-in_err-read-clause-refused c =
     let p = err_from_is_err_and c.from_residual.result c.from_residual.ensures.1 in
     rw (p.1, p.2)
-    (refused_stuck c.args.tokens.now c.args.end c.loop-i.i c.get-token.result.now (progress c.loop-i.parser) c.in_err-read.field-0.0 c.get-token.ensures c.loop-i.invariant.ran c.loop-i.invariant.shallow c.in_err-read.ensures)
+    (refused_stuck c.args.tokens.now c.args.end c.loop-i.i c.get-token.result.now
+    (progress c.loop-i.parser) c.in_err-read.field-0.0 c.get-token.ensures c.loop-i.invariant.ran c.loop-i.invariant.shallow c.in_err-read.ensures)
 
 pub returns-then-depth-gt-DEEPEST-clause-refused : goal.returns-then-depth-gt-DEEPEST-clause-refused
 returns-then-depth-gt-DEEPEST-clause-refused c =

@@ -1,8 +1,8 @@
 use Rattle.std.proofs.Common.{◌≡◌, ℕ, List, refl, sym, ap, subst, arith}
 use Rattle.rbbi_lex.specs.declared.state.State.{State}
 use Rattle.rbbi_lex.specs.declared.error.LexErr.{LexErr}
-use Rattle.rbbi_lex.specs.Rows.{state_after}
-use Rattle.rbbi_lex.specs.Points.{RowAt}
+use Rattle.rbbi_lex.specs.Cases.{state_after}
+use Rattle.rbbi_lex.specs.Points.{CaseAt}
 use Rattle.rbbi_lex.specs.Spellings.{Spells, TokenAt}
 use Rattle.rbbi_lex.specs.Faults.{fault_of, SpellsNone, FaultAt}
 use Rattle.rbbi_lex.specs.Skips.{Skipped}
@@ -16,8 +16,8 @@ invariant_of-self c =
     let self = c.skip.new.self in
     let t = c.in-Some.spelled in
     let spelled =
-    subst (λ (x : List ℕ). Spells x c.row-row.result self.place t.end t.kind) c.as_slice.ensures.value (rw c.in-Some.is at c.in_ok-spelled.ensures) in
-    let at : TokenAt self.characters.items self.state self.place t.end t.kind = (c.row-row.result, c.row-row.ensures, spelled) in
+    subst (λ (x : List ℕ). Spells x c.case-case.result self.place t.end t.kind) c.as_slice.ensures.value (rw c.in-Some.is at c.in_ok-spelled.ensures) in
+    let at : TokenAt self.characters.items self.state self.place t.end t.kind = (c.case-case.result, c.case-case.ensures, spelled) in
     let forward = TokenAt-forward self.characters.items self.state self.place t.end t.kind at in
     let ends = TokenAt-ends self.characters.items self.state self.place t.end t.kind at in
     let more = state_after-depth self.state t.kind in
@@ -28,13 +28,16 @@ pub returns-in-None-clause-step : goal.returns-in-None-clause-step
 returns-in-None-clause-step c =
     let old = c.args.self.now in
     let new = c.skip.new.self in
-    let row = c.row-row.result in
+    let case = c.case-case.result in
     let x = old.characters.items in
     let items : new.characters.items ≡ x = rw c.skip.ensures.characters refl in
     let fits =
-    subst (λ (v : List ℕ). RowAt v old.state new.place row) items (subst (λ (s : State). RowAt new.characters.items s new.place row) c.skip.ensures.state c.row-row.ensures) in
+    subst (λ (v : List ℕ). CaseAt v old.state new.place case) items (subst (λ (s : State). CaseAt new.characters.items s new.place case) c.skip.ensures.state
+    c.case-case.ensures) in
     let none =
-    subst (λ (v : List ℕ). SpellsNone v row new.place) items (subst (λ (v : List ℕ). SpellsNone v row new.place) c.as_slice.ensures.value (rw c.in-None.is at c.in_ok-spelled.ensures)) in
+    subst (λ (v : List ℕ). SpellsNone v case new.place) items (subst (λ (v : List ℕ). SpellsNone v case new.place) c.as_slice.ensures.value
+    (rw c.in-None.is at c.in_ok-spelled.ensures)) in
     let tells =
-    error_of-tells (λ fault place. Skipped x old.state old.place place × FaultAt x old.state place fault) (fault_of row) new.place (c.skip.ensures.skipped, (row, fits, none, refl)) in
+    error_of-tells (λ fault place. Skipped x old.state old.place place × FaultAt x old.state place fault) (fault_of case) new.place
+    (c.skip.ensures.skipped, (case, fits, none, refl)) in
     subst (λ (e : LexErr). StopsAt x old.state old.place e) (sym c.fault.ensures) tells

@@ -12,11 +12,13 @@ returns-then-next-len c =
     let xs = c.self.inside.ranges.items in
     let parted = IsPartitionedBy-ltb (λ (r : Range). r.high) xs c.args.c (ends_rise xs c.self.invariant) in
     let point =
-    IsPartitionPoint-from_clause (λ (r : Range). ltb r.high c.args.c) c.deref.result.now _ c.partition_point-next.ensures.partitioned (rw c.deref.ensures.value parted) (λ a r q k. search rules) in
+    IsPartitionPoint-from_clause (λ (r : Range). ltb r.high c.args.c) c.deref.result.now _ c.partition_point-next.ensures.partitioned
+    (rw c.deref.ensures.value parted) (λ a r q k. search rules) in
     let next : IsNextRange xs c.args.c c.partition_point-next.result =
     next_from_point xs c.args.c _ (rw c.deref.ensures.value at point) in
     rw (← c.self.view_is)
-    (has_at_next xs c.args.c c.partition_point-next.result c.behind-self.inside.low c.index.result.now c.self.invariant next (omega (arith, c.self.inside.ranges.ok.0))
+    (has_at_next xs c.args.c c.partition_point-next.result c.behind-self.inside.low c.index.result.now c.self.invariant next
+    (omega (arith, c.self.inside.ranges.ok.0))
     (ap (λ (r : Range). r.low) (c.behind-self.view_is ∙ c.index.ensures)))
 
 pub returns-else-next-len : goal.returns-else-next-len
@@ -24,9 +26,15 @@ returns-else-next-len c =
     let xs = c.self.inside.ranges.items in
     let parted = IsPartitionedBy-ltb (λ (r : Range). r.high) xs c.args.c (ends_rise xs c.self.invariant) in
     let point =
-    IsPartitionPoint-from_clause (λ (r : Range). ltb r.high c.args.c) c.deref.result.now _ c.partition_point-next.ensures.partitioned (rw c.deref.ensures.value parted) (λ a r q k. search rules) in
+    IsPartitionPoint-from_clause (λ (r : Range). ltb r.high c.args.c) c.deref.result.now _ c.partition_point-next.ensures.partitioned
+    (rw c.deref.ensures.value parted) (λ a r q k. search rules) in
     let next : IsNextRange xs c.args.c c.partition_point-next.result =
     next_from_point xs c.args.c _ (rw c.deref.ensures.value at point) in
     let none =
-    has_past xs c.args.c c.partition_point-next.result next (omega (arith, c.self.inside.ranges.ok.0, c.partition_point-next.ensures.bound, ap length c.deref.ensures.value)) in
+    has_past xs c.args.c c.partition_point-next.result next (omega (
+      arith,
+      c.self.inside.ranges.ok.0,
+      c.partition_point-next.ensures.bound,
+      ap length c.deref.ensures.value,
+    )) in
     rw (← c.self.view_is) (λ t. absurd (omega (arith, ltb-true _ _ t)), λ h. absurd (none h))

@@ -27,7 +27,8 @@ invariant_of-self-2 c =
     let x = c.self.inside.items.items in
     let w = chars c.args.insert.now in
     let within : c.args.at + c.args.remove ≤ length x = omega (arith, c.if-end-len.false, c.len-len.ensures) in
-    let edited : c.put.new.items.items ≡ splice x c.args.at c.args.remove w = c.in_ok-put.ensures.ok ∙ sym (append_assoc (take c.args.at x) w (drop (c.args.at + c.args.remove) x)) in (
+    let edited : c.put.new.items.items ≡ splice x c.args.at c.args.remove w = c.in_ok-put.ensures.ok ∙
+    sym (append_assoc (take c.args.at x) w (drop (c.args.at + c.args.remove) x)) in (
       subst IsText (sym edited) (text-splice x w c.args.at c.args.remove c.self.invariant.0 (IsText-chars c.args.insert.now c.utf8.insert)),
       omega (arith, ap length edited, length-splice x w c.args.at c.args.remove within, c.if-count-len.false, c.count.ensures, c.len-len.ensures),
     )
@@ -39,5 +40,6 @@ returns c =
     let within : c.args.at + c.args.remove ≤ length x = omega (arith, c.if-end-len.false, c.len-len.ensures) in
     let edited : c.put.new.items.items ≡ splice x c.args.at c.args.remove w =
     c.in_ok-put.ensures.ok ∙ sym (append_assoc (take c.args.at x) w (drop (c.args.at + c.args.remove) x)) in
-    subst (λ y. (c.args.at + c.args.remove ≤ length y) × (length (splice y c.args.at c.args.remove w) ≤ most_characters) × (c.put.new.items.items ≡ splice y c.args.at c.args.remove w)) c.self.view_is
+    subst (λ y. (c.args.at + c.args.remove ≤ length y) × (length (splice y c.args.at c.args.remove w) ≤ most_characters) ×
+    (c.put.new.items.items ≡ splice y c.args.at c.args.remove w)) c.self.view_is
     (within, omega (arith, length-splice x w c.args.at c.args.remove within, c.if-count-len.false, c.count.ensures, c.len-len.ensures), edited)

@@ -1,11 +1,11 @@
 use Rattle.std.proofs.Common.{◌≡◌, ◌-◌, ◌≤◌, max, length}
-use Rattle.rbbi_lex.specs.Runs.{run_end}
-use Rattle.rbbi_lex.proofs.run.run_end.Given as goal
+use Rattle.rbbi_lex.specs.Stretches.{stretch_end}
+use Rattle.rbbi_lex.proofs.stretch.stretch_end.Given as goal
 
 abbrev pub invariant-loop-at : goal.invariant-loop-at
 invariant-loop-at l = record {
-  -- the run from the start on and the run from here on end at one place
-  same_end : run_end l.run l.text l.from ≡ run_end l.run l.text l.at;
+  -- the stretch from the start on and the stretch from here on end at one place
+  same_end : stretch_end l.stretch l.text l.from ≡ stretch_end l.stretch l.text l.at;
   within : l.at ≤ max l.from (length l.text);
 }
 

@@ -1,4 +1,4 @@
--- The rows of the tables of tokens, and the first that fits.
+-- The cases of the tables of tokens, and the first that fits.
 use Rattle.std.specs.Prelude.{ℕ, Bool, true, ◌||◌, ◌&&◌, ◌==◌, if◌then◌else◌, ◌+◌, ◌-◌, List, [], ◌∷◌}
 use Rattle.std.specs.Prelude.{Option, None, Some, is_some}
 use Rattle.std.specs.List.{find}
@@ -9,9 +9,9 @@ use Rattle.rbbi_lex.specs.declared.token.TokenKind.{TokenKind}
 use Rattle.rbbi_lex.specs.declared.token.TokenKind.TheVariants.{Semi, Equals, Bar, Slash, Caret, Star, Plus, Quest, Dot, ParenOpen, ParenClose, SetOpen}
 use Rattle.rbbi_lex.specs.declared.token.TokenKind.TheVariants.{SetClose, Hyphen, Amp}
 use Rattle.rbbi_lex.specs.declared.state.State.{State}
-use Rattle.rbbi_lex.specs.declared.row.Row.{Row}
-use Rattle.rbbi_lex.specs.declared.row.Row.TheVariants.{Sign, SetSign, BracketedProperty, SetStart, Variable, ControlName, StatusNumber, QuotePair, Quotation}
-use Rattle.rbbi_lex.specs.declared.row.Row.TheVariants.{BracedProperty, Escape, Brace, BareCharacter, SetCharacter, OtherCharacter}
+use Rattle.rbbi_lex.specs.declared.case.Case.{Case}
+use Rattle.rbbi_lex.specs.declared.case.Case.TheVariants.{Sign, SetSign, BracketedProperty, SetStart, Variable, ControlName, StatusNumber, QuotePair, Quotation}
+use Rattle.rbbi_lex.specs.declared.case.Case.TheVariants.{BracedProperty, Escape, Brace, BareCharacter, SetCharacter, OtherCharacter}
 use Rattle.rbbi_lex.specs.Characters.{is_bare, is_sign}
 
 -- where no token has been read: outside of sets
@@ -47,8 +47,8 @@ inner_sign c =
     (if c == hyphen then Some Hyphen else
     (if c == ampersand then Some Amp else None)))
 
--- the row fits where this character stands, with these two behind it
-abbrev pub fits : ℕ → Option ℕ → Option ℕ → Row → Bool
+-- the case fits where this character stands, with these two behind it
+abbrev pub fits : ℕ → Option ℕ → Option ℕ → Case → Bool
 fits c next third Sign = is_some (outer_sign c)
 fits c next third SetSign = is_some (inner_sign c)
 fits c next third BracketedProperty = c == bracket_open && is_sign next colon
@@ -65,18 +65,18 @@ fits c next third BareCharacter = is_bare c
 fits c next third SetCharacter = true
 fits c next third OtherCharacter = true
 
--- the rows outside of sets, in the order in which they are tried
-abbrev pub outer_rows : List Row
-outer_rows =
+-- the cases outside of sets, in the order in which they are tried
+abbrev pub outer_cases : List Case
+outer_cases =
     Sign ∷ BracketedProperty ∷ SetStart ∷ Variable ∷ ControlName ∷ StatusNumber ∷ QuotePair ∷ Quotation
     ∷ BracedProperty ∷ Escape ∷ BareCharacter ∷ OtherCharacter ∷ []
 
--- the rows inside of sets
-abbrev pub inner_rows : List Row
-inner_rows =
+-- the cases inside of sets
+abbrev pub inner_cases : List Case
+inner_cases =
     SetSign ∷ BracketedProperty ∷ SetStart ∷ Variable ∷ Brace ∷ BracedProperty ∷ Escape ∷ SetCharacter ∷ []
 
--- the first row that fits
-abbrev pub first_row : State → ℕ → Option ℕ → Option ℕ → Option Row
-first_row state c next third =
-    if state.depth == 0 then find (fits c next third) outer_rows else find (fits c next third) inner_rows
+-- the first case that fits
+abbrev pub first_case : State → ℕ → Option ℕ → Option ℕ → Option Case
+first_case state c next third =
+    if state.depth == 0 then find (fits c next third) outer_cases else find (fits c next third) inner_cases

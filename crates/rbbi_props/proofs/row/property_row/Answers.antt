@@ -3,9 +3,9 @@ use Rattle.std.proofs.Common.{◌≡◌, ℕ, ◌+◌, ◌-◌, ◌<◌, List, e
 use Rattle.std.specs.List.{before_first, after_first, position_or_len, slice_split}
 use Rattle.std.proofs.lemmas.List.{take_rest}
 use Rattle.std.proofs.lemmas.Result.{IfOk-weaker}
-use Rattle.rbbi_props.specs.RowLines.{row_of, row_of_fields, row_with, range_of, trim, last_part}
+use Rattle.rbbi_props.specs.RowLines.{property_row, row_of_fields, row_with, range_of, trim, last_part}
 use Rattle.rbbi_props.proofs.Fields.{row_of_fields-one, row_of_fields-more}
-use Rattle.rbbi_props.proofs.row.row_of.Goals as goal
+use Rattle.rbbi_props.proofs.row.property_row.Goals as goal
 
 pub returns-then-end-fields : goal.returns-then-end-fields
 returns-then-end-fields c =
@@ -23,7 +23,7 @@ returns c =
     c.range_of-range.ensures.value ∙ ap range_of (c.trim.ensures ∙ ap (λ n. trim (take n fields)) place) in
     let value : c.trim-value.result.now ≡ trim (last_part (slice_split (λ b. eqb b 59) (after_first (λ b. eqb b 59) fields))) =
     c.trim-value.ensures ∙ ap trim (c.after_last.ensures ∙ ap (λ (r : List ℕ). last_part (slice_split (λ b. eqb b 59) r)) tail) in
-    let whole : row_with c.range_of-range.result c.trim-value.result.now ≡ row_of c.args.line.now =
+    let whole : row_with c.range_of-range.result c.trim-value.result.now ≡ property_row c.args.line.now =
     ap (λ o. row_with o c.trim-value.result.now) range
     ∙ ap (λ v. row_with (range_of (trim (before_first (λ b. eqb b 59) fields))) v) value
     ∙ sym (row_of_fields-more fields found)
