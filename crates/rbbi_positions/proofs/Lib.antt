@@ -6,3 +6,6 @@ pub mod WalkLaws
 pub mod Nodes
 pub mod Empties
 pub mod Folds
+pub mod BitRows
+pub mod Computed
+pub mod Parts

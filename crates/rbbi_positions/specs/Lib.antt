@@ -2,3 +2,4 @@ pub mod FollowPositions
 pub mod Walks
 pub mod PositionMarks
 pub mod Trees
+pub mod Rows

@@ -3,7 +3,11 @@
 #![tactic(auto)]
 
 mod bits;
+mod count;
 mod empty;
+mod firsts;
+mod followers;
+mod lasts;
 mod laws;
 mod making;
 

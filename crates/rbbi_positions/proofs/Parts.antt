@@ -1,0 +1,146 @@
+-- What is computed of a sequence or a choice, part by part.
+use Rattle.std.proofs.Common.{◌≡◌, ℕ, zero, suc, ◌+◌, ◌<◌, ◌≤◌, Bool, true, false, ◌&&◌, ◌||◌, List, [], ◌∷◌, ◌++◌, length, get_or, take, drop, refl, ap, sym, ◌∙◌, subst, arith}
+use Rattle.std.specs.Prelude.{map}
+use Rattle.std.proofs.lemmas.List.{drop_all, map_more}
+use Rattle.rbbi_model.specs.Spelling.{Tree, Leaf, Empty, Never, Then, Either, Repeat, sequence_of, choice_of}
+use Rattle.rbbi_model.specs.Rules.{leaf_count}
+use Rattle.rbbi_positions.specs.Trees.{spells_empty, begins, ends, leads, goes}
+use Rattle.rbbi_positions.proofs.Empties.{empty_sequence}
+
+pub or_none : (b : Bool) → (b || false) ≡ b
+or_none true = refl
+or_none false = refl
+
+pub or_assoc : (a b d : Bool) → ((a || b) || d) ≡ (a || (b || d))
+or_assoc true b d = refl
+or_assoc false b d = refl
+
+pub or_swap : (a b : Bool) → (a || b) ≡ (b || a)
+or_swap true true = refl
+or_swap true false = refl
+or_swap false true = refl
+or_swap false false = refl
+
+-- a sequence, with one part more in front
+pub count_cons : (part : Tree) (parts : List Tree) → leaf_count (sequence_of (part ∷ parts)) ≡ leaf_count part + leaf_count (sequence_of parts)
+count_cons part [] = omega arith
+count_cons part (next ∷ parts) = refl
+
+pub begins_cons : (part : Tree) (parts : List Tree) (first p : ℕ) →
+    begins (sequence_of (part ∷ parts)) first p ≡ (begins part first p || (spells_empty part && begins (sequence_of parts) (first + leaf_count part) p))
+begins_cons part [] first p = sym (ap (λ x. begins part first p || x) (and_none (spells_empty part)) ∙ or_none (begins part first p))
+  where
+    and_none : (b : Bool) → (b && false) ≡ false
+    and_none true = refl
+    and_none false = refl
+begins_cons part (next ∷ parts) first p = refl
+
+pub ends_cons : (part : Tree) (parts : List Tree) (first p : ℕ) →
+    ends (sequence_of (part ∷ parts)) first p ≡ (ends (sequence_of parts) (first + leaf_count part) p || (spells_empty (sequence_of parts) && ends part first p))
+ends_cons part [] first p = refl
+ends_cons part (next ∷ parts) first p = refl
+
+pub goes_cons : (part : Tree) (parts : List Tree) (first p q : ℕ) (behind : Bool) →
+    goes (sequence_of (part ∷ parts)) first p q behind ≡ (goes part first p q (leads (sequence_of parts) (first + leaf_count part) q behind) || goes (sequence_of parts) (first + leaf_count part) p q behind)
+goes_cons part [] first p q behind = sym (or_none (goes part first p q behind))
+goes_cons part (next ∷ parts) first p q behind = refl
+
+-- what may stand before a sequence, with one part more in front
+pub leads_cons : (part : Tree) (parts : List Tree) (first q : ℕ) (behind : Bool) →
+    leads (sequence_of (part ∷ parts)) first q behind ≡ leads part first q (leads (sequence_of parts) (first + leaf_count part) q behind)
+leads_cons part parts first q behind =
+    ap (λ x. x || (spells_empty (sequence_of (part ∷ parts)) && behind)) (begins_cons part parts first q)
+    ∙ ap (λ x. (begins part first q || (spells_empty part && begins (sequence_of parts) (first + leaf_count part) q)) || (x && behind)) (empty_sequence part parts)
+    ∙ regroup (begins part first q) (spells_empty part) (begins (sequence_of parts) (first + leaf_count part) q) (spells_empty (sequence_of parts)) behind
+  where
+    regroup : (a b d e f : Bool) → ((a || (b && d)) || ((b && e) && f)) ≡ (a || (b && (d || (e && f))))
+    regroup true b d e f = refl
+    regroup false true d e f = refl
+    regroup false false d e f = refl
+
+-- a sequence, with one part more at its end
+pub count_snoc : (parts : List Tree) (part : Tree) → leaf_count (sequence_of (parts ++ part ∷ [])) ≡ leaf_count (sequence_of parts) + leaf_count part
+count_snoc [] part = omega arith
+count_snoc (front ∷ parts) part = omega (arith, count_cons front (parts ++ part ∷ []), count_cons front parts, count_snoc parts part)
+
+pub empty_snoc : (parts : List Tree) (part : Tree) → spells_empty (sequence_of (parts ++ part ∷ [])) ≡ (spells_empty (sequence_of parts) && spells_empty part)
+empty_snoc [] part = refl
+empty_snoc (front ∷ parts) part =
+    empty_sequence front (parts ++ part ∷ []) ∙ ap (λ x. spells_empty front && x) (empty_snoc parts part)
+    ∙ regroup (spells_empty front) (spells_empty (sequence_of parts)) (spells_empty part) ∙ ap (λ x. x && spells_empty part) (sym (empty_sequence front parts))
+  where
+    regroup : (a b d : Bool) → (a && (b && d)) ≡ ((a && b) && d)
+    regroup true b d = refl
+    regroup false b d = refl
+
+-- the first position of a part behind others
+later : (first : ℕ) (front : Tree) (parts : List Tree) → (first + leaf_count front) + leaf_count (sequence_of parts) ≡ first + leaf_count (sequence_of (front ∷ parts))
+later first front parts = omega (arith, count_cons front parts)
+
+pub leads_snoc : (parts : List Tree) (part : Tree) (first q : ℕ) (behind : Bool) →
+    leads (sequence_of (parts ++ part ∷ [])) first q behind ≡ leads (sequence_of parts) first q (leads part (first + leaf_count (sequence_of parts)) q behind)
+leads_snoc [] part first q behind = ap (λ (n : ℕ). leads part n q behind) (omega arith)
+leads_snoc (front ∷ parts) part first q behind =
+    leads_cons front (parts ++ part ∷ []) first q behind ∙ ap (λ x. leads front first q x) (leads_snoc parts part (first + leaf_count front) q behind)
+    ∙ sym (leads_cons front parts first q (leads part ((first + leaf_count front) + leaf_count (sequence_of parts)) q behind))
+    ∙ ap (λ (n : ℕ). leads (sequence_of (front ∷ parts)) first q (leads part n q behind)) (later first front parts)
+
+pub ends_snoc : (parts : List Tree) (part : Tree) (first p : ℕ) →
+    ends (sequence_of (parts ++ part ∷ [])) first p ≡ (ends part (first + leaf_count (sequence_of parts)) p || (spells_empty part && ends (sequence_of parts) first p))
+ends_snoc [] part first p = ap (λ (n : ℕ). ends part n p) (omega arith) ∙ sym (ap (λ x. ends part (first + 0) p || x) (and_none (spells_empty part)) ∙ or_none (ends part (first + 0) p))
+  where
+    and_none : (b : Bool) → (b && false) ≡ false
+    and_none true = refl
+    and_none false = refl
+ends_snoc (front ∷ parts) part first p =
+    ends_cons front (parts ++ part ∷ []) first p
+    ∙ ap (λ x. x || (spells_empty (sequence_of (parts ++ part ∷ [])) && ends front first p)) (ends_snoc parts part (first + leaf_count front) p)
+    ∙ ap (λ x. (ends part ((first + leaf_count front) + leaf_count (sequence_of parts)) p || (spells_empty part && ends (sequence_of parts) (first + leaf_count front) p)) || (x && ends front first p)) (empty_snoc parts part)
+    ∙ regroup (ends part ((first + leaf_count front) + leaf_count (sequence_of parts)) p) (spells_empty part) (ends (sequence_of parts) (first + leaf_count front) p) (spells_empty (sequence_of parts)) (ends front first p)
+    ∙ ap (λ x. ends part ((first + leaf_count front) + leaf_count (sequence_of parts)) p || (spells_empty part && x)) (sym (ends_cons front parts first p))
+    ∙ ap (λ (n : ℕ). ends part n p || (spells_empty part && ends (sequence_of (front ∷ parts)) first p)) (later first front parts)
+  where
+    regroup : (a b d e f : Bool) → ((a || (b && d)) || ((e && b) && f)) ≡ (a || (b && (d || (e && f))))
+    regroup true b d e f = refl
+    regroup false true d true f = refl
+    regroup false true d false f = refl
+    regroup false false d true f = refl
+    regroup false false d false f = refl
+
+pub goes_snoc : (parts : List Tree) (part : Tree) (first p q : ℕ) (behind : Bool) →
+    goes (sequence_of (parts ++ part ∷ [])) first p q behind
+    ≡ (goes (sequence_of parts) first p q (leads part (first + leaf_count (sequence_of parts)) q behind) || goes part (first + leaf_count (sequence_of parts)) p q behind)
+goes_snoc [] part first p q behind = ap (λ (n : ℕ). goes part n p q behind) (omega arith)
+goes_snoc (front ∷ parts) part first p q behind =
+    let second = first + leaf_count front in
+    let third = second + leaf_count (sequence_of parts) in
+    goes_cons front (parts ++ part ∷ []) first p q behind
+    ∙ ap (λ x. goes front first p q x || goes (sequence_of (parts ++ part ∷ [])) second p q behind) (leads_snoc parts part second q behind)
+    ∙ ap (λ x. goes front first p q (leads (sequence_of parts) second q (leads part third q behind)) || x) (goes_snoc parts part second p q behind)
+    ∙ sym (or_assoc (goes front first p q (leads (sequence_of parts) second q (leads part third q behind))) (goes (sequence_of parts) second p q (leads part third q behind)) (goes part third p q behind))
+    ∙ ap (λ x. x || goes part third p q behind) (sym (goes_cons front parts first p q (leads part third q behind)))
+    ∙ ap (λ (n : ℕ). goes (sequence_of (front ∷ parts)) first p q (leads part n q behind) || goes part n p q behind) (later first front parts)
+
+-- a choice, with one part more in front
+pub choice_count_cons : (part : Tree) (parts : List Tree) → leaf_count (choice_of (part ∷ parts)) ≡ leaf_count part + leaf_count (choice_of parts)
+choice_count_cons part [] = omega arith
+choice_count_cons part (next ∷ parts) = refl
+
+-- what holds of a choice where it does of a part
+pub record OfChoice (test : Tree → ℕ → Bool) : Type 0 where
+  pub none : (first : ℕ) → test Never first ≡ false
+  pub either : (front rest : Tree) (first : ℕ) → test (Either front rest) first ≡ (test front first || test rest (first + leaf_count front))
+
+pub choice_cons : (test : Tree → ℕ → Bool) → OfChoice test → (part : Tree) (parts : List Tree) (first : ℕ) →
+    test (choice_of (part ∷ parts)) first ≡ (test part first || test (choice_of parts) (first + leaf_count part))
+choice_cons test of part [] first = sym (ap (λ x. test part first || x) (of.none (first + leaf_count part)) ∙ or_none (test part first))
+choice_cons test of part (next ∷ parts) first = of.either part (choice_of (next ∷ parts)) first
+
+pub begins_of : (p : ℕ) → OfChoice (λ tree first. begins tree first p)
+begins_of p = record { none = λ first. refl; either = λ front rest first. refl }
+
+pub ends_of : (p : ℕ) → OfChoice (λ tree first. ends tree first p)
+ends_of p = record { none = λ first. refl; either = λ front rest first. refl }
+
+pub goes_of : (p q : ℕ) (behind : Bool) → OfChoice (λ tree first. goes tree first p q behind)
+goes_of p q behind = record { none = λ first. refl; either = λ front rest first. refl }
