@@ -28,7 +28,7 @@ empty_choice part [] = or_false (spells_empty part)
 empty_choice part (next ∷ parts) = refl
 
 module _ {T : Type 0} (f : T → Tree) (parts : List T) (i : ℕ) (part : T) (below : i < length parts) (is : part ≡ get_or parts i part) where
-  next_part : map f (drop i parts) ≡ f part ∷ map f (drop (i + 1) parts)
+  pub next_part : map f (drop i parts) ≡ f part ∷ map f (drop (i + 1) parts)
   next_part =
       let e : suc i ≡ i + 1 = omega arith in
       ap (map f) (drop-cons parts i part below) ∙ ap (λ (p : T). f p ∷ map f (drop (suc i) parts)) (sym is) ∙ ap (λ (n : ℕ). f part ∷ map f (drop n parts)) e

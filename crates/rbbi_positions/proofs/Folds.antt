@@ -1,8 +1,9 @@
 -- The tree that a repetition stands for.
-use Rattle.std.proofs.Common.{◌≡◌, List, Box, Global, ap, sym, ◌∙◌}
+use Rattle.std.proofs.Common.{◌≡◌, List, Box, Global, refl, ap, sym, ◌∙◌}
 use Rattle.rbbi_model.specs.Ranges.{Range}
 use Rattle.rbbi_model.specs.Spelling as spelling
 use Rattle.rbbi_tree.specs.declared.syntax.Quant.{Quant}
+use Rattle.rbbi_tree.specs.declared.syntax.Quant.TheVariants.{Once, Star, Plus, Quest}
 use Rattle.rbbi_resolve.specs.declared.rules.Tree.{Tree}
 use Rattle.rbbi_resolve.specs.declared.rules.Tree.TheOpen.{Tree-F}
 use Rattle.rbbi_resolve.specs.declared.rules.Tree.TheVariants.{Rep, rolls-Rep}
@@ -11,3 +12,14 @@ use Rattle.rbbi_resolve.specs.RuleTrees.{repeated, tree_step, trees_step, tree_o
 
 pub tree_of_repeat : (sets : List (List Range)) (quant : Quant) (part : Box Tree Global) → tree_of sets (Rep quant part) ≡ repeated quant (tree_of sets part.value)
 tree_of_repeat sets quant part = ap (tree_of sets) (sym (rolls-Rep quant part)) ∙ fold-roll-Tree spelling.Tree (List spelling.Tree) (tree_step sets) trees_step (Tree-F.Rep quant part)
+
+-- what doesn't depend on how often a tree is repeated
+pub of_repeat : {A : Type 0} (measure : spelling.Tree → A) → ((repetition : spelling.Repetition) (tree : spelling.Tree) → measure (spelling.Repeat repetition tree) ≡ measure tree) →
+    (sets : List (List Range)) (quant : Quant) (part : Box Tree Global) → measure (tree_of sets (Rep quant part)) ≡ measure (tree_of sets part.value)
+of_repeat measure same sets quant part = ap measure (tree_of_repeat sets quant part) ∙ each quant (tree_of sets part.value)
+  where
+    each : (quant : Quant) (tree : spelling.Tree) → measure (repeated quant tree) ≡ measure tree
+    each Once tree = refl
+    each Star tree = same spelling.Star tree
+    each Plus tree = same spelling.Plus tree
+    each Quest tree = same spelling.Quest tree

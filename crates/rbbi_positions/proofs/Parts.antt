@@ -5,7 +5,7 @@ use Rattle.std.proofs.lemmas.List.{drop_all, map_more}
 use Rattle.rbbi_model.specs.Spelling.{Tree, Leaf, Empty, Never, Then, Either, Repeat, sequence_of, choice_of}
 use Rattle.rbbi_model.specs.Rules.{leaf_count}
 use Rattle.rbbi_positions.specs.Trees.{spells_empty, begins, ends, leads, goes}
-use Rattle.rbbi_positions.proofs.Empties.{empty_sequence}
+use Rattle.rbbi_positions.proofs.Empties.{empty_sequence, next_part}
 
 pub or_none : (b : Bool) → (b || false) ≡ b
 or_none true = refl
@@ -144,3 +144,21 @@ ends_of p = record { none = λ first. refl; either = λ front rest first. refl }
 
 pub goes_of : (p q : ℕ) (behind : Bool) → OfChoice (λ tree first. goes tree first p q behind)
 goes_of p q behind = record { none = λ first. refl; either = λ front rest first. refl }
+
+-- a part in the middle of parts that a loop goes through
+module _ {T : Type 0} (f : T → Tree) (parts : List T) (i : ℕ) (part : T) (below : i < length parts) (is : part ≡ get_or parts i part) where
+  pub count_sequence : leaf_count (sequence_of (map f (drop i parts))) ≡ leaf_count (f part) + leaf_count (sequence_of (map f (drop (i + 1) parts)))
+  count_sequence = ap (λ l. leaf_count (sequence_of l)) (next_part f parts i part below is) ∙ count_cons (f part) (map f (drop (i + 1) parts))
+
+  pub count_choice : leaf_count (choice_of (map f (drop i parts))) ≡ leaf_count (f part) + leaf_count (choice_of (map f (drop (i + 1) parts)))
+  count_choice = ap (λ l. leaf_count (choice_of l)) (next_part f parts i part below is) ∙ choice_count_cons (f part) (map f (drop (i + 1) parts))
+
+  -- up to a part and with it
+  pub part_more : map f (take (i + 1) parts) ≡ map f (take i parts) ++ f part ∷ []
+  part_more = map_more f parts i part below ∙ ap (λ (p : T). map f (take i parts) ++ f p ∷ []) (sym is)
+
+pub sequence_done : {A : Type 0} (measure : Tree → A) {T : Type 0} (f : T → Tree) (parts : List T) (i : ℕ) → length parts ≤ i → measure (sequence_of (map f (drop i parts))) ≡ measure Empty
+sequence_done measure f parts i past = ap (λ l. measure (sequence_of (map f l))) (drop_all i parts past)
+
+pub choice_done : {A : Type 0} (measure : Tree → A) {T : Type 0} (f : T → Tree) (parts : List T) (i : ℕ) → length parts ≤ i → measure (choice_of (map f (drop i parts))) ≡ measure Never
+choice_done measure f parts i past = ap (λ l. measure (choice_of (map f l))) (drop_all i parts past)
