@@ -1,14 +1,14 @@
 -- The tree that a repetition stands for.
-use Rattle.std.proofs.Common.{◌≡◌, List, Box, Global, refl, ap, sym, ◌∙◌}
+use Rattle.std.proofs.Common.{◌≡◌, ℕ, List, Box, Global, refl, ap, sym, ◌∙◌}
 use Rattle.rbbi_model.specs.Ranges.{Range}
 use Rattle.rbbi_model.specs.Spelling as spelling
 use Rattle.rbbi_tree.specs.declared.syntax.Quant.{Quant}
 use Rattle.rbbi_tree.specs.declared.syntax.Quant.TheVariants.{Once, Star, Plus, Quest}
 use Rattle.rbbi_resolve.specs.declared.rules.Tree.{Tree}
 use Rattle.rbbi_resolve.specs.declared.rules.Tree.TheOpen.{Tree-F}
-use Rattle.rbbi_resolve.specs.declared.rules.Tree.TheVariants.{Rep, rolls-Rep}
+use Rattle.rbbi_resolve.specs.declared.rules.Tree.TheVariants.{Leaf, Rep, rolls-Leaf, rolls-Rep}
 use Rattle.rbbi_resolve.specs.declared.rules.Tree.TheFolds.{fold-roll-Tree}
-use Rattle.rbbi_resolve.specs.RuleTrees.{repeated, tree_step, trees_step, tree_of}
+use Rattle.rbbi_resolve.specs.RuleTrees.{repeated, set_at, tree_step, trees_step, tree_of}
 
 pub tree_of_repeat : (sets : List (List Range)) (quant : Quant) (part : Box Tree Global) → tree_of sets (Rep quant part) ≡ repeated quant (tree_of sets part.value)
 tree_of_repeat sets quant part = ap (tree_of sets) (sym (rolls-Rep quant part)) ∙ fold-roll-Tree spelling.Tree (List spelling.Tree) (tree_step sets) trees_step (Tree-F.Rep quant part)
@@ -23,3 +23,6 @@ of_repeat measure same sets quant part = ap measure (tree_of_repeat sets quant p
     each Star tree = same spelling.Star tree
     each Plus tree = same spelling.Plus tree
     each Quest tree = same spelling.Quest tree
+
+pub tree_of_leaf : (sets : List (List Range)) (number : ℕ) → tree_of sets (Leaf number) ≡ spelling.Leaf (set_at sets number)
+tree_of_leaf sets number = ap (tree_of sets) (sym (rolls-Leaf number)) ∙ fold-roll-Tree spelling.Tree (List spelling.Tree) (tree_step sets) trees_step (Tree-F.Leaf number)

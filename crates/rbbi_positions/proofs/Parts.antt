@@ -157,6 +157,83 @@ module _ {T : Type 0} (f : T → Tree) (parts : List T) (i : ℕ) (part : T) (be
   pub part_more : map f (take (i + 1) parts) ≡ map f (take i parts) ++ f part ∷ []
   part_more = map_more f parts i part below ∙ ap (λ (p : T). map f (take i parts) ++ f p ∷ []) (sym is)
 
+  -- a loop that joins what holds of the parts in front
+  pub begins_on : (start count p : ℕ) (before after : Bool) → spells_empty (f part) ≡ true → count ≡ leaf_count (f part) → after ≡ (before || begins (f part) start p) →
+      (after || begins (sequence_of (map f (drop (i + 1) parts))) (start + count) p) ≡ (before || begins (sequence_of (map f (drop i parts))) start p)
+  begins_on start count p before after empty many new =
+      let rest = sequence_of (map f (drop (i + 1) parts)) in
+      ap (λ x. x || begins rest (start + count) p) new ∙ or_assoc before (begins (f part) start p) (begins rest (start + count) p)
+      ∙ ap (λ n. before || (begins (f part) start p || begins rest (start + n) p)) many
+      ∙ sym (
+        ap (λ l. before || begins (sequence_of l) start p) (next_part f parts i part below is)
+        ∙ ap (λ x. before || x) (begins_cons (f part) (map f (drop (i + 1) parts)) start p)
+        ∙ ap (λ x. before || (begins (f part) start p || (x && begins rest (start + leaf_count (f part)) p))) empty
+      )
+
+  pub begins_end : (start p : ℕ) (before after : Bool) → spells_empty (f part) ≡ false → after ≡ (before || begins (f part) start p) →
+      after ≡ (before || begins (sequence_of (map f (drop i parts))) start p)
+  begins_end start p before after none new =
+      let rest = sequence_of (map f (drop (i + 1) parts)) in
+      new ∙ sym (
+        ap (λ l. before || begins (sequence_of l) start p) (next_part f parts i part below is)
+        ∙ ap (λ x. before || x) (begins_cons (f part) (map f (drop (i + 1) parts)) start p)
+        ∙ ap (λ x. before || (begins (f part) start p || (x && begins rest (start + leaf_count (f part)) p))) none
+        ∙ ap (λ x. before || x) (or_none (begins (f part) start p))
+      )
+
+  pub choice_on : (test : Tree → ℕ → Bool) → OfChoice test → (start count : ℕ) (before after : Bool) → count ≡ leaf_count (f part) → after ≡ (before || test (f part) start) →
+      (after || test (choice_of (map f (drop (i + 1) parts))) (start + count)) ≡ (before || test (choice_of (map f (drop i parts))) start)
+  choice_on test of start count before after many new =
+      let rest = choice_of (map f (drop (i + 1) parts)) in
+      ap (λ x. x || test rest (start + count)) new ∙ or_assoc before (test (f part) start) (test rest (start + count))
+      ∙ ap (λ n. before || (test (f part) start || test rest (start + n))) many
+      ∙ sym (
+        ap (λ l. before || test (choice_of l) start) (next_part f parts i part below is)
+        ∙ ap (λ x. before || x) (choice_cons test of (f part) (map f (drop (i + 1) parts)) start)
+      )
+
+  -- a loop that joins what holds of the parts from the last to the first
+  pub count_up_to : leaf_count (sequence_of (map f (take (i + 1) parts))) ≡ leaf_count (sequence_of (map f (take i parts))) + leaf_count (f part)
+  count_up_to = ap (λ l. leaf_count (sequence_of l)) part_more ∙ count_snoc (map f (take i parts)) (f part)
+
+  pub ends_on : (first start p : ℕ) (before after : Bool) → start ≡ first + leaf_count (sequence_of (map f (take i parts))) → spells_empty (f part) ≡ true → after ≡ (before || ends (f part) start p) →
+      (after || ends (sequence_of (map f (take i parts))) first p) ≡ (before || ends (sequence_of (map f (take (i + 1) parts))) first p)
+  ends_on first start p before after at empty new =
+      let front = sequence_of (map f (take i parts)) in
+      ap (λ x. x || ends front first p) new ∙ or_assoc before (ends (f part) start p) (ends front first p)
+      ∙ ap (λ n. before || (ends (f part) n p || ends front first p)) at
+      ∙ sym (
+        ap (λ l. before || ends (sequence_of l) first p) part_more
+        ∙ ap (λ x. before || x) (ends_snoc (map f (take i parts)) (f part) first p)
+        ∙ ap (λ x. before || (ends (f part) (first + leaf_count front) p || (x && ends front first p))) empty
+      )
+
+  pub ends_end : (first start p : ℕ) (before after : Bool) → start ≡ first + leaf_count (sequence_of (map f (take i parts))) → spells_empty (f part) ≡ false → after ≡ (before || ends (f part) start p) →
+      after ≡ (before || ends (sequence_of (map f (take (i + 1) parts))) first p)
+  ends_end first start p before after at none new =
+      let front = sequence_of (map f (take i parts)) in
+      new ∙ ap (λ n. before || ends (f part) n p) at
+      ∙ sym (
+        ap (λ l. before || ends (sequence_of l) first p) part_more
+        ∙ ap (λ x. before || x) (ends_snoc (map f (take i parts)) (f part) first p)
+        ∙ ap (λ x. before || (ends (f part) (first + leaf_count front) p || (x && ends front first p))) none
+        ∙ ap (λ x. before || x) (or_none (ends (f part) (first + leaf_count front) p))
+      )
+
+  pub goes_on : (first start p q : ℕ) (behind behind' before after : Bool) → start ≡ first + leaf_count (sequence_of (map f (take i parts))) →
+      behind' ≡ leads (f part) start q behind → after ≡ (before || goes (f part) start p q behind) →
+      (after || goes (sequence_of (map f (take i parts))) first p q behind') ≡ (before || goes (sequence_of (map f (take (i + 1) parts))) first p q behind)
+  goes_on first start p q behind behind' before after at led new =
+      let front = sequence_of (map f (take i parts)) in
+      ap (λ x. x || goes front first p q behind') new ∙ ap (λ x. (before || goes (f part) start p q behind) || goes front first p q x) led
+      ∙ or_assoc before (goes (f part) start p q behind) (goes front first p q (leads (f part) start q behind))
+      ∙ ap (λ x. before || x) (or_swap (goes (f part) start p q behind) (goes front first p q (leads (f part) start q behind)))
+      ∙ ap (λ n. before || (goes front first p q (leads (f part) n q behind) || goes (f part) n p q behind)) at
+      ∙ sym (
+        ap (λ l. before || goes (sequence_of l) first p q behind) part_more
+        ∙ ap (λ x. before || x) (goes_snoc (map f (take i parts)) (f part) first p q behind)
+      )
+
 pub sequence_done : {A : Type 0} (measure : Tree → A) {T : Type 0} (f : T → Tree) (parts : List T) (i : ℕ) → length parts ≤ i → measure (sequence_of (map f (drop i parts))) ≡ measure Empty
 sequence_done measure f parts i past = ap (λ l. measure (sequence_of (map f l))) (drop_all i parts past)
 
