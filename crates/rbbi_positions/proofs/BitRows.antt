@@ -1,5 +1,5 @@
 -- Bits of words and of rows.
-use Rattle.std.proofs.Common.{◌≡◌, ◌≢◌, ℕ, suc, zero, ◌+◌, ◌*◌, ◌/◌, ◌%◌, ◌^◌, ◌<◌, ◌≤◌, ◌⊎◌, Bool, true, false, not, ◌||◌, eqb, List, length, get_or, max, refl, sym, ap, ◌∙◌, subst, inl, inr, ⊎_elim, arith}
+use Rattle.std.proofs.Common.{◌≡◌, ◌≢◌, ℕ, suc, zero, ◌+◌, ◌*◌, ◌/◌, ◌%◌, ◌^◌, ◌<◌, ◌≤◌, ◌⊎◌, Bool, true, false, not, ◌||◌, eqb, List, length, get_or, replicate, max, refl, sym, ap, ◌∙◌, subst, inl, inr, ⊎_elim, arith}
 use Rattle.std.specs.Int.{bit_at}
 use Rattle.std.specs.Int.RustNames.{bit_or}
 use Rattle.std.proofs.lemmas.Bool.{cases_lt, eq-eqb, ne_eqb}
@@ -59,3 +59,15 @@ united row these those i a b d each position =
     ∙ sym (ap (λ n. has_bit n t || row_bit those position) (get_or_past these k 0 (omega (arith, b, past))) ∙ ap (λ x. x || row_bit those position) (no_bit t)
     ∙ ap (λ n. has_bit n t) (get_or_past those k 0 (omega (arith, d, past))) ∙ no_bit t))
     (cases_lt k i)
+
+-- a row of zeros
+pub blank : (n position : ℕ) → row_bit (replicate n 0) position ≡ false
+blank n position = ap (λ m. has_bit m (position % 64)) (zeros n (position / 64)) ∙ no_bit (position % 64)
+  where
+    zeros : (n k : ℕ) → get_or {A = ℕ} (replicate n 0) k 0 ≡ 0
+    zeros zero k = refl
+    zeros (suc n) zero = refl
+    zeros (suc n) (suc k) = zeros n k
+
+pub blank_row : (row : List ℕ) (n position : ℕ) → row ≡ replicate n 0 → row_bit row position ≡ false
+blank_row row n position e = ap (λ r. row_bit r position) e ∙ blank n position

@@ -1,0 +1,15 @@
+use Rattle.std.proofs.Common.{◌≡◌, ℕ, ◌+◌, ◌||◌, false, List, drop, take, get_or}
+use Rattle.std.specs.Prelude.{map}
+use Rattle.rbbi_model.specs.Ranges.{Range}
+use Rattle.rbbi_model.specs.Spelling.{sequence_of, choice_of}
+use Rattle.rbbi_model.specs.Rules.{leaf_count}
+use Rattle.rbbi_resolve.specs.RuleTrees.{tree_of}
+use Rattle.rbbi_positions.specs.Trees.{ends}
+use Rattle.rbbi_positions.proofs.lasts.+add_lasts.Given as goal
+
+abbrev pub invariant-loop-part : goal.invariant-loop-part
+invariant-loop-part l = record {
+  fits : (sets : List (List Range)) → l.start + leaf_count (choice_of (map (tree_of sets) (drop l.part-index l.part-items))) ≡ l.first + leaf_count (tree_of sets l.tree);
+  flags : (sets : List (List Range)) (position : ℕ) →
+      (get_or l.flags position false || ends (choice_of (map (tree_of sets) (drop l.part-index l.part-items))) l.start position) ≡ (get_or l.fn.flags position false || ends (tree_of sets l.tree) l.first position);
+}
