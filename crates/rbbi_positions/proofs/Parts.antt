@@ -1,7 +1,8 @@
 -- What is computed of a sequence or a choice, part by part.
-use Rattle.std.proofs.Common.{◌≡◌, ℕ, zero, suc, ◌+◌, ◌<◌, ◌≤◌, Bool, true, false, ◌&&◌, ◌||◌, List, [], ◌∷◌, ◌++◌, length, get_or, take, drop, refl, ap, sym, ◌∙◌, subst, arith}
+use Rattle.std.proofs.Common.{◌≡◌, ℕ, zero, suc, ◌+◌, ◌-◌, ◌<◌, ◌≤◌, Bool, true, false, ◌&&◌, ◌||◌, List, [], ◌∷◌, ◌++◌, length, get_or, set, eqb, take, drop, refl, ap, sym, ◌∙◌, subst, ⊎_elim, arith}
 use Rattle.std.specs.Prelude.{map}
-use Rattle.std.proofs.lemmas.List.{drop_all, map_more}
+use Rattle.std.proofs.lemmas.List.{drop_all, take_all, map_more, get_or-set_same, get_or-set_other}
+use Rattle.std.proofs.lemmas.Bool.{cases_eq, eq-eqb, ne_eqb}
 use Rattle.rbbi_model.specs.Spelling.{Tree, Leaf, Empty, Never, Then, Either, Repeat, sequence_of, choice_of}
 use Rattle.rbbi_model.specs.Rules.{leaf_count}
 use Rattle.rbbi_positions.specs.Trees.{spells_empty, begins, ends, leads, goes}
@@ -153,10 +154,6 @@ module _ {T : Type 0} (f : T → Tree) (parts : List T) (i : ℕ) (part : T) (be
   pub count_choice : leaf_count (choice_of (map f (drop i parts))) ≡ leaf_count (f part) + leaf_count (choice_of (map f (drop (i + 1) parts)))
   count_choice = ap (λ l. leaf_count (choice_of l)) (next_part f parts i part below is) ∙ choice_count_cons (f part) (map f (drop (i + 1) parts))
 
-  -- up to a part and with it
-  pub part_more : map f (take (i + 1) parts) ≡ map f (take i parts) ++ f part ∷ []
-  part_more = map_more f parts i part below ∙ ap (λ (p : T). map f (take i parts) ++ f p ∷ []) (sym is)
-
   -- a loop that joins what holds of the parts in front
   pub begins_on : (start count p : ℕ) (before after : Bool) → spells_empty (f part) ≡ true → count ≡ leaf_count (f part) → after ≡ (before || begins (f part) start p) →
       (after || begins (sequence_of (map f (drop (i + 1) parts))) (start + count) p) ≡ (before || begins (sequence_of (map f (drop i parts))) start p)
@@ -192,46 +189,53 @@ module _ {T : Type 0} (f : T → Tree) (parts : List T) (i : ℕ) (part : T) (be
         ∙ ap (λ x. before || x) (choice_cons test of (f part) (map f (drop (i + 1) parts)) start)
       )
 
-  -- a loop that joins what holds of the parts from the last to the first
-  pub count_up_to : leaf_count (sequence_of (map f (take (i + 1) parts))) ≡ leaf_count (sequence_of (map f (take i parts))) + leaf_count (f part)
-  count_up_to = ap (λ l. leaf_count (sequence_of l)) part_more ∙ count_snoc (map f (take i parts)) (f part)
+-- a part before the last of those that a loop from the last to the first has yet to go through
+module _ {T : Type 0} (f : T → Tree) (parts : List T) (i : ℕ) (part : T) (some : 0 < i) (short : i ≤ length parts) (is : part ≡ get_or parts (i - 1) part) where
+  pub part_more : map f (take i parts) ≡ map f (take (i - 1) parts) ++ f part ∷ []
+  part_more =
+      let below : i - 1 < length parts = omega arith in
+      let one : i ≡ (i - 1) + 1 = omega arith in
+      ap (λ (n : ℕ). map f (take n parts)) one ∙ map_more f parts (i - 1) part below ∙ ap (λ (p : T). map f (take (i - 1) parts) ++ f p ∷ []) (sym is)
 
-  pub ends_on : (first start p : ℕ) (before after : Bool) → start ≡ first + leaf_count (sequence_of (map f (take i parts))) → spells_empty (f part) ≡ true → after ≡ (before || ends (f part) start p) →
-      (after || ends (sequence_of (map f (take i parts))) first p) ≡ (before || ends (sequence_of (map f (take (i + 1) parts))) first p)
+  pub count_up_to : leaf_count (sequence_of (map f (take i parts))) ≡ leaf_count (sequence_of (map f (take (i - 1) parts))) + leaf_count (f part)
+  count_up_to = ap (λ l. leaf_count (sequence_of l)) part_more ∙ count_snoc (map f (take (i - 1) parts)) (f part)
+
+  pub ends_on : (first start p : ℕ) (before after : Bool) → start ≡ first + leaf_count (sequence_of (map f (take (i - 1) parts))) → spells_empty (f part) ≡ true → after ≡ (before || ends (f part) start p) →
+      (after || ends (sequence_of (map f (take (i - 1) parts))) first p) ≡ (before || ends (sequence_of (map f (take i parts))) first p)
   ends_on first start p before after at empty new =
-      let front = sequence_of (map f (take i parts)) in
+      let front = sequence_of (map f (take (i - 1) parts)) in
       ap (λ x. x || ends front first p) new ∙ or_assoc before (ends (f part) start p) (ends front first p)
       ∙ ap (λ n. before || (ends (f part) n p || ends front first p)) at
       ∙ sym (
         ap (λ l. before || ends (sequence_of l) first p) part_more
-        ∙ ap (λ x. before || x) (ends_snoc (map f (take i parts)) (f part) first p)
+        ∙ ap (λ x. before || x) (ends_snoc (map f (take (i - 1) parts)) (f part) first p)
         ∙ ap (λ x. before || (ends (f part) (first + leaf_count front) p || (x && ends front first p))) empty
       )
 
-  pub ends_end : (first start p : ℕ) (before after : Bool) → start ≡ first + leaf_count (sequence_of (map f (take i parts))) → spells_empty (f part) ≡ false → after ≡ (before || ends (f part) start p) →
-      after ≡ (before || ends (sequence_of (map f (take (i + 1) parts))) first p)
+  pub ends_end : (first start p : ℕ) (before after : Bool) → start ≡ first + leaf_count (sequence_of (map f (take (i - 1) parts))) → spells_empty (f part) ≡ false → after ≡ (before || ends (f part) start p) →
+      after ≡ (before || ends (sequence_of (map f (take i parts))) first p)
   ends_end first start p before after at none new =
-      let front = sequence_of (map f (take i parts)) in
+      let front = sequence_of (map f (take (i - 1) parts)) in
       new ∙ ap (λ n. before || ends (f part) n p) at
       ∙ sym (
         ap (λ l. before || ends (sequence_of l) first p) part_more
-        ∙ ap (λ x. before || x) (ends_snoc (map f (take i parts)) (f part) first p)
+        ∙ ap (λ x. before || x) (ends_snoc (map f (take (i - 1) parts)) (f part) first p)
         ∙ ap (λ x. before || (ends (f part) (first + leaf_count front) p || (x && ends front first p))) none
         ∙ ap (λ x. before || x) (or_none (ends (f part) (first + leaf_count front) p))
       )
 
-  pub goes_on : (first start p q : ℕ) (behind behind' before after : Bool) → start ≡ first + leaf_count (sequence_of (map f (take i parts))) →
+  pub goes_on : (first start p q : ℕ) (behind behind' before after : Bool) → start ≡ first + leaf_count (sequence_of (map f (take (i - 1) parts))) →
       behind' ≡ leads (f part) start q behind → after ≡ (before || goes (f part) start p q behind) →
-      (after || goes (sequence_of (map f (take i parts))) first p q behind') ≡ (before || goes (sequence_of (map f (take (i + 1) parts))) first p q behind)
+      (after || goes (sequence_of (map f (take (i - 1) parts))) first p q behind') ≡ (before || goes (sequence_of (map f (take i parts))) first p q behind)
   goes_on first start p q behind behind' before after at led new =
-      let front = sequence_of (map f (take i parts)) in
+      let front = sequence_of (map f (take (i - 1) parts)) in
       ap (λ x. x || goes front first p q behind') new ∙ ap (λ x. (before || goes (f part) start p q behind) || goes front first p q x) led
       ∙ or_assoc before (goes (f part) start p q behind) (goes front first p q (leads (f part) start q behind))
       ∙ ap (λ x. before || x) (or_swap (goes (f part) start p q behind) (goes front first p q (leads (f part) start q behind)))
       ∙ ap (λ n. before || (goes front first p q (leads (f part) n q behind) || goes (f part) n p q behind)) at
       ∙ sym (
         ap (λ l. before || goes (sequence_of l) first p q behind) part_more
-        ∙ ap (λ x. before || x) (goes_snoc (map f (take i parts)) (f part) first p q behind)
+        ∙ ap (λ x. before || x) (goes_snoc (map f (take (i - 1) parts)) (f part) first p q behind)
       )
 
 pub sequence_done : {A : Type 0} (measure : Tree → A) {T : Type 0} (f : T → Tree) (parts : List T) (i : ℕ) → length parts ≤ i → measure (sequence_of (map f (drop i parts))) ≡ measure Empty
@@ -239,3 +243,21 @@ sequence_done measure f parts i past = ap (λ l. measure (sequence_of (map f l))
 
 pub choice_done : {A : Type 0} (measure : Tree → A) {T : Type 0} (f : T → Tree) (parts : List T) (i : ℕ) → length parts ≤ i → measure (choice_of (map f (drop i parts))) ≡ measure Never
 choice_done measure f parts i past = ap (λ l. measure (choice_of (map f l))) (drop_all i parts past)
+
+pub whole : {T : Type 0} (f : T → Tree) (parts : List T) (n : ℕ) → length parts ≤ n → sequence_of (map f parts) ≡ sequence_of (map f (take n parts))
+whole f parts n past = ap (λ l. sequence_of (map f l)) (sym (take_all n parts past))
+
+pub none_left : {A : Type 0} (measure : Tree → A) {T : Type 0} (f : T → Tree) (parts : List T) (n : ℕ) → n ≤ 0 → measure (sequence_of (map f (take n parts))) ≡ measure Empty
+none_left measure f parts n none = (let zero' : n ≡ 0 = omega arith in ap (λ (m : ℕ). measure (sequence_of (map f (take m parts)))) zero')
+
+-- flags, with one more set
+pub flag_set : (flags : List Bool) (first p : ℕ) → first < length flags → get_or (set flags first true) p false ≡ (get_or flags p false || eqb p first)
+flag_set flags first p below =
+    ⊎_elim
+    (λ same. ap (λ n. get_or (set flags first true) n false) same ∙ get_or-set_same flags first true false below ∙ sym (ap (λ x. get_or flags p false || x) (eq-eqb p first same) ∙ or_true (get_or flags p false)))
+    (λ other. get_or-set_other flags first p true false other ∙ sym (ap (λ x. get_or flags p false || x) (ne_eqb p first other) ∙ or_none (get_or flags p false)))
+    (cases_eq p first)
+  where
+    or_true : (b : Bool) → (b || true) ≡ true
+    or_true true = refl
+    or_true false = refl
