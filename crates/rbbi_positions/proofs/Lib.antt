@@ -9,3 +9,4 @@ pub mod Folds
 pub mod BitRows
 pub mod Computed
 pub mod Parts
+pub mod RowWrites

@@ -162,9 +162,9 @@ module _ {T : Type 0} (f : T → Tree) (parts : List T) (i : ℕ) (part : T) (be
       ap (λ x. x || begins rest (start + count) p) new ∙ or_assoc before (begins (f part) start p) (begins rest (start + count) p)
       ∙ ap (λ n. before || (begins (f part) start p || begins rest (start + n) p)) many
       ∙ sym (
-        ap (λ l. before || begins (sequence_of l) start p) (next_part f parts i part below is)
-        ∙ ap (λ x. before || x) (begins_cons (f part) (map f (drop (i + 1) parts)) start p)
-        ∙ ap (λ x. before || (begins (f part) start p || (x && begins rest (start + leaf_count (f part)) p))) empty
+      ap (λ l. before || begins (sequence_of l) start p) (next_part f parts i part below is)
+      ∙ ap (λ x. before || x) (begins_cons (f part) (map f (drop (i + 1) parts)) start p)
+      ∙ ap (λ x. before || (begins (f part) start p || (x && begins rest (start + leaf_count (f part)) p))) empty
       )
 
   pub begins_end : (start p : ℕ) (before after : Bool) → spells_empty (f part) ≡ false → after ≡ (before || begins (f part) start p) →
@@ -172,10 +172,10 @@ module _ {T : Type 0} (f : T → Tree) (parts : List T) (i : ℕ) (part : T) (be
   begins_end start p before after none new =
       let rest = sequence_of (map f (drop (i + 1) parts)) in
       new ∙ sym (
-        ap (λ l. before || begins (sequence_of l) start p) (next_part f parts i part below is)
-        ∙ ap (λ x. before || x) (begins_cons (f part) (map f (drop (i + 1) parts)) start p)
-        ∙ ap (λ x. before || (begins (f part) start p || (x && begins rest (start + leaf_count (f part)) p))) none
-        ∙ ap (λ x. before || x) (or_none (begins (f part) start p))
+      ap (λ l. before || begins (sequence_of l) start p) (next_part f parts i part below is)
+      ∙ ap (λ x. before || x) (begins_cons (f part) (map f (drop (i + 1) parts)) start p)
+      ∙ ap (λ x. before || (begins (f part) start p || (x && begins rest (start + leaf_count (f part)) p))) none
+      ∙ ap (λ x. before || x) (or_none (begins (f part) start p))
       )
 
   pub choice_on : (test : Tree → ℕ → Bool) → OfChoice test → (start count : ℕ) (before after : Bool) → count ≡ leaf_count (f part) → after ≡ (before || test (f part) start) →
@@ -185,8 +185,8 @@ module _ {T : Type 0} (f : T → Tree) (parts : List T) (i : ℕ) (part : T) (be
       ap (λ x. x || test rest (start + count)) new ∙ or_assoc before (test (f part) start) (test rest (start + count))
       ∙ ap (λ n. before || (test (f part) start || test rest (start + n))) many
       ∙ sym (
-        ap (λ l. before || test (choice_of l) start) (next_part f parts i part below is)
-        ∙ ap (λ x. before || x) (choice_cons test of (f part) (map f (drop (i + 1) parts)) start)
+      ap (λ l. before || test (choice_of l) start) (next_part f parts i part below is)
+      ∙ ap (λ x. before || x) (choice_cons test of (f part) (map f (drop (i + 1) parts)) start)
       )
 
 -- a part before the last of those that a loop from the last to the first has yet to go through
@@ -207,9 +207,9 @@ module _ {T : Type 0} (f : T → Tree) (parts : List T) (i : ℕ) (part : T) (so
       ap (λ x. x || ends front first p) new ∙ or_assoc before (ends (f part) start p) (ends front first p)
       ∙ ap (λ n. before || (ends (f part) n p || ends front first p)) at
       ∙ sym (
-        ap (λ l. before || ends (sequence_of l) first p) part_more
-        ∙ ap (λ x. before || x) (ends_snoc (map f (take (i - 1) parts)) (f part) first p)
-        ∙ ap (λ x. before || (ends (f part) (first + leaf_count front) p || (x && ends front first p))) empty
+      ap (λ l. before || ends (sequence_of l) first p) part_more
+      ∙ ap (λ x. before || x) (ends_snoc (map f (take (i - 1) parts)) (f part) first p)
+      ∙ ap (λ x. before || (ends (f part) (first + leaf_count front) p || (x && ends front first p))) empty
       )
 
   pub ends_end : (first start p : ℕ) (before after : Bool) → start ≡ first + leaf_count (sequence_of (map f (take (i - 1) parts))) → spells_empty (f part) ≡ false → after ≡ (before || ends (f part) start p) →
@@ -218,10 +218,10 @@ module _ {T : Type 0} (f : T → Tree) (parts : List T) (i : ℕ) (part : T) (so
       let front = sequence_of (map f (take (i - 1) parts)) in
       new ∙ ap (λ n. before || ends (f part) n p) at
       ∙ sym (
-        ap (λ l. before || ends (sequence_of l) first p) part_more
-        ∙ ap (λ x. before || x) (ends_snoc (map f (take (i - 1) parts)) (f part) first p)
-        ∙ ap (λ x. before || (ends (f part) (first + leaf_count front) p || (x && ends front first p))) none
-        ∙ ap (λ x. before || x) (or_none (ends (f part) (first + leaf_count front) p))
+      ap (λ l. before || ends (sequence_of l) first p) part_more
+      ∙ ap (λ x. before || x) (ends_snoc (map f (take (i - 1) parts)) (f part) first p)
+      ∙ ap (λ x. before || (ends (f part) (first + leaf_count front) p || (x && ends front first p))) none
+      ∙ ap (λ x. before || x) (or_none (ends (f part) (first + leaf_count front) p))
       )
 
   pub goes_on : (first start p q : ℕ) (behind behind' before after : Bool) → start ≡ first + leaf_count (sequence_of (map f (take (i - 1) parts))) →
@@ -234,8 +234,8 @@ module _ {T : Type 0} (f : T → Tree) (parts : List T) (i : ℕ) (part : T) (so
       ∙ ap (λ x. before || x) (or_swap (goes (f part) start p q behind) (goes front first p q (leads (f part) start q behind)))
       ∙ ap (λ n. before || (goes front first p q (leads (f part) n q behind) || goes (f part) n p q behind)) at
       ∙ sym (
-        ap (λ l. before || goes (sequence_of l) first p q behind) part_more
-        ∙ ap (λ x. before || x) (goes_snoc (map f (take (i - 1) parts)) (f part) first p q behind)
+      ap (λ l. before || goes (sequence_of l) first p q behind) part_more
+      ∙ ap (λ x. before || x) (goes_snoc (map f (take (i - 1) parts)) (f part) first p q behind)
       )
 
 pub sequence_done : {A : Type 0} (measure : Tree → A) {T : Type 0} (f : T → Tree) (parts : List T) (i : ℕ) → length parts ≤ i → measure (sequence_of (map f (drop i parts))) ≡ measure Empty

@@ -1,6 +1,7 @@
 //! Rows of bits, 64 to a word, the least bit first.
-ghost use Rattle.std.specs.Prelude.{◌≡◌, ◌<◌, ◌≤◌, ◌*◌, ◌==◌, ◌||◌, ℕ, IfOk, length};
+ghost use Rattle.std.specs.Prelude.{◌≡◌, ◌<◌, ◌≤◌, ◌+◌, ◌*◌, ◌==◌, ◌||◌, ◌&&◌, ℕ, IfOk, length};
 ghost use Rattle.rbbi_model.specs.Places.{has_bit};
+ghost use Rattle.rbbi_positions.specs.PositionMarks.{in_row};
 ghost use Rattle.rbbi_positions.specs.Rows.{row_bit, AreFlags};
 
 use std::alloc::{AllocError, Global};
@@ -31,6 +32,18 @@ pub(crate) fn unite(row: &mut [u64], other: &[u64])
     for i in 0..other.len() {
         row[i] |= other[i];
     }
+}
+
+/// Sets in a row of rows of bits, which come one after another, the bits that are set in the other.
+pub(crate) fn unite_row(rows: &mut [u64], row: usize, other: &[u64])
+    requires { row * length other.now + length other.now ≤ length rows.old }
+    ensures { (this position : ℕ) → position < 64 * length other.now →
+        in_row (length other.now) rows.new this position
+        ≡ (in_row (length other.now) rows.old this position
+        || ((this == row) && row_bit other.now position)) }
+{
+    let from = row * other.len();
+    unite(&mut rows[from..from + other.len()], other);
 }
 
 /// The bits of so many positions, one after another.
