@@ -1,5 +1,5 @@
 -- Rows of bits, one after another, of which one is written.
-use Rattle.std.proofs.Common.{◌≡◌, ◌≢◌, ℕ, suc, ◌+◌, ◌-◌, ◌*◌, ◌/◌, ◌%◌, ◌<◌, ◌≤◌, Bool, true, false, ◌||◌, ◌&&◌, eqb, List, ◌++◌, length, get_or, take, drop, refl, sym, ap, ◌∙◌, inl, inr, ⊎_elim, arith, length-append, length-drop}
+use Rattle.std.proofs.Common.{◌≡◌, ◌≢◌, ℕ, suc, ◌+◌, ◌-◌, ◌*◌, ◌/◌, ◌%◌, ◌<◌, ◌≤◌, Bool, true, false, ◌||◌, ◌&&◌, eqb, List, ◌++◌, length, get_or, take, drop, refl, sym, ap, ◌∙◌, inl, inr, ⊎_elim, arith, length-take-le}
 use Rattle.std.proofs.lemmas.Bool.{cases_lt, cases_eq, cases_order, eq-eqb, ne_eqb}
 use Rattle.std.proofs.lemmas.List.{get_or-take, get_or-drop, get_or_append_left, get_or-append_right}
 use Rattle.std.proofs.lemmas.Nat.{mul-le}
@@ -21,7 +21,7 @@ rows_within these count w long few all = omega (arith, mul-le these w count w fe
 
 module _ (a k : ℕ) (xs ys : List ℕ) (fits : a + k ≤ length xs) (many : length ys ≡ k) where
   front : length (take a xs) ≡ a
-  front = grind arith
+  front = omega (arith, length-take-le a xs (omega (arith, fits)))
 
   word_before : (i : ℕ) → i < a → get_or (put_mid a k xs ys) i 0 ≡ get_or xs i 0
   word_before i below = get_or_append_left (take a xs) (ys ++ post_of a k xs) 0 i (omega (arith, front)) ∙ get_or-take a xs i 0 below
