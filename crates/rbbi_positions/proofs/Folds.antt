@@ -1,8 +1,11 @@
 -- The tree that a repetition stands for.
-use Rattle.std.proofs.Common.{◌≡◌, ℕ, List, Box, Global, refl, ap, sym, ◌∙◌}
+use Rattle.std.proofs.Common.{◌≡◌, ℕ, Bool, List, Box, Global, refl, ap, sym, ◌∙◌}
 use Rattle.std.specs.Prelude.{map}
 use Rattle.rbbi_model.specs.Ranges.{Range}
 use Rattle.rbbi_model.specs.Spelling as spelling
+use Rattle.rbbi_positions.specs.Trees.{begins, goes}
+use Rattle.rbbi_positions.specs.Rounds.{behind_of}
+use Rattle.rbbi_positions.proofs.Parts.{or_swap}
 use Rattle.rbbi_tree.specs.declared.syntax.Quant.{Quant}
 use Rattle.rbbi_tree.specs.declared.syntax.Quant.TheVariants.{Once, Star, Plus, Quest}
 use Rattle.rbbi_resolve.specs.declared.rules.Tree.{Tree}
@@ -33,3 +36,10 @@ tree_of_sequence sets parts = ap (tree_of sets) (sym (rolls-Seq parts)) ∙ fold
 
 pub tree_of_choice : (sets : List (List Range)) (parts : Trees-F Tree (Unit {0})) → tree_of sets (Alt parts) ≡ spelling.choice_of (map (tree_of sets) parts.items.items)
 tree_of_choice sets parts = ap (tree_of sets) (sym (rolls-Alt parts)) ∙ fold-roll-Tree spelling.Tree (List spelling.Tree) (tree_step sets) trees_step (Tree-F.Alt parts) ∙ ap spelling.choice_of (trees_of_out sets parts)
+
+-- what follows in a repeat is what does in the part, with the next round behind it
+pub goes_repeat : (quant : Quant) (part : spelling.Tree) (first position next : ℕ) (behind : Bool) → goes (repeated quant part) first position next behind ≡ goes part first position next (behind_of quant part first next behind)
+goes_repeat Once part first position next behind = refl
+goes_repeat Star part first position next behind = ap (goes part first position next) (or_swap (begins part first next) behind)
+goes_repeat Plus part first position next behind = ap (goes part first position next) (or_swap (begins part first next) behind)
+goes_repeat Quest part first position next behind = refl
