@@ -10,3 +10,4 @@ pub mod BitRows
 pub mod Computed
 pub mod Parts
 pub mod RowWrites
+pub mod RuleFacts

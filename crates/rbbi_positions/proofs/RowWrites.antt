@@ -48,15 +48,15 @@ module _ (w row k : ℕ) (rows new : List ℕ) (same : k ≡ w) (many : length n
   row_kept this position below other =
       ap (λ n. has_bit n (position % 64))
       (
-        ⊎_elim (λ e. absurd (other e))
-        (⊎_elim
-        (λ before.
-        let end : this * w + w ≤ row * w = row_within this row w (row * w) before (omega arith) in
-        word_before (row * w) k rows new (omega (arith, same, fits)) (omega (arith, same, many)) (this * w + position / 64) (omega (arith, below, end)))
-        (λ behind.
-        let end : row * w + w ≤ this * w = row_within row this w (this * w) behind (omega arith) in
-        word_after (row * w) k rows new (omega (arith, same, fits)) (omega (arith, same, many)) (this * w + position / 64) (omega (arith, same, end))))
-        (cases_order this row)
+      ⊎_elim (λ e. absurd (other e))
+      (⊎_elim
+      (λ before.
+      let end : this * w + w ≤ row * w = row_within this row w (row * w) before (omega arith) in
+      word_before (row * w) k rows new (omega (arith, same, fits)) (omega (arith, same, many)) (this * w + position / 64) (omega (arith, below, end)))
+      (λ behind.
+      let end : row * w + w ≤ this * w = row_within row this w (this * w) behind (omega arith) in
+      word_after (row * w) k rows new (omega (arith, same, fits)) (omega (arith, same, many)) (this * w + position / 64) (omega (arith, same, end))))
+      (cases_order this row)
       )
 
   -- what was in the row

@@ -10,6 +10,9 @@ mod followers;
 mod lasts;
 mod laws;
 mod making;
+mod numbers;
+mod readers;
+mod rules;
 
 pub use laws::{
     front_walks_are_spelled, fronts_are_exchanged, prefixes_are_walks, spelled_are_exchanged,

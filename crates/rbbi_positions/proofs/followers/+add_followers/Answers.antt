@@ -40,7 +40,7 @@ loop-i-init t c =
       fits = λ sets. omega (arith, ap leaf_count (same sets));
       rows = λ sets position other below.
           ap (λ row. in_row (length c.args.next.now) c.args.followers.now position other
-              || goes (sequence_of (map (tree_of sets) (take c.len-i.result c.in-Seq.parts.items.items))) c.args.first position other (row_bit row other)) copied
+          || goes (sequence_of (map (tree_of sets) (take c.len-i.result c.in-Seq.parts.items.items))) c.args.first position other (row_bit row other)) copied
           ∙ ap (λ tree. in_row (length c.args.next.now) c.args.followers.now position other || goes tree c.args.first position other (row_bit c.args.next.now other)) (sym (same sets));
     }
 
