@@ -26,6 +26,13 @@ leaves_none sets rule none =
 pub leaves_some : (sets : List (List Range)) (rule : Rule) (rest : Tree) → rule.rest ≡ Some rest → leaves_of (rule_of sets rule) ≡ leaf_count (tree_of sets rule.front) + leaf_count (tree_of sets rest)
 leaves_some sets rule rest some = ap (λ (r : Option Tree). leaf_count (tree_of sets rule.front) + option_map_or leaf_count (option_map (tree_of sets) r) 0) some
 
+-- what is computed of a rule's rest
+pub of_none : {A : Type 0} (sets : List (List Range)) (rule : Rule) (f : spelling.Tree → A) (d : A) → rule.rest ≡ None → option_map_or f (option_map (tree_of sets) rule.rest) d ≡ d
+of_none sets rule f d none = ap (λ (r : Option Tree). option_map_or f (option_map (tree_of sets) r) d) none
+
+pub of_some : {A : Type 0} (sets : List (List Range)) (rule : Rule) (rest : Tree) (f : spelling.Tree → A) (d : A) → rule.rest ≡ Some rest → option_map_or f (option_map (tree_of sets) rule.rest) d ≡ f (tree_of sets rest)
+of_some sets rule rest f d some = ap (λ (r : Option Tree). option_map_or f (option_map (tree_of sets) r) d) some
+
 -- a tree has as many leaves as sets of leaves
 count_sets : (tree : spelling.Tree) → length (sets_of tree) ≡ leaf_count tree
 count_sets (spelling.Leaf set) = refl

@@ -100,36 +100,37 @@ pub(crate) fn lasts_of(alloc: Global, rules: &Rules, leaves: usize) -> Result<Ve
     Ok(flags)
 }
 
-/// Adds to the rows of the rule's positions those that follow them. A rest isn't empty, so what may
-/// follow its front are its first positions.
+/// Adds to the rows of the rule's positions those that follow them; in the row `none` no bit is set.
+/// A rest isn't empty, so what may follow its front are its first positions.
 fn add_rule_followers(
     alloc: Global,
     rule: &Rule,
     first: usize,
-    words: usize,
+    none: &[u64],
     followers: &mut [u64],
 ) -> Result<(), AllocError>
-    requires few { words ≤ 128 }
+    requires few { length none.now ≤ 128 }
+    requires none { (position : ℕ) → row_bit none.now position ≡ false }
     requires within { (sets : List (List Range)) →
-        first + leaves_of (rule_of sets rule.now) ≤ 64 * words }
+        first + leaves_of (rule_of sets rule.now) ≤ 64 * length none.now }
     requires rows { (sets : List (List Range)) →
-        (first + leaves_of (rule_of sets rule.now)) * words ≤ length followers.old }
-    ensures { OnOk result ((sets : List (List Range)) (position other : ℕ) → other < 64 * words →
-        in_row words followers.new position other
-        ≡ (in_row words followers.old position other
+        (first + leaves_of (rule_of sets rule.now)) * length none.now ≤ length followers.old }
+    ensures { OnOk result ((sets : List (List Range)) (position other : ℕ) →
+        other < 64 * length none.now →
+        in_row (length none.now) followers.new position other
+        ≡ (in_row (length none.now) followers.old position other
         || rule_goes position other (rule_of sets rule.now) first)) }
 {
-    let mut row = vec![in alloc; 0u64; words]?;
     match &rule.rest {
-        None => add_followers(alloc, &rule.front, first, &row, followers)?,
+        None => add_followers(alloc, &rule.front, first, none, followers),
         Some(rest) => {
             let second = first + count(&rule.front);
-            add_followers(alloc, rest, second, &row, followers)?;
+            add_followers(alloc, rest, second, none, followers)?;
+            let mut row = none.to_vec(alloc)?;
             add_firsts(rest, second, &mut row);
-            add_followers(alloc, &rule.front, first, &row, followers)?;
+            add_followers(alloc, &rule.front, first, &row, followers)
         }
     }
-    Ok(())
 }
 
 /// For each position the row of those that follow it in some list of a rule.
@@ -147,11 +148,12 @@ pub(crate) fn followers_of(
         in_row words rows.items position other
         ≡ some_rule (rule_goes position other) (rules_of rules.now) 0) }
 {
+    let none = vec![in alloc; 0u64; words]?;
     let mut rows = vec![in alloc; 0u64; leaves * words]?;
     let mut start = 0;
     for number in 0..rules.len() {
         let rule = rules.get(number);
-        add_rule_followers(alloc, rule, start, words, &mut rows)?;
+        add_rule_followers(alloc, rule, start, &none, &mut rows)?;
         start += count_of_rule(rule);
     }
     Ok(rows)
