@@ -11,3 +11,4 @@ pub mod Computed
 pub mod Parts
 pub mod RowWrites
 pub mod RuleFacts
+pub mod Codes

@@ -1,8 +1,9 @@
 -- Rules one after another: their leaves, and what some rule of the first ones passes.
-use Rattle.std.proofs.Common.{◌≡◌, ℕ, zero, suc, ◌+◌, ◌<◌, ◌≤◌, Bool, true, false, ◌||◌, Option, None, Some, List, [], ◌∷◌, ◌++◌, length, take, refl, ap, sym, ◌∙◌, subst, arith, length-append}
-use Rattle.std.specs.Prelude.{map, sum_by, slice_get}
+use Rattle.std.proofs.Common.{◌≡◌, ℕ, zero, suc, ◌+◌, ◌-◌, ◌<◌, ◌≤◌, Bool, true, false, ◌||◌, Option, None, Some, List, [], ◌∷◌, ◌++◌, length, take, replicate, get_or, ⊎_elim, append_assoc, refl, ap, sym, ◌∙◌, subst, arith, length-append}
+use Rattle.std.specs.Prelude.{map, flat_map, sum_by, slice_get}
 use Rattle.std.specs.Option.{option_map, option_map_or}
-use Rattle.std.proofs.lemmas.List.{take_all, length-map}
+use Rattle.std.proofs.lemmas.List.{take_all, length-map, append-nil, get_or_append_left, get_or-append_right, get_or-replicate, length-replicate}
+use Rattle.std.proofs.lemmas.Bool.{cases_lt}
 use Rattle.std.proofs.lemmas.List.Sums.{sum_by-cons}
 use Rattle.rbbi_model.specs.Ranges.{Range}
 use Rattle.rbbi_model.specs.Spelling as spelling
@@ -14,7 +15,8 @@ use Rattle.rbbi_resolve.specs.declared.rules.Tree.{Tree}
 use Rattle.rbbi_resolve.specs.RuleTrees.{set_at, tree_of}
 use Rattle.rbbi_resolve.specs.RuleLists.{RuleList, rule_of, rules_of, numbers_of_rule, leaf_numbers}
 use Rattle.rbbi_cats.proofs.LeafSets.{all_sets_are}
-use Rattle.rbbi_positions.specs.RuleTests.{some_rule}
+use Rattle.rbbi_positions.specs.RuleTests.{some_rule, AreOwners}
+use Rattle.rbbi_positions.specs.FollowPositions.{IsOfRule}
 use Rattle.rbbi_positions.proofs.Parts.{or_none, or_assoc}
 
 -- the leaves of a rule
@@ -120,3 +122,29 @@ module _ (list : RuleList) (number : ℕ) (rule : Rule) (is : slice_get list.rul
 
 pub all_taken : (list : RuleList) (number : ℕ) → length list.rules ≤ number → take number (rules_of list) ≡ rules_of list
 all_taken list number past = take_all number (rules_of list) (omega (arith, past, length-map list.rules (rule_of list.sets)))
+
+-- what rules have one after another, with one rule more
+pub flat_next : {X Y : Type 0} (f : X → List Y) (xs : List X) (n : ℕ) (x : X) → slice_get xs n ≡ Some x → flat_map f (take (n + 1) xs) ≡ flat_map f (take n xs) ++ f x
+flat_next {X} {Y} f xs n x is = (let e : n + 1 ≡ suc n = omega arith in ap (λ m. flat_map f (take m xs)) e ∙ ap (flat_map f) (take_get xs n x is) ∙ snoc (take n xs))
+  where
+    snoc : (ys : List X) → flat_map f (ys ++ x ∷ []) ≡ flat_map f ys ++ f x
+    snoc [] = append-nil (f x)
+    snoc (y ∷ ys) = ap (λ l. f y ++ l) (snoc ys) ∙ sym (append_assoc (f y) (flat_map f ys) (f x))
+
+-- the owners of the positions of one rule more
+pub owners_more : (rules : List model.Rule) (number count : ℕ) (rule : model.Rule) (owners : List ℕ) → slice_get rules number ≡ Some rule → count ≡ leaves_of rule → length owners ≡ first_position rules number →
+    AreOwners rules owners → AreOwners rules (owners ++ replicate count number)
+owners_more rules number count rule owners is many long old = record {
+  each = λ position below.
+      ⊎_elim
+      (λ before.
+      let P : ℕ → Type 0 = IsOfRule rules position in
+      subst P (sym (get_or_append_left owners (replicate count number) 0 position before)) (old.each position before))
+      (λ behind.
+      let P : ℕ → Type 0 = IsOfRule rules position in
+      let in_new : position - length owners < count = omega (arith, below, length-append owners (replicate count number), length-replicate count number, behind) in
+      let here : get_or (owners ++ replicate count number) position 0 ≡ number =
+      get_or-append_right owners (replicate count number) (length owners) position 0 refl behind ∙ get_or-replicate count (position - length owners) number 0 in_new in
+      subst P (sym here) (record { rule = rule; is_rule = is; from = omega (arith, long, behind); to = omega (arith, long, in_new, many, behind) }))
+      (cases_lt position (length owners));
+}
