@@ -70,13 +70,14 @@ starts_more ranges codes i range is short old j other below is' =
 -- a category that some code point has is some range's
 range_from : (before : ℕ) (ranges : List CategoryRange) (c category : ℕ) → category_from before ranges c ≡ category → before ≢ category → (place : ℕ) × (range : CategoryRange) × (slice_get ranges place ≡ Some range) × (range.category ≡ category)
 range_from before [] c category e other = absurd (other e)
-range_from before (range ∷ ranges) c category e other = go (nat_le range.start c) e
+range_from before (range ∷ ranges) c category e other = go (λ h apart. range_from range.category ranges c category h apart) (nat_le range.start c) e
   where
-    go : (test : Bool) → cond test (category_from range.category ranges c) before ≡ category → (place : ℕ) × (found : CategoryRange) × (slice_get (range ∷ ranges) place ≡ Some found) × (found.category ≡ category)
-    go false e = absurd (other e)
-    go true e =
+    go : (category_from range.category ranges c ≡ category → range.category ≢ category → (place : ℕ) × (found : CategoryRange) × (slice_get ranges place ≡ Some found) × (found.category ≡ category)) →
+        (test : Bool) → cond test (category_from range.category ranges c) before ≡ category → (place : ℕ) × (found : CategoryRange) × (slice_get (range ∷ ranges) place ≡ Some found) × (found.category ≡ category)
+    go later false e = absurd (other e)
+    go later true e =
         ⊎_elim (λ same. (0, range, refl, same))
-        (λ apart. let found = range_from range.category ranges c category e apart in (suc found.0, found.1, found.2, found.3))
+        (λ apart. let found = later e apart in (suc found.0, found.1, found.2, found.3))
         (cases_eq range.category category)
 
 -- starts rise

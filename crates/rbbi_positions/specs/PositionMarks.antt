@@ -57,12 +57,16 @@ pub record IsMarkedAs (rules : List Rule) (number : ℕ) (rule : Rule) (mark : R
   pub tag : mark.tag ≡ rule.tag
   pub slash : mark.slash ≡ slash_of rules number rule
 
+-- each rule's marks are its own
+abbrev pub AreRuleMarks : List Rule → List RuleMark → Type 0
+AreRuleMarks rules marks = (number : ℕ) (rule : Rule) (mark : RuleMark) → IsRule rules number rule → slice_get marks number ≡ Some mark → IsMarkedAs rules number rule mark
+
 -- The marks are those of the rules' positions and of the rules, for categories with these ranges.
 pub record ArePositions (rules : List Rule) (categories : ℕ) (ranges : List CategoryRange) (marks : PositionMarks) : Type 0 where
   pub leaves : marks.leaves ≡ sum_by leaves_of rules
   pub rule_count : length marks.rules ≡ length rules
   pub rows : length marks.readers ≡ categories * marks.words
-  pub rule_marks : (number : ℕ) (rule : Rule) (mark : RuleMark) → IsRule rules number rule → slice_get marks.rules number ≡ Some mark → IsMarkedAs rules number rule mark
+  pub rule_marks : AreRuleMarks rules marks.rules
   pub owner : (position : ℕ) → position < marks.leaves → IsOfRule rules position (slice_index marks.owners position)
   pub first : (position : ℕ) → position < marks.leaves → IsTrue (slice_index_or marks.firsts position false) ↔ IsFirst rules position
   pub last : (position : ℕ) → position < marks.leaves → IsTrue (slice_index_or marks.lasts position false) ↔ IsLast rules position

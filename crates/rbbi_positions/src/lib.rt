@@ -21,6 +21,7 @@ pub use laws::{
 
 mod marks;
 mod rule_mark;
+mod rule_marks;
 
 pub use making::positions;
 pub use marks::Positions;
