@@ -12,3 +12,5 @@ pub mod Parts
 pub mod RowWrites
 pub mod RuleFacts
 pub mod Codes
+pub mod MarkLists
+pub mod Marking

@@ -103,7 +103,7 @@ module _ (list : RuleList) (number : ℕ) (rule : Rule) (is : slice_get list.rul
   pub rule_is : slice_get (rules_of list) number ≡ Some (rule_of list.sets rule)
   rule_is = map_get (rule_of list.sets) list.rules number rule is
 
-  taken : take (number + 1) (rules_of list) ≡ take number (rules_of list) ++ rule_of list.sets rule ∷ []
+  pub taken : take (number + 1) (rules_of list) ≡ take number (rules_of list) ++ rule_of list.sets rule ∷ []
   taken = (let e : number + 1 ≡ suc number = omega arith in ap (λ n. take n (rules_of list)) e ∙ take_get (rules_of list) number (rule_of list.sets rule) rule_is)
 
   pub first_next : (sets : List (List Range)) → first_position (rules_of list) (number + 1) ≡ first_position (rules_of list) number + leaves_of (rule_of sets rule)

@@ -1,11 +1,10 @@
-use Rattle.std.proofs.Common.{ℕ, ◌↔◌, ◌≡◌, true, Bool}
-use Rattle.rbbi_model.specs.Spelling.{Tree}
-use Rattle.rbbi_model.specs.Rules.{IsLawfulTree}
-use Rattle.rbbi_positions.specs.Trees.{goes}
-use Rattle.rbbi_positions.proofs.Computed.{goes_is, GoesOn}
-use Rattle.rbbi_positions.proofs.Parts.{goes_snoc}
-use Rattle.rbbi_positions.proofs.BitRows.{united}
+use Rattle.std.proofs.Common.{ℕ, ◌↔◌, ◌≡◌, true, List}
+use Rattle.std.specs.List.{AllByRecursion}
+use Rattle.rbbi_model.specs.Rules.{Rule, IsLawfulRule}
+use Rattle.rbbi_positions.specs.RuleTests.{some_rule, rule_begins}
+use Rattle.rbbi_positions.specs.FollowPositions.{IsFirst}
+use Rattle.rbbi_positions.proofs.Marking.{first_is}
 use Rattle.rbbi_positions.proofs.making.positions.Goals as goal
 
-pub a : (tree : Tree) (first position next : ℕ) (behind : Bool) → IsLawfulTree tree → (goes tree first position next behind ≡ true) ↔ GoesOn tree first position next behind
-a = goes_is
+pub a : (rules : List Rule) (lawful : AllByRecursion IsLawfulRule rules) (position : ℕ) → (some_rule (rule_begins position) rules 0 ≡ true) ↔ IsFirst rules position
+a = first_is
