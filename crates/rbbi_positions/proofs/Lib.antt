@@ -14,3 +14,4 @@ pub mod RuleFacts
 pub mod Codes
 pub mod MarkLists
 pub mod Marking
+pub mod Reading

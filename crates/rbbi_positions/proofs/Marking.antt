@@ -35,7 +35,7 @@ not_empty tree none = go (spells_empty tree) (λ e. none (empty_word tree e))
     go false other = refl
 
 -- equal tests
-alike : {A : Type 0} (a b : Bool) → a ≡ b → (b ≡ true) ↔ A → (a ≡ true) ↔ A
+pub alike : {A : Type 0} (a b : Bool) → a ≡ b → (b ≡ true) ↔ A → (a ≡ true) ↔ A
 alike a b same h = (λ e. h.0 (sym same ∙ e), λ x. same ∙ h.1 x)
 
 begins_at : (front : Tree) (rest : Option Tree) (first position : ℕ) → IsLawfulTree front → IfSome rest IsLawfulTree → (IsSome rest → ¬ Spells front []) →

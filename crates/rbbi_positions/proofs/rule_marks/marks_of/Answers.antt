@@ -14,6 +14,6 @@ loop-number-preserved c = record {
     | else-is_some w ↦ omega (arith, w.slashes-is, c.loop-number.invariant.slashes_are, slashes_next c.args.rules.now c.loop-number.number c.get-rule.result.now c.get-rule.ensures false (sym c.is_some.ensures ∙ w.if-is_some.false))
   ];
   each = subst (AreRuleMarks (rules_of c.args.rules.now)) (sym c.in_ok-push.ensures.items)
-  (marks_more c.args.rules.now c.loop-number.number c.get-rule.result.now c.get-rule.ensures c.loop-number.marks.items c.mark_of.result c.loop-number.slashes c.loop-number.invariant.many c.loop-number.invariant.slashes_are
-  c.mark_of.ensures.chained_into c.mark_of.ensures.tag c.mark_of.ensures.slash c.loop-number.invariant.each);
+      (marks_more c.args.rules.now c.loop-number.number c.get-rule.result.now c.get-rule.ensures c.loop-number.marks.items c.mark_of.result c.loop-number.slashes c.loop-number.invariant.many c.loop-number.invariant.slashes_are
+      c.mark_of.ensures.chained_into c.mark_of.ensures.tag c.mark_of.ensures.slash c.loop-number.invariant.each);
 }

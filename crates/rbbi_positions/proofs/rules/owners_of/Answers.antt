@@ -20,6 +20,6 @@ loop-number-preserved c = record {
     first_next c.args.rules.now c.loop-number.number c.get.result.now c.get.ensures c.args.rules.now.sets,
   );
   each = subst (AreOwners (rules_of c.args.rules.now)) (sym c.in_ok-add_owners.ensures)
-  (owners_more (rules_of c.args.rules.now) c.loop-number.number c.count_of_rule-count.result (rule_of c.args.rules.now.sets c.get.result.now) c.loop-number.owners.items
-  (rule_is c.args.rules.now c.loop-number.number c.get.result.now c.get.ensures) (c.count_of_rule-count.ensures c.args.rules.now.sets) c.loop-number.invariant.many c.loop-number.invariant.each);
+      (owners_more (rules_of c.args.rules.now) c.loop-number.number c.count_of_rule-count.result (rule_of c.args.rules.now.sets c.get.result.now) c.loop-number.owners.items
+      (rule_is c.args.rules.now c.loop-number.number c.get.result.now c.get.ensures) (c.count_of_rule-count.ensures c.args.rules.now.sets) c.loop-number.invariant.many c.loop-number.invariant.each);
 }
