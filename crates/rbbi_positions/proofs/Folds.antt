@@ -12,7 +12,7 @@ use Rattle.rbbi_resolve.specs.declared.rules.Tree.{Tree}
 use Rattle.rbbi_resolve.specs.declared.rules.Tree.TheOpen.{Tree-F, Trees-F}
 use Rattle.rbbi_resolve.specs.declared.rules.Tree.TheVariants.{Leaf, Seq, Alt, Rep, rolls-Leaf, rolls-Seq, rolls-Alt, rolls-Rep}
 use Rattle.rbbi_resolve.specs.declared.rules.Tree.TheFolds.{fold-roll-Tree}
-use Rattle.rbbi_resolve.specs.RuleTrees.{repeated, set_at, tree_step, trees_step, tree_of, trees_of, trees_of_out}
+use Rattle.rbbi_resolve.specs.RuleTrees.{repeated, set_at, tree_step, trees_step, tree_of, trees_of_out}
 
 pub tree_of_repeat : (sets : List (List Range)) (quant : Quant) (part : Box Tree Global) → tree_of sets (Rep quant part) ≡ repeated quant (tree_of sets part.value)
 tree_of_repeat sets quant part = ap (tree_of sets) (sym (rolls-Rep quant part)) ∙ fold-roll-Tree spelling.Tree (List spelling.Tree) (tree_step sets) trees_step (Tree-F.Rep quant part)

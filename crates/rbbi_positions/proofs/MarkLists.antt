@@ -1,15 +1,14 @@
 -- The marks of rules, with one rule more.
-use Rattle.std.proofs.Common.{◌≡◌, ℕ, zero, suc, ◌+◌, ◌<◌, ◌≤◌, ◌⊎◌, Bool, true, false, cond, Option, None, Some, List, [], ◌∷◌, ◌++◌, length, take, refl, ap, sym, ◌∙◌, subst, inl, inr, ⊎_elim, arith, length-append}
+use Rattle.std.proofs.Common.{◌≡◌, ℕ, zero, suc, ◌+◌, ◌⊎◌, Bool, true, false, cond, Option, None, Some, List, [], ◌∷◌, ◌++◌, length, take, refl, ap, sym, ◌∙◌, subst, inl, inr, ⊎_elim, arith, length-append}
 use Rattle.std.specs.Prelude.{slice_get, filter, is_some}
 use Rattle.std.specs.Option.{option_map}
 use Rattle.std.proofs.lemmas.List.Elements.{filter-append}
 use Rattle.rbbi_model.specs.Rules as model
 use Rattle.rbbi_model.specs.Rules.{look_aheads}
 use Rattle.rbbi_resolve.specs.declared.rules.Rule.{Rule}
-use Rattle.rbbi_resolve.specs.declared.rules.Tree.{Tree}
 use Rattle.rbbi_resolve.specs.RuleTrees.{tree_of}
 use Rattle.rbbi_resolve.specs.RuleLists.{RuleList, rule_of, rules_of}
-use Rattle.rbbi_positions.specs.PositionMarks.{RuleMark, IsMarkedAs, AreRuleMarks, slash_of}
+use Rattle.rbbi_positions.specs.PositionMarks.{RuleMark, AreRuleMarks, slash_of}
 use Rattle.rbbi_positions.proofs.RuleFacts.{rule_is, taken}
 
 get_snoc : {X : Type 0} (xs : List X) (x y : X) (n : ℕ) → slice_get (xs ++ x ∷ []) n ≡ Some y → (slice_get xs n ≡ Some y) ⊎ ((n ≡ length xs) × (x ≡ y))

@@ -1,12 +1,12 @@
 -- What is computed of rules is what the lists that they spell say.
-use Rattle.std.proofs.Common.{◌≡◌, ◌≢◌, ℕ, zero, suc, ◌+◌, ◌<◌, ◌≤◌, Bool, true, false, ◌&&◌, ◌||◌, ◌⊎◌, ◌↔◌, Option, None, Some, List, [], ◌∷◌, ◌++◌, take, refl, ap, sym, ◌∙◌, subst, inl, inr, arith, rules}
+use Rattle.std.proofs.Common.{◌≡◌, ℕ, zero, suc, ◌+◌, Bool, true, false, ◌&&◌, ◌||◌, ◌↔◌, Option, None, Some, List, [], ◌∷◌, take, refl, ap, sym, ◌∙◌, inl, inr, arith, rules}
 use Rattle.std.specs.Prelude.{slice_get, sum_by, IsSome, IfSome}
 use Rattle.std.specs.List.{AllByRecursion}
 use Rattle.std.specs.Option.{option_map_or}
 use Rattle.std.proofs.lemmas.List.Sums.{sum_by-cons}
 use Rattle.rbbi_model.specs.Spelling.{Star, Plus, Quest, Tree, Leaf, Empty, Never, Then, Either, Repeat, Spells}
 use Rattle.rbbi_model.specs.Rules.{Rule, leaf_count, leaves_of, IsLawfulTree, IsLawfulRule}
-use Rattle.rbbi_model.specs.LeafSets.{SpellsPositions, RuleSpellsPositions, first_position}
+use Rattle.rbbi_model.specs.LeafSets.{SpellsPositions, first_position}
 use Rattle.rbbi_positions.specs.Trees.{spells_empty, begins, ends, leads, goes}
 use Rattle.rbbi_positions.specs.RuleTests.{some_rule, rule_begins, front_ends, rule_ends, rule_goes}
 use Rattle.rbbi_positions.specs.FollowPositions.{IsFirst, IsLast, IsFrontLast, Follows}

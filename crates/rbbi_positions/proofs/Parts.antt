@@ -1,9 +1,9 @@
 -- What is computed of a sequence or a choice, part by part.
-use Rattle.std.proofs.Common.{◌≡◌, ℕ, zero, suc, ◌+◌, ◌-◌, ◌<◌, ◌≤◌, Bool, true, false, ◌&&◌, ◌||◌, List, [], ◌∷◌, ◌++◌, length, get_or, set, eqb, take, drop, refl, ap, sym, ◌∙◌, subst, ⊎_elim, arith}
+use Rattle.std.proofs.Common.{◌≡◌, ℕ, ◌+◌, ◌-◌, ◌<◌, ◌≤◌, Bool, true, false, ◌&&◌, ◌||◌, List, [], ◌∷◌, ◌++◌, length, get_or, set, eqb, take, drop, refl, ap, sym, ◌∙◌, ⊎_elim, arith}
 use Rattle.std.specs.Prelude.{map}
 use Rattle.std.proofs.lemmas.List.{drop_all, take_all, map_more, get_or-set_same, get_or-set_other}
 use Rattle.std.proofs.lemmas.Bool.{cases_eq, eq-eqb, ne_eqb}
-use Rattle.rbbi_model.specs.Spelling.{Tree, Leaf, Empty, Never, Then, Either, Repeat, sequence_of, choice_of}
+use Rattle.rbbi_model.specs.Spelling.{Tree, Empty, Never, Either, sequence_of, choice_of}
 use Rattle.rbbi_model.specs.Rules.{leaf_count}
 use Rattle.rbbi_positions.specs.Trees.{spells_empty, begins, ends, leads, goes}
 use Rattle.rbbi_positions.proofs.Empties.{empty_sequence, next_part}

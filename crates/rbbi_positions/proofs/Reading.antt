@@ -1,14 +1,12 @@
 -- The categories that positions read.
-use Rattle.std.proofs.Common.{◌≡◌, ℕ, zero, suc, ◌+◌, ◌*◌, ◌<◌, ◌≤◌, ◌↔◌, Some, List, [], ◌∷◌, ◌++◌, length, get_or, refl, ap, sym, ◌∙◌, subst, ⊎_elim, arith, length-append}
+use Rattle.std.proofs.Common.{◌≡◌, ℕ, zero, suc, ◌*◌, ◌<◌, ◌≤◌, ◌↔◌, Some, List, [], ◌∷◌, length, get_or, refl, ap, sym, ◌∙◌, subst, ⊎_elim, arith, length-append}
 use Rattle.std.specs.Prelude.{map, flat_map, sum_by, slice_get, IsTrue}
-use Rattle.std.specs.List.{AllByRecursion}
 use Rattle.std.proofs.lemmas.Bool.{cases_eq}
 use Rattle.std.proofs.lemmas.List.Sums.{sum_by-cons}
-use Rattle.rbbi_model.specs.Words.{IsCodePoint}
-use Rattle.rbbi_model.specs.Ranges.{Range, Has}
+use Rattle.rbbi_model.specs.Ranges.{Has}
 use Rattle.rbbi_model.specs.Rules.{leaves_of}
 use Rattle.rbbi_model.specs.LeafSets.{all_sets, Reads}
-use Rattle.rbbi_model.specs.Tables.{CategoryRange, category_of}
+use Rattle.rbbi_model.specs.Tables.{CategoryRange}
 use Rattle.rbbi_model.specs.Compiled.{AreClasses, IsRead, AreAlike}
 use Rattle.rbbi_resolve.specs.declared.rules.Rule.{Rule}
 use Rattle.rbbi_resolve.specs.RuleTrees.{set_at}

@@ -1,5 +1,5 @@
 -- Rules one after another: their leaves, and what some rule of the first ones passes.
-use Rattle.std.proofs.Common.{◌≡◌, ℕ, zero, suc, ◌+◌, ◌-◌, ◌<◌, ◌≤◌, Bool, true, false, ◌||◌, Option, None, Some, List, [], ◌∷◌, ◌++◌, length, take, replicate, get_or, ⊎_elim, append_assoc, refl, ap, sym, ◌∙◌, subst, arith, length-append}
+use Rattle.std.proofs.Common.{◌≡◌, ℕ, zero, suc, ◌+◌, ◌-◌, ◌<◌, ◌≤◌, Bool, ◌||◌, Option, None, Some, List, [], ◌∷◌, ◌++◌, length, take, replicate, get_or, ⊎_elim, append_assoc, refl, ap, sym, ◌∙◌, subst, arith, length-append}
 use Rattle.std.specs.Prelude.{map, flat_map, sum_by, slice_get}
 use Rattle.std.specs.Option.{option_map, option_map_or}
 use Rattle.std.proofs.lemmas.List.{take_all, length-map, append-nil, get_or_append_left, get_or-append_right, get_or-replicate, length-replicate}
@@ -9,7 +9,7 @@ use Rattle.rbbi_model.specs.Ranges.{Range}
 use Rattle.rbbi_model.specs.Spelling as spelling
 use Rattle.rbbi_model.specs.Rules as model
 use Rattle.rbbi_model.specs.Rules.{leaf_count, leaves_of}
-use Rattle.rbbi_model.specs.LeafSets.{sets_of, sets_of_rule, all_sets, first_position}
+use Rattle.rbbi_model.specs.LeafSets.{sets_of, sets_of_rule, first_position}
 use Rattle.rbbi_resolve.specs.declared.rules.Rule.{Rule}
 use Rattle.rbbi_resolve.specs.declared.rules.Tree.{Tree}
 use Rattle.rbbi_resolve.specs.RuleTrees.{set_at, tree_of}

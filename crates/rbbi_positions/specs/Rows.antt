@@ -1,5 +1,5 @@
 -- Rows of bits, and matrices of them.
-use Rattle.std.specs.Prelude.{◌≡◌, ℕ, ◌+◌, ◌*◌, ◌/◌, ◌%◌, ◌<◌, Bool, false, ◌||◌, List, length, slice_index, slice_index_or}
+use Rattle.std.specs.Prelude.{◌≡◌, ℕ, ◌/◌, ◌%◌, ◌<◌, Bool, false, List, length, slice_index, slice_index_or}
 use Rattle.rbbi_model.specs.Places.{has_bit}
 
 -- the bit of the position in the row

@@ -1,5 +1,5 @@
 -- What is computed of rules: whether some rule passes a test at the position of its first leaf, and the tests of positions.
-use Rattle.std.specs.Prelude.{◌≡◌, ℕ, ◌+◌, ◌<◌, ◌≤◌, Bool, true, false, ◌||◌, List, [], ◌∷◌, length, slice_index, slice_index_or, IsTrue, ◌↔◌}
+use Rattle.std.specs.Prelude.{◌≡◌, ℕ, ◌+◌, ◌<◌, ◌≤◌, Bool, false, ◌||◌, List, [], ◌∷◌, length, slice_index, IsTrue, ◌↔◌}
 use Rattle.std.specs.Option.{option_map_or}
 use Rattle.rbbi_model.specs.Words.{IsCodePoint}
 use Rattle.rbbi_model.specs.Ranges.{Range, Has}

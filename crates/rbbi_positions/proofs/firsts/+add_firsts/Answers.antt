@@ -1,7 +1,4 @@
-use Rattle.std.proofs.Common.{rules, ◌≡◌, ◌≤◌, ℕ, ◌+◌, ◌||◌, List, [], drop, sym, ap, ◌∙◌, refl, arith}
-use Rattle.std.specs.Prelude.{map}
-use Rattle.rbbi_model.specs.Ranges.{Range}
-use Rattle.rbbi_model.specs.Spelling.{sequence_of, choice_of}
+use Rattle.std.proofs.Common.{rules, ◌||◌, [], sym, ap, ◌∙◌, refl, arith}
 use Rattle.rbbi_model.specs.Rules.{leaf_count}
 use Rattle.rbbi_resolve.specs.RuleTrees.{tree_of}
 use Rattle.rbbi_resolve.specs.declared.rules.Tree.TheViews.{the_lemmas}

@@ -1,5 +1,4 @@
-use Rattle.std.proofs.Common.{rules, ◌≡◌, ℕ, Bool, ◌&&◌, ◌||◌, List, length, sym, ap, ◌∙◌}
-use Rattle.rbbi_model.specs.Ranges.{Range}
+use Rattle.std.proofs.Common.{rules, ◌≡◌, Bool, ◌&&◌, ◌||◌, length, sym, ap, ◌∙◌}
 use Rattle.rbbi_resolve.specs.RuleTrees.{tree_of}
 use Rattle.rbbi_positions.specs.Rows.{row_bit}
 use Rattle.rbbi_positions.specs.Trees.{spells_empty, begins}

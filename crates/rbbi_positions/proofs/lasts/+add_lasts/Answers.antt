@@ -1,13 +1,13 @@
-use Rattle.std.proofs.Common.{rules, ◌≡◌, ◌≤◌, ◌<◌, ◌-◌, ℕ, ◌+◌, ◌||◌, false, List, [], drop, take, length, get_or, sym, ap, ◌∙◌, refl, arith}
+use Rattle.std.proofs.Common.{rules, ◌≡◌, ◌≤◌, ◌-◌, ◌||◌, false, List, [], length, get_or, sym, ap, ◌∙◌, refl, arith}
 use Rattle.std.specs.Prelude.{map}
 use Rattle.rbbi_model.specs.Ranges.{Range}
-use Rattle.rbbi_model.specs.Spelling.{sequence_of, choice_of}
+use Rattle.rbbi_model.specs.Spelling.{sequence_of}
 use Rattle.rbbi_model.specs.Rules.{leaf_count}
 use Rattle.rbbi_resolve.specs.RuleTrees.{tree_of}
 use Rattle.rbbi_resolve.specs.declared.rules.Tree.TheViews.{the_lemmas}
 use Rattle.rbbi_positions.specs.Trees.{ends}
 use Rattle.rbbi_positions.proofs.Folds.{of_repeat, tree_of_leaf, tree_of_sequence}
-use Rattle.rbbi_positions.proofs.Parts.{count_choice, count_up_to, ends_on, ends_end, choice_on, ends_of, sequence_done, choice_done, whole, none_left, flag_set, or_none}
+use Rattle.rbbi_positions.proofs.Parts.{count_choice, count_up_to, ends_on, ends_end, choice_on, ends_of, choice_done, whole, none_left, flag_set, or_none}
 use Rattle.rbbi_positions.proofs.lasts.+add_lasts.Goals as goal
 
 pub bounds-flags-first : goal.bounds-flags-first

@@ -1,4 +1,4 @@
-use Rattle.std.proofs.Common.{◌≡◌, ◌<◌, ◌≤◌, Some, List, length, subst, ap, sym, ◌∙◌, arith, length-set}
+use Rattle.std.proofs.Common.{◌≡◌, ◌<◌, Some, List, length, subst, ap, sym, ◌∙◌, arith, length-set}
 use Rattle.std.specs.Prelude.{slice_get}
 use Rattle.rbbi_model.specs.Tables.{CategoryRange}
 use Rattle.rbbi_model.specs.ValidTables.{IsWithin}

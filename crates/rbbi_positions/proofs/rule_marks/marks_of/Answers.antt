@@ -1,4 +1,4 @@
-use Rattle.std.proofs.Common.{◌≡◌, ◌∷◌, ◌++◌, true, false, length, sym, ap, ◌∙◌, subst, arith}
+use Rattle.std.proofs.Common.{true, false, sym, ◌∙◌, subst, arith}
 use Rattle.rbbi_resolve.specs.RuleLists.{rules_of}
 use Rattle.rbbi_positions.specs.PositionMarks.{AreRuleMarks}
 use Rattle.rbbi_positions.proofs.MarkLists.{slashes_next, marks_more}

@@ -1,8 +1,5 @@
-use Rattle.std.proofs.Common.{◌≡◌, List, [], arith}
-use Rattle.rbbi_model.specs.Ranges.{Range}
-use Rattle.rbbi_model.specs.Rules.{leaves_of}
-use Rattle.rbbi_resolve.specs.RuleLists.{rule_of}
-use Rattle.rbbi_positions.proofs.RuleFacts.{leaves_none, leaves_some, some_next, first_within, first_next, all_taken}
+use Rattle.std.proofs.Common.{[], arith}
+use Rattle.rbbi_positions.proofs.RuleFacts.{leaves_none, leaves_some}
 use Rattle.rbbi_positions.proofs.rules.count_of_rule.Goals as goal
 
 pub count-requires-in-Some-2 : goal.count-requires-in-Some-2

@@ -1,20 +1,9 @@
-use Rattle.std.proofs.Common.{◌≡◌, ℕ, ◌+◌, ◌-◌, ◌*◌, ◌<◌, ◌≤◌, ◌||◌, Bool, false, List, [], ◌++◌, length, drop, take, replicate, get_or, refl, sym, ap, ◌∙◌, subst, arith}
-use Rattle.std.specs.Prelude.{sum_by}
+use Rattle.std.proofs.Common.{◌≡◌, ◌||◌, false, [], length, drop, get_or, ap, ◌∙◌, arith}
 use Rattle.std.specs.Vec.{with_items}
 use Rattle.std.proofs.lemmas.List.{take_at}
-use Rattle.rbbi_model.specs.Ranges.{Range}
-use Rattle.rbbi_model.specs.Rules.{leaf_count, leaves_of}
-use Rattle.rbbi_model.specs.LeafSets.{first_position}
-use Rattle.rbbi_resolve.specs.RuleTrees.{tree_of}
-use Rattle.rbbi_resolve.specs.RuleLists.{rule_of, rules_of}
-use Rattle.rbbi_positions.specs.Rows.{row_bit}
-use Rattle.rbbi_positions.specs.PositionMarks.{in_row}
-use Rattle.rbbi_positions.specs.Trees.{begins, ends, goes}
-use Rattle.rbbi_positions.specs.RuleTests.{some_rule, rule_begins, front_ends, rule_ends, rule_goes, AreOwners}
-use Rattle.rbbi_positions.proofs.BitRows.{blank_row}
-use Rattle.rbbi_positions.proofs.Parts.{or_assoc}
-use Rattle.rbbi_positions.proofs.RowWrites.{row_within, rows_within}
-use Rattle.rbbi_positions.proofs.RuleFacts.{leaves_none, leaves_some, of_none, of_some, first_next, first_within, some_next}
+use Rattle.rbbi_resolve.specs.RuleLists.{rule_of}
+use Rattle.rbbi_positions.specs.RuleTests.{rule_ends}
+use Rattle.rbbi_positions.proofs.RuleFacts.{first_next, first_within, some_next}
 use Rattle.rbbi_positions.proofs.rules.lasts_of.Goals as goal
 
 pub add_rule_lasts-requires-clause-within : goal.add_rule_lasts-requires-clause-within

@@ -1,9 +1,7 @@
-use Rattle.std.proofs.Common.{◌≡◌, ℕ, ◌+◌, ◌*◌, ◌<◌, ◌≤◌, false, List, ◌++◌, length, take, replicate, get_or}
+use Rattle.std.proofs.Common.{◌≡◌, ℕ, false, length, take, get_or}
 use Rattle.rbbi_model.specs.LeafSets.{first_position}
 use Rattle.rbbi_resolve.specs.RuleLists.{rules_of}
-use Rattle.rbbi_positions.specs.Rows.{row_bit}
-use Rattle.rbbi_positions.specs.PositionMarks.{in_row}
-use Rattle.rbbi_positions.specs.RuleTests.{some_rule, rule_begins, front_ends, rule_ends, rule_goes, AreOwners}
+use Rattle.rbbi_positions.specs.RuleTests.{some_rule, rule_ends}
 use Rattle.rbbi_positions.proofs.rules.lasts_of.Given as goal
 
 abbrev pub invariant-loop-number : goal.invariant-loop-number
