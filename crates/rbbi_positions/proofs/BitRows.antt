@@ -48,7 +48,8 @@ has_bit_or a b k =
 
 -- a row whose words are those of two others joined
 pub united : (row these those : List ℕ) (i : ℕ) → length row ≤ i → length these ≤ i → length those ≤ i →
-    ((k : ℕ) → k < i → get_or row k 0 ≡ bit_or (get_or these k 0) (get_or those k 0)) → (position : ℕ) → row_bit row position ≡ (row_bit these position || row_bit those position)
+    ((k : ℕ) → k < i → get_or row k 0 ≡ bit_or (get_or these k 0) (get_or those k 0)) → (position : ℕ) →
+    row_bit row position ≡ (row_bit these position || row_bit those position)
 united row these those i a b d each position =
     let k : ℕ = position / 64 in
     let t : ℕ = position % 64 in

@@ -35,9 +35,11 @@ pub record IsStart (ranges : List CategoryRange) (category code : ℕ) : Type 0 
 
 -- the categories of the first ranges have starts as code points
 abbrev pub HaveStarts : List CategoryRange → List ℕ → ℕ → Type 0
-HaveStarts ranges codes i = (j : ℕ) (range : CategoryRange) → j < i → slice_get ranges j ≡ Some range → IsStart ranges range.category (get_or codes range.category 0)
+HaveStarts ranges codes i = (j : ℕ) (range : CategoryRange) → j < i → slice_get ranges j ≡ Some range →
+    IsStart ranges range.category (get_or codes range.category 0)
 
-pub starts_more : (ranges : List CategoryRange) (codes : List ℕ) (i : ℕ) (range : CategoryRange) → slice_get ranges i ≡ Some range → range.category < length codes → HaveStarts ranges codes i →
+pub starts_more : (ranges : List CategoryRange) (codes : List ℕ) (i : ℕ) (range : CategoryRange) → slice_get ranges i ≡ Some range →
+    range.category < length codes → HaveStarts ranges codes i →
     HaveStarts ranges (set codes range.category range.start) (i + 1)
 starts_more ranges codes i range is short old j other below is' =
     ⊎_elim
@@ -67,12 +69,15 @@ starts_more ranges codes i range is short old j other below is' =
         ap (λ (r : CategoryRange). r.category) same
 
 -- a category that some code point has is some range's
-range_from : (before : ℕ) (ranges : List CategoryRange) (c category : ℕ) → category_from before ranges c ≡ category → before ≢ category → (place : ℕ) × (range : CategoryRange) × (slice_get ranges place ≡ Some range) × (range.category ≡ category)
+range_from : (before : ℕ) (ranges : List CategoryRange) (c category : ℕ) → category_from before ranges c ≡ category → before ≢ category →
+    (place : ℕ) × (range : CategoryRange) × (slice_get ranges place ≡ Some range) × (range.category ≡ category)
 range_from before [] c category e other = absurd (other e)
 range_from before (range ∷ ranges) c category e other = go (λ h apart. range_from range.category ranges c category h apart) (nat_le range.start c) e
   where
-    go : (category_from range.category ranges c ≡ category → range.category ≢ category → (place : ℕ) × (found : CategoryRange) × (slice_get ranges place ≡ Some found) × (found.category ≡ category)) →
-        (test : Bool) → cond test (category_from range.category ranges c) before ≡ category → (place : ℕ) × (found : CategoryRange) × (slice_get (range ∷ ranges) place ≡ Some found) × (found.category ≡ category)
+    go : (category_from range.category ranges c ≡ category → range.category ≢ category →
+        (place : ℕ) × (found : CategoryRange) × (slice_get ranges place ≡ Some found) × (found.category ≡ category)) →
+        (test : Bool) → cond test (category_from range.category ranges c) before ≡ category →
+        (place : ℕ) × (found : CategoryRange) × (slice_get (range ∷ ranges) place ≡ Some found) × (found.category ≡ category)
     go later false e = absurd (other e)
     go later true e =
         ⊎_elim (λ same. (0, range, refl, same))
@@ -80,7 +85,8 @@ range_from before (range ∷ ranges) c category e other = go (λ h apart. range_
         (cases_eq range.category category)
 
 -- starts rise
-rise : (range : CategoryRange) (ranges : List CategoryRange) (place : ℕ) (other : CategoryRange) → AreApart (range ∷ ranges) → slice_get ranges place ≡ Some other → range.start < other.start
+rise : (range : CategoryRange) (ranges : List CategoryRange) (place : ℕ) (other : CategoryRange) → AreApart (range ∷ ranges) →
+    slice_get ranges place ≡ Some other → range.start < other.start
 rise range [] place other apart is = absurd (cc)
 rise range (next ∷ ranges) zero other apart is = (let same : next ≡ other = cc in omega (arith, apart.0, ap (λ (r : CategoryRange). r.start) same))
 rise range (next ∷ ranges) (suc place) other apart is = omega (arith, apart.0, rise next ranges place other apart.2 is)
@@ -89,29 +95,36 @@ apart_rest : (range : CategoryRange) (ranges : List CategoryRange) → AreApart 
 apart_rest range [] apart = tt
 apart_rest range (next ∷ ranges) apart = apart.2
 
-taken : (before : ℕ) (range : CategoryRange) (ranges : List CategoryRange) (c : ℕ) → range.start ≤ c → category_from before (range ∷ ranges) c ≡ category_from range.category ranges c
+taken : (before : ℕ) (range : CategoryRange) (ranges : List CategoryRange) (c : ℕ) → range.start ≤ c →
+    category_from before (range ∷ ranges) c ≡ category_from range.category ranges c
 taken before range ranges c past = ap (λ test. cond test (category_from range.category ranges c) before) (le-leb range.start c past)
 
 -- where a range starts its category begins
-start_from : (before : ℕ) (ranges : List CategoryRange) (place : ℕ) (range : CategoryRange) → AreApart ranges → slice_get ranges place ≡ Some range → category_from before ranges range.start ≡ range.category
+start_from : (before : ℕ) (ranges : List CategoryRange) (place : ℕ) (range : CategoryRange) → AreApart ranges → slice_get ranges place ≡ Some range →
+    category_from before ranges range.start ≡ range.category
 start_from before [] place range apart is = absurd (cc)
 start_from before (first ∷ ranges) (suc place) range apart is =
-    taken before first ranges range.start (omega (arith, rise first ranges place range apart is)) ∙ start_from first.category ranges place range (apart_rest first ranges apart) is
+    taken before first ranges range.start (omega (arith, rise first ranges place range apart is))
+    ∙ start_from first.category ranges place range (apart_rest first ranges apart) is
 start_from before (first ∷ []) zero range apart is =
     let same : first ≡ range = cc in
     taken before first [] range.start (omega (arith, ap (λ (r : CategoryRange). r.start) same)) ∙ ap (λ (r : CategoryRange). r.category) same
 start_from before (first ∷ next ∷ ranges) zero range apart is =
     let same : first ≡ range = cc in
     taken before first (next ∷ ranges) range.start (omega (arith, ap (λ (r : CategoryRange). r.start) same))
-    ∙ ap (λ test. cond test (category_from next.category ranges range.start) first.category) (lt-leb next.start range.start (omega (arith, apart.0, ap (λ (r : CategoryRange). r.start) same)))
+    ∙ ap (λ test. cond test (category_from next.category ranges range.start) first.category)
+    (lt-leb next.start range.start (omega (arith, apart.0, ap (λ (r : CategoryRange). r.start) same)))
     ∙ ap (λ (r : CategoryRange). r.category) same
 
-pub starts_are_codes : (categories : ℕ) (ranges : List CategoryRange) (codes : List ℕ) (i : ℕ) → AreValidRanges categories ranges → HasEachCategory categories ranges → length codes ≡ categories → length ranges ≤ i →
+pub starts_are_codes : (categories : ℕ) (ranges : List CategoryRange) (codes : List ℕ) (i : ℕ) → AreValidRanges categories ranges →
+    HasEachCategory categories ranges → length codes ≡ categories → length ranges ≤ i →
     HaveStarts ranges codes i → AreCodesOf categories ranges codes
 starts_are_codes categories ranges codes i valid used many past starts = record {
   many = many;
-  code = λ category some few. let h = start category some few in omega (arith, (all_get (IsWithin categories) ranges h.place h.range h.is valid.within).0, h.start_is);
-  each = λ category some few. (let h = start category some few in ap (λ (c : ℕ). category_of ranges c) (sym h.start_is) ∙ start_from 0 ranges h.place h.range valid.apart h.is ∙ h.category_is);
+  code = λ category some few. let h = start category some few in
+      omega (arith, (all_get (IsWithin categories) ranges h.place h.range h.is valid.within).0, h.start_is);
+  each = λ category some few. (let h = start category some few in ap (λ (c : ℕ). category_of ranges c) (sym h.start_is)
+      ∙ start_from 0 ranges h.place h.range valid.apart h.is ∙ h.category_is);
 }
   where
     below : {X : Type 0} (xs : List X) (n : ℕ) (x : X) → slice_get xs n ≡ Some x → n < length xs

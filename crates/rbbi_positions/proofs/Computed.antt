@@ -60,21 +60,27 @@ begins_is (Then front rest) first position lawful =
     let left = begins_is front first position lawful.0 in
     let right = begins_is rest (first + leaf_count front) position lawful.1 in
     let empty = empties_spell front first in
-    let both = both_begins (SpellsPositions front first) (SpellsPositions rest (first + leaf_count front)) (some_spelled front first lawful.0) (some_spelled rest (first + leaf_count front) lawful.1) position in (
+    let both = both_begins (SpellsPositions front first) (SpellsPositions rest (first + leaf_count front)) (some_spelled front first lawful.0)
+    (some_spelled rest (first + leaf_count front) lawful.1) position in (
       λ e. both.1 (elim (or_parts (begins front first position) (spells_empty front && begins rest (first + leaf_count front) position) e) [
         | inl a ↦ inl (left.0 a)
         | inr b ↦ (let parts = and_parts (spells_empty front) (begins rest (first + leaf_count front) position) b in inr (empty.0 parts.0, right.0 parts.1))
       ]),
       λ h. elim (both.0 h) [
         | inl a ↦ or_first (begins front first position) (spells_empty front && begins rest (first + leaf_count front) position) (left.1 a)
-        | inr b ↦ or_second (begins front first position) (spells_empty front && begins rest (first + leaf_count front) position) (and_both (spells_empty front) (begins rest (first + leaf_count front) position) (empty.1 b.0) (right.1 b.1))
+        | inr b ↦ or_second (begins front first position) (spells_empty front && begins rest (first + leaf_count front) position)
+            (and_both (spells_empty front) (begins rest (first + leaf_count front) position) (empty.1 b.0) (right.1 b.1))
       ],
     )
 begins_is (Either front rest) first position lawful =
     let left = begins_is front first position lawful.0 in
     let right = begins_is rest (first + leaf_count front) position lawful.1 in
     let either = either_begins (SpellsPositions front first) (SpellsPositions rest (first + leaf_count front)) position in (
-      λ e. either.1 (elim (or_parts (begins front first position) (begins rest (first + leaf_count front) position) e) [ inl a ↦ inl (left.0 a) | inr b ↦ inr (right.0 b) ]),
+      λ e. either.1 (elim (or_parts (begins front first position) (begins rest (first + leaf_count front) position) e) [
+        | inl a ↦ inl (left.0 a)
+        | inr b ↦
+            inr (right.0 b)
+      ]),
       λ h. elim (either.0 h) [
         | inl a ↦ or_first (begins front first position) (begins rest (first + leaf_count front) position) (left.1 a)
         | inr b ↦ or_second (begins front first position) (begins rest (first + leaf_count front) position) (right.1 b)
@@ -96,21 +102,27 @@ ends_is (Then front rest) first position lawful =
     let left = ends_is front first position lawful.0 in
     let right = ends_is rest (first + leaf_count front) position lawful.1 in
     let empty = empties_spell rest (first + leaf_count front) in
-    let both = both_ends (SpellsPositions front first) (SpellsPositions rest (first + leaf_count front)) (some_spelled front first lawful.0) (some_spelled rest (first + leaf_count front) lawful.1) position in (
+    let both = both_ends (SpellsPositions front first) (SpellsPositions rest (first + leaf_count front)) (some_spelled front first lawful.0)
+    (some_spelled rest (first + leaf_count front) lawful.1) position in (
       λ e. both.1 (elim (or_parts (ends rest (first + leaf_count front) position) (spells_empty rest && ends front first position) e) [
         | inl a ↦ inl (right.0 a)
         | inr b ↦ (let parts = and_parts (spells_empty rest) (ends front first position) b in inr (empty.0 parts.0, left.0 parts.1))
       ]),
       λ h. elim (both.0 h) [
         | inl a ↦ or_first (ends rest (first + leaf_count front) position) (spells_empty rest && ends front first position) (right.1 a)
-        | inr b ↦ or_second (ends rest (first + leaf_count front) position) (spells_empty rest && ends front first position) (and_both (spells_empty rest) (ends front first position) (empty.1 b.0) (left.1 b.1))
+        | inr b ↦ or_second (ends rest (first + leaf_count front) position) (spells_empty rest && ends front first position)
+            (and_both (spells_empty rest) (ends front first position) (empty.1 b.0) (left.1 b.1))
       ],
     )
 ends_is (Either front rest) first position lawful =
     let left = ends_is front first position lawful.0 in
     let right = ends_is rest (first + leaf_count front) position lawful.1 in
     let either = either_ends (SpellsPositions front first) (SpellsPositions rest (first + leaf_count front)) position in (
-      λ e. either.1 (elim (or_parts (ends front first position) (ends rest (first + leaf_count front) position) e) [ inl a ↦ inl (left.0 a) | inr b ↦ inr (right.0 b) ]),
+      λ e. either.1 (elim (or_parts (ends front first position) (ends rest (first + leaf_count front) position) e) [
+        | inl a ↦ inl (left.0 a)
+        | inr b ↦
+            inr (right.0 b)
+      ]),
       λ h. elim (either.0 h) [
         | inl a ↦ or_first (ends front first position) (ends rest (first + leaf_count front) position) (left.1 a)
         | inr b ↦ or_second (ends front first position) (ends rest (first + leaf_count front) position) (right.1 b)
@@ -129,7 +141,8 @@ GoesOn tree first position next behind = Neighbours (SpellsPositions tree first)
 round : (part : Tree) (first position next : ℕ) (behind : Bool) →
     (goes part first position next (begins part first next || behind) ≡ true) ↔ GoesOn part first position next (begins part first next || behind) →
     (begins part first next ≡ true) ↔ Begins (SpellsPositions part first) next → (repetition : Repetition) →
-    Neighbours (SpellsPositions (Repeat repetition part) first) position next ↔ (Neighbours (SpellsPositions part first) position next ⊎ (Ends (SpellsPositions part first) position × Begins (SpellsPositions part first) next)) →
+    Neighbours (SpellsPositions (Repeat repetition part) first) position
+    next ↔ (Neighbours (SpellsPositions part first) position next ⊎ (Ends (SpellsPositions part first) position × Begins (SpellsPositions part first) next)) →
     (goes part first position next (begins part first next || behind) ≡ true) ↔ GoesOn (Repeat repetition part) first position next behind
 round part first position next behind inner begin repetition near =
     let end = repeat_ends repetition (SpellsPositions part first) position in (
@@ -143,7 +156,8 @@ round part first position next behind inner begin repetition near =
       ],
     )
 
-pub goes_is : (tree : Tree) (first position next : ℕ) (behind : Bool) → IsLawfulTree tree → (goes tree first position next behind ≡ true) ↔ GoesOn tree first position next behind
+pub goes_is : (tree : Tree) (first position next : ℕ) (behind : Bool) → IsLawfulTree tree →
+    (goes tree first position next behind ≡ true) ↔ GoesOn tree first position next behind
 goes_is (Leaf set) first position next behind lawful = (
   λ e. (let parts = and_parts (eqb position first) behind e in inr (([], ap (λ (n : ℕ). n ∷ []) (eqb-true position first parts.0)), parts.1)),
   λ h. elim h [
@@ -160,8 +174,10 @@ goes_is (Then front rest) first position next behind lawful =
     let right = goes_is rest second position next behind lawful.1 in
     let empty = empties_spell rest second in
     let begin = begins_is rest second next lawful.1 in
-    let ended = both_ends (SpellsPositions front first) (SpellsPositions rest second) (some_spelled front first lawful.0) (some_spelled rest second lawful.1) position in
-    let both = both_neighbours (SpellsPositions front first) (SpellsPositions rest second) (some_spelled front first lawful.0) (some_spelled rest second lawful.1) position next in (
+    let ended = both_ends (SpellsPositions front first) (SpellsPositions rest second) (some_spelled front first lawful.0) (some_spelled rest second lawful.1)
+    position in
+    let both = both_neighbours (SpellsPositions front first) (SpellsPositions rest second) (some_spelled front first lawful.0)
+    (some_spelled rest second lawful.1) position next in (
       λ e. elim (or_parts (goes front first position next between) (goes rest second position next behind) e) [
         | inl a ↦ elim (left.0 a) [
           | inl h ↦ inl (both.1 (inl h))
@@ -177,7 +193,8 @@ goes_is (Then front rest) first position next behind lawful =
           | inl a ↦ or_first (goes front first position next between) (goes rest second position next behind) (left.1 (inl a))
           | inr more ↦ elim more [
             | inl b ↦ or_second (goes front first position next between) (goes rest second position next behind) (right.1 (inl b))
-            | inr (end, b) ↦ or_first (goes front first position next between) (goes rest second position next behind) (left.1 (inr (end, or_first (begins rest second next) (spells_empty rest && behind) (begin.1 b))))
+            | inr (end, b) ↦ or_first (goes front first position next between) (goes rest second position next behind)
+                (left.1 (inr (end, or_first (begins rest second next) (spells_empty rest && behind) (begin.1 b))))
           ]
         ]
         | inr (end, on) ↦ elim (ended.0 end) [
@@ -210,10 +227,12 @@ goes_is (Either front rest) first position next behind lawful =
     )
 goes_is (Repeat Star part) first position next behind lawful =
     let Part : List ℕ → Type 0 = SpellsPositions part first in
-    round part first position next behind (goes_is part first position next (begins part first next || behind) lawful) (begins_is part first next lawful) Star (loop_neighbours Star star_loops Part position next)
+    round part first position next behind (goes_is part first position next (begins part first next || behind) lawful) (begins_is part first next lawful) Star
+    (loop_neighbours Star star_loops Part position next)
 goes_is (Repeat Plus part) first position next behind lawful =
     let Part : List ℕ → Type 0 = SpellsPositions part first in
-    round part first position next behind (goes_is part first position next (begins part first next || behind) lawful) (begins_is part first next lawful) Plus (loop_neighbours Plus plus_loops Part position next)
+    round part first position next behind (goes_is part first position next (begins part first next || behind) lawful) (begins_is part first next lawful) Plus
+    (loop_neighbours Plus plus_loops Part position next)
 goes_is (Repeat Quest part) first position next behind lawful =
     let inner = goes_is part first position next behind lawful in
     let near = quest_neighbours (SpellsPositions part first) position next in

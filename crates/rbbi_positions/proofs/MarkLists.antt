@@ -27,19 +27,23 @@ some_mapped f (Some x) = refl
 
 module _ (list : RuleList) (number : ℕ) (rule : Rule) (is : slice_get list.rules number ≡ Some rule) where
   -- how many rules look ahead, with this one
-  pub slashes_next : (test : Bool) → is_some rule.rest ≡ test → length (look_aheads (take (number + 1) (rules_of list))) ≡ length (look_aheads (take number (rules_of list))) + cond test 1 0
+  pub slashes_next : (test : Bool) → is_some rule.rest ≡ test →
+      length (look_aheads (take (number + 1) (rules_of list))) ≡ length (look_aheads (take number (rules_of list))) + cond test 1 0
   slashes_next test some =
       let looks : model.Rule → Bool = λ r. is_some r.rest in
       let this : model.Rule = rule_of list.sets rule in
-      let one : length (filter looks (this ∷ [])) ≡ cond test 1 0 = ap (λ (b : Bool). length (cond b (this ∷ []) [])) (some_mapped (tree_of list.sets) rule.rest ∙ some) ∙ each test this in
+      let one : length (filter looks (this ∷ [])) ≡ cond test 1 0 = ap (λ (b : Bool). length (cond b (this ∷ []) [])) (some_mapped (tree_of list.sets) rule.rest
+      ∙ some) ∙ each test this in
       ap (λ l. length (look_aheads l)) (taken list number rule is) ∙ ap length (filter-append looks (take number (rules_of list)) (this ∷ []))
-      ∙ length-append (filter looks (take number (rules_of list))) (filter looks (this ∷ [])) ∙ ap (λ n. length (look_aheads (take number (rules_of list))) + n) one
+      ∙ length-append (filter looks (take number (rules_of list))) (filter looks (this ∷ []))
+      ∙ ap (λ n. length (look_aheads (take number (rules_of list))) + n) one
     where
       each : (test : Bool) (r : model.Rule) → length (cond test (r ∷ []) []) ≡ cond test 1 0
       each true r = refl
       each false r = refl
 
-  pub marks_more : (marks : List RuleMark) (mark : RuleMark) (slashes : ℕ) → length marks ≡ number → slashes ≡ length (look_aheads (take number (rules_of list))) → mark.chained_into ≡ rule.chained_into → mark.tag ≡ rule.tag →
+  pub marks_more : (marks : List RuleMark) (mark : RuleMark) (slashes : ℕ) → length marks ≡ number →
+      slashes ≡ length (look_aheads (take number (rules_of list))) → mark.chained_into ≡ rule.chained_into → mark.tag ≡ rule.tag →
       mark.slash ≡ option_map (λ _. slashes) rule.rest → AreRuleMarks (rules_of list) marks → AreRuleMarks (rules_of list) (marks ++ mark ∷ [])
   marks_more marks mark slashes many at chained tag slash old n other found is_rule get =
       ⊎_elim (λ before. old n other found is_rule before)

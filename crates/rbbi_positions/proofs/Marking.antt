@@ -21,8 +21,10 @@ empty_word : (tree : Tree) → spells_empty tree ≡ true → Spells tree []
 empty_word (Leaf set) e = absurd (cc)
 empty_word Empty e = refl
 empty_word Never e = absurd (cc)
-empty_word (Then front rest) e = (let both = and_parts (spells_empty front) (spells_empty rest) e in ([], [], empty_word front both.0, empty_word rest both.1, refl))
-empty_word (Either front rest) e = elim (or_parts (spells_empty front) (spells_empty rest) e) [ inl h ↦ inl (empty_word front h) | inr h ↦ inr (empty_word rest h) ]
+empty_word (Then front rest) e =
+    (let both = and_parts (spells_empty front) (spells_empty rest) e in ([], [], empty_word front both.0, empty_word rest both.1, refl))
+empty_word (Either front rest) e =
+    elim (or_parts (spells_empty front) (spells_empty rest) e) [ inl h ↦ inl (empty_word front h) | inr h ↦ inr (empty_word rest h) ]
 empty_word (Repeat Star part) e = ([], tt, tt, refl)
 empty_word (Repeat Plus part) e = ([] ∷ [], (λ same. absurd (cc)), (empty_word part e, tt), refl)
 empty_word (Repeat Quest part) e = ([], omega arith, tt, refl)
@@ -43,7 +45,8 @@ begins_at : (front : Tree) (rest : Option Tree) (first position : ℕ) → IsLaw
 begins_at front None first position lawful rest_lawful none = begins_is front first position lawful
 begins_at front (Some rest) first position lawful rest_lawful none =
     let same : begins front first position ≡ begins (Then front rest) first position =
-    sym (ap (λ x. begins front first position || (x && begins rest (first + leaf_count front) position)) (not_empty front (none (search rules))) ∙ or_none (begins front first position)) in
+    sym (ap (λ x. begins front first position || (x && begins rest (first + leaf_count front) position)) (not_empty front (none (search rules)))
+    ∙ or_none (begins front first position)) in
     alike (begins front first position) (begins (Then front rest) first position) same (begins_is (Then front rest) first position (lawful, rest_lawful))
 
 ends_at : (front : Tree) (rest : Option Tree) (first position : ℕ) → IsLawfulTree front → IfSome rest IsLawfulTree → IfSome rest (λ rest. ¬ Spells rest []) →
@@ -55,22 +58,29 @@ ends_at front (Some rest) first position lawful rest_lawful none =
     sym (ap (λ x. ends rest second position || (x && ends front first position)) (not_empty rest none) ∙ or_none (ends rest second position)) in
     alike (ends rest second position) (ends (Then front rest) first position) same (ends_is (Then front rest) first position (lawful, rest_lawful))
 
-inside : (tree : Tree) (first position next : ℕ) → IsLawfulTree tree → (goes tree first position next false ≡ true) ↔ Neighbours (SpellsPositions tree first) position next
+inside : (tree : Tree) (first position next : ℕ) → IsLawfulTree tree →
+    (goes tree first position next false ≡ true) ↔ Neighbours (SpellsPositions tree first) position next
 inside tree first position next lawful =
     let h = goes_is tree first position next false lawful in
     (λ e. elim (h.0 e) [ inl near ↦ near | inr (end, on) ↦ absurd (cc) ], λ near. h.1 (inl near))
 
-goes_at : (front : Tree) (rest : Option Tree) (first position next : ℕ) → IsLawfulTree front → IfSome rest IsLawfulTree → IfSome rest (λ rest. ¬ Spells rest []) →
-    (option_map_or (λ rest. goes rest (first + leaf_count front) position next false || goes front first position next (begins rest (first + leaf_count front) next)) rest (goes front first position next false) ≡ true)
+goes_at : (front : Tree) (rest : Option Tree) (first position next : ℕ) → IsLawfulTree front → IfSome rest IsLawfulTree →
+    IfSome rest (λ rest. ¬ Spells rest []) →
+    (option_map_or (λ rest.
+    goes rest (first + leaf_count front) position next false || goes front first position next (begins rest (first + leaf_count front) next)) rest
+    (goes front first position next false) ≡ true)
     ↔ Neighbours (Spelled front rest first) position next
 goes_at front None first position next lawful rest_lawful none = inside front first position next lawful
 goes_at front (Some rest) first position next lawful rest_lawful none =
     let second = first + leaf_count front in
-    let led : leads rest second next false ≡ begins rest second next = ap (λ x. begins rest second next || (x && false)) (not_empty rest none) ∙ or_none (begins rest second next) in
-    let same : (goes rest second position next false || goes front first position next (begins rest second next)) ≡ goes (Then front rest) first position next false =
+    let led : leads rest second next false ≡ begins rest second next = ap (λ x. begins rest second next || (x && false)) (not_empty rest none)
+    ∙ or_none (begins rest second next) in
+    let same : (goes rest second position next false || goes front first position next (begins rest second next)) ≡ goes (Then front rest) first position next
+    false =
     or_swap (goes rest second position next false) (goes front first position next (begins rest second next))
     ∙ ap (λ x. goes front first position next x || goes rest second position next false) (sym led) in
-    alike (goes rest second position next false || goes front first position next (begins rest second next)) (goes (Then front rest) first position next false) same
+    alike (goes rest second position next false || goes front first position next (begins rest second next)) (goes (Then front rest) first position next false)
+    same
     (inside (Then front rest) first position next (lawful, rest_lawful))
 
 -- some rule passes the test
@@ -95,7 +105,8 @@ some_there test (rule ∷ rules) first e =
           }
     ]
 
-some_back : (test : Rule → ℕ → Bool) (rules : List Rule) (first number : ℕ) (rule : Rule) → slice_get rules number ≡ Some rule → test rule (first + sum_by leaves_of (take number rules)) ≡ true → some_rule test rules first ≡ true
+some_back : (test : Rule → ℕ → Bool) (rules : List Rule) (first number : ℕ) (rule : Rule) → slice_get rules number ≡ Some rule →
+    test rule (first + sum_by leaves_of (take number rules)) ≡ true → some_rule test rules first ≡ true
 some_back test [] first number rule is passes = absurd (cc)
 some_back test (front ∷ rules) first zero rule is passes =
     let same : front ≡ rule = cc in
@@ -119,7 +130,8 @@ module _ (rules : List Rule) (lawful : AllByRecursion IsLawfulRule rules) where
       there e =
           let h = some_there (rule_begins position) rules 0 e in
           let l = law h.number h.rule h.is_rule in
-          let b = (begins_at h.rule.front h.rule.rest (first_position rules h.number) position l.front l.rest l.front_not_empty).0 (sym (at_zero (rule_begins position) h.rule h.number) ∙ h.passes) in
+          let b = (begins_at h.rule.front h.rule.rest (first_position rules h.number) position l.front l.rest l.front_not_empty).0
+          (sym (at_zero (rule_begins position) h.rule h.number) ∙ h.passes) in
           record { number = h.number; others = b.0; spelled = record { rule = h.rule; is_rule = h.is_rule; spelled = b.1 } }
 
       back : IsFirst rules position → some_rule (rule_begins position) rules 0 ≡ true
@@ -127,7 +139,8 @@ module _ (rules : List Rule) (lawful : AllByRecursion IsLawfulRule rules) where
           let s = h.spelled in
           let l = law h.number s.rule s.is_rule in
           some_back (rule_begins position) rules 0 h.number s.rule s.is_rule
-          (at_zero (rule_begins position) s.rule h.number ∙ (begins_at s.rule.front s.rule.rest (first_position rules h.number) position l.front l.rest l.front_not_empty).1 (h.others, s.spelled))
+          (at_zero (rule_begins position) s.rule h.number
+          ∙ (begins_at s.rule.front s.rule.rest (first_position rules h.number) position l.front l.rest l.front_not_empty).1 (h.others, s.spelled))
 
   pub last_is : (position : ℕ) → (some_rule (rule_ends position) rules 0 ≡ true) ↔ IsLast rules position
   last_is position = (there, back)
@@ -136,7 +149,8 @@ module _ (rules : List Rule) (lawful : AllByRecursion IsLawfulRule rules) where
       there e =
           let h = some_there (rule_ends position) rules 0 e in
           let l = law h.number h.rule h.is_rule in
-          let b = (ends_at h.rule.front h.rule.rest (first_position rules h.number) position l.front l.rest l.rest_not_empty).0 (sym (at_zero (rule_ends position) h.rule h.number) ∙ h.passes) in
+          let b = (ends_at h.rule.front h.rule.rest (first_position rules h.number) position l.front l.rest l.rest_not_empty).0
+          (sym (at_zero (rule_ends position) h.rule h.number) ∙ h.passes) in
           record { number = h.number; others = b.0; spelled = record { rule = h.rule; is_rule = h.is_rule; spelled = b.1 } }
 
       back : IsLast rules position → some_rule (rule_ends position) rules 0 ≡ true
@@ -144,7 +158,8 @@ module _ (rules : List Rule) (lawful : AllByRecursion IsLawfulRule rules) where
           let s = h.spelled in
           let l = law h.number s.rule s.is_rule in
           some_back (rule_ends position) rules 0 h.number s.rule s.is_rule
-          (at_zero (rule_ends position) s.rule h.number ∙ (ends_at s.rule.front s.rule.rest (first_position rules h.number) position l.front l.rest l.rest_not_empty).1 (h.others, s.spelled))
+          (at_zero (rule_ends position) s.rule h.number
+          ∙ (ends_at s.rule.front s.rule.rest (first_position rules h.number) position l.front l.rest l.rest_not_empty).1 (h.others, s.spelled))
 
   pub front_last_is : (position : ℕ) → (some_rule (front_ends position) rules 0 ≡ true) ↔ IsFrontLast rules position
   front_last_is position = (there, back)
@@ -152,14 +167,16 @@ module _ (rules : List Rule) (lawful : AllByRecursion IsLawfulRule rules) where
       there : some_rule (front_ends position) rules 0 ≡ true → IsFrontLast rules position
       there e =
           let h = some_there (front_ends position) rules 0 e in
-          let b = (ends_is h.rule.front (first_position rules h.number) position (law h.number h.rule h.is_rule).front).0 (sym (at_zero (front_ends position) h.rule h.number) ∙ h.passes) in
+          let b = (ends_is h.rule.front (first_position rules h.number) position (law h.number h.rule h.is_rule).front).0
+          (sym (at_zero (front_ends position) h.rule h.number) ∙ h.passes) in
           record { number = h.number; others = b.0; spelled = record { rule = h.rule; is_rule = h.is_rule; spelled = b.1 } }
 
       back : IsFrontLast rules position → some_rule (front_ends position) rules 0 ≡ true
       back h =
           let s = h.spelled in
           some_back (front_ends position) rules 0 h.number s.rule s.is_rule
-          (at_zero (front_ends position) s.rule h.number ∙ (ends_is s.rule.front (first_position rules h.number) position (law h.number s.rule s.is_rule).front).1 (h.others, s.spelled))
+          (at_zero (front_ends position) s.rule h.number
+          ∙ (ends_is s.rule.front (first_position rules h.number) position (law h.number s.rule s.is_rule).front).1 (h.others, s.spelled))
 
   pub follows_is : (position next : ℕ) → (some_rule (rule_goes position next) rules 0 ≡ true) ↔ Follows rules position next
   follows_is position next = (there, back)
@@ -168,7 +185,8 @@ module _ (rules : List Rule) (lawful : AllByRecursion IsLawfulRule rules) where
       there e =
           let h = some_there (rule_goes position next) rules 0 e in
           let l = law h.number h.rule h.is_rule in
-          let b = (goes_at h.rule.front h.rule.rest (first_position rules h.number) position next l.front l.rest l.rest_not_empty).0 (sym (at_zero (rule_goes position next) h.rule h.number) ∙ h.passes) in
+          let b = (goes_at h.rule.front h.rule.rest (first_position rules h.number) position next l.front l.rest l.rest_not_empty).0
+          (sym (at_zero (rule_goes position next) h.rule h.number) ∙ h.passes) in
           record { number = h.number; before = b.0; after = b.1; spelled = record { rule = h.rule; is_rule = h.is_rule; spelled = b.2 } }
 
       back : Follows rules position next → some_rule (rule_goes position next) rules 0 ≡ true
@@ -176,4 +194,5 @@ module _ (rules : List Rule) (lawful : AllByRecursion IsLawfulRule rules) where
           let s = h.spelled in
           let l = law h.number s.rule s.is_rule in
           some_back (rule_goes position next) rules 0 h.number s.rule s.is_rule
-          (at_zero (rule_goes position next) s.rule h.number ∙ (goes_at s.rule.front s.rule.rest (first_position rules h.number) position next l.front l.rest l.rest_not_empty).1 (h.before, h.after, s.spelled))
+          (at_zero (rule_goes position next) s.rule h.number
+          ∙ (goes_at s.rule.front s.rule.rest (first_position rules h.number) position next l.front l.rest l.rest_not_empty).1 (h.before, h.after, s.spelled))

@@ -37,12 +37,15 @@ begins_cons part [] first p = sym (ap (λ x. begins part first p || x) (and_none
 begins_cons part (next ∷ parts) first p = refl
 
 pub ends_cons : (part : Tree) (parts : List Tree) (first p : ℕ) →
-    ends (sequence_of (part ∷ parts)) first p ≡ (ends (sequence_of parts) (first + leaf_count part) p || (spells_empty (sequence_of parts) && ends part first p))
+    ends (sequence_of (part ∷ parts)) first
+    p ≡ (ends (sequence_of parts) (first + leaf_count part) p || (spells_empty (sequence_of parts) && ends part first p))
 ends_cons part [] first p = refl
 ends_cons part (next ∷ parts) first p = refl
 
 pub goes_cons : (part : Tree) (parts : List Tree) (first p q : ℕ) (behind : Bool) →
-    goes (sequence_of (part ∷ parts)) first p q behind ≡ (goes part first p q (leads (sequence_of parts) (first + leaf_count part) q behind) || goes (sequence_of parts) (first + leaf_count part) p q behind)
+    goes (sequence_of (part ∷ parts)) first p q
+    behind ≡ (goes part first p q (leads (sequence_of parts) (first + leaf_count part) q behind) || goes (sequence_of parts) (first + leaf_count part) p q
+    behind)
 goes_cons part [] first p q behind = sym (or_none (goes part first p q behind))
 goes_cons part (next ∷ parts) first p q behind = refl
 
@@ -51,7 +54,8 @@ pub leads_cons : (part : Tree) (parts : List Tree) (first q : ℕ) (behind : Boo
     leads (sequence_of (part ∷ parts)) first q behind ≡ leads part first q (leads (sequence_of parts) (first + leaf_count part) q behind)
 leads_cons part parts first q behind =
     ap (λ x. x || (spells_empty (sequence_of (part ∷ parts)) && behind)) (begins_cons part parts first q)
-    ∙ ap (λ x. (begins part first q || (spells_empty part && begins (sequence_of parts) (first + leaf_count part) q)) || (x && behind)) (empty_sequence part parts)
+    ∙ ap (λ x. (begins part first q || (spells_empty part && begins (sequence_of parts) (first + leaf_count part) q)) || (x && behind))
+    (empty_sequence part parts)
     ∙ regroup (begins part first q) (spells_empty part) (begins (sequence_of parts) (first + leaf_count part) q) (spells_empty (sequence_of parts)) behind
   where
     regroup : (a b d e f : Bool) → ((a || (b && d)) || ((b && e) && f)) ≡ (a || (b && (d || (e && f))))
@@ -75,7 +79,8 @@ empty_snoc (front ∷ parts) part =
     regroup false b d = refl
 
 -- the first position of a part behind others
-later : (first : ℕ) (front : Tree) (parts : List Tree) → (first + leaf_count front) + leaf_count (sequence_of parts) ≡ first + leaf_count (sequence_of (front ∷ parts))
+later : (first : ℕ) (front : Tree) (parts : List Tree) →
+    (first + leaf_count front) + leaf_count (sequence_of parts) ≡ first + leaf_count (sequence_of (front ∷ parts))
 later first front parts = omega (arith, count_cons front parts)
 
 pub leads_snoc : (parts : List Tree) (part : Tree) (first q : ℕ) (behind : Bool) →
@@ -87,8 +92,10 @@ leads_snoc (front ∷ parts) part first q behind =
     ∙ ap (λ (n : ℕ). leads (sequence_of (front ∷ parts)) first q (leads part n q behind)) (later first front parts)
 
 pub ends_snoc : (parts : List Tree) (part : Tree) (first p : ℕ) →
-    ends (sequence_of (parts ++ part ∷ [])) first p ≡ (ends part (first + leaf_count (sequence_of parts)) p || (spells_empty part && ends (sequence_of parts) first p))
-ends_snoc [] part first p = ap (λ (n : ℕ). ends part n p) (omega arith) ∙ sym (ap (λ x. ends part (first + 0) p || x) (and_none (spells_empty part)) ∙ or_none (ends part (first + 0) p))
+    ends (sequence_of (parts ++ part ∷ [])) first
+    p ≡ (ends part (first + leaf_count (sequence_of parts)) p || (spells_empty part && ends (sequence_of parts) first p))
+ends_snoc [] part first p = ap (λ (n : ℕ). ends part n p) (omega arith)
+    ∙ sym (ap (λ x. ends part (first + 0) p || x) (and_none (spells_empty part)) ∙ or_none (ends part (first + 0) p))
   where
     and_none : (b : Bool) → (b && false) ≡ false
     and_none true = refl
@@ -96,8 +103,10 @@ ends_snoc [] part first p = ap (λ (n : ℕ). ends part n p) (omega arith) ∙ s
 ends_snoc (front ∷ parts) part first p =
     ends_cons front (parts ++ part ∷ []) first p
     ∙ ap (λ x. x || (spells_empty (sequence_of (parts ++ part ∷ [])) && ends front first p)) (ends_snoc parts part (first + leaf_count front) p)
-    ∙ ap (λ x. (ends part ((first + leaf_count front) + leaf_count (sequence_of parts)) p || (spells_empty part && ends (sequence_of parts) (first + leaf_count front) p)) || (x && ends front first p)) (empty_snoc parts part)
-    ∙ regroup (ends part ((first + leaf_count front) + leaf_count (sequence_of parts)) p) (spells_empty part) (ends (sequence_of parts) (first + leaf_count front) p) (spells_empty (sequence_of parts)) (ends front first p)
+    ∙ ap (λ x. (ends part ((first + leaf_count front) + leaf_count (sequence_of parts))
+    p || (spells_empty part && ends (sequence_of parts) (first + leaf_count front) p)) || (x && ends front first p)) (empty_snoc parts part)
+    ∙ regroup (ends part ((first + leaf_count front) + leaf_count (sequence_of parts)) p) (spells_empty part)
+    (ends (sequence_of parts) (first + leaf_count front) p) (spells_empty (sequence_of parts)) (ends front first p)
     ∙ ap (λ x. ends part ((first + leaf_count front) + leaf_count (sequence_of parts)) p || (spells_empty part && x)) (sym (ends_cons front parts first p))
     ∙ ap (λ (n : ℕ). ends part n p || (spells_empty part && ends (sequence_of (front ∷ parts)) first p)) (later first front parts)
   where
@@ -110,7 +119,8 @@ ends_snoc (front ∷ parts) part first p =
 
 pub goes_snoc : (parts : List Tree) (part : Tree) (first p q : ℕ) (behind : Bool) →
     goes (sequence_of (parts ++ part ∷ [])) first p q behind
-    ≡ (goes (sequence_of parts) first p q (leads part (first + leaf_count (sequence_of parts)) q behind) || goes part (first + leaf_count (sequence_of parts)) p q behind)
+    ≡ (goes (sequence_of parts) first p q (leads part (first + leaf_count (sequence_of parts)) q behind) || goes part (first + leaf_count (sequence_of parts)) p
+    q behind)
 goes_snoc [] part first p q behind = ap (λ (n : ℕ). goes part n p q behind) (omega arith)
 goes_snoc (front ∷ parts) part first p q behind =
     let second = first + leaf_count front in
@@ -118,7 +128,8 @@ goes_snoc (front ∷ parts) part first p q behind =
     goes_cons front (parts ++ part ∷ []) first p q behind
     ∙ ap (λ x. goes front first p q x || goes (sequence_of (parts ++ part ∷ [])) second p q behind) (leads_snoc parts part second q behind)
     ∙ ap (λ x. goes front first p q (leads (sequence_of parts) second q (leads part third q behind)) || x) (goes_snoc parts part second p q behind)
-    ∙ sym (or_assoc (goes front first p q (leads (sequence_of parts) second q (leads part third q behind))) (goes (sequence_of parts) second p q (leads part third q behind)) (goes part third p q behind))
+    ∙ sym (or_assoc (goes front first p q (leads (sequence_of parts) second q (leads part third q behind)))
+    (goes (sequence_of parts) second p q (leads part third q behind)) (goes part third p q behind))
     ∙ ap (λ x. x || goes part third p q behind) (sym (goes_cons front parts first p q (leads part third q behind)))
     ∙ ap (λ (n : ℕ). goes (sequence_of (front ∷ parts)) first p q (leads part n q behind) || goes part n p q behind) (later first front parts)
 
@@ -155,7 +166,8 @@ module _ {T : Type 0} (f : T → Tree) (parts : List T) (i : ℕ) (part : T) (be
   count_choice = ap (λ l. leaf_count (choice_of l)) (next_part f parts i part below is) ∙ choice_count_cons (f part) (map f (drop (i + 1) parts))
 
   -- a loop that joins what holds of the parts in front
-  pub begins_on : (start count p : ℕ) (before after : Bool) → spells_empty (f part) ≡ true → count ≡ leaf_count (f part) → after ≡ (before || begins (f part) start p) →
+  pub begins_on : (start count p : ℕ) (before after : Bool) → spells_empty (f part) ≡ true → count ≡ leaf_count (f part) →
+      after ≡ (before || begins (f part) start p) →
       (after || begins (sequence_of (map f (drop (i + 1) parts))) (start + count) p) ≡ (before || begins (sequence_of (map f (drop i parts))) start p)
   begins_on start count p before after empty many new =
       let rest = sequence_of (map f (drop (i + 1) parts)) in
@@ -178,7 +190,8 @@ module _ {T : Type 0} (f : T → Tree) (parts : List T) (i : ℕ) (part : T) (be
       ∙ ap (λ x. before || x) (or_none (begins (f part) start p))
       )
 
-  pub choice_on : (test : Tree → ℕ → Bool) → OfChoice test → (start count : ℕ) (before after : Bool) → count ≡ leaf_count (f part) → after ≡ (before || test (f part) start) →
+  pub choice_on : (test : Tree → ℕ → Bool) → OfChoice test → (start count : ℕ) (before after : Bool) → count ≡ leaf_count (f part) →
+      after ≡ (before || test (f part) start) →
       (after || test (choice_of (map f (drop (i + 1) parts))) (start + count)) ≡ (before || test (choice_of (map f (drop i parts))) start)
   choice_on test of start count before after many new =
       let rest = choice_of (map f (drop (i + 1) parts)) in
@@ -200,7 +213,8 @@ module _ {T : Type 0} (f : T → Tree) (parts : List T) (i : ℕ) (part : T) (so
   pub count_up_to : leaf_count (sequence_of (map f (take i parts))) ≡ leaf_count (sequence_of (map f (take (i - 1) parts))) + leaf_count (f part)
   count_up_to = ap (λ l. leaf_count (sequence_of l)) part_more ∙ count_snoc (map f (take (i - 1) parts)) (f part)
 
-  pub ends_on : (first start p : ℕ) (before after : Bool) → start ≡ first + leaf_count (sequence_of (map f (take (i - 1) parts))) → spells_empty (f part) ≡ true → after ≡ (before || ends (f part) start p) →
+  pub ends_on : (first start p : ℕ) (before after : Bool) → start ≡ first + leaf_count (sequence_of (map f (take (i - 1) parts))) →
+      spells_empty (f part) ≡ true → after ≡ (before || ends (f part) start p) →
       (after || ends (sequence_of (map f (take (i - 1) parts))) first p) ≡ (before || ends (sequence_of (map f (take i parts))) first p)
   ends_on first start p before after at empty new =
       let front = sequence_of (map f (take (i - 1) parts)) in
@@ -212,7 +226,8 @@ module _ {T : Type 0} (f : T → Tree) (parts : List T) (i : ℕ) (part : T) (so
       ∙ ap (λ x. before || (ends (f part) (first + leaf_count front) p || (x && ends front first p))) empty
       )
 
-  pub ends_end : (first start p : ℕ) (before after : Bool) → start ≡ first + leaf_count (sequence_of (map f (take (i - 1) parts))) → spells_empty (f part) ≡ false → after ≡ (before || ends (f part) start p) →
+  pub ends_end : (first start p : ℕ) (before after : Bool) → start ≡ first + leaf_count (sequence_of (map f (take (i - 1) parts))) →
+      spells_empty (f part) ≡ false → after ≡ (before || ends (f part) start p) →
       after ≡ (before || ends (sequence_of (map f (take i parts))) first p)
   ends_end first start p before after at none new =
       let front = sequence_of (map f (take (i - 1) parts)) in
@@ -238,24 +253,29 @@ module _ {T : Type 0} (f : T → Tree) (parts : List T) (i : ℕ) (part : T) (so
       ∙ ap (λ x. before || x) (goes_snoc (map f (take (i - 1) parts)) (f part) first p q behind)
       )
 
-pub sequence_done : {A : Type 0} (measure : Tree → A) {T : Type 0} (f : T → Tree) (parts : List T) (i : ℕ) → length parts ≤ i → measure (sequence_of (map f (drop i parts))) ≡ measure Empty
+pub sequence_done : {A : Type 0} (measure : Tree → A) {T : Type 0} (f : T → Tree) (parts : List T) (i : ℕ) → length parts ≤ i →
+    measure (sequence_of (map f (drop i parts))) ≡ measure Empty
 sequence_done measure f parts i past = ap (λ l. measure (sequence_of (map f l))) (drop_all i parts past)
 
-pub choice_done : {A : Type 0} (measure : Tree → A) {T : Type 0} (f : T → Tree) (parts : List T) (i : ℕ) → length parts ≤ i → measure (choice_of (map f (drop i parts))) ≡ measure Never
+pub choice_done : {A : Type 0} (measure : Tree → A) {T : Type 0} (f : T → Tree) (parts : List T) (i : ℕ) → length parts ≤ i →
+    measure (choice_of (map f (drop i parts))) ≡ measure Never
 choice_done measure f parts i past = ap (λ l. measure (choice_of (map f l))) (drop_all i parts past)
 
 pub whole : {T : Type 0} (f : T → Tree) (parts : List T) (n : ℕ) → length parts ≤ n → sequence_of (map f parts) ≡ sequence_of (map f (take n parts))
 whole f parts n past = ap (λ l. sequence_of (map f l)) (sym (take_all n parts past))
 
-pub none_left : {A : Type 0} (measure : Tree → A) {T : Type 0} (f : T → Tree) (parts : List T) (n : ℕ) → n ≤ 0 → measure (sequence_of (map f (take n parts))) ≡ measure Empty
+pub none_left : {A : Type 0} (measure : Tree → A) {T : Type 0} (f : T → Tree) (parts : List T) (n : ℕ) → n ≤ 0 →
+    measure (sequence_of (map f (take n parts))) ≡ measure Empty
 none_left measure f parts n none = (let zero' : n ≡ 0 = omega arith in ap (λ (m : ℕ). measure (sequence_of (map f (take m parts)))) zero')
 
 -- flags, with one more set
 pub flag_set : (flags : List Bool) (first p : ℕ) → first < length flags → get_or (set flags first true) p false ≡ (get_or flags p false || eqb p first)
 flag_set flags first p below =
     ⊎_elim
-    (λ same. ap (λ n. get_or (set flags first true) n false) same ∙ get_or-set_same flags first true false below ∙ sym (ap (λ x. get_or flags p false || x) (eq-eqb p first same) ∙ or_true (get_or flags p false)))
-    (λ other. get_or-set_other flags first p true false other ∙ sym (ap (λ x. get_or flags p false || x) (ne_eqb p first other) ∙ or_none (get_or flags p false)))
+    (λ same. ap (λ n. get_or (set flags first true) n false) same ∙ get_or-set_same flags first true false below
+    ∙ sym (ap (λ x. get_or flags p false || x) (eq-eqb p first same) ∙ or_true (get_or flags p false)))
+    (λ other. get_or-set_other flags first p true false other
+    ∙ sym (ap (λ x. get_or flags p false || x) (ne_eqb p first other) ∙ or_none (get_or flags p false)))
     (cases_eq p first)
   where
     or_true : (b : Bool) → (b || true) ≡ true

@@ -42,23 +42,29 @@ slice_at [] i x is = absurd (cc)
 slice_at (y ∷ xs) zero x is = cc
 slice_at (y ∷ xs) (suc i) x is = slice_at xs i x is
 
-module _ (list : RuleList) (categories : ℕ) (ranges : List CategoryRange) (numbers codes : List ℕ) (words : ℕ) (rows : List ℕ) (numbers_are : numbers ≡ leaf_numbers list)
-    (readers : AreReaders list.sets numbers codes words rows) (codes_are : AreCodesOf categories ranges codes) (classes : AreClasses (rules_of list) categories ranges) (wide : sum_by leaves_of (rules_of list) ≤ 64 * words) where
+module _ (list : RuleList) (categories : ℕ) (ranges : List CategoryRange) (numbers codes : List ℕ) (words : ℕ) (rows : List ℕ)
+    (numbers_are : numbers ≡ leaf_numbers list)
+    (readers : AreReaders list.sets numbers codes words rows) (codes_are : AreCodesOf categories ranges codes)
+    (classes : AreClasses (rules_of list) categories ranges) (wide : sum_by leaves_of (rules_of list) ≤ 64 * words) where
   within : (position : ℕ) → position < sum_by leaves_of (rules_of list) → position < length numbers
   within position below = omega (arith, below, ap length numbers_are, leaves_total list)
 
   -- the set of the position
   set_is : (position : ℕ) → position < length numbers → slice_get (all_sets (rules_of list)) position ≡ Some (set_at list.sets (get_or numbers position 0))
   set_is position below =
-      ap (λ sets. slice_get sets position) (all_sets_are list) ∙ ap (λ ns. slice_get (map (set_at list.sets) ns) position) (sym numbers_are) ∙ map_at (set_at list.sets) numbers position below
+      ap (λ sets. slice_get sets position) (all_sets_are list) ∙ ap (λ ns. slice_get (map (set_at list.sets) ns) position) (sym numbers_are)
+      ∙ map_at (set_at list.sets) numbers position below
 
   is_read : (position c : ℕ) → Reads (rules_of list) position c → IsRead (rules_of list) c
-  is_read position c (set, is, has) = (position, set, get_below (all_sets (rules_of list)) position set is, slice_at (all_sets (rules_of list)) position set is, has)
+  is_read position c (set, is, has) =
+      (position, set, get_below (all_sets (rules_of list)) position set is, slice_at (all_sets (rules_of list)) position set is, has)
 
-  pub reads_are : (position category : ℕ) → position < sum_by leaves_of (rules_of list) → category < categories → IsTrue (in_row words rows category position) ↔ ReadsCategory (rules_of list) ranges position category
+  pub reads_are : (position category : ℕ) → position < sum_by leaves_of (rules_of list) → category < categories →
+      IsTrue (in_row words rows category position) ↔ ReadsCategory (rules_of list) ranges position category
   reads_are position category below few = (there, back)
     where
-      marked : IsTrue (in_row words rows category position) ↔ ((1 ≤ category) × (position < length numbers) × Has (set_at list.sets (get_or numbers position 0)) (get_or codes category 0))
+      marked : IsTrue (in_row words rows category position) ↔ ((1 ≤ category) × (position < length numbers) × Has (set_at list.sets (get_or numbers position 0))
+          (get_or codes category 0))
       marked = readers.each category position (omega (arith, few, codes_are.many)) (omega (arith, below, wide))
 
       there : IsTrue (in_row words rows category position) → ReadsCategory (rules_of list) ranges position category
@@ -74,9 +80,12 @@ module _ (list : RuleList) (categories : ℕ) (ranges : List CategoryRange) (num
       back : ReadsCategory (rules_of list) ranges position category → IsTrue (in_row words rows category position)
       back h =
           let (set, is, has) = h.reads in
-          let some : 1 ≤ category = ⊎_elim (λ none. absurd ((classes.none h.c h.code).0 (h.of ∙ none) (is_read position h.c h.reads))) (λ other. omega (arith, other)) (cases_eq category 0) in
-          let alike : AreAlike (rules_of list) h.c (get_or codes category 0) = (classes.alike h.c (get_or codes category 0) h.code (codes_are.code category some few)).0 (h.of ∙ sym (codes_are.each category some few)) in
-          let has' : Has set (get_or codes category 0) = (all_get (λ s. Has s h.c ↔ Has s (get_or codes category 0)) (all_sets (rules_of list)) position set is alike).0 has in
+          let some : 1 ≤ category = ⊎_elim (λ none. absurd ((classes.none h.c h.code).0 (h.of ∙ none) (is_read position h.c h.reads)))
+          (λ other. omega (arith, other)) (cases_eq category 0) in
+          let alike : AreAlike (rules_of list) h.c (get_or codes category 0) =
+          (classes.alike h.c (get_or codes category 0) h.code (codes_are.code category some few)).0 (h.of ∙ sym (codes_are.each category some few)) in
+          let has' : Has set (get_or codes category 0) =
+          (all_get (λ s. Has s h.c ↔ Has s (get_or codes category 0)) (all_sets (rules_of list)) position set is alike).0 has in
           let listed = set_is position (within position below) in
           let same : set ≡ set_at list.sets (get_or numbers position 0) = cc in
           marked.1 (some, within position below, subst (λ s. Has s (get_or codes category 0)) same has')

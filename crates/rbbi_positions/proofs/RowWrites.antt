@@ -42,7 +42,8 @@ module _ (a k : ℕ) (xs ys : List ℕ) (fits : a + k ≤ length xs) (many : len
 module _ (w row k : ℕ) (rows new : List ℕ) (same : k ≡ w) (many : length new ≡ w) (fits : row * w + w ≤ length rows) where
   pub row_put : (position : ℕ) → position < 64 * w → in_row w (put_mid (row * w) k rows new) row position ≡ row_bit new position
   row_put position below =
-      ap (λ n. has_bit n (position % 64)) (word_in (row * w) k rows new (omega (arith, same, fits)) (omega (arith, same, many)) (position / 64) (omega (arith, same, below)))
+      ap (λ n. has_bit n (position % 64))
+      (word_in (row * w) k rows new (omega (arith, same, fits)) (omega (arith, same, many)) (position / 64) (omega (arith, same, below)))
 
   pub row_kept : (this position : ℕ) → position < 64 * w → this ≢ row → in_row w (put_mid (row * w) k rows new) this position ≡ in_row w rows this position
   row_kept this position below other =
@@ -62,16 +63,20 @@ module _ (w row k : ℕ) (rows new : List ℕ) (same : k ≡ w) (many : length n
   -- what was in the row
   pub row_was : (position : ℕ) → position < 64 * w → row_bit (mid_of (row * w) k rows) position ≡ in_row w rows row position
   row_was position below =
-      ap (λ n. has_bit n (position % 64)) (get_or-take k (drop (row * w) rows) (position / 64) 0 (omega (arith, same, below)) ∙ get_or-drop (row * w) rows (position / 64) 0)
+      ap (λ n. has_bit n (position % 64)) (get_or-take k (drop (row * w) rows) (position / 64) 0 (omega (arith, same, below))
+      ∙ get_or-drop (row * w) rows (position / 64) 0)
 
   -- the bits of another row are set in it
   pub row_united : (other : List ℕ) → ((position : ℕ) → row_bit new position ≡ (row_bit (mid_of (row * w) k rows) position || row_bit other position)) →
-      (this position : ℕ) → position < 64 * w → in_row w (put_mid (row * w) k rows new) this position ≡ (in_row w rows this position || (eqb this row && row_bit other position))
+      (this position : ℕ) → position < 64 * w →
+      in_row w (put_mid (row * w) k rows new) this position ≡ (in_row w rows this position || (eqb this row && row_bit other position))
   row_united other each this position below =
       ⊎_elim
       (λ here.
-      ap (λ n. in_row w (put_mid (row * w) k rows new) n position) here ∙ row_put position below ∙ each position ∙ ap (λ x. x || row_bit other position) (row_was position below)
-      ∙ sym (ap (λ n. in_row w rows n position || (eqb this row && row_bit other position)) here ∙ ap (λ x. in_row w rows row position || (x && row_bit other position)) (eq-eqb this row here)))
+      ap (λ n. in_row w (put_mid (row * w) k rows new) n position) here ∙ row_put position below ∙ each position
+      ∙ ap (λ x. x || row_bit other position) (row_was position below)
+      ∙ sym (ap (λ n. in_row w rows n position || (eqb this row && row_bit other position)) here
+      ∙ ap (λ x. in_row w rows row position || (x && row_bit other position)) (eq-eqb this row here)))
       (λ apart.
       row_kept this position below apart
       ∙ sym (ap (λ x. in_row w rows this position || (x && row_bit other position)) (ne_eqb this row apart) ∙ or_none (in_row w rows this position)))

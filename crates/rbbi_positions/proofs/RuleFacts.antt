@@ -22,17 +22,21 @@ use Rattle.rbbi_positions.proofs.Parts.{or_none, or_assoc}
 -- the leaves of a rule
 pub leaves_none : (sets : List (List Range)) (rule : Rule) → rule.rest ≡ None → leaves_of (rule_of sets rule) ≡ leaf_count (tree_of sets rule.front)
 leaves_none sets rule none =
-    let both : leaves_of (rule_of sets rule) ≡ leaf_count (tree_of sets rule.front) + 0 = ap (λ (r : Option Tree). leaf_count (tree_of sets rule.front) + option_map_or leaf_count (option_map (tree_of sets) r) 0) none in
+    let both : leaves_of (rule_of sets rule) ≡ leaf_count (tree_of sets rule.front) + 0 =
+    ap (λ (r : Option Tree). leaf_count (tree_of sets rule.front) + option_map_or leaf_count (option_map (tree_of sets) r) 0) none in
     omega (arith, both)
 
-pub leaves_some : (sets : List (List Range)) (rule : Rule) (rest : Tree) → rule.rest ≡ Some rest → leaves_of (rule_of sets rule) ≡ leaf_count (tree_of sets rule.front) + leaf_count (tree_of sets rest)
+pub leaves_some : (sets : List (List Range)) (rule : Rule) (rest : Tree) → rule.rest ≡ Some rest →
+    leaves_of (rule_of sets rule) ≡ leaf_count (tree_of sets rule.front) + leaf_count (tree_of sets rest)
 leaves_some sets rule rest some = ap (λ (r : Option Tree). leaf_count (tree_of sets rule.front) + option_map_or leaf_count (option_map (tree_of sets) r) 0) some
 
 -- what is computed of a rule's rest
-pub of_none : {A : Type 0} (sets : List (List Range)) (rule : Rule) (f : spelling.Tree → A) (d : A) → rule.rest ≡ None → option_map_or f (option_map (tree_of sets) rule.rest) d ≡ d
+pub of_none : {A : Type 0} (sets : List (List Range)) (rule : Rule) (f : spelling.Tree → A) (d : A) → rule.rest ≡ None →
+    option_map_or f (option_map (tree_of sets) rule.rest) d ≡ d
 of_none sets rule f d none = ap (λ (r : Option Tree). option_map_or f (option_map (tree_of sets) r) d) none
 
-pub of_some : {A : Type 0} (sets : List (List Range)) (rule : Rule) (rest : Tree) (f : spelling.Tree → A) (d : A) → rule.rest ≡ Some rest → option_map_or f (option_map (tree_of sets) rule.rest) d ≡ f (tree_of sets rest)
+pub of_some : {A : Type 0} (sets : List (List Range)) (rule : Rule) (rest : Tree) (f : spelling.Tree → A) (d : A) → rule.rest ≡ Some rest →
+    option_map_or f (option_map (tree_of sets) rule.rest) d ≡ f (tree_of sets rest)
 of_some sets rule rest f d some = ap (λ (r : Option Tree). option_map_or f (option_map (tree_of sets) r) d) some
 
 -- a tree has as many leaves as sets of leaves
@@ -44,7 +48,8 @@ count_sets (spelling.Then front rest) = omega (arith, count_sets front, count_se
 count_sets (spelling.Either front rest) = omega (arith, count_sets front, count_sets rest, length-append (sets_of front) (sets_of rest))
 count_sets (spelling.Repeat repetition part) = count_sets part
 
-count_rule_sets : (front : spelling.Tree) (rest : Option spelling.Tree) → length (sets_of front ++ option_map_or sets_of rest []) ≡ leaf_count front + option_map_or leaf_count rest 0
+count_rule_sets : (front : spelling.Tree) (rest : Option spelling.Tree) →
+    length (sets_of front ++ option_map_or sets_of rest []) ≡ leaf_count front + option_map_or leaf_count rest 0
 count_rule_sets front None = omega (arith, count_sets front, length-append (sets_of front) [])
 count_rule_sets front (Some rest) = omega (arith, count_sets front, count_sets rest, length-append (sets_of front) (sets_of rest))
 
@@ -85,10 +90,12 @@ sum_snoc : (rules : List model.Rule) (rule : model.Rule) → sum_by leaves_of (r
 sum_snoc [] rule = omega (arith, sum_by-cons leaves_of rule [])
 sum_snoc (first ∷ rules) rule = omega (arith, sum_snoc rules rule, sum_by-cons leaves_of first (rules ++ rule ∷ []), sum_by-cons leaves_of first rules)
 
-sum_within : (rules : List model.Rule) (number : ℕ) (rule : model.Rule) → slice_get rules number ≡ Some rule → sum_by leaves_of (take number rules) + leaves_of rule ≤ sum_by leaves_of rules
+sum_within : (rules : List model.Rule) (number : ℕ) (rule : model.Rule) → slice_get rules number ≡ Some rule →
+    sum_by leaves_of (take number rules) + leaves_of rule ≤ sum_by leaves_of rules
 sum_within [] number rule is = absurd (cc)
 sum_within (first ∷ rules) zero rule is = (let same : first ≡ rule = cc in omega (arith, ap leaves_of same, sum_by-cons leaves_of first rules))
-sum_within (first ∷ rules) (suc number) rule is = omega (arith, sum_within rules number rule is, sum_by-cons leaves_of first (take number rules), sum_by-cons leaves_of first rules)
+sum_within (first ∷ rules) (suc number) rule is =
+    omega (arith, sum_within rules number rule is, sum_by-cons leaves_of first (take number rules), sum_by-cons leaves_of first rules)
 
 some_snoc : (test : model.Rule → ℕ → Bool) (rules : List model.Rule) (rule : model.Rule) (first : ℕ) →
     some_rule test (rules ++ rule ∷ []) first ≡ (some_rule test rules first || test rule (first + sum_by leaves_of rules))
@@ -104,16 +111,20 @@ module _ (list : RuleList) (number : ℕ) (rule : Rule) (is : slice_get list.rul
   rule_is = map_get (rule_of list.sets) list.rules number rule is
 
   pub taken : take (number + 1) (rules_of list) ≡ take number (rules_of list) ++ rule_of list.sets rule ∷ []
-  taken = (let e : number + 1 ≡ suc number = omega arith in ap (λ n. take n (rules_of list)) e ∙ take_get (rules_of list) number (rule_of list.sets rule) rule_is)
+  taken = (let e : number + 1 ≡ suc number = omega arith in ap (λ n. take n (rules_of list)) e
+      ∙ take_get (rules_of list) number (rule_of list.sets rule) rule_is)
 
-  pub first_next : (sets : List (List Range)) → first_position (rules_of list) (number + 1) ≡ first_position (rules_of list) number + leaves_of (rule_of sets rule)
-  first_next sets = ap (sum_by leaves_of) taken ∙ sum_snoc (take number (rules_of list)) (rule_of list.sets rule) ∙ ap (λ n. first_position (rules_of list) number + n) (leaves_alike list.sets sets rule)
+  pub first_next : (sets : List (List Range)) →
+      first_position (rules_of list) (number + 1) ≡ first_position (rules_of list) number + leaves_of (rule_of sets rule)
+  first_next sets = ap (sum_by leaves_of) taken ∙ sum_snoc (take number (rules_of list)) (rule_of list.sets rule)
+      ∙ ap (λ n. first_position (rules_of list) number + n) (leaves_alike list.sets sets rule)
 
   pub first_within : (sets : List (List Range)) → first_position (rules_of list) number + leaves_of (rule_of sets rule) ≤ sum_by leaves_of (rules_of list)
   first_within sets = omega (arith, sum_within (rules_of list) number (rule_of list.sets rule) rule_is, leaves_alike list.sets sets rule)
 
   -- what some rule up to this one passes
-  pub some_next : (test : model.Rule → ℕ → Bool) (start : ℕ) (before after : Bool) → start ≡ first_position (rules_of list) number → before ≡ some_rule test (take number (rules_of list)) 0 →
+  pub some_next : (test : model.Rule → ℕ → Bool) (start : ℕ) (before after : Bool) → start ≡ first_position (rules_of list) number →
+      before ≡ some_rule test (take number (rules_of list)) 0 →
       after ≡ (before || test (rule_of list.sets rule) start) → after ≡ some_rule test (take (number + 1) (rules_of list)) 0
   some_next test start before after at old new =
       new ∙ ap (λ x. x || test (rule_of list.sets rule) start) old
@@ -124,15 +135,18 @@ pub all_taken : (list : RuleList) (number : ℕ) → length list.rules ≤ numbe
 all_taken list number past = take_all number (rules_of list) (omega (arith, past, length-map list.rules (rule_of list.sets)))
 
 -- what rules have one after another, with one rule more
-pub flat_next : {X Y : Type 0} (f : X → List Y) (xs : List X) (n : ℕ) (x : X) → slice_get xs n ≡ Some x → flat_map f (take (n + 1) xs) ≡ flat_map f (take n xs) ++ f x
-flat_next {X} {Y} f xs n x is = (let e : n + 1 ≡ suc n = omega arith in ap (λ m. flat_map f (take m xs)) e ∙ ap (flat_map f) (take_get xs n x is) ∙ snoc (take n xs))
+pub flat_next : {X Y : Type 0} (f : X → List Y) (xs : List X) (n : ℕ) (x : X) → slice_get xs n ≡ Some x →
+    flat_map f (take (n + 1) xs) ≡ flat_map f (take n xs) ++ f x
+flat_next {X} {Y} f xs n x is = (let e : n + 1 ≡ suc n = omega arith in ap (λ m. flat_map f (take m xs)) e ∙ ap (flat_map f) (take_get xs n x is)
+    ∙ snoc (take n xs))
   where
     snoc : (ys : List X) → flat_map f (ys ++ x ∷ []) ≡ flat_map f ys ++ f x
     snoc [] = append-nil (f x)
     snoc (y ∷ ys) = ap (λ l. f y ++ l) (snoc ys) ∙ sym (append_assoc (f y) (flat_map f ys) (f x))
 
 -- the owners of the positions of one rule more
-pub owners_more : (rules : List model.Rule) (number count : ℕ) (rule : model.Rule) (owners : List ℕ) → slice_get rules number ≡ Some rule → count ≡ leaves_of rule → length owners ≡ first_position rules number →
+pub owners_more : (rules : List model.Rule) (number count : ℕ) (rule : model.Rule) (owners : List ℕ) → slice_get rules number ≡ Some rule →
+    count ≡ leaves_of rule → length owners ≡ first_position rules number →
     AreOwners rules owners → AreOwners rules (owners ++ replicate count number)
 owners_more rules number count rule owners is many long old = record {
   each = λ position below.
@@ -142,9 +156,11 @@ owners_more rules number count rule owners is many long old = record {
       subst P (sym (get_or_append_left owners (replicate count number) 0 position before)) (old.each position before))
       (λ behind.
       let P : ℕ → Type 0 = IsOfRule rules position in
-      let in_new : position - length owners < count = omega (arith, below, length-append owners (replicate count number), length-replicate count number, behind) in
+      let in_new : position - length owners < count =
+      omega (arith, below, length-append owners (replicate count number), length-replicate count number, behind) in
       let here : get_or (owners ++ replicate count number) position 0 ≡ number =
-      get_or-append_right owners (replicate count number) (length owners) position 0 refl behind ∙ get_or-replicate count (position - length owners) number 0 in_new in
+      get_or-append_right owners (replicate count number) (length owners) position 0 refl behind
+      ∙ get_or-replicate count (position - length owners) number 0 in_new in
       subst P (sym here) (record { rule = rule; is_rule = is; from = omega (arith, long, behind); to = omega (arith, long, in_new, many, behind) }))
       (cases_lt position (length owners));
 }

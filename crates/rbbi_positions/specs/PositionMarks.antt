@@ -59,7 +59,8 @@ pub record IsMarkedAs (rules : List Rule) (number : ℕ) (rule : Rule) (mark : R
 
 -- each rule's marks are its own
 abbrev pub AreRuleMarks : List Rule → List RuleMark → Type 0
-AreRuleMarks rules marks = (number : ℕ) (rule : Rule) (mark : RuleMark) → IsRule rules number rule → slice_get marks number ≡ Some mark → IsMarkedAs rules number rule mark
+AreRuleMarks rules marks = (number : ℕ) (rule : Rule) (mark : RuleMark) → IsRule rules number rule → slice_get marks number ≡ Some mark →
+    IsMarkedAs rules number rule mark
 
 -- The marks are those of the rules' positions and of the rules, for categories with these ranges.
 pub record ArePositions (rules : List Rule) (categories : ℕ) (ranges : List CategoryRange) (marks : PositionMarks) : Type 0 where
@@ -72,7 +73,8 @@ pub record ArePositions (rules : List Rule) (categories : ℕ) (ranges : List Ca
   pub last : (position : ℕ) → position < marks.leaves → IsTrue (slice_index_or marks.lasts position false) ↔ IsLast rules position
   pub front_last : (position : ℕ) → position < marks.leaves → IsTrue (slice_index_or marks.front_lasts position false) ↔ IsFrontLast rules position
   pub follows : (position next : ℕ) → position < marks.leaves → next < marks.leaves → IsTrue (marked_follows marks position next) ↔ Follows rules position next
-  pub reads : (position category : ℕ) → position < marks.leaves → category < categories → IsTrue (marked_reads marks position category) ↔ ReadsCategory rules ranges position category
+  pub reads : (position category : ℕ) → position < marks.leaves → category < categories →
+      IsTrue (marked_reads marks position category) ↔ ReadsCategory rules ranges position category
 
 -- each list has a member for each position, rule, or word of a row
 pub record IsWhole (marks : PositionMarks) : Type 0 where

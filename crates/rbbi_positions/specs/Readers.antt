@@ -13,4 +13,5 @@ HasEachCategory categories ranges = (category : ℕ) → 1 ≤ category → cate
 -- the positions in a category's row are those whose sets hold its code point, and category 0 has none
 pub record AreReaders (sets : List (List Range)) (numbers codes : List ℕ) (words : ℕ) (rows : List ℕ) : Type 0 where
   pub each : (category position : ℕ) → category < length codes → position < 64 * words →
-      IsTrue (in_row words rows category position) ↔ ((1 ≤ category) × (position < length numbers) × Has (set_at sets (slice_index numbers position)) (slice_index codes category))
+      IsTrue (in_row words rows category position) ↔ ((1 ≤ category) × (position < length numbers) × Has (set_at sets (slice_index numbers position))
+      (slice_index codes category))

@@ -31,7 +31,8 @@ rule_ends position rule first = option_map_or (λ rest. ends rest (first + leaf_
 abbrev pub rule_goes : ℕ → ℕ → Rule → ℕ → Bool
 rule_goes position next rule first =
     option_map_or
-    (λ rest. goes rest (first + leaf_count rule.front) position next false || goes rule.front first position next (begins rest (first + leaf_count rule.front) next))
+    (λ rest. goes rest (first + leaf_count rule.front) position next false || goes rule.front first position next
+    (begins rest (first + leaf_count rule.front) next))
     rule.rest
     (goes rule.front first position next false)
 

@@ -48,7 +48,8 @@ count-leaves-requires-in-loop-part-2 t c = (
     arith,
     c.requires sets,
     c.loop-part-2.invariant sets,
-    count_choice (tree_of sets) c.deref-part-items-in-Alt.result.now c.loop-part-2.part-index c.part-item-in-loop-part-2.result c.loop-part-2-test.true c.part-item-in-loop-part-2.is,
+    count_choice (tree_of sets) c.deref-part-items-in-Alt.result.now c.loop-part-2.part-index c.part-item-in-loop-part-2.result c.loop-part-2-test.true
+        c.part-item-in-loop-part-2.is,
   ),
 )
 
@@ -58,7 +59,8 @@ overflow_add-leaves-in-loop-part-2 t c = omega (
   c.requires [],
   c.loop-part-2.invariant [],
   c.count-leaves-in-loop-part-2.ensures [],
-  count_choice (tree_of []) c.deref-part-items-in-Alt.result.now c.loop-part-2.part-index c.part-item-in-loop-part-2.result c.loop-part-2-test.true c.part-item-in-loop-part-2.is,
+  count_choice (tree_of []) c.deref-part-items-in-Alt.result.now c.loop-part-2.part-index c.part-item-in-loop-part-2.result c.loop-part-2-test.true
+      c.part-item-in-loop-part-2.is,
 )
 
 pub loop-part-2-preserved : goal.loop-part-2-preserved
@@ -66,7 +68,8 @@ loop-part-2-preserved t c = λ sets. omega (
   arith,
   c.loop-part-2.invariant sets,
   c.count-leaves-in-loop-part-2.ensures sets,
-  count_choice (tree_of sets) c.deref-part-items-in-Alt.result.now c.loop-part-2.part-index c.part-item-in-loop-part-2.result c.loop-part-2-test.true c.part-item-in-loop-part-2.is,
+  count_choice (tree_of sets) c.deref-part-items-in-Alt.result.now c.loop-part-2.part-index c.part-item-in-loop-part-2.result c.loop-part-2-test.true
+      c.part-item-in-loop-part-2.is,
 )
 
 pub returns-after-loop-part-2 : goal.returns-after-loop-part-2

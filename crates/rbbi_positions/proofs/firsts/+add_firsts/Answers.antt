@@ -9,7 +9,8 @@ use Rattle.rbbi_positions.proofs.Parts.{count_sequence, count_choice, begins_on,
 use Rattle.rbbi_positions.proofs.firsts.+add_firsts.Goals as goal
 
 pub insert-requires : goal.insert-requires
-insert-requires t c = omega (arith, c.requires.within [], ap (λ tree. leaf_count (tree_of [] tree)) c.in-Leaf.is, ap leaf_count (tree_of_leaf [] c.in-Leaf.field-0))
+insert-requires t c =
+    omega (arith, c.requires.within [], ap (λ tree. leaf_count (tree_of [] tree)) c.in-Leaf.is, ap leaf_count (tree_of_leaf [] c.in-Leaf.field-0))
 
 pub add_firsts-requires : goal.add_firsts-requires
 add_firsts-requires t c = (
@@ -27,8 +28,10 @@ add_firsts-requires t c = (
 
 pub returns-then-not-is_empty : goal.returns-then-not-is_empty
 returns-then-not-is_empty t c = λ sets position.
-    begins_end (tree_of sets) c.deref-part-items.result.now c.loop-part.part-index c.part-item.result c.loop-part-test.true c.part-item.is c.loop-part.start position
-    (row_bit c.loop-part.row position) (row_bit c.add_firsts.new.row position) (sym (c.is_empty.ensures sets) ∙ c.if-not-is_empty.true) (c.add_firsts.ensures sets position)
+    begins_end (tree_of sets) c.deref-part-items.result.now c.loop-part.part-index c.part-item.result c.loop-part-test.true c.part-item.is c.loop-part.start
+    position
+    (row_bit c.loop-part.row position) (row_bit c.add_firsts.new.row position) (sym (c.is_empty.ensures sets)
+    ∙ c.if-not-is_empty.true) (c.add_firsts.ensures sets position)
     ∙ c.loop-part.invariant.bits sets position
 
 pub count-start-requires : goal.count-start-requires
@@ -59,8 +62,10 @@ loop-part-preserved t c = record {
     count_sequence (tree_of sets) c.deref-part-items.result.now c.loop-part.part-index c.part-item.result c.loop-part-test.true c.part-item.is,
   );
   bits = λ sets position.
-      begins_on (tree_of sets) c.deref-part-items.result.now c.loop-part.part-index c.part-item.result c.loop-part-test.true c.part-item.is c.loop-part.start c.count-start.result position
-      (row_bit c.loop-part.row position) (row_bit c.add_firsts.new.row position) (sym (c.is_empty.ensures sets) ∙ c.if-not-is_empty.false) (c.count-start.ensures sets) (c.add_firsts.ensures sets position)
+      begins_on (tree_of sets) c.deref-part-items.result.now c.loop-part.part-index c.part-item.result c.loop-part-test.true c.part-item.is c.loop-part.start
+      c.count-start.result position
+      (row_bit c.loop-part.row position) (row_bit c.add_firsts.new.row position) (sym (c.is_empty.ensures sets)
+      ∙ c.if-not-is_empty.false) (c.count-start.ensures sets) (c.add_firsts.ensures sets position)
       ∙ c.loop-part.invariant.bits sets position;
 }
 
@@ -73,7 +78,8 @@ add_firsts-requires-in-loop-part-2 t c = (
       arith,
       c.requires.within sets,
       c.loop-part-2.invariant.fits sets,
-      count_choice (tree_of sets) c.deref-part-items-in-Alt.result.now c.loop-part-2.part-index c.part-item-in-loop-part-2.result c.loop-part-2-test.true c.part-item-in-loop-part-2.is,
+      count_choice (tree_of sets) c.deref-part-items-in-Alt.result.now c.loop-part-2.part-index c.part-item-in-loop-part-2.result c.loop-part-2-test.true
+          c.part-item-in-loop-part-2.is,
     ),
   ),
 )
@@ -84,7 +90,8 @@ count-start-requires-in-loop-part-2 t c = λ sets. omega (
   c.requires.within sets,
   c.requires.short,
   c.loop-part-2.invariant.fits sets,
-  count_choice (tree_of sets) c.deref-part-items-in-Alt.result.now c.loop-part-2.part-index c.part-item-in-loop-part-2.result c.loop-part-2-test.true c.part-item-in-loop-part-2.is,
+  count_choice (tree_of sets) c.deref-part-items-in-Alt.result.now c.loop-part-2.part-index c.part-item-in-loop-part-2.result c.loop-part-2-test.true
+      c.part-item-in-loop-part-2.is,
 )
 
 pub overflow_add-start-in-loop-part-2 : goal.overflow_add-start-in-loop-part-2
@@ -94,7 +101,8 @@ overflow_add-start-in-loop-part-2 t c = omega (
   c.requires.short,
   c.loop-part-2.invariant.fits [],
   c.count-start-in-loop-part-2.ensures [],
-  count_choice (tree_of []) c.deref-part-items-in-Alt.result.now c.loop-part-2.part-index c.part-item-in-loop-part-2.result c.loop-part-2-test.true c.part-item-in-loop-part-2.is,
+  count_choice (tree_of []) c.deref-part-items-in-Alt.result.now c.loop-part-2.part-index c.part-item-in-loop-part-2.result c.loop-part-2-test.true
+      c.part-item-in-loop-part-2.is,
 )
 
 pub loop-part-2-preserved : goal.loop-part-2-preserved
@@ -103,12 +111,15 @@ loop-part-2-preserved t c = record {
     arith,
     c.loop-part-2.invariant.fits sets,
     c.count-start-in-loop-part-2.ensures sets,
-    count_choice (tree_of sets) c.deref-part-items-in-Alt.result.now c.loop-part-2.part-index c.part-item-in-loop-part-2.result c.loop-part-2-test.true c.part-item-in-loop-part-2.is,
+    count_choice (tree_of sets) c.deref-part-items-in-Alt.result.now c.loop-part-2.part-index c.part-item-in-loop-part-2.result c.loop-part-2-test.true
+        c.part-item-in-loop-part-2.is,
   );
   bits = λ sets position.
-      choice_on (tree_of sets) c.deref-part-items-in-Alt.result.now c.loop-part-2.part-index c.part-item-in-loop-part-2.result c.loop-part-2-test.true c.part-item-in-loop-part-2.is
+      choice_on (tree_of sets) c.deref-part-items-in-Alt.result.now c.loop-part-2.part-index c.part-item-in-loop-part-2.result c.loop-part-2-test.true
+      c.part-item-in-loop-part-2.is
       (λ tree first. begins tree first position) (begins_of position) c.loop-part-2.start c.count-start-in-loop-part-2.result
-      (row_bit c.loop-part-2.row position) (row_bit c.add_firsts-in-loop-part-2.new.row position) (c.count-start-in-loop-part-2.ensures sets) (c.add_firsts-in-loop-part-2.ensures sets position)
+      (row_bit c.loop-part-2.row position) (row_bit c.add_firsts-in-loop-part-2.new.row position) (c.count-start-in-loop-part-2.ensures sets)
+      (c.add_firsts-in-loop-part-2.ensures sets position)
       ∙ c.loop-part-2.invariant.bits sets position;
 }
 
@@ -129,13 +140,16 @@ add_firsts-requires-in-Rep t c = (
 
 pub returns-after-loop-part : goal.returns-after-loop-part
 returns-after-loop-part t c = λ sets position.
-    sym (ap (λ x. row_bit c.loop-part.row position || x) (sequence_done (λ tree. begins tree c.loop-part.start position) (tree_of sets) c.deref-part-items.result.now c.loop-part.part-index c.loop-part-test.false)
+    sym (ap (λ x. row_bit c.loop-part.row position || x)
+    (sequence_done (λ tree. begins tree c.loop-part.start position) (tree_of sets) c.deref-part-items.result.now c.loop-part.part-index c.loop-part-test.false)
     ∙ or_none (row_bit c.loop-part.row position))
     ∙ c.loop-part.invariant.bits sets position
 
 pub returns-after-loop-part-2 : goal.returns-after-loop-part-2
 returns-after-loop-part-2 t c = λ sets position.
-    sym (ap (λ x. row_bit c.loop-part-2.row position || x) (choice_done (λ tree. begins tree c.loop-part-2.start position) (tree_of sets) c.deref-part-items-in-Alt.result.now c.loop-part-2.part-index c.loop-part-2-test.false)
+    sym (ap (λ x. row_bit c.loop-part-2.row position || x)
+    (choice_done (λ tree. begins tree c.loop-part-2.start position) (tree_of sets) c.deref-part-items-in-Alt.result.now c.loop-part-2.part-index
+    c.loop-part-2-test.false)
     ∙ or_none (row_bit c.loop-part-2.row position))
     ∙ c.loop-part-2.invariant.bits sets position
 
@@ -144,4 +158,5 @@ returns-in-Rep t c = λ sets position.
     c.add_firsts-in-Rep.ensures sets position
     ∙ ap (λ tree. row_bit c.args.row.now position || begins (tree_of sets tree) c.args.first position) c.deref.ensures
     ∙ ap (λ x. row_bit c.args.row.now position || x)
-    (sym (ap (λ tree. begins (tree_of sets tree) c.args.first position) c.in-Rep.is ∙ of_repeat (λ tree. begins tree c.args.first position) (λ repetition tree. refl) sets c.in-Rep.field-0 c.in-Rep.part))
+    (sym (ap (λ tree. begins (tree_of sets tree) c.args.first position) c.in-Rep.is
+    ∙ of_repeat (λ tree. begins tree c.args.first position) (λ repetition tree. refl) sets c.in-Rep.field-0 c.in-Rep.part))

@@ -10,14 +10,18 @@ use Rattle.rbbi_positions.proofs.firsts.+add_firsts.Given as goal
 
 abbrev pub invariant-loop-part : goal.invariant-loop-part
 invariant-loop-part l = record {
-  fits : (sets : List (List Range)) → l.start + leaf_count (sequence_of (map (tree_of sets) (drop l.part-index l.part-items))) ≡ l.first + leaf_count (tree_of sets l.tree);
+  fits : (sets : List (List Range)) →
+      l.start + leaf_count (sequence_of (map (tree_of sets) (drop l.part-index l.part-items))) ≡ l.first + leaf_count (tree_of sets l.tree);
   bits : (sets : List (List Range)) (position : ℕ) →
-      (row_bit l.row position || begins (sequence_of (map (tree_of sets) (drop l.part-index l.part-items))) l.start position) ≡ (row_bit l.fn.row position || begins (tree_of sets l.tree) l.first position);
+      (row_bit l.row position || begins (sequence_of (map (tree_of sets) (drop l.part-index l.part-items))) l.start position) ≡ (row_bit l.fn.row
+      position || begins (tree_of sets l.tree) l.first position);
 }
 
 abbrev pub invariant-loop-part-2 : goal.invariant-loop-part-2
 invariant-loop-part-2 l = record {
-  fits : (sets : List (List Range)) → l.start + leaf_count (choice_of (map (tree_of sets) (drop l.part-index l.part-items))) ≡ l.first + leaf_count (tree_of sets l.tree);
+  fits : (sets : List (List Range)) →
+      l.start + leaf_count (choice_of (map (tree_of sets) (drop l.part-index l.part-items))) ≡ l.first + leaf_count (tree_of sets l.tree);
   bits : (sets : List (List Range)) (position : ℕ) →
-      (row_bit l.row position || begins (choice_of (map (tree_of sets) (drop l.part-index l.part-items))) l.start position) ≡ (row_bit l.fn.row position || begins (tree_of sets l.tree) l.first position);
+      (row_bit l.row position || begins (choice_of (map (tree_of sets) (drop l.part-index l.part-items))) l.start position) ≡ (row_bit l.fn.row
+      position || begins (tree_of sets l.tree) l.first position);
 }

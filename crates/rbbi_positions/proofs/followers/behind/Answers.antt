@@ -19,12 +19,16 @@ returns-clause-bits c = λ sets position.
       | in-Quest w ↦ ap (λ row. row_bit row.items position) w.row-is ∙ ap (λ row. row_bit row position) same ∙ sym (ap quants w.in-Quest.is)
       | in-Star w ↦
           let written : (with_items c.in_ok-row.row w.add_firsts.new.row).items ≡ w.add_firsts.new.row =
-          take_at w.add_firsts.new.row (drop (length w.add_firsts.new.row) c.in_ok-row.row.items) c.in_ok-row.row.len (omega (arith, c.in_ok-row.row.ok.0, w.deref_mut.ensures.len, w.add_firsts.auto.row)) in
+          take_at w.add_firsts.new.row (drop (length w.add_firsts.new.row) c.in_ok-row.row.items) c.in_ok-row.row.len
+          (omega (arith, c.in_ok-row.row.ok.0, w.deref_mut.ensures.len, w.add_firsts.auto.row)) in
           ap (λ row. row_bit row.items position) w.row-is ∙ ap (λ row. row_bit row position) written ∙ w.add_firsts.ensures sets position
-          ∙ ap (λ row. row_bit row position || begins (tree_of sets c.args.part.now) c.args.first position) (w.deref_mut.ensures.value ∙ same) ∙ sym (ap quants w.in-Star.is)
+          ∙ ap (λ row. row_bit row position || begins (tree_of sets c.args.part.now) c.args.first position) (w.deref_mut.ensures.value ∙ same)
+          ∙ sym (ap quants w.in-Star.is)
       | in-Plus w ↦
           let written : (with_items c.in_ok-row.row w.add_firsts-in-Plus.new.row).items ≡ w.add_firsts-in-Plus.new.row =
-          take_at w.add_firsts-in-Plus.new.row (drop (length w.add_firsts-in-Plus.new.row) c.in_ok-row.row.items) c.in_ok-row.row.len (omega (arith, c.in_ok-row.row.ok.0, w.deref_mut-in-Plus.ensures.len, w.add_firsts-in-Plus.auto.row)) in
+          take_at w.add_firsts-in-Plus.new.row (drop (length w.add_firsts-in-Plus.new.row) c.in_ok-row.row.items) c.in_ok-row.row.len
+          (omega (arith, c.in_ok-row.row.ok.0, w.deref_mut-in-Plus.ensures.len, w.add_firsts-in-Plus.auto.row)) in
           ap (λ row. row_bit row.items position) w.row-is ∙ ap (λ row. row_bit row position) written ∙ w.add_firsts-in-Plus.ensures sets position
-          ∙ ap (λ row. row_bit row position || begins (tree_of sets c.args.part.now) c.args.first position) (w.deref_mut-in-Plus.ensures.value ∙ same) ∙ sym (ap quants w.in-Plus.is)
+          ∙ ap (λ row. row_bit row position || begins (tree_of sets c.args.part.now) c.args.first position) (w.deref_mut-in-Plus.ensures.value ∙ same)
+          ∙ sym (ap quants w.in-Plus.is)
     ]

@@ -9,5 +9,6 @@ abbrev pub invariant-loop-category : goal.invariant-loop-category
 invariant-loop-category l = record {
   many : length l.rows.items ≡ length l.codes * l.words;
   each : (category position : ℕ) → category < length l.codes → position < 64 * l.words →
-      IsTrue (in_row l.words l.rows.items category position) ↔ ((1 ≤ category) × (category < l.category) × (position < length l.numbers) × Has (set_at l.sets (get_or l.numbers position 0)) (get_or l.codes category 0));
+      IsTrue (in_row l.words l.rows.items category position) ↔ ((1 ≤ category) × (category < l.category) × (position < length l.numbers) × Has
+      (set_at l.sets (get_or l.numbers position 0)) (get_or l.codes category 0));
 }

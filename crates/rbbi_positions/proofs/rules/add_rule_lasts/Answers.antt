@@ -9,7 +9,8 @@ pub overflow_add-first : goal.overflow_add-first
 overflow_add-first c = omega (arith, c.requires.few, c.requires.within [], c.count.ensures [], leaves_some [] c.args.rule.now c.in-Some.rest c.in-Some.is)
 
 pub add_lasts-requires-in-Some-clause-within : goal.add_lasts-requires-in-Some-clause-within
-add_lasts-requires-in-Some-clause-within c = λ sets. omega (arith, c.requires.within sets, c.count.ensures sets, leaves_some sets c.args.rule.now c.in-Some.rest c.in-Some.is)
+add_lasts-requires-in-Some-clause-within c =
+    λ sets. omega (arith, c.requires.within sets, c.count.ensures sets, leaves_some sets c.args.rule.now c.in-Some.rest c.in-Some.is)
 
 pub returns-in-None : goal.returns-in-None
 returns-in-None c = λ sets position.
@@ -24,4 +25,5 @@ returns-in-Some c = λ sets position.
     c.add_lasts-in-Some.ensures sets position
     ∙ ap (λ n. get_or c.args.flags.now position false || ends (tree_of sets c.in-Some.rest) (c.args.first + n) position) (c.count.ensures sets)
     ∙ ap (λ x. get_or c.args.flags.now position false || x)
-    (sym (of_some sets c.args.rule.now c.in-Some.rest (λ rest. ends rest (c.args.first + leaf_count front) position) (ends front c.args.first position) c.in-Some.is))
+    (sym (of_some sets c.args.rule.now c.in-Some.rest (λ rest. ends rest (c.args.first + leaf_count front) position) (ends front c.args.first position)
+    c.in-Some.is))

@@ -9,5 +9,6 @@ abbrev pub invariant-loop-number : goal.invariant-loop-number
 invariant-loop-number l = record {
   many : length l.rows.items ≡ l.leaves * l.words;
   at : l.start ≡ first_position (rules_of l.rules) l.number;
-  rows : (position other : ℕ) → other < 64 * l.words → in_row l.words l.rows.items position other ≡ some_rule (rule_goes position other) (take l.number (rules_of l.rules)) 0;
+  rows : (position other : ℕ) → other < 64 * l.words →
+      in_row l.words l.rows.items position other ≡ some_rule (rule_goes position other) (take l.number (rules_of l.rules)) 0;
 }

@@ -6,7 +6,8 @@ use Rattle.rbbi_positions.proofs.RuleFacts.{first_next, first_within, owners_mor
 use Rattle.rbbi_positions.proofs.rules.owners_of.Goals as goal
 
 pub count_of_rule-count-requires : goal.count_of_rule-count-requires
-count_of_rule-count-requires c = λ sets. omega (arith, first_within c.args.rules.now c.loop-number.number c.get.result.now c.get.ensures sets, c.requires.few_leaves)
+count_of_rule-count-requires c =
+    λ sets. omega (arith, first_within c.args.rules.now c.loop-number.number c.get.result.now c.get.ensures sets, c.requires.few_leaves)
 
 pub loop-number-preserved : goal.loop-number-preserved
 loop-number-preserved c = record {
@@ -20,6 +21,8 @@ loop-number-preserved c = record {
     first_next c.args.rules.now c.loop-number.number c.get.result.now c.get.ensures c.args.rules.now.sets,
   );
   each = subst (AreOwners (rules_of c.args.rules.now)) (sym c.in_ok-add_owners.ensures)
-      (owners_more (rules_of c.args.rules.now) c.loop-number.number c.count_of_rule-count.result (rule_of c.args.rules.now.sets c.get.result.now) c.loop-number.owners.items
-      (rule_is c.args.rules.now c.loop-number.number c.get.result.now c.get.ensures) (c.count_of_rule-count.ensures c.args.rules.now.sets) c.loop-number.invariant.many c.loop-number.invariant.each);
+      (owners_more (rules_of c.args.rules.now) c.loop-number.number c.count_of_rule-count.result (rule_of c.args.rules.now.sets c.get.result.now)
+      c.loop-number.owners.items
+      (rule_is c.args.rules.now c.loop-number.number c.get.result.now c.get.ensures) (c.count_of_rule-count.ensures c.args.rules.now.sets)
+      c.loop-number.invariant.many c.loop-number.invariant.each);
 }
