@@ -11,3 +11,4 @@ pub mod Numbers
 pub mod Refusals
 pub mod LeastTables
 pub mod Categories
+pub mod Builds

@@ -2,6 +2,7 @@
 #![tactic(auto)]
 
 mod automaton;
+mod build;
 mod determinize;
 mod error;
 mod laws;
@@ -9,4 +10,5 @@ mod least;
 mod minimize;
 mod table;
 
+pub use build::build;
 pub use error::BuildErr;
