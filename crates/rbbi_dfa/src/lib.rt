@@ -2,7 +2,7 @@
 #![tactic(auto)]
 
 mod automaton;
-mod build;
+mod compile;
 mod determinize;
 mod error;
 mod laws;
@@ -10,5 +10,5 @@ mod least;
 mod minimize;
 mod table;
 
-pub use build::build;
+pub use compile::build;
 pub use error::BuildErr;
