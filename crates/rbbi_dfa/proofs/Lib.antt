@@ -31,3 +31,5 @@ pub mod Leastness
 pub mod RuleNeeds
 pub mod Compiling
 pub mod Finishing
+pub mod Building
+pub mod LookAheads

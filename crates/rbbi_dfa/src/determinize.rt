@@ -13,7 +13,6 @@ ghost use Rattle.rbbi_dfa.specs.MarkedRows.{AreReadable, AreOf};
 
 mod bits;
 mod error;
-mod laws;
 mod leaf_sets;
 mod marks;
 mod position_rows;
@@ -169,6 +168,7 @@ pub(crate) fn automaton_of(
     requires some_categories { 1 ≤ categories }
     requires few_categories { categories ≤ 255 }
     requires readable { AreReadable positions.now categories slashes }
+    ensures categories { IfOk result (λ automaton. automaton.categories ≡ categories) }
     ensures marks { IfOk result (λ automaton. (rules : List Rule) (ranges : List CategoryRange) →
         AreOf rules categories slashes ranges positions.now →
         HasSameMarks (with_ranges automaton ranges) rules) }

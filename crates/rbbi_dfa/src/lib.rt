@@ -5,7 +5,6 @@ mod automaton;
 mod compile;
 mod determinize;
 mod error;
-mod laws;
 mod least;
 mod minimize;
 mod table;
