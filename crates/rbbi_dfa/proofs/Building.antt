@@ -1,5 +1,5 @@
 -- What is said of the table of an automaton with the marks of the rules is said of the rules.
-use Rattle.std.proofs.Common.{◌≡◌, ◌<◌, ◌≤◌, ◌+◌, ◌*◌, ◌/◌, ℕ, List, length, Bool, true, false, Result, Ok, Err, refl, sym, ◌∙◌, subst, arith}
+use Rattle.std.proofs.Common.{◌≡◌, ◌+◌, ◌*◌, ◌/◌, ℕ, List, length, true, false, Result, Ok, Err, refl, sym, ◌∙◌, subst, arith}
 use Rattle.std.specs.Prelude.{count_by}
 use Rattle.std.specs.Result.{IsErr, IsErrAnd}
 use Rattle.rbbi_model.specs.Rules.{Rule}

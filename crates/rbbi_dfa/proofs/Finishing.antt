@@ -1,9 +1,9 @@
 -- The parts of a least table are those of a valid one.
-use Rattle.std.proofs.Common.{◌≡◌, ℕ, ◌+◌, ◌*◌, ◌/◌, ◌%◌, ◌<◌, ◌≤◌, List, [], length, ap, sym, ◌∙◌, subst, ⊎_elim, arith, slice_index}
+use Rattle.std.proofs.Common.{◌≡◌, ℕ, ◌*◌, ◌/◌, ◌%◌, ◌<◌, ◌≤◌, List, length, ap, sym, ◌∙◌, subst, ⊎_elim, arith, slice_index}
 use Rattle.std.proofs.lemmas.Bool.{cases_lt}
 use Rattle.std.proofs.lemmas.Nat.{div_below, mod_below, div-add-mod'}
-use Rattle.rbbi_model.specs.Tables.{Table, CategoryRange, RowHead, step}
-use Rattle.rbbi_model.specs.ValidTables.{AreValidRanges, AreValidRows, AreValidSafePairs}
+use Rattle.rbbi_model.specs.Tables.{Table, CategoryRange, RowHead}
+use Rattle.rbbi_model.specs.ValidTables.{AreValidRanges, AreValidRows}
 use Rattle.rbbi_table.specs.Parts.{AreSteps, rows_of, HasFittingParts}
 use Rattle.rbbi_table.specs.Targets.{ArePairsOf}
 use Rattle.rbbi_dfa.specs.LeastTables.{AreValidParts, IsLeastOf, finished}

@@ -9,6 +9,7 @@ pub mod Steps
 pub mod Buckets
 pub mod Lead
 pub mod Cells
+pub mod WordFollowers
 pub mod MarkLoops
 pub mod Joined
 pub mod Determined

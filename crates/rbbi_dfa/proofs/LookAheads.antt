@@ -1,14 +1,13 @@
 -- How many rules look ahead, by the marks of rules.
-use Rattle.std.proofs.Common.{◌≡◌, ◌+◌, ◌<◌, ℕ, suc, zero, Bool, true, false, cond, List, [], ◌∷◌, length, Option, Some, None, refl, ap, sym, ◌∙◌, arith}
+use Rattle.std.proofs.Common.{◌≡◌, ◌+◌, ℕ, suc, Bool, true, false, cond, List, [], ◌∷◌, length, Option, Some, None, refl, ap, sym, ◌∙◌, arith}
 use Rattle.std.specs.Prelude.{take, count_by, is_some, slice_get}
 use Rattle.std.specs.Option.{option_map}
 use Rattle.std.proofs.lemmas.Option.{slice_get_within, get_or_from_slice_get}
 use Rattle.std.proofs.lemmas.List.Sums.{count_by_more_no, count_by_more_yes, length-filter, sum_by-cons}
 use Rattle.rbbi_model.specs.Spelling.{Tree}
 use Rattle.rbbi_model.specs.Rules.{Rule, look_aheads}
-use Rattle.rbbi_model.specs.Chains.{IsRule}
 use Rattle.rbbi_model.specs.Tables.{CategoryRange}
-use Rattle.rbbi_positions.specs.PositionMarks.{RuleMark, PositionMarks, slash_of, ArePositions}
+use Rattle.rbbi_positions.specs.PositionMarks.{RuleMark, PositionMarks, ArePositions}
 
 -- whether the marks are those of a rule that looks ahead
 abbrev pub has_slash : RuleMark → Bool

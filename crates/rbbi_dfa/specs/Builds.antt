@@ -1,5 +1,5 @@
 -- What compiling the positions of rules answers.
-use Rattle.std.specs.Prelude.{ℕ, List, Result, Ok, Err}
+use Rattle.std.specs.Prelude.{List, Result, Ok, Err}
 use Rattle.rbbi_model.specs.Rules.{Rule, AreLawful}
 use Rattle.rbbi_model.specs.Tables.{Table}
 use Rattle.rbbi_model.specs.ValidTables.{AreValidRanges}

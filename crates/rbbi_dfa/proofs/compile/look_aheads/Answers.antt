@@ -1,5 +1,5 @@
-use Rattle.std.proofs.Common.{◌≡◌, ◌+◌, ◌<◌, ℕ, cond, ap, sym, ◌∙◌, arith, is_some}
-use Rattle.rbbi_dfa.proofs.LookAheads.{has_slash, counted_more}
+use Rattle.std.proofs.Common.{ℕ, cond, ap, sym, ◌∙◌, arith}
+use Rattle.rbbi_dfa.proofs.LookAheads.{counted_more}
 use Rattle.rbbi_dfa.proofs.compile.look_aheads.Goals as goal
 use Rattle.rbbi_dfa.proofs.compile.look_aheads.Goals.{then-is_some, else-is_some}
 

@@ -1,6 +1,6 @@
 -- how many of the rules so far look ahead
 use Rattle.std.proofs.Common.{◌≡◌, ◌≤◌}
-use Rattle.std.specs.Prelude.{take, count_by, is_some}
+use Rattle.std.specs.Prelude.{take, count_by}
 use Rattle.rbbi_dfa.proofs.LookAheads.{has_slash}
 use Rattle.rbbi_dfa.proofs.compile.look_aheads.Given as goal
 
