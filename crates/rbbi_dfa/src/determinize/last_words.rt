@@ -1,17 +1,16 @@
-//! What may follow a set of positions, word by word. Sets that come one after another have most words
-//! in common, and what may follow a word is found once, until it is another.
-ghost use Rattle.std.specs.Prelude.{◌≡◌, ◌<◌, ◌*◌, ℕ, length, slice_index, IfOk, OnOk};
+//! What may follow a set of positions, word by word. Sets that come one after another have most
+//! words in common, and what may follow a word is found once, until it is another.
+ghost use Rattle.std.specs.Prelude.{◌≡◌, ◌<◌, ◌↔◌, ℕ, length, slice_index, IfOk, OnOk};
+ghost use Rattle.rbbi_dfa.specs.BitRows.{Holds};
 ghost use Rattle.rbbi_dfa.specs.Determinizing.{AreFollowers};
 ghost use Rattle.rbbi_dfa.specs.LastWords.{AddsFollowers, AreKept, FollowsWord};
-ghost use Rattle.rbbi_dfa.specs.BitRows.{Holds};
-ghost use Rattle.std.specs.Prelude.{◌↔◌};
 
 use crate::determinize::bits::is_set;
 use crate::determinize::position_rows::Rows;
 use crate::determinize::spanned::SpannedRow;
 use std::alloc::{AllocError, Global};
 
-/// For each word of a set the value that it had last, and the positions that may follow those in it.
+/// For each word of a set the value that it had last, and the positions that may follow those of it.
 #[derive(Drop)]
 pub(crate) struct LastWords {
     words: Vec<u64>,

@@ -5,8 +5,8 @@ ghost use Rattle.rbbi_dfa.specs.BitRows.{Holds};
 use crate::determinize::bits::{Span, span_of, unite};
 use std::marker::Model;
 
-/// A set of positions, with the words outside of which it holds nothing. What may follow a position is
-/// narrow as a rule: no more than the positions of its own rule. Contracts see the row.
+/// A set of positions, with the words outside of which it holds nothing. What may follow a position
+/// is narrow as a rule: no more than the positions of its own rule. Contracts see the row.
 #[derive(Drop)]
 pub(crate) struct SpannedRow {
     words: Vec<u64>,
