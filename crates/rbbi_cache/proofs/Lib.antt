@@ -14,5 +14,7 @@ pub mod Walks
 pub mod Goes
 pub mod Showing
 pub mod RunLists
+pub mod Members
+pub mod Nearer
 pub mod Ready
 pub mod Begins

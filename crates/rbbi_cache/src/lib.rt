@@ -4,6 +4,8 @@
 #![tactic(auto)]
 
 mod anchors;
+mod back;
+mod cache;
 mod entry;
 mod run;
 mod runs;
@@ -11,5 +13,6 @@ mod scan;
 mod search;
 mod shown;
 
+pub use cache::Cache;
 pub use entry::Entry;
 pub use run::{MOST_ENTRIES, Run};
