@@ -10,8 +10,9 @@ ghost use Rattle.rbbi_cache.specs.Ready.{KeepsTrue};
 
 use crate::anchors::anchor_before;
 use crate::back::{START, search_back};
-use crate::runs::{MOST_RUNS, Shown, find_after, find_before, find_nearest, put_first, to_front};
-use crate::search::{go_on, search};
+use crate::run_list::RunList;
+use crate::runs::{Shown, find_after, find_before, find_nearest};
+use crate::search::search;
 use crate::{Entry, Run};
 use rbbi_table::{Marks, Table};
 use rbbi_text::{Chars, Steps};
@@ -22,9 +23,9 @@ use std::sync::ledger::Ledger;
 /// Boundaries of one text by one table, kept in at most 16 runs. All memory is taken when it is made.
 #[derive(Debug, Drop)]
 pub struct Cache {
-    /// Room for 16 runs, of which the first ones are kept.
-    pub(crate) runs: Vec<Run>,
-    pub(crate) count: usize,
+    pub(crate) runs: RunList,
+    /// Room for what an edit leaves of the runs.
+    pub(crate) next: RunList,
     /// The run that a question makes, before it is kept.
     pub(crate) spare: Run,
     /// Scratch space of searches.
@@ -32,14 +33,11 @@ pub struct Cache {
 }
 
 impl Model for Cache {
-    ghost use Rattle.std.specs.Prelude.{◌≡◌, ◌≤◌, take, length};
     ghost use Rattle.rbbi_cache.specs.Kept.{KeptRuns};
 
     ghost Value = { KeptRuns };
 
-    ghost view = { λ cache. record { runs = take cache.count cache.runs.items; slashes = cache.marks } };
-
-    ghost invariant = { λ cache. (cache.count ≤ 16) × (length cache.runs.items ≡ 16) };
+    ghost view = { λ cache. record { runs = cache.runs; slashes = cache.marks } };
 }
 
 impl Cache {
@@ -47,17 +45,11 @@ impl Cache {
     pub fn new(alloc: Global, table: &Table) -> Result<Cache, AllocError>
         ensures { IfOk result (λ cache. (cache.runs ≡ []) × (cache.slashes ≡ table.now.slashes)) }
     {
-        let mut runs = Vec::with_capacity(alloc, MOST_RUNS)?;
-        for _ in 0..MOST_RUNS {
-            runs.push(Run::empty(alloc)?)?;
-        }
-        let spare = Run::empty(alloc)?;
-        let marks = Marks::new(alloc, table)?;
         Ok(Cache {
-            runs,
-            count: 0,
-            spare,
-            marks,
+            runs: RunList::empty(alloc)?,
+            next: RunList::empty(alloc)?,
+            spare: Run::empty(alloc)?,
+            marks: Marks::new(alloc, table)?,
         })
     }
 
@@ -66,7 +58,7 @@ impl Cache {
         ensures runs { result.now ≡ self.now.runs }
         ensures few { length result.now ≤ 16 }
     {
-        &self.runs[..self.count]
+        self.runs.as_slice()
     }
 
     /// The first boundary of the text past `i`, in characters from 0, or None where `i` is its length or
@@ -96,13 +88,11 @@ impl Cache {
             steps.new ≤ steps.old + forward_cost table.now (T.characters text.now) i }
         ensures nothing { length (T.characters text.now) ≤ i → steps.new ≡ steps.old }
     {
-        let len = text.len();
-        if i >= len {
+        if i >= text.len() {
             return None;
         }
-        let known = &mut self.runs[..self.count];
-        if let Some(shown) = find_after(known, i) {
-            to_front(known, shown.run);
+        if let Some(shown) = find_after(self.runs.as_slice(), i) {
+            self.runs.move_to_front(shown.run);
             return Some(shown.entry);
         }
         Some(self.find_past(table, text, i, steps))
@@ -137,9 +127,8 @@ impl Cache {
             return None;
         }
         let len = text.len();
-        let known = &mut self.runs[..self.count];
-        if let Some(shown) = find_before(known, len, i) {
-            to_front(known, shown.run);
+        if let Some(shown) = find_before(self.runs.as_slice(), len, i) {
+            self.runs.move_to_front(shown.run);
             return Some(shown.entry);
         }
         if len == 0 {
@@ -169,7 +158,7 @@ impl Cache {
         ensures more { steps.old ≤ steps.new }
         ensures cost { steps.new ≤ steps.old + forward_cost table.now (T.characters text.now) i }
     {
-        let nearest = find_nearest(&self.runs[..self.count], i);
+        let nearest = find_nearest(self.runs.as_slice(), i);
         let low = match &nearest {
             Some(known) => known.entry.at,
             None => 0,
@@ -182,7 +171,7 @@ impl Cache {
         }
         let spare = &mut self.spare;
         let entry = search(table, text, anchor, i, spare, &mut self.marks, steps);
-        self.count = put_first(&mut self.runs, self.count, spare);
+        self.runs.add(spare);
         entry
     }
 
@@ -208,22 +197,22 @@ impl Cache {
         ensures cost { steps.new ≤ steps.old + searches_cost table.now (T.characters text.now)
             (anchor_below table.now (T.characters text.now) i) i }
     {
-        let run = &mut self.runs[known.run];
         let spare = &mut self.spare;
-        let (entry, is_kept) = go_on(
+        let marks = &mut self.marks;
+        let (entry, is_kept) = self.runs.go_on(
+            known.run,
             table,
             text,
             i,
-            run,
             known.entry,
             spare,
-            &mut self.marks,
+            marks,
             steps,
         );
         if is_kept {
-            to_front(&mut self.runs[..self.count], known.run);
+            self.runs.move_to_front(known.run);
         } else {
-            self.count = put_first(&mut self.runs, self.count, spare);
+            self.runs.add(spare);
         }
         entry
     }
@@ -251,7 +240,7 @@ impl Cache {
         let spare = &mut self.spare;
         let entry = search_back(table, text, i, spare, &mut self.marks, steps);
         if entry.at > 0 {
-            self.count = put_first(&mut self.runs, self.count, spare);
+            self.runs.add(spare);
         }
         entry
     }

@@ -8,6 +8,7 @@ mod back;
 mod cache;
 mod entry;
 mod run;
+mod run_list;
 mod runs;
 mod scan;
 mod search;
