@@ -16,5 +16,7 @@ pub mod Showing
 pub mod RunLists
 pub mod Members
 pub mod Nearer
+pub mod Slots
 pub mod Ready
 pub mod Begins
+pub mod Keeping

@@ -158,6 +158,7 @@ impl Cache {
         ensures more { steps.old ≤ steps.new }
         ensures cost { steps.new ≤ steps.old + forward_cost table.now (T.characters text.now) i }
     {
+        table.valid();
         let nearest = find_nearest(self.runs.as_slice(), i);
         let low = match &nearest {
             Some(known) => known.entry.at,
@@ -197,6 +198,7 @@ impl Cache {
         ensures cost { steps.new ≤ steps.old + searches_cost table.now (T.characters text.now)
             (anchor_below table.now (T.characters text.now) i) i }
     {
+        table.valid();
         let spare = &mut self.spare;
         let marks = &mut self.marks;
         let (entry, is_kept) = self.runs.go_on(

@@ -67,7 +67,8 @@ impl RunList {
     /// Puts a new run before the others. Where there are 16, the last one goes. What comes back in the
     /// new run's place isn't said.
     pub(crate) fn add(&mut self, run: &mut Run)
-        ensures { self.new ≡ run.old ∷ take 15 self.old }
+        ensures added { self.new ≡ run.old ∷ take 15 self.old }
+        ensures few { length self.old ≤ 16 }
     {
         self.count = put_first(&mut self.slots, self.count, run);
     }
