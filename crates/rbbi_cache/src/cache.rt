@@ -158,18 +158,38 @@ impl Cache {
         ensures more { steps.old ≤ steps.new }
         ensures cost { steps.new ≤ steps.old + forward_cost table.now (T.characters text.now) i }
     {
-        table.valid();
-        let nearest = find_nearest(self.runs.as_slice(), i);
-        let low = match &nearest {
-            Some(known) => known.entry.at,
-            None => 0,
+        let Some(known) = find_nearest(self.runs.as_slice(), i) else {
+            let anchor = anchor_before(table, text, 0, i, steps);
+            return self.find_from(table, text, anchor, i, steps);
         };
-        let anchor = anchor_before(table, text, low, i, steps);
-        if let Some(known) = nearest
-            && anchor == low
-        {
-            return self.find_on(table, text, i, known, steps);
+        let anchor = anchor_before(table, text, known.entry.at, i, steps);
+        if anchor > known.entry.at {
+            return self.find_from(table, text, anchor, i, steps);
         }
+        self.find_on(table, text, i, known, steps)
+    }
+
+    /// Searches from the greatest anchor before `i`.
+    fn find_from<T: Chars, L: Ledger>(
+        &mut self,
+        table: &Table,
+        text: &T,
+        anchor: u32,
+        i: u32,
+        steps: &mut Steps<L>,
+    ) -> Entry
+        requires fit { self.old.slashes ≡ table.now.slashes }
+        requires are_true { AreTrueRuns table.now (T.characters text.now) self.old.runs }
+        requires within { i < length (T.characters text.now) }
+        requires small { i < most_characters }
+        requires anchor { anchor ≡ anchor_below table.now (T.characters text.now) i }
+        ensures kept { KeepsTrue table.now (T.characters text.now)
+            (λ run. IsShownAfter run i result) self.old.runs self.new.runs }
+        ensures fit { self.new.slashes ≡ self.old.slashes }
+        ensures more { steps.old ≤ steps.new }
+        ensures cost { steps.new ≤ steps.old + searches_cost table.now (T.characters text.now) anchor i }
+    {
+        table.valid();
         let spare = &mut self.spare;
         let entry = search(table, text, anchor, i, spare, &mut self.marks, steps);
         self.runs.add(spare);
