@@ -20,3 +20,4 @@ pub mod Slots
 pub mod Ready
 pub mod Begins
 pub mod Keeping
+pub mod Answering

@@ -88,6 +88,7 @@ impl Cache {
             steps.new ≤ steps.old + forward_cost table.now (T.characters text.now) i }
         ensures nothing { length (T.characters text.now) ≤ i → steps.new ≡ steps.old }
     {
+        table.valid();
         if i >= text.len() {
             return None;
         }
