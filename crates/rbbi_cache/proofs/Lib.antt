@@ -19,5 +19,7 @@ pub mod Nearer
 pub mod Slots
 pub mod Ready
 pub mod Begins
+pub mod Backward
+pub mod TriedBack
 pub mod Keeping
 pub mod Answering

@@ -9,7 +9,7 @@ ghost use Rattle.rbbi_cache.specs.Lists.{HasAt, GoesOnFrom};
 ghost use Rattle.rbbi_cache.specs.Ready.{KeepsTrue};
 
 use crate::anchors::anchor_before;
-use crate::back::{START, search_back};
+use crate::back::search_back;
 use crate::run_list::RunList;
 use crate::runs::{Shown, find_after, find_before, find_nearest};
 use crate::search::search;
@@ -19,6 +19,13 @@ use rbbi_text::{Chars, Steps};
 use std::alloc::{AllocError, Global};
 use std::marker::Model;
 use std::sync::ledger::Ledger;
+
+/// The boundary before the first character, which no search finds.
+const START: Entry = Entry {
+    at: 0,
+    status: 0,
+    reach: 0,
+};
 
 /// Boundaries of one text by one table, kept in at most 16 runs. All memory is taken when it is made.
 #[derive(Debug, Drop)]
@@ -261,10 +268,10 @@ impl Cache {
         ensures cost { steps.new ≤ steps.old + back_cost table.now (T.characters text.now) i }
     {
         let spare = &mut self.spare;
-        let entry = search_back(table, text, i, spare, &mut self.marks, steps);
-        if entry.at > 0 {
-            self.runs.add(spare);
-        }
+        let Some(entry) = search_back(table, text, i, spare, &mut self.marks, steps) else {
+            return START;
+        };
+        self.runs.add(spare);
         entry
     }
 }

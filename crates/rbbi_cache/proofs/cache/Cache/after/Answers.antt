@@ -21,7 +21,7 @@ returns-in-Some-clause-answer g c = (
   omega arith,
   answer_after c.args.table.now c.valid.ensures (g.T.Chars.characters c.args.text.now) c.args.i c.in-Some.shown.entry c.args.self.now.runs c.move_to_front.new.self
       (keeps_shown c.args.table.now c.valid.ensures (g.T.Chars.characters c.args.text.now) (λ r. IsShownAfter r c.args.i c.in-Some.shown.entry) c.args.self.now.runs c.requires.are_true
-    c.as_slice.result.now c.self.inside.runs c.as_slice.ensures.runs (ap (λ (s : KeptRuns). s.runs) c.self.view_is) c.in-Some.shown.run c.in-Some.ensures c.move_to_front.new.self c.move_to_front.ensures),
+      c.as_slice.result.now c.self.inside.runs c.as_slice.ensures.runs (ap (λ (s : KeptRuns). s.runs) c.self.view_is) c.in-Some.shown.run c.in-Some.ensures c.move_to_front.new.self c.move_to_front.ensures),
 )
 
 pub returns-in-Some-clause-kept : goal.returns-in-Some-clause-kept
