@@ -38,7 +38,7 @@ pub(crate) fn search_back<T: Chars, L: Ledger>(
 {
     table.valid();
     let mut anchor = anchor_before(table, text, 0, i.saturating_sub(2), steps);
-    loop {
+    'tries: loop {
         if let Some(entry) = search_from(table, text, anchor, i, run, marks, steps) {
             return Some(entry);
         }
