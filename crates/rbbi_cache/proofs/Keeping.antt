@@ -1,18 +1,16 @@
 -- What is kept after an answer.
-use Rattle.std.proofs.Common.{◌≡◌, ℕ, ◌+◌, ◌-◌, ◌<◌, ◌≤◌, ◌⊎◌, Bool, true, false, List, [], ◌∷◌, ◌++◌, length, length-append, length-take, length-drop, take, drop, map, sym, refl, ap, ◌∙◌, subst, inl, inr, ⊎_elim, append_assoc, arith}
-use Rattle.std.specs.Prelude.{IsTrue}
+use Rattle.std.proofs.Common.{◌≡◌, ℕ, ◌-◌, ◌<◌, ◌≤◌, Bool, true, false, List, [], ◌∷◌, ◌++◌, length, length-take, length-drop, take, drop, map, sym, refl, ap, ◌∙◌, subst, inr, ⊎_elim, arith}
 use Rattle.std.specs.List.{AllByRecursion}
 use Rattle.std.proofs.lemmas.Bool.{cases_lt}
 use Rattle.std.proofs.lemmas.List.{append-nil, take-append-drop, take_all}
-use Rattle.rbbi_model.specs.Lists.{IsRising}
 use Rattle.rbbi_model.specs.Tables.{Table}
 use Rattle.rbbi_model.specs.ValidTables.{IsValidTable}
 use Rattle.rbbi_model.specs.Searches.{fresh}
 use Rattle.rbbi_model.specs.Runs.{Entry, Run, IsAnchor, boundary_of, AreConsecutive, IsTrueRun}
-use Rattle.rbbi_cache.specs.Kept.{AreTrueRuns, IsExtendedBy, AreLeft, Added, Extended, Dropped, HasLeastReaches, Keeps}
+use Rattle.rbbi_cache.specs.Kept.{AreTrueRuns, IsExtendedBy, AreLeft, Added, Extended, Dropped, HasLeastReaches}
 use Rattle.rbbi_cache.specs.Shown.{IsShownAfter, IsShownBefore}
 use Rattle.rbbi_cache.specs.Lists.{IsOrdered, HasAt}
-use Rattle.rbbi_cache.specs.Ready.{IsReady, IsAmong, GoesOnAs, GoesOnAt, KeepsTrue}
+use Rattle.rbbi_cache.specs.Ready.{GoesOnAs, GoesOnAt, KeepsTrue}
 use Rattle.rbbi_cache.proofs.Lists.{all_join, all_left, all_right, all_through}
 use Rattle.rbbi_cache.proofs.Reached.{first_member}
 use Rattle.rbbi_cache.proofs.RunFacts as facts

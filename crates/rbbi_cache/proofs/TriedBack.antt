@@ -2,18 +2,17 @@
 use Rattle.std.proofs.Common.{◌≡◌, ◌≢◌, ℕ, zero, suc, ◌+◌, ◌-◌, ◌*◌, ◌<◌, ◌≤◌, ◌⊎◌, true, false, eqb, ltb, List, [], ◌∷◌, ◌++◌, Option, Some, None, length, sym, refl, ap, ◌∙◌, subst, inl, inr, ⊎_elim, append_assoc, arith}
 use Rattle.std.specs.Prelude.{sum_by}
 use Rattle.std.specs.List.{AllByRecursion}
-use Rattle.std.proofs.lemmas.Bool.{cond-true, cond-false, lt-ltb, le-ltb, cases_eq, ne_eqb}
+use Rattle.std.proofs.lemmas.Bool.{cond-true, cond-false, lt-ltb, le-ltb, ne_eqb}
 use Rattle.std.proofs.lemmas.List.Sums.{sum_by_push}
 use Rattle.rbbi_model.specs.Boundaries.{Boundary}
 use Rattle.rbbi_model.specs.Tables.{Table}
 use Rattle.rbbi_model.specs.ValidTables.{IsValidTable}
-use Rattle.rbbi_model.specs.Searches.{next_boundary, follow_by, fresh, table_boundaries}
-use Rattle.rbbi_model.specs.Answers.{last_place, last_before}
-use Rattle.rbbi_model.specs.Runs.{Entry, IsAnchor, low, boundary_of}
+use Rattle.rbbi_model.specs.Searches.{next_boundary, follow_by}
+use Rattle.rbbi_model.specs.Answers.{last_place}
+use Rattle.rbbi_model.specs.Runs.{IsAnchor, low}
 use Rattle.rbbi_model.specs.Costs.{anchor_below, searches_cost, settles, tries_from, tries, last_of, back_cost, forward_cost, last_cost, preceding_cost}
 use Rattle.rbbi_cache.specs.Kept.{IsLastBefore}
 use Rattle.rbbi_cache.specs.Ready.{HasNoneBefore}
-use Rattle.rbbi_cache.proofs.Lists.{all_through}
 use Rattle.rbbi_cache.proofs.Reached.{first_member, rises_after, none_follows}
 use Rattle.rbbi_cache.proofs.Reanchor.{fresh_rises}
 use Rattle.rbbi_cache.proofs.Scanned.{first_is}

@@ -1,7 +1,7 @@
-use Rattle.std.proofs.Common.{◌≡◌, ℕ, zero, suc, ◌+◌, ◌-◌, ◌<◌, ◌≤◌, List, [], length, inl, inr, refl, sym, ap, ◌∙◌, subst, arith}
+use Rattle.std.proofs.Common.{ℕ, ◌-◌, inl, sym, ap, ◌∙◌, subst, arith}
 use Rattle.std.specs.List.{AllByRecursion}
-use Rattle.rbbi_model.specs.Runs.{Run, ShowsBefore}
-use Rattle.rbbi_cache.specs.Kept.{KeptRuns, AreTrueRuns, SomeRun}
+use Rattle.rbbi_model.specs.Runs.{ShowsBefore}
+use Rattle.rbbi_cache.specs.Kept.{KeptRuns}
 use Rattle.rbbi_cache.specs.Shown.{IsShownAfter, IsShownBefore}
 use Rattle.rbbi_cache.specs.Lists.{IsOrdered}
 use Rattle.rbbi_cache.proofs.Keeping.{all_ordered, keeps_shown, keeps_through, shown_last}

@@ -1,7 +1,6 @@
-use Rattle.std.proofs.Common.{◌≡◌, inl, sym, subst}
+use Rattle.std.proofs.Common.{inl, sym, subst}
 use Rattle.rbbi_cache.specs.Kept.{KeptRuns, AreTrueRuns, Keeps}
 use Rattle.rbbi_cache.specs.Shown.{IsShownBefore}
-use Rattle.rbbi_cache.specs.Ready.{KeepsTrue}
 use Rattle.rbbi_cache.proofs.Keeping.{keeps_added}
 use Rattle.rbbi_cache.proofs.Answering.{is_last_before}
 use Rattle.rbbi_cache.proofs.cache.Cache.find_back.Goals as goal
