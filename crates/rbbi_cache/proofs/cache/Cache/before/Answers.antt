@@ -21,7 +21,7 @@ returns-in-Some-clause-answer g c = (
   omega arith,
   answer_before c.args.table.now c.valid.ensures (g.T.Chars.characters c.args.text.now) c.args.i c.in-Some.shown.entry c.args.self.now.runs c.move_to_front.new.self
       (keeps_shown c.args.table.now c.valid.ensures (g.T.Chars.characters c.args.text.now) (λ r. IsShownBefore (g.T.Chars.characters c.args.text.now) r c.args.i c.in-Some.shown.entry) c.args.self.now.runs c.requires.are_true
-    c.as_slice.result.now c.self.inside.runs c.as_slice.ensures.runs (ap (λ (s : KeptRuns). s.runs) c.self.view_is) c.in-Some.shown.run (c.in-Some.ensures (g.T.Chars.characters c.args.text.now) c.len-len.ensures.exact) c.move_to_front.new.self c.move_to_front.ensures),
+      c.as_slice.result.now c.self.inside.runs c.as_slice.ensures.runs (ap (λ (s : KeptRuns). s.runs) c.self.view_is) c.in-Some.shown.run (c.in-Some.ensures (g.T.Chars.characters c.args.text.now) c.len-len.ensures.exact) c.move_to_front.new.self c.move_to_front.ensures),
 )
 
 pub returns-in-Some-clause-kept : goal.returns-in-Some-clause-kept
@@ -43,7 +43,7 @@ returns-then-i-len-clause-answer g c = (
   omega arith,
   answer_before c.args.table.now c.valid.ensures (g.T.Chars.characters c.args.text.now) c.args.i c.find_past.result c.args.self.now.runs c.find_past.new.self.runs
       (keeps_through c.args.table.now c.valid.ensures (g.T.Chars.characters c.args.text.now) (λ r. IsShownAfter r (c.len-len.result - 1) c.find_past.result) (λ r. IsShownBefore (g.T.Chars.characters c.args.text.now) r c.args.i c.find_past.result)
-    (shown_last c.args.table.now c.valid.ensures (g.T.Chars.characters c.args.text.now) c.len-len.result c.args.i c.len-len.ensures.exact (omega arith) c.if-i-len.true c.find_past.result) c.args.self.now.runs c.find_past.new.self.runs c.find_past.ensures.kept),
+      (shown_last c.args.table.now c.valid.ensures (g.T.Chars.characters c.args.text.now) c.len-len.result c.args.i c.len-len.ensures.exact (omega arith) c.if-i-len.true c.find_past.result) c.args.self.now.runs c.find_past.new.self.runs c.find_past.ensures.kept),
 )
 
 pub returns-then-i-len-clause-kept : goal.returns-then-i-len-clause-kept
