@@ -17,7 +17,8 @@ use Rattle.rbbi_cache.proofs.Members.{SomeMember, member_stands, standing, membe
 
 module _ (table : Table) (valid : IsValidTable table) (x : List ℕ) where
   -- an entry of a true run is one of the boundaries
-  entry_boundary : (run : Run) (is_true : IsTrueRun table x run) (front : List Entry) (e : Entry) (rest : List Entry) → run.entries ≡ front ++ e ∷ rest → IsBoundaryOf table x e
+  entry_boundary : (run : Run) (is_true : IsTrueRun table x run) (front : List Entry) (e : Entry) (rest : List Entry) → run.entries ≡ front ++ e ∷ rest →
+      IsBoundaryOf table x e
   entry_boundary run is_true front e rest whole =
       let is = facts.fresh_is table valid x run is_true front e rest whole in
       let place = facts.place table valid x run is_true front e rest whole in
@@ -26,10 +27,15 @@ module _ (table : Table) (valid : IsValidTable table) (x : List ℕ) where
       ⊎_elim
       (λ zero. record { before = done; after = behind; whole = ap (fresh table x) (sym zero) ∙ is })
       (λ other.
-      let far : low run.anchor ≤ e.at = ⊎_elim (λ zero. absurd (other zero)) (λ past. omega (arith, cond-false (eqb run.anchor 0) 1 (run.anchor + 2) (ne_eqb run.anchor 0 other))) place in
+      let far : low run.anchor ≤ e.at = ⊎_elim (λ zero. absurd (other zero)) (λ past. omega (
+        arith,
+        cond-false (eqb run.anchor 0) 1 (run.anchor + 2) (ne_eqb
+            run.anchor 0 other),
+      )) place in
       let here : SomeMember (λ b. b ≡ boundary_of table e) (fresh table x run.anchor) =
       subst (SomeMember (λ b. b ≡ boundary_of table e)) (sym is) (standing (λ b. b ≡ boundary_of table e) done (boundary_of table e) behind refl) in
-      let kept = member_kept (λ b. b ≡ boundary_of table e) (low run.anchor) (λ b same. omega (arith, ap (λ (m : Boundary). m.at) same)) (fresh table x run.anchor) here in
+      let kept = member_kept (λ b. b ≡ boundary_of table e) (low run.anchor) (λ b same. omega (arith, ap (λ (m : Boundary). m.at) same)) (fresh table x
+      run.anchor) here in
       let there =
       member_stands (λ b. b ≡ boundary_of table e) (table_boundaries table x)
       (member_of_kept (λ b. b ≡ boundary_of table e) (low run.anchor) (table_boundaries table x)
@@ -56,7 +62,8 @@ module _ (table : Table) (valid : IsValidTable table) (x : List ℕ) where
   pub answer_after : (i : ℕ) (entry : Entry) (former now : List Run) → KeepsTrue table x (λ r. IsShownAfter r i entry) former now → IsFirstAfter table x i entry
   answer_after i entry former now keeps = is_first_after (keeps.0).first (first_true (λ r. IsShownAfter r i entry) former now keeps) i entry (keeps.0).shows
 
-  pub answer_before : (i : ℕ) (entry : Entry) (former now : List Run) → KeepsTrue table x (λ r. IsShownBefore x r i entry) former now → IsLastBefore table x i entry
+  pub answer_before : (i : ℕ) (entry : Entry) (former now : List Run) → KeepsTrue table x (λ r. IsShownBefore x r i entry) former now → IsLastBefore table x i
+      entry
   answer_before i entry former now keeps = is_last_before (keeps.0).first (first_true (λ r. IsShownBefore x r i entry) former now keeps) i entry (keeps.0).shows
 
 -- where no run is such a one, none is

@@ -56,7 +56,8 @@ none_settles table x i q other none =
 pub zero_settles : (table : Table) (x : List ℕ) (i q : ℕ) → q ≡ 0 → settles table x i q ≡ true
 zero_settles table x i q is = or_left (eqb q 0) (list_any (λ (member : Boundary). leb (q + 2) member.at && ltb member.at i) (fresh table x q)) (eq-eqb q 0 is)
 
-module _ (table : Table) (valid : IsValidTable table) (x : List ℕ) (i p : ℕ) (some : 0 < i) (short : i ≤ length x) (near : (p ≡ 0) ⊎ (p + 2 ≤ i)) (anchor : IsAnchor table x p)
+module _ (table : Table) (valid : IsValidTable table) (x : List ℕ) (i p : ℕ) (some : 0 < i) (short : i ≤ length x) (near : (p ≡ 0) ⊎ (p + 2 ≤ i)) (anchor :
+    IsAnchor table x p)
     (run : Run) (begun : run ≡ record { anchor = p; entries = []; leads = true }) (here : Entry) (after : Run) (before now : ℕ)
     (gone_on : GoesOn table x run.anchor (i - 1) (record { at = p; status = 0; reach = 0 }) run here after before now) (past : i - 1 < here.at) where
   pub up_to : p ≤ i - 1
@@ -96,11 +97,13 @@ module _ (table : Table) (valid : IsValidTable table) (x : List ℕ) (i p : ℕ)
       let rest : List Boundary = follow_by (next_boundary table x) (length x) is.reached.most (boundary_of table gone.scan.here) in
       let P : Boundary → Type 0 = λ m. low p ≤ m.at → i ≤ m.at in
       subst (λ bs. AllByRecursion (λ (m : Boundary). low p ≤ m.at → i ≤ m.at) bs) (sym (fresh_is table valid x p (i - 1) gone.scan after is))
-      (all_join (λ (m : Boundary). low p ≤ m.at → i ≤ m.at) (gone.scan.skipped ++ map (boundary_of table) (gone.scan.known ++ gone.scan.found)) (follow_by (next_boundary table x) (length x) is.reached.most (boundary_of table gone.scan.here))
+      (all_join (λ (m : Boundary). low p ≤ m.at → i ≤ m.at) (gone.scan.skipped ++ map (boundary_of table) (gone.scan.known ++ gone.scan.found)) (follow_by
+      (next_boundary table x) (length x) is.reached.most (boundary_of table gone.scan.here))
       (all_join (λ (m : Boundary). low p ≤ m.at → i ≤ m.at) gone.scan.skipped (map (boundary_of table) (gone.scan.known ++ gone.scan.found))
       (all_through (λ m. m.at < low p) (λ m. low p ≤ m.at → i ≤ m.at) (λ m less from. absurd (omega arith)) gone.scan.skipped (is.skipped_low known))
       (entries_far (gone.scan.known ++ gone.scan.found) is.last at_most))
-      (all_through (λ m. gone.scan.here.at < m.at) (λ m. low p ≤ m.at → i ≤ m.at) (λ m less _. let far = past_here in omega arith) (follow_by (next_boundary table x) (length x) is.reached.most (boundary_of table gone.scan.here))
+      (all_through (λ m. gone.scan.here.at < m.at) (λ m. low p ≤ m.at → i ≤ m.at) (λ m less _. let far = past_here in omega arith) (follow_by (next_boundary
+      table x) (length x) is.reached.most (boundary_of table gone.scan.here))
       (rest_after table x p gone.scan.done (boundary_of table gone.scan.here) is.reached)))
     where
       at_most : length (gone.scan.known ++ gone.scan.found) < 2
@@ -110,7 +113,8 @@ module _ (table : Table) (valid : IsValidTable table) (x : List ℕ) (i p : ℕ)
           (λ two. absurd (omega arith))
           gone.is.enough_left
 
-      entries_far : (entries : List Entry) → ((entries ≡ []) ⊎ ((front : List Entry) × (entries ≡ front ++ gone.scan.here ∷ []))) → length entries < 2 → AllByRecursion (λ (m : Boundary). low p ≤ m.at → i ≤ m.at) (map (boundary_of table) entries)
+      entries_far : (entries : List Entry) → ((entries ≡ []) ⊎ ((front : List Entry) × (entries ≡ front ++ gone.scan.here ∷ []))) → length entries < 2 →
+          AllByRecursion (λ (m : Boundary). low p ≤ m.at → i ≤ m.at) (map (boundary_of table) entries)
       entries_far [] last short = tt
       entries_far (e ∷ []) last short =
           ⊎_elim
@@ -140,7 +144,13 @@ module _ (table : Table) (valid : IsValidTable table) (x : List ℕ) (i p : ℕ)
     -- the entry that stands last but one
     pub stands : (entries : List Entry) → entries ≡ after.entries → (d : Entry) → get_or entries (length entries - 2) d ≡ parts.1.0
     stands entries same d =
-        let long : length entries - 2 ≡ length parts.0 = omega (arith, ap length same, ap length whole, length-append parts.0 (parts.1.0 ∷ (gone.scan.here ∷ []))) in
+        let long : length entries - 2 ≡ length parts.0 = omega (
+          arith,
+          ap length same,
+          ap length whole,
+          length-append parts.0 (parts.1.0 ∷ (gone.scan.here ∷
+              [])),
+        ) in
         ap (λ n. get_or entries n d) long ∙ ap (λ l. get_or l (length parts.0) d) (same ∙ whole) ∙ get_or-append_seam parts.0 parts.1.0 (gone.scan.here ∷ []) d
 
     pub ready_back : (kept : List Run) (e : Entry) → e ≡ parts.1.0 → IsReadyBack table x i kept e after
@@ -149,7 +159,16 @@ module _ (table : Table) (valid : IsValidTable table) (x : List ℕ) (i p : ℕ)
         (record {
           is_true = (ready kept).is_true;
           shows = (
-            record { before = parts.0; entry = parts.1.0; after = gone.scan.here ∷ []; whole = whole; at = refl; short_of = let up = before_place in omega arith; nearest = inl past_here },
+            record {
+              before = parts.0;
+              entry = parts.1.0;
+              after = gone.scan.here ∷ [];
+              whole = whole;
+              at = refl;
+              short_of = let up = before_place in omega
+                  arith;
+              nearest = inl past_here;
+            },
             refl,
           );
           reaches = (ready kept).reaches;
@@ -164,9 +183,11 @@ module _ (table : Table) (valid : IsValidTable table) (x : List ℕ) (i p : ℕ)
         (λ other.
         let is = ap (fresh table x) (sym gone.is.anchor) ∙ facts.fresh_is table valid x after is_true parts.0 parts.1.0 (gone.scan.here ∷ []) whole in
         let far : p + 2 ≤ parts.1.0.at =
-        ⊎_elim (λ zero. absurd (other (sym gone.is.anchor ∙ zero))) (λ past. omega (arith, gone.is.anchor)) (facts.place table valid x after is_true parts.0 parts.1.0 (gone.scan.here ∷ []) whole) in
+        ⊎_elim (λ zero. absurd (other (sym gone.is.anchor ∙ zero))) (λ past. omega (arith, gone.is.anchor)) (facts.place table valid x after is_true parts.0
+        parts.1.0 (gone.scan.here ∷ []) whole) in
         or_right (eqb p 0) (list_any (λ (member : Boundary). leb (p + 2) member.at && ltb member.at i) (fresh table x p))
         (ap (list_any (λ (member : Boundary). leb (p + 2) member.at && ltb member.at i)) is
-        ∙ any_at (λ (member : Boundary). leb (p + 2) member.at && ltb member.at i) (is_true.consecutive.before ++ map (boundary_of table) parts.0) (boundary_of table parts.1.0) (map (boundary_of table) (gone.scan.here ∷ []) ++ is_true.consecutive.after)
+        ∙ any_at (λ (member : Boundary). leb (p + 2) member.at && ltb member.at i) (is_true.consecutive.before ++ map (boundary_of table) parts.0) (boundary_of
+        table parts.1.0) (map (boundary_of table) (gone.scan.here ∷ []) ++ is_true.consecutive.after)
         (and_from (leb (p + 2) parts.1.0.at) (ltb parts.1.0.at i) (le-leb (p + 2) parts.1.0.at far) (lt-ltb parts.1.0.at i (omega arith)))))
         (cases_eq p 0)

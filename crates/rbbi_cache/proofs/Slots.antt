@@ -14,7 +14,8 @@ first_of_joined xs rest count is = ap (λ n. take n (xs ++ rest)) (sym is) ∙ t
 pub refilled : (ws items : List Run) (len : ℕ) → len ≡ length items → length ws ≡ length items → take len (ws ++ drop (length ws) items) ≡ ws
 refilled ws items len is same = first_of_joined ws (drop (length ws) items) len (same ∙ sym is)
 
-module _ (items : List Run) (count : ℕ) (within : count ≤ length items) (now before : List Run) (run : Run) (after : List Run) (view : take count items ≡ now) (whole : now ≡ before ++ run ∷ after) where
+module _ (items : List Run) (count : ℕ) (within : count ≤ length items) (now before : List Run) (run : Run) (after : List Run) (view : take count items ≡ now)
+    (whole : now ≡ before ++ run ∷ after) where
   pub count_is : count ≡ length before + (length after + 1)
   count_is = omega (arith, ap length (view ∙ whole), length-take count items, length-append before (run ∷ after))
 
@@ -47,7 +48,8 @@ module _ (items : List Run) (count : ℕ) (within : count ≤ length items) (now
         at_seam (r ∷ front) = at_seam front
 
 -- a new run stands before the first 15 of the others
-pub added_is : (items : List Run) (count : ℕ) → length items ≡ 16 → count ≤ 16 → (now slots : List Run) (run : Run) (kept : ℕ) → take count items ≡ now → take kept slots ≡ run ∷ take (min count 15) items → take kept slots ≡ run ∷ take 15 now
+pub added_is : (items : List Run) (count : ℕ) → length items ≡ 16 → count ≤ 16 → (now slots : List Run) (run : Run) (kept : ℕ) → take count items ≡ now → take
+    kept slots ≡ run ∷ take (min count 15) items → take kept slots ≡ run ∷ take 15 now
 added_is items count full few now slots run kept view is =
     is ∙ ap (λ l. run ∷ l) (taken ∙ ap (take 15) view)
   where

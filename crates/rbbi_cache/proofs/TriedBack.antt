@@ -38,7 +38,8 @@ module _ (table : Table) (valid : IsValidTable table) (x : List ℕ) (i : ℕ) w
   lies : (high : ℕ) → (anchor_below table x high ≡ 0) ⊎ (anchor_below table x high < high)
   lies high = (anchor_is table valid x high).below
 
-  pub tried_first : (read : ℕ) → 0 < i → read + anchor_below table x (i - 2) ≤ (i - 2) + 1 → ((i - 2) ≤ 1 → read ≡ 0) → Tried table x i (anchor_below table x (i - 2)) read
+  pub tried_first : (read : ℕ) → 0 < i → read + anchor_below table x (i - 2) ≤ (i - 2) + 1 → ((i - 2) ≤ 1 → read ≡ 0) → Tried table x i (anchor_below table x
+      (i - 2)) read
   tried_first read some walked near = record {
     done = [];
     most = i;
@@ -50,8 +51,10 @@ module _ (table : Table) (valid : IsValidTable table) (x : List ℕ) (i : ℕ) w
   }
 
   -- the try settled nothing, and the next one is made
-  pub tried_next : (q read : ℕ) → Tried table x i q read → q ≢ 0 → settles table x i q ≡ false → (read' read'' : ℕ) → read' ≤ read + searches_cost table x q (i - 1) →
-      read'' + anchor_below table x (2 * q + 1 - i) ≤ read' + (2 * q + 1 - i) + 1 → ((2 * q + 1 - i) ≤ 1 → read'' ≡ read') → Tried table x i (anchor_below table x (2 * q + 1 - i)) read''
+  pub tried_next : (q read : ℕ) → Tried table x i q read → q ≢ 0 → settles table x i q ≡ false → (read' read'' : ℕ) → read' ≤ read + searches_cost table x q (i
+      - 1) →
+      read'' + anchor_below table x (2 * q + 1 - i) ≤ read' + (2 * q + 1 - i) + 1 → ((2 * q + 1 - i) ≤ 1 → read'' ≡ read') → Tried table x i (anchor_below
+      table x (2 * q + 1 - i)) read''
   tried_next q read tried other fails read' read'' searched walked near = of tried.most tried.whole tried.enough
     where
       next : ℕ
@@ -71,7 +74,8 @@ module _ (table : Table) (valid : IsValidTable table) (x : List ℕ) (i : ℕ) w
             most = most;
             whole =
                 whole
-                ∙ ap (λ l. tried.done ++ l) (cond-false (settles table x i q) (q ∷ []) (q ∷ tries_from table x i most (anchor_below table x (2 * q + 1 - i))) fails)
+                ∙ ap (λ l. tried.done ++ l) (cond-false (settles table x i q) (q ∷ []) (q ∷ tries_from table x i most (anchor_below table x (2 * q + 1 - i)))
+                fails)
                 ∙ sym (append_assoc tried.done (q ∷ []) (tries_from table x i most (anchor_below table x (2 * q + 1 - i))));
             enough = ⊎_elim (λ zero. omega arith) (λ less. omega arith) (lies (2 * q + 1 - i));
             anchor = (anchor_is table valid x (2 * q + 1 - i)).anchor;
@@ -84,7 +88,8 @@ module _ (table : Table) (valid : IsValidTable table) (x : List ℕ) (i : ℕ) w
   tries_fall q other far = ⊎_elim (λ zero. omega arith) (λ less. ⊎_elim (λ zero. absurd (other zero)) (λ apart. omega arith) far) (lies (2 * q + 1 - i))
 
   -- the last try settles, and all was read that the cost allows
-  pub tried_last : (q read : ℕ) → 0 < i → Tried table x i q read → settles table x i q ≡ true → (read' : ℕ) → read' ≤ read + searches_cost table x q (i - 1) → read' ≤ back_cost table x i
+  pub tried_last : (q read : ℕ) → 0 < i → Tried table x i q read → settles table x i q ≡ true → (read' : ℕ) → read' ≤ read + searches_cost table x q (i - 1) →
+      read' ≤ back_cost table x i
   tried_last q read some tried holds read' searched =
       let whole : tries table x i ≡ tried.done ++ q ∷ [] = tried.whole ∙ ap (λ l. tried.done ++ l) (ends tried.most) in
       let cost = tried.cost in
@@ -102,7 +107,8 @@ module _ (table : Table) (valid : IsValidTable table) (x : List ℕ) (i : ℕ) w
 -- nothing passes any more
 last_stays : (bs : List Boundary) (i : ℕ) (before : Option ℕ) → AllByRecursion (λ b. i ≤ b.at) bs → last_place (λ at. ltb at i) before bs ≡ before
 last_stays [] i before far = refl
-last_stays (b ∷ bs) i before far = ap (λ o. last_place (λ at. ltb at i) o bs) (cond-false (ltb b.at i) (Some b.at) before (le-ltb b.at i far.0)) ∙ last_stays bs i before far.1
+last_stays (b ∷ bs) i before far = ap (λ o. last_place (λ at. ltb at i) o bs) (cond-false (ltb b.at i) (Some b.at) before (le-ltb b.at i far.0)) ∙ last_stays
+    bs i before far.1
 
 module _ (table : Table) (valid : IsValidTable table) (x : List ℕ) (i : ℕ) (some : 0 < i) where
   -- where nothing is found from 0 before the place, the start is the answer
@@ -112,8 +118,10 @@ module _ (table : Table) (valid : IsValidTable table) (x : List ℕ) (i : ℕ) (
       let later = rises_after (first_member 0) (follow_by (next_boundary table x) (length x) (length x) (first_member 0)) (fresh_rises table x 0) in
       record {
         last =
-            ap (λ o. last_place (λ at. ltb at i) o (follow_by (next_boundary table x) (length x) (length x) (first_member 0))) (cond-true (ltb 0 i) (Some 0) None (lt-ltb 0 i some))
-            ∙ last_stays (follow_by (next_boundary table x) (length x) (length x) (first_member 0)) i (Some 0) (far (follow_by (next_boundary table x) (length x) (length x) (first_member 0)) later none.1);
+            ap (λ o. last_place (λ at. ltb at i) o (follow_by (next_boundary table x) (length x) (length x) (first_member 0))) (cond-true (ltb 0 i) (Some 0)
+            None (lt-ltb 0 i some))
+            ∙ last_stays (follow_by (next_boundary table x) (length x) (length x) (first_member 0)) i (Some 0) (far (follow_by (next_boundary table x) (length
+            x) (length x) (first_member 0)) later none.1);
         boundary = record {
           before = [];
           after = follow_by (next_boundary table x) (length x) (length x) (first_member 0);
@@ -129,7 +137,10 @@ module _ (table : Table) (valid : IsValidTable table) (x : List ℕ) (i : ℕ) (
   pub start_is_last_of_none : length x ≡ 0 → IsLastBefore table x i (record { at = 0; status = 0; reach = 0 })
   start_is_last_of_none empty =
       let alone = none_follows (next_boundary table x) (length x) (length x) (first_member 0) (omega arith) in
-      start_is_last (subst (λ bs. AllByRecursion (λ (b : Boundary). low 0 ≤ b.at → i ≤ b.at) (first_member 0 ∷ bs)) (sym alone) ((λ one. absurd (omega arith)), tt))
+      start_is_last (subst (λ bs. AllByRecursion (λ (b : Boundary). low 0 ≤ b.at → i ≤ b.at) (first_member 0 ∷ bs)) (sym alone) (
+        (λ one. absurd (omega arith)),
+        tt,
+      ))
 
 -- a place past the end costs what the last boundary does
 pub cost_past_end : (table : Table) (x : List ℕ) (i : ℕ) → length x < i → length x ≢ 0 → preceding_cost table x i ≡ forward_cost table x (length x - 1)

@@ -37,7 +37,8 @@ pub record IsReadyBack (table : Table) (x : List ℕ) (i : ℕ) (former : List R
   pub reaches : HasLeastReaches table x former run
 
 -- The run between the others has gone on, or is as before and another one is ready.
-pub record GoesOnAt (table : Table) (x : List ℕ) (i : ℕ) (before : List Run) (former : Run) (after : List Run) (entry : Entry) (is_kept : Bool) (now : List Run) (spare : Run) : Type 0 where
+pub record GoesOnAt (table : Table) (x : List ℕ) (i : ℕ) (before : List Run) (former : Run) (after : List Run) (entry : Entry) (is_kept : Bool) (now : List
+    Run) (spare : Run) : Type 0 where
   pub run : Run
   pub whole : now ≡ before ++ run ∷ after
   pub gone_on : GoesOnAs table x i former entry is_kept run spare

@@ -14,8 +14,10 @@ loop-place-init g c = record {
 
 pub loop-place-preserved : goal.loop-place-preserved
 loop-place-preserved g c = record {
-  walk = walk_goes c.args.table.now (g.T.Chars.characters c.args.text.now) c.args.high c.requires.within c.loop-place.place c.loop-place.next c.category-here.result c.loop-place.invariant.walk (omega arith)
-      (c.category-here.ensures.value ∙ ap (category_of c.args.table.now.ranges) c.char_at-in-loop-place.ensures.character) (sym c.is_safe.ensures.stored ∙ c.if-is_safe.false);
+  walk = walk_goes c.args.table.now (g.T.Chars.characters c.args.text.now) c.args.high c.requires.within c.loop-place.place c.loop-place.next
+      c.category-here.result c.loop-place.invariant.walk (omega arith)
+      (c.category-here.ensures.value ∙ ap (category_of c.args.table.now.ranges) c.char_at-in-loop-place.ensures.character) (sym c.is_safe.ensures.stored ∙
+      c.if-is_safe.false);
   order = omega arith;
   read = omega arith;
   category = c.category-here.ensures.within;
@@ -26,8 +28,10 @@ char_at-requires-in-loop-place g c = let below = c.loop-place.invariant.walk.bel
 
 pub returns-then-is_safe-clause-anchor : goal.returns-then-is_safe-clause-anchor
 returns-then-is_safe-clause-anchor g c =
-    let is = walk_ends c.args.table.now (g.T.Chars.characters c.args.text.now) c.args.high c.requires.within c.loop-place.place c.loop-place.next c.category-here.result c.loop-place.invariant.walk (omega arith)
-    (c.category-here.ensures.value ∙ ap (category_of c.args.table.now.ranges) c.char_at-in-loop-place.ensures.character) (sym c.is_safe.ensures.stored ∙ c.if-is_safe.true) in
+    let is = walk_ends c.args.table.now (g.T.Chars.characters c.args.text.now) c.args.high c.requires.within c.loop-place.place c.loop-place.next
+    c.category-here.result c.loop-place.invariant.walk (omega arith)
+    (c.category-here.ensures.value ∙ ap (category_of c.args.table.now.ranges) c.char_at-in-loop-place.ensures.character) (sym c.is_safe.ensures.stored ∙
+    c.if-is_safe.true) in
     omega arith
 
 pub returns-clause-anchor : goal.returns-clause-anchor
@@ -36,4 +40,5 @@ returns-clause-anchor g c =
     (λ p past less. c.loop-place.invariant.walk.none p (omega arith) less))
 
 pub returns-then-high-low-lt2-clause-anchor : goal.returns-then-high-low-lt2-clause-anchor
-returns-then-high-low-lt2-clause-anchor g c = sym (none_past c.args.table.now (g.T.Chars.characters c.args.text.now) c.args.high c.requires.within c.args.low (λ p past less. absurd (omega arith)))
+returns-then-high-low-lt2-clause-anchor g c = sym (none_past c.args.table.now (g.T.Chars.characters c.args.text.now) c.args.high c.requires.within c.args.low
+    (λ p past less. absurd (omega arith)))

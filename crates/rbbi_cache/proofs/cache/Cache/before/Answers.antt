@@ -14,25 +14,33 @@ pub find_before-requires-clause-ordered : goal.find_before-requires-clause-order
 find_before-requires-clause-ordered g c =
     let same = c.as_slice.ensures.runs ∙ ap (λ (s : KeptRuns). s.runs) c.self.view_is in
     subst (AllByRecursion (IsOrdered c.len-len.result)) (sym same)
-    (all_ordered c.args.table.now c.valid.ensures (g.T.Chars.characters c.args.text.now) c.len-len.result (omega arith) c.args.self.now.runs c.requires.are_true)
+    (all_ordered c.args.table.now c.valid.ensures (g.T.Chars.characters c.args.text.now) c.len-len.result (omega arith) c.args.self.now.runs
+    c.requires.are_true)
 
 pub returns-in-Some-clause-answer : goal.returns-in-Some-clause-answer
 returns-in-Some-clause-answer g c = (
   omega arith,
-  answer_before c.args.table.now c.valid.ensures (g.T.Chars.characters c.args.text.now) c.args.i c.in-Some.shown.entry c.args.self.now.runs c.move_to_front.new.self
-      (keeps_shown c.args.table.now c.valid.ensures (g.T.Chars.characters c.args.text.now) (λ r. IsShownBefore (g.T.Chars.characters c.args.text.now) r c.args.i c.in-Some.shown.entry) c.args.self.now.runs c.requires.are_true
-      c.as_slice.result.now c.self.inside.runs c.as_slice.ensures.runs (ap (λ (s : KeptRuns). s.runs) c.self.view_is) c.in-Some.shown.run (c.in-Some.ensures (g.T.Chars.characters c.args.text.now) c.len-len.ensures.exact) c.move_to_front.new.self c.move_to_front.ensures),
+  answer_before c.args.table.now c.valid.ensures (g.T.Chars.characters c.args.text.now) c.args.i c.in-Some.shown.entry c.args.self.now.runs
+      c.move_to_front.new.self
+      (keeps_shown c.args.table.now c.valid.ensures (g.T.Chars.characters c.args.text.now) (λ r. IsShownBefore (g.T.Chars.characters c.args.text.now) r
+      c.args.i c.in-Some.shown.entry) c.args.self.now.runs c.requires.are_true
+      c.as_slice.result.now c.self.inside.runs c.as_slice.ensures.runs (ap (λ (s : KeptRuns). s.runs) c.self.view_is) c.in-Some.shown.run (c.in-Some.ensures
+      (g.T.Chars.characters c.args.text.now) c.len-len.ensures.exact) c.move_to_front.new.self c.move_to_front.ensures),
 )
 
 pub returns-in-Some-clause-kept : goal.returns-in-Some-clause-kept
 returns-in-Some-clause-kept g c =
-    inl (keeps_shown c.args.table.now c.valid.ensures (g.T.Chars.characters c.args.text.now) (λ r. IsShownBefore (g.T.Chars.characters c.args.text.now) r c.args.i c.in-Some.shown.entry) c.args.self.now.runs c.requires.are_true
-    c.as_slice.result.now c.self.inside.runs c.as_slice.ensures.runs (ap (λ (s : KeptRuns). s.runs) c.self.view_is) c.in-Some.shown.run (c.in-Some.ensures (g.T.Chars.characters c.args.text.now) c.len-len.ensures.exact) c.move_to_front.new.self c.move_to_front.ensures).0
+    inl (keeps_shown c.args.table.now c.valid.ensures (g.T.Chars.characters c.args.text.now) (λ r. IsShownBefore (g.T.Chars.characters c.args.text.now) r
+    c.args.i c.in-Some.shown.entry) c.args.self.now.runs c.requires.are_true
+    c.as_slice.result.now c.self.inside.runs c.as_slice.ensures.runs (ap (λ (s : KeptRuns). s.runs) c.self.view_is) c.in-Some.shown.run (c.in-Some.ensures
+    (g.T.Chars.characters c.args.text.now) c.len-len.ensures.exact) c.move_to_front.new.self c.move_to_front.ensures).0
 
 pub returns-in-Some-clause-are_true : goal.returns-in-Some-clause-are_true
 returns-in-Some-clause-are_true g c =
-    (keeps_shown c.args.table.now c.valid.ensures (g.T.Chars.characters c.args.text.now) (λ r. IsShownBefore (g.T.Chars.characters c.args.text.now) r c.args.i c.in-Some.shown.entry) c.args.self.now.runs c.requires.are_true
-    c.as_slice.result.now c.self.inside.runs c.as_slice.ensures.runs (ap (λ (s : KeptRuns). s.runs) c.self.view_is) c.in-Some.shown.run (c.in-Some.ensures (g.T.Chars.characters c.args.text.now) c.len-len.ensures.exact) c.move_to_front.new.self c.move_to_front.ensures).1
+    (keeps_shown c.args.table.now c.valid.ensures (g.T.Chars.characters c.args.text.now) (λ r. IsShownBefore (g.T.Chars.characters c.args.text.now) r c.args.i
+    c.in-Some.shown.entry) c.args.self.now.runs c.requires.are_true
+    c.as_slice.result.now c.self.inside.runs c.as_slice.ensures.runs (ap (λ (s : KeptRuns). s.runs) c.self.view_is) c.in-Some.shown.run (c.in-Some.ensures
+    (g.T.Chars.characters c.args.text.now) c.len-len.ensures.exact) c.move_to_front.new.self c.move_to_front.ensures).1
 
 pub returns-then-len-eq0-clause-answer : goal.returns-then-len-eq0-clause-answer
 returns-then-len-eq0-clause-answer g c =
@@ -41,20 +49,27 @@ returns-then-len-eq0-clause-answer g c =
 pub returns-then-i-len-clause-answer : goal.returns-then-i-len-clause-answer
 returns-then-i-len-clause-answer g c = (
   omega arith,
-  answer_before c.args.table.now c.valid.ensures (g.T.Chars.characters c.args.text.now) c.args.i c.find_past.result c.args.self.now.runs c.find_past.new.self.runs
-      (keeps_through c.args.table.now c.valid.ensures (g.T.Chars.characters c.args.text.now) (λ r. IsShownAfter r (c.len-len.result - 1) c.find_past.result) (λ r. IsShownBefore (g.T.Chars.characters c.args.text.now) r c.args.i c.find_past.result)
-      (shown_last c.args.table.now c.valid.ensures (g.T.Chars.characters c.args.text.now) c.len-len.result c.args.i c.len-len.ensures.exact (omega arith) c.if-i-len.true c.find_past.result) c.args.self.now.runs c.find_past.new.self.runs c.find_past.ensures.kept),
+  answer_before c.args.table.now c.valid.ensures (g.T.Chars.characters c.args.text.now) c.args.i c.find_past.result c.args.self.now.runs
+      c.find_past.new.self.runs
+      (keeps_through c.args.table.now c.valid.ensures (g.T.Chars.characters c.args.text.now) (λ r. IsShownAfter r (c.len-len.result - 1) c.find_past.result) (λ
+      r. IsShownBefore (g.T.Chars.characters c.args.text.now) r c.args.i c.find_past.result)
+      (shown_last c.args.table.now c.valid.ensures (g.T.Chars.characters c.args.text.now) c.len-len.result c.args.i c.len-len.ensures.exact (omega arith)
+      c.if-i-len.true c.find_past.result) c.args.self.now.runs c.find_past.new.self.runs c.find_past.ensures.kept),
 )
 
 pub returns-then-i-len-clause-kept : goal.returns-then-i-len-clause-kept
 returns-then-i-len-clause-kept g c =
-    inl (keeps_through c.args.table.now c.valid.ensures (g.T.Chars.characters c.args.text.now) (λ r. IsShownAfter r (c.len-len.result - 1) c.find_past.result) (λ r. IsShownBefore (g.T.Chars.characters c.args.text.now) r c.args.i c.find_past.result)
-    (shown_last c.args.table.now c.valid.ensures (g.T.Chars.characters c.args.text.now) c.len-len.result c.args.i c.len-len.ensures.exact (omega arith) c.if-i-len.true c.find_past.result) c.args.self.now.runs c.find_past.new.self.runs c.find_past.ensures.kept).0
+    inl (keeps_through c.args.table.now c.valid.ensures (g.T.Chars.characters c.args.text.now) (λ r. IsShownAfter r (c.len-len.result - 1) c.find_past.result)
+    (λ r. IsShownBefore (g.T.Chars.characters c.args.text.now) r c.args.i c.find_past.result)
+    (shown_last c.args.table.now c.valid.ensures (g.T.Chars.characters c.args.text.now) c.len-len.result c.args.i c.len-len.ensures.exact (omega arith)
+    c.if-i-len.true c.find_past.result) c.args.self.now.runs c.find_past.new.self.runs c.find_past.ensures.kept).0
 
 pub returns-then-i-len-clause-shown : goal.returns-then-i-len-clause-shown
 returns-then-i-len-clause-shown g c a some =
     let same = c.as_slice.ensures.runs ∙ ap (λ (s : KeptRuns). s.runs) c.self.view_is in
-    absurd (no_run (λ a r. ShowsBefore (g.T.Chars.characters c.args.text.now) r c.args.i a) c.args.self.now.runs (subst (AllByRecursion (λ r. (a : ℕ) → ShowsBefore (g.T.Chars.characters c.args.text.now) r c.args.i a → ⊥)) same (c.in_default.ensures (g.T.Chars.characters c.args.text.now) c.len-len.ensures.exact)) a some)
+    absurd (no_run (λ a r. ShowsBefore (g.T.Chars.characters c.args.text.now) r c.args.i a) c.args.self.now.runs (subst (AllByRecursion (λ r. (a : ℕ) →
+    ShowsBefore (g.T.Chars.characters c.args.text.now) r c.args.i a → ⊥)) same (c.in_default.ensures (g.T.Chars.characters c.args.text.now)
+    c.len-len.ensures.exact)) a some)
 
 pub returns-then-i-len-clause-cost : goal.returns-then-i-len-clause-cost
 returns-then-i-len-clause-cost g c =
@@ -69,4 +84,6 @@ returns-then-i-len-clause-cost g c =
 pub returns-clause-shown : goal.returns-clause-shown
 returns-clause-shown g c a some =
     let same = c.as_slice.ensures.runs ∙ ap (λ (s : KeptRuns). s.runs) c.self.view_is in
-    absurd (no_run (λ a r. ShowsBefore (g.T.Chars.characters c.args.text.now) r c.args.i a) c.args.self.now.runs (subst (AllByRecursion (λ r. (a : ℕ) → ShowsBefore (g.T.Chars.characters c.args.text.now) r c.args.i a → ⊥)) same (c.in_default.ensures (g.T.Chars.characters c.args.text.now) c.len-len.ensures.exact)) a some)
+    absurd (no_run (λ a r. ShowsBefore (g.T.Chars.characters c.args.text.now) r c.args.i a) c.args.self.now.runs (subst (AllByRecursion (λ r. (a : ℕ) →
+    ShowsBefore (g.T.Chars.characters c.args.text.now) r c.args.i a → ⊥)) same (c.in_default.ensures (g.T.Chars.characters c.args.text.now)
+    c.len-len.ensures.exact)) a some)
