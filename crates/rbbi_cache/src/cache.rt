@@ -154,7 +154,8 @@ impl Cache {
         Some(self.find_back(table, text, i, steps))
     }
 
-    /// Searches for the first boundary past `i`, which no kept run shows, and keeps what it finds.
+    /// Searches for the first boundary past `i`, from the nearest place that serves, and keeps what it
+    /// finds.
     fn find_past<T: Chars, L: Ledger>(
         &mut self,
         table: &Table,

@@ -1,6 +1,4 @@
 //! What boundaries are kept in between questions: runs that were found from one anchor.
-//!
-//! The list of kept runs isn't there yet; what it is made of is (see the README).
 #![tactic(auto)]
 
 mod anchors;
