@@ -14,5 +14,12 @@ pub mod Walks
 pub mod Goes
 pub mod Showing
 pub mod RunLists
+pub mod Members
+pub mod Nearer
+pub mod Slots
 pub mod Ready
 pub mod Begins
+pub mod Backward
+pub mod TriedBack
+pub mod Keeping
+pub mod Answering
