@@ -16,3 +16,5 @@ pub mod Showing
 pub mod RunLists
 pub mod Ready
 pub mod Begins
+pub mod Appended
+pub mod Cuts

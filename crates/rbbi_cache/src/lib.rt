@@ -4,7 +4,9 @@
 #![tactic(auto)]
 
 mod anchors;
+mod edited;
 mod entry;
+mod parts;
 mod run;
 mod runs;
 mod scan;

@@ -1,0 +1,83 @@
+//! What an edit leaves of the kept runs.
+ghost use Rattle.std.specs.Prelude.{◌≡◌, ℕ, ◌+◌, ◌≤◌, ◌++◌, ◌∷◌, [], length, take, filter, List, IfSome};
+ghost use Rattle.rbbi_model.specs.Words.{most_characters};
+ghost use Rattle.rbbi_cache.specs.Kept.{AreTrueRuns, most_runs};
+ghost use Rattle.rbbi_cache.specs.Edits.{IsEdited, AreKeptAfter, left_part, has_entries};
+ghost use Rattle.rbbi_cache.specs.Parts.{IsMovable, WereTrue, right_part};
+
+use crate::Run;
+use crate::anchors::first_pair;
+use crate::parts::{Edit, copy_left, copy_right};
+use crate::runs::MOST_RUNS;
+use rbbi_table::Table;
+use rbbi_text::{Chars, Steps};
+use std::sync::ledger::Ledger;
+
+/// Puts the left part of a run behind those that are there, unless it has no entry or there are 16.
+fn add_left(run: &Run, edit: Edit, next: &mut [Run], count: usize) -> usize
+    requires movable { IsMovable run.now }
+    requires room { length next.old ≡ 16 }
+    requires most { count ≤ 16 }
+    ensures most { result ≤ 16 }
+    ensures added { take result next.new
+        ≡ take most_runs (take count next.old ++ filter has_entries (left_part edit.at run.now ∷ [])) }
+{
+    if count == MOST_RUNS {
+        return count;
+    }
+    let part = &mut next[count];
+    copy_left(run, edit, part);
+    if part.len() == 0 { count } else { count + 1 }
+}
+
+/// Puts the right part of a run behind those that are there, unless it has no entry or there are 16.
+fn add_right(run: &Run, edit: Edit, pair: Option<u32>, next: &mut [Run], count: usize) -> usize
+    requires movable { IsMovable run.now }
+    requires within { edit.at + edit.removed ≤ most_characters }
+    requires small { edit.at + edit.inserted ≤ most_characters }
+    requires pair { IfSome pair (λ q. q ≤ most_characters) }
+    requires room { length next.old ≡ 16 }
+    requires most { count ≤ 16 }
+    ensures most { result ≤ 16 }
+    ensures added { take result next.new
+        ≡ take most_runs (take count next.old
+        ++ filter has_entries (right_part edit.at edit.removed edit.inserted pair run.now ∷ [])) }
+{
+    if count == MOST_RUNS {
+        return count;
+    }
+    let part = &mut next[count];
+    copy_right(run, edit, pair, part);
+    if part.len() == 0 { count } else { count + 1 }
+}
+
+/// Makes of the kept runs those that are true after an edit, and answers how many there are. It is
+/// given the text after the edit, and reads at most 1,025 characters of it.
+pub(crate) fn keep_edited<T: Chars, L: Ledger>(
+    table: &Table,
+    text: &T,
+    edit: Edit,
+    former: &[Run],
+    next: &mut [Run],
+    steps: &mut Steps<L>,
+) -> usize
+    requires were_true { WereTrue table.now (T.characters text.now) edit.at edit.removed edit.inserted former.now }
+    requires room { length next.old ≡ 16 }
+    ensures most { result ≤ 16 }
+    ensures kept { (x : List ℕ) → IsEdited x (T.characters text.now) edit.at edit.removed edit.inserted →
+        AreTrueRuns table.now x former.now →
+        AreKeptAfter table.now x (T.characters text.now) edit.at edit.removed edit.inserted former.now (take result next.new) }
+    ensures are_true { AreTrueRuns table.now (T.characters text.now) (take result next.new) }
+    ensures more { steps.old ≤ steps.new }
+    ensures read { steps.new ≤ steps.old + 1025 }
+{
+    table.valid();
+    let _len = text.len();
+    let pair = first_pair(table, text, edit.at + edit.inserted, steps);
+    let mut count = 0;
+    for run in former {
+        count = add_left(run, edit, next, count);
+        count = add_right(run, edit, pair, next, count);
+    }
+    count
+}
