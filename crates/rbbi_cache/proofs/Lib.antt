@@ -18,3 +18,5 @@ pub mod Ready
 pub mod Begins
 pub mod Appended
 pub mod Cuts
+pub mod AddedParts
+pub mod Copied
