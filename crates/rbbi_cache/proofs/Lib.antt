@@ -18,5 +18,7 @@ pub mod Ready
 pub mod Begins
 pub mod Appended
 pub mod Cuts
+pub mod PartsTruth
+pub mod PartsList
 pub mod AddedParts
 pub mod Copied
