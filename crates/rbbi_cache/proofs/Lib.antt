@@ -14,6 +14,9 @@ pub mod Walks
 pub mod Goes
 pub mod Showing
 pub mod RunLists
+pub mod Members
+pub mod Nearer
+pub mod Slots
 pub mod Ready
 pub mod Begins
 pub mod Appended
@@ -22,3 +25,4 @@ pub mod PartsTruth
 pub mod PartsList
 pub mod AddedParts
 pub mod Copied
+pub mod Keeping

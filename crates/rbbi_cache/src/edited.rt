@@ -1,16 +1,19 @@
 //! What an edit leaves of the kept runs.
 ghost use Rattle.std.specs.Prelude.{◌≡◌, ℕ, ◌+◌, ◌≤◌, ◌++◌, ◌∷◌, [], length, take, filter, List, IfSome};
 ghost use Rattle.rbbi_model.specs.Words.{most_characters};
+ghost use Rattle.rbbi_model.specs.Costs.{edit_cost};
 ghost use Rattle.rbbi_cache.specs.Kept.{AreTrueRuns, most_runs};
 ghost use Rattle.rbbi_cache.specs.Edits.{IsEdited, AreKeptAfter, left_part, has_entries};
 ghost use Rattle.rbbi_cache.specs.Parts.{IsMovable, WereTrue, right_part};
 
-use crate::Run;
 use crate::anchors::first_pair;
 use crate::parts::{Edit, copy_left, copy_right};
+use crate::run_list::RunList;
 use crate::runs::MOST_RUNS;
+use crate::{Cache, Run};
 use rbbi_table::Table;
 use rbbi_text::{Chars, Steps};
+use std::mem;
 use std::sync::ledger::Ledger;
 
 /// Puts the left part of a run behind those that are there, unless it has no entry or there are 16.
@@ -80,4 +83,64 @@ pub(crate) fn keep_edited<T: Chars, L: Ledger>(
         count = add_right(run, edit, pair, next, count);
     }
     count
+}
+
+impl RunList {
+    /// Makes this list what an edit leaves of kept runs.
+    fn fill_edited<T: Chars, L: Ledger>(
+        &mut self,
+        table: &Table,
+        text: &T,
+        edit: Edit,
+        former: &[Run],
+        steps: &mut Steps<L>,
+    )
+        requires { WereTrue table.now (T.characters text.now) edit.at edit.removed edit.inserted former.now }
+        ensures kept { (x : List ℕ) → IsEdited x (T.characters text.now) edit.at edit.removed edit.inserted →
+            AreTrueRuns table.now x former.now →
+            AreKeptAfter table.now x (T.characters text.now) edit.at edit.removed edit.inserted former.now self.new }
+        ensures are_true { AreTrueRuns table.now (T.characters text.now) self.new }
+        ensures more { steps.old ≤ steps.new }
+        ensures read { steps.new ≤ steps.old + 1025 }
+    {
+        self.count = keep_edited(table, text, edit, former, &mut self.slots, steps);
+    }
+}
+
+impl Cache {
+    /// Tells the cache that its text was edited: from the place `at` on, in characters from 0,
+    /// `inserted` characters stand where `removed` characters stood. The text is the one after the
+    /// edit.
+    ///
+    /// Each run is replaced by what was found by searches that looked at nothing from the edit on, and
+    /// by what lies behind the edit and doesn't depend on it; the first 16 of these are kept. So a
+    /// question far from the edit is still answered by a kept run. It reads at most 1,026 characters
+    /// and takes no memory.
+    pub fn edited<T: Chars, L: Ledger>(
+        &mut self,
+        table: &Table,
+        text: &T,
+        at: u32,
+        removed: u32,
+        inserted: u32,
+        steps: &mut Steps<L>,
+    )
+        requires { WereTrue table.now (T.characters text.now) at removed inserted self.old.runs }
+        ensures kept { (x : List ℕ) → IsEdited x (T.characters text.now) at removed inserted →
+            AreTrueRuns table.now x self.old.runs →
+            AreKeptAfter table.now x (T.characters text.now) at removed inserted self.old.runs self.new.runs }
+        ensures are_true { AreTrueRuns table.now (T.characters text.now) self.new.runs }
+        ensures fit { self.new.slashes ≡ self.old.slashes }
+        ensures more { steps.old ≤ steps.new }
+        ensures cost { steps.new ≤ steps.old + edit_cost }
+    {
+        let edit = Edit {
+            at,
+            removed,
+            inserted,
+        };
+        let former = self.runs.as_slice();
+        self.next.fill_edited(table, text, edit, former, steps);
+        mem::swap(&mut self.runs, &mut self.next);
+    }
 }
