@@ -7,8 +7,8 @@ use Rattle.std.proofs.Math.Seq.{take-length}
 use Rattle.rbbi_model.specs.Runs.{Entry, Run}
 use Rattle.rbbi_cache.specs.Shown.{AreUpTo}
 use Rattle.rbbi_cache.specs.Edits.{moved_entry, moved_run, run_behind}
-use Rattle.rbbi_cache.specs.Parts.{CanMove, IsMovable}
-use Rattle.rbbi_cache.proofs.Lists.{all_right, all_through, everywhere, filter_all}
+use Rattle.rbbi_cache.specs.Parts.{CanMove, IsPlaced, IsMovable}
+use Rattle.rbbi_cache.proofs.Lists.{all_right, all_through, everywhere, filter_all, filter_same}
 use Rattle.rbbi_cache.proofs.Cuts.{keeps_last}
 
 -- a slice up to the end
@@ -17,10 +17,6 @@ to_end k xs = ap (λ n. take n (drop k xs)) (sym (length-drop k xs)) ∙ take-le
 
 pub all_drop : {X : Type 0} (P : X → Type 0) (k : ℕ) (xs : List X) → AllByRecursion P xs → AllByRecursion P (drop k xs)
 all_drop P k xs each = all_right P (take k xs) (drop k xs) (subst (λ l. AllByRecursion P l) (sym (take-append-drop k xs)) each)
-
-filter_same : (f g : Entry → Bool) (entries : List Entry) → ((e : Entry) → f e ≡ g e) → filter f entries ≡ filter g entries
-filter_same f g [] same = refl
-filter_same f g (e ∷ entries) same = ap (λ b. cond b (e ∷ filter f entries) (filter f entries)) (same e) ∙ ap (λ l. cond (g e) (e ∷ l) l) (filter_same f g entries same)
 
 -- a part that begins anew and to which a list is added
 filled : (restarted part : Run) (anchor : ℕ) (leads : Bool) (list entries : List Entry) → restarted ≡ record { anchor = anchor; entries = []; leads = leads } →
@@ -105,4 +101,4 @@ module _ (at removed inserted : ℕ) (run : Run) where
       subst (AllByRecursion (CanMove removed)) (sym (to_end left slots))
       (all_drop (CanMove removed) left slots
       (subst (AllByRecursion (CanMove removed)) (sym slots_are)
-      (all_through (λ e. ((run.anchor ≡ 0) ⊎ (run.anchor ≤ e.at)) × (e.at ≤ e.reach) × (e.reach ≤ 16777216 + 1)) (CanMove removed) (λ e lies. (omega arith, lies.1, lies.2)) run.entries movable.lie)))
+      (all_through (IsPlaced run.anchor) (CanMove removed) (λ e lies. (omega arith, lies.1, lies.2)) run.entries movable.lie)))

@@ -7,6 +7,7 @@ use Rattle.std.proofs.lemmas.List.Elements.{filter-append}
 use Rattle.std.proofs.Math.Seq.{take-length}
 use Rattle.rbbi_model.specs.Runs.{Entry, ReachesRise}
 use Rattle.rbbi_cache.proofs.Lists.{all_through, filter_all, filter_none}
+use Rattle.rbbi_cache.proofs.LeftPart.{reaches_after, reaches_tail}
 
 module _ {X : Type 0} (test : X → Bool) where
   -- a test that holds of the first elements alone keeps these
@@ -25,15 +26,6 @@ module _ {X : Type 0} (test : X → Bool) where
       ∙ ap (λ l. filter test (take k xs) ++ l) (sym (filter_all test (drop k xs) holds))
       ∙ sym (filter-append test (take k xs) (drop k xs))
       ∙ ap (filter test) (take-append-drop k xs)
-
-reaches_after : (entry : Entry) (entries : List Entry) → ReachesRise (entry ∷ entries) → AllByRecursion (λ e. entry.reach ≤ e.reach) entries
-reaches_after entry [] rise = tt
-reaches_after entry (next ∷ entries) rise =
-    (rise.0, all_through (λ e. next.reach ≤ e.reach) (λ e. entry.reach ≤ e.reach) (λ e less. omega (arith, less, rise.0)) entries (reaches_after next entries rise.1))
-
-reaches_tail : (entry : Entry) (entries : List Entry) → ReachesRise (entry ∷ entries) → ReachesRise entries
-reaches_tail entry [] rise = tt
-reaches_tail entry (next ∷ entries) rise = rise.1
 
 -- where reaches don't fall, the entries from one on that reaches past a place do so too
 past_reach : (entries : List Entry) (place k : ℕ) (d : Entry) → ReachesRise entries → k < length entries → place < (get_or entries k d).reach → AllByRecursion (λ e. place < e.reach) (drop k entries)

@@ -11,7 +11,7 @@ use Rattle.rbbi_model.specs.Runs.{Entry, Run, category_at, boundary_of, IsAnchor
 use Rattle.rbbi_cache.specs.Lists.{IsOrdered}
 use Rattle.rbbi_cache.specs.Kept.{AreTrueRuns, most_runs}
 use Rattle.rbbi_cache.specs.Edits.{IsEdited, begins_pair, IsFirstPair, HasNoPair, left_part, moved_run, run_behind, goes_whole, IsRightPart, Whole, Behind, Nothing, has_entries, AreParts, AreKeptAfter}
-use Rattle.rbbi_cache.specs.Parts.{WereTrue, IsMovable, is_found_at, moves_whole, part_behind, right_part, all_parts}
+use Rattle.rbbi_cache.specs.Parts.{IsPlaced, IsMovable, is_found_at, moves_whole, part_behind, right_part, all_parts}
 use Rattle.rbbi_cache.proofs.Lists.{all_through}
 use Rattle.rbbi_cache.proofs.Reached.{first_member}
 use Rattle.rbbi_cache.proofs.RunFacts.{all_by_splits, path_within}
@@ -40,7 +40,7 @@ movable table valid x run is_true small =
       };
       reaches_rise = is_true.reaches_rise;
       few = is_true.few;
-      lie = all_by_splits (λ e. ((run.anchor ≡ 0) ⊎ (run.anchor ≤ e.at)) × (e.at ≤ e.reach) × (e.reach ≤ most_characters + 1)) run.entries
+      lie = all_by_splits (IsPlaced run.anchor) run.entries
           (λ front e rest whole. (
             ⊎_elim (λ zero. inl zero) (λ past. inr (omega (arith, past))) (facts.place table valid x run is_true front e rest whole),
             facts.at_by_reach table valid x run is_true front e rest whole,

@@ -1,10 +1,10 @@
 //! What an edit leaves of the kept runs.
-ghost use Rattle.std.specs.Prelude.{◌≡◌, ℕ, ◌+◌, ◌≤◌, ◌++◌, ◌∷◌, [], length, take, filter, List, IfSome};
+ghost use Rattle.std.specs.Prelude.{◌≡◌, ◌+◌, ◌≤◌, ◌++◌, ◌∷◌, [], length, take, filter, IfSome};
 ghost use Rattle.rbbi_model.specs.Words.{most_characters};
 ghost use Rattle.rbbi_model.specs.Costs.{edit_cost};
 ghost use Rattle.rbbi_cache.specs.Kept.{AreTrueRuns, most_runs};
-ghost use Rattle.rbbi_cache.specs.Edits.{IsEdited, AreKeptAfter, left_part, has_entries};
-ghost use Rattle.rbbi_cache.specs.Parts.{IsMovable, WereTrue, right_part};
+ghost use Rattle.rbbi_cache.specs.Edits.{left_part, has_entries};
+ghost use Rattle.rbbi_cache.specs.Parts.{IsMovable, WereTrue, AreKeptAfterAny, right_part};
 
 use crate::anchors::first_pair;
 use crate::parts::{Edit, copy_left, copy_right};
@@ -16,14 +16,15 @@ use rbbi_text::{Chars, Steps};
 use std::mem;
 use std::sync::ledger::Ledger;
 
-/// Puts the left part of a run behind those that are there, unless it has no entry or there are 16.
+/// Puts the left part of a run behind those that are there, unless it has no entry or 16 are there.
 fn add_left(run: &Run, edit: Edit, next: &mut [Run], count: usize) -> usize
     requires movable { IsMovable run.now }
     requires room { length next.old ≡ 16 }
     requires most { count ≤ 16 }
     ensures most { result ≤ 16 }
     ensures added { take result next.new
-        ≡ take most_runs (take count next.old ++ filter has_entries (left_part edit.at run.now ∷ [])) }
+        ≡ take most_runs (take count next.old
+        ++ filter has_entries (left_part edit.at run.now ∷ [])) }
 {
     if count == MOST_RUNS {
         return count;
@@ -33,7 +34,8 @@ fn add_left(run: &Run, edit: Edit, next: &mut [Run], count: usize) -> usize
     if part.len() == 0 { count } else { count + 1 }
 }
 
-/// Puts the right part of a run behind those that are there, unless it has no entry or there are 16.
+/// Puts the right part of a run behind those that are there, unless it has no entry or 16 are
+/// there.
 fn add_right(run: &Run, edit: Edit, pair: Option<u32>, next: &mut [Run], count: usize) -> usize
     requires movable { IsMovable run.now }
     requires within { edit.at + edit.removed ≤ most_characters }
@@ -64,12 +66,12 @@ pub(crate) fn keep_edited<T: Chars, L: Ledger>(
     next: &mut [Run],
     steps: &mut Steps<L>,
 ) -> usize
-    requires were_true { WereTrue table.now (T.characters text.now) edit.at edit.removed edit.inserted former.now }
+    requires were_true { WereTrue table.now (T.characters text.now)
+        edit.at edit.removed edit.inserted former.now }
     requires room { length next.old ≡ 16 }
     ensures most { result ≤ 16 }
-    ensures kept { (x : List ℕ) → IsEdited x (T.characters text.now) edit.at edit.removed edit.inserted →
-        AreTrueRuns table.now x former.now →
-        AreKeptAfter table.now x (T.characters text.now) edit.at edit.removed edit.inserted former.now (take result next.new) }
+    ensures kept { AreKeptAfterAny table.now (T.characters text.now)
+        edit.at edit.removed edit.inserted former.now (take result next.new) }
     ensures are_true { AreTrueRuns table.now (T.characters text.now) (take result next.new) }
     ensures more { steps.old ≤ steps.new }
     ensures read { steps.new ≤ steps.old + 1025 }
@@ -95,10 +97,10 @@ impl RunList {
         former: &[Run],
         steps: &mut Steps<L>,
     )
-        requires { WereTrue table.now (T.characters text.now) edit.at edit.removed edit.inserted former.now }
-        ensures kept { (x : List ℕ) → IsEdited x (T.characters text.now) edit.at edit.removed edit.inserted →
-            AreTrueRuns table.now x former.now →
-            AreKeptAfter table.now x (T.characters text.now) edit.at edit.removed edit.inserted former.now self.new }
+        requires { WereTrue table.now (T.characters text.now)
+            edit.at edit.removed edit.inserted former.now }
+        ensures kept { AreKeptAfterAny table.now (T.characters text.now)
+            edit.at edit.removed edit.inserted former.now self.new }
         ensures are_true { AreTrueRuns table.now (T.characters text.now) self.new }
         ensures more { steps.old ≤ steps.new }
         ensures read { steps.new ≤ steps.old + 1025 }
@@ -112,10 +114,10 @@ impl Cache {
     /// `inserted` characters stand where `removed` characters stood. The text is the one after the
     /// edit.
     ///
-    /// Each run is replaced by what was found by searches that looked at nothing from the edit on, and
-    /// by what lies behind the edit and doesn't depend on it; the first 16 of these are kept. So a
-    /// question far from the edit is still answered by a kept run. It reads at most 1,026 characters
-    /// and takes no memory.
+    /// Each run is replaced by what was found by searches that looked at nothing from the edit on,
+    /// and by what lies behind the edit and doesn't depend on it; the first 16 of these are kept.
+    /// So a question far from the edit is still answered by a kept run. It reads at most 1,026
+    /// characters and takes no memory.
     pub fn edited<T: Chars, L: Ledger>(
         &mut self,
         table: &Table,
@@ -126,9 +128,8 @@ impl Cache {
         steps: &mut Steps<L>,
     )
         requires { WereTrue table.now (T.characters text.now) at removed inserted self.old.runs }
-        ensures kept { (x : List ℕ) → IsEdited x (T.characters text.now) at removed inserted →
-            AreTrueRuns table.now x self.old.runs →
-            AreKeptAfter table.now x (T.characters text.now) at removed inserted self.old.runs self.new.runs }
+        ensures kept { AreKeptAfterAny table.now (T.characters text.now)
+            at removed inserted self.old.runs self.new.runs }
         ensures are_true { AreTrueRuns table.now (T.characters text.now) self.new.runs }
         ensures fit { self.new.slashes ≡ self.old.slashes }
         ensures more { steps.old ≤ steps.new }

@@ -7,6 +7,8 @@ mod anchors;
 mod back;
 mod cache;
 mod edited;
+#[cfg(test)]
+mod edited_tests;
 mod entry;
 mod parts;
 mod run;

@@ -1,5 +1,6 @@
 //! The parts that an edit leaves of a kept run.
-ghost use Rattle.std.specs.Prelude.{◌≡◌, ℕ, ◌+◌, ◌-◌, ◌<◌, ◌≤◌, ◌++◌, [], length, map, filter, take, drop, nat_le, nat_lt, IfSome};
+ghost use Rattle.std.specs.Prelude.{◌≡◌, ◌+◌, ◌≤◌, ◌++◌, [], length, map, filter, take, drop};
+ghost use Rattle.std.specs.Prelude.{nat_le, nat_lt, IfSome};
 ghost use Rattle.std.specs.List.{AllByRecursion};
 ghost use Rattle.rbbi_model.specs.Words.{most_characters};
 ghost use Rattle.rbbi_model.specs.Runs.{ReachesRise};
@@ -21,8 +22,10 @@ pub(crate) struct Edit {
 fn count_reaching(entries: &[Entry], place: u32) -> usize
     requires { ReachesRise entries.now }
     ensures within { result ≤ length entries.now }
-    ensures first { take result entries.now ≡ filter (λ entry. nat_le entry.reach place) entries.now }
-    ensures others { drop result entries.now ≡ filter (λ entry. nat_lt place entry.reach) entries.now }
+    ensures first { take result entries.now
+        ≡ filter (λ entry. nat_le entry.reach place) entries.now }
+    ensures others { drop result entries.now
+        ≡ filter (λ entry. nat_lt place entry.reach) entries.now }
 {
     for (k, entry) in entries.iter().enumerate() {
         if entry.reach > place {
@@ -49,7 +52,8 @@ fn append_moved(run: &mut Run, entries: &[Entry], edit: Edit, first: u32)
     requires room { length run.old.entries + length entries.now ≤ 256 }
     ensures { run.new ≡ record run.old {
       entries = run.old.entries
-          ++ filter (λ entry. nat_le first entry.at) (map (moved_entry edit.removed edit.inserted) entries.now);
+          ++ filter (λ entry. nat_le first entry.at)
+          (map (moved_entry edit.removed edit.inserted) entries.now);
     } }
 {
     for entry in entries {
@@ -126,7 +130,8 @@ fn goes_whole(run: &Run, edit: Edit, pair: Option<u32>) -> bool
     }
 }
 
-/// Makes a run the right part of a kept one, by the first safe pair of the new text behind the edit.
+/// Makes a run the right part of a kept one, by the first safe pair of the new text behind the
+/// edit.
 pub(crate) fn copy_right(run: &Run, edit: Edit, pair: Option<u32>, part: &mut Run)
     requires movable { IsMovable run.now }
     requires within { edit.at + edit.removed ≤ most_characters }
