@@ -22,7 +22,7 @@ module _ (table : Table) (valid : IsValidTable table) (x : List ℕ) (i : ℕ) w
 
   module _ (p : ℕ) (run : Run) (begun : run ≡ record { anchor = p; entries = []; leads = true }) (up_to : p ≤ i) (within : i < length x) where
     -- the scan at its anchor
-    abbrev at_anchor : Scan
+    abbrev pub at_anchor : Scan
     at_anchor = record { done = []; skipped = boundary_of table (record { at = p; status = 0; reach = 0 }) ∷ []; known = []; found = []; here = record { at = p; status = 0; reach = 0 } }
 
     starts : IsScan table x p i at_anchor run

@@ -72,6 +72,12 @@ module _ (table : Table) (valid : IsValidTable table) (x : List ℕ) where
         let is_true = (all_right (IsTrueRun table x) before (run ∷ after) (subst (AllByRecursion (IsTrueRun table x)) whole are_true)).0 in
         keeps_extended before run after whole run (record { anchor = refl; more = []; entries = sym (append-nil run.entries); leads = λ so. so }) is_true shows (least_used former before run after whole is_true) now is
 
+    -- The run with this number was used, and moved to the front.
+    pub keeps_shown : (slice inside : List Run) → slice ≡ inside → inside ≡ former → (k : ℕ) → HasAt slice k Shows →
+        (now : List Run) → ((before after : List Run) (run : Run) → inside ≡ before ++ run ∷ after → length before ≡ k → now ≡ run ∷ (before ++ after)) → KeepsTrue table x Shows former now
+    keeps_shown slice inside same view k at now moved =
+        keeps_used at.before at.run at.after (sym view ∙ sym same ∙ at.whole) at.such now (moved at.before at.after at.run (sym same ∙ at.whole) at.number)
+
     -- A new run was put before the others.
     pub keeps_added : length former ≤ 16 → (run : Run) → IsTrueRun table x run → Shows run → HasLeastReaches table x former run → (now : List Run) → now ≡ run ∷ take 15 former → KeepsTrue table x Shows former now
     keeps_added few run is_true shows least now is = (

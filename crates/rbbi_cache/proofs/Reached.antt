@@ -45,7 +45,7 @@ reached_step_from table x p done here (suc most) whole enough short =
 pub reached_step : (table : Table) (x : List ℕ) (p : ℕ) (done : List Boundary) (here : Boundary) → Reached table x p done here → here.at < length x → Reached table x p (done ++ here ∷ []) (next_boundary table x here.at)
 reached_step table x p done here reached short = reached_step_from table x p done here reached.most reached.whole reached.enough short
 
-none_follows : (next : ℕ → Boundary) (n most : ℕ) (here : Boundary) → n ≤ here.at → follow_by next n most here ≡ []
+pub none_follows : (next : ℕ → Boundary) (n most : ℕ) (here : Boundary) → n ≤ here.at → follow_by next n most here ≡ []
 none_follows next n zero here end = refl
 none_follows next n (suc most) here end = cond-false (ltb here.at n) (next here.at ∷ follow_by next n most (next here.at)) [] (le-ltb here.at n end)
 

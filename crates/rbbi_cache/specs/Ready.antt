@@ -1,7 +1,9 @@
 -- Runs that are ready to be kept first.
 use Rattle.std.specs.Prelude.{◌≡◌, ℕ, ◌≤◌, ◌⊎◌, ◌+◌, Bool, true, false, List, [], ◌∷◌, ◌++◌}
 use Rattle.rbbi_model.specs.Tables.{Table}
-use Rattle.rbbi_model.specs.Runs.{Entry, Run, IsTrueRun}
+use Rattle.std.specs.List.{AllByRecursion}
+use Rattle.rbbi_model.specs.Searches.{fresh}
+use Rattle.rbbi_model.specs.Runs.{Entry, Run, low, IsTrueRun}
 use Rattle.rbbi_cache.specs.Kept.{HasLeastReaches, IsExtendedBy, Keeps, AreTrueRuns}
 use Rattle.rbbi_cache.specs.Shown.{IsShownAfter, IsShownBefore}
 
@@ -39,3 +41,7 @@ pub record GoesOnAt (table : Table) (x : List ℕ) (i : ℕ) (before : List Run)
   pub run : Run
   pub whole : now ≡ before ++ run ∷ after
   pub gone_on : GoesOnAs table x i former entry is_kept run spare
+
+-- From the anchor nothing is found between its low place and i.
+abbrev pub HasNoneBefore : Table → List ℕ → ℕ → ℕ → Type 0
+HasNoneBefore table x p i = AllByRecursion (λ member. low p ≤ member.at → i ≤ member.at) (fresh table x p)

@@ -1,13 +1,11 @@
 //! The last boundary before a place: found by searches from anchors farther and farther back.
-ghost use Rattle.std.specs.Prelude.{◌≡◌, ℕ, ◌+◌, ◌-◌, ◌<◌, ◌≤◌, length, List, MatchOption, IsTrue};
-ghost use Rattle.std.specs.List.{AllByRecursion};
+ghost use Rattle.std.specs.Prelude.{◌≡◌, ℕ, ◌+◌, ◌-◌, ◌<◌, ◌≤◌, ◌⊎◌, true, length, List, MatchOption};
 ghost use Rattle.rbbi_model.specs.Words.{most_characters};
-ghost use Rattle.rbbi_model.specs.Searches.{fresh};
 ghost use Rattle.rbbi_model.specs.Runs as model;
-ghost use Rattle.rbbi_model.specs.Runs.{IsAnchor, low};
+ghost use Rattle.rbbi_model.specs.Runs.{IsAnchor};
 ghost use Rattle.rbbi_model.specs.Costs.{settles, searches_cost, back_cost};
 ghost use Rattle.rbbi_cache.specs.Kept.{IsLastBefore};
-ghost use Rattle.rbbi_cache.specs.Ready.{IsReadyBack};
+ghost use Rattle.rbbi_cache.specs.Ready.{HasNoneBefore, IsReadyBack};
 
 use crate::anchors::anchor_before;
 use crate::scan::scan;
@@ -16,17 +14,9 @@ use rbbi_table::{Marks, Table};
 use rbbi_text::{Chars, Steps};
 use std::sync::ledger::Ledger;
 
-/// The boundary before the first character, which no search finds.
-pub(crate) const START: Entry = Entry {
-    at: 0,
-    status: 0,
-    reach: 0,
-};
-
-/// Searches for the last boundary before `i`, which lies within the text. The first try begins at the
-/// nearest anchor three characters back, each further one at least twice as far back as the one before.
-///
-/// Where the answer isn't 0, the run is left so that it shows the answer.
+/// Searches for the last boundary before `i`, which lies within the text, or None where it is the start.
+/// The first try begins at the nearest anchor at least three characters back, each further one at least
+/// twice as far back as the one before. The run is left so that it shows the answer.
 pub(crate) fn search_back<T: Chars, L: Ledger>(
     table: &Table,
     text: &T,
@@ -34,26 +24,26 @@ pub(crate) fn search_back<T: Chars, L: Ledger>(
     run: &mut Run,
     marks: &mut Marks,
     steps: &mut Steps<L>,
-) -> Entry
+) -> Option<Entry>
     requires fit { marks.old ≡ table.now.slashes }
     requires some { 0 < i }
     requires within { i ≤ length (T.characters text.now) }
     requires small { i ≤ most_characters }
-    ensures start { result.at ≡ 0 → IsLastBefore table.now (T.characters text.now) i result }
-    ensures ready { (kept : List model.Run) → 0 < result.at →
-        IsReadyBack table.now (T.characters text.now) i kept result run.new }
+    ensures found { MatchOption result
+        (IsLastBefore table.now (T.characters text.now) i (record { at = 0; status = 0; reach = 0 }))
+        (λ entry. (kept : List model.Run) → IsReadyBack table.now (T.characters text.now) i kept entry run.new) }
     ensures more { steps.old ≤ steps.new }
     ensures cost { steps.new ≤ steps.old + back_cost table.now (T.characters text.now) i }
     ensures fit { marks.new ≡ marks.old }
 {
     table.valid();
     let mut anchor = anchor_before(table, text, 0, i.saturating_sub(2), steps);
-    loop {
+    'tries: loop {
         if let Some(entry) = search_from(table, text, anchor, i, run, marks, steps) {
-            return entry;
+            return Some(entry);
         }
         if anchor == 0 {
-            return START;
+            return None;
         }
         anchor = anchor_before(table, text, 0, (2 * anchor + 1).saturating_sub(i), steps);
     }
@@ -72,13 +62,13 @@ fn search_from<T: Chars, L: Ledger>(
 ) -> Option<Entry>
     requires fit { marks.old ≡ table.now.slashes }
     requires anchor { IsAnchor table.now (T.characters text.now) anchor }
-    requires before { anchor < i }
+    requires before { (anchor ≡ 0) ⊎ (anchor + 2 ≤ i) }
+    requires some { 0 < i }
     requires within { i ≤ length (T.characters text.now) }
     requires small { i ≤ most_characters }
-    ensures found { MatchOption result
-        (AllByRecursion (λ b. low anchor ≤ b.at → i ≤ b.at) (fresh table.now (T.characters text.now) anchor))
-        (λ entry. (0 < entry.at) × IsTrue (settles table.now (T.characters text.now) i anchor) × ((kept : List model.Run) →
-        IsReadyBack table.now (T.characters text.now) i kept entry run.new)) }
+    ensures found { MatchOption result (HasNoneBefore table.now (T.characters text.now) anchor i) (λ entry.
+        (settles table.now (T.characters text.now) i anchor ≡ true)
+        × ((kept : List model.Run) → IsReadyBack table.now (T.characters text.now) i kept entry run.new)) }
     ensures more { steps.old ≤ steps.new }
     ensures cost { steps.new ≤ steps.old + searches_cost table.now (T.characters text.now) anchor (i - 1) }
     ensures fit { marks.new ≡ marks.old }

@@ -9,7 +9,7 @@ ghost use Rattle.rbbi_cache.specs.Lists.{HasAt, GoesOnFrom};
 ghost use Rattle.rbbi_cache.specs.Ready.{KeepsTrue};
 
 use crate::anchors::anchor_before;
-use crate::back::{START, search_back};
+use crate::back::search_back;
 use crate::run_list::RunList;
 use crate::runs::{Shown, find_after, find_before, find_nearest};
 use crate::search::search;
@@ -19,6 +19,13 @@ use rbbi_text::{Chars, Steps};
 use std::alloc::{AllocError, Global};
 use std::marker::Model;
 use std::sync::ledger::Ledger;
+
+/// The boundary before the first character, which no search finds.
+const START: Entry = Entry {
+    at: 0,
+    status: 0,
+    reach: 0,
+};
 
 /// Boundaries of one text by one table, kept in at most 16 runs. All memory is taken when it is made.
 #[derive(Debug, Drop)]
@@ -88,6 +95,7 @@ impl Cache {
             steps.new ≤ steps.old + forward_cost table.now (T.characters text.now) i }
         ensures nothing { length (T.characters text.now) ≤ i → steps.new ≡ steps.old }
     {
+        table.valid();
         if i >= text.len() {
             return None;
         }
@@ -158,18 +166,38 @@ impl Cache {
         ensures more { steps.old ≤ steps.new }
         ensures cost { steps.new ≤ steps.old + forward_cost table.now (T.characters text.now) i }
     {
-        table.valid();
-        let nearest = find_nearest(self.runs.as_slice(), i);
-        let low = match &nearest {
-            Some(known) => known.entry.at,
-            None => 0,
+        let Some(known) = find_nearest(self.runs.as_slice(), i) else {
+            let anchor = anchor_before(table, text, 0, i, steps);
+            return self.find_from(table, text, anchor, i, steps);
         };
-        let anchor = anchor_before(table, text, low, i, steps);
-        if let Some(known) = nearest
-            && anchor == low
-        {
-            return self.find_on(table, text, i, known, steps);
+        let anchor = anchor_before(table, text, known.entry.at, i, steps);
+        if anchor > known.entry.at {
+            return self.find_from(table, text, anchor, i, steps);
         }
+        self.find_on(table, text, i, known, steps)
+    }
+
+    /// Searches from the greatest anchor before `i`.
+    fn find_from<T: Chars, L: Ledger>(
+        &mut self,
+        table: &Table,
+        text: &T,
+        anchor: u32,
+        i: u32,
+        steps: &mut Steps<L>,
+    ) -> Entry
+        requires fit { self.old.slashes ≡ table.now.slashes }
+        requires are_true { AreTrueRuns table.now (T.characters text.now) self.old.runs }
+        requires within { i < length (T.characters text.now) }
+        requires small { i < most_characters }
+        requires anchor { anchor ≡ anchor_below table.now (T.characters text.now) i }
+        ensures kept { KeepsTrue table.now (T.characters text.now)
+            (λ run. IsShownAfter run i result) self.old.runs self.new.runs }
+        ensures fit { self.new.slashes ≡ self.old.slashes }
+        ensures more { steps.old ≤ steps.new }
+        ensures cost { steps.new ≤ steps.old + searches_cost table.now (T.characters text.now) anchor i }
+    {
+        table.valid();
         let spare = &mut self.spare;
         let entry = search(table, text, anchor, i, spare, &mut self.marks, steps);
         self.runs.add(spare);
@@ -240,10 +268,10 @@ impl Cache {
         ensures cost { steps.new ≤ steps.old + back_cost table.now (T.characters text.now) i }
     {
         let spare = &mut self.spare;
-        let entry = search_back(table, text, i, spare, &mut self.marks, steps);
-        if entry.at > 0 {
-            self.runs.add(spare);
-        }
+        let Some(entry) = search_back(table, text, i, spare, &mut self.marks, steps) else {
+            return START;
+        };
+        self.runs.add(spare);
         entry
     }
 }
