@@ -1,5 +1,6 @@
 -- Entries that are moved, one after the other, behind those of a run.
-use Rattle.std.proofs.Common.{◌≡◌, ℕ, zero, suc, ◌+◌, ◌-◌, ◌<◌, ◌≤◌, Bool, cond, eqb, leb, List, [], ◌∷◌, ◌++◌, length, length-append, map, filter, get_or, take, sym, refl, ap, ◌∙◌, subst, ⊎_elim, append_assoc, arith}
+use Rattle.std.proofs.Common.{◌≡◌, ℕ, zero, suc, ◌+◌, ◌-◌, ◌<◌, ◌≤◌, Bool, cond, eqb, leb, List, [], ◌∷◌, ◌++◌, length, length-append, map, filter, get_or}
+use Rattle.std.proofs.Common.{take, sym, refl, ap, ◌∙◌, subst, ⊎_elim, append_assoc, arith}
 use Rattle.std.specs.List.{AllByRecursion}
 use Rattle.std.proofs.lemmas.Bool.{cases_Bool, cond-true, cond-false, le-leb, lt-leb, ne_eqb}
 use Rattle.std.proofs.lemmas.List.{take_more, map-append, length-map, length-take, append-nil}
@@ -23,7 +24,8 @@ filter_shorter test (x ∷ xs) =
     (cases_Bool (test x))
 
 -- an entry that lies behind what was removed, moved
-pub moved_is : (removed inserted : ℕ) (entry : Entry) (at status reach : ℕ) → CanMove removed entry → at ≡ entry.at → status ≡ entry.status → reach ≡ entry.reach →
+pub moved_is : (removed inserted : ℕ) (entry : Entry) (at status reach : ℕ) → CanMove removed entry → at ≡ entry.at → status ≡ entry.status →
+    reach ≡ entry.reach →
     record { at = at - removed + inserted; status = status; reach = reach - removed + inserted } ≡ moved_entry removed inserted entry
 moved_is removed inserted entry at status reach can at_is status_is reach_is =
     let of : ℕ → ℕ → ℕ → Entry = λ a s r. record { at = a; status = s; reach = r } in
@@ -33,41 +35,50 @@ moved_is removed inserted entry at status reach can at_is status_is reach_is =
     ∙ ap (λ s. of (entry.at + inserted - removed) s (reach - removed + inserted)) status_is
     ∙ ap (λ r. of (entry.at + inserted - removed) entry.status r) far
 
-module _ (removed inserted first : ℕ) (start : Run) (entries : List Entry) where
-  -- the moved entries from the place on
-  abbrev pub moved_from : List Entry → List Entry
-  moved_from some = filter (λ e. leb first e.at) (map (moved_entry removed inserted) some)
+-- entries moved, but those that come to lie before a place
+abbrev pub moved_from : ℕ → ℕ → ℕ → List Entry → List Entry
+moved_from removed inserted first entries = filter (λ e. leb first e.at) (map (moved_entry removed inserted) entries)
 
-  module _ (k : ℕ) (entry : Entry) (here : Run) (short : k < length entries) (is : entry ≡ get_or entries k entry)
-      (here_is : here ≡ record { anchor = start.anchor; entries = start.entries ++ filter (λ e. leb first e.at) (map (moved_entry removed inserted) (take k entries)); leads = start.leads }) where
-    more : moved_from (take (k + 1) entries) ≡ moved_from (take k entries) ++ filter (λ e. leb first e.at) (moved_entry removed inserted entry ∷ [])
-    more =
-        ap moved_from (take_more entries k entry short ∙ ap (λ e. take k entries ++ e ∷ []) (sym is))
-        ∙ ap (filter (λ e. leb first e.at)) (map-append (moved_entry removed inserted) (take k entries) (entry ∷ []))
-        ∙ filter-append (λ e. leb first e.at) (map (moved_entry removed inserted) (take k entries)) (moved_entry removed inserted entry ∷ [])
+-- a run with more entries
+abbrev pub with_more : Run → List Entry → Run
+with_more run more = record { anchor = run.anchor; entries = run.entries ++ more; leads = run.leads }
 
-    pub skipped : (moved_entry removed inserted entry).at < first →
-        here ≡ record { anchor = start.anchor; entries = start.entries ++ filter (λ e. leb first e.at) (map (moved_entry removed inserted) (take (k + 1) entries)); leads = start.leads }
-    skipped low =
-        let m : Entry = moved_entry removed inserted entry in
-        let with : List Entry → Run = λ l. record { anchor = start.anchor; entries = start.entries ++ l; leads = start.leads } in
-        here_is
-        ∙ ap with
-        (sym (more ∙ ap (λ l. moved_from (take k entries) ++ l) (cond-false (leb first m.at) (m ∷ []) [] (lt-leb first m.at low)) ∙ append-nil (moved_from (take k entries))))
+module _ (removed inserted first : ℕ) (start : Run) (entries : List Entry) (k : ℕ) (entry : Entry) (here : Run) (short : k < length entries)
+    (is : entry ≡ get_or entries k entry) (here_is : here ≡ with_more start (moved_from removed inserted first (take k entries))) where
+  more : moved_from removed inserted first (take (k + 1) entries)
+      ≡ moved_from removed inserted first (take k entries) ++ filter (λ e. leb first e.at) (moved_entry removed inserted entry ∷ [])
+  more =
+      ap (moved_from removed inserted first) (take_more entries k entry short ∙ ap (λ e. take k entries ++ e ∷ []) (sym is))
+      ∙ ap (filter (λ e. leb first e.at)) (map-append (moved_entry removed inserted) (take k entries) (entry ∷ []))
+      ∙ filter-append (λ e. leb first e.at) (map (moved_entry removed inserted) (take k entries)) (moved_entry removed inserted entry ∷ [])
 
-    pub added : (moved : Entry) (next : Run) → moved ≡ moved_entry removed inserted entry → first ≤ (moved_entry removed inserted entry).at → length start.entries + length entries ≤ 256 → next ≡ pushed here moved →
-        next ≡ record { anchor = start.anchor; entries = start.entries ++ filter (λ e. leb first e.at) (map (moved_entry removed inserted) (take (k + 1) entries)); leads = start.leads }
-    added moved next moved_is high room next_is =
-        let m : Entry = moved_entry removed inserted entry in
-        let with : List Entry → Run = λ l. record { anchor = start.anchor; entries = l; leads = start.leads } in
-        let few : length (moved_from (take k entries)) ≤ k =
-        omega (arith, filter_shorter (λ e. leb first e.at) (map (moved_entry removed inserted) (take k entries)), length-map (take k entries) (moved_entry removed inserted), length-take k entries) in
-        let not_full : length here.entries ≡ 256 → ⊥ = λ full. omega (arith, full, ap (λ r. length r.entries) here_is, length-append start.entries (moved_from (take k entries)), few, short, room) in
-        next_is
-        ∙ cond-false (eqb (length here.entries) 256) _ (record { anchor = here.anchor; entries = here.entries ++ moved ∷ []; leads = here.leads }) (ne_eqb (length here.entries) 256 not_full)
-        ∙ ap (λ r. record { anchor = r.anchor; entries = r.entries ++ moved ∷ []; leads = r.leads }) here_is
-        ∙ ap with
-        (ap (λ e. (start.entries ++ moved_from (take k entries)) ++ e ∷ []) moved_is
-        ∙ append_assoc start.entries (moved_from (take k entries)) (m ∷ [])
-        ∙ ap (λ l. start.entries ++ l)
-        (sym (more ∙ ap (λ l. moved_from (take k entries) ++ l) (cond-true (leb first m.at) (m ∷ []) [] (le-leb first m.at high)))))
+  pub skipped : (moved_entry removed inserted entry).at < first → here ≡ with_more start (moved_from removed inserted first (take (k + 1) entries))
+  skipped low =
+      let m : Entry = moved_entry removed inserted entry in
+      let none : filter (λ e. leb first e.at) (m ∷ []) ≡ [] = cond-false (leb first m.at) (m ∷ []) [] (lt-leb first m.at low) in
+      here_is ∙ ap (with_more start) (sym (more ∙ ap (λ l. moved_from removed inserted first (take k entries) ++ l) none ∙ append-nil _))
+
+  not_full : length start.entries + length entries ≤ 256 → length here.entries ≡ 256 → ⊥
+  not_full room full =
+      let so_far : List Entry = map (moved_entry removed inserted) (take k entries) in
+      omega (
+        arith,
+        ap (λ r. length r.entries) here_is,
+        length-append start.entries (moved_from removed inserted first (take k entries)),
+        filter_shorter (λ e. leb first e.at) so_far,
+        length-map (take k entries) (moved_entry removed inserted),
+        length-take k entries,
+      )
+
+  pub added : (moved : Entry) (next : Run) → moved ≡ moved_entry removed inserted entry → first ≤ (moved_entry removed inserted entry).at →
+      length start.entries + length entries ≤ 256 → next ≡ pushed here moved → next ≡ with_more start (moved_from removed inserted first (take (k + 1) entries))
+  added moved next moved_is high room next_is =
+      let m : Entry = moved_entry removed inserted entry in
+      let one : filter (λ e. leb first e.at) (m ∷ []) ≡ m ∷ [] = cond-true (leb first m.at) (m ∷ []) [] (le-leb first m.at high) in
+      next_is
+      ∙ cond-false (eqb (length here.entries) 256) _ (with_more here (moved ∷ [])) (ne_eqb (length here.entries) 256 (not_full room))
+      ∙ ap (λ r. with_more r (moved ∷ [])) here_is
+      ∙ ap (λ e. with_more (with_more start (moved_from removed inserted first (take k entries))) (e ∷ [])) moved_is
+      ∙ ap (λ l. record { anchor = start.anchor; entries = l; leads = start.leads })
+      (append_assoc start.entries (moved_from removed inserted first (take k entries)) (m ∷ []))
+      ∙ ap (with_more start) (sym (more ∙ ap (λ l. moved_from removed inserted first (take k entries) ++ l) one))

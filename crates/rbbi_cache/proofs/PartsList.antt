@@ -15,7 +15,8 @@ cut_before (suc n) [] ys = refl
 cut_before (suc n) (x ∷ xs) ys = ap (λ l. x ∷ l) (cut_before n xs ys)
 
 module _ (at removed inserted : ℕ) (pair : Option ℕ) where
-  parts_join : (runs others : List Run) → all_parts at removed inserted pair (runs ++ others) ≡ all_parts at removed inserted pair runs ++ all_parts at removed inserted pair others
+  parts_join : (runs others : List Run) → all_parts at removed inserted pair (runs ++ others) ≡ all_parts at removed inserted pair runs ++ all_parts at
+      removed inserted pair others
   parts_join [] others = refl
   parts_join (run ∷ runs) others = ap (λ l. left_part at run ∷ right_part at removed inserted pair run ∷ l) (parts_join runs others)
 
@@ -30,10 +31,13 @@ module _ (at removed inserted : ℕ) (pair : Option ℕ) where
       let left : Run = left_part at run in
       let right : Run = right_part at removed inserted pair run in
       let has : List Run → List Run = filter has_entries in
-      let parts : all_parts at removed inserted pair (take (k + 1) former) ≡ all_parts at removed inserted pair (take k former) ++ left_part at run ∷ right_part at removed inserted pair run ∷ [] =
-      ap (all_parts at removed inserted pair) (take_more former k run short ∙ ap (λ r. take k former ++ r ∷ []) (sym is)) ∙ parts_join (take k former) (run ∷ []) in
+      let parts : all_parts at removed inserted pair (take (k + 1) former) ≡ all_parts at removed inserted pair (take k former) ++ left_part at run ∷
+      right_part at removed inserted pair run ∷ [] =
+      ap (all_parts at removed inserted pair) (take_more former k run short ∙ ap (λ r. take k former ++ r ∷ []) (sym is))
+      ∙ parts_join (take k former) (run ∷ []) in
       both_are
-      ∙ ap (λ l. take most_runs (l ++ has (right ∷ []))) (left_are ∙ ap (λ l. take most_runs (l ++ has (left ∷ []))) kept_are ∙ cut_before most_runs (has before) (has (left ∷ [])))
+      ∙ ap (λ l. take most_runs (l ++ has (right ∷ []))) (left_are ∙ ap (λ l. take most_runs (l ++ has (left ∷ []))) kept_are
+      ∙ cut_before most_runs (has before) (has (left ∷ [])))
       ∙ cut_before most_runs (has before ++ has (left ∷ [])) (has (right ∷ []))
       ∙ ap (take most_runs)
       (ap (λ l. l ++ has (right ∷ [])) (sym (filter-append has_entries before (left ∷ [])))

@@ -1,8 +1,10 @@
 -- The parts by the first safe pair are those that an edit leaves, and they are true of the new text.
-use Rattle.std.proofs.Common.{◌≡◌, ℕ, zero, suc, ◌+◌, ◌-◌, ◌<◌, ◌≤◌, ◌⊎◌, Bool, true, false, cond, not, ◌&&◌, ◌||◌, eqb, leb, List, [], ◌∷◌, ◌++◌, length, map, filter, take, sym, refl, ap, ◌∙◌, subst, inl, inr, ⊎_elim, arith}
+use Rattle.std.proofs.Common.{◌≡◌, ℕ, zero, suc, ◌+◌, ◌-◌, ◌<◌, ◌≤◌, ◌⊎◌, Bool, true, false, cond, not, ◌&&◌, ◌||◌, eqb, leb, List, [], ◌∷◌, ◌++◌, length}
+use Rattle.std.proofs.Common.{map, filter, take, sym, refl, ap, ◌∙◌, subst, inl, inr, ⊎_elim, arith}
 use Rattle.std.specs.Prelude.{Option, Some, None, MatchOption, IfSome, IsTrue}
 use Rattle.std.specs.List.{AllByRecursion}
-use Rattle.std.proofs.lemmas.Bool.{cases_Bool, cases_lt, cases_eq, cond-true, cond-false, le-leb, lt-leb, leb-true, leb-false, eq-eqb, ne_eqb, and_parts, false≢true}
+use Rattle.std.proofs.lemmas.Bool.{cases_Bool, cases_lt, cases_eq, cond-true, cond-false, le-leb, lt-leb, leb-true, leb-false, eq-eqb, ne_eqb, and_parts}
+use Rattle.std.proofs.lemmas.Bool.{false≢true}
 use Rattle.rbbi_model.specs.Words.{most_characters}
 use Rattle.rbbi_model.specs.Tables.{Table}
 use Rattle.rbbi_model.specs.SafePairs.{is_safe}
@@ -10,7 +12,8 @@ use Rattle.rbbi_model.specs.ValidTables.{IsValidTable}
 use Rattle.rbbi_model.specs.Runs.{Entry, Run, category_at, boundary_of, IsAnchor, IsTrueRun}
 use Rattle.rbbi_cache.specs.Lists.{IsOrdered}
 use Rattle.rbbi_cache.specs.Kept.{AreTrueRuns, most_runs}
-use Rattle.rbbi_cache.specs.Edits.{IsEdited, begins_pair, IsFirstPair, HasNoPair, left_part, moved_run, run_behind, goes_whole, IsRightPart, Whole, Behind, Nothing, has_entries, AreParts, AreKeptAfter}
+use Rattle.rbbi_cache.specs.Edits.{IsEdited, begins_pair, IsFirstPair, HasNoPair, left_part, moved_run, run_behind, goes_whole, IsRightPart, Whole, Behind}
+use Rattle.rbbi_cache.specs.Edits.{Nothing, has_entries, AreParts, AreKeptAfter}
 use Rattle.rbbi_cache.specs.Parts.{IsPlaced, IsMovable, is_found_at, moves_whole, part_behind, right_part, all_parts}
 use Rattle.rbbi_cache.proofs.Lists.{all_through}
 use Rattle.rbbi_cache.proofs.Reached.{first_member}
@@ -36,7 +39,13 @@ movable table valid x run is_true small =
       ordered = record {
         anchor = omega arith;
         rising = entries_rise table valid x run is_true;
-        within = all_by_splits (λ e. e.at ≤ most_characters) run.entries (λ front e rest whole. omega (arith, path_within table x (first_member run.anchor) _ (boundary_of table e) (facts.path_is table valid x run is_true front e rest whole) anchor, small));
+        within = all_by_splits (λ e. e.at ≤ most_characters) run.entries
+            (λ front e rest whole. omega (
+              arith,
+              path_within table x (first_member run.anchor) _ (boundary_of table e) (facts.path_is table valid x run is_true front e rest whole)
+                  anchor,
+              small,
+            ));
       };
       reaches_rise = is_true.reaches_rise;
       few = is_true.few;
@@ -53,16 +62,20 @@ module _ (table : Table) (valid : IsValidTable table) (x y : List ℕ) (at remov
   begins_same : (p q : ℕ) → at + removed ≤ p → p + inserted - removed ≡ q → begins_pair table x p ≡ begins_pair table y q
   begins_same p q behind is =
       let size = length_is x y at removed inserted edited in
-      let room : leb (p + 2) (length x) ≡ leb (q + 2) (length y) = same_leb (p + 2) (length x) (q + 2) (length y) (λ there. omega (arith, size)) (λ here. omega (arith, size)) in
-      let one : category_at table x p ≡ category_at table y q = sym (same_category table valid x y at removed inserted edited p behind) ∙ ap (category_at table y) is in
+      let room : leb (p + 2) (length x) ≡ leb (q + 2) (length y) =
+      same_leb (p + 2) (length x) (q + 2) (length y) (λ there. omega (arith, size)) (λ here. omega (arith, size)) in
+      let one : category_at table x p ≡ category_at table y q =
+      sym (same_category table valid x y at removed inserted edited p behind) ∙ ap (category_at table y) is in
       let two : category_at table x (p + 1) ≡ category_at table y (q + 1) =
-      sym (same_category table valid x y at removed inserted edited (p + 1) (omega arith)) ∙ ap (category_at table y) (let e : p + 1 + inserted - removed ≡ q + 1 = omega arith in e) in
+      sym (same_category table valid x y at removed inserted edited (p + 1) (omega arith))
+      ∙ ap (category_at table y) (let e : p + 1 + inserted - removed ≡ q + 1 = omega arith in e) in
       ap (λ b. b && is_safe table (category_at table x p) (category_at table x (p + 1))) room
       ∙ ap (λ c. leb (q + 2) (length y) && is_safe table c (category_at table x (p + 1))) one
       ∙ ap (λ c. leb (q + 2) (length y) && is_safe table (category_at table y q) c) two
 
   -- whether a pair begins where the first one may begin
-  found_first : (pair : Option ℕ) → MatchOption pair (HasNoPair table y (at + inserted)) (IsFirstPair table y (at + inserted)) → is_found_at pair (at + inserted) ≡ begins_pair table y (at + inserted)
+  found_first : (pair : Option ℕ) → MatchOption pair (HasNoPair table y (at + inserted)) (IsFirstPair table y (at + inserted)) →
+      is_found_at pair (at + inserted) ≡ begins_pair table y (at + inserted)
   found_first None none = sym (none (at + inserted) (omega arith) (omega arith))
   found_first (Some q) first =
       ⊎_elim
@@ -73,13 +86,13 @@ module _ (table : Table) (valid : IsValidTable table) (x y : List ℕ) (at remov
   module _ (pair : Option ℕ) (found : MatchOption pair (HasNoPair table y (at + inserted)) (IsFirstPair table y (at + inserted))) where
     same_whole : (run : Run) → IsTrueRun table x run → goes_whole table x at removed run ≡ moves_whole at removed inserted pair run
     same_whole run is_true =
-        let other : Bool = not (eqb run.anchor 0) || is_found_at pair (at + inserted) in
         ⊎_elim
         (λ behind.
+        let up_to : at + removed ≤ run.anchor = leb-true (at + removed) run.anchor behind in
         ap (λ b. leb (at + removed) run.anchor && b)
         (⊎_elim
         (λ zero.
-        begins_same run.anchor (at + inserted) (leb-true (at + removed) run.anchor behind) (let up_to = leb-true (at + removed) run.anchor behind in omega arith)
+        begins_same run.anchor (at + inserted) up_to (omega arith)
         ∙ sym (found_first pair found)
         ∙ sym (ap (λ b. not b || is_found_at pair (at + inserted)) (eq-eqb run.anchor 0 zero)))
         (λ some.
@@ -91,7 +104,8 @@ module _ (table : Table) (valid : IsValidTable table) (x y : List ℕ) (at remov
         ∙ sym (ap (λ b. b && (not (eqb run.anchor 0) || is_found_at pair (at + inserted))) before))
         (cases_Bool (leb (at + removed) run.anchor))
 
-    right_behind : (pair : Option ℕ) → MatchOption pair (HasNoPair table y (at + inserted)) (IsFirstPair table y (at + inserted)) → (run : Run) → goes_whole table x at removed run ≡ false → IsRightPart table x y at removed inserted run (part_behind at removed inserted pair run)
+    right_behind : (pair : Option ℕ) → MatchOption pair (HasNoPair table y (at + inserted)) (IsFirstPair table y (at + inserted)) →
+        (run : Run) → goes_whole table x at removed run ≡ false → IsRightPart table x y at removed inserted run (part_behind at removed inserted pair run)
     right_behind None none run fails = Nothing fails none
     right_behind (Some q) first run fails = Behind q fails first
 
@@ -111,7 +125,8 @@ module _ (table : Table) (valid : IsValidTable table) (x y : List ℕ) (at remov
     are_parts (run ∷ runs) are_true =
         (right_part at removed inserted pair run, all_parts at removed inserted pair runs, right_is run are_true.0, are_parts runs are_true.1, refl)
 
-    pub are_kept : (runs now : List Run) → AreTrueRuns table x runs → now ≡ take most_runs (filter has_entries (all_parts at removed inserted pair runs)) → AreKeptAfter table x y at removed inserted runs now
+    pub are_kept : (runs now : List Run) → AreTrueRuns table x runs → now ≡ take most_runs (filter has_entries (all_parts at removed inserted pair runs)) →
+        AreKeptAfter table x y at removed inserted runs now
     are_kept runs now are_true now_are = record { parts = all_parts at removed inserted pair runs; are_parts = are_parts runs are_true; now_are = now_are }
 
     some_entry : (run : Run) → has_entries run ≡ true → 1 ≤ length run.entries
@@ -121,29 +136,36 @@ module _ (table : Table) (valid : IsValidTable table) (x y : List ℕ) (at remov
         (λ some. omega arith)
         (cases_eq (length run.entries) 0)
 
-    parts_true : (runs : List Run) → AreTrueRuns table x runs → AllByRecursion (λ part. has_entries part ≡ true → IsTrueRun table y part) (all_parts at removed inserted pair runs)
+    parts_true : (runs : List Run) → AreTrueRuns table x runs → AllByRecursion (λ part. has_entries part ≡ true → IsTrueRun table y part)
+        (all_parts at removed inserted pair runs)
     parts_true [] are_true = tt
     parts_true (run ∷ runs) are_true = (
       λ has. left_true table valid x y at removed inserted edited run are_true.0 (some_entry (left_part at run) has),
       (
-        λ has. right_true table valid x y at removed inserted edited run are_true.0 (right_part at removed inserted pair run) (right_is run are_true.0) (some_entry (right_part at removed inserted pair run) has),
+        λ has. right_true table valid x y at removed inserted edited run are_true.0 (right_part at removed inserted pair run) (right_is run are_true.0)
+            (some_entry (right_part at removed inserted pair run) has),
         parts_true runs are_true.1,
       ),
     )
 
-    pub kept_true : (runs now : List Run) → AreTrueRuns table x runs → now ≡ take most_runs (filter has_entries (all_parts at removed inserted pair runs)) → AreTrueRuns table y now
+    pub kept_true : (runs now : List Run) → AreTrueRuns table x runs → now ≡ take most_runs (filter has_entries (all_parts at removed inserted pair runs)) →
+        AreTrueRuns table y now
     kept_true runs now are_true now_are =
-        subst (AreTrueRuns table y) (sym now_are) (all_take most_runs (filter has_entries (all_parts at removed inserted pair runs)) (held (all_parts at removed inserted pair runs) (parts_true runs are_true)))
+        subst (AreTrueRuns table y) (sym now_are) (all_take most_runs (filter has_entries (all_parts at removed inserted pair runs))
+        (held (all_parts at removed inserted pair runs) (parts_true runs are_true)))
       where
         all_take : (n : ℕ) (runs : List Run) → AllByRecursion (IsTrueRun table y) runs → AllByRecursion (IsTrueRun table y) (take n runs)
         all_take zero runs each = tt
         all_take (suc n) [] each = tt
         all_take (suc n) (run ∷ runs) each = (each.0, all_take n runs each.1)
 
-        held : (runs : List Run) → AllByRecursion (λ part. has_entries part ≡ true → IsTrueRun table y part) runs → AllByRecursion (IsTrueRun table y) (filter has_entries runs)
+        held : (runs : List Run) → AllByRecursion (λ part. has_entries part ≡ true → IsTrueRun table y part) runs →
+            AllByRecursion (IsTrueRun table y) (filter has_entries runs)
         held [] each = tt
         held (run ∷ runs) each =
             ⊎_elim
-            (λ has. subst (AllByRecursion (IsTrueRun table y)) (sym (cond-true (has_entries run) (run ∷ filter has_entries runs) (filter has_entries runs) has)) (each.0 has, held runs each.1))
-            (λ none. subst (AllByRecursion (IsTrueRun table y)) (sym (cond-false (has_entries run) (run ∷ filter has_entries runs) (filter has_entries runs) none)) (held runs each.1))
+            (λ has. subst (AllByRecursion (IsTrueRun table y))
+            (sym (cond-true (has_entries run) (run ∷ filter has_entries runs) (filter has_entries runs) has)) (each.0 has, held runs each.1))
+            (λ none. subst (AllByRecursion (IsTrueRun table y))
+            (sym (cond-false (has_entries run) (run ∷ filter has_entries runs) (filter has_entries runs) none)) (held runs each.1))
             (cases_Bool (has_entries run))
