@@ -1,15 +1,15 @@
 -- What a true run shows is the answer, statuses and all.
-use Rattle.std.proofs.Common.{◌≡◌, ℕ, ◌+◌, ◌<◌, ◌≤◌, ◌⊎◌, List, [], ◌∷◌, ◌++◌, eqb, length, map, sym, refl, ap, ◌∙◌, subst, inl, inr, ⊎_elim, arith}
+use Rattle.std.proofs.Common.{◌≡◌, ℕ, ◌+◌, ◌≤◌, List, [], ◌∷◌, ◌++◌, eqb, map, sym, refl, ap, ◌∙◌, subst, ⊎_elim, arith}
 use Rattle.std.specs.List.{AllByRecursion}
 use Rattle.std.proofs.lemmas.Bool.{cases_eq, cond-false, ne_eqb}
 use Rattle.rbbi_model.specs.Boundaries.{Boundary}
 use Rattle.rbbi_model.specs.Tables.{Table}
 use Rattle.rbbi_model.specs.ValidTables.{IsValidTable}
 use Rattle.rbbi_model.specs.Searches.{fresh, table_boundaries}
-use Rattle.rbbi_model.specs.Runs.{Entry, Run, low, boundary_of, from_place, IsTrueRun, ShowsAfter}
+use Rattle.rbbi_model.specs.Runs.{Entry, Run, low, boundary_of, IsTrueRun}
 use Rattle.rbbi_model.proofs.FreshTrue.{fresh_true}
 use Rattle.rbbi_model.proofs.Shown.{shown_after, shown_before}
-use Rattle.rbbi_cache.specs.Kept.{AreTrueRuns, Keeps, IsBoundaryOf, IsFirstAfter, IsLastBefore, SomeRun}
+use Rattle.rbbi_cache.specs.Kept.{IsBoundaryOf, IsFirstAfter, IsLastBefore, SomeRun}
 use Rattle.rbbi_cache.specs.Shown.{IsShownAfter, IsShownBefore}
 use Rattle.rbbi_cache.specs.Ready.{KeepsTrue}
 use Rattle.rbbi_cache.proofs.RunFacts as facts

@@ -1,5 +1,5 @@
 -- Searches for the last boundary before a place, from one anchor.
-use Rattle.std.proofs.Common.{◌≡◌, ◌≢◌, ℕ, zero, suc, ◌+◌, ◌-◌, ◌<◌, ◌≤◌, ◌⊎◌, Bool, true, false, ◌&&◌, ◌||◌, eqb, ltb, leb, List, [], ◌∷◌, ◌++◌, length, length-append, length-drop, drop, map, get_or, sym, refl, ap, ◌∙◌, subst, inl, inr, ⊎_elim, append_assoc, arith}
+use Rattle.std.proofs.Common.{◌≡◌, ◌≢◌, ℕ, ◌+◌, ◌-◌, ◌<◌, ◌≤◌, ◌⊎◌, Bool, true, false, ◌&&◌, ◌||◌, eqb, ltb, leb, List, [], ◌∷◌, ◌++◌, length, length-append, length-drop, map, get_or, sym, refl, ap, ◌∙◌, subst, inl, inr, ⊎_elim, append_assoc, arith}
 use Rattle.std.specs.List.{AllByRecursion, list_any}
 use Rattle.std.proofs.lemmas.Bool.{cases_eq, cases_lt, cond-true, cond-false, eq-eqb, ne_eqb, le-leb, lt-leb, lt-ltb, le-ltb, or_left, or_right, and_from}
 use Rattle.std.proofs.Math.Seq.{get_or-append_seam}
@@ -7,10 +7,9 @@ use Rattle.rbbi_model.specs.Boundaries.{Boundary}
 use Rattle.rbbi_model.specs.Tables.{Table}
 use Rattle.rbbi_model.specs.ValidTables.{IsValidTable}
 use Rattle.rbbi_model.specs.Searches.{next_boundary, follow_by, fresh}
-use Rattle.rbbi_model.specs.Runs.{Entry, Run, IsAnchor, low, boundary_of, IsTrueRun}
+use Rattle.rbbi_model.specs.Runs.{Entry, Run, IsAnchor, low, boundary_of}
 use Rattle.rbbi_model.specs.Costs.{settles}
-use Rattle.rbbi_cache.specs.Scans.{Scan, IsScan, HasGoneOn, GoesOn}
-use Rattle.rbbi_cache.specs.Shown.{IsShownBefore}
+use Rattle.rbbi_cache.specs.Scans.{HasGoneOn, GoesOn}
 use Rattle.rbbi_cache.specs.Ready.{IsReady, IsReadyBack, HasNoneBefore}
 use Rattle.rbbi_cache.proofs.Lists.{all_join, all_right, all_through}
 use Rattle.rbbi_cache.proofs.Reached.{rest_after}

@@ -1,18 +1,16 @@
 -- What is kept after an answer.
-use Rattle.std.proofs.Common.{◌≡◌, ℕ, ◌+◌, ◌-◌, ◌<◌, ◌≤◌, ◌⊎◌, Bool, true, false, List, [], ◌∷◌, ◌++◌, length, length-append, length-take, length-drop, take, drop, map, sym, refl, ap, ◌∙◌, subst, inl, inr, ⊎_elim, append_assoc, arith}
-use Rattle.std.specs.Prelude.{IsTrue}
+use Rattle.std.proofs.Common.{◌≡◌, ℕ, ◌-◌, ◌<◌, ◌≤◌, Bool, true, false, List, [], ◌∷◌, ◌++◌, length, length-take, length-drop, take, drop, map, sym, refl, ap, ◌∙◌, subst, inr, ⊎_elim, arith}
 use Rattle.std.specs.List.{AllByRecursion}
 use Rattle.std.proofs.lemmas.Bool.{cases_lt}
 use Rattle.std.proofs.lemmas.List.{append-nil, take-append-drop, take_all}
-use Rattle.rbbi_model.specs.Lists.{IsRising}
 use Rattle.rbbi_model.specs.Tables.{Table}
 use Rattle.rbbi_model.specs.ValidTables.{IsValidTable}
 use Rattle.rbbi_model.specs.Searches.{fresh}
 use Rattle.rbbi_model.specs.Runs.{Entry, Run, IsAnchor, boundary_of, AreConsecutive, IsTrueRun}
-use Rattle.rbbi_cache.specs.Kept.{AreTrueRuns, IsExtendedBy, AreLeft, Added, Extended, Dropped, HasLeastReaches, Keeps}
-use Rattle.rbbi_cache.specs.Shown.{IsShownAfter}
+use Rattle.rbbi_cache.specs.Kept.{AreTrueRuns, IsExtendedBy, AreLeft, Added, Extended, Dropped, HasLeastReaches}
+use Rattle.rbbi_cache.specs.Shown.{IsShownAfter, IsShownBefore}
 use Rattle.rbbi_cache.specs.Lists.{IsOrdered, HasAt}
-use Rattle.rbbi_cache.specs.Ready.{IsReady, IsAmong, GoesOnAs, GoesOnAt, KeepsTrue}
+use Rattle.rbbi_cache.specs.Ready.{GoesOnAs, GoesOnAt, KeepsTrue}
 use Rattle.rbbi_cache.proofs.Lists.{all_join, all_left, all_right, all_through}
 use Rattle.rbbi_cache.proofs.Reached.{first_member}
 use Rattle.rbbi_cache.proofs.RunFacts as facts
@@ -95,6 +93,25 @@ module _ (table : Table) (valid : IsValidTable table) (x : List ℕ) where
             let whole : former ≡ take 15 former ++ last.0 ∷ [] = sym (take-append-drop 15 former) ∙ ap (λ l. take 15 former ++ l) last.1 in
             subst (λ l. AreLeft run l (take 15 former)) (sym whole) (Dropped (take 15 former) last.0 (omega (arith, length-take 15 former))))
             (cases_lt (length former) 16)
+
+  -- what the first run shows may be told in another way
+  pub keeps_through : (Shows Shows' : Run → Type 0) → ((run : Run) → IsTrueRun table x run → Shows run → Shows' run) → (former now : List Run) → KeepsTrue table x Shows former now → KeepsTrue table x Shows' former now
+  keeps_through Shows Shows' through former now keeps =
+      let is = keeps.0 in (
+        record { first = is.first; rest = is.rest; are = is.are; shows = through is.first (subst (AllByRecursion (IsTrueRun table x)) is.are keeps.1).0 is.shows; reaches = is.reaches; left = is.left },
+        keeps.1,
+      )
+
+  -- the first boundary past the last character is the last before a place past the end
+  pub shown_last : (n i : ℕ) → n ≡ length x → 0 < n → n < i → (entry : Entry) (run : Run) → IsTrueRun table x run → IsShownAfter run (n - 1) entry → IsShownBefore x run i entry
+  shown_last n i is some far entry run is_true shown =
+      let shows = shown.0 in
+      let within = entry_within run is_true shows.before shows.entry shows.after shows.whole in
+      let past = shows.past in
+      let at = shows.at in (
+        record { before = shows.before; entry = shows.entry; after = shows.after; whole = shows.whole; at = shows.at; short_of = omega arith; nearest = inr (omega arith) },
+        shown.1,
+      )
 
   -- What is kept after searches went on from a kept run.
   module _ (i : ℕ) (former : List Run) (are_true : AreTrueRuns table x former) (before : List Run) (run : Run) (after : List Run) (whole : former ≡ before ++ run ∷ after) (entry : Entry) (is_kept : Bool) (gone : List Run) (spare : Run)

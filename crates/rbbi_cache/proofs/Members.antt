@@ -1,8 +1,8 @@
 -- Members of lists of boundaries, and what stands round them.
-use Rattle.std.proofs.Common.{◌≡◌, ℕ, ◌+◌, ◌<◌, ◌≤◌, ◌⊎◌, List, [], ◌∷◌, ◌++◌, sym, refl, ap, subst, inl, inr, ⊎_elim, arith}
+use Rattle.std.proofs.Common.{◌≡◌, ℕ, ◌≤◌, ◌⊎◌, List, [], ◌∷◌, ◌++◌, sym, refl, ap, subst, inl, inr, ⊎_elim}
 use Rattle.std.proofs.lemmas.Bool.{cases_lt}
 use Rattle.rbbi_model.specs.Boundaries.{Boundary}
-use Rattle.rbbi_model.specs.Cover.{places, IsPlaceOf}
+use Rattle.rbbi_model.specs.Cover.{IsPlaceOf}
 use Rattle.rbbi_model.specs.Runs.{from_place}
 use Rattle.rbbi_model.proofs.FreshTrue.{kept, dropped}
 

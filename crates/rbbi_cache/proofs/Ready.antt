@@ -1,29 +1,29 @@
 -- What a scan leaves is ready to be kept.
-use Rattle.std.proofs.Common.{◌≡◌, ◌≢◌, ℕ, zero, suc, ◌+◌, ◌-◌, ◌<◌, ◌≤◌, ◌⊎◌, Bool, true, false, eqb, Option, Some, None, List, [], ◌∷◌, ◌++◌, length, length-append, length-drop, drop, map, sym, refl, ap, ◌∙◌, subst, inl, inr, ⊎_elim, append_assoc, arith}
+use Rattle.std.proofs.Common.{◌≡◌, ◌≢◌, ℕ, ◌+◌, ◌<◌, ◌≤◌, ◌⊎◌, false, eqb, Option, Some, None, List, [], ◌∷◌, ◌++◌, length, length-append, length-drop, map, sym, refl, ap, ◌∙◌, subst, inl, inr, ⊎_elim, append_assoc, arith}
 use Rattle.std.specs.Prelude.{IsTrue, unwrap_or, sum_by}
 use Rattle.std.specs.List.{AllByRecursion}
-use Rattle.std.proofs.lemmas.Bool.{cond-true, cond-false, cases_eq, cases_lt, eq-eqb, ne_eqb}
+use Rattle.std.proofs.lemmas.Bool.{cond-true, cond-false, cases_eq, eq-eqb, ne_eqb}
 use Rattle.std.proofs.lemmas.List.Sums.{sum_by-append}
 use Rattle.rbbi_model.specs.Places.{greatest_below}
 use Rattle.rbbi_model.specs.Boundaries.{Boundary}
 use Rattle.rbbi_model.specs.Lists.{IsRising}
 use Rattle.rbbi_model.specs.Tables.{Table}
 use Rattle.rbbi_model.specs.ValidTables.{IsValidTable}
-use Rattle.rbbi_model.specs.Runs.{Entry, Run, IsAnchor, is_anchor, low, boundary_of, IsTrueRun, ShowsAfter}
+use Rattle.rbbi_model.specs.Runs.{Entry, Run, IsAnchor, is_anchor, low, boundary_of, IsTrueRun}
 use Rattle.rbbi_model.specs.Costs.{anchor_below, characters_read, searches_cost}
 use Rattle.rbbi_model.proofs.Found.{greatest_lies}
 use Rattle.rbbi_model.proofs.Anchors.{anchors_stored}
 use Rattle.rbbi_cache.specs.Kept.{HasLeastReaches, EndFormerRun, IsExtendedBy}
 use Rattle.rbbi_cache.specs.Lists.{GoesOnFrom}
 use Rattle.rbbi_cache.specs.Shown.{IsShownAfter}
-use Rattle.rbbi_cache.specs.Scans.{Reached, Scan, IsScan, HasBegun, HasGoneOn, GoesOn}
-use Rattle.rbbi_cache.specs.Ready.{IsReady, IsAmong, GoesOnAs}
-use Rattle.rbbi_cache.proofs.Lists.{all_join, all_left, all_right, all_through}
+use Rattle.rbbi_cache.specs.Scans.{Scan, IsScan, HasGoneOn}
+use Rattle.rbbi_cache.specs.Ready.{IsReady, IsAmong}
+use Rattle.rbbi_cache.proofs.Lists.{all_join}
 use Rattle.rbbi_cache.proofs.Reached.{cost_is}
 use Rattle.rbbi_cache.proofs.RightPart.{entries_rise}
 use Rattle.rbbi_cache.proofs.RunFacts as facts
 use Rattle.rbbi_cache.proofs.Scanning.{nonempty}
-use Rattle.rbbi_cache.proofs.Scanned.{scan_from_anchor, scan_from_entry, scan_true, scan_shows, scan_least, run_ends, front_up_to}
+use Rattle.rbbi_cache.proofs.Scanned.{scan_true, scan_shows, scan_least, run_ends, front_up_to}
 use Rattle.rbbi_cache.proofs.Extending.{extended_true, extended_least, extends}
 
 -- what lies below a place and is an anchor

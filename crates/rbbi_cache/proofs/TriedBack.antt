@@ -2,18 +2,17 @@
 use Rattle.std.proofs.Common.{◌≡◌, ◌≢◌, ℕ, zero, suc, ◌+◌, ◌-◌, ◌*◌, ◌<◌, ◌≤◌, ◌⊎◌, true, false, eqb, ltb, List, [], ◌∷◌, ◌++◌, Option, Some, None, length, sym, refl, ap, ◌∙◌, subst, inl, inr, ⊎_elim, append_assoc, arith}
 use Rattle.std.specs.Prelude.{sum_by}
 use Rattle.std.specs.List.{AllByRecursion}
-use Rattle.std.proofs.lemmas.Bool.{cond-true, cond-false, lt-ltb, le-ltb, cases_eq}
+use Rattle.std.proofs.lemmas.Bool.{cond-true, cond-false, lt-ltb, le-ltb, ne_eqb}
 use Rattle.std.proofs.lemmas.List.Sums.{sum_by_push}
 use Rattle.rbbi_model.specs.Boundaries.{Boundary}
 use Rattle.rbbi_model.specs.Tables.{Table}
 use Rattle.rbbi_model.specs.ValidTables.{IsValidTable}
-use Rattle.rbbi_model.specs.Searches.{next_boundary, follow_by, fresh, table_boundaries}
-use Rattle.rbbi_model.specs.Answers.{last_place, last_before}
-use Rattle.rbbi_model.specs.Runs.{Entry, IsAnchor, low, boundary_of}
-use Rattle.rbbi_model.specs.Costs.{anchor_below, searches_cost, settles, tries_from, tries, last_of, back_cost}
+use Rattle.rbbi_model.specs.Searches.{next_boundary, follow_by}
+use Rattle.rbbi_model.specs.Answers.{last_place}
+use Rattle.rbbi_model.specs.Runs.{IsAnchor, low}
+use Rattle.rbbi_model.specs.Costs.{anchor_below, searches_cost, settles, tries_from, tries, last_of, back_cost, forward_cost, last_cost, preceding_cost}
 use Rattle.rbbi_cache.specs.Kept.{IsLastBefore}
 use Rattle.rbbi_cache.specs.Ready.{HasNoneBefore}
-use Rattle.rbbi_cache.proofs.Lists.{all_through}
 use Rattle.rbbi_cache.proofs.Reached.{first_member, rises_after, none_follows}
 use Rattle.rbbi_cache.proofs.Reanchor.{fresh_rises}
 use Rattle.rbbi_cache.proofs.Scanned.{first_is}
@@ -131,3 +130,10 @@ module _ (table : Table) (valid : IsValidTable table) (x : List ℕ) (i : ℕ) (
   start_is_last_of_none empty =
       let alone = none_follows (next_boundary table x) (length x) (length x) (first_member 0) (omega arith) in
       start_is_last (subst (λ bs. AllByRecursion (λ (b : Boundary). low 0 ≤ b.at → i ≤ b.at) (first_member 0 ∷ bs)) (sym alone) ((λ one. absurd (omega arith)), tt))
+
+-- a place past the end costs what the last boundary does
+pub cost_past_end : (table : Table) (x : List ℕ) (i : ℕ) → length x < i → length x ≢ 0 → preceding_cost table x i ≡ forward_cost table x (length x - 1)
+cost_past_end table x zero past other = absurd (omega arith)
+cost_past_end table x (suc before) past other =
+    cond-false (ltb before (length x)) (back_cost table x (suc before)) (last_cost table x) (le-ltb before (length x) (omega arith))
+    ∙ cond-false (eqb (length x) 0) 0 (forward_cost table x (length x - 1)) (ne_eqb (length x) 0 other)

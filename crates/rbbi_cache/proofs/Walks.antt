@@ -1,7 +1,7 @@
 -- Walks over places in search of a safe pair.
 use Rattle.std.proofs.Common.{◌≡◌, ℕ, zero, suc, ◌+◌, ◌-◌, ◌<◌, ◌≤◌, max, ◌⊎◌, Bool, true, false, ◌&&◌, ◌||◌, eqb, leb, List, Option, Some, None, length, get_or, sym, refl, ap, ◌∙◌, ⊎_elim, arith}
 use Rattle.std.specs.Prelude.{unwrap_or}
-use Rattle.std.proofs.lemmas.Bool.{cases_eq, cond-true, cond-false, eq-eqb, ne_eqb, le-leb, lt-leb, or_left, or_right, and_from, cases_lt, false≢true}
+use Rattle.std.proofs.lemmas.Bool.{cases_eq, cond-true, cond-false, ne_eqb, le-leb, lt-leb, or_right, and_from, cases_lt, false≢true}
 use Rattle.rbbi_model.specs.Places.{greatest_below}
 use Rattle.rbbi_model.specs.Tables.{Table, category_of}
 use Rattle.rbbi_model.specs.SafePairs.{is_safe}

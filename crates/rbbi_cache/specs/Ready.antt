@@ -1,5 +1,5 @@
 -- Runs that are ready to be kept first.
-use Rattle.std.specs.Prelude.{◌≡◌, ℕ, ◌≤◌, ◌⊎◌, ◌+◌, Bool, true, false, List, [], ◌∷◌, ◌++◌}
+use Rattle.std.specs.Prelude.{◌≡◌, ℕ, ◌≤◌, Bool, true, false, List, ◌∷◌, ◌++◌}
 use Rattle.rbbi_model.specs.Tables.{Table}
 use Rattle.std.specs.List.{AllByRecursion}
 use Rattle.rbbi_model.specs.Searches.{fresh}

@@ -131,6 +131,7 @@ impl Cache {
         ensures more { steps.old ≤ steps.new }
         ensures cost { steps.new ≤ steps.old + preceding_cost table.now (T.characters text.now) i }
     {
+        table.valid();
         if i == 0 {
             return None;
         }
@@ -143,7 +144,7 @@ impl Cache {
             return Some(START);
         }
         if i > len {
-            return self.after(table, text, len - 1, steps);
+            return Some(self.find_past(table, text, len - 1, steps));
         }
         Some(self.find_back(table, text, i, steps))
     }
@@ -267,6 +268,7 @@ impl Cache {
         ensures more { steps.old ≤ steps.new }
         ensures cost { steps.new ≤ steps.old + back_cost table.now (T.characters text.now) i }
     {
+        table.valid();
         let spare = &mut self.spare;
         let Some(entry) = search_back(table, text, i, spare, &mut self.marks, steps) else {
             return START;

@@ -1,6 +1,6 @@
-use Rattle.std.proofs.Common.{◌≡◌, ◌≤◌, max, sym, ◌∙◌, ap, subst, arith}
+use Rattle.std.proofs.Common.{sym, ◌∙◌, ap, arith}
 use Rattle.rbbi_model.specs.Tables.{category_of}
-use Rattle.rbbi_cache.proofs.Walks.{WalksBack, walk_starts, walk_goes, walk_ends, none_past}
+use Rattle.rbbi_cache.proofs.Walks.{walk_starts, walk_goes, walk_ends, none_past}
 use Rattle.rbbi_cache.proofs.anchors.anchor_before.Goals as goal
 
 pub loop-place-init : goal.loop-place-init

@@ -1,5 +1,5 @@
-use Rattle.std.proofs.Common.{◌≡◌, ◌+◌, ◌-◌, ◌<◌, ◌≤◌, ⊎_elim, length, ap, sym, ◌∙◌, arith}
-use Rattle.rbbi_cache.proofs.Backward.{none_before, settled, ready_back, stands, parts}
+use Rattle.std.proofs.Common.{◌-◌, ◌≤◌, ⊎_elim, length, ap, ◌∙◌, arith}
+use Rattle.rbbi_cache.proofs.Backward.{none_before, settled, ready_back, stands}
 use Rattle.rbbi_cache.proofs.Begins.{begins_at_anchor, anchor_more, anchor_cost}
 use Rattle.rbbi_cache.proofs.back.search_from.Goals as goal
 

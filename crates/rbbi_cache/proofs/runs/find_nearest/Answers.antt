@@ -1,6 +1,5 @@
-use Rattle.std.proofs.Common.{◌≡◌, ℕ, Option, Some, sym, subst}
+use Rattle.std.proofs.Common.{Option, sym, subst}
 use Rattle.std.specs.Prelude.{MatchOption, ⊤}
-use Rattle.rbbi_model.specs.Runs.{Run}
 use Rattle.rbbi_cache.specs.declared.runs.Shown.{Shown}
 use Rattle.rbbi_cache.specs.Lists.{HasAt, GoesOnFrom}
 use Rattle.rbbi_cache.proofs.RunLists.{has_at}

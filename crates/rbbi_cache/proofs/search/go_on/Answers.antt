@@ -1,4 +1,4 @@
-use Rattle.std.proofs.Common.{◌≡◌, ℕ, ◌+◌, ◌≤◌, List, length, drop, sym, ap, ◌∙◌, subst, refl, arith}
+use Rattle.std.proofs.Common.{◌≡◌, List, length, drop, sym, ap, ◌∙◌, refl, arith}
 use Rattle.std.proofs.Common.{◌++◌, ◌-◌, take, length-drop}
 use Rattle.std.proofs.lemmas.List.{take_all}
 use Rattle.rbbi_model.specs.Runs.{Entry, Run}

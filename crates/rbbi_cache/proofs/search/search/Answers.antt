@@ -1,8 +1,4 @@
-use Rattle.std.proofs.Common.{◌≡◌, ℕ, ◌+◌, ◌<◌, ◌≤◌, List, [], length, sym, refl, ap, ◌∙◌, subst, ⊎_elim, arith}
-use Rattle.rbbi_model.specs.Tables.{Table}
-use Rattle.rbbi_model.specs.Runs.{Entry, Run}
-use Rattle.rbbi_model.specs.Costs.{anchor_below, searches_cost}
-use Rattle.rbbi_cache.specs.Scans.{Scan, IsScan, HasBegun, HasGoneOn, GoesOn}
+use Rattle.std.proofs.Common.{sym, ap, subst, arith}
 use Rattle.rbbi_cache.proofs.Ready.{IsAnchorBelow, anchor_is}
 use Rattle.rbbi_cache.proofs.Begins.{begins_at_anchor, anchor_ready, anchor_more, anchor_cost, anchor_low}
 use Rattle.rbbi_cache.proofs.search.search.Goals as goal

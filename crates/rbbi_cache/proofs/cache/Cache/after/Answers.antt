@@ -1,13 +1,12 @@
-use Rattle.std.proofs.Common.{◌≡◌, ℕ, ◌<◌, ◌∷◌, ◌++◌, List, length, sym, ap, ◌∙◌, subst, arith}
+use Rattle.std.proofs.Common.{ℕ, sym, ap, ◌∙◌, subst, arith}
 use Rattle.std.specs.List.{AllByRecursion}
 use Rattle.rbbi_model.specs.Words.{most_characters}
-use Rattle.rbbi_model.specs.Runs.{Run, ShowsAfter}
-use Rattle.rbbi_cache.specs.Kept.{KeptRuns, AreTrueRuns, SomeRun}
+use Rattle.rbbi_model.specs.Runs.{ShowsAfter}
+use Rattle.rbbi_cache.specs.Kept.{KeptRuns}
 use Rattle.rbbi_cache.specs.Shown.{IsShownAfter}
-use Rattle.rbbi_cache.specs.Lists.{IsOrdered, HasAt}
-use Rattle.rbbi_cache.specs.Ready.{KeepsTrue}
+use Rattle.rbbi_cache.specs.Lists.{IsOrdered}
 use Rattle.rbbi_cache.proofs.Keeping.{all_ordered, keeps_shown}
-use Rattle.rbbi_cache.proofs.Answering.{is_first_after, answer_after, no_run}
+use Rattle.rbbi_cache.proofs.Answering.{answer_after, no_run}
 use Rattle.rbbi_cache.proofs.cache.Cache.after.Goals as goal
 
 pub find_after-requires-clause-ordered : goal.find_after-requires-clause-ordered

@@ -1,4 +1,4 @@
-use Rattle.std.proofs.Common.{◌≡◌, ◌≤◌, sym, subst}
+use Rattle.std.proofs.Common.{sym, subst}
 use Rattle.rbbi_cache.specs.Kept.{KeptRuns, AreTrueRuns}
 use Rattle.rbbi_cache.specs.Ready.{KeepsTrue}
 use Rattle.rbbi_cache.specs.Shown.{IsShownAfter}

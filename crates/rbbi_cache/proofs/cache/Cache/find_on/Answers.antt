@@ -1,4 +1,4 @@
-use Rattle.std.proofs.Common.{◌≡◌, ◌∷◌, ◌++◌, List, length, length-append, ap, ◌∙◌, sym, arith}
+use Rattle.std.proofs.Common.{◌≡◌, ◌∷◌, ◌++◌, List, length, length-append, ap, ◌∙◌, arith}
 use Rattle.rbbi_model.specs.Runs.{Run}
 use Rattle.rbbi_cache.specs.Kept.{KeptRuns}
 use Rattle.rbbi_cache.proofs.Keeping.{keeps_gone_on, keeps_beside}

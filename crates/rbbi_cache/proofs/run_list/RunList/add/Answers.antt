@@ -1,4 +1,4 @@
-use Rattle.std.proofs.Common.{◌≡◌, List, ◌∷◌, length, length-take, take, ap, ◌∙◌, arith}
+use Rattle.std.proofs.Common.{List, ◌∷◌, length, length-take, take, ap, ◌∙◌, arith}
 use Rattle.std.specs.Prelude.{min}
 use Rattle.rbbi_model.specs.Runs.{Run}
 use Rattle.rbbi_cache.proofs.Slots.{refilled, added_is}

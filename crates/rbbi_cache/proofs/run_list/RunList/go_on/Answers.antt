@@ -1,6 +1,6 @@
-use Rattle.std.proofs.Common.{◌≡◌, ◌<◌, ◌≤◌, ◌∷◌, length, sym, ◌∙◌, subst, arith}
+use Rattle.std.proofs.Common.{◌≤◌, ◌∷◌, length, sym, ◌∙◌, subst, arith}
 use Rattle.std.specs.List.{AllByRecursion}
-use Rattle.rbbi_model.specs.Runs.{Run, IsTrueRun}
+use Rattle.rbbi_model.specs.Runs.{IsTrueRun}
 use Rattle.rbbi_cache.specs.Lists.{GoesOnFrom}
 use Rattle.rbbi_cache.specs.Ready.{GoesOnAs}
 use Rattle.rbbi_cache.proofs.Lists.{all_right}

@@ -1,4 +1,4 @@
-use Rattle.std.proofs.Common.{◌≡◌, ◌≤◌, ◌∷◌, ◌++◌, length, length-append, take, drop, ap, ◌∙◌, append_assoc, arith}
+use Rattle.std.proofs.Common.{◌≡◌, ◌≤◌, ◌∷◌, ◌++◌, length, length-append, take, drop, ap, ◌∙◌, arith}
 use Rattle.rbbi_cache.proofs.Slots.{refilled, slots_are, moved_is}
 use Rattle.rbbi_cache.proofs.run_list.RunList.move_to_front.Goals as goal
 
