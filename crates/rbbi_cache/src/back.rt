@@ -14,9 +14,9 @@ use rbbi_table::{Marks, Table};
 use rbbi_text::{Chars, Steps};
 use std::sync::ledger::Ledger;
 
-/// Searches for the last boundary before `i`, which lies within the text, or None where it is the start.
-/// The first try begins at the nearest anchor at least three characters back, each further one at least
-/// twice as far back as the one before. The run is left so that it shows the answer.
+/// Searches for the last boundary before `i`, which lies within the text, or None where it is the
+/// start. The first try begins at the nearest anchor at least three characters back, each further
+/// one at least twice as far back as the one before. The run is left so that it shows the answer.
 pub(crate) fn search_back<T: Chars, L: Ledger>(
     table: &Table,
     text: &T,
@@ -30,8 +30,10 @@ pub(crate) fn search_back<T: Chars, L: Ledger>(
     requires within { i ≤ length (T.characters text.now) }
     requires small { i ≤ most_characters }
     ensures found { MatchOption result
-        (IsLastBefore table.now (T.characters text.now) i (record { at = 0; status = 0; reach = 0 }))
-        (λ entry. (kept : List model.Run) → IsReadyBack table.now (T.characters text.now) i kept entry run.new) }
+        (IsLastBefore table.now (T.characters text.now) i
+        (record { at = 0; status = 0; reach = 0 }))
+        (λ entry. (kept : List model.Run) →
+        IsReadyBack table.now (T.characters text.now) i kept entry run.new) }
     ensures more { steps.old ≤ steps.new }
     ensures cost { steps.new ≤ steps.old + back_cost table.now (T.characters text.now) i }
     ensures fit { marks.new ≡ marks.old }
@@ -66,11 +68,14 @@ fn search_from<T: Chars, L: Ledger>(
     requires some { 0 < i }
     requires within { i ≤ length (T.characters text.now) }
     requires small { i ≤ most_characters }
-    ensures found { MatchOption result (HasNoneBefore table.now (T.characters text.now) anchor i) (λ entry.
-        (settles table.now (T.characters text.now) i anchor ≡ true)
-        × ((kept : List model.Run) → IsReadyBack table.now (T.characters text.now) i kept entry run.new)) }
+    ensures found { MatchOption result
+        (HasNoneBefore table.now (T.characters text.now) anchor i)
+        (λ entry. (settles table.now (T.characters text.now) i anchor ≡ true)
+        × ((kept : List model.Run) →
+        IsReadyBack table.now (T.characters text.now) i kept entry run.new)) }
     ensures more { steps.old ≤ steps.new }
-    ensures cost { steps.new ≤ steps.old + searches_cost table.now (T.characters text.now) anchor (i - 1) }
+    ensures cost { steps.new
+        ≤ steps.old + searches_cost table.now (T.characters text.now) anchor (i - 1) }
     ensures fit { marks.new ≡ marks.old }
 {
     table.valid();

@@ -27,7 +27,8 @@ const START: Entry = Entry {
     reach: 0,
 };
 
-/// Boundaries of one text by one table, kept in at most 16 runs. All memory is taken when it is made.
+/// Boundaries of one text by one table, kept in at most 16 runs. All memory is taken when it is
+/// made.
 #[derive(Debug, Drop)]
 pub struct Cache {
     pub(crate) runs: RunList,
@@ -68,12 +69,12 @@ impl Cache {
         self.runs.as_slice()
     }
 
-    /// The first boundary of the text past `i`, in characters from 0, or None where `i` is its length or
-    /// more.
+    /// The first boundary of the text past `i`, in characters from 0, or None where `i` is its
+    /// length or more.
     ///
-    /// Where a kept run shows the answer, no character is read. Otherwise it searches from the nearest
-    /// place before `i` that serves, the last entry of a kept run or an anchor, and keeps what it finds
-    /// in the first run. It takes no memory.
+    /// Where a kept run shows the answer, no character is read. Otherwise it searches from the
+    /// nearest place before `i` that serves, the last entry of a kept run or an anchor, and keeps
+    /// what it finds in the first run. It takes no memory.
     pub fn after<T: Chars, L: Ledger>(
         &mut self,
         table: &Table,
@@ -84,12 +85,15 @@ impl Cache {
         requires fit { self.old.slashes ≡ table.now.slashes }
         requires are_true { AreTrueRuns table.now (T.characters text.now) self.old.runs }
         ensures answer { MatchOption result (length (T.characters text.now) ≤ i) (λ entry.
-            (i < length (T.characters text.now)) × IsFirstAfter table.now (T.characters text.now) i entry) }
-        ensures kept { MatchOption result (self.new ≡ self.old) (λ entry. Keeps table.now (T.characters text.now)
+            (i < length (T.characters text.now))
+            × IsFirstAfter table.now (T.characters text.now) i entry) }
+        ensures kept { MatchOption result (self.new ≡ self.old) (λ entry.
+            Keeps table.now (T.characters text.now)
             (λ run. IsShownAfter run i entry) self.old.runs self.new.runs) }
         ensures are_true { AreTrueRuns table.now (T.characters text.now) self.new.runs }
         ensures fit { self.new.slashes ≡ self.old.slashes }
-        ensures shown { (a : ℕ) → SomeRun (λ run. ShowsAfter run i a) self.old.runs → steps.new ≡ steps.old }
+        ensures shown { (a : ℕ) → SomeRun (λ run. ShowsAfter run i a) self.old.runs →
+            steps.new ≡ steps.old }
         ensures more { steps.old ≤ steps.new }
         ensures cost { i < length (T.characters text.now) →
             steps.new ≤ steps.old + forward_cost table.now (T.characters text.now) i }
@@ -108,9 +112,9 @@ impl Cache {
 
     /// The last boundary of the text before `i`, in characters from 0, or None where `i` is 0.
     ///
-    /// Where a kept run shows the answer, no character is read. Otherwise it searches from anchors that
-    /// lie farther and farther back, and keeps what it finds in the first run, unless the answer is 0.
-    /// It takes no memory.
+    /// Where a kept run shows the answer, no character is read. Otherwise it searches from anchors
+    /// that lie farther and farther back, and keeps what it finds in the first run, unless the
+    /// answer is 0. It takes no memory.
     pub fn before<T: Chars, L: Ledger>(
         &mut self,
         table: &Table,
@@ -126,7 +130,8 @@ impl Cache {
             KeepsBack table.now (T.characters text.now) i entry self.old.runs self.new.runs) }
         ensures are_true { AreTrueRuns table.now (T.characters text.now) self.new.runs }
         ensures fit { self.new.slashes ≡ self.old.slashes }
-        ensures shown { (a : ℕ) → SomeRun (λ run. ShowsBefore (T.characters text.now) run i a) self.old.runs →
+        ensures shown { (a : ℕ) →
+            SomeRun (λ run. ShowsBefore (T.characters text.now) run i a) self.old.runs →
             steps.new ≡ steps.old }
         ensures more { steps.old ≤ steps.new }
         ensures cost { steps.new ≤ steps.old + preceding_cost table.now (T.characters text.now) i }
@@ -196,7 +201,8 @@ impl Cache {
             (λ run. IsShownAfter run i result) self.old.runs self.new.runs }
         ensures fit { self.new.slashes ≡ self.old.slashes }
         ensures more { steps.old ≤ steps.new }
-        ensures cost { steps.new ≤ steps.old + searches_cost table.now (T.characters text.now) anchor i }
+        ensures cost { steps.new
+            ≤ steps.old + searches_cost table.now (T.characters text.now) anchor i }
     {
         table.valid();
         let spare = &mut self.spare;
@@ -262,7 +268,8 @@ impl Cache {
         requires within { i ≤ length (T.characters text.now) }
         requires small { i ≤ most_characters }
         ensures answer { IsLastBefore table.now (T.characters text.now) i result }
-        ensures kept { KeepsBack table.now (T.characters text.now) i result self.old.runs self.new.runs }
+        ensures kept { KeepsBack table.now (T.characters text.now) i result
+            self.old.runs self.new.runs }
         ensures are_true { AreTrueRuns table.now (T.characters text.now) self.new.runs }
         ensures fit { self.new.slashes ≡ self.old.slashes }
         ensures more { steps.old ≤ steps.new }

@@ -21,3 +21,6 @@ mod shown;
 pub use cache::Cache;
 pub use entry::Entry;
 pub use run::{MOST_ENTRIES, Run};
+
+#[cfg(test)]
+mod tests;

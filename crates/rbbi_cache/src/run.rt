@@ -13,8 +13,8 @@ pub const MOST_ENTRIES: usize = 256;
 /// How many of the last entries a full run keeps when it goes on.
 const KEPT_ENTRIES: usize = 128;
 
-/// Boundaries in a row that were found by searching from one anchor. Its entries stand in a list that
-/// is as long as it may get, so that none takes memory.
+/// Boundaries in a row that were found by searching from one anchor. Its entries stand in a list
+/// that is as long as it may get, so that none takes memory.
 #[derive(Debug, Drop)]
 pub struct Run {
     anchor: u32,
@@ -29,7 +29,11 @@ impl Model for Run {
 
     ghost Value = { Run };
 
-    ghost view = { λ run. record { anchor = run.anchor; entries = take run.len run.slots.items; leads = run.leads } };
+    ghost view = { λ run. record {
+      anchor = run.anchor;
+      entries = take run.len run.slots.items;
+      leads = run.leads;
+    } };
 
     ghost invariant = { λ run. (run.len ≤ 256) × (length run.slots.items ≡ 256) };
 }
@@ -89,7 +93,8 @@ impl Run {
         self.len += 1;
     }
 
-    /// Whether it leads: nothing found from its anchor lies between the low place and the first entry.
+    /// Whether it leads: nothing found from its anchor lies between the low place and the first
+    /// entry.
     pub(crate) fn leads(&self) -> bool
         ensures { result ≡ self.now.leads }
     {

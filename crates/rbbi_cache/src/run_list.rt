@@ -58,14 +58,15 @@ impl RunList {
     /// Moves a run to the front. The runs before it go back by one.
     pub(crate) fn move_to_front(&mut self, k: usize)
         requires { k < length self.old }
-        ensures { (before after : List model.Run) (run : model.Run) → self.old ≡ before ++ run ∷ after →
-            length before ≡ k → self.new ≡ run ∷ (before ++ after) }
+        ensures { (before after : List model.Run) (run : model.Run) →
+            self.old ≡ before ++ run ∷ after → length before ≡ k →
+            self.new ≡ run ∷ (before ++ after) }
     {
         to_front(&mut self.slots, k);
     }
 
-    /// Puts a new run before the others. Where there are 16, the last one goes. What comes back in the
-    /// new run's place isn't said.
+    /// Puts a new run before the others. Where there are 16, the last one goes. What comes back in
+    /// the new run's place isn't said.
     pub(crate) fn add(&mut self, run: &mut Run)
         ensures added { self.new ≡ run.old ∷ take 15 self.old }
         ensures few { length self.old ≤ 16 }
@@ -73,8 +74,8 @@ impl RunList {
         self.count = put_first(&mut self.slots, self.count, run);
     }
 
-    /// Searches on from the last entry of the run with this number. What is found is added to the run
-    /// or makes a run of its own.
+    /// Searches on from the last entry of the run with this number. What is found is added to the
+    /// run or makes a run of its own.
     pub(crate) fn go_on<T: Chars, L: Ledger>(
         &mut self,
         k: usize,
@@ -92,8 +93,10 @@ impl RunList {
         requires are_true { AreTrueRuns table.now (T.characters text.now) self.old }
         requires from { HasAt self.old k (GoesOnFrom i from) }
         requires near { anchor_below table.now (T.characters text.now) i ≤ from.at }
-        ensures gone_on { (before after : List model.Run) (run : model.Run) → self.old ≡ before ++ run ∷ after →
-            length before ≡ k → GoesOnAt table.now (T.characters text.now) i before run after result.0 result.1 self.new spare.new }
+        ensures gone_on { (before after : List model.Run) (run : model.Run) →
+            self.old ≡ before ++ run ∷ after → length before ≡ k →
+            GoesOnAt table.now (T.characters text.now) i before run after
+            result.0 result.1 self.new spare.new }
         ensures more { steps.old ≤ steps.new }
         ensures cost { steps.new ≤ steps.old + searches_cost table.now (T.characters text.now)
             (anchor_below table.now (T.characters text.now) i) i }

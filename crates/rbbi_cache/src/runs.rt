@@ -80,8 +80,8 @@ pub(crate) fn to_front(runs: &mut [Run], k: usize)
     first.rotate_right(1);
 }
 
-/// Puts a new run before those that are kept, of which there are `count`. Where 16 are kept, the last
-/// one goes. What was in the last place comes back in the new run's place.
+/// Puts a new run before those that are kept, of which there are `count`. Where 16 are kept, the
+/// last one goes. What was in the last place comes back in the new run's place.
 pub(crate) fn put_first(runs: &mut [Run], count: usize, run: &mut Run) -> usize
     requires room { length runs.old ≡ 16 }
     requires count { count ≤ 16 }

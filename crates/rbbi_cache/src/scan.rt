@@ -17,8 +17,8 @@ pub(crate) fn low(anchor: u32) -> u32
     if anchor == 0 { 1 } else { anchor + 2 }
 }
 
-/// Searches on from an entry of the run, or from its anchor, until a place past `i` is found, and adds
-/// what is found to the run. `i` lies within the text. The answer is the last place found.
+/// Searches on from an entry of the run, or from its anchor, until a place past `i` is found, and
+/// adds what is found to the run. `i` lies within the text. The answer is the last place found.
 pub(crate) fn scan<T: Chars, L: Ledger>(
     table: &Table,
     text: &T,
@@ -33,7 +33,8 @@ pub(crate) fn scan<T: Chars, L: Ledger>(
     requires anchor { run.old.anchor ≤ i }
     requires small { i < most_characters }
     requires begun { HasBegun table.now (T.characters text.now) run.old.anchor i from run.old }
-    ensures gone_on { GoesOn table.now (T.characters text.now) run.old.anchor i from run.old result run.new steps.old steps.new }
+    ensures gone_on { GoesOn table.now (T.characters text.now) run.old.anchor i
+        from run.old result run.new steps.old steps.new }
     ensures past { i < result.at }
     ensures fit { marks.new ≡ marks.old }
 {

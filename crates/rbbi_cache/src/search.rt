@@ -29,9 +29,11 @@ pub(crate) fn search<T: Chars, L: Ledger>(
     requires within { i < length (T.characters text.now) }
     requires small { i < most_characters }
     requires anchor { anchor ≡ anchor_below table.now (T.characters text.now) i }
-    ensures ready { (kept : List model.Run) → IsReady table.now (T.characters text.now) i kept result run.new }
+    ensures ready { (kept : List model.Run) →
+        IsReady table.now (T.characters text.now) i kept result run.new }
     ensures more { steps.old ≤ steps.new }
-    ensures cost { steps.new ≤ steps.old + searches_cost table.now (T.characters text.now) anchor i }
+    ensures cost { steps.new
+        ≤ steps.old + searches_cost table.now (T.characters text.now) anchor i }
     ensures fit { marks.new ≡ marks.old }
 {
     table.valid();
@@ -44,9 +46,9 @@ pub(crate) fn search<T: Chars, L: Ledger>(
     scan(table, text, run, from, i, marks, steps)
 }
 
-/// Searches on from the last entry of a true run, where no anchor lies between that and `i`. What is
-/// found is added to the run, where it has room for all, and then the answer is true; otherwise it
-/// makes a run of its own, which begins with a copy of that entry.
+/// Searches on from the last entry of a true run, where no anchor lies between that and `i`. What
+/// is found is added to the run, where it has room for all, and then the answer is true; otherwise
+/// it makes a run of its own, which begins with a copy of that entry.
 pub(crate) fn go_on<T: Chars, L: Ledger>(
     table: &Table,
     text: &T,
@@ -63,7 +65,8 @@ pub(crate) fn go_on<T: Chars, L: Ledger>(
     requires is_true { model.IsTrueRun table.now (T.characters text.now) run.old }
     requires from { GoesOnFrom i from run.old }
     requires near { anchor_below table.now (T.characters text.now) i ≤ from.at }
-    ensures gone_on { GoesOnAs table.now (T.characters text.now) i run.old result.0 result.1 run.new spare.new }
+    ensures gone_on { GoesOnAs table.now (T.characters text.now) i run.old
+        result.0 result.1 run.new spare.new }
     ensures more { steps.old ≤ steps.new }
     ensures cost { steps.new ≤ steps.old + searches_cost table.now (T.characters text.now)
         (anchor_below table.now (T.characters text.now) i) i }

@@ -47,7 +47,8 @@ impl Run {
         requires rising { IsRising (map (λ entry. entry.at) self.now.entries) }
         requires small { i < most_characters }
         requires anchor { self.now.anchor ≤ most_characters }
-        ensures { MatchOption result ((a : ℕ) → ¬ ShowsAfter self.now i a) (IsShownAfter self.now i) }
+        ensures { MatchOption result
+            ((a : ℕ) → ¬ ShowsAfter self.now i a) (IsShownAfter self.now i) }
     {
         let entries = self.entries();
         let k = count_up_to(entries, i);
@@ -63,13 +64,15 @@ impl Run {
         None
     }
 
-    /// The entry of the run that is shown to be the last boundary before `i`, in a text of this length.
+    /// The entry of the run that is shown to be the last boundary before `i`, in a text of this
+    /// length.
     pub(crate) fn shown_before(&self, len: u32, i: u32) -> Option<Entry>
         requires rising { IsRising (map (λ entry. entry.at) self.now.entries) }
         requires within { AllByRecursion (λ entry. entry.at ≤ len) self.now.entries }
         requires some { 0 < i }
         ensures { (x : List ℕ) → len ≡ length x →
-            MatchOption result ((a : ℕ) → ¬ ShowsBefore x self.now i a) (IsShownBefore x self.now i) }
+            MatchOption result
+            ((a : ℕ) → ¬ ShowsBefore x self.now i a) (IsShownBefore x self.now i) }
     {
         let entries = self.entries();
         let k = count_up_to(entries, i - 1);
