@@ -15,7 +15,7 @@ use std::test::Fail;
 fn asked<L: Ledger>(
     rt: &HostRuntime,
     table: &Table,
-    words: &str,
+    mut text: PlainText,
     first: u32,
     remove: u32,
     second: u32,
@@ -25,10 +25,8 @@ fn asked<L: Ledger>(
     requires parts { blank.parts ≡ L.parts }
     requires some { 0 < blank.parts }
 {
-    let alloc = rt.alloc();
     let mut steps = Steps::<L>::new(rt, blank);
-    let mut text = PlainText::new(alloc, words)?;
-    let mut cache = Cache::new(alloc, table)?;
+    let mut cache = Cache::new(rt.alloc(), table)?;
     let here = cache.after(table, &text, first, &mut steps).ok_or("none")?;
     text.replace(0, remove, "")?;
     cache.edited(table, &text, 0, remove, 0, &mut steps);
@@ -54,7 +52,8 @@ fn runs_that_move(rt: HostRuntime) -> Result<(), Fail> {
         (8, 0, (11, 1, true)),
     ];
     for (first, second, wanted) in rows {
-        let answers = asked::<Brand>(&rt, &table, words.as_str(), first, 5, second, Blank::new(1))?;
+        let text = PlainText::new(alloc, words.as_str())?;
+        let answers = asked::<Brand>(&rt, &table, text, first, 5, second, Blank::new(1))?;
         assert_eq!(rt; answers, wanted);
     }
     Ok(())
