@@ -32,12 +32,12 @@ pub record AreFirst (at : ℕ) (entries : List Entry) : Type 0 where
   pub each : AllByRecursion (λ e. e.reach ≤ at) left
   pub later : AllByRecursion (λ e. at < e.reach) rest
 
-reaches_after : (entry : Entry) (entries : List Entry) → ReachesRise (entry ∷ entries) → AllByRecursion (λ e. entry.reach ≤ e.reach) entries
+pub reaches_after : (entry : Entry) (entries : List Entry) → ReachesRise (entry ∷ entries) → AllByRecursion (λ e. entry.reach ≤ e.reach) entries
 reaches_after entry [] rise = tt
 reaches_after entry (next ∷ entries) rise =
     (rise.0, all_through (λ e. next.reach ≤ e.reach) (λ e. entry.reach ≤ e.reach) (λ e less. omega (arith, less, rise.0)) entries (reaches_after next entries rise.1))
 
-reaches_tail : (entry : Entry) (entries : List Entry) → ReachesRise (entry ∷ entries) → ReachesRise entries
+pub reaches_tail : (entry : Entry) (entries : List Entry) → ReachesRise (entry ∷ entries) → ReachesRise entries
 reaches_tail entry [] rise = tt
 reaches_tail entry (next ∷ entries) rise = rise.1
 

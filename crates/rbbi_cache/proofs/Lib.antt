@@ -7,6 +7,12 @@ pub mod LeftPart
 pub mod Moving
 pub mod Reanchor
 pub mod RightPart
+pub mod Cuts
+pub mod Appended
+pub mod Copied
+pub mod AddedParts
+pub mod PartsTruth
+pub mod PartsList
 pub mod Scanning
 pub mod Scanned
 pub mod Extending

@@ -15,7 +15,7 @@ use Rattle.rbbi_model.specs.Searches.{fresh}
 use Rattle.rbbi_model.specs.Runs.{Entry, Run, category_at, low, boundary_of, farthest_look, ReachesRise, LeadsTruly, IsTrueRun}
 use Rattle.rbbi_model.proofs.Categories.{category_within}
 use Rattle.rbbi_cache.specs.Edits.{IsEdited, begins_pair, moved_entry, moved_run, run_behind, goes_whole, IsRightPart, Whole, Behind, Nothing}
-use Rattle.rbbi_cache.proofs.Lists.{all_join, all_left, all_right, all_through, filter_all, filter_none, everywhere}
+use Rattle.rbbi_cache.proofs.Lists.{all_join, all_left, all_right, all_through, filter_all, filter_none, filter_same, everywhere}
 use Rattle.rbbi_cache.proofs.Reached.{done_before, rises_after, rising_right}
 use Rattle.rbbi_cache.proofs.RunFacts as facts
 use Rattle.rbbi_cache.proofs.LeftPart.{are_first}
@@ -264,11 +264,6 @@ module _ (table : Table) (valid : IsValidTable table) (x y : List ℕ) (at remov
 
   low_zero : (a : ℕ) → a ≡ 0 → low a ≡ 1
   low_zero a zero = cond-true (eqb a 0) 1 (a + 2) (eq-eqb a 0 zero)
-
-  filter_same : (f g : Entry → Bool) (entries : List Entry) → ((e : Entry) → f e ≡ g e) → filter f entries ≡ filter g entries
-  filter_same f g [] same = refl
-  filter_same f g (e ∷ entries) same =
-      ap (λ b. cond b (e ∷ filter f entries) (filter f entries)) (same e) ∙ ap (λ l. cond (g e) (e ∷ l) l) (filter_same f g entries same)
 
   module _ (behind : at + removed ≤ run.anchor) (room : run.anchor + 2 ≤ length x) (safe : IsSafePair table (category_at table x run.anchor) (category_at table x (run.anchor + 1))) where
     -- a run of another anchor than 0

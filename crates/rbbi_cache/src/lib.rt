@@ -4,7 +4,9 @@
 mod anchors;
 mod back;
 mod cache;
+mod edited;
 mod entry;
+mod parts;
 mod run;
 mod run_list;
 mod runs;
@@ -16,5 +18,7 @@ pub use cache::Cache;
 pub use entry::Entry;
 pub use run::{MOST_ENTRIES, Run};
 
+#[cfg(test)]
+mod edited_tests;
 #[cfg(test)]
 mod tests;

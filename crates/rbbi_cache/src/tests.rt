@@ -16,7 +16,7 @@ use std::test::Fail;
 
 /// A table with one status list and no look-ahead rule, as a test writes it.
 #[derive(Clone, Copy)]
-struct Sample<'a> {
+pub(crate) struct Sample<'a> {
     categories: u16,
     /// Starts and categories.
     ranges: &'a [(u32, u16)],
@@ -27,7 +27,7 @@ struct Sample<'a> {
 }
 
 /// The table of the rules `[a-z]+; ' '+;`.
-const WORDS: Sample<'static> = Sample {
+pub(crate) const WORDS: Sample<'static> = Sample {
     categories: 3,
     ranges: &[(0, 0), (0x20, 1), (0x21, 0), (0x61, 2), (0x7B, 0)],
     rows: &[0, 0, 1, 1],
@@ -80,7 +80,7 @@ fn parts_of(alloc: Global, sample: &Sample) -> Result<Parts, AllocError> {
     })
 }
 
-fn table_of(rt: &impl Abort, alloc: Global, sample: &Sample) -> Result<Table, TableErr> {
+pub(crate) fn table_of(rt: &impl Abort, alloc: Global, sample: &Sample) -> Result<Table, TableErr> {
     let parts = parts_of(alloc, sample)?;
     let width = parts.categories as usize;
     assert!(rt; parts.rows.len() < 65536);
@@ -91,7 +91,7 @@ fn table_of(rt: &impl Abort, alloc: Global, sample: &Sample) -> Result<Table, Ta
 }
 
 /// The word so many times.
-fn repeated(alloc: Global, word: &str, times: u32) -> Result<String, AllocError> {
+pub(crate) fn repeated(alloc: Global, word: &str, times: u32) -> Result<String, AllocError> {
     let mut text = String::new(alloc);
     for _ in 0..times {
         text.push_str(word)?;
@@ -101,9 +101,9 @@ fn repeated(alloc: Global, word: &str, times: u32) -> Result<String, AllocError>
 
 /// A text that counts how many of its characters are read.
 #[derive(Drop)]
-struct Counted<'a> {
-    text: &'a PlainText,
-    reads: &'a Cell<u32>,
+pub(crate) struct Counted<'a> {
+    pub(crate) text: &'a PlainText,
+    pub(crate) reads: &'a Cell<u32>,
 }
 
 impl Chars for Counted<'_> {
