@@ -1,0 +1,5 @@
+pub mod Errors
+pub mod Lengths
+pub mod Fitting
+pub mod Reading
+pub mod Answers
