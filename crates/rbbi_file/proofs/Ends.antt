@@ -1,13 +1,11 @@
 -- The parts of a table file end where its counts say.
-use Rattle.std.proofs.Common.{◌≡◌, ℕ, zero, suc, ◌+◌, ◌-◌, ◌*◌, ◌/◌, ◌%◌, ◌^◌, ◌<◌, ◌≤◌, List, [], ◌∷◌, ◌++◌, length, get_or, take, drop, refl, ap, sym, ◌∙◌, subst, arith, length-append, length-drop, append_assoc}
+use Rattle.std.proofs.Common.{◌≡◌, ℕ, zero, suc, ◌+◌, ◌*◌, ◌/◌, ◌%◌, ◌^◌, ◌<◌, ◌≤◌, List, [], ◌∷◌, ◌++◌, length, get_or, take, drop, refl, ap, sym, ◌∙◌, arith, length-append, length-drop, append_assoc}
 use Rattle.std.specs.List.{AllByRecursion, flat_map}
 use Rattle.std.proofs.lemmas.List.{get_or-drop, drop-drop, drop_at}
-use Rattle.rbbi_model.specs.Tables.{Table, CategoryRange, RowHead}
-use Rattle.rbbi_model.specs.ValidTables.{IsValidTable}
-use Rattle.rbbi_model.specs.TableFile.{u16, u32, magic, counts, range_bytes, list_bytes, head_bytes, row_bytes, spelling}
-use Rattle.rbbi_table.specs.Parts.{HasFittingParts}
+use Rattle.rbbi_model.specs.Tables.{Table}
+use Rattle.rbbi_model.specs.TableFile.{u16, u32, magic, range_bytes, list_bytes, row_bytes, spelling}
 use Rattle.rbbi_file.specs.Lengths.{u16_at, u32_at, HasMagic, lists_end, parts_end, rows_size, pairs_size}
-use Rattle.rbbi_file.specs.Fitting.{FitsList, FitsBytes, Spell}
+use Rattle.rbbi_file.specs.Fitting.{FitsList, Spell}
 use Rattle.rbbi_file.proofs.Sizes.{length_ranges, length_list, length_rows}
 use Rattle.rbbi_file.proofs.OneTable.{in_order}
 

@@ -1,11 +1,10 @@
 -- Bytes spell one table at most.
-use Rattle.std.proofs.Common.{◌≡◌, ℕ, zero, suc, ◌+◌, ◌-◌, ◌*◌, ◌/◌, ◌%◌, ◌^◌, ◌<◌, ◌≤◌, List, [], ◌∷◌, ◌++◌, length, get_or, take, drop, refl, ap, sym, ◌∙◌, subst, arith, length-append, length-drop, append_assoc}
+use Rattle.std.proofs.Common.{◌≡◌, ℕ, ◌*◌, ◌/◌, ◌%◌, ◌^◌, ◌<◌, ◌≤◌, List, [], ◌∷◌, ◌++◌, length, get_or, take, drop, refl, ap, sym, ◌∙◌, arith, length-drop, append_assoc}
 use Rattle.std.specs.List.{AllByRecursion, flat_map}
 use Rattle.std.proofs.lemmas.List.{take-append-drop, length-take-le, nil_from_length}
 use Rattle.rbbi_model.specs.Tables.{Table, CategoryRange, RowHead}
-use Rattle.rbbi_model.specs.TableFile.{u16, u32, magic, counts, range_bytes, list_bytes, head_bytes, row_bytes, spelling}
-use Rattle.rbbi_table.specs.Parts.{HasFittingParts}
-use Rattle.rbbi_file.specs.Fitting.{FitsRange, FitsList, FitsHead, FitsBytes, Spell}
+use Rattle.rbbi_model.specs.TableFile.{u16, u32, magic, range_bytes, list_bytes, head_bytes, row_bytes, spelling}
+use Rattle.rbbi_file.specs.Fitting.{FitsRange, FitsList, FitsHead, Spell}
 use Rattle.rbbi_file.proofs.Members.{all_taken, all_dropped}
 
 -- The same bytes in front are the same thing, and what follows is the same.

@@ -1,12 +1,11 @@
 -- How many bytes the parts of a table file take.
-use Rattle.std.proofs.Common.{◌≡◌, ℕ, zero, suc, ◌+◌, ◌-◌, ◌*◌, ◌/◌, ◌≤◌, List, [], ◌∷◌, ◌++◌, length, take, drop, ap, sym, ◌∙◌, arith, length-append, length-drop}
+use Rattle.std.proofs.Common.{◌≡◌, ℕ, ◌+◌, ◌*◌, ◌≤◌, List, [], ◌∷◌, ◌++◌, length, take, drop, arith, length-append, length-drop}
 use Rattle.std.specs.List.{AllByRecursion, flat_map}
 use Rattle.std.proofs.lemmas.List.{length-take-le}
-use Rattle.rbbi_model.specs.Tables.{Table, CategoryRange, RowHead}
-use Rattle.rbbi_model.specs.ValidTables.{IsValidList, IsValidTable}
-use Rattle.rbbi_model.specs.TableFile.{u16, u32, counts, range_bytes, list_bytes, head_bytes, row_bytes, spelling}
-use Rattle.rbbi_table.specs.Parts.{HasFittingParts}
-use Rattle.rbbi_file.specs.Lengths.{rows_size, pairs_size}
+use Rattle.rbbi_model.specs.Tables.{CategoryRange, RowHead}
+use Rattle.rbbi_model.specs.ValidTables.{IsValidList}
+use Rattle.rbbi_model.specs.TableFile.{u16, u32, range_bytes, list_bytes, head_bytes, row_bytes}
+use Rattle.rbbi_file.specs.Lengths.{rows_size}
 
 pub length_u16s : (numbers : List ℕ) → length (flat_map u16 numbers) ≡ 2 * length numbers
 length_u16s [] = omega arith

@@ -1,14 +1,13 @@
 -- The numbers of a valid table fit the bytes that a table file has for them, and the file isn't long.
-use Rattle.std.proofs.Common.{◌≡◌, ℕ, zero, suc, ◌+◌, ◌-◌, ◌*◌, ◌/◌, ◌%◌, ◌^◌, ◌<◌, ◌≤◌, List, [], ◌∷◌, ◌++◌, length, get_or, ap, sym, ◌∙◌, subst, arith, lit<, length-append}
+use Rattle.std.proofs.Common.{◌≡◌, ℕ, ◌+◌, ◌*◌, ◌/◌, ◌%◌, ◌^◌, ◌<◌, ◌≤◌, List, [], ◌∷◌, ◌++◌, length, get_or, subst, arith, lit<, length-append}
 use Rattle.std.specs.List.{AllByRecursion, flat_map}
 use Rattle.std.proofs.Math.Nat.{pow-le-pow_right}
 use Rattle.std.proofs.lemmas.Nat.{div_below, mul-le}
-use Rattle.rbbi_model.specs.Words.{last_code_point}
-use Rattle.rbbi_model.specs.Tables.{Table, CategoryRange, RowHead, empty_head, step}
+use Rattle.rbbi_model.specs.Tables.{Table, CategoryRange, empty_head, step}
 use Rattle.rbbi_model.specs.ValidTables.{AreApart, IsWithin, IsValidList, IsValidTable}
 use Rattle.rbbi_model.specs.TableFile.{magic, counts, range_bytes, list_bytes, row_bytes, spelling}
-use Rattle.rbbi_file.specs.Lengths.{rows_size, pairs_size}
-use Rattle.rbbi_file.specs.Fitting.{FitsRange, FitsList, FitsHead, FitsBytes, Spell}
+use Rattle.rbbi_file.specs.Lengths.{rows_size}
+use Rattle.rbbi_file.specs.Fitting.{FitsRange, FitsList, FitsHead, FitsBytes}
 use Rattle.rbbi_table.specs.Parts.{HasFittingParts}
 use Rattle.rbbi_file.proofs.Members.{all_so, all_from_places}
 use Rattle.rbbi_file.proofs.Sizes.{length_ranges, length_lists, length_rows}

@@ -1,19 +1,17 @@
 -- What the bytes of a file that is as long as its parts spell, and what a spelling can't be.
-use Rattle.std.proofs.Common.{◌≡◌, ◌≢◌, ℕ, zero, suc, ◌+◌, ◌-◌, ◌*◌, ◌^◌, ◌<◌, ◌≤◌, List, [], ◌∷◌, ◌++◌, length, get_or, take, drop, refl, ap, sym, ◌∙◌, subst, arith, length-append, length-drop, append_assoc}
+use Rattle.std.proofs.Common.{◌≡◌, ◌≢◌, ℕ, ◌+◌, ◌*◌, ◌^◌, ◌<◌, ◌≤◌, List, ◌++◌, length, get_or, drop, refl, ap, sym, ◌∙◌, subst, arith, length-drop, append_assoc}
 use Rattle.std.specs.List.{AllByRecursion, flat_map}
-use Rattle.std.specs.Prelude.{Result, Ok, Err}
+use Rattle.std.specs.Prelude.{Err}
 use Rattle.std.proofs.lemmas.List.{take-append-drop}
 use Rattle.rbbi_model.specs.Tables.{Table}
 use Rattle.rbbi_model.specs.ValidTables.{IsValidTable}
 use Rattle.rbbi_model.specs.TableFile.{u16, u32, magic, counts, range_bytes, list_bytes, row_bytes, spelling}
-use Rattle.rbbi_table.specs.Parts.{HasFittingParts}
 use Rattle.rbbi_table.specs.declared.error.TableErr.{TableErr}
 use Rattle.rbbi_table.specs.declared.error.TableErr.TheVariants.{BadRanges, BadLists, BadRows, BadFronts, BadSafe, Memory}
 use Rattle.rbbi_table.specs.Answers.{MakesTable}
 use Rattle.rbbi_file.specs.Lengths.{u16_at, u32_at, HasMagic, lists_end, parts_end, rows_size, pairs_size}
-use Rattle.rbbi_file.specs.Fitting.{FitsRange, FitsBytes, Spell}
+use Rattle.rbbi_file.specs.Fitting.{FitsRange, Spell}
 use Rattle.rbbi_file.specs.Reading.{Stand, AreListsAt, AreRowsAt}
-use Rattle.rbbi_file.specs.Answers.{SpellBadParts}
 use Rattle.rbbi_file.proofs.Valid.{fits_valid, fitting_valid}
 use Rattle.rbbi_file.proofs.OneTable.{one_table}
 use Rattle.rbbi_file.proofs.Ends.{lists_go_on, ends_there}

@@ -1,4 +1,4 @@
-use Rattle.std.proofs.Common.{◌≡◌, ℕ, ◌+◌, ◌-◌, ◌*◌, ap, sym, ◌∙◌, arith}
+use Rattle.std.proofs.Common.{ℕ, ◌+◌, ◌-◌, ◌*◌, ap, sym, ◌∙◌, arith}
 use Rattle.rbbi_file.specs.Lengths.{u16_at, lists_end}
 use Rattle.rbbi_file.proofs.Ends.{lists_go_on}
 use Rattle.rbbi_file.proofs.Stands.{next_list}

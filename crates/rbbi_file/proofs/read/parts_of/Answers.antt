@@ -1,4 +1,4 @@
-use Rattle.std.proofs.Common.{ℕ, refl, sym, subst, arith}
+use Rattle.std.proofs.Common.{refl, sym, subst, arith}
 use Rattle.std.proofs.Math.Facts.{Fits-lt-pow}
 use Rattle.rbbi_model.specs.Tables.{Table}
 use Rattle.rbbi_file.specs.Fitting.{Spell}
