@@ -23,7 +23,9 @@ split_u32 a b x y small small' same =
     (omega (arith, small, small', first, second, third, fourth), ap (λ (l : List ℕ). drop 4 l) same)
 
 -- lists of as many things that split
-pub split_all : {X : Type 0} (f : X → List ℕ) (P : X → Type 0) → ((a b : X) (x y : List ℕ) → P a → P b → f a ++ x ≡ f b ++ y → (a ≡ b) × (x ≡ y)) → (these those : List X) (x y : List ℕ) → length these ≡ length those → AllByRecursion P these → AllByRecursion P those → flat_map f these ++ x ≡ flat_map f those ++ y → (these ≡ those) × (x ≡ y)
+pub split_all : {X : Type 0} (f : X → List ℕ) (P : X → Type 0) → ((a b : X) (x y : List ℕ) → P a → P b → f a ++ x ≡ f b ++ y → (a ≡ b) × (x ≡ y))
+    → (these those : List X) (x y : List ℕ) → length these ≡ length those → AllByRecursion P these → AllByRecursion P those
+    → flat_map f these ++ x ≡ flat_map f those ++ y → (these ≡ those) × (x ≡ y)
 split_all f P split [] [] x y long all all' same = (refl, same)
 split_all f P split [] (b ∷ those) x y long all all' same = absurd (omega (arith, long))
 split_all f P split (a ∷ these) [] x y long all all' same = absurd (omega (arith, long))
@@ -55,7 +57,10 @@ split_head a b x y fits fits' same =
       list.1,
     )
 
-split_rows : (w : ℕ) (rows rows' : List RowHead) (cells cells' x y : List ℕ) → length rows ≡ length rows' → length cells ≡ length rows * w → length cells' ≡ length rows' * w → AllByRecursion FitsHead rows → AllByRecursion FitsHead rows' → AllByRecursion (λ cell. cell < 2 ^ 16) cells → AllByRecursion (λ cell. cell < 2 ^ 16) cells' → row_bytes w rows cells ++ x ≡ row_bytes w rows' cells' ++ y → (rows ≡ rows') × (cells ≡ cells') × (x ≡ y)
+split_rows : (w : ℕ) (rows rows' : List RowHead) (cells cells' x y : List ℕ) → length rows ≡ length rows' → length cells ≡ length rows * w
+    → length cells' ≡ length rows' * w → AllByRecursion FitsHead rows → AllByRecursion FitsHead rows' → AllByRecursion (λ cell. cell < 2 ^ 16) cells
+    → AllByRecursion (λ cell. cell < 2 ^ 16) cells' → row_bytes w rows cells ++ x ≡ row_bytes w rows' cells' ++ y
+    → (rows ≡ rows') × (cells ≡ cells') × (x ≡ y)
 split_rows w [] [] cells cells' x y long whole whole' heads heads' small small' same =
     (refl, nil_from_length cells (omega (arith, whole)) ∙ sym (nil_from_length cells' (omega (arith, whole'))), same)
 split_rows w [] (b ∷ rows') cells cells' x y long whole whole' heads heads' small small' same = absurd (omega (arith, long))
@@ -66,31 +71,106 @@ split_rows w (a ∷ rows) (b ∷ rows') cells cells' x y long whole whole' heads
     let enough : w ≤ length cells = omega (arith, whole) in
     let enough' : w ≤ length cells' = omega (arith, whole') in
     let regroup : (h c r z : List ℕ) → (h ++ c ++ r) ++ z ≡ h ++ (c ++ (r ++ z)) = λ h c r z. simp append_assoc in
-    let head = split_head a b (flat_map u16 (take w cells) ++ (row_bytes w rows (drop w cells) ++ x)) (flat_map u16 (take w cells') ++ (row_bytes w rows' (drop w cells') ++ y)) heads.0 heads'.0
-    (sym (regroup (head_bytes a) (flat_map u16 (take w cells)) (row_bytes w rows (drop w cells)) x) ∙ same ∙ regroup (head_bytes b) (flat_map u16 (take w cells')) (row_bytes w rows' (drop w cells')) y) in
+    let head = split_head a b (flat_map u16 (take w cells) ++ (row_bytes w rows (drop w cells) ++ x))
+    (flat_map u16 (take w cells') ++ (row_bytes w rows' (drop w cells') ++ y)) heads.0 heads'.0
+    (sym (regroup (head_bytes a) (flat_map u16 (take w cells)) (row_bytes w rows (drop w cells)) x) ∙ same
+    ∙ regroup (head_bytes b) (flat_map u16 (take w cells')) (row_bytes w rows' (drop w cells')) y) in
     let here = split_all u16 P split_u16 (take w cells) (take w cells') (row_bytes w rows (drop w cells) ++ x) (row_bytes w rows' (drop w cells') ++ y)
     (length-take-le w cells enough ∙ sym (length-take-le w cells' enough')) (all_taken P w cells small) (all_taken P w cells' small') head.1 in
     let rest = split_rows w rows rows' (drop w cells) (drop w cells') x y many
-    (omega (arith, whole, length-drop w cells)) (omega (arith, whole', length-drop w cells')) heads.1 heads'.1 (all_dropped P w cells small) (all_dropped P w cells' small') here.1 in (
+    (omega (arith, whole, length-drop w cells)) (omega (arith, whole', length-drop w cells')) heads.1 heads'.1 (all_dropped P w cells small)
+    (all_dropped P w cells' small') here.1 in (
       ap (λ (h : RowHead). h ∷ rows) head.0 ∙ ap (λ (hs : List RowHead). b ∷ hs) rest.0,
-      sym (take-append-drop w cells) ∙ ap (λ (cs : List ℕ). cs ++ drop w cells) here.0 ∙ ap (λ (cs : List ℕ). take w cells' ++ cs) rest.1 ∙ take-append-drop w cells',
+      sym (take-append-drop w cells) ∙ ap (λ (cs : List ℕ). cs ++ drop w cells) here.0 ∙ ap (λ (cs : List ℕ). take w cells' ++ cs) rest.1
+          ∙ take-append-drop w cells',
       rest.2,
     )
 
 -- the spelling, part before part
-pub in_order : (table : Table) → spelling table ≡ magic ++ (u16 table.categories ++ (u32 (length table.ranges) ++ (u16 (length table.lists) ++ (u16 (length table.rows) ++ (u16 table.slashes ++ (flat_map range_bytes table.ranges ++ (flat_map list_bytes table.lists ++ (row_bytes table.categories table.rows table.cells ++ table.safe))))))))
+pub in_order : (table : Table)
+    → spelling table ≡ magic ++
+    (u16 table.categories ++
+    (u32 (length table.ranges) ++
+    (u16 (length table.lists) ++
+    (u16 (length table.rows) ++
+    (u16 table.slashes ++
+    (flat_map range_bytes table.ranges ++ (flat_map list_bytes table.lists ++ (row_bytes table.categories table.rows table.cells ++ table.safe))))))))
 in_order table = simp append_assoc
 
 -- tables with the same parts are one
-pub same_table : (these those : Table) → these.categories ≡ those.categories → these.slashes ≡ those.slashes → these.ranges ≡ those.ranges → these.lists ≡ those.lists → these.rows ≡ those.rows → these.cells ≡ those.cells → these.safe ≡ those.safe → these ≡ those
+pub same_table : (these those : Table) → these.categories ≡ those.categories → these.slashes ≡ those.slashes → these.ranges ≡ those.ranges
+    → these.lists ≡ those.lists → these.rows ≡ those.rows → these.cells ≡ those.cells → these.safe ≡ those.safe → these ≡ those
 same_table these those categories slashes ranges lists rows cells safe =
-    ap (λ (x : ℕ). record { categories = x; slashes = these.slashes; ranges = these.ranges; lists = these.lists; rows = these.rows; cells = these.cells; safe = these.safe }) categories
-    ∙ ap (λ (x : ℕ). record { categories = those.categories; slashes = x; ranges = these.ranges; lists = these.lists; rows = these.rows; cells = these.cells; safe = these.safe }) slashes
-    ∙ ap (λ (x : List CategoryRange). record { categories = those.categories; slashes = those.slashes; ranges = x; lists = these.lists; rows = these.rows; cells = these.cells; safe = these.safe }) ranges
-    ∙ ap (λ (x : List (List ℕ)). record { categories = those.categories; slashes = those.slashes; ranges = those.ranges; lists = x; rows = these.rows; cells = these.cells; safe = these.safe }) lists
-    ∙ ap (λ (x : List RowHead). record { categories = those.categories; slashes = those.slashes; ranges = those.ranges; lists = those.lists; rows = x; cells = these.cells; safe = these.safe }) rows
-    ∙ ap (λ (x : List ℕ). record { categories = those.categories; slashes = those.slashes; ranges = those.ranges; lists = those.lists; rows = those.rows; cells = x; safe = these.safe }) cells
-    ∙ ap (λ (x : List ℕ). record { categories = those.categories; slashes = those.slashes; ranges = those.ranges; lists = those.lists; rows = those.rows; cells = those.cells; safe = x }) safe
+    ap (λ (x : ℕ). record {
+      categories = x;
+      slashes = these.slashes;
+      ranges = these.ranges;
+      lists = these.lists;
+      rows = these.rows;
+      cells =
+          these.cells;
+      safe = these.safe;
+    }) categories
+    ∙ ap (λ (x : ℕ). record {
+      categories = those.categories;
+      slashes = x;
+      ranges = these.ranges;
+      lists = these.lists;
+      rows = these.rows;
+      cells =
+          these.cells;
+      safe = these.safe;
+    }) slashes
+    ∙ ap (λ (x : List CategoryRange). record {
+      categories = those.categories;
+      slashes = those.slashes;
+      ranges = x;
+      lists = these.lists;
+      rows =
+          these.rows;
+      cells = these.cells;
+      safe = these.safe;
+    }) ranges
+    ∙ ap (λ (x : List (List ℕ)). record {
+      categories = those.categories;
+      slashes = those.slashes;
+      ranges = those.ranges;
+      lists = x;
+      rows =
+          these.rows;
+      cells = these.cells;
+      safe = these.safe;
+    }) lists
+    ∙ ap (λ (x : List RowHead). record {
+      categories = those.categories;
+      slashes = those.slashes;
+      ranges = those.ranges;
+      lists = those.lists;
+      rows =
+          x;
+      cells = these.cells;
+      safe = these.safe;
+    }) rows
+    ∙ ap (λ (x : List ℕ). record {
+      categories = those.categories;
+      slashes = those.slashes;
+      ranges = those.ranges;
+      lists = those.lists;
+      rows =
+          those.rows;
+      cells = x;
+      safe = these.safe;
+    }) cells
+    ∙ ap (λ (x : List ℕ). record {
+      categories = those.categories;
+      slashes = those.slashes;
+      ranges = those.ranges;
+      lists = those.lists;
+      rows =
+          those.rows;
+      cells = those.cells;
+      safe = x;
+    }) safe
 
 -- two tables with one spelling are one
 pub one_table : (bytes : List ℕ) (these those : Table) → Spell bytes these → Spell bytes those → these ≡ those

@@ -29,7 +29,8 @@ length_lists (statuses ∷ lists) valid =
     let few = valid.0.few in
     omega (arith, few, length_lists lists valid.1, length_list statuses, length-append (list_bytes statuses) (flat_map list_bytes lists))
 
-pub length_rows : (categories : ℕ) (rows : List RowHead) (cells : List ℕ) → length cells ≡ length rows * categories → length (row_bytes categories rows cells) ≡ rows_size (length rows) categories
+pub length_rows : (categories : ℕ) (rows : List RowHead) (cells : List ℕ) → length cells ≡ length rows * categories
+    → length (row_bytes categories rows cells) ≡ rows_size (length rows) categories
 length_rows categories [] cells all = omega arith
 length_rows categories (head ∷ rows) cells all =
     let enough : categories ≤ length cells = omega (arith, all) in

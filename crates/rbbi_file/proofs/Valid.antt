@@ -13,7 +13,8 @@ use Rattle.rbbi_file.proofs.Members.{all_so, all_from_places}
 use Rattle.rbbi_file.proofs.Sizes.{length_ranges, length_lists, length_rows}
 
 -- starts rise, so there are no more ranges than code points from the first start on
-few_ranges : (categories : ℕ) (range : CategoryRange) (ranges : List CategoryRange) → AreApart (range ∷ ranges) → AllByRecursion (IsWithin categories) (range ∷ ranges) → range.start + length (range ∷ ranges) ≤ 1114112
+few_ranges : (categories : ℕ) (range : CategoryRange) (ranges : List CategoryRange) → AreApart (range ∷ ranges)
+    → AllByRecursion (IsWithin categories) (range ∷ ranges) → range.start + length (range ∷ ranges) ≤ 1114112
 few_ranges categories range [] apart within = omega (arith, within.0.0)
 few_ranges categories range (next ∷ ranges) apart within =
     omega (arith, apart.0, few_ranges categories next ranges apart.2 within.1)
@@ -70,14 +71,17 @@ pub short_valid : (table : Table) → IsValidTable table → length (spelling ta
 short_valid table valid =
     let categories : ℕ = table.categories in
     let few : categories ≤ 255 = valid.ranges.few_categories in
-    let wide : rows_size (length table.rows) categories ≤ 4095 * 518 = mul-le (length table.rows) (8 + 2 * categories) 4095 518 valid.rows.few (omega (arith, few)) in
+    let wide : rows_size (length table.rows) categories ≤ 4095 * 518 =
+    mul-le (length table.rows) (8 + 2 * categories) 4095 518 valid.rows.few (omega (arith, few)) in
     let squares : categories * categories ≤ 255 * 255 = mul-le categories categories 255 255 few few in
     omega (
       arith,
       wide,
       squares,
-      length-append (magic ++ counts table ++ flat_map range_bytes table.ranges ++ flat_map list_bytes table.lists ++ row_bytes categories table.rows table.cells) table.safe,
-      length-append (magic ++ counts table ++ flat_map range_bytes table.ranges ++ flat_map list_bytes table.lists) (row_bytes categories table.rows table.cells),
+      length-append (magic ++ counts table ++ flat_map range_bytes table.ranges ++ flat_map list_bytes table.lists ++ row_bytes categories table.rows
+          table.cells) table.safe,
+      length-append (magic ++ counts table ++ flat_map range_bytes table.ranges ++ flat_map list_bytes table.lists)
+          (row_bytes categories table.rows table.cells),
       length-append (magic ++ counts table ++ flat_map range_bytes table.ranges) (flat_map list_bytes table.lists),
       length-append (magic ++ counts table) (flat_map range_bytes table.ranges),
       length_ranges table.ranges,

@@ -38,7 +38,11 @@ pub record AreCounts (bytes : List ℕ) (categories g n r slashes : ℕ) : Type 
   pub stand : Stand bytes (u16 categories ++ u32 g ++ u16 n ++ u16 r ++ u16 slashes) 8 20
 
 -- The parts that were read are those that the bytes spell.
-pub spelled_parts : (bytes : List ℕ) (table : Table) (g n r end : ℕ) → ((i : ℕ) → get_or bytes i 0 < 256) → HasMagic bytes → parts_end bytes ≡ length bytes → AreCounts bytes table.categories g n r table.slashes → length table.ranges ≡ g → length table.lists ≡ n → Stand bytes (flat_map range_bytes table.ranges) 20 (20 + 6 * g) → AllByRecursion FitsRange table.ranges → AreListsAt bytes table.lists (20 + 6 * g) end → end ≡ lists_end bytes n (20 + 6 * g) → AreRowsAt bytes table.categories r table.rows table.cells end → table.safe ≡ drop (end + rows_size r table.categories) bytes → Spell bytes table
+pub spelled_parts : (bytes : List ℕ) (table : Table) (g n r end : ℕ) → ((i : ℕ) → get_or bytes i 0 < 256) → HasMagic bytes
+    → parts_end bytes ≡ length bytes → AreCounts bytes table.categories g n r table.slashes → length table.ranges ≡ g → length table.lists ≡ n
+    → Stand bytes (flat_map range_bytes table.ranges) 20 (20 + 6 * g) → AllByRecursion FitsRange table.ranges
+    → AreListsAt bytes table.lists (20 + 6 * g) end → end ≡ lists_end bytes n (20 + 6 * g)
+    → AreRowsAt bytes table.categories r table.rows table.cells end → table.safe ≡ drop (end + rows_size r table.categories) bytes → Spell bytes table
 spelled_parts bytes table g n r end small has whole are many_ranges many_lists ranged fit listed ends rowed saved =
     let w : ℕ = end + rows_size r table.categories in
     let start : ℕ = 20 + 6 * g in
@@ -46,19 +50,24 @@ spelled_parts bytes table g n r end small has whole are many_ranges many_lists r
     are.stand
     ∙ ap (λ (k : ℕ). u16 table.categories ++ u32 k ++ u16 n ++ u16 r ++ u16 table.slashes ++ drop 20 bytes) (sym many_ranges)
     ∙ ap (λ (k : ℕ). u16 table.categories ++ u32 (length table.ranges) ++ u16 k ++ u16 r ++ u16 table.slashes ++ drop 20 bytes) (sym many_lists)
-    ∙ ap (λ (k : ℕ). u16 table.categories ++ u32 (length table.ranges) ++ u16 (length table.lists) ++ u16 k ++ u16 table.slashes ++ drop 20 bytes) (sym rowed.many) in
-    let parts : List ℕ = counts table ++ flat_map range_bytes table.ranges ++ flat_map list_bytes table.lists ++ row_bytes table.categories table.rows table.cells in
+    ∙ ap (λ (k : ℕ). u16 table.categories ++ u32 (length table.ranges) ++ u16 (length table.lists) ++ u16 k ++ u16 table.slashes ++ drop 20 bytes)
+    (sym rowed.many) in
+    let parts : List ℕ = counts table ++ flat_map range_bytes table.ranges ++ flat_map list_bytes table.lists ++ row_bytes table.categories
+    table.rows table.cells in
     let all : Stand bytes parts 8 w =
-    stand_both bytes (counts table ++ flat_map range_bytes table.ranges ++ flat_map list_bytes table.lists) (row_bytes table.categories table.rows table.cells) 8 end w
+    stand_both bytes (counts table ++ flat_map range_bytes table.ranges ++ flat_map list_bytes table.lists)
+    (row_bytes table.categories table.rows table.cells) 8 end w
     (stand_both bytes (counts table ++ flat_map range_bytes table.ranges) (flat_map list_bytes table.lists) 8 start end
     (stand_both bytes (counts table) (flat_map range_bytes table.ranges) 8 20 start counted ranged) listed.stand) rowed.stand in
     let spelled : bytes ≡ magic ++ (parts ++ table.safe) =
-    sym (take-append-drop 8 bytes) ∙ ap (λ (l : List ℕ). l ++ drop 8 bytes) has ∙ ap (λ (l : List ℕ). magic ++ l) (all ∙ ap (λ (l : List ℕ). parts ++ l) (sym saved)) in
+    sym (take-append-drop 8 bytes) ∙ ap (λ (l : List ℕ). l ++ drop 8 bytes) has
+    ∙ ap (λ (l : List ℕ). magic ++ l) (all ∙ ap (λ (l : List ℕ). parts ++ l) (sym saved)) in
     let regroup : magic ++ (parts ++ table.safe) ≡ spelling table = simp append_assoc in
     let same_end : lists_end bytes n start ≡ lists_end bytes (u16_at bytes 14) (20 + 6 * u32_at bytes 10) =
     ap (λ (k : ℕ). lists_end bytes k start) are.lists ∙ ap (λ (k : ℕ). lists_end bytes (u16_at bytes 14) (20 + 6 * k)) are.ranges in
     let same_size : rows_size (u16_at bytes 16) (u16_at bytes 8) + pairs_size (u16_at bytes 8) ≡ rows_size r table.categories + pairs_size table.categories =
-    ap (λ (k : ℕ). rows_size k (u16_at bytes 8) + pairs_size (u16_at bytes 8)) (sym are.rows) ∙ ap (λ (k : ℕ). rows_size r k + pairs_size k) (sym are.categories_are) in
+    ap (λ (k : ℕ). rows_size k (u16_at bytes 8) + pairs_size (u16_at bytes 8)) (sym are.rows)
+    ∙ ap (λ (k : ℕ). rows_size r k + pairs_size k) (sym are.categories_are) in
     let rest : length bytes ≡ w + pairs_size table.categories = omega (arith, whole, ends, same_end, same_size) in
     record {
       fitting = record {
@@ -100,7 +109,8 @@ no_bad_part table BadFronts other valid bad = bad.3 valid.fronts
 no_bad_part table BadSafe other valid bad = bad.4 valid.safe
 no_bad_part table Memory other valid bad = other refl
 
-pub not_bad : (bytes : List ℕ) (parts : Table) (error : TableErr) → Spell bytes parts → error ≢ Memory → MakesTable parts (Err error) → (table : Table) → IsValidTable table → bytes ≡ spelling table → ⊥
+pub not_bad : (bytes : List ℕ) (parts : Table) (error : TableErr) → Spell bytes parts → error ≢ Memory → MakesTable parts (Err error)
+    → (table : Table) → IsValidTable table → bytes ≡ spelling table → ⊥
 not_bad bytes parts error spell other bad table valid spelled =
     let P : Table → Type 0 = λ t. MakesTable t (Err error) in
     no_bad_part table error other valid (subst P (same_valid bytes parts table spell valid spelled) bad)

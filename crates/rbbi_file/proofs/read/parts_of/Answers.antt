@@ -30,5 +30,7 @@ returns c =
     record { categories_are = are.categories; ranges = are.ranges; lists = are.lists; rows = are.rows; slashes_are = are.slashes; stand = are.stand } in
     subst (Spell c.args.bytes.now)
     (sym (same_table _ table refl refl c.from_vec.ensures c.from_vec-2.ensures c.from_vec-3.ensures c.from_vec-4.ensures c.from_vec-5.ensures))
-    (spelled_parts c.args.bytes.now table counts.ranges counts.lists counts.rows c.in_ok-lists.at (λ i. Fits-lt-pow (c.type_inv.bytes i)) c.requires.magic c.requires.whole counted
-    c.in_ok-ranges.ensures.count c.in_ok-lists.ensures.count c.in_ok-ranges.ensures.stand c.in_ok-ranges.ensures.fit c.in_ok-lists.ensures.lists c.in_ok-lists.ensures.end c.in_ok-heads.ensures c.in_ok-safe.ensures)
+    (spelled_parts c.args.bytes.now table counts.ranges counts.lists counts.rows c.in_ok-lists.at (λ i. Fits-lt-pow (c.type_inv.bytes i))
+    c.requires.magic c.requires.whole counted
+    c.in_ok-ranges.ensures.count c.in_ok-lists.ensures.count c.in_ok-ranges.ensures.stand c.in_ok-ranges.ensures.fit c.in_ok-lists.ensures.lists
+    c.in_ok-lists.ensures.end c.in_ok-heads.ensures c.in_ok-safe.ensures)

@@ -24,5 +24,6 @@ returns c = record {
     not_memory = c.in_default-error.not-Memory;
   };
   complete = λ table valid spelled. absurd
-      (not_bad c.args.bytes.now (table_of c.in_ok-parts.parts) c.in-Err.error c.in_ok-parts.ensures c.in_default-error.not-Memory c.in-Err.ensures table valid spelled);
+      (not_bad c.args.bytes.now (table_of c.in_ok-parts.parts) c.in-Err.error c.in_ok-parts.ensures c.in_default-error.not-Memory c.in-Err.ensures
+      table valid spelled);
 }

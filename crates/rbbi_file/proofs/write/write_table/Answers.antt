@@ -16,7 +16,8 @@ put_lists-requires c =
 pub put_rows-requires : goal.put_rows-requires
 put_rows-requires c =
     ap length c.as_slice-4.ensures ∙ ap (λ (t : Table). length t.cells) c.parts-parts.ensures ∙ (fitting_valid _ c.valid.ensures).cells
-    ∙ sym (ap (λ (t : Table). length t.rows * t.categories) c.parts-parts.ensures) ∙ ap (λ rows. length rows * c.parts-parts.result.now.categories) (sym c.as_slice-3.ensures)
+    ∙ sym (ap (λ (t : Table). length t.rows * t.categories) c.parts-parts.ensures)
+    ∙ ap (λ rows. length rows * c.parts-parts.result.now.categories) (sym c.as_slice-3.ensures)
 
 pub returns-clause-short : goal.returns-clause-short
 returns-clause-short c =
