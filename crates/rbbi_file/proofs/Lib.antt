@@ -5,3 +5,4 @@ pub mod OneTable
 pub mod Ends
 pub mod Stands
 pub mod WholeFiles
+pub mod OneAnswer

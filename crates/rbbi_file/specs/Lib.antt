@@ -3,3 +3,4 @@ pub mod Lengths
 pub mod Fitting
 pub mod Reading
 pub mod Answers
+pub mod Laws

@@ -2,6 +2,7 @@
 #![tactic(auto)]
 
 mod error;
+mod laws;
 mod numbers;
 mod parts;
 mod read;
@@ -10,6 +11,7 @@ mod tests;
 mod write;
 
 pub use error::FileErr;
+pub use laws::one_answer;
 pub use read::read_table;
 pub use write::write_table;
 
