@@ -1,0 +1,8 @@
+pub mod Members
+pub mod Sizes
+pub mod Valid
+pub mod OneTable
+pub mod Ends
+pub mod Stands
+pub mod WholeFiles
+pub mod OneAnswer

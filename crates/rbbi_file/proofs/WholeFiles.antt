@@ -1,0 +1,116 @@
+-- What the bytes of a file that is as long as its parts spell, and what a spelling can't be.
+use Rattle.std.proofs.Common.{◌≡◌, ◌≢◌, ℕ, ◌+◌, ◌*◌, ◌^◌, ◌<◌, ◌≤◌, List, ◌++◌, length, get_or, drop, refl, ap, sym, ◌∙◌, subst, arith, length-drop, append_assoc}
+use Rattle.std.specs.List.{AllByRecursion, flat_map}
+use Rattle.std.specs.Prelude.{Err}
+use Rattle.std.proofs.lemmas.List.{take-append-drop}
+use Rattle.rbbi_model.specs.Tables.{Table}
+use Rattle.rbbi_model.specs.ValidTables.{IsValidTable}
+use Rattle.rbbi_model.specs.TableFile.{u16, u32, magic, counts, range_bytes, list_bytes, row_bytes, spelling}
+use Rattle.rbbi_table.specs.declared.error.TableErr.{TableErr}
+use Rattle.rbbi_table.specs.declared.error.TableErr.TheVariants.{BadRanges, BadLists, BadRows, BadFronts, BadSafe, Memory}
+use Rattle.rbbi_table.specs.Answers.{MakesTable}
+use Rattle.rbbi_file.specs.Lengths.{u16_at, u32_at, HasMagic, lists_end, parts_end, rows_size, pairs_size}
+use Rattle.rbbi_file.specs.Fitting.{FitsRange, Spell}
+use Rattle.rbbi_file.specs.Reading.{Stand, AreListsAt, AreRowsAt}
+use Rattle.rbbi_file.proofs.Valid.{fits_valid, fitting_valid}
+use Rattle.rbbi_file.proofs.OneTable.{one_table}
+use Rattle.rbbi_file.proofs.Ends.{lists_go_on, ends_there}
+use Rattle.rbbi_file.proofs.Stands.{stand_both}
+
+-- the counts are there
+pub over_counts : (bytes : List ℕ) → 20 + 6 * u32_at bytes 10 ≤ parts_end bytes
+over_counts bytes = omega (arith, lists_go_on bytes (u16_at bytes 14) (20 + 6 * u32_at bytes 10))
+
+-- numbers of bytes are small
+u16_small : (bytes : List ℕ) → ((i : ℕ) → get_or bytes i 0 < 256) → (at : ℕ) → u16_at bytes at < 2 ^ 16
+u16_small bytes small at = omega (arith, small at, small (at + 1))
+
+u32_small : (bytes : List ℕ) → ((i : ℕ) → get_or bytes i 0 < 256) → (at : ℕ) → u32_at bytes at < 2 ^ 32
+u32_small bytes small at = omega (arith, u16_small bytes small at, u16_small bytes small (at + 2))
+
+-- What is read of the counts: g ranges, n lists and r rows.
+pub record AreCounts (bytes : List ℕ) (categories g n r slashes : ℕ) : Type 0 where
+  pub categories_are : categories ≡ u16_at bytes 8
+  pub ranges : g ≡ u32_at bytes 10
+  pub lists : n ≡ u16_at bytes 14
+  pub rows : r ≡ u16_at bytes 16
+  pub slashes_are : slashes ≡ u16_at bytes 18
+  pub stand : Stand bytes (u16 categories ++ u32 g ++ u16 n ++ u16 r ++ u16 slashes) 8 20
+
+-- The parts that were read are those that the bytes spell.
+pub spelled_parts : (bytes : List ℕ) (table : Table) (g n r end : ℕ) → ((i : ℕ) → get_or bytes i 0 < 256) → HasMagic bytes
+    → parts_end bytes ≡ length bytes → AreCounts bytes table.categories g n r table.slashes → length table.ranges ≡ g → length table.lists ≡ n
+    → Stand bytes (flat_map range_bytes table.ranges) 20 (20 + 6 * g) → AllByRecursion FitsRange table.ranges
+    → AreListsAt bytes table.lists (20 + 6 * g) end → end ≡ lists_end bytes n (20 + 6 * g)
+    → AreRowsAt bytes table.categories r table.rows table.cells end → table.safe ≡ drop (end + rows_size r table.categories) bytes → Spell bytes table
+spelled_parts bytes table g n r end small has whole are many_ranges many_lists ranged fit listed ends rowed saved =
+    let w : ℕ = end + rows_size r table.categories in
+    let start : ℕ = 20 + 6 * g in
+    let counted : Stand bytes (counts table) 8 20 =
+    are.stand
+    ∙ ap (λ (k : ℕ). u16 table.categories ++ u32 k ++ u16 n ++ u16 r ++ u16 table.slashes ++ drop 20 bytes) (sym many_ranges)
+    ∙ ap (λ (k : ℕ). u16 table.categories ++ u32 (length table.ranges) ++ u16 k ++ u16 r ++ u16 table.slashes ++ drop 20 bytes) (sym many_lists)
+    ∙ ap (λ (k : ℕ). u16 table.categories ++ u32 (length table.ranges) ++ u16 (length table.lists) ++ u16 k ++ u16 table.slashes ++ drop 20 bytes)
+    (sym rowed.many) in
+    let parts : List ℕ = counts table ++ flat_map range_bytes table.ranges ++ flat_map list_bytes table.lists ++ row_bytes table.categories
+    table.rows table.cells in
+    let all : Stand bytes parts 8 w =
+    stand_both bytes (counts table ++ flat_map range_bytes table.ranges ++ flat_map list_bytes table.lists)
+    (row_bytes table.categories table.rows table.cells) 8 end w
+    (stand_both bytes (counts table ++ flat_map range_bytes table.ranges) (flat_map list_bytes table.lists) 8 start end
+    (stand_both bytes (counts table) (flat_map range_bytes table.ranges) 8 20 start counted ranged) listed.stand) rowed.stand in
+    let spelled : bytes ≡ magic ++ (parts ++ table.safe) =
+    sym (take-append-drop 8 bytes) ∙ ap (λ (l : List ℕ). l ++ drop 8 bytes) has
+    ∙ ap (λ (l : List ℕ). magic ++ l) (all ∙ ap (λ (l : List ℕ). parts ++ l) (sym saved)) in
+    let regroup : magic ++ (parts ++ table.safe) ≡ spelling table = simp append_assoc in
+    let same_end : lists_end bytes n start ≡ lists_end bytes (u16_at bytes 14) (20 + 6 * u32_at bytes 10) =
+    ap (λ (k : ℕ). lists_end bytes k start) are.lists ∙ ap (λ (k : ℕ). lists_end bytes (u16_at bytes 14) (20 + 6 * k)) are.ranges in
+    let same_size : rows_size (u16_at bytes 16) (u16_at bytes 8) + pairs_size (u16_at bytes 8) ≡ rows_size r table.categories + pairs_size table.categories =
+    ap (λ (k : ℕ). rows_size k (u16_at bytes 8) + pairs_size (u16_at bytes 8)) (sym are.rows)
+    ∙ ap (λ (k : ℕ). rows_size r k + pairs_size k) (sym are.categories_are) in
+    let rest : length bytes ≡ w + pairs_size table.categories = omega (arith, whole, ends, same_end, same_size) in
+    record {
+      fitting = record {
+        cells = rowed.whole ∙ ap (λ (k : ℕ). k * table.categories) (sym rowed.many);
+        safe = omega (arith, ap length saved, length-drop w bytes, rest);
+      };
+      fits = record {
+        categories = omega (arith, are.categories_are, u16_small bytes small 8);
+        slashes = omega (arith, are.slashes_are, u16_small bytes small 18);
+        range_count = omega (arith, many_ranges, are.ranges, u32_small bytes small 10);
+        list_count = omega (arith, many_lists, are.lists, u16_small bytes small 14);
+        row_count = omega (arith, rowed.many, are.rows, u16_small bytes small 16);
+        ranges = fit;
+        lists = listed.fit;
+        rows = rowed.fit;
+        cells = rowed.fit_cells;
+      };
+      spelled = spelled ∙ regroup;
+    }
+
+-- the spelling of a valid table
+pub spell_valid : (bytes : List ℕ) (table : Table) → IsValidTable table → bytes ≡ spelling table → Spell bytes table
+spell_valid bytes table valid spelled = record { fitting = fitting_valid table valid; fits = fits_valid table valid; spelled = spelled }
+
+-- it is as long as its parts
+pub length_valid : (bytes : List ℕ) (table : Table) → IsValidTable table → bytes ≡ spelling table → parts_end bytes ≡ length bytes
+length_valid bytes table valid spelled = ends_there bytes table (spell_valid bytes table valid spelled)
+
+-- and spells no other table
+pub same_valid : (bytes : List ℕ) (these table : Table) → Spell bytes these → IsValidTable table → bytes ≡ spelling table → these ≡ table
+same_valid bytes these table spell valid spelled = one_table bytes these table spell (spell_valid bytes table valid spelled)
+
+-- a valid table has no part that isn't valid
+no_bad_part : (table : Table) (error : TableErr) → error ≢ Memory → IsValidTable table → MakesTable table (Err error) → ⊥
+no_bad_part table BadRanges other valid bad = bad valid.ranges
+no_bad_part table BadLists other valid bad = bad.1 valid.lists
+no_bad_part table BadRows other valid bad = bad.2 valid.rows
+no_bad_part table BadFronts other valid bad = bad.3 valid.fronts
+no_bad_part table BadSafe other valid bad = bad.4 valid.safe
+no_bad_part table Memory other valid bad = other refl
+
+pub not_bad : (bytes : List ℕ) (parts : Table) (error : TableErr) → Spell bytes parts → error ≢ Memory → MakesTable parts (Err error)
+    → (table : Table) → IsValidTable table → bytes ≡ spelling table → ⊥
+not_bad bytes parts error spell other bad table valid spelled =
+    let P : Table → Type 0 = λ t. MakesTable t (Err error) in
+    no_bad_part table error other valid (subst P (same_valid bytes parts table spell valid spelled) bad)

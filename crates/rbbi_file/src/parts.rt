@@ -1,0 +1,137 @@
+//! The parts of a table from bytes.
+ghost use Rattle.std.specs.Prelude.{◌≡◌, ◌+◌, ◌*◌, ◌^◌, ◌<◌, ◌≤◌, ◌++◌, length, drop, IfOk, OnOk, flat_map};
+ghost use Rattle.std.specs.List.{AllByRecursion};
+ghost use Rattle.rbbi_model.specs.TableFile.{u16 as two_bytes, u32 as four_bytes, range_bytes, list_bytes, head_bytes, row_bytes};
+ghost use Rattle.rbbi_file.specs.Lengths.{lists_end, rows_size};
+ghost use Rattle.rbbi_file.specs.Fitting.{FitsRange, FitsList, FitsHead};
+ghost use Rattle.rbbi_file.specs.Reading.{Stand, AreCellsAt, AreListsAt, AreRowsAt};
+
+use crate::numbers::{u16_at, u32_at};
+use rbbi_table::{NumberList, RangeRow, RowHead};
+use std::alloc::{AllocError, Global};
+
+/// So many ranges that stand at a place.
+pub(crate) fn ranges_at(
+    alloc: Global,
+    bytes: &[u8],
+    at: usize,
+    count: usize,
+) -> Result<Vec<RangeRow>, AllocError>
+    requires { at + 6 * count ≤ length bytes.now }
+    ensures stand { IfOk result (λ ranges.
+        Stand bytes.now (flat_map range_bytes ranges.items) at (at + 6 * count)) }
+    ensures count { IfOk result (λ ranges. length ranges.items ≡ count) }
+    ensures fit { IfOk result (λ ranges. AllByRecursion FitsRange ranges.items) }
+{
+    let mut ranges = Vec::with_capacity(alloc, count)?;
+    for range in 0..count {
+        let start = u32_at(bytes, at + 6 * range);
+        let cat = u16_at(bytes, at + 6 * range + 4);
+        ranges.push(RangeRow { start, cat })?;
+    }
+    Ok(ranges)
+}
+
+/// So many numbers of four bytes that stand at a place.
+fn statuses_at(alloc: Global, bytes: &[u8], at: usize, count: usize) -> Result<Vec<u32>, AllocError>
+    requires { at + 4 * count ≤ length bytes.now }
+    ensures stand { IfOk result (λ statuses.
+        Stand bytes.now (flat_map four_bytes statuses.items) at (at + 4 * count)) }
+    ensures count { IfOk result (λ statuses. length statuses.items ≡ count) }
+    ensures fit { IfOk result (λ statuses.
+        AllByRecursion (λ status. status < 2 ^ 32) statuses.items) }
+{
+    let mut statuses = Vec::with_capacity(alloc, count)?;
+    for status in 0..count {
+        statuses.push(u32_at(bytes, at + 4 * status))?;
+    }
+    Ok(statuses)
+}
+
+/// The status list that stands at a place: its length, and so many numbers.
+fn list_at(alloc: Global, bytes: &[u8], at: usize, count: u16) -> Result<NumberList, AllocError>
+    requires length { Stand bytes.now (two_bytes count) at (at + 2) }
+    requires whole { at + (2 + 4 * count) ≤ length bytes.now }
+    ensures stand { IfOk result (λ statuses.
+        Stand bytes.now (list_bytes statuses) at (at + (2 + 4 * count))) }
+    ensures fit { IfOk result FitsList }
+{
+    let statuses = statuses_at(alloc, bytes, at + 2, count as usize)?;
+    Ok(NumberList::from_vec(statuses))
+}
+
+/// So many status lists that stand at a place, and where they end.
+pub(crate) fn lists_at(
+    alloc: Global,
+    bytes: &[u8],
+    at: usize,
+    count: usize,
+) -> Result<(Vec<NumberList>, usize), AllocError>
+    requires { lists_end bytes.now count at ≤ length bytes.now }
+    ensures lists { IfOk result (λ found. AreListsAt bytes.now found.0.items at found.1) }
+    ensures count { IfOk result (λ found. length found.0.items ≡ count) }
+    ensures end { IfOk result (λ found. found.1 ≡ lists_end bytes.now count at) }
+{
+    let mut end = at;
+    let mut lists = Vec::with_capacity(alloc, count)?;
+    for _list in 0..count {
+        let length = u16_at(bytes, end);
+        lists.push(list_at(alloc, bytes, end, length)?)?;
+        end += 2 + 4 * length as usize;
+    }
+    Ok((lists, end))
+}
+
+/// The head that stands at a place.
+fn head_at(bytes: &[u8], at: usize) -> RowHead
+    requires { at + 8 ≤ length bytes.now }
+    ensures stand { Stand bytes.now (head_bytes result) at (at + 8) }
+    ensures fits { FitsHead result }
+{
+    RowHead {
+        accept: u16_at(bytes, at),
+        fronts: u32_at(bytes, at + 2),
+        list: u16_at(bytes, at + 6),
+    }
+}
+
+/// Adds so many numbers of two bytes that stand at a place.
+fn add_cells(cells: &mut Vec<u16>, bytes: &[u8], at: usize, count: usize) -> Result<(), AllocError>
+    requires { at + 2 * count ≤ length bytes.now }
+    ensures { OnOk result (AreCellsAt bytes.now cells.old.items cells.new.items at count) }
+{
+    for cell in 0..count {
+        cells.push(u16_at(bytes, at + 2 * cell))?;
+    }
+    Ok(())
+}
+
+/// So many rows that stand at a place: their heads, and their next rows, one for each category.
+pub(crate) fn rows_at(
+    alloc: Global,
+    bytes: &[u8],
+    at: usize,
+    count: usize,
+    width: usize,
+) -> Result<(Vec<RowHead>, Vec<u16>), AllocError>
+    requires { at + rows_size count width ≤ length bytes.now }
+    ensures { IfOk result (λ rows.
+        AreRowsAt bytes.now width count rows.0.items rows.1.items at) }
+{
+    let mut rows = Vec::with_capacity(alloc, count)?;
+    let mut cells = Vec::with_capacity(alloc, count * width)?;
+    for row in 0..count {
+        let start = at + row * (8 + 2 * width);
+        rows.push(head_at(bytes, start))?;
+        add_cells(&mut cells, bytes, start + 8, width)?;
+    }
+    Ok((rows, cells))
+}
+
+/// All bytes from a place on.
+pub(crate) fn rest_at(alloc: Global, bytes: &[u8], at: usize) -> Result<Vec<u8>, AllocError>
+    requires { at ≤ length bytes.now }
+    ensures { IfOk result (λ rest. rest.items ≡ drop at bytes.now) }
+{
+    bytes[at..].to_vec(alloc)
+}
