@@ -1,13 +1,16 @@
 //! Scripts of questions and edits, and the lines of their replies.
 //!
 //! [`read_script`] takes the bytes of a script as its commands, or tells the first bad line. `say`,
-//! `say_list` and `say_bound` append the lines of replies.
+//! `say_list` and `say_bound` append the lines of replies. [`perform`] has a session perform a command
+//! and appends its reply, and [`play`] all commands of a script.
 #![tactic(auto)]
 
 mod command;
 mod error;
 mod escape;
 mod line;
+mod listing;
+mod perform;
 mod pieces;
 mod question;
 mod reader;
@@ -17,5 +20,6 @@ mod tests;
 
 pub use command::{Command, Commands};
 pub use error::ScriptErr;
+pub use perform::{perform, play};
 pub use reader::read_script;
 pub use saying::{Said, say, say_bound, say_list};

@@ -1,0 +1,4 @@
+pub mod Judging
+pub mod BlankWords
+pub mod Marking
+pub mod Characters

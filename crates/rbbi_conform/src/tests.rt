@@ -1,0 +1,187 @@
+//! Test files line by line, and verdicts by a table that is worked by hand.
+ghost use Rattle.std.specs.Prelude.{◌≡◌, ◌<◌, ◌≤◌, length};
+
+use crate::{Test, Tests, Verdict, judge, read_tests};
+use rbbi_table::{
+    ByteList, CellList, Marks, NumberList, NumberLists, Parts, RangeList, RangeRow, RowHead,
+    RowList, Table, TableErr,
+};
+use rbbi_text::{Chars, Steps};
+use std::alloc::{AllocError, Global};
+use std::marker::Brand;
+use std::process::Abort;
+use std::sync::ledger::{Blank, Ledger};
+use std::test::Fail;
+
+/// The places at which a test marks a boundary, behind its line and its length.
+fn shown(alloc: Global, test: &Test) -> Result<String, AllocError> {
+    let line = test.line();
+    let length = test.text().len();
+    let mut shown = format!(in alloc; "{line}:{length}:")?;
+    for i in 1..=length {
+        shown.push(if test.mark(i) { '÷' } else { '×' })?;
+    }
+    Ok(shown)
+}
+
+fn joined(alloc: Global, tests: &Tests) -> Result<String, AllocError> {
+    let mut all = String::new(alloc);
+    for i in 0..tests.len() {
+        let one = shown(alloc, tests.get(i))?;
+        all.push_str(&one)?;
+        all.push(' ')?;
+    }
+    Ok(all)
+}
+
+/// The tests of a file, or its refusal.
+fn read(alloc: Global, bytes: &[u8]) -> Result<String, AllocError> {
+    if bytes.len() > 1000 {
+        return String::from_str(alloc, "long");
+    }
+    match read_tests(alloc, bytes) {
+        Ok(tests) => joined(alloc, &tests),
+        Err(error) => {
+            let label = error.label();
+            match error.place() {
+                Some(place) => format!(in alloc; "{label} {place}"),
+                None => String::from_str(alloc, label),
+            }
+        }
+    }
+}
+
+#[test]
+fn files(rt: HostRuntime) -> Result<(), Fail> {
+    let alloc = rt.alloc();
+    let rows: [(&str, &str); 9] = [
+        ("", ""),
+        (
+            "\u{f7} 000D \u{d7} 000A \u{f7} 0061 \u{d7} 0308 \u{f7}",
+            "1:4:×÷×÷ ",
+        ),
+        ("\u{d7}", "1:0: "),
+        ("\u{f7}\t10FFFF \t\u{f7} 00dF  \u{d7}\t# a", "1:2:÷× "),
+        ("\u{feff}# x\r\n\r\n \t#\n\u{f7} 0061 \u{f7}\r\n", "4:1:÷ "),
+        ("\u{f7} 0061 \u{f7}\n\n\u{f7} 000061 \u{d7}", "1:1:÷ 3:1:× "),
+        ("\u{f7} 0061 \u{f7}#", "1:1:÷ "),
+        ("\u{f7} 0061 \u{f7}\r", "BadLine 1"),
+        ("\u{feff}\u{feff}\u{f7}", "BadLine 1"),
+    ];
+    for (file, wanted) in rows {
+        assert_eq!(rt;
+            read(alloc, file.as_bytes())?.as_str(),
+            wanted,
+            "of {file:?}"
+        );
+    }
+    assert_eq!(rt; read(alloc, b"#\n\xC3\xB7\n\xC3")?.as_str(), "NotUtf8 5");
+    Ok(())
+}
+
+#[test]
+fn bad_lines(rt: HostRuntime) -> Result<(), Fail> {
+    let alloc = rt.alloc();
+    let bad = [
+        "0061",
+        "0061 \u{f7}",
+        "\u{f7} 0061",
+        "\u{f7} \u{f7}",
+        "\u{f7} 061 \u{f7}",
+        "\u{f7} 0000061 \u{f7}",
+        "\u{f7} D800 \u{f7}",
+        "\u{f7} 110000 \u{f7}",
+        "\u{f7} 00G1 \u{f7}",
+        "\u{f7} 0061 \u{f7} 0062",
+        "\u{f7}0061 \u{f7}",
+        "\u{f7} 0061 0062 \u{f7}",
+        "\u{f7}\u{f7}",
+        "\u{f7}\0",
+        "\u{a0}",
+        "+",
+    ];
+    for line in bad {
+        for (before, number) in [("", 1), ("# a\n\u{f7}\n", 3)] {
+            for after in ["", "\n\u{f7}\n", "\r\nx\n"] {
+                let file = format!(in alloc; "{before}{line}{after}")?;
+                let wanted = format!(in alloc; "BadLine {number}")?;
+                assert_eq!(rt;
+                    read(alloc, file.as_bytes())?.as_str(),
+                    wanted.as_str(),
+                    "of {file:?}"
+                );
+            }
+        }
+    }
+    Ok(())
+}
+
+/// The table of the rule `ab;`.
+fn table(rt: &impl Abort, alloc: Global) -> Result<Table, TableErr> {
+    let mut ranges = RangeList::new(alloc);
+    for (start, cat) in [(0, 0), (0x61, 1), (0x62, 2), (0x63, 0)] {
+        ranges.push(RangeRow { start, cat })?;
+    }
+    let mut lists = NumberLists::new(alloc);
+    lists.push(NumberList::from_vec([0].to_vec(alloc)?))?;
+    let mut rows = RowList::new(alloc);
+    for accept in [0, 0, 0, 1] {
+        rows.push(RowHead {
+            accept,
+            fronts: 0,
+            list: 0,
+        })?;
+    }
+    let cells = [0, 0, 0, 0, 2, 0, 0, 0, 3, 0, 0, 0].to_vec(alloc)?;
+    let safe = [0xDF, 0x01].to_vec(alloc)?;
+    let parts = Parts {
+        categories: 3,
+        slashes: 0,
+        ranges,
+        lists,
+        rows,
+        cells: CellList::from_vec(cells),
+        safe: ByteList::from_vec(safe),
+    };
+    assert_eq!(rt; parts.cells.len(), parts.rows.len() * 3);
+    assert_eq!(rt; parts.safe.len(), 2);
+    assert_eq!(rt; parts.categories, 3);
+    Table::from_parts(alloc, &parts)
+}
+
+/// The verdicts on the tests of a file by the table of `ab;`: `=`, or the place that differs.
+fn verdicts<L: Ledger>(
+    rt: &HostRuntime,
+    table: &Table,
+    file: &[u8],
+    blank: Blank,
+) -> Result<String, Fail>
+    requires name { blank.name ≡ L.name }
+    requires parts { blank.parts ≡ L.parts }
+    requires some { 0 < blank.parts }
+    requires small { length file.now ≤ 1000 }
+{
+    let alloc = rt.alloc();
+    let mut steps = Steps::<L>::new(rt, blank);
+    let mut marks = Marks::new(alloc, table)?;
+    let tests = read_tests(alloc, file)?;
+    let mut shown = String::new(alloc);
+    for i in 0..tests.len() {
+        match judge(table, tests.get(i), &mut marks, &mut steps) {
+            Verdict::Same => shown.push('=')?,
+            Verdict::Differs(place) => shown.push_str(&format!(in alloc; "{place}")?)?,
+        }
+    }
+    Ok(shown)
+}
+
+#[test]
+fn verdicts_by_a_table(rt: HostRuntime) -> Result<(), Fail> {
+    let file =
+        "\u{d7} 0061 \u{d7} 0062 \u{f7} 0061 \u{f7}\n\u{f7} 0061 \u{f7} 0062 \u{f7}\n\u{f7} 0061 \u{d7} 0062 \u{d7}\n\u{f7} 0063 \u{f7} 0061 \u{d7} 0062 \u{d7} 0061 \u{f7}\n\u{d7}\n";
+    assert!(rt; file.len() <= 1000);
+    let table = table(&rt, rt.alloc())?;
+    let shown = verdicts::<Brand>(&rt, &table, file.as_bytes(), Blank::new(1))?;
+    assert_eq!(rt; shown.as_str(), "=123=");
+    Ok(())
+}
