@@ -7,5 +7,7 @@
 mod boundary;
 mod scan;
 mod session;
+#[cfg(test)]
+mod tests;
 
 pub use session::Session;

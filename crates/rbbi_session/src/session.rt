@@ -35,8 +35,8 @@ impl<'a, T: EditText> Model for Session<'a, T> {
     ghost use Rattle.rbbi_session.specs.Scans.{IsKept};
 
     ghost view = { λ session. record {
-        table = session.table.now;
-        state = record { text = T.characters session.text; cursor = session.here.at };
+      table = session.table.now;
+      state = record { text = T.characters session.text; cursor = session.here.at };
     } };
 
     ghost invariant = { λ session. IsKept session.table.now (T.characters session.text)
