@@ -10,7 +10,7 @@ mod error;
 mod escape;
 mod line;
 mod listing;
-mod perform;
+mod performing;
 mod pieces;
 mod question;
 mod reader;
@@ -20,6 +20,6 @@ mod tests;
 
 pub use command::{Command, Commands};
 pub use error::ScriptErr;
-pub use perform::{perform, play};
+pub use performing::{perform, play};
 pub use reader::read_script;
 pub use saying::{Said, say, say_bound, say_list};

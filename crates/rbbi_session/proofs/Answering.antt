@@ -33,7 +33,8 @@ first_up_to test (b ∷ bs) p most each is =
     (cases_Bool (test b.at))
 
 module _ (table : Table) (x : List ℕ) where
-  none_past : AllByRecursion (λ b. b.at ≤ length x) (table_boundaries table x)
+  -- no boundary lies behind the text
+  pub none_past : AllByRecursion (λ b. b.at ≤ length x) (table_boundaries table x)
   none_past =
       subst (λ n. AllByRecursion (λ b. b.at ≤ n) (table_boundaries table x)) (table_covers table x).reach (none_past_end (table_boundaries table x) (table_covers table x).rise)
 

@@ -72,7 +72,8 @@ fn words(rt: &impl Abort, alloc: Global) -> Result<Table, TableErr> {
         cells: CellList::from_vec(CELLS.to_vec(alloc)?),
         safe: ByteList::from_vec([0xFF, 0xFF, 0xBD, 0xE7, 0x06].to_vec(alloc)?),
     };
-    assert_eq!(rt; parts.cells.len(), parts.rows.len() * 6);
+    assert_eq!(rt; parts.rows.len(), 7);
+    assert_eq!(rt; parts.cells.len(), 42);
     assert_eq!(rt; parts.safe.len(), 5);
     assert_eq!(rt; parts.categories, 6);
     Table::from_parts(alloc, &parts)
