@@ -159,11 +159,11 @@ module _ (old now : Session) (at : ℕ) (list : List ℕ) (replied : AllOf list 
           text_is = ap (λ s. s.text) answers.moved.state_is ∙ text;
           table_is = answers.moved.table_is ∙ table;
           stands = stands_next new.state.cursor now.state.cursor rest place place_next
-          (ap (λ s. s.cursor) answers.moved.state_is ∙ moved_cursor (first_after (boundaries_of now) now.state.cursor) now.state.cursor ∙ ap (λ p. unwrap_or p now.state.cursor) (sym found));
+              (ap (λ s. s.cursor) answers.moved.state_is ∙ moved_cursor (first_after (boundaries_of now) now.state.cursor) now.state.cursor ∙ ap (λ p. unwrap_or p now.state.cursor) (sym found));
         };
         less = subst (λ p. left_of (length old.state.text) p < length old.state.text + 1 - at) (sym place_next)
-        (subst (λ p. left_of (length old.state.text) (place_of rest) < length old.state.text + 1 - p) stands.0
-        (falls (length old.state.text) b.at rest low (rises_after b rest (rising_right front (b ∷ rest) rising))));
+            (subst (λ p. left_of (length old.state.text) (place_of rest) < length old.state.text + 1 - p) stands.0
+            (falls (length old.state.text) b.at rest low (rises_after b rest (rising_right front (b ∷ rest) rising))));
       }
 
   broken : (front rest : List Boundary) → boundaries_of old ≡ front ++ rest → reply ≡ before ++ boundary_lines front → now.state.text ≡ old.state.text → now.table ≡ old.table → StandsBefore now.state.cursor (Some at) rest →
