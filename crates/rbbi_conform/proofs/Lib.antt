@@ -2,3 +2,4 @@ pub mod Judging
 pub mod BlankWords
 pub mod Marking
 pub mod Characters
+pub mod FileLines

@@ -3,6 +3,7 @@ ghost use Rattle.std.specs.Prelude.{◌≡◌, ◌≤◌, length};
 ghost use Rattle.std.specs.Str.Lines.{lines};
 ghost use Rattle.rbbi_text.specs.Bytes.{most_bytes};
 ghost use Rattle.rbbi_conform.specs.Files.{ReadsTests, ReadsLines};
+ghost use Rattle.rbbi_conform.specs.LineReadings.{ReadsLine};
 
 use crate::error::TestErr;
 use crate::line::{Marked, is_skipped, marked_text};
@@ -46,13 +47,16 @@ fn read_lines(alloc: Global, text: &str) -> Result<Tests, TestErr>
 }
 
 /// Adds the test of a line, which has this number. A line that is skipped adds none.
-fn read_line(tests: &mut Tests, alloc: Global, line: &[u8], number: u32) -> Result<(), TestErr> {
+fn read_line(tests: &mut Tests, alloc: Global, line: &[u8], number: u32) -> Result<(), TestErr>
+    ensures { ReadsLine line.now number tests.old result tests.new }
+{
     if is_skipped(line) {
         return Ok(());
     }
     let Some(Marked { text, marks }) = marked_text(alloc, line)? else {
         return Err(TestErr::BadLine(number));
     };
+    // A character takes six bytes and more of the line, so a line of a test file never has too many.
     let Ok(text) = PlainText::new(alloc, &text) else {
         return Err(TestErr::Memory);
     };
