@@ -116,40 +116,62 @@ fn bad_lines(rt: HostRuntime) -> Result<(), Fail> {
     Ok(())
 }
 
-/// The table of the rule `ab;`.
-fn table(rt: &impl Abort, alloc: Global) -> Result<Table, TableErr> {
+/// Starts and categories: 1 control characters, 2 LF, 3 CR, 4 other characters, 5 combining marks.
+const RANGES: &[(u32, u16)] = &[
+    (0, 1),
+    (0xA, 2),
+    (0xB, 1),
+    (0xD, 3),
+    (0xE, 1),
+    (0x20, 4),
+    (0x7F, 1),
+    (0xA0, 4),
+    (0x300, 5),
+    (0x370, 4),
+    (0xD800, 0),
+    (0xE000, 4),
+];
+
+const CELLS: &[u16] = &[
+    0, 0, 0, 0, 0, 0, 0, 2, 2, 3, 4, 4, 0, 0, 0, 0, 0, 0, 0, 0, 2, 0, 0, 0, 0, 0, 0, 0, 0, 4,
+];
+
+/// The table of graphemes: CR with LF, and a character with the combining marks behind it.
+fn graphemes(rt: &impl Abort, alloc: Global) -> Result<Table, TableErr> {
     let mut ranges = RangeList::new(alloc);
-    for (start, cat) in [(0, 0), (0x61, 1), (0x62, 2), (0x63, 0)] {
-        ranges.push(RangeRow { start, cat })?;
+    for (start, cat) in RANGES {
+        ranges.push(RangeRow {
+            start: *start,
+            cat: *cat,
+        })?;
     }
     let mut lists = NumberLists::new(alloc);
     lists.push(NumberList::from_vec([0].to_vec(alloc)?))?;
     let mut rows = RowList::new(alloc);
-    for accept in [0, 0, 0, 1] {
+    for accept in [0, 0, 1, 1, 1] {
         rows.push(RowHead {
             accept,
             fronts: 0,
             list: 0,
         })?;
     }
-    let cells = [0, 0, 0, 0, 2, 0, 0, 0, 3, 0, 0, 0].to_vec(alloc)?;
-    let safe = [0xDF, 0x01].to_vec(alloc)?;
     let parts = Parts {
-        categories: 3,
+        categories: 6,
         slashes: 0,
         ranges,
         lists,
         rows,
-        cells: CellList::from_vec(cells),
-        safe: ByteList::from_vec(safe),
+        cells: CellList::from_vec(CELLS.to_vec(alloc)?),
+        safe: ByteList::from_vec([0xFF, 0xFF, 0xEF, 0xDF, 0x07].to_vec(alloc)?),
     };
-    assert_eq!(rt; parts.cells.len(), parts.rows.len() * 3);
-    assert_eq!(rt; parts.safe.len(), 2);
-    assert_eq!(rt; parts.categories, 3);
+    assert_eq!(rt; parts.rows.len(), 5);
+    assert_eq!(rt; parts.cells.len(), 30);
+    assert_eq!(rt; parts.safe.len(), 5);
+    assert_eq!(rt; parts.categories, 6);
     Table::from_parts(alloc, &parts)
 }
 
-/// The verdicts on the tests of a file by the table of `ab;`: `=`, or the place that differs.
+/// The verdicts on the tests of a file by a table: `=`, or the place that differs.
 fn verdicts<L: Ledger>(
     rt: &HostRuntime,
     table: &Table,
@@ -178,10 +200,10 @@ fn verdicts<L: Ledger>(
 #[test]
 fn verdicts_by_a_table(rt: HostRuntime) -> Result<(), Fail> {
     let file =
-        "\u{d7} 0061 \u{d7} 0062 \u{f7} 0061 \u{f7}\n\u{f7} 0061 \u{f7} 0062 \u{f7}\n\u{f7} 0061 \u{d7} 0062 \u{d7}\n\u{f7} 0063 \u{f7} 0061 \u{d7} 0062 \u{d7} 0061 \u{f7}\n\u{d7}\n";
+        "÷ 000D × 000A ÷ 0061 × 0308 ÷\n÷ 000D × 000A ÷ 0061 ÷ 0308 ÷\n÷ 0061 × 0062 ÷\n÷ 0061 ÷ 0062 ×\n÷ 000D ÷ 000A ÷\n×\n";
     assert!(rt; file.len() <= 1000);
-    let table = table(&rt, rt.alloc())?;
+    let table = graphemes(&rt, rt.alloc())?;
     let shown = verdicts::<Brand>(&rt, &table, file.as_bytes(), Blank::new(1))?;
-    assert_eq!(rt; shown.as_str(), "=123=");
+    assert_eq!(rt; shown.as_str(), "=3121=");
     Ok(())
 }
