@@ -7,23 +7,26 @@ use Rattle.rbbi_model.specs.Runs.{Entry, Run, boundary_of, IsTrueRun}
 use Rattle.rbbi_model.specs.Costs.{anchor_below, searches_cost}
 use Rattle.rbbi_cache.specs.Pushed.{pushed}
 use Rattle.rbbi_cache.specs.Lists.{GoesOnFrom}
-use Rattle.rbbi_cache.specs.Scans.{Scan, IsScan, HasBegun, HasGoneOn, GoesOn}
+use Rattle.rbbi_cache.specs.Scans.{Reached, Scan, IsScan, HasBegun, HasGoneOn, GoesOn}
 use Rattle.rbbi_cache.specs.Kept.{IsExtendedBy}
 use Rattle.rbbi_cache.specs.Ready.{IsReady, GoesOnAs}
 use Rattle.rbbi_cache.proofs.Scanned.{scan_from_anchor, scan_from_entry}
-use Rattle.rbbi_cache.proofs.Ready.{IsAnchorBelow, anchor_is, ready_from_anchor, scan_cost, some_entry, is_extended, ready_extended, ready_beside}
+use Rattle.std.specs.List.{AllByRecursion}
+use Rattle.rbbi_cache.proofs.Lists.{all_right}
+use Rattle.rbbi_cache.proofs.Nearer.{searched_path, nearer_cost}
+use Rattle.rbbi_cache.proofs.Ready.{IsAnchorBelow, anchor_is, anchored_below, ready_from_anchor, scan_cost, some_entry, is_extended, ready_extended, ready_beside}
 
 module _ (table : Table) (valid : IsValidTable table) (x : List ℕ) (i : ℕ) where
   pub anchor_low : anchor_below table x i ≤ i
   anchor_low = ⊎_elim (λ zero. omega arith) (λ less. omega arith) (anchor_is table valid x i).below
 
-  module _ (p : ℕ) (run : Run) (begun : run ≡ record { anchor = p; entries = []; leads = true }) (is : p ≡ anchor_below table x i) (within : i < length x) where
+  module _ (p : ℕ) (run : Run) (begun : run ≡ record { anchor = p; entries = []; leads = true }) (up_to : p ≤ i) (within : i < length x) where
     -- the scan at its anchor
-    abbrev at_anchor : Scan
+    abbrev pub at_anchor : Scan
     at_anchor = record { done = []; skipped = boundary_of table (record { at = p; status = 0; reach = 0 }) ∷ []; known = []; found = []; here = record { at = p; status = 0; reach = 0 } }
 
     starts : IsScan table x p i at_anchor run
-    starts = scan_from_anchor table valid x p i run begun (omega (arith, is, anchor_low))
+    starts = scan_from_anchor table valid x p i run begun (omega arith)
 
     pub begins_at_anchor : HasBegun table x run.anchor i (record { at = p; status = 0; reach = 0 }) run
     begins_at_anchor = record { scan = at_anchor; is = subst (λ a. IsScan table x a i at_anchor run) (sym (ap (λ r. r.anchor) begun)) starts; here_is = refl }
@@ -34,8 +37,8 @@ module _ (table : Table) (valid : IsValidTable table) (x : List ℕ) (i : ℕ) w
           subst (λ a. HasGoneOn table x a i at_anchor here after before now) (ap (λ r. r.anchor) begun)
           (gone at_anchor (subst (λ a. IsScan table x a i at_anchor run) (sym (ap (λ r. r.anchor) begun)) starts) refl)
 
-      pub anchor_ready : (kept : List Run) → IsReady table x i kept here after
-      anchor_ready kept = ready_from_anchor table valid x i p (subst (IsAnchorBelow table x i) (sym is) (anchor_is table valid x i)) at_anchor refl here after before now gone_from_anchor past kept
+      pub anchor_ready : IsAnchorBelow table x i p → (kept : List Run) → IsReady table x i kept here after
+      anchor_ready anchor kept = ready_from_anchor table valid x i p anchor at_anchor refl here after before now gone_from_anchor past kept
 
       pub anchor_cost : now ≤ before + searches_cost table x p i
       anchor_cost = scan_cost table valid x i p at_anchor here after before now gone_from_anchor past
@@ -43,7 +46,7 @@ module _ (table : Table) (valid : IsValidTable table) (x : List ℕ) (i : ℕ) w
       pub anchor_more : before ≤ now
       anchor_more = omega (arith, gone_from_anchor.read)
 
-module _ (table : Table) (valid : IsValidTable table) (x : List ℕ) (i : ℕ) (former : Run) (is_true : IsTrueRun table x former) (from : Entry) (goes : GoesOnFrom (anchor_below table x i) i from former)
+module _ (table : Table) (valid : IsValidTable table) (x : List ℕ) (i : ℕ) (former : Run) (is_true : IsTrueRun table x former) (from : Entry) (goes : GoesOnFrom i from former)
     (run : Run) (begun : run ≡ record { anchor = former.anchor; entries = from ∷ []; leads = true }) where
   abbrev from_entry : Scan
   from_entry = record { done = is_true.consecutive.before ++ map (boundary_of table) goes.front; skipped = is_true.consecutive.before ++ map (boundary_of table) goes.front; known = from ∷ []; found = []; here = from }
@@ -55,7 +58,7 @@ module _ (table : Table) (valid : IsValidTable table) (x : List ℕ) (i : ℕ) (
   begins_there = record { scan = from_entry; is = subst (λ a. IsScan table x a i from_entry run) (sym (ap (λ r. r.anchor) begun)) starts_there; here_is = refl }
 
   pub anchor_there : run.anchor ≤ i
-  anchor_there = omega (arith, ap (λ r. r.anchor) begun, goes.same, anchor_low table valid x i)
+  anchor_there = omega (arith, ap (λ r. r.anchor) begun, ⊎_elim {C = former.anchor ≤ i} (λ zero. omega arith) (λ less. omega arith) (anchored_below table valid x i former is_true from goes).below)
 
   module _ (here : Entry) (after : Run) (before now : ℕ) (gone : GoesOn table x run.anchor i from run here after before now) (past : i < here.at) where
     gone_there : HasGoneOn table x former.anchor i from_entry here after before now
@@ -63,15 +66,24 @@ module _ (table : Table) (valid : IsValidTable table) (x : List ℕ) (i : ℕ) (
         subst (λ a. HasGoneOn table x a i from_entry here after before now) (ap (λ r. r.anchor) begun)
         (gone from_entry (subst (λ a. IsScan table x a i from_entry run) (sym (ap (λ r. r.anchor) begun)) starts_there) refl)
 
-    pub there_cost : now ≤ before + searches_cost table x (anchor_below table x i) i
-    there_cost = subst (λ a. now ≤ before + searches_cost table x a i) goes.same (scan_cost table valid x i former.anchor from_entry here after before now gone_there past)
+    pub there_cost : anchor_below table x i ≤ from.at → now ≤ before + searches_cost table x (anchor_below table x i) i
+    there_cost near =
+        let is = gone_there.is in
+        let here_at : i < gone_there.scan.here.at = omega (arith, ap (λ e. e.at) gone_there.here_is) in
+        let read =
+        nearer_cost table valid x (anchor_below table x i) (anchor_is table valid x i).anchor i former is_true goes.front from goes.whole near goes.up_to gone_there.searched (boundary_of table gone_there.scan.here)
+        (searched_path table x former.anchor (is_true.consecutive.before ++ map (boundary_of table) goes.front) (boundary_of table from) gone_there.searched (boundary_of table gone_there.scan.here)
+        starts_there.reached (subst (λ bs. Reached table x former.anchor bs (boundary_of table gone_there.scan.here)) gone_there.done is.reached))
+        (all_right (λ m. m.at ≤ i) (is_true.consecutive.before ++ map (boundary_of table) goes.front) gone_there.searched (subst (λ bs. AllByRecursion (λ m. m.at ≤ i) bs) gone_there.done is.up_to))
+        here_at in
+        omega (arith, read, gone_there.read)
 
     pub there_more : before ≤ now
     there_more = omega (arith, gone_there.read)
 
     -- the scan's run has entries, and where it leads they are the one known and those found
     pub there_some : 1 ≤ length after.entries
-    there_some = some_entry table valid x i former.anchor gone_there.scan after gone_there.is (omega (arith, ap (λ e. e.at) gone_there.here_is)) (subst (IsAnchorBelow table x i) (sym goes.same) (anchor_is table valid x i)).low_is
+    there_some = some_entry table valid x i former.anchor gone_there.scan after gone_there.is (omega (arith, ap (λ e. e.at) gone_there.here_is)) (anchored_below table valid x i former is_true from goes).low_is
 
     found_is : IsTrue after.leads → after.entries ≡ from ∷ gone_there.scan.found
     found_is leads =

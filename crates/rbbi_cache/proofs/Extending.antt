@@ -1,15 +1,14 @@
 -- A kept run that goes on is true.
-use Rattle.std.proofs.Common.{◌≡◌, ◌≢◌, ℕ, ◌+◌, ◌-◌, ◌<◌, ◌≤◌, ◌⊎◌, Bool, List, [], ◌∷◌, ◌++◌, length, length-append, drop, map, sym, refl, ap, ◌∙◌, subst, inl, inr, ⊎_elim, append_assoc, arith}
-use Rattle.std.specs.Prelude.{IsTrue}
+use Rattle.std.proofs.Common.{◌≡◌, ℕ, ◌+◌, ◌≤◌, ◌⊎◌, List, [], ◌∷◌, ◌++◌, length, length-append, map, sym, refl, ap, ◌∙◌, subst, inr, append_assoc, arith}
 use Rattle.std.specs.List.{AllByRecursion}
-use Rattle.std.proofs.lemmas.List.{map-append, append-nil}
+use Rattle.std.proofs.lemmas.List.{map-append}
 use Rattle.rbbi_model.specs.Boundaries.{Boundary}
 use Rattle.rbbi_model.specs.Tables.{Table}
 use Rattle.rbbi_model.specs.ValidTables.{IsValidTable}
 use Rattle.rbbi_model.specs.Searches.{next_boundary, follow_by, fresh}
-use Rattle.rbbi_model.specs.Runs.{Entry, Run, low, boundary_of, farthest_look, ReachesRise, LeadsTruly, IsTrueRun}
-use Rattle.rbbi_cache.specs.Kept.{HaveLeastReaches, last_reach, HasLeastReaches, EndFormerRun, IsExtendedBy}
-use Rattle.rbbi_cache.specs.Scans.{Reached, Scan, IsScan}
+use Rattle.rbbi_model.specs.Runs.{Entry, Run, boundary_of, farthest_look, ReachesRise, LeadsTruly, IsTrueRun}
+use Rattle.rbbi_cache.specs.Kept.{HaveLeastReaches, last_reach, HasLeastReaches, IsExtendedBy}
+use Rattle.rbbi_cache.specs.Scans.{Scan, IsScan}
 use Rattle.rbbi_cache.proofs.Lists.{all_join}
 use Rattle.rbbi_cache.proofs.Reached.{done_is}
 use Rattle.rbbi_cache.proofs.Paths.{reached_of}

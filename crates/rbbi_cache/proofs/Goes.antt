@@ -1,5 +1,5 @@
 -- A scan goes on search by search.
-use Rattle.std.proofs.Common.{◌≡◌, ℕ, ◌+◌, ◌-◌, ◌<◌, ◌≤◌, max, min, ltb, eqb, true, false, drop, List, [], ◌∷◌, ◌++◌, length, sym, refl, ap, ◌∙◌, subst, append_assoc, arith}
+use Rattle.std.proofs.Common.{◌≡◌, ℕ, ◌+◌, ◌-◌, ◌<◌, ◌≤◌, max, min, ltb, eqb, false, drop, List, [], ◌∷◌, ◌++◌, length, sym, refl, ap, ◌∙◌, subst, append_assoc, arith}
 use Rattle.std.specs.Prelude.{sum_by}
 use Rattle.std.proofs.lemmas.Bool.{cond-true, cond_both, lt-ltb}
 use Rattle.std.proofs.lemmas.List.{append-nil}
@@ -11,7 +11,7 @@ use Rattle.rbbi_model.specs.Runs.{Entry, Run, low, boundary_of}
 use Rattle.rbbi_model.specs.Costs.{characters_read}
 use Rattle.rbbi_model.proofs.Found.{found_lies}
 use Rattle.rbbi_cache.specs.Pushed.{pushed}
-use Rattle.rbbi_cache.specs.Scans.{Scan, IsScan, IsNextEntry, HasBegun, HasGoneOn, GoesOn}
+use Rattle.rbbi_cache.specs.Scans.{Scan, IsScan, IsNextEntry, HasGoneOn, GoesOn}
 use Rattle.rbbi_cache.proofs.Scanning.{found_next, skipped_next}
 
 pub goes_start : (table : Table) (x : List ℕ) (p i : ℕ) (from : Entry) (run : Run) (steps : ℕ) → GoesOn table x p i from run from run steps steps

@@ -1,14 +1,12 @@
 -- The left part of a true run is true of the edited text.
-use Rattle.std.proofs.Common.{◌≡◌, ℕ, ◌+◌, ◌-◌, ◌<◌, ◌≤◌, ◌⊎◌, Bool, true, false, leb, List, [], ◌∷◌, ◌++◌, length, map, filter, sym, refl, ap, ◌∙◌, subst, inl, inr, ⊎_elim, append_assoc, arith}
+use Rattle.std.proofs.Common.{◌≡◌, ℕ, ◌+◌, ◌<◌, ◌≤◌, ◌⊎◌, false, leb, List, [], ◌∷◌, ◌++◌, length, map, filter, sym, refl, ap, ◌∙◌, subst, inl, inr, ⊎_elim, append_assoc, arith}
 use Rattle.std.specs.List.{AllByRecursion}
-use Rattle.std.proofs.lemmas.Bool.{cond-true, cond-false, cases_lt, le-leb, lt-leb}
+use Rattle.std.proofs.lemmas.Bool.{cond-true, cases_lt, le-leb, lt-leb}
 use Rattle.std.proofs.lemmas.List.{map-append, append-nil, get_or-take}
-use Rattle.std.proofs.Common.{get_or, take, length-append}
+use Rattle.std.proofs.Common.{get_or, length-append}
 use Rattle.std.specs.Prelude.{IsTrue}
 use Rattle.rbbi_model.specs.Places.{largest}
 use Rattle.rbbi_model.specs.Boundaries.{Boundary}
-use Rattle.rbbi_model.specs.Cover.{places}
-use Rattle.rbbi_model.specs.Lists.{IsRising}
 use Rattle.rbbi_model.specs.Tables.{Table, category_of}
 use Rattle.rbbi_model.specs.SafePairs.{IsSafePair}
 use Rattle.rbbi_model.specs.ValidTables.{IsValidTable}
@@ -16,11 +14,10 @@ use Rattle.rbbi_model.specs.Searches.{look_end, next_boundary, follow_by, fresh}
 use Rattle.rbbi_model.specs.Runs.{Entry, Run, category_at, IsAnchor, low, boundary_of, farthest_look, ReachesRise, LeadsTruly, IsTrueRun}
 use Rattle.rbbi_model.proofs.SearchesAlike.{finds_alike}
 use Rattle.rbbi_cache.specs.Edits.{IsEdited, left_part}
-use Rattle.rbbi_cache.proofs.Lists.{all_join, all_left, all_right, all_through, filter_all, filter_none}
+use Rattle.rbbi_cache.proofs.Lists.{all_join, all_left, all_right, all_through, filter_none}
 use Rattle.rbbi_cache.specs.Scans.{Reached}
 use Rattle.rbbi_cache.proofs.Reached.{first_member, farthest_is, rest_after}
-use Rattle.rbbi_cache.proofs.Paths.{Path, IsCarried, carried, path_moved, path_reaches, reached_of}
-use Rattle.rbbi_cache.proofs.Paths.{moved}
+use Rattle.rbbi_cache.proofs.Paths.{Path, IsCarried, carried, path_moved, path_reaches}
 use Rattle.rbbi_cache.proofs.Reached.{reached_start}
 use Rattle.rbbi_cache.proofs.RunFacts.{all_by_splits, path_short}
 use Rattle.rbbi_cache.proofs.RunFacts as facts
@@ -35,12 +32,12 @@ pub record AreFirst (at : ℕ) (entries : List Entry) : Type 0 where
   pub each : AllByRecursion (λ e. e.reach ≤ at) left
   pub later : AllByRecursion (λ e. at < e.reach) rest
 
-reaches_after : (entry : Entry) (entries : List Entry) → ReachesRise (entry ∷ entries) → AllByRecursion (λ e. entry.reach ≤ e.reach) entries
+pub reaches_after : (entry : Entry) (entries : List Entry) → ReachesRise (entry ∷ entries) → AllByRecursion (λ e. entry.reach ≤ e.reach) entries
 reaches_after entry [] rise = tt
 reaches_after entry (next ∷ entries) rise =
     (rise.0, all_through (λ e. next.reach ≤ e.reach) (λ e. entry.reach ≤ e.reach) (λ e less. omega (arith, less, rise.0)) entries (reaches_after next entries rise.1))
 
-reaches_tail : (entry : Entry) (entries : List Entry) → ReachesRise (entry ∷ entries) → ReachesRise entries
+pub reaches_tail : (entry : Entry) (entries : List Entry) → ReachesRise (entry ∷ entries) → ReachesRise entries
 reaches_tail entry [] rise = tt
 reaches_tail entry (next ∷ entries) rise = rise.1
 

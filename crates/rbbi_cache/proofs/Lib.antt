@@ -7,6 +7,12 @@ pub mod LeftPart
 pub mod Moving
 pub mod Reanchor
 pub mod RightPart
+pub mod Cuts
+pub mod Appended
+pub mod Copied
+pub mod AddedParts
+pub mod PartsTruth
+pub mod PartsList
 pub mod Scanning
 pub mod Scanned
 pub mod Extending
@@ -14,5 +20,12 @@ pub mod Walks
 pub mod Goes
 pub mod Showing
 pub mod RunLists
+pub mod Members
+pub mod Nearer
+pub mod Slots
 pub mod Ready
 pub mod Begins
+pub mod Backward
+pub mod TriedBack
+pub mod Keeping
+pub mod Answering

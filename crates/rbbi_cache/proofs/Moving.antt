@@ -1,8 +1,7 @@
 -- A true run that lies behind an edit is true of the new text when it is moved.
-use Rattle.std.proofs.Common.{◌≡◌, ℕ, ◌+◌, ◌-◌, ◌<◌, ◌≤◌, ◌⊎◌, Bool, eqb, List, [], ◌∷◌, ◌++◌, length, map, drop, get_or, sym, refl, ap, ◌∙◌, subst, inl, inr, ⊎_elim, append_assoc, arith}
+use Rattle.std.proofs.Common.{◌≡◌, ℕ, ◌+◌, ◌-◌, ◌<◌, ◌≤◌, ◌⊎◌, Bool, List, [], ◌∷◌, ◌++◌, length, map, get_or, sym, refl, ap, ◌∙◌, subst, inl, inr, ⊎_elim, append_assoc, arith}
 use Rattle.std.specs.Prelude.{IsTrue}
 use Rattle.std.specs.List.{AllByRecursion}
-use Rattle.std.proofs.lemmas.Bool.{cases_lt}
 use Rattle.std.proofs.lemmas.List.{map-append, get_or-drop, length-map}
 use Rattle.rbbi_model.specs.Places.{largest}
 use Rattle.rbbi_model.specs.Boundaries.{Boundary}
@@ -10,11 +9,11 @@ use Rattle.rbbi_model.specs.Tables.{Table, category_of}
 use Rattle.rbbi_model.specs.SafePairs.{IsSafePair}
 use Rattle.rbbi_model.specs.ValidTables.{IsValidTable}
 use Rattle.rbbi_model.specs.Searches.{look_end, next_boundary, follow_by, fresh}
-use Rattle.rbbi_model.specs.Runs.{Entry, Run, category_at, IsAnchor, low, boundary_of, farthest_look, ReachesRise, LeadsTruly, IsTrueRun}
+use Rattle.rbbi_model.specs.Runs.{Entry, Run, category_at, low, boundary_of, farthest_look, ReachesRise, LeadsTruly, IsTrueRun}
 use Rattle.rbbi_model.proofs.Found.{found_lies}
 use Rattle.rbbi_model.proofs.SearchesAlike.{finds_alike}
 use Rattle.rbbi_cache.specs.Edits.{IsEdited, moved_entry}
-use Rattle.rbbi_cache.proofs.Lists.{all_join, all_left, all_right, all_through, all_map, everywhere}
+use Rattle.rbbi_cache.proofs.Lists.{all_join, all_left, all_through, all_map, everywhere}
 use Rattle.rbbi_cache.specs.Scans.{Reached}
 use Rattle.rbbi_cache.proofs.Reached.{first_member, farthest_is, rest_after, reached_start}
 use Rattle.rbbi_cache.proofs.Paths.{Path, Here, Then, IsCarried, carried, moved, path_moved, path_reaches}

@@ -1,5 +1,5 @@
 -- The way of fresh searches from one member to another, and how it is moved into another text.
-use Rattle.std.proofs.Common.{◌≡◌, ℕ, zero, suc, ◌+◌, ◌-◌, ◌<◌, ◌≤◌, ◌⊎◌, Bool, cond, ltb, List, [], ◌∷◌, ◌++◌, length, map, sym, refl, ap, ◌∙◌, subst, inl, inr, ⊎_elim, append_assoc, arith}
+use Rattle.std.proofs.Common.{◌≡◌, ℕ, zero, suc, ◌+◌, ◌<◌, ◌≤◌, ltb, List, [], ◌∷◌, ◌++◌, length, map, sym, ◌∙◌, subst, ⊎_elim, append_assoc, arith}
 use Rattle.std.specs.List.{AllByRecursion}
 use Rattle.std.proofs.lemmas.List.{append-nil}
 use Rattle.std.proofs.lemmas.Bool.{cond-true, cond-false, cases_lt, lt-ltb, le-ltb}
@@ -37,7 +37,7 @@ cons_injective : {b d : Boundary} {bs ds : List Boundary} → b ∷ bs ≡ d ∷
 cons_injective is = (cc, cc)
 
 -- what the searches from an anchor find is a path up to each member
-path_of_follow : (table : Table) (x : List ℕ) (most : ℕ) (b : Boundary) (done : List Boundary) (c : Boundary) (rest : List Boundary) →
+pub path_of_follow : (table : Table) (x : List ℕ) (most : ℕ) (b : Boundary) (done : List Boundary) (c : Boundary) (rest : List Boundary) →
     b ∷ follow_by (next_boundary table x) (length x) most b ≡ done ++ c ∷ rest → Path table x b done c
 path_of_follow table x most b [] c rest whole = subst (λ d. Path table x b [] d) (cons_injective whole).0 (Here b)
 path_of_follow table x zero b (d ∷ done) c rest whole = absurd (nothing_left done c rest (cons_injective whole).1)

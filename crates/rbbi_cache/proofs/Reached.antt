@@ -1,5 +1,5 @@
 -- The members found by fresh searches from an anchor, as far as they have come.
-use Rattle.std.proofs.Common.{◌≡◌, ℕ, zero, suc, ◌+◌, ◌-◌, ◌<◌, ◌≤◌, max, Bool, true, false, cond, ltb, leb, List, [], ◌∷◌, ◌++◌, length, map, filter, sym, refl, ap, ◌∙◌, subst, append_assoc, arith}
+use Rattle.std.proofs.Common.{◌≡◌, ℕ, zero, suc, ◌+◌, ◌<◌, ◌≤◌, max, Bool, true, false, ltb, leb, List, [], ◌∷◌, ◌++◌, length, map, filter, sym, refl, ap, ◌∙◌, subst, append_assoc, arith}
 use Rattle.std.specs.List.{AllByRecursion}
 use Rattle.std.proofs.lemmas.Bool.{cond-true, cond-false, lt-ltb, le-ltb, lt-leb, le-leb}
 use Rattle.std.proofs.lemmas.List.{map-append, append-nil}
@@ -14,7 +14,7 @@ use Rattle.rbbi_model.specs.Boundaries.{Boundary}
 use Rattle.rbbi_model.specs.Cover.{places}
 use Rattle.rbbi_model.specs.Tables.{Table}
 use Rattle.rbbi_model.specs.Searches.{look_end, next_boundary, follow_by, fresh}
-use Rattle.rbbi_model.specs.Runs.{look_ends, farthest_look}
+use Rattle.rbbi_model.specs.Runs.{farthest_look}
 use Rattle.rbbi_model.specs.Costs.{characters_read, searches_cost}
 use Rattle.rbbi_model.proofs.Found.{found_lies}
 use Rattle.rbbi_model.proofs.Covering.{follow_rise}
@@ -45,7 +45,7 @@ reached_step_from table x p done here (suc most) whole enough short =
 pub reached_step : (table : Table) (x : List ℕ) (p : ℕ) (done : List Boundary) (here : Boundary) → Reached table x p done here → here.at < length x → Reached table x p (done ++ here ∷ []) (next_boundary table x here.at)
 reached_step table x p done here reached short = reached_step_from table x p done here reached.most reached.whole reached.enough short
 
-none_follows : (next : ℕ → Boundary) (n most : ℕ) (here : Boundary) → n ≤ here.at → follow_by next n most here ≡ []
+pub none_follows : (next : ℕ → Boundary) (n most : ℕ) (here : Boundary) → n ≤ here.at → follow_by next n most here ≡ []
 none_follows next n zero here end = refl
 none_follows next n (suc most) here end = cond-false (ltb here.at n) (next here.at ∷ follow_by next n most (next here.at)) [] (le-ltb here.at n end)
 

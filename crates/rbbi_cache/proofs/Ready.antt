@@ -1,28 +1,29 @@
 -- What a scan leaves is ready to be kept.
-use Rattle.std.proofs.Common.{◌≡◌, ◌≢◌, ℕ, zero, suc, ◌+◌, ◌-◌, ◌<◌, ◌≤◌, ◌⊎◌, Bool, true, false, eqb, Option, Some, None, List, [], ◌∷◌, ◌++◌, length, length-append, length-drop, drop, map, sym, refl, ap, ◌∙◌, subst, inl, inr, ⊎_elim, append_assoc, arith}
+use Rattle.std.proofs.Common.{◌≡◌, ◌≢◌, ℕ, ◌+◌, ◌<◌, ◌≤◌, ◌⊎◌, false, eqb, Option, Some, None, List, [], ◌∷◌, ◌++◌, length, length-append, length-drop, map, sym, refl, ap, ◌∙◌, subst, inl, inr, ⊎_elim, append_assoc, arith}
 use Rattle.std.specs.Prelude.{IsTrue, unwrap_or, sum_by}
 use Rattle.std.specs.List.{AllByRecursion}
-use Rattle.std.proofs.lemmas.Bool.{cond-true, cond-false, cases_eq, cases_lt, eq-eqb, ne_eqb}
+use Rattle.std.proofs.lemmas.Bool.{cond-true, cond-false, cases_eq, eq-eqb, ne_eqb}
 use Rattle.std.proofs.lemmas.List.Sums.{sum_by-append}
 use Rattle.rbbi_model.specs.Places.{greatest_below}
 use Rattle.rbbi_model.specs.Boundaries.{Boundary}
 use Rattle.rbbi_model.specs.Lists.{IsRising}
 use Rattle.rbbi_model.specs.Tables.{Table}
 use Rattle.rbbi_model.specs.ValidTables.{IsValidTable}
-use Rattle.rbbi_model.specs.Runs.{Entry, Run, IsAnchor, is_anchor, low, boundary_of, IsTrueRun, ShowsAfter}
+use Rattle.rbbi_model.specs.Runs.{Entry, Run, IsAnchor, is_anchor, low, boundary_of, IsTrueRun}
 use Rattle.rbbi_model.specs.Costs.{anchor_below, characters_read, searches_cost}
 use Rattle.rbbi_model.proofs.Found.{greatest_lies}
 use Rattle.rbbi_model.proofs.Anchors.{anchors_stored}
 use Rattle.rbbi_cache.specs.Kept.{HasLeastReaches, EndFormerRun, IsExtendedBy}
 use Rattle.rbbi_cache.specs.Lists.{GoesOnFrom}
 use Rattle.rbbi_cache.specs.Shown.{IsShownAfter}
-use Rattle.rbbi_cache.specs.Scans.{Reached, Scan, IsScan, HasBegun, HasGoneOn, GoesOn}
-use Rattle.rbbi_cache.specs.Ready.{IsReady, IsAmong, GoesOnAs}
-use Rattle.rbbi_cache.proofs.Lists.{all_join, all_left, all_right, all_through}
+use Rattle.rbbi_cache.specs.Scans.{Scan, IsScan, HasGoneOn}
+use Rattle.rbbi_cache.specs.Ready.{IsReady, IsAmong}
+use Rattle.rbbi_cache.proofs.Lists.{all_join}
 use Rattle.rbbi_cache.proofs.Reached.{cost_is}
 use Rattle.rbbi_cache.proofs.RightPart.{entries_rise}
+use Rattle.rbbi_cache.proofs.RunFacts as facts
 use Rattle.rbbi_cache.proofs.Scanning.{nonempty}
-use Rattle.rbbi_cache.proofs.Scanned.{scan_from_anchor, scan_from_entry, scan_true, scan_shows, scan_least, run_ends, front_up_to}
+use Rattle.rbbi_cache.proofs.Scanned.{scan_true, scan_shows, scan_least, run_ends, front_up_to}
 use Rattle.rbbi_cache.proofs.Extending.{extended_true, extended_least, extends}
 
 -- what lies below a place and is an anchor
@@ -46,6 +47,14 @@ anchor_is table valid x i = of (greatest_below (is_anchor table x) i) refl
     of (Some q) is =
         let lies = greatest_lies (is_anchor table x) i q is in
         record { anchor = (anchors_stored table valid x q).0 lies.1; below = inr lies.0; low_is = low_below i q (inr lies.0) }
+
+-- the anchor of a true run from whose last entry it goes on
+pub anchored_below : (table : Table) → IsValidTable table → (x : List ℕ) (i : ℕ) (former : Run) → IsTrueRun table x former → (from : Entry) → GoesOnFrom i from former → IsAnchorBelow table x i former.anchor
+anchored_below table valid x i former is_true from goes =
+    let up_to = goes.up_to in
+    let below : (former.anchor ≡ 0) ⊎ (former.anchor < i) =
+    ⊎_elim (λ zero. inl zero) (λ past. inr (omega arith)) (facts.place table valid x former is_true goes.front from [] goes.whole) in
+    record { anchor = is_true.anchor; below = below; low_is = low_below i former.anchor below }
 
 module _ (table : Table) (valid : IsValidTable table) (x : List ℕ) (i : ℕ) where
   -- what a scan read is a part of the cost of all searches up to i
@@ -94,7 +103,7 @@ module _ (table : Table) (valid : IsValidTable table) (x : List ℕ) (i : ℕ) w
       nearest front whole (inr two) = inl (λ none. omega (arith, ap length whole, length-append front (gone.scan.here ∷ []), ap length none))
 
   -- A run that goes on from the last entry of a kept one.
-  module _ (former : Run) (is_true : IsTrueRun table x former) (from : Entry) (goes : GoesOnFrom (anchor_below table x i) i from former)
+  module _ (former : Run) (is_true : IsTrueRun table x former) (from : Entry) (goes : GoesOnFrom i from former)
       (start : Scan) (known_start : start.known ≡ from ∷ []) (here : Entry) (run : Run) (before now : ℕ) (gone : HasGoneOn table x former.anchor i start here run before now) (past : i < here.at) where
     known : gone.scan.known ≡ from ∷ []
     known = gone.known ∙ known_start
@@ -103,7 +112,7 @@ module _ (table : Table) (valid : IsValidTable table) (x : List ℕ) (i : ℕ) w
     past_here = omega (arith, ap (λ e. e.at) gone.here_is)
 
     anchored : IsAnchorBelow table x i former.anchor
-    anchored = subst (IsAnchorBelow table x i) (sym goes.same) (anchor_is table valid x i)
+    anchored = anchored_below table valid x i former is_true from goes
 
     -- the scan found an entry past the one from which it went on
     found_ends : (front : List Entry) × (gone.scan.found ≡ front ++ gone.scan.here ∷ [])

@@ -1,26 +1,23 @@
 -- The entries of a true run behind a safe pair are a true run of that pair.
-use Rattle.std.proofs.Common.{◌≡◌, ℕ, ◌+◌, ◌<◌, ◌≤◌, ◌⊎◌, Bool, true, false, eqb, leb, ltb, List, [], ◌∷◌, ◌++◌, length, length-append, map, filter, sym, refl, ap, ◌∙◌, subst, inl, inr, ⊎_elim, append_assoc, arith}
+use Rattle.std.proofs.Common.{◌≡◌, ℕ, ◌+◌, ◌<◌, ◌≤◌, ◌⊎◌, true, false, eqb, leb, ltb, List, [], ◌∷◌, ◌++◌, length, length-append, map, filter, sym, refl, ap, ◌∙◌, subst, inr, ⊎_elim, append_assoc, arith}
 use Rattle.std.specs.Prelude.{IsTrue}
 use Rattle.std.specs.List.{AllByRecursion}
 use Rattle.std.proofs.lemmas.Bool.{cases_Bool, cases_lt, cases_eq, cond-true, cond-false, le-leb, lt-leb, leb-true, leb-false, ltb-true, ne_eqb, eq-eqb}
-use Rattle.std.proofs.lemmas.List.{map-append}
 use Rattle.std.proofs.lemmas.List.Elements.{filter-append}
 use Rattle.rbbi_model.specs.Lists.{IsRising}
-use Rattle.rbbi_model.specs.Places.{largest}
 use Rattle.rbbi_model.specs.Boundaries.{Boundary}
 use Rattle.rbbi_model.specs.Cover.{places}
 use Rattle.rbbi_model.specs.Tables.{Table}
 use Rattle.rbbi_model.specs.SafePairs.{IsSafePair}
 use Rattle.rbbi_model.specs.ValidTables.{IsValidTable}
 use Rattle.rbbi_model.specs.Searches.{look_end, next_boundary, follow_by, fresh, table_boundaries}
-use Rattle.rbbi_model.specs.Runs.{Entry, Run, category_at, IsAnchor, low, boundary_of, farthest_look, look_ends, ReachesRise, from_place, IsTrueRun}
+use Rattle.rbbi_model.specs.Runs.{Entry, Run, category_at, low, boundary_of, farthest_look, look_ends, ReachesRise, from_place, IsTrueRun}
 use Rattle.rbbi_model.proofs.Rising.{rising_tail}
 use Rattle.rbbi_model.proofs.Found.{found_lies}
 use Rattle.rbbi_model.proofs.Covering.{follow_rise}
 use Rattle.rbbi_model.proofs.FreshTrue.{fresh_true}
 use Rattle.rbbi_model.proofs.SafeSearch.{look_agrees}
-use Rattle.rbbi_cache.proofs.Lists.{all_join, all_left, all_right, all_through, all_map, all_unmap, all_filter, all_by_test, everywhere, filter_all, filter_none, filter_twice}
-use Rattle.rbbi_cache.specs.Scans.{Reached}
+use Rattle.rbbi_cache.proofs.Lists.{all_join, all_right, all_through, all_map, all_unmap, all_filter, all_by_test, filter_all, filter_twice}
 use Rattle.rbbi_cache.proofs.Reached.{first_member, rest_after, rises_after, rising_right}
 use Rattle.rbbi_cache.proofs.Paths.{Path, Here, Then}
 use Rattle.rbbi_cache.proofs.RunFacts.{all_by_splits}

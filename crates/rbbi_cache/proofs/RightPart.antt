@@ -2,7 +2,7 @@
 use Rattle.std.proofs.Common.{◌≡◌, ℕ, ◌+◌, ◌-◌, ◌<◌, ◌≤◌, ◌⊎◌, ◌↔◌, Bool, true, false, cond, not, ◌&&◌, ◌||◌, eqb, leb, ltb, get_or, List, [], ◌∷◌, ◌++◌, length, length-append, map, filter, sym, refl, ap, ◌∙◌, subst, inl, inr, ⊎_elim, append_assoc, arith}
 use Rattle.std.specs.Prelude.{IsTrue}
 use Rattle.std.specs.List.{AllByRecursion}
-use Rattle.std.proofs.lemmas.Bool.{cases_Bool, cases_lt, cases_eq, cond-true, cond-false, le-leb, lt-leb, leb-true, lt-ltb, le-ltb, eqb-true, eqb-false, eq-eqb, ne_eqb, and_parts, and_from, and_cases, false≢true, leb-false, or_left}
+use Rattle.std.proofs.lemmas.Bool.{cases_Bool, cases_lt, cases_eq, cond-true, cond-false, le-leb, lt-leb, leb-true, lt-ltb, le-ltb, eq-eqb, ne_eqb, and_parts, and_from, and_cases, false≢true, leb-false, or_left}
 use Rattle.std.proofs.lemmas.List.{map-append, length-map}
 use Rattle.std.proofs.lemmas.List.Elements.{filter-append}
 use Rattle.rbbi_model.specs.Lists.{IsRising}
@@ -11,12 +11,12 @@ use Rattle.rbbi_model.specs.Cover.{places}
 use Rattle.rbbi_model.specs.Tables.{Table}
 use Rattle.rbbi_model.specs.SafePairs.{IsSafePair, is_safe}
 use Rattle.rbbi_model.specs.ValidTables.{IsValidTable}
-use Rattle.rbbi_model.specs.Searches.{next_boundary, follow_by, fresh}
-use Rattle.rbbi_model.specs.Runs.{Entry, Run, category_at, IsAnchor, low, boundary_of, farthest_look, ReachesRise, LeadsTruly, IsTrueRun}
+use Rattle.rbbi_model.specs.Searches.{fresh}
+use Rattle.rbbi_model.specs.Runs.{Entry, Run, category_at, low, boundary_of, farthest_look, ReachesRise, LeadsTruly, IsTrueRun}
 use Rattle.rbbi_model.proofs.Categories.{category_within}
-use Rattle.rbbi_cache.specs.Edits.{IsEdited, begins_pair, IsFirstPair, moved_entry, moved_run, run_behind, goes_whole, IsRightPart, Whole, Behind, Nothing}
-use Rattle.rbbi_cache.proofs.Lists.{all_join, all_left, all_right, all_through, filter_all, filter_none, everywhere}
-use Rattle.rbbi_cache.proofs.Reached.{done_before, rises_after, rising_right, rest_after}
+use Rattle.rbbi_cache.specs.Edits.{IsEdited, begins_pair, moved_entry, moved_run, run_behind, goes_whole, IsRightPart, Whole, Behind, Nothing}
+use Rattle.rbbi_cache.proofs.Lists.{all_join, all_left, all_right, all_through, filter_all, filter_none, filter_same, everywhere}
+use Rattle.rbbi_cache.proofs.Reached.{done_before, rises_after, rising_right}
 use Rattle.rbbi_cache.proofs.RunFacts as facts
 use Rattle.rbbi_cache.proofs.LeftPart.{are_first}
 use Rattle.rbbi_cache.proofs.Texts.{length_is}
@@ -264,11 +264,6 @@ module _ (table : Table) (valid : IsValidTable table) (x y : List ℕ) (at remov
 
   low_zero : (a : ℕ) → a ≡ 0 → low a ≡ 1
   low_zero a zero = cond-true (eqb a 0) 1 (a + 2) (eq-eqb a 0 zero)
-
-  filter_same : (f g : Entry → Bool) (entries : List Entry) → ((e : Entry) → f e ≡ g e) → filter f entries ≡ filter g entries
-  filter_same f g [] same = refl
-  filter_same f g (e ∷ entries) same =
-      ap (λ b. cond b (e ∷ filter f entries) (filter f entries)) (same e) ∙ ap (λ l. cond (g e) (e ∷ l) l) (filter_same f g entries same)
 
   module _ (behind : at + removed ≤ run.anchor) (room : run.anchor + 2 ≤ length x) (safe : IsSafePair table (category_at table x run.anchor) (category_at table x (run.anchor + 1))) where
     -- a run of another anchor than 0

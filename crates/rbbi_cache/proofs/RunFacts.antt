@@ -6,11 +6,11 @@ use Rattle.rbbi_model.specs.Places.{largest}
 use Rattle.rbbi_model.specs.Boundaries.{Boundary}
 use Rattle.rbbi_model.specs.Tables.{Table}
 use Rattle.rbbi_model.specs.ValidTables.{IsValidTable}
-use Rattle.rbbi_model.specs.Searches.{found, look_end, next_boundary, fresh}
+use Rattle.rbbi_model.specs.Searches.{look_end, next_boundary, fresh}
 use Rattle.rbbi_model.specs.Runs.{Entry, Run, boundary_of, farthest_look, IsTrueRun}
 use Rattle.rbbi_model.proofs.Found.{found_lies}
 use Rattle.rbbi_model.proofs.FoundCases.{found_up_to}
-use Rattle.rbbi_cache.proofs.Lists.{all_left, all_right, all_through, all_unmap}
+use Rattle.rbbi_cache.proofs.Lists.{all_right, all_through, all_unmap}
 use Rattle.rbbi_cache.specs.Scans.{Reached}
 use Rattle.rbbi_cache.proofs.Reached.{first_member, farthest_is}
 use Rattle.rbbi_cache.proofs.Paths.{Path, Here, Then, path_to, reached_of}

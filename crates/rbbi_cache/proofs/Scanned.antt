@@ -1,25 +1,24 @@
 -- How a scan begins, and what the run that it leaves is.
-use Rattle.std.proofs.Common.{◌≡◌, ◌≢◌, ℕ, zero, suc, ◌+◌, ◌-◌, ◌<◌, ◌≤◌, max, ◌⊎◌, ◌↔◌, Bool, true, false, cond, eqb, ltb, List, [], ◌∷◌, ◌++◌, length, length-append, length-drop, take, drop, map, filter, get_or, sym, refl, ap, ◌∙◌, subst, inl, inr, ⊎_elim, append_assoc, arith}
+use Rattle.std.proofs.Common.{◌≡◌, ◌≢◌, ℕ, ◌+◌, ◌<◌, ◌≤◌, ◌⊎◌, Bool, true, eqb, List, [], ◌∷◌, ◌++◌, length, length-append, length-drop, take, drop, map, sym, refl, ap, ◌∙◌, subst, inl, inr, ⊎_elim, append_assoc, arith}
 use Rattle.std.specs.Prelude.{IsTrue, slice_index_or}
 use Rattle.std.specs.List.{AllByRecursion}
 use Rattle.std.proofs.lemmas.Bool.{cond-true, cond-false, cases_eq, eq-eqb, ne_eqb}
-use Rattle.std.proofs.lemmas.List.{map-append, append-nil, drop-append-le, append_cancel_right, take-append-drop}
+use Rattle.std.proofs.lemmas.List.{map-append, drop-append-le, append_cancel_right, take-append-drop}
 use Rattle.rbbi_model.specs.Boundaries.{Boundary}
-use Rattle.rbbi_model.specs.Tables.{Table, statuses_of}
+use Rattle.rbbi_model.specs.Tables.{Table}
 use Rattle.rbbi_model.specs.ValidTables.{IsValidTable, BeginsWithZeroAlone}
 use Rattle.rbbi_model.specs.Searches.{next_boundary, follow_by, fresh}
-use Rattle.rbbi_model.specs.Runs.{Entry, Run, IsAnchor, low, boundary_of, farthest_look, ReachesRise, LeadsTruly, IsTrueRun, EndsUpTo, ShowsAfter}
-use Rattle.rbbi_cache.specs.Kept.{HaveLeastReaches, last_reach, HasLeastReaches, EndFormerRun, IsExtendedBy}
+use Rattle.rbbi_model.specs.Runs.{Entry, Run, IsAnchor, low, boundary_of, farthest_look, ReachesRise, LeadsTruly, IsTrueRun, EndsUpTo}
+use Rattle.rbbi_cache.specs.Kept.{HasLeastReaches, EndFormerRun}
 use Rattle.rbbi_cache.specs.Shown.{IsShownAfter}
-use Rattle.rbbi_cache.specs.Scans.{Reached, Scan, EndWith, IsScan}
-use Rattle.rbbi_cache.proofs.Lists.{all_join, all_left, all_right, all_through, all_unmap}
-use Rattle.rbbi_cache.proofs.Reached.{first_member, reached_start, farthest_start, done_before, done_is, rest_after, rises_after, rising_right}
+use Rattle.rbbi_cache.specs.Scans.{Reached, Scan, IsScan}
+use Rattle.rbbi_cache.proofs.Lists.{all_join, all_right, all_through, all_unmap}
+use Rattle.rbbi_cache.proofs.Reached.{first_member, reached_start, farthest_start, done_before, rises_after, rising_right}
 use Rattle.rbbi_cache.proofs.RunFacts as facts
-use Rattle.rbbi_cache.proofs.LeftPart.{has_last}
 use Rattle.rbbi_model.specs.Lists.{IsRising}
 use Rattle.rbbi_model.specs.Cover.{places}
 use Rattle.rbbi_cache.proofs.Reanchor.{fresh_rises}
-use Rattle.rbbi_cache.proofs.Scanning.{nonempty, last_is}
+use Rattle.rbbi_cache.proofs.Scanning.{nonempty}
 
 pub zero_alone : (lists : List (List ℕ)) → BeginsWithZeroAlone lists → slice_index_or lists 0 [] ≡ 0 ∷ []
 zero_alone [] begins = absurd begins

@@ -1,9 +1,9 @@
 -- Each search of a scan adds what it should.
-use Rattle.std.proofs.Common.{◌≡◌, ℕ, zero, suc, ◌+◌, ◌-◌, ◌<◌, ◌≤◌, max, ◌⊎◌, ◌↔◌, Bool, true, false, cond, eqb, List, [], ◌∷◌, ◌++◌, length, length-append, length-drop, take, drop, map, sym, refl, ap, ◌∙◌, subst, inl, inr, ⊎_elim, append_assoc, arith}
+use Rattle.std.proofs.Common.{◌≡◌, ℕ, ◌+◌, ◌-◌, ◌<◌, ◌≤◌, max, ◌⊎◌, ◌↔◌, false, eqb, List, [], ◌∷◌, ◌++◌, length, length-append, length-drop, drop, map, sym, refl, ap, ◌∙◌, subst, inl, inr, ⊎_elim, append_assoc, arith}
 use Rattle.std.specs.Prelude.{IsTrue}
 use Rattle.std.specs.List.{AllByRecursion}
 use Rattle.std.proofs.lemmas.Bool.{cond-true, cond-false, cases_eq, eq-eqb, ne_eqb}
-use Rattle.std.proofs.lemmas.List.{map-append, append-nil, drop-drop, drop-append-le, append_cancel_right}
+use Rattle.std.proofs.lemmas.List.{map-append, append-nil, drop-drop, drop-append-le}
 use Rattle.rbbi_model.specs.Boundaries.{Boundary}
 use Rattle.rbbi_model.specs.Tables.{Table, statuses_of}
 use Rattle.rbbi_model.specs.Searches.{found, look_end, next_boundary}
@@ -11,7 +11,7 @@ use Rattle.rbbi_model.specs.Runs.{Entry, Run, low, boundary_of, farthest_look, R
 use Rattle.rbbi_model.proofs.Found.{found_lies, look_lies}
 use Rattle.rbbi_cache.specs.Kept.{HaveLeastReaches, last_reach}
 use Rattle.rbbi_cache.specs.Pushed.{pushed}
-use Rattle.rbbi_cache.specs.Scans.{Reached, Scan, EndWith, IsScan, IsNextEntry}
+use Rattle.rbbi_cache.specs.Scans.{Reached, Scan, IsScan, IsNextEntry}
 use Rattle.rbbi_cache.proofs.Lists.{all_join, all_right}
 use Rattle.rbbi_cache.proofs.Reached.{reached_step, farthest_step}
 

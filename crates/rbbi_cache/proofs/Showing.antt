@@ -1,14 +1,14 @@
 -- When a run shows an entry, and when none.
-use Rattle.std.proofs.Common.{◌≡◌, ℕ, zero, suc, ◌+◌, ◌-◌, ◌<◌, ◌≤◌, ◌⊎◌, Bool, List, [], ◌∷◌, ◌++◌, length, length-append, length-take, length-drop, take, drop, map, get_or, sym, refl, ap, ◌∙◌, subst, inl, inr, ⊎_elim, append_assoc, arith, add-one}
+use Rattle.std.proofs.Common.{◌≡◌, ℕ, zero, suc, ◌+◌, ◌-◌, ◌<◌, ◌≤◌, ◌⊎◌, List, [], ◌∷◌, ◌++◌, length, length-take, length-drop, take, drop, map, get_or, sym, refl, ap, ◌∙◌, subst, inl, inr, ⊎_elim, append_assoc, arith, add-one}
 use Rattle.std.specs.Prelude.{IsTrue}
 use Rattle.std.specs.List.{AllByRecursion}
-use Rattle.std.proofs.lemmas.Bool.{cases_lt, cases_eq}
-use Rattle.std.proofs.lemmas.List.{take-append-drop, append-nil, take_more}
+use Rattle.std.proofs.lemmas.Bool.{cases_eq}
+use Rattle.std.proofs.lemmas.List.{take-append-drop, take_more}
 use Rattle.std.proofs.Math.Seq.{drop-cons}
 use Rattle.rbbi_model.specs.Lists.{IsRising}
 use Rattle.rbbi_model.specs.Runs.{Entry, Run, low, EndsUpTo, StartsFrom, ShowsAfter, ShowsBefore}
 use Rattle.rbbi_cache.specs.Shown.{AreUpTo, IsShownAfter, IsShownBefore}
-use Rattle.rbbi_cache.proofs.Lists.{all_left, all_right, all_join, all_through}
+use Rattle.rbbi_cache.proofs.Lists.{all_left, all_right, all_through}
 
 -- the list parted at an element
 pub parted_at : (entries : List Entry) (k : ℕ) (d : Entry) → k < length entries → entries ≡ take k entries ++ get_or entries k d ∷ drop (k + 1) entries

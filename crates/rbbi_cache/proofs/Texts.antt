@@ -1,12 +1,11 @@
 -- What an edit leaves of the text, and the searches that it doesn't touch.
-use Rattle.std.proofs.Common.{◌≡◌, ℕ, ◌+◌, ◌-◌, ◌<◌, ◌≤◌, List, length, take, drop, ◌++◌, sym, refl, ap, ◌∙◌, subst, inl, inr, ⊎_elim, append_assoc, arith, length-append, length-take, length-drop}
+use Rattle.std.proofs.Common.{◌≡◌, ℕ, ◌+◌, ◌-◌, ◌<◌, ◌≤◌, List, length, take, drop, ◌++◌, sym, ap, ◌∙◌, inl, inr, ⊎_elim, append_assoc, arith, length-append, length-take, length-drop}
 use Rattle.std.specs.Prelude.{slice_range}
 use Rattle.std.proofs.lemmas.Bool.{cases_Bool, cond-true, cond-false}
-use Rattle.std.proofs.lemmas.List.{take-take, drop-take, drop-drop, take-append-le}
+use Rattle.std.proofs.lemmas.List.{take-take, drop-take, drop-drop}
 use Rattle.std.proofs.Math.Seq.{take-append_seam, drop-append_seam}
 use Rattle.rbbi_model.specs.Tables.{Table, stops}
 use Rattle.rbbi_model.specs.Searches.{row_at, search_end, look_end}
-use Rattle.rbbi_model.specs.Scripts.{splice}
 use Rattle.rbbi_model.specs.ReadAlike.{ReadsAlike}
 use Rattle.rbbi_model.proofs.Found.{end_lies, look_lies}
 use Rattle.rbbi_cache.specs.Edits.{IsEdited}

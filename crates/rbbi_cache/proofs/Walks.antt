@@ -1,12 +1,13 @@
 -- Walks over places in search of a safe pair.
-use Rattle.std.proofs.Common.{◌≡◌, ℕ, zero, suc, ◌+◌, ◌-◌, ◌<◌, ◌≤◌, ◌⊎◌, Bool, true, false, ◌&&◌, ◌||◌, eqb, leb, List, Option, Some, None, length, get_or, sym, refl, ap, ◌∙◌, ⊎_elim, arith}
+use Rattle.std.proofs.Common.{◌≡◌, ℕ, zero, suc, ◌+◌, ◌-◌, ◌<◌, ◌≤◌, max, ◌⊎◌, Bool, true, false, ◌&&◌, ◌||◌, eqb, leb, List, Option, Some, None, length, get_or, sym, refl, ap, ◌∙◌, ⊎_elim, arith}
 use Rattle.std.specs.Prelude.{unwrap_or}
-use Rattle.std.proofs.lemmas.Bool.{cases_eq, cond-true, cond-false, eq-eqb, ne_eqb, le-leb, lt-leb, or_left, or_right, and_from, cases_lt}
+use Rattle.std.proofs.lemmas.Bool.{cases_eq, cond-true, cond-false, ne_eqb, le-leb, lt-leb, or_right, and_from, cases_lt, false≢true}
 use Rattle.rbbi_model.specs.Places.{greatest_below}
 use Rattle.rbbi_model.specs.Tables.{Table, category_of}
 use Rattle.rbbi_model.specs.SafePairs.{is_safe}
 use Rattle.rbbi_model.specs.Runs.{category_at, is_anchor}
 use Rattle.rbbi_model.specs.Costs.{anchor_below}
+use Rattle.rbbi_model.proofs.Found.{greatest_lies}
 use Rattle.rbbi_cache.specs.Edits.{begins_pair, IsFirstPair, HasNoPair, pair_places}
 
 -- the greatest place below another at which a test holds is the one with none between
@@ -64,18 +65,15 @@ module _ (table : Table) (x : List ℕ) (high : ℕ) (short : high < length x) w
         (and_from (leb (place + 2) (length x)) (is_safe table (category_at table x place) (category_at table x (place + 1))) (le-leb (place + 2) (length x) (omega arith)) (sym pair_is ∙ holds)) in
         ap (λ o. unwrap_or o 0) (greatest_is (is_anchor table x) high place walk.below yes walk.none)
 
-  -- at 0 there is an anchor
-  pub walk_at_start : (next : ℕ) → WalksBack table x high 0 next → anchor_below table x high ≡ 0
-  walk_at_start next walk =
-      ap (λ o. unwrap_or o 0) (greatest_is (is_anchor table x) high 0 walk.below (or_left (eqb 0 0) (leb (0 + 2) (length x) && is_safe table (category_at table x 0) (category_at table x (0 + 1))) (eq-eqb 0 0 refl)) walk.none)
-
-  pub walk_short : high < 2 → anchor_below table x high ≡ 0
-  walk_short few =
-      ⊎_elim
-      (λ zero. ap (anchor_below table x) zero)
-      (λ other.
-      ap (λ o. unwrap_or o 0) (greatest_is (is_anchor table x) high 0 (omega arith) (or_left (eqb 0 0) (leb (0 + 2) (length x) && is_safe table (category_at table x 0) (category_at table x (0 + 1))) (eq-eqb 0 0 refl)) (λ q past less. absurd (omega arith))))
-      (cases_eq high 0)
+  -- where no anchor lies past a place, the greatest isn't past it
+  pub none_past : (low : ℕ) → ((p : ℕ) → low < p → p < high → is_anchor table x p ≡ false) → max low (anchor_below table x high) ≡ low
+  none_past low none = of (greatest_below (is_anchor table x) high) refl
+    where
+      of : (place : Option ℕ) → greatest_below (is_anchor table x) high ≡ place → max low (unwrap_or place 0) ≡ low
+      of None is = omega arith
+      of (Some q) is =
+          let lies = greatest_lies (is_anchor table x) high q is in
+          ⊎_elim (λ past. absurd (false≢true (sym (none q past lies.0) ∙ lies.1))) (λ less. omega arith) (cases_lt low q)
 
 -- a walk on has come to a place, with the category of its character, and passed no safe pair
 pub record WalksOn (table : Table) (x : List ℕ) (low place here : ℕ) : Type 0 where

@@ -1,11 +1,12 @@
 -- What the calls of a cache leave of the runs that it keeps.
-use Rattle.std.specs.Prelude.{◌≡◌, ℕ, ◌+◌, ◌<◌, ◌≤◌, max, ◌⊎◌, List, [], ◌∷◌, ◌++◌, map, length, drop, Some, IsTrue}
+use Rattle.std.specs.Prelude.{◌≡◌, ℕ, ◌+◌, ◌<◌, max, ◌⊎◌, List, [], ◌∷◌, ◌++◌, length, drop, Some, IsTrue}
 use Rattle.std.specs.List.{AllByRecursion}
 use Rattle.rbbi_model.specs.Tables.{Table}
 use Rattle.rbbi_model.specs.Boundaries.{Boundary}
 use Rattle.rbbi_model.specs.Searches.{fresh, table_boundaries}
 use Rattle.rbbi_model.specs.Answers.{first_after, last_before}
 use Rattle.rbbi_model.specs.Runs.{Entry, Run, boundary_of, AreConsecutive, farthest_look, IsTrueRun}
+use Rattle.rbbi_cache.specs.Shown.{IsShownBefore}
 
 -- what a cache keeps: its runs, the most recently used first, and for how many look-ahead rules it is made
 pub record KeptRuns : Type 0 where
@@ -77,6 +78,12 @@ pub record Keeps (table : Table) (x : List ℕ) (Shows : Run → Type 0) (former
   pub shows : Shows first
   pub reaches : HasLeastReaches table x former first
   pub left : AreLeft first former rest
+
+-- What is kept after the last boundary before a place was answered: as after each answer, but that the runs may stay as they were
+-- where it is 0.
+abbrev pub KeepsBack : Table → List ℕ → ℕ → Entry → List Run → List Run → Type 0
+KeepsBack table x i entry former now =
+    Keeps table x (λ run. IsShownBefore x run i entry) former now ⊎ ((entry.at ≡ 0) × (now ≡ former))
 
 -- the entry is one of the boundaries, with its statuses
 pub record IsBoundaryOf (table : Table) (x : List ℕ) (entry : Entry) : Type 0 where

@@ -19,9 +19,8 @@ pub record HasAt (runs : List Run) (k : ℕ) (IsSuch : Run → Type 0) : Type 0 
   pub number : length before ≡ k
   pub such : IsSuch run
 
--- the run has this anchor, and its last entry is this one and isn't past i
-pub record GoesOnFrom (anchor i : ℕ) (from : Entry) (run : Run) : Type 0 where
-  pub same : run.anchor ≡ anchor
+-- the run's last entry is this one and isn't past i
+pub record GoesOnFrom (i : ℕ) (from : Entry) (run : Run) : Type 0 where
   pub front : List Entry
   pub whole : run.entries ≡ front ++ from ∷ []
   pub up_to : from.at ≤ i

@@ -1,5 +1,5 @@
 -- A run with one more entry.
-use Rattle.std.specs.Prelude.{ℕ, ◌+◌, false, List, [], ◌∷◌, ◌++◌, length, drop, if◌then◌else◌, ◌==◌}
+use Rattle.std.specs.Prelude.{false, [], ◌∷◌, ◌++◌, length, drop, if◌then◌else◌, ◌==◌}
 use Rattle.rbbi_model.specs.Runs.{Entry, Run}
 
 -- The run with one more entry at its end. A full run keeps the last 128, and no longer leads.

@@ -1,9 +1,11 @@
 -- Runs that are ready to be kept first.
-use Rattle.std.specs.Prelude.{◌≡◌, ℕ, ◌≤◌, ◌⊎◌, ◌+◌, Bool, true, false, List, [], ◌∷◌, ◌++◌}
+use Rattle.std.specs.Prelude.{◌≡◌, ℕ, ◌≤◌, Bool, true, false, List, ◌∷◌, ◌++◌}
 use Rattle.rbbi_model.specs.Tables.{Table}
-use Rattle.rbbi_model.specs.Runs.{Entry, Run, IsTrueRun}
-use Rattle.rbbi_cache.specs.Kept.{HasLeastReaches, IsExtendedBy}
-use Rattle.rbbi_cache.specs.Shown.{IsShownAfter}
+use Rattle.std.specs.List.{AllByRecursion}
+use Rattle.rbbi_model.specs.Searches.{fresh}
+use Rattle.rbbi_model.specs.Runs.{Entry, Run, low, IsTrueRun}
+use Rattle.rbbi_cache.specs.Kept.{HasLeastReaches, IsExtendedBy, Keeps, AreTrueRuns}
+use Rattle.rbbi_cache.specs.Shown.{IsShownAfter, IsShownBefore}
 
 -- The run is true, shows the entry to be the first boundary past i, and its new entries have the least reaches.
 pub record IsReady (table : Table) (x : List ℕ) (i : ℕ) (former : List Run) (entry : Entry) (run : Run) : Type 0 where
@@ -23,3 +25,23 @@ GoesOnAs table x i former entry true run spare =
     IsExtendedBy former run × ((kept : List Run) → IsAmong kept former → IsReady table x i kept entry run)
 GoesOnAs table x i former entry false run spare =
     (run ≡ former) × ((kept : List Run) → IsAmong kept former → IsReady table x i kept entry spare)
+
+-- What is kept is true, and its first run shows the answer.
+abbrev pub KeepsTrue : Table → List ℕ → (Run → Type 0) → List Run → List Run → Type 0
+KeepsTrue table x Shows former now = Keeps table x Shows former now × AreTrueRuns table x now
+
+-- The run is true, shows the entry to be the last boundary before i, and its new entries have the least reaches.
+pub record IsReadyBack (table : Table) (x : List ℕ) (i : ℕ) (former : List Run) (entry : Entry) (run : Run) : Type 0 where
+  pub is_true : IsTrueRun table x run
+  pub shows : IsShownBefore x run i entry
+  pub reaches : HasLeastReaches table x former run
+
+-- The run between the others has gone on, or is as before and another one is ready.
+pub record GoesOnAt (table : Table) (x : List ℕ) (i : ℕ) (before : List Run) (former : Run) (after : List Run) (entry : Entry) (is_kept : Bool) (now : List Run) (spare : Run) : Type 0 where
+  pub run : Run
+  pub whole : now ≡ before ++ run ∷ after
+  pub gone_on : GoesOnAs table x i former entry is_kept run spare
+
+-- From the anchor nothing is found between its low place and i.
+abbrev pub HasNoneBefore : Table → List ℕ → ℕ → ℕ → Type 0
+HasNoneBefore table x p i = AllByRecursion (λ member. low p ≤ member.at → i ≤ member.at) (fresh table x p)

@@ -1,5 +1,5 @@
 //! Anchors and safe pairs of a text.
-ghost use Rattle.std.specs.Prelude.{◌≡◌, ℕ, ◌+◌, ◌-◌, ◌<◌, ◌≤◌, length, MatchOption};
+ghost use Rattle.std.specs.Prelude.{◌≡◌, ℕ, ◌+◌, ◌<◌, ◌≤◌, max, length, MatchOption};
 ghost use Rattle.rbbi_model.specs.Costs.{anchor_below};
 ghost use Rattle.rbbi_cache.specs.Edits.{IsFirstPair, HasNoPair};
 
@@ -10,27 +10,28 @@ use std::sync::ledger::Ledger;
 /// How many places behind an edit are looked at for a safe pair.
 const PAIR_PLACES: u32 = 1024;
 
-/// The greatest anchor below a place of the text, or 0 where there is none. It reads the characters
-/// from the anchor up to the place, each once.
+/// The greatest anchor below a place of the text, or the low place where none lies past it. It reads
+/// the characters from the answer up to the place, each once.
 pub(crate) fn anchor_before<T: Chars, L: Ledger>(
     table: &Table,
     text: &T,
+    low: u32,
     high: u32,
     steps: &mut Steps<L>,
 ) -> u32
-    requires { high < length (T.characters text.now) }
-    ensures anchor { result ≡ anchor_below table.now (T.characters text.now) high }
-    ensures low { result ≤ high }
+    requires within { high < length (T.characters text.now) }
+    requires order { low ≤ high }
+    ensures anchor { result ≡ max low (anchor_below table.now (T.characters text.now) high) }
     ensures more { steps.old ≤ steps.new }
     ensures read { steps.new + result ≤ steps.old + high + 1 }
-    ensures nothing { high ≤ 1 → steps.new ≡ steps.old }
+    ensures nothing { high ≤ low + 1 → steps.new ≡ steps.old }
 {
-    if high < 2 {
-        return 0;
+    if high - low < 2 {
+        return low;
     }
     let mut next = table.category(text.char_at(high, steps));
     let mut place = high - 1;
-    while place > 0 {
+    while place > low {
         let here = table.category(text.char_at(place, steps));
         if table.is_safe(here, next) {
             return place;
@@ -38,7 +39,7 @@ pub(crate) fn anchor_before<T: Chars, L: Ledger>(
         next = here;
         place -= 1;
     }
-    0
+    low
 }
 
 /// The first safe pair of the text from a place on, of which 1,024 places are looked at.

@@ -4,12 +4,20 @@
 #![tactic(auto)]
 
 mod anchors;
+mod back;
+mod cache;
+mod edited;
+#[cfg(test)]
+mod edited_tests;
 mod entry;
+mod parts;
 mod run;
+mod run_list;
 mod runs;
 mod scan;
 mod search;
 mod shown;
 
+pub use cache::Cache;
 pub use entry::Entry;
 pub use run::{MOST_ENTRIES, Run};

@@ -51,19 +51,18 @@ pub(crate) fn find_before(runs: &[Run], len: u32, i: u32) -> Option<Shown>
     None
 }
 
-/// A run of this anchor that can go on to what lies past `i`: its last entry isn't past it. Of several
-/// the one that has come farthest is taken.
-pub(crate) fn find_to_extend(runs: &[Run], anchor: u32, i: u32) -> Option<Shown>
-    ensures { MatchOption result ⊤ (λ shown. HasAt runs.now shown.run (GoesOnFrom anchor i shown.entry)) }
+/// The run that has come nearest to `i`: its last entry isn't past it. From there it can go on.
+pub(crate) fn find_nearest(runs: &[Run], i: u32) -> Option<Shown>
+    ensures { MatchOption result ⊤ (λ shown. HasAt runs.now shown.run (GoesOnFrom i shown.entry)) }
 {
     let mut best: Option<Shown> = None;
     for (k, run) in runs.iter().enumerate() {
-        if let Some(entry) = run.last_up_to(anchor, i) {
-            let is_farther = match &best {
+        if let Some(entry) = run.last_up_to(i) {
+            let is_nearer = match &best {
                 Some(other) => entry.at > other.entry.at,
                 None => true,
             };
-            if is_farther {
+            if is_nearer {
                 best = Some(Shown { run: k, entry });
             }
         }

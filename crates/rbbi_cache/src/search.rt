@@ -44,8 +44,9 @@ pub(crate) fn search<T: Chars, L: Ledger>(
     scan(table, text, run, from, i, marks, steps)
 }
 
-/// Searches on from the last entry of a true run of that anchor. What is found is added to the run,
-/// where it has room for all, and then the answer is true; otherwise it makes a run of its own.
+/// Searches on from the last entry of a true run, where no anchor lies between that and `i`. What is
+/// found is added to the run, where it has room for all, and then the answer is true; otherwise it
+/// makes a run of its own, which begins with a copy of that entry.
 pub(crate) fn go_on<T: Chars, L: Ledger>(
     table: &Table,
     text: &T,
@@ -60,7 +61,8 @@ pub(crate) fn go_on<T: Chars, L: Ledger>(
     requires within { i < length (T.characters text.now) }
     requires small { i < most_characters }
     requires is_true { model.IsTrueRun table.now (T.characters text.now) run.old }
-    requires from { GoesOnFrom (anchor_below table.now (T.characters text.now) i) i from run.old }
+    requires from { GoesOnFrom i from run.old }
+    requires near { anchor_below table.now (T.characters text.now) i ≤ from.at }
     ensures gone_on { GoesOnAs table.now (T.characters text.now) i run.old result.0 result.1 run.new spare.new }
     ensures more { steps.old ≤ steps.new }
     ensures cost { steps.new ≤ steps.old + searches_cost table.now (T.characters text.now)

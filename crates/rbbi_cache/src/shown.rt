@@ -86,13 +86,10 @@ impl Run {
         None
     }
 
-    /// Its last entry, where it has this anchor and that entry isn't past `i`.
-    pub(crate) fn last_up_to(&self, anchor: u32, i: u32) -> Option<Entry>
-        ensures { MatchOption result ⊤ (λ entry. GoesOnFrom anchor i entry self.now) }
+    /// Its last entry, where that isn't past `i`.
+    pub(crate) fn last_up_to(&self, i: u32) -> Option<Entry>
+        ensures { MatchOption result ⊤ (λ entry. GoesOnFrom i entry self.now) }
     {
-        if self.anchor() != anchor {
-            return None;
-        }
         let entries = self.entries();
         if entries.is_empty() {
             return None;

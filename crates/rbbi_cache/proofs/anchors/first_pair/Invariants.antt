@@ -1,4 +1,4 @@
-use Rattle.std.proofs.Common.{◌≡◌, ℕ, ◌+◌, ◌<◌}
+use Rattle.std.proofs.Common.{◌≡◌, ◌+◌, ◌<◌}
 use Rattle.rbbi_cache.proofs.Walks.{WalksOn}
 use Rattle.rbbi_cache.proofs.anchors.first_pair.Given as goal
 

@@ -1,5 +1,5 @@
 use Rattle.std.proofs.Common.{ℕ}
-use Rattle.rbbi_model.specs.Runs.{Run, ShowsAfter}
+use Rattle.rbbi_model.specs.Runs.{ShowsAfter}
 use Rattle.rbbi_cache.specs.Shown.{IsShownAfter}
 use Rattle.rbbi_cache.proofs.RunLists.{has_at, one_more}
 use Rattle.rbbi_cache.proofs.runs.find_after.Goals as goal

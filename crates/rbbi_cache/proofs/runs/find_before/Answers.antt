@@ -1,5 +1,5 @@
 use Rattle.std.proofs.Common.{ℕ}
-use Rattle.rbbi_model.specs.Runs.{Run, ShowsBefore}
+use Rattle.rbbi_model.specs.Runs.{ShowsBefore}
 use Rattle.rbbi_cache.specs.Shown.{IsShownBefore}
 use Rattle.rbbi_cache.proofs.RunLists.{has_at, one_more}
 use Rattle.rbbi_cache.proofs.runs.find_before.Goals as goal

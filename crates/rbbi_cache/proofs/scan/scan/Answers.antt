@@ -1,8 +1,7 @@
-use Rattle.std.proofs.Common.{◌≡◌, ℕ, ◌+◌, ◌-◌, ◌<◌, ◌≤◌, List, length, min, sym, ap, ◌∙◌, subst, arith}
+use Rattle.std.proofs.Common.{◌≡◌, ℕ, ◌+◌, ◌-◌, ◌<◌, List, length, min, sym, ap, ◌∙◌, subst, arith}
 use Rattle.rbbi_model.specs.Tables.{Table}
 use Rattle.rbbi_model.specs.Searches.{look_end}
 use Rattle.rbbi_model.specs.Runs.{Entry, low}
-use Rattle.rbbi_cache.specs.Pushed.{pushed}
 use Rattle.rbbi_cache.specs.Scans.{IsNextEntry, GoesOn}
 use Rattle.rbbi_model.proofs.Found.{found_lies}
 use Rattle.rbbi_cache.proofs.Goes.{goes_found, goes_skipped, pushed_anchor, is_next}

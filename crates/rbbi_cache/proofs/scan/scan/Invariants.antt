@@ -1,4 +1,4 @@
-use Rattle.std.proofs.Common.{◌≡◌, ℕ, ◌+◌, ◌-◌}
+use Rattle.std.proofs.Common.{◌≡◌, ◌+◌, ◌-◌}
 use Rattle.rbbi_cache.specs.Scans.{GoesOn}
 use Rattle.rbbi_cache.proofs.scan.scan.Given as goal
 

@@ -1,4 +1,4 @@
-use Rattle.std.proofs.Common.{◌≡◌, ℕ, ◌+◌, ◌≤◌, List, length, drop, sym, ap, ◌∙◌, subst, refl, arith}
+use Rattle.std.proofs.Common.{◌≡◌, List, length, drop, sym, ap, ◌∙◌, refl, arith}
 use Rattle.std.proofs.Common.{◌++◌, ◌-◌, take, length-drop}
 use Rattle.std.proofs.lemmas.List.{take_all}
 use Rattle.rbbi_model.specs.Runs.{Entry, Run}
@@ -34,10 +34,10 @@ pub returns-then-len-le-MOST_WITH_COPY-clause-more : goal.returns-then-len-le-MO
 returns-then-len-le-MOST_WITH_COPY-clause-more g c = there_more c.args.table.now c.valid.ensures (g.T.Chars.characters c.args.text.now) c.args.i c.args.run.now c.requires.is_true c.args.from c.requires.from c.push.new.self (begun_with c.push.new.self c.begin.new.self c.args.from c.anchor.result c.args.run.now.anchor c.push.ensures c.begin.ensures c.anchor.ensures) c.scan-entry.result c.scan-entry.new.run c.args.steps.now c.scan-entry.new.steps c.scan-entry.ensures.gone_on c.scan-entry.ensures.past
 
 pub returns-then-len-le-MOST_WITH_COPY-clause-cost : goal.returns-then-len-le-MOST_WITH_COPY-clause-cost
-returns-then-len-le-MOST_WITH_COPY-clause-cost g c = there_cost c.args.table.now c.valid.ensures (g.T.Chars.characters c.args.text.now) c.args.i c.args.run.now c.requires.is_true c.args.from c.requires.from c.push.new.self (begun_with c.push.new.self c.begin.new.self c.args.from c.anchor.result c.args.run.now.anchor c.push.ensures c.begin.ensures c.anchor.ensures) c.scan-entry.result c.scan-entry.new.run c.args.steps.now c.scan-entry.new.steps c.scan-entry.ensures.gone_on c.scan-entry.ensures.past
+returns-then-len-le-MOST_WITH_COPY-clause-cost g c = there_cost c.args.table.now c.valid.ensures (g.T.Chars.characters c.args.text.now) c.args.i c.args.run.now c.requires.is_true c.args.from c.requires.from c.push.new.self (begun_with c.push.new.self c.begin.new.self c.args.from c.anchor.result c.args.run.now.anchor c.push.ensures c.begin.ensures c.anchor.ensures) c.scan-entry.result c.scan-entry.new.run c.args.steps.now c.scan-entry.new.steps c.scan-entry.ensures.gone_on c.scan-entry.ensures.past c.requires.near
 
 pub returns-clause-more : goal.returns-clause-more
 returns-clause-more g c = there_more c.args.table.now c.valid.ensures (g.T.Chars.characters c.args.text.now) c.args.i c.args.run.now c.requires.is_true c.args.from c.requires.from c.push.new.self (begun_with c.push.new.self c.begin.new.self c.args.from c.anchor.result c.args.run.now.anchor c.push.ensures c.begin.ensures c.anchor.ensures) c.scan-entry.result c.scan-entry.new.run c.args.steps.now c.scan-entry.new.steps c.scan-entry.ensures.gone_on c.scan-entry.ensures.past
 
 pub returns-clause-cost : goal.returns-clause-cost
-returns-clause-cost g c = there_cost c.args.table.now c.valid.ensures (g.T.Chars.characters c.args.text.now) c.args.i c.args.run.now c.requires.is_true c.args.from c.requires.from c.push.new.self (begun_with c.push.new.self c.begin.new.self c.args.from c.anchor.result c.args.run.now.anchor c.push.ensures c.begin.ensures c.anchor.ensures) c.scan-entry.result c.scan-entry.new.run c.args.steps.now c.scan-entry.new.steps c.scan-entry.ensures.gone_on c.scan-entry.ensures.past
+returns-clause-cost g c = there_cost c.args.table.now c.valid.ensures (g.T.Chars.characters c.args.text.now) c.args.i c.args.run.now c.requires.is_true c.args.from c.requires.from c.push.new.self (begun_with c.push.new.self c.begin.new.self c.args.from c.anchor.result c.args.run.now.anchor c.push.ensures c.begin.ensures c.anchor.ensures) c.scan-entry.result c.scan-entry.new.run c.args.steps.now c.scan-entry.new.steps c.scan-entry.ensures.gone_on c.scan-entry.ensures.past c.requires.near

@@ -1,8 +1,5 @@
-use Rattle.std.proofs.Common.{◌≡◌, ℕ, ◌+◌, ◌<◌, ◌≤◌, List, [], length, sym, refl, ap, ◌∙◌, subst, ⊎_elim, arith}
-use Rattle.rbbi_model.specs.Tables.{Table}
-use Rattle.rbbi_model.specs.Runs.{Entry, Run}
-use Rattle.rbbi_model.specs.Costs.{anchor_below, searches_cost}
-use Rattle.rbbi_cache.specs.Scans.{Scan, IsScan, HasBegun, HasGoneOn, GoesOn}
+use Rattle.std.proofs.Common.{sym, ap, subst, arith}
+use Rattle.rbbi_cache.proofs.Ready.{IsAnchorBelow, anchor_is}
 use Rattle.rbbi_cache.proofs.Begins.{begins_at_anchor, anchor_ready, anchor_more, anchor_cost, anchor_low}
 use Rattle.rbbi_cache.proofs.search.search.Goals as goal
 
@@ -12,13 +9,14 @@ scan-requires-clause-anchor g c =
 
 pub scan-requires-clause-begun : goal.scan-requires-clause-begun
 scan-requires-clause-begun g c =
-    begins_at_anchor c.args.table.now c.valid.ensures (g.T.Chars.characters c.args.text.now) c.args.i c.args.anchor c.begin.new.self c.begin.ensures c.requires.anchor c.requires.within
+    begins_at_anchor c.args.table.now c.valid.ensures (g.T.Chars.characters c.args.text.now) c.args.i c.args.anchor c.begin.new.self c.begin.ensures (omega (arith, c.requires.anchor, anchor_low c.args.table.now c.valid.ensures (g.T.Chars.characters c.args.text.now) c.args.i)) c.requires.within
 
 pub returns-clause-ready : goal.returns-clause-ready
-returns-clause-ready g c kept = anchor_ready c.args.table.now c.valid.ensures (g.T.Chars.characters c.args.text.now) c.args.i c.args.anchor c.begin.new.self c.begin.ensures c.requires.anchor c.requires.within c.scan.result c.scan.new.run c.args.steps.now c.scan.new.steps c.scan.ensures.gone_on c.scan.ensures.past kept
+returns-clause-ready g c kept = anchor_ready c.args.table.now c.valid.ensures (g.T.Chars.characters c.args.text.now) c.args.i c.args.anchor c.begin.new.self c.begin.ensures (omega (arith, c.requires.anchor, anchor_low c.args.table.now c.valid.ensures (g.T.Chars.characters c.args.text.now) c.args.i)) c.requires.within c.scan.result c.scan.new.run c.args.steps.now c.scan.new.steps c.scan.ensures.gone_on c.scan.ensures.past
+    (subst (IsAnchorBelow c.args.table.now (g.T.Chars.characters c.args.text.now) c.args.i) (sym c.requires.anchor) (anchor_is c.args.table.now c.valid.ensures (g.T.Chars.characters c.args.text.now) c.args.i)) kept
 
 pub returns-clause-more : goal.returns-clause-more
-returns-clause-more g c = anchor_more c.args.table.now c.valid.ensures (g.T.Chars.characters c.args.text.now) c.args.i c.args.anchor c.begin.new.self c.begin.ensures c.requires.anchor c.requires.within c.scan.result c.scan.new.run c.args.steps.now c.scan.new.steps c.scan.ensures.gone_on c.scan.ensures.past
+returns-clause-more g c = anchor_more c.args.table.now c.valid.ensures (g.T.Chars.characters c.args.text.now) c.args.i c.args.anchor c.begin.new.self c.begin.ensures (omega (arith, c.requires.anchor, anchor_low c.args.table.now c.valid.ensures (g.T.Chars.characters c.args.text.now) c.args.i)) c.requires.within c.scan.result c.scan.new.run c.args.steps.now c.scan.new.steps c.scan.ensures.gone_on c.scan.ensures.past
 
 pub returns-clause-cost : goal.returns-clause-cost
-returns-clause-cost g c = anchor_cost c.args.table.now c.valid.ensures (g.T.Chars.characters c.args.text.now) c.args.i c.args.anchor c.begin.new.self c.begin.ensures c.requires.anchor c.requires.within c.scan.result c.scan.new.run c.args.steps.now c.scan.new.steps c.scan.ensures.gone_on c.scan.ensures.past
+returns-clause-cost g c = anchor_cost c.args.table.now c.valid.ensures (g.T.Chars.characters c.args.text.now) c.args.i c.args.anchor c.begin.new.self c.begin.ensures (omega (arith, c.requires.anchor, anchor_low c.args.table.now c.valid.ensures (g.T.Chars.characters c.args.text.now) c.args.i)) c.requires.within c.scan.result c.scan.new.run c.args.steps.now c.scan.new.steps c.scan.ensures.gone_on c.scan.ensures.past

@@ -1,4 +1,4 @@
-use Rattle.std.proofs.Common.{◌≡◌, ℕ, ◌-◌, ◌<◌, ◌≤◌, length, take, drop}
+use Rattle.std.proofs.Common.{◌-◌, ◌<◌, ◌≤◌, length, take, drop}
 use Rattle.std.specs.List.{AllByRecursion}
 use Rattle.rbbi_cache.proofs.shown.count_up_to.Given as goal
 

@@ -1,0 +1,26 @@
+-- A part that is put behind others, where it has an entry and there is room.
+use Rattle.std.proofs.Common.{◌≡◌, ℕ, ◌+◌, ◌<◌, ◌≤◌, false, true, cond, not, eqb, List, [], ◌∷◌, ◌++◌, length, length-append, length-take, take, set, sym}
+use Rattle.std.proofs.Common.{refl, ap, ◌∙◌, arith}
+use Rattle.std.proofs.lemmas.Bool.{cond-true, cond-false, eq-eqb, ne_eqb}
+use Rattle.std.proofs.lemmas.List.{take-set, take_more_set, take_all, append-nil}
+use Rattle.rbbi_model.specs.Runs.{Run}
+use Rattle.rbbi_cache.specs.Kept.{most_runs}
+use Rattle.rbbi_cache.specs.Edits.{has_entries}
+
+module _ (next : List Run) (count : ℕ) (new part : Run) (is : new ≡ part) where
+  pub left_out : count ≤ 16 → length new.entries ≡ 0 → take count (set next count new) ≡ take most_runs
+      (take count next ++ cond (has_entries part) (part ∷ []) [])
+  left_out few none =
+      let empty : has_entries part ≡ false = ap (λ r. not (eqb (length r.entries) 0)) (sym is) ∙ ap not (eq-eqb (length new.entries) 0 none) in
+      take-set next count new
+      ∙ sym (take_all most_runs (take count next) (omega (arith, length-take count next)))
+      ∙ ap (take most_runs) (sym (append-nil (take count next)) ∙ ap (λ l. take count next ++ l) (sym (cond-false (has_entries part) (part ∷ []) [] empty)))
+
+  pub put_in : count < 16 → count < length next → (length new.entries ≡ 0 → ⊥) → take (count + 1) (set next count new) ≡ take most_runs
+      (take count next ++ cond (has_entries part) (part ∷ []) [])
+  put_in few short some =
+      let filled : has_entries part ≡ true = ap (λ r. not (eqb (length r.entries) 0)) (sym is) ∙ ap not (ne_eqb (length new.entries) 0 some) in
+      take_more_set next count new short
+      ∙ ap (λ r. take count next ++ r ∷ []) is
+      ∙ sym (take_all most_runs (take count next ++ part ∷ []) (omega (arith, length-append (take count next) (part ∷ []), length-take count next)))
+      ∙ ap (λ l. take most_runs (take count next ++ l)) (sym (cond-true (has_entries part) (part ∷ []) [] filled))

@@ -1,0 +1,72 @@
+use Rattle.std.proofs.Common.{ℕ, ◌-◌, inl, sym, ap, ◌∙◌, subst, arith}
+use Rattle.std.specs.List.{AllByRecursion}
+use Rattle.rbbi_model.specs.Runs.{ShowsBefore}
+use Rattle.rbbi_cache.specs.Kept.{KeptRuns}
+use Rattle.rbbi_cache.specs.Shown.{IsShownAfter, IsShownBefore}
+use Rattle.rbbi_cache.specs.Lists.{IsOrdered}
+use Rattle.rbbi_cache.proofs.Keeping.{all_ordered, keeps_shown, keeps_through, shown_last}
+use Rattle.rbbi_cache.proofs.Answering.{answer_before, no_run}
+use Rattle.rbbi_cache.proofs.TriedBack.{start_is_last_of_none, cost_past_end}
+use Rattle.rbbi_model.specs.Costs.{forward_cost}
+use Rattle.rbbi_cache.proofs.cache.Cache.before.Goals as goal
+
+pub find_before-requires-clause-ordered : goal.find_before-requires-clause-ordered
+find_before-requires-clause-ordered g c =
+    let same = c.as_slice.ensures.runs ∙ ap (λ (s : KeptRuns). s.runs) c.self.view_is in
+    subst (AllByRecursion (IsOrdered c.len-len.result)) (sym same)
+    (all_ordered c.args.table.now c.valid.ensures (g.T.Chars.characters c.args.text.now) c.len-len.result (omega arith) c.args.self.now.runs c.requires.are_true)
+
+pub returns-in-Some-clause-answer : goal.returns-in-Some-clause-answer
+returns-in-Some-clause-answer g c = (
+  omega arith,
+  answer_before c.args.table.now c.valid.ensures (g.T.Chars.characters c.args.text.now) c.args.i c.in-Some.shown.entry c.args.self.now.runs c.move_to_front.new.self
+      (keeps_shown c.args.table.now c.valid.ensures (g.T.Chars.characters c.args.text.now) (λ r. IsShownBefore (g.T.Chars.characters c.args.text.now) r c.args.i c.in-Some.shown.entry) c.args.self.now.runs c.requires.are_true
+      c.as_slice.result.now c.self.inside.runs c.as_slice.ensures.runs (ap (λ (s : KeptRuns). s.runs) c.self.view_is) c.in-Some.shown.run (c.in-Some.ensures (g.T.Chars.characters c.args.text.now) c.len-len.ensures.exact) c.move_to_front.new.self c.move_to_front.ensures),
+)
+
+pub returns-in-Some-clause-kept : goal.returns-in-Some-clause-kept
+returns-in-Some-clause-kept g c =
+    inl (keeps_shown c.args.table.now c.valid.ensures (g.T.Chars.characters c.args.text.now) (λ r. IsShownBefore (g.T.Chars.characters c.args.text.now) r c.args.i c.in-Some.shown.entry) c.args.self.now.runs c.requires.are_true
+    c.as_slice.result.now c.self.inside.runs c.as_slice.ensures.runs (ap (λ (s : KeptRuns). s.runs) c.self.view_is) c.in-Some.shown.run (c.in-Some.ensures (g.T.Chars.characters c.args.text.now) c.len-len.ensures.exact) c.move_to_front.new.self c.move_to_front.ensures).0
+
+pub returns-in-Some-clause-are_true : goal.returns-in-Some-clause-are_true
+returns-in-Some-clause-are_true g c =
+    (keeps_shown c.args.table.now c.valid.ensures (g.T.Chars.characters c.args.text.now) (λ r. IsShownBefore (g.T.Chars.characters c.args.text.now) r c.args.i c.in-Some.shown.entry) c.args.self.now.runs c.requires.are_true
+    c.as_slice.result.now c.self.inside.runs c.as_slice.ensures.runs (ap (λ (s : KeptRuns). s.runs) c.self.view_is) c.in-Some.shown.run (c.in-Some.ensures (g.T.Chars.characters c.args.text.now) c.len-len.ensures.exact) c.move_to_front.new.self c.move_to_front.ensures).1
+
+pub returns-then-len-eq0-clause-answer : goal.returns-then-len-eq0-clause-answer
+returns-then-len-eq0-clause-answer g c =
+    (omega arith, start_is_last_of_none c.args.table.now c.valid.ensures (g.T.Chars.characters c.args.text.now) c.args.i (omega arith) (omega arith))
+
+pub returns-then-i-len-clause-answer : goal.returns-then-i-len-clause-answer
+returns-then-i-len-clause-answer g c = (
+  omega arith,
+  answer_before c.args.table.now c.valid.ensures (g.T.Chars.characters c.args.text.now) c.args.i c.find_past.result c.args.self.now.runs c.find_past.new.self.runs
+      (keeps_through c.args.table.now c.valid.ensures (g.T.Chars.characters c.args.text.now) (λ r. IsShownAfter r (c.len-len.result - 1) c.find_past.result) (λ r. IsShownBefore (g.T.Chars.characters c.args.text.now) r c.args.i c.find_past.result)
+      (shown_last c.args.table.now c.valid.ensures (g.T.Chars.characters c.args.text.now) c.len-len.result c.args.i c.len-len.ensures.exact (omega arith) c.if-i-len.true c.find_past.result) c.args.self.now.runs c.find_past.new.self.runs c.find_past.ensures.kept),
+)
+
+pub returns-then-i-len-clause-kept : goal.returns-then-i-len-clause-kept
+returns-then-i-len-clause-kept g c =
+    inl (keeps_through c.args.table.now c.valid.ensures (g.T.Chars.characters c.args.text.now) (λ r. IsShownAfter r (c.len-len.result - 1) c.find_past.result) (λ r. IsShownBefore (g.T.Chars.characters c.args.text.now) r c.args.i c.find_past.result)
+    (shown_last c.args.table.now c.valid.ensures (g.T.Chars.characters c.args.text.now) c.len-len.result c.args.i c.len-len.ensures.exact (omega arith) c.if-i-len.true c.find_past.result) c.args.self.now.runs c.find_past.new.self.runs c.find_past.ensures.kept).0
+
+pub returns-then-i-len-clause-shown : goal.returns-then-i-len-clause-shown
+returns-then-i-len-clause-shown g c a some =
+    let same = c.as_slice.ensures.runs ∙ ap (λ (s : KeptRuns). s.runs) c.self.view_is in
+    absurd (no_run (λ a r. ShowsBefore (g.T.Chars.characters c.args.text.now) r c.args.i a) c.args.self.now.runs (subst (AllByRecursion (λ r. (a : ℕ) → ShowsBefore (g.T.Chars.characters c.args.text.now) r c.args.i a → ⊥)) same (c.in_default.ensures (g.T.Chars.characters c.args.text.now) c.len-len.ensures.exact)) a some)
+
+pub returns-then-i-len-clause-cost : goal.returns-then-i-len-clause-cost
+returns-then-i-len-clause-cost g c =
+    let len = c.len-len.ensures.exact in
+    omega (
+      arith,
+      c.find_past.ensures.cost,
+      ap (λ n. forward_cost c.args.table.now (g.T.Chars.characters c.args.text.now) (n - 1)) c.len-len.ensures.exact,
+      cost_past_end c.args.table.now (g.T.Chars.characters c.args.text.now) c.args.i (omega arith) (λ zero. c.if-len-eq0.false (len ∙ zero)),
+    )
+
+pub returns-clause-shown : goal.returns-clause-shown
+returns-clause-shown g c a some =
+    let same = c.as_slice.ensures.runs ∙ ap (λ (s : KeptRuns). s.runs) c.self.view_is in
+    absurd (no_run (λ a r. ShowsBefore (g.T.Chars.characters c.args.text.now) r c.args.i a) c.args.self.now.runs (subst (AllByRecursion (λ r. (a : ℕ) → ShowsBefore (g.T.Chars.characters c.args.text.now) r c.args.i a → ⊥)) same (c.in_default.ensures (g.T.Chars.characters c.args.text.now) c.len-len.ensures.exact)) a some)

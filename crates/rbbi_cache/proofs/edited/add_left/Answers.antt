@@ -1,0 +1,9 @@
+use Rattle.std.proofs.Common.{ap, ◌∙◌, sym, arith}
+use Rattle.rbbi_cache.specs.Edits.{left_part}
+use Rattle.rbbi_cache.proofs.AddedParts.{left_out, put_in}
+use Rattle.rbbi_cache.proofs.edited.add_left.Goals as goal
+
+pub returns-then-len-eq0-clause-added : goal.returns-then-len-eq0-clause-added
+returns-then-len-eq0-clause-added c =
+    left_out c.args.next.now c.args.count c.copy_left.new.part (left_part c.args.edit.at c.args.run.now) c.copy_left.ensures c.requires.most
+    (omega (arith, c.len.ensures.exact, c.if-len-eq0.true))

@@ -1,0 +1,89 @@
+//! The last boundary before a place: found by searches from anchors farther and farther back.
+ghost use Rattle.std.specs.Prelude.{◌≡◌, ℕ, ◌+◌, ◌-◌, ◌<◌, ◌≤◌, ◌⊎◌, true, length, List, MatchOption};
+ghost use Rattle.rbbi_model.specs.Words.{most_characters};
+ghost use Rattle.rbbi_model.specs.Runs as model;
+ghost use Rattle.rbbi_model.specs.Runs.{IsAnchor};
+ghost use Rattle.rbbi_model.specs.Costs.{settles, searches_cost, back_cost};
+ghost use Rattle.rbbi_cache.specs.Kept.{IsLastBefore};
+ghost use Rattle.rbbi_cache.specs.Ready.{HasNoneBefore, IsReadyBack};
+
+use crate::anchors::anchor_before;
+use crate::scan::scan;
+use crate::{Entry, Run};
+use rbbi_table::{Marks, Table};
+use rbbi_text::{Chars, Steps};
+use std::sync::ledger::Ledger;
+
+/// Searches for the last boundary before `i`, which lies within the text, or None where it is the start.
+/// The first try begins at the nearest anchor at least three characters back, each further one at least
+/// twice as far back as the one before. The run is left so that it shows the answer.
+pub(crate) fn search_back<T: Chars, L: Ledger>(
+    table: &Table,
+    text: &T,
+    i: u32,
+    run: &mut Run,
+    marks: &mut Marks,
+    steps: &mut Steps<L>,
+) -> Option<Entry>
+    requires fit { marks.old ≡ table.now.slashes }
+    requires some { 0 < i }
+    requires within { i ≤ length (T.characters text.now) }
+    requires small { i ≤ most_characters }
+    ensures found { MatchOption result
+        (IsLastBefore table.now (T.characters text.now) i (record { at = 0; status = 0; reach = 0 }))
+        (λ entry. (kept : List model.Run) → IsReadyBack table.now (T.characters text.now) i kept entry run.new) }
+    ensures more { steps.old ≤ steps.new }
+    ensures cost { steps.new ≤ steps.old + back_cost table.now (T.characters text.now) i }
+    ensures fit { marks.new ≡ marks.old }
+{
+    table.valid();
+    let mut anchor = anchor_before(table, text, 0, i.saturating_sub(2), steps);
+    'tries: loop {
+        if let Some(entry) = search_from(table, text, anchor, i, run, marks, steps) {
+            return Some(entry);
+        }
+        if anchor == 0 {
+            return None;
+        }
+        anchor = anchor_before(table, text, 0, (2 * anchor + 1).saturating_sub(i), steps);
+    }
+}
+
+/// Searches from an anchor before `i` for the last boundary before `i` that isn't too near to the
+/// anchor, and makes a run of what is found.
+fn search_from<T: Chars, L: Ledger>(
+    table: &Table,
+    text: &T,
+    anchor: u32,
+    i: u32,
+    run: &mut Run,
+    marks: &mut Marks,
+    steps: &mut Steps<L>,
+) -> Option<Entry>
+    requires fit { marks.old ≡ table.now.slashes }
+    requires anchor { IsAnchor table.now (T.characters text.now) anchor }
+    requires before { (anchor ≡ 0) ⊎ (anchor + 2 ≤ i) }
+    requires some { 0 < i }
+    requires within { i ≤ length (T.characters text.now) }
+    requires small { i ≤ most_characters }
+    ensures found { MatchOption result (HasNoneBefore table.now (T.characters text.now) anchor i) (λ entry.
+        (settles table.now (T.characters text.now) i anchor ≡ true)
+        × ((kept : List model.Run) → IsReadyBack table.now (T.characters text.now) i kept entry run.new)) }
+    ensures more { steps.old ≤ steps.new }
+    ensures cost { steps.new ≤ steps.old + searches_cost table.now (T.characters text.now) anchor (i - 1) }
+    ensures fit { marks.new ≡ marks.old }
+{
+    table.valid();
+    run.begin(anchor);
+    let from = Entry {
+        at: anchor,
+        status: 0,
+        reach: 0,
+    };
+    scan(table, text, run, from, i - 1, marks, steps);
+    let entries = run.entries();
+    if entries.len() < 2 {
+        return None;
+    }
+    Some(entries[entries.len() - 2])
+}

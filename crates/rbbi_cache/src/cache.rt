@@ -1,0 +1,279 @@
+//! The boundaries that are kept between questions.
+ghost use Rattle.std.specs.Prelude.{◌≡◌, ℕ, ◌+◌, ◌<◌, ◌≤◌, [], length, MatchOption, IfOk};
+ghost use Rattle.rbbi_model.specs.Words.{most_characters};
+ghost use Rattle.rbbi_model.specs.Costs.{anchor_below, searches_cost, forward_cost, back_cost, preceding_cost};
+ghost use Rattle.rbbi_model.specs.Runs.{ShowsAfter, ShowsBefore};
+ghost use Rattle.rbbi_cache.specs.Kept.{AreTrueRuns, IsFirstAfter, IsLastBefore, SomeRun, Keeps, KeepsBack};
+ghost use Rattle.rbbi_cache.specs.Shown.{IsShownAfter};
+ghost use Rattle.rbbi_cache.specs.Lists.{HasAt, GoesOnFrom};
+ghost use Rattle.rbbi_cache.specs.Ready.{KeepsTrue};
+
+use crate::anchors::anchor_before;
+use crate::back::search_back;
+use crate::run_list::RunList;
+use crate::runs::{Shown, find_after, find_before, find_nearest};
+use crate::search::search;
+use crate::{Entry, Run};
+use rbbi_table::{Marks, Table};
+use rbbi_text::{Chars, Steps};
+use std::alloc::{AllocError, Global};
+use std::marker::Model;
+use std::sync::ledger::Ledger;
+
+/// The boundary before the first character, which no search finds.
+const START: Entry = Entry {
+    at: 0,
+    status: 0,
+    reach: 0,
+};
+
+/// Boundaries of one text by one table, kept in at most 16 runs. All memory is taken when it is made.
+#[derive(Debug, Drop)]
+pub struct Cache {
+    pub(crate) runs: RunList,
+    /// Room for what an edit leaves of the runs.
+    pub(crate) next: RunList,
+    /// The run that a question makes, before it is kept.
+    pub(crate) spare: Run,
+    /// Scratch space of searches.
+    pub(crate) marks: Marks,
+}
+
+impl Model for Cache {
+    ghost use Rattle.rbbi_cache.specs.Kept.{KeptRuns};
+
+    ghost Value = { KeptRuns };
+
+    ghost view = { λ cache. record { runs = cache.runs; slashes = cache.marks } };
+}
+
+impl Cache {
+    /// A cache with no runs, for texts and a table with as many look-ahead rules as this one.
+    pub fn new(alloc: Global, table: &Table) -> Result<Cache, AllocError>
+        ensures { IfOk result (λ cache. (cache.runs ≡ []) × (cache.slashes ≡ table.now.slashes)) }
+    {
+        Ok(Cache {
+            runs: RunList::empty(alloc)?,
+            next: RunList::empty(alloc)?,
+            spare: Run::empty(alloc)?,
+            marks: Marks::new(alloc, table)?,
+        })
+    }
+
+    /// The runs that are kept, the most recently used first; at most 16.
+    pub fn kept(&self) -> &[Run]
+        ensures runs { result.now ≡ self.now.runs }
+        ensures few { length result.now ≤ 16 }
+    {
+        self.runs.as_slice()
+    }
+
+    /// The first boundary of the text past `i`, in characters from 0, or None where `i` is its length or
+    /// more.
+    ///
+    /// Where a kept run shows the answer, no character is read. Otherwise it searches from the nearest
+    /// place before `i` that serves, the last entry of a kept run or an anchor, and keeps what it finds
+    /// in the first run. It takes no memory.
+    pub fn after<T: Chars, L: Ledger>(
+        &mut self,
+        table: &Table,
+        text: &T,
+        i: u32,
+        steps: &mut Steps<L>,
+    ) -> Option<Entry>
+        requires fit { self.old.slashes ≡ table.now.slashes }
+        requires are_true { AreTrueRuns table.now (T.characters text.now) self.old.runs }
+        ensures answer { MatchOption result (length (T.characters text.now) ≤ i) (λ entry.
+            (i < length (T.characters text.now)) × IsFirstAfter table.now (T.characters text.now) i entry) }
+        ensures kept { MatchOption result (self.new ≡ self.old) (λ entry. Keeps table.now (T.characters text.now)
+            (λ run. IsShownAfter run i entry) self.old.runs self.new.runs) }
+        ensures are_true { AreTrueRuns table.now (T.characters text.now) self.new.runs }
+        ensures fit { self.new.slashes ≡ self.old.slashes }
+        ensures shown { (a : ℕ) → SomeRun (λ run. ShowsAfter run i a) self.old.runs → steps.new ≡ steps.old }
+        ensures more { steps.old ≤ steps.new }
+        ensures cost { i < length (T.characters text.now) →
+            steps.new ≤ steps.old + forward_cost table.now (T.characters text.now) i }
+        ensures nothing { length (T.characters text.now) ≤ i → steps.new ≡ steps.old }
+    {
+        table.valid();
+        if i >= text.len() {
+            return None;
+        }
+        if let Some(shown) = find_after(self.runs.as_slice(), i) {
+            self.runs.move_to_front(shown.run);
+            return Some(shown.entry);
+        }
+        Some(self.find_past(table, text, i, steps))
+    }
+
+    /// The last boundary of the text before `i`, in characters from 0, or None where `i` is 0.
+    ///
+    /// Where a kept run shows the answer, no character is read. Otherwise it searches from anchors that
+    /// lie farther and farther back, and keeps what it finds in the first run, unless the answer is 0.
+    /// It takes no memory.
+    pub fn before<T: Chars, L: Ledger>(
+        &mut self,
+        table: &Table,
+        text: &T,
+        i: u32,
+        steps: &mut Steps<L>,
+    ) -> Option<Entry>
+        requires fit { self.old.slashes ≡ table.now.slashes }
+        requires are_true { AreTrueRuns table.now (T.characters text.now) self.old.runs }
+        ensures answer { MatchOption result (i ≡ 0) (λ entry.
+            (0 < i) × IsLastBefore table.now (T.characters text.now) i entry) }
+        ensures kept { MatchOption result (self.new ≡ self.old) (λ entry.
+            KeepsBack table.now (T.characters text.now) i entry self.old.runs self.new.runs) }
+        ensures are_true { AreTrueRuns table.now (T.characters text.now) self.new.runs }
+        ensures fit { self.new.slashes ≡ self.old.slashes }
+        ensures shown { (a : ℕ) → SomeRun (λ run. ShowsBefore (T.characters text.now) run i a) self.old.runs →
+            steps.new ≡ steps.old }
+        ensures more { steps.old ≤ steps.new }
+        ensures cost { steps.new ≤ steps.old + preceding_cost table.now (T.characters text.now) i }
+    {
+        table.valid();
+        if i == 0 {
+            return None;
+        }
+        let len = text.len();
+        if let Some(shown) = find_before(self.runs.as_slice(), len, i) {
+            self.runs.move_to_front(shown.run);
+            return Some(shown.entry);
+        }
+        if len == 0 {
+            return Some(START);
+        }
+        if i > len {
+            return Some(self.find_past(table, text, len - 1, steps));
+        }
+        Some(self.find_back(table, text, i, steps))
+    }
+
+    /// Searches for the first boundary past `i`, which no kept run shows, and keeps what it finds.
+    fn find_past<T: Chars, L: Ledger>(
+        &mut self,
+        table: &Table,
+        text: &T,
+        i: u32,
+        steps: &mut Steps<L>,
+    ) -> Entry
+        requires fit { self.old.slashes ≡ table.now.slashes }
+        requires are_true { AreTrueRuns table.now (T.characters text.now) self.old.runs }
+        requires within { i < length (T.characters text.now) }
+        requires small { i < most_characters }
+        ensures kept { KeepsTrue table.now (T.characters text.now)
+            (λ run. IsShownAfter run i result) self.old.runs self.new.runs }
+        ensures fit { self.new.slashes ≡ self.old.slashes }
+        ensures more { steps.old ≤ steps.new }
+        ensures cost { steps.new ≤ steps.old + forward_cost table.now (T.characters text.now) i }
+    {
+        let Some(known) = find_nearest(self.runs.as_slice(), i) else {
+            let anchor = anchor_before(table, text, 0, i, steps);
+            return self.find_from(table, text, anchor, i, steps);
+        };
+        let anchor = anchor_before(table, text, known.entry.at, i, steps);
+        if anchor > known.entry.at {
+            return self.find_from(table, text, anchor, i, steps);
+        }
+        self.find_on(table, text, i, known, steps)
+    }
+
+    /// Searches from the greatest anchor before `i`.
+    fn find_from<T: Chars, L: Ledger>(
+        &mut self,
+        table: &Table,
+        text: &T,
+        anchor: u32,
+        i: u32,
+        steps: &mut Steps<L>,
+    ) -> Entry
+        requires fit { self.old.slashes ≡ table.now.slashes }
+        requires are_true { AreTrueRuns table.now (T.characters text.now) self.old.runs }
+        requires within { i < length (T.characters text.now) }
+        requires small { i < most_characters }
+        requires anchor { anchor ≡ anchor_below table.now (T.characters text.now) i }
+        ensures kept { KeepsTrue table.now (T.characters text.now)
+            (λ run. IsShownAfter run i result) self.old.runs self.new.runs }
+        ensures fit { self.new.slashes ≡ self.old.slashes }
+        ensures more { steps.old ≤ steps.new }
+        ensures cost { steps.new ≤ steps.old + searches_cost table.now (T.characters text.now) anchor i }
+    {
+        table.valid();
+        let spare = &mut self.spare;
+        let entry = search(table, text, anchor, i, spare, &mut self.marks, steps);
+        self.runs.add(spare);
+        entry
+    }
+
+    /// Searches on from the last entry of a kept run, with no anchor between that and `i`.
+    fn find_on<T: Chars, L: Ledger>(
+        &mut self,
+        table: &Table,
+        text: &T,
+        i: u32,
+        known: Shown,
+        steps: &mut Steps<L>,
+    ) -> Entry
+        requires fit { self.old.slashes ≡ table.now.slashes }
+        requires are_true { AreTrueRuns table.now (T.characters text.now) self.old.runs }
+        requires within { i < length (T.characters text.now) }
+        requires small { i < most_characters }
+        requires known { HasAt self.old.runs known.run (GoesOnFrom i known.entry) }
+        requires near { anchor_below table.now (T.characters text.now) i ≤ known.entry.at }
+        ensures kept { KeepsTrue table.now (T.characters text.now)
+            (λ run. IsShownAfter run i result) self.old.runs self.new.runs }
+        ensures fit { self.new.slashes ≡ self.old.slashes }
+        ensures more { steps.old ≤ steps.new }
+        ensures cost { steps.new ≤ steps.old + searches_cost table.now (T.characters text.now)
+            (anchor_below table.now (T.characters text.now) i) i }
+    {
+        table.valid();
+        let spare = &mut self.spare;
+        let marks = &mut self.marks;
+        let (entry, is_kept) = self.runs.go_on(
+            known.run,
+            table,
+            text,
+            i,
+            known.entry,
+            spare,
+            marks,
+            steps,
+        );
+        if is_kept {
+            self.runs.move_to_front(known.run);
+        } else {
+            self.runs.add(spare);
+        }
+        entry
+    }
+
+    /// Searches for the last boundary before `i`, and keeps what it finds.
+    fn find_back<T: Chars, L: Ledger>(
+        &mut self,
+        table: &Table,
+        text: &T,
+        i: u32,
+        steps: &mut Steps<L>,
+    ) -> Entry
+        requires fit { self.old.slashes ≡ table.now.slashes }
+        requires are_true { AreTrueRuns table.now (T.characters text.now) self.old.runs }
+        requires some { 0 < i }
+        requires within { i ≤ length (T.characters text.now) }
+        requires small { i ≤ most_characters }
+        ensures answer { IsLastBefore table.now (T.characters text.now) i result }
+        ensures kept { KeepsBack table.now (T.characters text.now) i result self.old.runs self.new.runs }
+        ensures are_true { AreTrueRuns table.now (T.characters text.now) self.new.runs }
+        ensures fit { self.new.slashes ≡ self.old.slashes }
+        ensures more { steps.old ≤ steps.new }
+        ensures cost { steps.new ≤ steps.old + back_cost table.now (T.characters text.now) i }
+    {
+        table.valid();
+        let spare = &mut self.spare;
+        let Some(entry) = search_back(table, text, i, spare, &mut self.marks, steps) else {
+            return START;
+        };
+        self.runs.add(spare);
+        entry
+    }
+}

@@ -1,0 +1,150 @@
+//! The parts that an edit leaves of a kept run.
+ghost use Rattle.std.specs.Prelude.{◌≡◌, ◌+◌, ◌≤◌, ◌++◌, [], length, map, filter, take, drop};
+ghost use Rattle.std.specs.Prelude.{nat_le, nat_lt, IfSome};
+ghost use Rattle.std.specs.List.{AllByRecursion};
+ghost use Rattle.rbbi_model.specs.Words.{most_characters};
+ghost use Rattle.rbbi_model.specs.Runs.{ReachesRise};
+ghost use Rattle.rbbi_cache.specs.Edits.{left_part, moved_entry, moved_run, run_behind};
+ghost use Rattle.rbbi_cache.specs.Parts.{CanMove, IsMovable, moves_whole, right_part};
+
+use crate::shown::count_up_to;
+use crate::{Entry, Run};
+
+/// An edit of a text, in characters: so many were inserted in place of those removed at a place.
+#[derive(Clone, Copy)]
+pub(crate) struct Edit {
+    pub(crate) at: u32,
+    pub(crate) removed: u32,
+    pub(crate) inserted: u32,
+}
+
+/// How many of the entries, whose reaches don't fall, reach no farther than the place.
+fn count_reaching(entries: &[Entry], place: u32) -> usize
+    requires { ReachesRise entries.now }
+    ensures within { result ≤ length entries.now }
+    ensures first { take result entries.now
+        ≡ filter (λ entry. nat_le entry.reach place) entries.now }
+    ensures others { drop result entries.now
+        ≡ filter (λ entry. nat_lt place entry.reach) entries.now }
+{
+    for (k, entry) in entries.iter().enumerate() {
+        if entry.reach > place {
+            return k;
+        }
+    }
+    entries.len()
+}
+
+/// Begins a run anew at an anchor, with no entries.
+fn restart(run: &mut Run, anchor: u32, leads: bool)
+    ensures { run.new ≡ record { anchor = anchor; entries = []; leads = leads } }
+{
+    run.begin(anchor);
+    if !leads {
+        run.follow();
+    }
+}
+
+/// Adds the entries, moved by an edit before them, but those that come to lie before a place.
+fn append_moved(run: &mut Run, entries: &[Entry], edit: Edit, first: u32)
+    requires can_move { AllByRecursion (CanMove edit.removed) entries.now }
+    requires small { edit.inserted ≤ most_characters }
+    requires room { length run.old.entries + length entries.now ≤ 256 }
+    ensures { run.new ≡ record run.old {
+      entries = run.old.entries
+          ++ filter (λ entry. nat_le first entry.at)
+          (map (moved_entry edit.removed edit.inserted) entries.now);
+    } }
+{
+    for entry in entries {
+        let moved = Entry {
+            at: entry.at - edit.removed + edit.inserted,
+            status: entry.status,
+            reach: entry.reach - edit.removed + edit.inserted,
+        };
+        if moved.at >= first {
+            run.push(moved);
+        }
+    }
+}
+
+/// Makes a run the left part of a kept one: what was found by searches that looked at nothing from
+/// the edit on.
+pub(crate) fn copy_left(run: &Run, edit: Edit, part: &mut Run)
+    requires { IsMovable run.now }
+    ensures { part.new ≡ left_part edit.at run.now }
+{
+    restart(part, run.anchor(), run.leads());
+    let left = count_reaching(run.entries(), edit.at);
+    part.append(&run.entries()[..left]);
+}
+
+/// Makes a run the whole of a kept one that lies behind the edit, moved.
+fn copy_moved(run: &Run, edit: Edit, part: &mut Run)
+    requires movable { IsMovable run.now }
+    requires behind { edit.at + edit.removed ≤ run.now.anchor }
+    requires small { edit.inserted ≤ most_characters }
+    ensures { part.new ≡ moved_run edit.at edit.removed edit.inserted run.now }
+{
+    let anchor = run.anchor() - edit.removed + edit.inserted;
+    if run.anchor() > 0 {
+        restart(part, anchor, run.leads() && anchor > 0);
+        append_moved(part, run.entries(), edit, 0);
+        return;
+    }
+    let first = if anchor > 0 { anchor + 2 } else { 0 };
+    let left = count_reaching(run.entries(), edit.at);
+    restart(part, anchor, run.leads());
+    append_moved(part, &run.entries()[left..], edit, first);
+}
+
+/// Makes a run of what lies behind a safe pair of the new text.
+fn copy_behind(run: &Run, edit: Edit, pair: u32, part: &mut Run)
+    requires movable { IsMovable run.now }
+    requires within { edit.at + edit.removed ≤ most_characters }
+    requires small { edit.inserted ≤ most_characters }
+    requires pair { pair ≤ most_characters }
+    ensures { part.new ≡ run_behind edit.at edit.removed edit.inserted pair run.now }
+{
+    restart(part, pair, false);
+    let before = count_up_to(run.entries(), edit.at + edit.removed);
+    append_moved(part, &run.entries()[before..], edit, pair + 2);
+}
+
+/// Whether a run goes whole. A safe pair begins at each anchor but 0; whether one begins there is
+/// told by the first one that was found.
+fn goes_whole(run: &Run, edit: Edit, pair: Option<u32>) -> bool
+    requires within { edit.at + edit.removed ≤ most_characters }
+    requires small { edit.at + edit.inserted ≤ most_characters }
+    ensures { result ≡ moves_whole edit.at edit.removed edit.inserted pair run.now }
+{
+    if edit.at + edit.removed > run.anchor() {
+        return false;
+    }
+    if run.anchor() > 0 {
+        return true;
+    }
+    match pair {
+        Some(place) => place == edit.at + edit.inserted,
+        None => false,
+    }
+}
+
+/// Makes a run the right part of a kept one, by the first safe pair of the new text behind the
+/// edit.
+pub(crate) fn copy_right(run: &Run, edit: Edit, pair: Option<u32>, part: &mut Run)
+    requires movable { IsMovable run.now }
+    requires within { edit.at + edit.removed ≤ most_characters }
+    requires small { edit.at + edit.inserted ≤ most_characters }
+    requires pair { IfSome pair (λ q. q ≤ most_characters) }
+    ensures { part.new ≡ right_part edit.at edit.removed edit.inserted pair run.now }
+{
+    if goes_whole(run, edit, pair) {
+        copy_moved(run, edit, part);
+        return;
+    }
+    match pair {
+        Some(place) => copy_behind(run, edit, place, part),
+        None => restart(part, 0, false),
+    }
+}

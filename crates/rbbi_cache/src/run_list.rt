@@ -1,0 +1,105 @@
+//! The kept runs, in slots that are made once.
+ghost use Rattle.std.specs.Prelude.{◌≡◌, ℕ, ◌+◌, ◌<◌, ◌≤◌, [], ◌∷◌, ◌++◌, take, length, List, IfOk};
+ghost use Rattle.rbbi_model.specs.Words.{most_characters};
+ghost use Rattle.rbbi_model.specs.Runs as model;
+ghost use Rattle.rbbi_model.specs.Costs.{anchor_below, searches_cost};
+ghost use Rattle.rbbi_cache.specs.Kept.{AreTrueRuns};
+ghost use Rattle.rbbi_cache.specs.Lists.{HasAt, GoesOnFrom};
+ghost use Rattle.rbbi_cache.specs.Ready.{GoesOnAt};
+
+use crate::runs::{MOST_RUNS, put_first, to_front};
+use crate::search::go_on;
+use crate::{Entry, Run};
+use rbbi_table::{Marks, Table};
+use rbbi_text::{Chars, Steps};
+use std::alloc::{AllocError, Global};
+use std::marker::Model;
+use std::sync::ledger::Ledger;
+
+/// A list of at most 16 runs, the most recently used first. It takes no memory after it was made.
+#[derive(Debug, Drop)]
+pub(crate) struct RunList {
+    /// Room for 16 runs, of which the first ones are the list.
+    pub(crate) slots: Vec<Run>,
+    pub(crate) count: usize,
+}
+
+impl Model for RunList {
+    ghost use Rattle.std.specs.Prelude.{◌≡◌, ◌≤◌, List, take, length};
+    ghost use Rattle.rbbi_model.specs.Runs.{Run};
+
+    ghost Value = { List Run };
+
+    ghost view = { λ list. take list.count list.slots.items };
+
+    ghost invariant = { λ list. (list.count ≤ 16) × (length list.slots.items ≡ 16) };
+}
+
+impl RunList {
+    /// A list with no runs, and room for all that it may get.
+    pub(crate) fn empty(alloc: Global) -> Result<RunList, AllocError>
+        ensures { IfOk result (λ list. list ≡ []) }
+    {
+        let mut slots = Vec::with_capacity(alloc, MOST_RUNS)?;
+        for _ in 0..MOST_RUNS {
+            slots.push(Run::empty(alloc)?)?;
+        }
+        Ok(RunList { slots, count: 0 })
+    }
+
+    /// The runs.
+    pub(crate) fn as_slice(&self) -> &[Run]
+        ensures runs { result.now ≡ self.now }
+        ensures few { length result.now ≤ 16 }
+    {
+        &self.slots[..self.count]
+    }
+
+    /// Moves a run to the front. The runs before it go back by one.
+    pub(crate) fn move_to_front(&mut self, k: usize)
+        requires { k < length self.old }
+        ensures { (before after : List model.Run) (run : model.Run) → self.old ≡ before ++ run ∷ after →
+            length before ≡ k → self.new ≡ run ∷ (before ++ after) }
+    {
+        to_front(&mut self.slots, k);
+    }
+
+    /// Puts a new run before the others. Where there are 16, the last one goes. What comes back in the
+    /// new run's place isn't said.
+    pub(crate) fn add(&mut self, run: &mut Run)
+        ensures added { self.new ≡ run.old ∷ take 15 self.old }
+        ensures few { length self.old ≤ 16 }
+    {
+        self.count = put_first(&mut self.slots, self.count, run);
+    }
+
+    /// Searches on from the last entry of the run with this number. What is found is added to the run
+    /// or makes a run of its own.
+    pub(crate) fn go_on<T: Chars, L: Ledger>(
+        &mut self,
+        k: usize,
+        table: &Table,
+        text: &T,
+        i: u32,
+        from: Entry,
+        spare: &mut Run,
+        marks: &mut Marks,
+        steps: &mut Steps<L>,
+    ) -> (Entry, bool)
+        requires fit { marks.old ≡ table.now.slashes }
+        requires within { i < length (T.characters text.now) }
+        requires small { i < most_characters }
+        requires are_true { AreTrueRuns table.now (T.characters text.now) self.old }
+        requires from { HasAt self.old k (GoesOnFrom i from) }
+        requires near { anchor_below table.now (T.characters text.now) i ≤ from.at }
+        ensures gone_on { (before after : List model.Run) (run : model.Run) → self.old ≡ before ++ run ∷ after →
+            length before ≡ k → GoesOnAt table.now (T.characters text.now) i before run after result.0 result.1 self.new spare.new }
+        ensures more { steps.old ≤ steps.new }
+        ensures cost { steps.new ≤ steps.old + searches_cost table.now (T.characters text.now)
+            (anchor_below table.now (T.characters text.now) i) i }
+        ensures fit { marks.new ≡ marks.old }
+    {
+        let run = &mut self.slots[k];
+        go_on(table, text, i, run, from, spare, marks, steps)
+    }
+}
