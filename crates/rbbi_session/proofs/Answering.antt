@@ -6,7 +6,7 @@ use Rattle.std.proofs.lemmas.Bool.{cases_Bool, cond-true, cond-false, ltb-true, 
 use Rattle.std.proofs.lemmas.List.{take_more}
 use Rattle.rbbi_model.specs.Places.{largest}
 use Rattle.rbbi_model.specs.Boundaries.{Boundary}
-use Rattle.rbbi_model.specs.Cover.{places, end_of}
+use Rattle.rbbi_model.specs.Cover.{places, end_of, IsPlaceOf}
 use Rattle.rbbi_model.specs.Tables.{Table}
 use Rattle.rbbi_model.specs.Searches.{table_boundaries}
 use Rattle.rbbi_model.specs.Answers.{Last, Next, Previous, First, Following, Preceding, IsBoundary, Reply, Place, Done, Yes, No, first_place, last_place, first_after, last_before, first_from, is_place_of, moved}
@@ -31,6 +31,12 @@ first_up_to test (b ∷ bs) p most each is =
     (λ holds. let low : b.at ≤ most = each.0 in omega (arith, some_same b.at p (sym (cond-true (test b.at) (Some b.at) (first_place test bs) holds) ∙ is)))
     (λ fails. first_up_to test bs p most each.1 (sym (cond-false (test b.at) (Some b.at) (first_place test bs) fails) ∙ is))
     (cases_Bool (test b.at))
+
+-- a place among boundaries of which none lies behind another place
+pub place_within : (bs : List Boundary) (p most : ℕ) → AllByRecursion (λ b. b.at ≤ most) bs → IsPlaceOf bs p → p ≤ most
+place_within [] p most each here = absurd here
+place_within (b ∷ bs) p most each here =
+    ⊎_elim (λ same. let low : b.at ≤ most = each.0 in omega (arith, same)) (λ later. place_within bs p most each.1 later) here
 
 module _ (table : Table) (x : List ℕ) where
   -- no boundary lies behind the text

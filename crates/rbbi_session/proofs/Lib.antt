@@ -2,3 +2,4 @@ pub mod Places
 pub mod Rises
 pub mod Reaching
 pub mod Answering
+mod Asked

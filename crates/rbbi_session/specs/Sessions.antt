@@ -1,17 +1,19 @@
 -- A session: what contracts see of one, and what its calls answer and leave.
-use Rattle.std.specs.Prelude.{◌≡◌, ℕ, Bool, List, length, Option, Some, None, Result, Ok, Err, if◌then◌else◌}
+use Rattle.std.specs.Prelude.{◌≡◌, ℕ, Bool, List, [], length, Option, Some, None, Result, Ok, Err, if◌then◌else◌}
 use Rattle.rbbi_model.specs.Boundaries.{Boundary}
 use Rattle.rbbi_model.specs.Tables.{Table}
 use Rattle.rbbi_model.specs.Searches.{table_boundaries}
+use Rattle.rbbi_model.specs.Runs.{Run}
 use Rattle.rbbi_model.specs.Answers.{Question, Reply, Place, Done, Yes, No, Outside, TooLong, Answer, answer}
 use Rattle.rbbi_model.specs.Scripts.{State, Refused, Accepted, edit, opened}
 use Rattle.rbbi_text.specs.declared.error.EditErr.{EditErr}
 use Rattle.rbbi_text.specs.declared.error.EditErr.TheVariants as refused
 
--- the table, and the text and the cursor of the moment
+-- the table, the text and the cursor of the moment, and the runs of boundaries that are kept
 pub record Session : Type 0 where
   pub table : Table
   pub state : State
+  pub runs : List Run
 
 -- the boundaries of the session's text by its table
 abbrev pub boundaries_of : Session → List Boundary
@@ -25,6 +27,7 @@ answer_of session question = answer (boundaries_of session) session.state.cursor
 pub record IsOpened (table : Table) (x : List ℕ) (session : Session) : Type 0 where
   pub table_is : session.table ≡ table
   pub state_is : session.state ≡ opened x
+  pub runs_are : session.runs ≡ []
 
 -- the session has gone to the place, and is as before in all else
 pub record MovesTo (old : Session) (place : ℕ) (new : Session) : Type 0 where

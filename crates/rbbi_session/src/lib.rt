@@ -5,7 +5,6 @@
 #![tactic(auto)]
 
 mod boundary;
-mod scan;
 mod session;
 #[cfg(test)]
 mod tests;
