@@ -1,15 +1,15 @@
 -- Answers of a session, by what it found and where it has gone.
-use Rattle.std.proofs.Common.{◌≡◌, ℕ, ◌+◌, ◌-◌, ◌<◌, ◌≤◌, Bool, true, false, cond, ltb, leb, eqb, max, List, [], ◌∷◌, ◌++◌, Option, Some, None, length, take, get_or, sym, refl, ap, ◌∙◌, subst, ⊎_elim, arith}
+use Rattle.std.proofs.Common.{◌≡◌, ℕ, ◌+◌, ◌-◌, ◌<◌, ◌≤◌, Bool, true, false, cond, ltb, leb, eqb, max, List, [], ◌∷◌, ◌++◌, Some, None, length, take, get_or, sym, refl, ap, ◌∙◌, subst, ⊎_elim, arith}
 use Rattle.std.specs.Prelude.{unwrap_or, is_some}
 use Rattle.std.specs.List.{AllByRecursion}
 use Rattle.std.proofs.lemmas.Bool.{cases_Bool, cond-true, cond-false, ltb-true, le-ltb, lt-leb, ne_eqb}
 use Rattle.std.proofs.lemmas.List.{take_more}
 use Rattle.rbbi_model.specs.Places.{largest}
 use Rattle.rbbi_model.specs.Boundaries.{Boundary}
-use Rattle.rbbi_model.specs.Cover.{places, end_of, IsPlaceOf}
+use Rattle.rbbi_model.specs.Cover.{end_of, IsPlaceOf}
 use Rattle.rbbi_model.specs.Tables.{Table}
 use Rattle.rbbi_model.specs.Searches.{table_boundaries}
-use Rattle.rbbi_model.specs.Answers.{Last, Next, Previous, First, Following, Preceding, IsBoundary, Reply, Place, Done, Yes, No, first_place, last_place, first_after, last_before, first_from, is_place_of, moved}
+use Rattle.rbbi_model.specs.Answers.{Last, Next, Previous, First, Following, Preceding, IsBoundary, Place, Done, Yes, No, first_place, first_after, last_before, first_from, is_place_of, moved}
 use Rattle.rbbi_model.proofs.Found.{some_same, none_some}
 use Rattle.rbbi_model.proofs.Covering.{table_covers}
 use Rattle.rbbi_session.specs.Sessions.{Session, boundaries_of, MovesTo, Answers, test_reply}

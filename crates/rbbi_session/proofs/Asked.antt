@@ -1,6 +1,6 @@
 -- What questions read, by what they ask of the kept runs.
-use Rattle.std.proofs.Common.{◌≡◌, ℕ, zero, suc, ◌+◌, ◌-◌, ◌<◌, ◌≤◌, ltb, eqb, List, length, sym, refl, ap, ◌∙◌, subst, arith}
-use Rattle.std.proofs.lemmas.Bool.{cond-true, cond-false, lt-ltb, le-ltb, eq-eqb, ne_eqb}
+use Rattle.std.proofs.Common.{◌≡◌, ℕ, zero, suc, ◌-◌, ◌<◌, ◌≤◌, ltb, eqb, length, sym, refl, ◌∙◌, subst, arith}
+use Rattle.std.proofs.lemmas.Bool.{cond-true, cond-false, lt-ltb, le-ltb, ne_eqb}
 use Rattle.rbbi_model.specs.Answers.{Last, Next, Previous, Following, Preceding, IsBoundary}
 use Rattle.rbbi_model.specs.Costs.{forward_cost, back_cost, last_cost, preceding_cost}
 use Rattle.rbbi_session.specs.Sessions.{Session}

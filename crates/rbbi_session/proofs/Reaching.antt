@@ -1,12 +1,12 @@
 -- Boundaries of a text with their status lists: each has one, and its statuses are those of the list.
-use Rattle.std.proofs.Common.{◌≡◌, ℕ, zero, suc, ◌+◌, ◌-◌, ◌<◌, ◌≤◌, Bool, true, false, ltb, List, [], ◌∷◌, ◌++◌, Option, Some, None, length, get_or, sym, refl, ap, ◌∙◌, subst}
+use Rattle.std.proofs.Common.{◌≡◌, ℕ, zero, suc, ◌-◌, ◌<◌, ◌≤◌, ltb, List, [], ◌∷◌, ◌++◌, Option, Some, None, length, get_or, sym, refl, ap, ◌∙◌, subst}
 use Rattle.std.proofs.Common.{inl, inr, ⊎_elim, lit≤, arith}
 use Rattle.std.specs.List.{AllByRecursion}
-use Rattle.std.proofs.lemmas.Bool.{cond-true, cond-false, cond_both, cases_lt, lt-ltb, ltb-true}
+use Rattle.std.proofs.lemmas.Bool.{cond_both, cases_lt}
 use Rattle.std.proofs.lemmas.List.{get_or_past}
 use Rattle.rbbi_model.specs.Lists.{IsRising}
 use Rattle.rbbi_model.specs.Boundaries.{Boundary, start}
-use Rattle.rbbi_model.specs.Cover.{places, IsPlaceOf, CoverText}
+use Rattle.rbbi_model.specs.Cover.{places, IsPlaceOf}
 use Rattle.rbbi_model.specs.Tables.{Table, accept_of, empty_head, list_of, completes, statuses_of}
 use Rattle.rbbi_model.specs.ValidTables.{IsValidTable, IsValidList, BeginsWithZeroAlone}
 use Rattle.rbbi_model.specs.Searches.{row_at, search_end, cut_place, longest_place, found_longest, found, next_boundary, follow_by, table_boundaries}

@@ -1,4 +1,4 @@
-use Rattle.std.proofs.Common.{◌≡◌, ℕ, ◌+◌, ◌-◌, ◌<◌, ◌≤◌, List, length, sym, refl, ap, ◌∙◌, subst, arith}
+use Rattle.std.proofs.Common.{subst}
 use Rattle.rbbi_session.specs.Sessions.{boundaries_of}
 use Rattle.rbbi_model.specs.Cover.{IsPlaceOf}
 use Rattle.rbbi_session.proofs.Reaching.{is_a_place}

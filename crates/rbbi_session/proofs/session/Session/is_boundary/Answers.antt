@@ -1,4 +1,4 @@
-use Rattle.std.proofs.Common.{◌≡◌, ℕ, ◌+◌, ◌-◌, ◌<◌, ◌≤◌, List, length, sym, refl, ap, ◌∙◌, subst, arith}
+use Rattle.std.proofs.Common.{◌≡◌, length, ap, ◌∙◌, arith}
 use Rattle.rbbi_session.proofs.Answering.{answers_behind, answers_whether}
 use Rattle.rbbi_session.proofs.Asked.{asks_whether}
 use Rattle.rbbi_session.proofs.session.Session.is_boundary.Goals as goal

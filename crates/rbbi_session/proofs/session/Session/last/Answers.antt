@@ -1,4 +1,4 @@
-use Rattle.std.proofs.Common.{◌≡◌, ℕ, ◌+◌, ◌-◌, ◌<◌, ◌≤◌, List, length, sym, refl, ap, ◌∙◌, subst, arith}
+use Rattle.std.proofs.Common.{◌≡◌, ◌-◌, length, sym, ap, ◌∙◌, arith}
 use Rattle.rbbi_model.specs.Answers.{first_after}
 use Rattle.rbbi_session.specs.Sessions.{boundaries_of}
 use Rattle.rbbi_session.proofs.Answering.{answers_last}

@@ -1,4 +1,4 @@
-use Rattle.std.proofs.Common.{◌≡◌, ℕ, ◌+◌, ◌-◌, ◌<◌, ◌≤◌, List, length, sym, refl, ap, ◌∙◌, subst, arith}
+use Rattle.std.proofs.Common.{◌≡◌, ℕ, ◌≤◌, List, length, ap, subst, arith}
 use Rattle.rbbi_session.proofs.Answering.{answers_no_previous}
 use Rattle.rbbi_model.specs.Costs.{preceding_cost}
 use Rattle.rbbi_session.specs.Questions.{Back}

@@ -1,4 +1,4 @@
-use Rattle.std.proofs.Common.{◌≡◌, ℕ, ◌+◌, ◌-◌, ◌<◌, ◌≤◌, List, length, sym, refl, ap, ◌∙◌, subst, arith}
+use Rattle.std.proofs.Common.{sym, ap, ◌∙◌}
 use Rattle.rbbi_model.specs.Answers.{AllOf, statuses_at}
 use Rattle.rbbi_session.specs.Sessions.{boundaries_of}
 use Rattle.rbbi_session.proofs.Reaching.{statuses_are}
