@@ -1,0 +1,5 @@
+pub mod Places
+pub mod Rises
+pub mod Reaching
+pub mod Answering
+mod Asked

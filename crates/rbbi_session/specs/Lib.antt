@@ -1,0 +1,4 @@
+pub mod Sessions
+pub mod Scans
+pub mod Questions
+pub mod Asking
