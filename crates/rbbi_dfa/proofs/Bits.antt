@@ -3,11 +3,11 @@ use Rattle.std.proofs.Common.{◌≡◌, ◌≢◌, ℕ, ◌+◌, ◌*◌, ◌/�
 use Rattle.std.specs.Int.{bit_at, w64}
 use Rattle.std.specs.Prelude.{bit_and}
 use Rattle.std.specs.Int.RustNames.{bit_or}
+use Rattle.std.specs.Int.Bits.{or_zero_r, and_zero_l}
 use Rattle.std.proofs.lemmas.Bool.{cases_lt, cases_eq}
 use Rattle.std.proofs.lemmas.List.{get_or_past, get_or-set_same, get_or-set_other}
 use Rattle.std.proofs.lemmas.Nat.Bits.{bit_at_or, bit_at_and, bit_at-lt, bit_at-zero, bit_at-trailing_zeros, bit_at_set_same, bit_at_set_other}
-use Rattle.rbbi_dfa.specs.BitRows.{Holds, IsEmptyRow}
-use Rattle.rbbi_dfa.specs.Determinizing.{IsSome}
+use Rattle.rbbi_dfa.specs.BitRows.{Holds, IsSpan}
 
 one_or : (a b : ℕ) → max a b ≡ 1 → a < 2 → b < 2 → (a ≡ 1) ⊎ (b ≡ 1)
 one_or a b one low low' = ⊎_elim (λ is. inl is) (λ other. inr (omega (arith, one, low, low', other))) (cases_eq a 1)
@@ -61,17 +61,6 @@ holds_word row k t small bit =
     let place : (64 * k + t) % 64 ≡ t = omega (arith, small) in
     ap (λ n. bit_at (get_or row n 0) ((64 * k + t) % 64)) word ∙ ap (λ n. bit_at (get_or row k 0) n) place ∙ bit
 
-pub word_some : (row : List ℕ) (k : ℕ) → get_or row k 0 ≢ 0 → get_or row k 0 < 2 ^ 64 → IsSome row
-word_some row k some small =
-    let bit = some_bit (get_or row k 0) some small in
-    (64 * k + bit.0, holds_word row k bit.0 bit.1 bit.2)
-
-pub words_none : (row : List ℕ) → ((k : ℕ) → k < length row → get_or row k 0 ≡ 0) → IsEmptyRow row
-words_none row each p = λ holds.
-    let none : get_or row (p / 64) 0 ≡ 0 = ⊎_elim (λ short. each (p / 64) short) (λ past. get_or_past row (p / 64) 0 past) (cases_lt (p / 64) (length row)) in
-    let zero : bit_at (get_or row (p / 64) 0) (p % 64) ≡ 0 = ap (λ n. bit_at n (p % 64)) none ∙ bit_at-zero (p % 64) in
-    omega (arith, zero, holds)
-
 -- words in common
 pub words_meet : (these those : List ℕ) (k : ℕ) → bit_and (get_or these k 0) (get_or those k 0) ≢ 0 → bit_and (get_or these k 0) (get_or those k 0) < 2 ^ 64 → (p : ℕ) × Holds these p × Holds those p
 words_meet these those k some small =
@@ -98,13 +87,39 @@ words_apart these those long each p holds = λ holds'.
 
 -- what holds of each word up to the end holds past it
 
-pub or_each : (row these those : List ℕ) (i : ℕ) → length row ≤ i → length these ≤ i → length those ≤ i →
-    ((k : ℕ) → k < i → get_or row k 0 ≡ bit_or (get_or these k 0) (get_or those k 0)) → (k : ℕ) → get_or row k 0 ≡ bit_or (get_or these k 0) (get_or those k 0)
-or_each row these those i a b d each k =
-    ⊎_elim (λ short. each k short)
-    (λ past.
-    get_or_past row k 0 (omega (arith, a, past)) ∙ ap (λ n. bit_or n 0) (sym (get_or_past these k 0 (omega (arith, b, past)))) ∙ ap (λ n. bit_or (get_or these k 0) n) (sym (get_or_past those k 0 (omega (arith, d, past)))))
-    (cases_lt k i)
+-- outside of a span a word stays, and there the other is 0
+pub or_within : (row old other : List ℕ) (from to i : ℕ) → IsSpan other from to → to ≤ i →
+    ((k : ℕ) → from ≤ k → k < i → get_or row k 0 ≡ bit_or (get_or old k 0) (get_or other k 0)) → ((k : ℕ) → (k < from) ⊎ (i ≤ k) → get_or row k 0 ≡ get_or old k 0) →
+    (k : ℕ) → get_or row k 0 ≡ bit_or (get_or old k 0) (get_or other k 0)
+or_within row old other from to i span all inside outside k =
+    let kept : get_or other k 0 ≡ 0 → get_or row k 0 ≡ get_or old k 0 → get_or row k 0 ≡ bit_or (get_or old k 0) (get_or other k 0) =
+    λ none same. same ∙ sym (or_zero_r (get_or old k 0)) ∙ ap (λ n. bit_or (get_or old k 0) n) (sym none) in
+    ⊎_elim (λ sooner. kept (span.before k sooner) (outside k (inl sooner)))
+    (λ from_on.
+    ⊎_elim (λ short. inside k from_on short)
+    (λ past. kept (span.past k (omega (arith, all, past))) (outside k (inr past)))
+    (cases_lt k i))
+    (cases_lt k from)
+
+-- sets that have no word in common within the span of the one have none
+pub and_within : (these those : List ℕ) (from to i : ℕ) → IsSpan these from to → to ≤ i →
+    ((k : ℕ) → from ≤ k → k < i → bit_and (get_or these k 0) (get_or those k 0) ≡ 0) → (k : ℕ) → bit_and (get_or these k 0) (get_or those k 0) ≡ 0
+and_within these those from to i span all inside k =
+    let none : get_or these k 0 ≡ 0 → bit_and (get_or these k 0) (get_or those k 0) ≡ 0 =
+    λ zero. ap (λ n. bit_and n (get_or those k 0)) zero ∙ and_zero_l (get_or those k 0) in
+    ⊎_elim (λ sooner. none (span.before k sooner))
+    (λ from_on.
+    ⊎_elim (λ short. inside k from_on short)
+    (λ past. none (span.past k (omega (arith, all, past))))
+    (cases_lt k i))
+    (cases_lt k from)
+
+pub IsSpan-from_loop : (row : List ℕ) (from to i : ℕ) → length row ≤ i → to ≤ length row → ((k : ℕ) → k < from → k < i → get_or row k 0 ≡ 0) → ((k : ℕ) → to ≤ k → k < i → get_or row k 0 ≡ 0) → IsSpan row from to
+IsSpan-from_loop row from to i all within before past = record {
+  within = within;
+  before = λ k sooner. ⊎_elim (λ short. before k sooner short) (λ beyond. get_or_past row k 0 (omega (arith, all, beyond))) (cases_lt k i);
+  past = λ k later. ⊎_elim (λ short. past k later short) (λ beyond. get_or_past row k 0 (omega (arith, all, beyond))) (cases_lt k i);
+}
 
 pub and_each : (row these those : List ℕ) (i : ℕ) → length row ≤ i → length these ≤ i → length those ≤ i →
     ((k : ℕ) → k < i → get_or row k 0 ≡ bit_and (get_or these k 0) (get_or those k 0)) → (k : ℕ) → get_or row k 0 ≡ bit_and (get_or these k 0) (get_or those k 0)

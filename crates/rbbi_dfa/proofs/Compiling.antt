@@ -1,19 +1,19 @@
 -- A least table with its ranges and safe pairs is compiled from the rules.
-use Rattle.std.proofs.Common.{◌≡◌, ◌≢◌, ℕ, ◌+◌, ◌*◌, ◌/◌, ◌<◌, ◌≤◌, Bool, true, false, cond, nat_le, List, [], ◌∷◌, length, map, take, refl, ap, sym, ◌∙◌, subst, ⊎_elim, ◌⊎◌, arith, slice_index, slice_index_or}
-use Rattle.std.specs.List.{AllByRecursion, AllPairs}
+use Rattle.std.proofs.Common.{◌≡◌, ◌≢◌, ℕ, ◌+◌, ◌*◌, ◌/◌, ◌<◌, Bool, true, false, cond, nat_le, List, [], ◌∷◌, length, map, take, refl, ap, sym, ◌∙◌, subst, ⊎_elim, arith, slice_index_or}
+use Rattle.std.specs.List.{AllByRecursion}
 use Rattle.rbbi_model.specs.Places.{has_bit}
 use Rattle.rbbi_model.specs.Words.{IsWord}
-use Rattle.rbbi_model.specs.Rules.{Rule, look_aheads}
-use Rattle.rbbi_model.specs.Tables.{Table, CategoryRange, category_from, category_of, accept_of, fronts_of, list_of, statuses_of, step, row_along, row_after}
-use Rattle.rbbi_model.specs.ValidTables.{IsWay, IsWithin, IsValidRow, LeadsToZero, IsWellFormed, AreValidRanges, AreValidLists, BeginsWithZeroAlone, AreValidRows, AreFronted, AreValidSafePairs, IsValidTable}
-use Rattle.rbbi_model.specs.Marks.{Marks, AreMarks, AreMarksOrNone, marks_of, HasSameMarks}
+use Rattle.rbbi_model.specs.Rules.{Rule}
+use Rattle.rbbi_model.specs.Tables.{Table, CategoryRange, category_from, category_of, accept_of, fronts_of, list_of, step, row_along}
+use Rattle.rbbi_model.specs.ValidTables.{IsWay, IsWithin, IsValidRow, AreValidRanges, BeginsWithZeroAlone, AreValidRows, AreFronted, AreValidSafePairs}
+use Rattle.rbbi_model.specs.Marks.{Marks, AreMarks, marks_of, HasSameMarks}
 use Rattle.rbbi_model.specs.Compiled.{IsLeast, IsStatusList, HasStatusLists, AreClasses, IsCompiled}
 use Rattle.rbbi_dfa.specs.Automata.{IsDetermined, with_ranges}
 use Rattle.rbbi_dfa.specs.Categories.{AreWithin}
 use Rattle.rbbi_dfa.specs.LeastTables.{IsLeastOf, finished}
 use Rattle.rbbi_dfa.proofs.Merging.{picked}
 use Rattle.rbbi_dfa.proofs.Needed.{length-le_from_numbered, all_by_index}
-use Rattle.rbbi_dfa.proofs.RuleNeeds.{row_along-ranges, word_IsWay, row_of, row_of-is, row_of-within, marks_are, index_by_words}
+use Rattle.rbbi_dfa.proofs.RuleNeeds.{row_along-ranges, word_IsWay, index_by_words}
 
 either : (b : Bool) (count x y : ℕ) → x < count → y < count → cond b x y < count
 either true count x y h k = h

@@ -1,12 +1,13 @@
 -- The parts of a least table are those of a valid one.
-use Rattle.std.proofs.Common.{◌≡◌, ℕ, ◌+◌, ◌*◌, ◌/◌, ◌%◌, ◌<◌, ◌≤◌, List, [], length, ap, sym, ◌∙◌, subst, ⊎_elim, arith, slice_index}
+use Rattle.std.proofs.Common.{◌≡◌, ℕ, ◌*◌, ◌/◌, ◌%◌, ◌<◌, ◌≤◌, List, length, ap, sym, ◌∙◌, subst, ⊎_elim, arith, slice_index}
 use Rattle.std.proofs.lemmas.Bool.{cases_lt}
 use Rattle.std.proofs.lemmas.Nat.{div_below, mod_below, div-add-mod'}
-use Rattle.rbbi_model.specs.Tables.{Table, CategoryRange, RowHead, step}
-use Rattle.rbbi_model.specs.ValidTables.{AreValidRows, AreValidSafePairs}
+use Rattle.rbbi_model.specs.Tables.{Table, CategoryRange, RowHead}
+use Rattle.rbbi_model.specs.ValidTables.{AreValidRanges, AreValidRows}
 use Rattle.rbbi_table.specs.Parts.{AreSteps, rows_of, HasFittingParts}
 use Rattle.rbbi_table.specs.Targets.{ArePairsOf}
-use Rattle.rbbi_dfa.specs.LeastTables.{IsLeastOf, finished}
+use Rattle.rbbi_dfa.specs.LeastTables.{AreValidParts, IsLeastOf, finished}
+use Rattle.rbbi_dfa.proofs.Compiling.{AreValidRows-finished, AreFronted-finished}
 
 -- each next row is a row
 pub AreSteps-from_valid : (table : Table) → length table.cells ≡ length table.rows * table.categories → AreValidRows table → AreSteps table.categories table.rows table.cells
@@ -41,4 +42,15 @@ pub ArePairsOf-parts : (categories slashes : ℕ) (ranges : List CategoryRange) 
 ArePairsOf-parts categories slashes ranges lists rows cells safe h = record {
   all = h.all;
   pairs = record { exactly = h.pairs.exactly; filling = h.pairs.filling };
+}
+
+-- the parts of a finished table are valid
+pub AreValidParts-finished : (automaton least : Table) (ranges : List CategoryRange) (safe : List ℕ) → AreValidRanges automaton.categories ranges → IsLeastOf automaton least → ArePairsOf (finished least ranges safe) → AreValidParts (finished least ranges safe)
+AreValidParts-finished automaton least ranges safe valid h pairs = record {
+  fitting = HasFittingParts-finished least ranges safe h.cells pairs;
+  ranges = subst (λ (n : ℕ). AreValidRanges n ranges) (sym h.categories) valid;
+  lists = h.lists;
+  rows = AreValidRows-finished least ranges safe h.rows;
+  fronts = AreFronted-finished least ranges safe h.fronts;
+  safe = pairs.pairs;
 }

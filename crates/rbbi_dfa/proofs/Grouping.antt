@@ -1,12 +1,12 @@
 -- Rows grouped by their marks.
-use Rattle.std.proofs.Common.{◌≡◌, ◌≢◌, ◌↔◌, ℕ, zero, suc, ◌+◌, ◌<◌, ◌≤◌, List, [], ◌∷◌, ◌++◌, length, get_or, refl, ap, sym, ◌∙◌, subst, ◌⊎◌, inl, inr, ⊎_elim, arith, slice_index, slice_index_or}
+use Rattle.std.proofs.Common.{◌≡◌, ◌≢◌, ◌↔◌, ℕ, zero, suc, ◌+◌, ◌<◌, ◌≤◌, List, [], ◌∷◌, ◌++◌, length, refl, ap, sym, ◌∙◌, subst, ◌⊎◌, ⊎_elim, arith, slice_index, slice_index_or}
 use Rattle.std.proofs.lemmas.Bool.{cases_eq, cases_order, cases_lt}
 use Rattle.std.proofs.lemmas.List.{get_or_append_left, get_or_push, length_push}
 use borrow.Author.Count.{below_more}
-use Rattle.rbbi_model.specs.Tables.{Table, accept_of, fronts_of, list_of, statuses_of, step, row_along}
+use Rattle.rbbi_model.specs.Tables.{Table, accept_of, fronts_of, list_of, step, row_along}
 use Rattle.rbbi_model.specs.ValidTables.{IsWay, IsBefore}
-use Rattle.rbbi_model.specs.Marks.{Marks, no_marks, marks_of}
-use Rattle.rbbi_dfa.specs.Automata.{IsDetermined, IsAutomatonRow, LeadsToMarks}
+use Rattle.rbbi_model.specs.Marks.{Marks, marks_of}
+use Rattle.rbbi_dfa.specs.Automata.{IsDetermined, LeadsToMarks}
 use Rattle.rbbi_dfa.specs.Partitions.{IsPartition, IsToldApart}
 use Rattle.rbbi_dfa.specs.Ranks.{AreRanked}
 use Rattle.rbbi_dfa.proofs.Merged.{IsBefore-irreflexive}

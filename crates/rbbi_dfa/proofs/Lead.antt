@@ -4,13 +4,13 @@ use Rattle.std.specs.Int.{bit_at}
 use Rattle.std.proofs.lemmas.Bool.{cases_eq}
 use Rattle.std.proofs.lemmas.List.{ext_get_or, get_or_append_left, get_or_push, length_push}
 use Rattle.std.proofs.lemmas.Nat.Bits.{bit_at-lt, same_from_bits_below}
-use Rattle.rbbi_dfa.specs.BitRows.{Holds, IsEmptyRow, row_at}
+use Rattle.rbbi_dfa.specs.BitRows.{Holds, row_at}
 use Rattle.rbbi_dfa.specs.PositionRows.{PositionRows}
 use Rattle.rbbi_dfa.specs.Determinizing.{IsStep, IsReached, FromFirst, FromSet, IsSome, AreDifferent, IsRow, AreReachedSets, IsCell, AreReachedCandidates, Begin, AddsCells, HasReachedSets}
 use Rattle.rbbi_dfa.specs.LeafSetIndex.{IsAbsent, KeepsOrAdds}
 use Rattle.rbbi_dfa.proofs.Bits.{holds_word}
 
-word_holds : (row : List ℕ) (k t : ℕ) → t < 64 → Holds row (64 * k + t) → bit_at (get_or row k 0) t ≡ 1
+pub word_holds : (row : List ℕ) (k t : ℕ) → t < 64 → Holds row (64 * k + t) → bit_at (get_or row k 0) t ≡ 1
 word_holds row k t small holds =
     let word : (64 * k + t) / 64 ≡ k = omega (arith, small) in
     let place : (64 * k + t) % 64 ≡ t = omega (arith, small) in
@@ -99,8 +99,17 @@ module _ (rows : PositionRows) where
       ⊎_elim inl
       (λ some. inr (some.0, omega (arith, some.1, begin.0), subst (IsStep rows candidates category) (sym (begin.1 (cell - 2) (omega (arith, some.0, some.1)))) some.2))
 
-  pub empty_cell : (sets : List (List ℕ)) (candidates next : List ℕ) (category cell : ℕ) → cell ≡ 0 → IsStep rows candidates category next → IsEmptyRow next → IsCell rows sets candidates category cell
-  empty_cell sets candidates next category cell none is empty = inl (none, λ p comes. empty p ((is p).1 comes))
+  -- no candidate reads the category
+  abbrev pub IsUnread : List ℕ → ℕ → Type 0
+  IsUnread candidates category = (p : ℕ) → Holds candidates p → ¬ Holds (row_at rows.reads category) p
+
+  pub empty_cell : (sets : List (List ℕ)) (candidates : List ℕ) (category cell : ℕ) → cell ≡ 0 → IsUnread candidates category → IsCell rows sets candidates category cell
+  empty_cell sets candidates category cell none unread =
+      inl (none, λ p comes. ⊎_elim (λ candidate. unread p candidate comes.0) (λ chain. unread chain.1.0 chain.1.1 chain.1.2) comes.1)
+
+  -- some candidate reads the category, and comes next
+  pub some_next : (candidates next : List ℕ) (category : ℕ) → IsStep rows candidates category next → (p : ℕ) × Holds candidates p × Holds (row_at rows.reads category) p → IsSome next
+  some_next candidates next category is read = (read.0, (is read.0).1 (read.2, inl read.1))
 
   pub set_cell : (sets : List (List ℕ)) (candidates next : List ℕ) (category number cell : ℕ) → cell ≡ number + 2 → number < length sets → row_at sets number ≡ next → IsStep rows candidates category next → IsCell rows sets candidates category cell
   set_cell sets candidates next category number cell at short same is =

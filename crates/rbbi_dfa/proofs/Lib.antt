@@ -9,6 +9,7 @@ pub mod Steps
 pub mod Buckets
 pub mod Lead
 pub mod Cells
+pub mod WordFollowers
 pub mod MarkLoops
 pub mod Joined
 pub mod Determined
@@ -31,3 +32,5 @@ pub mod Leastness
 pub mod RuleNeeds
 pub mod Compiling
 pub mod Finishing
+pub mod Building
+pub mod LookAheads

@@ -1,14 +1,14 @@
 -- Merging rows that are alike changes no marks along any categories.
-use Rattle.std.proofs.Common.{◌≡◌, ◌≢◌, ℕ, zero, suc, ◌+◌, ◌*◌, ◌^◌, ◌<◌, ◌≤◌, Bool, true, false, List, [], ◌∷◌, ◌++◌, length, take, get_or, refl, ap, sym, ◌∙◌, subst, ◌⊎◌, inl, inr, ⊎_elim, arith, slice_index, slice_index_or, IsTrue}
+use Rattle.std.proofs.Common.{◌≡◌, ◌≢◌, ℕ, zero, suc, ◌^◌, ◌<◌, ◌≤◌, List, [], ◌∷◌, length, take, refl, ap, sym, ◌∙◌, subst, inl, inr, ⊎_elim, arith, slice_index, slice_index_or}
 use Rattle.std.specs.List.{AllByRecursion}
 use Rattle.std.proofs.lemmas.Bool.{cases_lt}
 use Rattle.rbbi_model.specs.Places.{has_bit}
-use Rattle.rbbi_model.specs.Tables.{Table, RowHead, head_of, accept_of, fronts_of, list_of, statuses_of, step, row_along}
-use Rattle.rbbi_model.specs.ValidTables.{IsWay, IsValidList, IsBefore, AreInOrder, BeginsWithZeroAlone, LeadsToZero, IsValidRow, IsPlain, AreValidRows, AreFronted}
+use Rattle.rbbi_model.specs.Tables.{Table, head_of, accept_of, fronts_of, list_of, statuses_of, step, row_along}
+use Rattle.rbbi_model.specs.ValidTables.{IsWay, IsBefore, AreInOrder, BeginsWithZeroAlone, LeadsToZero, IsValidRow, IsPlain, AreValidRows, AreFronted}
 use Rattle.rbbi_model.specs.Marks.{Marks, no_marks, marks_of}
 use Rattle.rbbi_model.specs.Compiled.{IsLeast}
-use Rattle.rbbi_dfa.specs.Automata.{IsDetermined, IsAutomatonRow}
-use Rattle.rbbi_dfa.specs.Partitions.{IsPartition, IsToldApart, IsStable, IsMerged}
+use Rattle.rbbi_dfa.specs.Automata.{IsDetermined}
+use Rattle.rbbi_dfa.specs.Partitions.{IsPartition, IsStable, IsMerged}
 
 -- a way for so many categories is one for as many
 pub IsWay-same : (this that : Table) (way : List ℕ) → this.categories ≡ that.categories → IsWay this way → IsWay that way

@@ -1,19 +1,18 @@
 -- What is made of a partition, part by part, is the merged table.
-use Rattle.std.proofs.Common.{◌≡◌, ◌≢◌, ℕ, zero, suc, ◌+◌, ◌*◌, ◌/◌, ◌%◌, ◌-◌, ◌<◌, ◌≤◌, Bool, true, false, List, [], ◌∷◌, ◌++◌, length, refl, ap, sym, ◌∙◌, subst, ◌⊎◌, inl, inr, ⊎_elim, arith, mul_comm, slice_index, slice_index_or}
-use Rattle.std.specs.List.{AllByRecursion, IsDistinct}
+use Rattle.std.proofs.Common.{◌≡◌, ℕ, zero, suc, ◌+◌, ◌*◌, ◌/◌, ◌%◌, ◌<◌, ◌≤◌, Bool, true, false, List, [], ◌∷◌, ◌++◌, length, refl, ap, sym, ◌∙◌, subst, inl, inr, arith, mul_comm, slice_index, slice_index_or}
+use Rattle.std.specs.List.{AllByRecursion}
 use Rattle.std.proofs.lemmas.Nat.{div-mul-add, mod-mul-add, mul-add-lt}
 use Rattle.std.proofs.lemmas.List.{get_or_append_left, get_or_push, length_push}
-use Rattle.std.proofs.lemmas.Bool.{cases_lt}
 use borrow.Author.Count.{below_more}
-use Rattle.rbbi_model.specs.Tables.{Table, RowHead, empty_head, accept_of, fronts_of, list_of, statuses_of, step}
+use Rattle.rbbi_model.specs.Tables.{Table, RowHead, list_of, statuses_of, step}
 use Rattle.rbbi_model.specs.ValidTables.{IsValidList, IsBefore, AreInOrder, BeginsWithZeroAlone}
-use Rattle.rbbi_model.specs.Marks.{Marks, no_marks, marks_of}
-use Rattle.rbbi_dfa.specs.Automata.{IsDetermined, IsAutomatonRow}
-use Rattle.rbbi_dfa.specs.Partitions.{IsPartition, IsMinimized, IsMerged}
-use Rattle.rbbi_dfa.specs.Ranks.{AreRising, AreSorted, AreRanks, AreRanked}
+use Rattle.rbbi_model.specs.Marks.{Marks, marks_of}
+use Rattle.rbbi_dfa.specs.Automata.{IsDetermined}
+use Rattle.rbbi_dfa.specs.Partitions.{IsPartition, IsMerged}
+use Rattle.rbbi_dfa.specs.Ranks.{AreRising, AreRanked}
 use Rattle.rbbi_dfa.specs.Numbers.{ArePlacesOf, AreUsed, AreNumbered, HaveCells, HaveHeads}
 use Rattle.rbbi_dfa.proofs.Grouping.{marks_by_parts}
-use Rattle.rbbi_dfa.proofs.Needed.{length-le_from_numbered, all_by_index, index_by_all}
+use Rattle.rbbi_dfa.proofs.Needed.{length-le_from_numbered, all_by_index}
 
 pub HaveCells-more : (automaton : Table) (classes firsts cells more : List ℕ) (count cell : ℕ) → HaveCells automaton classes firsts count cells →
     cell ≡ slice_index classes (step automaton (slice_index firsts (count / automaton.categories)) (count % automaton.categories)) → more ≡ cells ++ cell ∷ [] → HaveCells automaton classes firsts (count + 1) more

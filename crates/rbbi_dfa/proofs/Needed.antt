@@ -1,6 +1,6 @@
 -- How many rows a table needs: as many as there are classes.
-use Rattle.std.proofs.Common.{◌≡◌, ◌≢◌, ℕ, zero, suc, ◌+◌, ◌-◌, ◌<◌, ◌≤◌, Bool, true, false, ◌||◌, List, [], ◌∷◌, length, map, take, drop, get_or, eqb, refl, ap, sym, ◌∙◌, subst, ◌⊎◌, inl, inr, ⊎_elim, arith, add_comm, slice_index}
-use Rattle.std.specs.List.{AllByRecursion, AllPairs, IsDistinct, list_any}
+use Rattle.std.proofs.Common.{◌≡◌, ◌≢◌, ℕ, zero, suc, ◌+◌, ◌-◌, ◌<◌, ◌≤◌, true, false, ◌||◌, List, [], ◌∷◌, length, map, take, drop, get_or, eqb, ap, sym, ◌∙◌, subst, ⊎_elim, arith, add_comm, slice_index}
+use Rattle.std.specs.List.{AllByRecursion, list_any}
 use Rattle.std.proofs.lemmas.Bool.{cases_eq, cases_lt, cases_Bool, false≢true}
 use Rattle.std.proofs.lemmas.Bool.Decides.{Decides-eqb}
 use Rattle.std.proofs.lemmas.List.{length-map, length-take, length-drop, get_or-map, get_or-take, get_or-drop, get_or_default}
@@ -9,8 +9,8 @@ use Rattle.std.proofs.lemmas.Map.Steps.{length-le_from_distinct_below}
 use Rattle.rbbi_model.specs.Tables.{Table, step, row_along}
 use Rattle.rbbi_model.specs.ValidTables.{IsWay}
 use Rattle.rbbi_model.specs.Marks.{marks_of}
-use Rattle.rbbi_dfa.specs.Automata.{IsDetermined, IsAutomatonRow}
-use Rattle.rbbi_dfa.specs.Partitions.{IsPartition, IsToldApart, IsStable, IsMinimized, NeedsRows}
+use Rattle.rbbi_dfa.specs.Automata.{IsDetermined}
+use Rattle.rbbi_dfa.specs.Partitions.{IsPartition, IsToldApart, IsStable, NeedsRows}
 
 -- what holds of each number of a list holds of each that is in it
 each_member : (P : ℕ → Type 0) (xs : List ℕ) → AllByRecursion P xs → (q : ℕ) → list_any (eqb q) xs ≡ true → P q

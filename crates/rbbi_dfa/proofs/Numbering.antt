@@ -1,12 +1,12 @@
 -- Numbering the status lists that classes have.
-use Rattle.std.proofs.Common.{◌≡◌, ◌≢◌, ℕ, zero, suc, ◌+◌, ◌<◌, ◌≤◌, Bool, true, false, List, [], ◌∷◌, ◌++◌, length, set, refl, ap, sym, ◌∙◌, subst, ⊎_elim, arith, slice_index, slice_index_or}
+use Rattle.std.proofs.Common.{◌≡◌, ◌≢◌, ℕ, ◌+◌, ◌<◌, Bool, true, false, List, [], ◌∷◌, ◌++◌, length, set, refl, ap, sym, ◌∙◌, subst, ⊎_elim, arith, slice_index, slice_index_or}
 use Rattle.std.proofs.lemmas.Bool.{cases_eq, false≢true}
 use Rattle.std.proofs.lemmas.List.{get_or_append_left, get_or_push, length_push, get_or-set_same, get_or-set_other}
 use borrow.Author.Count.{below_more}
 use Rattle.rbbi_model.specs.Tables.{Table, list_of}
 use Rattle.rbbi_model.specs.ValidTables.{IsBefore}
 use Rattle.rbbi_dfa.specs.Ranks.{AreRising}
-use Rattle.rbbi_dfa.specs.Numbers.{ArePlacesOf, AreUsed, AreNumbered}
+use Rattle.rbbi_dfa.specs.Numbers.{ArePlacesOf, AreNumbered}
 
 -- the places of so many classes
 pub record ArePlacesUpTo (automaton : Table) (places firsts class_places : List ℕ) (count : ℕ) : Type 0 where

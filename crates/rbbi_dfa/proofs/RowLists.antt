@@ -1,6 +1,6 @@
 -- Vectors of rows, seen as lists of rows.
 use Rattle.std.proofs.Common.{◌≡◌, ℕ, ◌<◌, List, [], length, get_or, sym, ap, ◌∙◌, Vec, Global}
-use Rattle.std.proofs.lemmas.List.{get_or-map, length-map}
+use Rattle.std.proofs.lemmas.List.{get_or-map, length-map, get_or_default}
 use Rattle.rbbi_dfa.specs.BitRows.{row_at}
 use Rattle.rbbi_dfa.specs.Determinizing.{items_of}
 
@@ -9,3 +9,7 @@ items_at rows i row short is = get_or-map (λ r. r.items) rows i row [] short �
 
 pub items_many : (rows : List (Vec ℕ Global)) → length (items_of rows) ≡ length rows
 items_many rows = length-map rows (λ r. r.items)
+
+-- the row that was read from a list of rows
+pub found_row : (rows : List (List ℕ)) (i : ℕ) (row : List ℕ) → i < length rows → row ≡ get_or rows i row → row_at rows i ≡ row
+found_row rows i row short is = get_or_default rows i [] row short ∙ sym is

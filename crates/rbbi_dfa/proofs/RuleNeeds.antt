@@ -1,16 +1,16 @@
 -- The rows that an automaton needs are words that the rules tell apart.
-use Rattle.std.proofs.Common.{◌≡◌, ◌≢◌, ℕ, zero, suc, ◌+◌, ◌<◌, ◌≤◌, List, [], ◌∷◌, ◌++◌, length, map, get_or, refl, ap, sym, ◌∙◌, subst, ⊎_elim, inl, inr, arith, slice_index, slice_index_or}
-use Rattle.std.specs.List.{AllByRecursion, AllPairs}
+use Rattle.std.proofs.Common.{◌≡◌, ◌≢◌, ℕ, zero, suc, ◌<◌, ◌≤◌, List, [], ◌∷◌, ◌++◌, length, map, get_or, refl, ap, sym, ◌∙◌, subst, ⊎_elim, arith, slice_index, slice_index_or}
+use Rattle.std.specs.List.{AllByRecursion}
 use Rattle.std.proofs.lemmas.Bool.{cases_eq, cases_lt}
 use Rattle.std.proofs.lemmas.List.{length-map, map-append, get_or-map, get_or_default, get_or_append_left, get_or_push, length_push}
 use borrow.Author.Count.{below_more}
-use Rattle.rbbi_model.specs.Words.{IsCodePoint, IsWord}
+use Rattle.rbbi_model.specs.Words.{IsWord}
 use Rattle.rbbi_model.specs.Rules.{Rule}
-use Rattle.rbbi_model.specs.Tables.{Table, CategoryRange, category_of, step, row_along, row_after}
+use Rattle.rbbi_model.specs.Tables.{Table, CategoryRange, category_of, step, row_along}
 use Rattle.rbbi_model.specs.ValidTables.{IsWay}
-use Rattle.rbbi_model.specs.Marks.{Marks, no_marks, AreMarks, AreMarksOrNone, marks_of, HasSameMarks}
+use Rattle.rbbi_model.specs.Marks.{Marks, AreMarks, AreMarksOrNone, marks_of, HasSameMarks}
 use Rattle.rbbi_model.specs.Compiled.{AreToldApart, LeadsSomewhere, Needs}
-use Rattle.rbbi_dfa.specs.Automata.{IsDetermined, IsAutomatonRow, LeadsToMarks, with_ranges}
+use Rattle.rbbi_dfa.specs.Automata.{IsDetermined, LeadsToMarks, with_ranges}
 use Rattle.rbbi_dfa.specs.Partitions.{IsToldApart, NeedsRows}
 use Rattle.rbbi_dfa.specs.Categories.{AreUsed, AreWithin}
 use Rattle.rbbi_dfa.proofs.Grouping.{row_along-append, stop_along, alive}

@@ -1,11 +1,10 @@
 -- A split of a partition is a partition, whatever was split by.
-use Rattle.std.proofs.Common.{◌≡◌, ◌≢◌, ℕ, ◌+◌, ◌<◌, ◌≤◌, Bool, true, false, List, [], ◌∷◌, ◌++◌, length, get_or, refl, ap, sym, ◌∙◌, subst, ◌⊎◌, inl, inr, ⊎_elim, arith, slice_index, slice_index_or}
+use Rattle.std.proofs.Common.{◌≡◌, ◌≢◌, ℕ, ◌+◌, ◌<◌, ◌≤◌, Bool, true, false, List, [], ◌∷◌, ◌++◌, length, refl, ap, sym, ◌∙◌, subst, inl, inr, ⊎_elim, arith, slice_index}
 use Rattle.std.proofs.lemmas.List.{get_or_append_left, get_or_push, length_push}
-use Rattle.std.proofs.lemmas.Bool.{cases_eq, cases_lt}
-use Rattle.rbbi_model.specs.Tables.{Table, step, row_along}
-use Rattle.rbbi_model.specs.ValidTables.{IsWay}
+use Rattle.std.proofs.lemmas.Bool.{cases_eq}
+use Rattle.rbbi_model.specs.Tables.{Table, step}
 use Rattle.rbbi_model.specs.Marks.{marks_of}
-use Rattle.rbbi_dfa.specs.Automata.{IsDetermined, IsAutomatonRow}
+use Rattle.rbbi_dfa.specs.Automata.{IsDetermined}
 use Rattle.rbbi_dfa.specs.Partitions.{IsPartition, IsToldApart, AreSides, Leaves, leads_inside}
 use Rattle.rbbi_dfa.proofs.Splits.{IsMoved, IsSplitUpTo, IsSplitUpTo-same}
 

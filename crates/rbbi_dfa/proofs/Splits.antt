@@ -1,13 +1,10 @@
 -- A split of a class: what it leaves, row by row, and that it is sound.
-use Rattle.std.proofs.Common.{◌≡◌, ◌≢◌, ℕ, ◌+◌, ◌<◌, ◌≤◌, zero, suc, Bool, true, false, List, [], ◌∷◌, ◌++◌, length, get_or, refl, ap, sym, ◌∙◌, subst, ◌⊎◌, inl, inr, ⊎_elim, arith, IsTrue, ◌↔◌, slice_index}
+use Rattle.std.proofs.Common.{◌≡◌, ℕ, ◌+◌, ◌<◌, ◌≤◌, Bool, true, false, List, [], ◌∷◌, ◌++◌, length, refl, ap, sym, ◌∙◌, subst, ◌⊎◌, inl, inr, arith, IsTrue, ◌↔◌, slice_index}
 use Rattle.std.proofs.lemmas.List.{get_or_append_left, get_or_push, length_push}
 use Rattle.std.proofs.lemmas.Bool.{false≢true}
 use borrow.Author.Count.{below_more}
-use Rattle.rbbi_model.specs.Tables.{Table, step, row_along}
-use Rattle.rbbi_model.specs.ValidTables.{IsWay}
-use Rattle.rbbi_model.specs.Marks.{marks_of}
-use Rattle.rbbi_dfa.specs.Automata.{IsDetermined, IsAutomatonRow}
-use Rattle.rbbi_dfa.specs.Partitions.{IsPartition, IsToldApart, AreSides, Leaves, leads_inside}
+use Rattle.rbbi_model.specs.Tables.{Table}
+use Rattle.rbbi_dfa.specs.Partitions.{Leaves}
 
 -- the row has moved to the new class where it leaves, and is in its class where it doesn't
 abbrev pub IsMoved : Table → List ℕ → List Bool → ℕ → ℕ → Bool → ℕ → ℕ → ℕ → Type 0

@@ -1,6 +1,6 @@
 -- One step: what can follow a set, and what of it comes by a category.
-use Rattle.std.proofs.Common.{◌≡◌, ℕ, ◌+◌, ◌/◌, ◌%◌, ◌<◌, ◌≤◌, ◌⊎◌, ◌↔◌, List, [], length, get_or, sym, ap, ◌∙◌, subst, inl, inr, ⊎_elim, arith, ◌*◌}
-use Rattle.std.proofs.lemmas.Bool.{cases_lt, cases_eq}
+use Rattle.std.proofs.Common.{◌≡◌, ℕ, ◌/◌, ◌%◌, ◌<◌, ◌≤◌, ◌⊎◌, ◌↔◌, List, [], length, get_or, sym, ap, ◌∙◌, subst, inl, inr, ⊎_elim, arith, ◌*◌}
+use Rattle.std.proofs.lemmas.Bool.{cases_lt}
 use Rattle.std.proofs.lemmas.List.{get_or_past, get_or_default}
 use Rattle.std.proofs.lemmas.Nat.Bits.{bit_at-zero}
 use Rattle.std.specs.Int.{bit_at}
@@ -16,56 +16,6 @@ empty_holds row p none = λ holds.
 
 pub followers_none : (follow : List (List ℕ)) (set candidates : List ℕ) → ((p : ℕ) → ¬ Holds candidates p) → AreFollowersUpTo follow set 0 candidates
 followers_none follow set candidates none p = (λ holds. absurd (none p holds), λ few. absurd (omega (arith, few.1)))
-
-pub followers_with : (follow : List (List ℕ)) (set candidates next row : List ℕ) (i : ℕ) → AreFollowersUpTo follow set i candidates → Holds set i → row_at follow i ≡ row →
-    ((p : ℕ) → Holds next p ↔ (Holds candidates p ⊎ Holds row p)) → AreFollowersUpTo follow set (i + 1) next
-followers_with follow set candidates next row i before here is united p = (
-  λ holds.
-      ⊎_elim
-      (λ old. let earlier = (before p).0 old in (earlier.0, omega (arith, earlier.1), earlier.2, earlier.3))
-      (λ new. (i, omega arith, here, subst (λ l. Holds l p) (sym is) new))
-      ((united p).0 holds),
-  λ (q, short, at, follows). (united p).1
-      (⊎_elim
-      (λ same. inr (subst (λ l. Holds l p) (ap (λ n. row_at follow n) same ∙ is) follows))
-      (λ other. inl ((before p).1 (q, omega (arith, short, other), at, follows)))
-      (cases_eq q i)),
-)
-
-pub followers_without : (follow : List (List ℕ)) (set candidates : List ℕ) (i : ℕ) → AreFollowersUpTo follow set i candidates → ¬ Holds set i → AreFollowersUpTo follow set (i + 1) candidates
-followers_without follow set candidates i before absent p = (
-  λ holds. let earlier = (before p).0 holds in (earlier.0, omega (arith, earlier.1), earlier.2, earlier.3),
-  λ (q, short, at, follows).
-      ⊎_elim
-      (λ same. absurd (absent (subst (λ n. Holds set n) same at)))
-      (λ other. (before p).1 (q, omega (arith, short, other), at, follows))
-      (cases_eq q i),
-)
-
--- a position past the rows is followed by none
-pub followers_past : (follow : List (List ℕ)) (set candidates : List ℕ) (i : ℕ) → AreFollowersUpTo follow set i candidates → length follow ≤ i → AreFollowersUpTo follow set (i + 1) candidates
-followers_past follow set candidates i before past p = (
-  λ holds. let earlier = (before p).0 holds in (earlier.0, omega (arith, earlier.1), earlier.2, earlier.3),
-  λ (q, short, at, follows).
-      ⊎_elim
-      (λ same. absurd (empty_holds (row_at follow q) p (get_or_past follow q [] (omega (arith, past, same))) follows))
-      (λ other. (before p).1 (q, omega (arith, short, other), at, follows))
-      (cases_eq q i),
-)
-
--- a word that is 0 has no position
-pub followers_skip : (follow : List (List ℕ)) (set candidates : List ℕ) (i : ℕ) → AreFollowersUpTo follow set (64 * i) candidates → get_or set i 0 ≡ 0 → AreFollowersUpTo follow set (64 * i + 64) candidates
-followers_skip follow set candidates i before none p = (
-  λ holds. let earlier = (before p).0 holds in (earlier.0, omega (arith, earlier.1), earlier.2, earlier.3),
-  λ (q, short, at, follows).
-      ⊎_elim
-      (λ less. (before p).1 (q, less, at, follows))
-      (λ within.
-      let word : q / 64 ≡ i = omega (arith, short, within) in
-      let bit : bit_at (get_or set (q / 64) 0) (q % 64) ≡ 0 = ap (λ n. bit_at (get_or set n 0) (q % 64)) word ∙ ap (λ n. bit_at n (q % 64)) none ∙ bit_at-zero (q % 64) in
-      absurd (omega (arith, bit, at)))
-      (cases_lt q (64 * i)),
-)
 
 pub followers_all : (rows : PositionRows) (set candidates : List ℕ) (i : ℕ) → length set ≤ i → AreFollowersUpTo rows.follow set (64 * i) candidates → AreFollowers rows set candidates
 followers_all rows set candidates i all before p = (

@@ -3,6 +3,7 @@ pub mod BitRows
 pub mod PositionRows
 pub mod PositionAutomata
 pub mod Determinizing
+pub mod LastWords
 pub mod LeafSetIndex
 pub mod MarkedRows
 pub mod Partitions
@@ -11,3 +12,4 @@ pub mod Numbers
 pub mod Refusals
 pub mod LeastTables
 pub mod Categories
+pub mod Builds

@@ -13,15 +13,17 @@ ghost use Rattle.rbbi_dfa.specs.MarkedRows.{AreReadable, AreOf};
 
 mod bits;
 mod error;
-mod laws;
+mod last_words;
 mod leaf_sets;
 mod marks;
 mod position_rows;
 mod rows_of;
+mod spanned;
 mod step;
 
 use crate::automaton::{Automaton, Head};
 use error::DeterminizeErr;
+use last_words::LastWords;
 use leaf_sets::LeafSets;
 use position_rows::Rows;
 use rbbi_positions::Positions;
@@ -48,12 +50,13 @@ fn lead_on(
         cells.old.items cells.new.items rows.now.categories) }
     ensures refused { result ≡ Err DeterminizeErr.TooManySets → HasReachedSets rows.now 16385 }
 {
+    let span = bits::span_of(candidates);
     for category in 0..rows.categories as usize {
-        step::step(rows, candidates, category, next);
-        let cell = if bits::is_empty(next) {
-            0
-        } else {
+        let cell = if step::is_read(rows, candidates, span, category) {
+            step::step(rows, candidates, category, next);
             sets.number_of(alloc, next)? + 2
+        } else {
+            0
         };
         cells.push(cell as u16)?;
     }
@@ -82,6 +85,7 @@ fn lead_all(alloc: Global, rows: &Rows, sets: &mut LeafSets) -> Result<Vec<u16>,
     let candidates = candidate_row.as_mut_slice();
     let mut next_row: Vec<u64> = vec![in alloc; 0; rows.width]?;
     let next = next_row.as_mut_slice();
+    let mut last = LastWords::new(alloc, rows)?;
     let mut cells: Vec<u16> = Vec::new(alloc);
     lead_nowhere(rows, &mut cells)?;
     lead_on(alloc, rows, &rows.first, sets, next, &mut cells)?;
@@ -91,7 +95,7 @@ fn lead_all(alloc: Global, rows: &Rows, sets: &mut LeafSets) -> Result<Vec<u16>,
         if step::completes(rows, set) {
             lead_nowhere(rows, &mut cells)?;
         } else {
-            step::follow(rows, set, candidates);
+            last.follow(alloc, rows, set, candidates)?;
             lead_on(alloc, rows, candidates, sets, next, &mut cells)?;
         }
         i += 1;
@@ -169,6 +173,7 @@ pub(crate) fn automaton_of(
     requires some_categories { 1 ≤ categories }
     requires few_categories { categories ≤ 255 }
     requires readable { AreReadable positions.now categories slashes }
+    ensures categories { IfOk result (λ automaton. automaton.categories ≡ categories) }
     ensures marks { IfOk result (λ automaton. (rules : List Rule) (ranges : List CategoryRange) →
         AreOf rules categories slashes ranges positions.now →
         HasSameMarks (with_ranges automaton ranges) rules) }

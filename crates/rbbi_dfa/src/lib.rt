@@ -2,11 +2,12 @@
 #![tactic(auto)]
 
 mod automaton;
+mod compile;
 mod determinize;
 mod error;
-mod laws;
 mod least;
 mod minimize;
 mod table;
 
+pub use compile::build;
 pub use error::BuildErr;

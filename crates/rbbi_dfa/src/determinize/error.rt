@@ -1,4 +1,5 @@
 //! Why rules aren't determinised.
+use crate::error::BuildErr;
 use std::alloc::{AllocError, AllocFailed};
 
 /// Why rules aren't determinised.
@@ -29,5 +30,19 @@ impl<T: Drop> From<AllocFailed<T>> for DeterminizeErr {
 
     fn from(_: AllocFailed<T>) -> Self {
         DeterminizeErr::Memory
+    }
+}
+
+impl From<DeterminizeErr> for BuildErr {
+    ghost use Rattle.std.specs.Prelude.{◌≡◌};
+    ghost use Rattle.rbbi_dfa.specs.Refusals.{refusal_of};
+
+    ghost from_gives = { λ error e. e ≡ refusal_of error };
+
+    fn from(error: DeterminizeErr) -> BuildErr {
+        match error {
+            DeterminizeErr::TooManySets => BuildErr::TooManySets,
+            DeterminizeErr::Memory => BuildErr::Memory,
+        }
     }
 }

@@ -1,4 +1,5 @@
 //! What is kept of the positions of rules, as rows of bits (Glushkov 1961).
+use crate::determinize::spanned::SpannedRow;
 use std::marker::Model;
 
 /// What is marked where the position reads the last code point: the number of a look-ahead rule among
@@ -42,7 +43,7 @@ pub(crate) struct Rows {
     /// The last positions.
     pub last: Vec<u64>,
     /// For each position those that may follow it.
-    pub follow: Vec<Vec<u64>>,
+    pub follow: Vec<SpannedRow>,
     /// For each category the positions that read it.
     pub reads: Vec<Vec<u64>>,
     /// The last positions of look-ahead rules, with the rules' numbers among these.
@@ -66,7 +67,7 @@ impl Model for Rows {
       first = rows.first.items;
       chained = rows.chained.items;
       last = rows.last.items;
-      follow = map (λ row. row.items) rows.follow.items;
+      follow = rows.follow.items;
       reads = map (λ row. row.items) rows.reads.items;
       completed = rows.completed.items;
       fronts = rows.fronts.items;
@@ -80,7 +81,7 @@ impl Model for Rows {
       first = rows.first.items;
       chained = rows.chained.items;
       last = rows.last.items;
-      follow = map (λ row. row.items) rows.follow.items;
+      follow = rows.follow.items;
       reads = map (λ row. row.items) rows.reads.items;
       completed = rows.completed.items;
       fronts = rows.fronts.items;

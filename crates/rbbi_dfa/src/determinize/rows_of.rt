@@ -9,6 +9,7 @@ ghost use Rattle.std.specs.List.Sorted.{IsPermutation};
 
 use crate::determinize::bits::insert;
 use crate::determinize::position_rows::{Mark, Rows};
+use crate::determinize::spanned::SpannedRow;
 use rbbi_positions::Positions;
 use std::alloc::{AllocError, Global};
 
@@ -111,14 +112,15 @@ fn list_of(alloc: Global, positions: &Positions, kind: ListKind) -> Result<Vec<M
 }
 
 /// For each position the row of those that follow it.
-fn follow_rows(alloc: Global, positions: &Positions) -> Result<Vec<Vec<u64>>, AllocError>
+fn follow_rows(alloc: Global, positions: &Positions) -> Result<Vec<SpannedRow>, AllocError>
     requires { (position : ℕ) → position < positions.now.leaves → HasOwner positions.now position }
     ensures { IfOk result (λ rows. AreRowsBy positions.now (λ before. RowKind.Follow before)
-        positions.now.leaves (items_of rows.items)) }
+        positions.now.leaves rows.items) }
 {
-    let mut rows: Vec<Vec<u64>> = Vec::new(alloc);
+    let mut rows = Vec::new(alloc);
     for before in 0..positions.leaves() {
-        rows.push(row_of(alloc, positions, RowKind::Follow(before))?)?;
+        let row = row_of(alloc, positions, RowKind::Follow(before))?;
+        rows.push(SpannedRow::new(row))?;
     }
     Ok(rows)
 }

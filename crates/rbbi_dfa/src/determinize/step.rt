@@ -1,39 +1,23 @@
 //! Which set of positions comes next by a category.
 ghost use Rattle.std.specs.Prelude.{◌≡◌, ◌<◌, ◌+◌, ◌*◌, ℕ, length, IsTrue, false};
+ghost use Rattle.rbbi_dfa.specs.BitRows.{Holds, IsSpan, row_at};
 ghost use Rattle.rbbi_dfa.specs.Determinizing.{IsStep, IsRow, AreFollowers, Completes};
 ghost use Rattle.rbbi_dfa.specs.Determinizing.{AreFollowersUpTo};
 
-use crate::determinize::bits::{has, intersect, meet, unite, unite_common};
+use crate::determinize::bits::{Span, has, intersect, meet, meet_within, unite_common};
 use crate::determinize::position_rows::Rows;
 
-/// Adds the positions that may follow one of word `i` of the set.
-fn follow_word(rows: &Rows, set: &[u64], i: usize, candidates: &mut [u64])
-    requires wide { length candidates.old ≡ rows.now.width }
-    requires within { i < rows.now.width }
-    ensures { AreFollowersUpTo rows.now.follow set.now (64 * i) candidates.old →
-        AreFollowersUpTo rows.now.follow set.now (64 * i + 64) candidates.new }
+/// Whether a candidate reads the category. The candidates have this span.
+pub(crate) fn is_read(rows: &Rows, candidates: &[u64], span: Span, category: usize) -> bool
+    requires category { category < rows.now.categories }
+    requires candidates { length candidates.now ≡ rows.now.width }
+    requires span { IsSpan candidates.now span.from span.to }
+    ensures some { IsTrue result → (position : ℕ)
+        × Holds candidates.now position × Holds (row_at rows.now.reads category) position }
+    ensures none { result ≡ false → (position : ℕ) →
+        Holds candidates.now position → ¬ Holds (row_at rows.now.reads category) position }
 {
-    for bit in 0..64 {
-        let position = 64 * i + bit;
-        if position < rows.follow.len() && has(set, position) {
-            unite(candidates, &rows.follow[position]);
-        }
-    }
-}
-
-/// Makes `candidates` the positions that may follow one of the set. Words without a position are
-/// skipped.
-pub(crate) fn follow(rows: &Rows, set: &[u64], candidates: &mut [u64])
-    requires set { length set.now ≡ rows.now.width }
-    requires candidates { length candidates.old ≡ rows.now.width }
-    ensures { AreFollowers rows.now set.now candidates.new }
-{
-    candidates.fill(0);
-    for i in 0..set.len() {
-        if set[i] != 0 {
-            follow_word(rows, set, i, candidates);
-        }
-    }
+    meet_within(candidates, rows.reads[category].as_slice(), span)
 }
 
 /// Makes `next` the positions that come next by the category: the candidates that read it, and where

@@ -1,4 +1,4 @@
-use Rattle.std.proofs.Common.{◌<◌, length, arith}
+use Rattle.std.proofs.Common.{arith}
 use Rattle.rbbi_dfa.proofs.Needed.{NeedsRows-from_classes}
 use Rattle.rbbi_dfa.proofs.minimize.minimize.Goals as goal
 

@@ -1,6 +1,5 @@
 -- Each turn leaves a partition of one class more.
-use Rattle.std.proofs.Common.{◌≤◌, ◌-◌, length}
-use Rattle.rbbi_dfa.proofs.Refining.{IsRefined}
+use Rattle.std.proofs.Common.{◌-◌, length}
 use Rattle.rbbi_dfa.specs.Partitions.{IsPartition}
 use Rattle.rbbi_dfa.proofs.minimize.minimize.Given as goal
 

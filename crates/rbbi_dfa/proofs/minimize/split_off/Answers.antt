@@ -1,4 +1,4 @@
-use Rattle.std.proofs.Common.{◌≡◌, ◌<◌, List, ℕ, Bool, length, slice_index, map, nat_eq, ap, sym, ◌∙◌, subst, arith}
+use Rattle.std.proofs.Common.{◌≡◌, ◌<◌, List, ℕ, length, slice_index, map, nat_eq, ap, sym, ◌∙◌, arith}
 use Rattle.std.proofs.lemmas.List.{get_or_read_under}
 use Rattle.rbbi_model.specs.Tables.{step}
 use Rattle.rbbi_dfa.specs.Partitions.{leads_inside}

@@ -1,13 +1,12 @@
-use Rattle.std.proofs.Common.{◌+◌, ℕ, Vec, Global, sym, ap, ◌∙◌, subst}
-use Rattle.std.proofs.lemmas.List.{map_push}
+use Rattle.std.proofs.Common.{◌+◌, ◌++◌, ◌∷◌, [], ℕ, List, sym, ap, ◌∙◌, subst}
 use Rattle.rbbi_dfa.specs.declared.determinize.rows_of.RowKind.TheVariants.{Follow}
-use Rattle.rbbi_dfa.specs.Determinizing.{items_of}
 use Rattle.rbbi_dfa.specs.MarkedRows.{AreRowsBy}
 use Rattle.rbbi_dfa.proofs.MarkedLists.{rows_more}
 use Rattle.rbbi_dfa.proofs.determinize.rows_of.follow_rows.Goals as goal
 
 pub loop-before-preserved : goal.loop-before-preserved
 loop-before-preserved c =
-    let pushed = ap items_of c.in_ok-push.ensures.items ∙ map_push (λ (v : Vec ℕ Global). v.items) c.loop-before.rows.items c.in_ok-row_of.field-0 in
+    let rows : List (List ℕ) = c.loop-before.rows.items in
+    let pushed = c.in_ok-push.ensures.items ∙ ap (λ (row : List ℕ). rows ++ row ∷ []) c.new.ensures in
     subst (AreRowsBy c.args.positions.now (λ i. Follow i) (c.loop-before.before + 1)) (sym pushed)
-    (rows_more c.args.positions.now (λ i. Follow i) (items_of c.loop-before.rows.items) c.in_ok-row_of.field-0.items c.loop-before.before c.loop-before.invariant (c.in_ok-row_of.ensures.wide, c.in_ok-row_of.ensures.holds))
+    (rows_more c.args.positions.now (λ i. Follow i) rows c.in_ok-row.row.items c.loop-before.before c.loop-before.invariant (c.in_ok-row.ensures.wide, c.in_ok-row.ensures.holds))

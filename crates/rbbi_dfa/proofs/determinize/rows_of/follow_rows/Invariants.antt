@@ -1,7 +1,6 @@
 use Rattle.rbbi_dfa.specs.declared.determinize.rows_of.RowKind.TheVariants.{Follow}
-use Rattle.rbbi_dfa.specs.Determinizing.{items_of}
 use Rattle.rbbi_dfa.specs.MarkedRows.{AreRowsBy}
 use Rattle.rbbi_dfa.proofs.determinize.rows_of.follow_rows.Given as goal
 
 abbrev pub invariant-loop-before : goal.invariant-loop-before
-invariant-loop-before l = AreRowsBy l.positions (λ i. Follow i) l.before (items_of l.rows.items)
+invariant-loop-before l = AreRowsBy l.positions (λ i. Follow i) l.before l.rows.items

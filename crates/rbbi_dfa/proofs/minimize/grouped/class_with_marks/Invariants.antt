@@ -1,5 +1,5 @@
 -- no class before this one has the marks
-use Rattle.std.proofs.Common.{◌≡◌, ◌≢◌, ℕ, ◌<◌, ◌≤◌, slice_index}
+use Rattle.std.proofs.Common.{◌≢◌, ℕ, ◌<◌, ◌≤◌, slice_index}
 use Rattle.rbbi_model.specs.Marks.{marks_of}
 use Rattle.rbbi_dfa.proofs.minimize.grouped.class_with_marks.Given as goal
 

@@ -1,4 +1,4 @@
-use Rattle.std.proofs.Common.{◌≡◌, ℕ, slice_index, ap, sym, ◌∙◌}
+use Rattle.std.proofs.Common.{◌≡◌, slice_index, ap, sym, ◌∙◌}
 use Rattle.std.proofs.lemmas.Bool.Decides.{Decides-eqb}
 use Rattle.rbbi_model.specs.Tables.{RowHead, accept_of, fronts_of, list_of}
 use Rattle.rbbi_dfa.proofs.Grouping.{same_marks}

@@ -1,8 +1,7 @@
-use Rattle.std.proofs.Common.{◌≡◌, ◌∷◌, ◌++◌, [], List, ℕ, Bor, Vec, Global, map, length, slice_index_or, true, ap, sym, ◌∙◌, subst, arith, ⊎_elim}
-use Rattle.std.proofs.lemmas.Bool.{cases_Bool}
+use Rattle.std.proofs.Common.{◌∷◌, ◌++◌, [], List, ℕ, Bor, Vec, Global, map, ap, sym, ◌∙◌, subst, arith}
 use Rattle.std.proofs.lemmas.List.{get_or-map, length-map, map_push}
 use Rattle.rbbi_dfa.specs.Numbers.{AreNumbered}
-use Rattle.rbbi_dfa.proofs.Numbering.{AreNumbered-none, AreNumbered-unused, AreNumbered-used}
+use Rattle.rbbi_dfa.proofs.Numbering.{AreNumbered-unused, AreNumbered-used}
 use Rattle.rbbi_dfa.proofs.minimize.lists.number_lists.Goals as goal
 
 pub loop-place-preserved-then-not-used-place : goal.loop-place-preserved-then-not-used-place

@@ -1,4 +1,4 @@
-use Rattle.std.proofs.Common.{◌≡◌, ◌<◌, ◌≤◌, List, [], ℕ, Bool, Bor, Vec, Global, map, slice_index, length, ap, sym, ◌∙◌, subst, arith}
+use Rattle.std.proofs.Common.{◌<◌, ◌≤◌, List, ℕ, Bor, map, slice_index, length, ap, sym, ◌∙◌, subst, arith}
 use Rattle.std.proofs.lemmas.List.{length-map}
 use Rattle.rbbi_model.specs.Tables.{Table}
 use Rattle.rbbi_dfa.proofs.Merging.{IsMerged-from_parts, lists_few, number_within, numbered_as, places_as, used_as, heads_as}

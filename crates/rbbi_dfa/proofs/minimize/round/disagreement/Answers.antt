@@ -1,4 +1,4 @@
-use Rattle.std.proofs.Common.{◌≡◌, ℕ, ◌<◌, slice_index, arith, ap, ◌∙◌}
+use Rattle.std.proofs.Common.{◌≡◌, ◌<◌, slice_index, arith, ap, ◌∙◌}
 use Rattle.std.proofs.lemmas.List.{get_or_read_under}
 use borrow.Author.Count.{below_more}
 use Rattle.rbbi_model.specs.Tables.{Table, step}

@@ -1,6 +1,6 @@
-use Rattle.std.proofs.Common.{◌≡◌, ◌≢◌, ℕ, ◌<◌, ◌≤◌, List, length, slice_index, ap, sym, ◌∙◌, subst, arith, ◌∷◌, ◌++◌, []}
+use Rattle.std.proofs.Common.{◌≡◌, ◌≢◌, ℕ, ◌<◌, ◌≤◌, List, length, slice_index, ap, ◌∙◌, subst, arith, ◌∷◌, ◌++◌, []}
 use Rattle.rbbi_model.specs.Marks.{marks_of}
-use Rattle.rbbi_dfa.proofs.Grouping.{AreGrouped-one, AreGrouped-known, AreGrouped-new, IsPartition-from_grouped}
+use Rattle.rbbi_dfa.proofs.Grouping.{AreGrouped-known, AreGrouped-new, IsPartition-from_grouped}
 use Rattle.rbbi_dfa.proofs.minimize.partition.Partition.by_marks.Goals as goal
 
 pub loop-row-preserved-in-Some : goal.loop-row-preserved-in-Some
