@@ -1,7 +1,7 @@
 //! Scripts played over texts, by tables worked by hand.
-ghost use Rattle.std.specs.Prelude.{◌≡◌, ◌<◌, ◌≤◌, length};
+ghost use Rattle.std.specs.Prelude.{◌≡◌, ◌<◌};
 
-use crate::{play, read_script};
+use crate::{Commands, play, read_script};
 use rbbi_session::Session;
 use rbbi_table::{
     ByteList, CellList, NumberList, NumberLists, Parts, RangeList, RangeRow, RowHead, RowList,
@@ -127,25 +127,23 @@ fn table_of(rt: &impl Abort, alloc: Global, sample: &Sample) -> Result<Table, Ta
     Table::from_parts(alloc, &parts)
 }
 
-/// The replies to a script over a text.
+/// The replies to commands over a text.
 fn replies<L: Ledger>(
     rt: &HostRuntime,
     table: &Table,
-    text: &str,
-    script: &str,
+    text: PlainText,
+    commands: &Commands,
     blank: Blank,
 ) -> Result<Vec<u8>, Fail>
     requires name { blank.name ≡ L.name }
     requires parts { blank.parts ≡ L.parts }
     requires some { 0 < blank.parts }
-    requires small { length script.now ≤ 1000 }
 {
     let alloc = rt.alloc();
     let mut steps = Steps::<L>::new(rt, blank);
-    let mut session = Session::open(alloc, table, PlainText::new(alloc, text)?)?;
-    let commands = read_script(alloc, script.as_bytes())?;
+    let mut session = Session::open(alloc, table, text)?;
     let mut lines = Vec::new(alloc);
-    play(&mut session, &commands, &mut lines, &mut steps)?;
+    play(&mut session, commands, &mut lines, &mut steps)?;
     Ok(lines)
 }
 
@@ -186,7 +184,9 @@ fn scripts_over_texts(rt: HostRuntime) -> Result<(), Fail> {
     for (sample, text, script, wanted) in rows {
         assert!(rt; script.len() <= 1000);
         let table = table_of(&rt, rt.alloc(), &sample)?;
-        let lines = replies::<Brand>(&rt, &table, text, script, Blank::new(1))?;
+        let text = PlainText::new(rt.alloc(), text)?;
+        let commands = read_script(rt.alloc(), script.as_bytes())?;
+        let lines = replies::<Brand>(&rt, &table, text, &commands, Blank::new(1))?;
         assert_eq!(rt; lines.as_slice(), wanted.as_bytes(), "of {script:?}");
     }
     Ok(())
