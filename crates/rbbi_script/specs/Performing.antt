@@ -1,6 +1,6 @@
 -- What performing commands answers and leaves.
 use Rattle.std.specs.Prelude.{◌≡◌, ◌⊎◌, ℕ, List, [], ◌∷◌, ◌++◌, map, Result, Ok, Err}
-use Rattle.rbbi_model.specs.Boundaries.{Boundary}
+use Rattle.rbbi_model.specs.Tables.{Table}
 use Rattle.rbbi_model.specs.Searches.{table_boundaries}
 use Rattle.rbbi_model.specs.Answers.{Reply}
 use Rattle.rbbi_model.specs.Scripts.{Command, State, Turn, edit, turn, replies_by}
@@ -34,17 +34,18 @@ Performs old command before (Err error) new after = IsBrokenOff old command befo
 abbrev pub replies_of : Session → List Command → List Reply
 replies_of session commands = replies_by edit (table_boundaries session.table) session.state commands
 
--- the session after the command
-abbrev pub after_turn : Session → Command → Session
-after_turn session command = record { table = session.table; state = (turn_of session command).state }
+-- the text and the cursor after the commands, by a table
+abbrev pub state_after : Table → State → List Command → State
+state_after table state [] = state
+state_after table state (command ∷ commands) = state_after table (turn (table_boundaries table state.text) state command).state commands
 
--- the session after the commands
-abbrev pub after_turns : Session → List Command → Session
-after_turns session [] = session
-after_turns session (command ∷ commands) = after_turns (after_turn session command) commands
+-- all replies were appended, and the session is as after the commands
+pub record ArePlayed (old : Session) (commands : List Command) (before : List ℕ) (new : Session) (after : List ℕ) : Type 0 where
+  pub appended : after ≡ before ++ all_reply_lines (replies_of old commands)
+  pub state_is : new.state ≡ state_after old.table old.state commands
+  pub table_is : new.table ≡ old.table
 
--- what performing the commands in order answers and leaves: all replies were appended, or where memory ran out, a front of them
+-- what performing the commands in order answers and leaves: where memory ran out, a front of the replies was appended
 abbrev pub Plays : {T E : Type 0} → Session → List Command → List ℕ → Result T E → Session → List ℕ → Type 0
-Plays old commands before (Ok done) new after =
-    (after ≡ before ++ all_reply_lines (replies_of old commands)) × (new ≡ after_turns old commands)
+Plays old commands before (Ok done) new after = ArePlayed old commands before new after
 Plays old commands before (Err error) new after = AppendsFront before (all_reply_lines (replies_of old commands)) after × (new.table ≡ old.table)

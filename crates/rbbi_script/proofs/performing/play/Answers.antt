@@ -6,8 +6,8 @@ use Rattle.rbbi_session.specs.Sessions.{Session}
 use Rattle.rbbi_script.specs.declared.command.Command.{Command}
 use Rattle.rbbi_script.specs.Meaning.{meaning}
 use Rattle.rbbi_script.specs.Saying.{AppendsFront}
-use Rattle.rbbi_script.specs.Performing.{replies_of}
-use Rattle.rbbi_script.proofs.Performed.{ArePerformed, one_more_performed, broken_off, table_stays, mapped_parts, mapped_more}
+use Rattle.rbbi_script.specs.Performing.{replies_of, ArePlayed}
+use Rattle.rbbi_script.proofs.Performed.{one_more_played, broken_off, mapped_parts, mapped_more}
 use Rattle.rbbi_script.proofs.performing.play.Goals as goal
 
 pub returns-in_err-perform : goal.returns-in_err-perform
@@ -22,7 +22,7 @@ returns-in_err-perform g c =
           (mapped_parts meaning commands i c.get.result.now within c.get.ensures)
           (broken_off old (map meaning (take i commands)) c.args.replies.now.items c.loop-i.session c.loop-i.replies.items (meaning c.get.result.now) (map meaning (drop (suc i) commands)) c.perform.new.session c.perform.new.reply.items
           c.loop-i.invariant c.in_err-perform.ensures),
-      c.in_err-perform.ensures.table_is ∙ ap (λ s. s.table) c.loop-i.invariant.session_is ∙ table_stays old (map meaning (take i commands)),
+      c.in_err-perform.ensures.table_is ∙ c.loop-i.invariant.table_is,
     )
 
 pub loop-i-preserved : goal.loop-i-preserved
@@ -31,7 +31,7 @@ loop-i-preserved g c =
     let commands : List Command = c.args.commands.now in
     let i : ℕ = c.loop-i.i in
     let within : c.loop-i.i < length c.args.commands.now = omega (arith, c.loop-i-test.true, c.len-i-end.ensures) in
-    subst (λ cs. ArePerformed c.args.session.now cs c.args.replies.now.items c.perform.new.session c.perform.new.reply.items)
+    subst (λ cs. ArePlayed c.args.session.now cs c.args.replies.now.items c.perform.new.session c.perform.new.reply.items)
     (mapped_more meaning commands i c.get.result.now within c.get.ensures)
-    (one_more_performed old (map meaning (take i commands)) c.args.replies.now.items c.loop-i.session c.loop-i.replies.items (meaning c.get.result.now) c.perform.new.session c.perform.new.reply.items
+    (one_more_played old (map meaning (take i commands)) c.args.replies.now.items c.loop-i.session c.loop-i.replies.items (meaning c.get.result.now) c.perform.new.session c.perform.new.reply.items
     c.loop-i.invariant c.in_ok-perform.ensures)
