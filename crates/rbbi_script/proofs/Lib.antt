@@ -4,3 +4,5 @@ pub mod LineKinds
 pub mod EditLines
 pub mod Lines
 pub mod Says
+pub mod Performed
+pub mod Listed

@@ -47,8 +47,11 @@ others_more statuses i d l =
     ∙ flat_map-append next_status (take i statuses) (get_or statuses i d ∷ [])
     ∙ ap (λ x. flat_map next_status (take i statuses) ++ x) (append-nil (next_status (get_or statuses i d)))
 
+-- what is written of the numbers before one, of the one, and of those behind it
+pub flat_parts : (f : ℕ → List ℕ) (ns : List ℕ) (i d : ℕ) → i < length ns → flat_map f ns ≡ flat_map f (take i ns) ++ (f (get_or ns i d) ++ flat_map f (drop (suc i) ns))
+flat_parts f ns i d l =
+    ap (flat_map f) (sym (take-append-drop i ns) ∙ ap (λ x. take i ns ++ x) (drop-cons ns i d l)) ∙ flat_map-append f (take i ns) (get_or ns i d ∷ drop (suc i) ns)
+
 -- the statuses before one, the one, and those behind it
 pub others_parts : (statuses : List ℕ) (i d : ℕ) → i < length statuses → flat_map next_status statuses ≡ flat_map next_status (take i statuses) ++ (next_status (get_or statuses i d) ++ flat_map next_status (drop (suc i) statuses))
-others_parts statuses i d l =
-    ap (flat_map next_status) (sym (take-append-drop i statuses) ∙ ap (λ x. take i statuses ++ x) (drop-cons statuses i d l))
-    ∙ flat_map-append next_status (take i statuses) (get_or statuses i d ∷ drop (suc i) statuses)
+others_parts statuses i d l = flat_parts next_status statuses i d l

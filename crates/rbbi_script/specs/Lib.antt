@@ -5,3 +5,4 @@ pub mod Files
 pub mod LineReadings
 pub mod Refusals
 pub mod Saying
+pub mod Performing

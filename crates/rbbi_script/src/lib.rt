@@ -1,14 +1,19 @@
 //! Scripts of questions and edits, and the lines of their replies.
 //!
 //! [`read_script`] takes the bytes of a script as its commands, or tells the first bad line. `say`,
-//! `say_list` and `say_bound` append the lines of replies.
+//! `say_list` and `say_bound` append the lines of replies. [`perform`] has a session perform a command
+//! and appends its reply, and [`play`] all commands of a script.
 #![tactic(auto)]
 
 mod command;
 mod error;
 mod escape;
 mod line;
+mod listing;
+mod performing;
 mod pieces;
+#[cfg(test)]
+mod play_tests;
 mod question;
 mod reader;
 mod saying;
@@ -17,5 +22,6 @@ mod tests;
 
 pub use command::{Command, Commands};
 pub use error::ScriptErr;
+pub use performing::{perform, play};
 pub use reader::read_script;
 pub use saying::{Said, say, say_bound, say_list};

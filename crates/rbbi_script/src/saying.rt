@@ -31,7 +31,7 @@ pub enum Said {
 }
 
 /// Appends bytes, or none where memory runs out.
-fn put(bytes: &[u8], reply: &mut Vec<u8>) -> Result<(), AllocError>
+pub(crate) fn put(bytes: &[u8], reply: &mut Vec<u8>) -> Result<(), AllocError>
     ensures { Appends reply.old.items bytes.now result reply.new.items }
 {
     reply.extend_from_slice(bytes)

@@ -1,0 +1,5 @@
+pub mod Judging
+pub mod BlankWords
+pub mod Marking
+pub mod Characters
+pub mod FileLines

@@ -1,0 +1,95 @@
+-- Pairs of code points and marks, taken off one by one.
+use Rattle.std.proofs.Common.{◌≡◌, ℕ, ◌+◌, ◌*◌, ◌≤◌, Bool, List, [], ◌∷◌, ◌++◌, length, refl, ap, sym, subst, ◌∙◌, append_assoc, append-nil, length-append, arith}
+use Rattle.rbbi_conform.specs.Grammar.{before_comment, words_of, IsMark, IsCodePoint, ArePairs, WritesTest}
+use Rattle.rbbi_conform.specs.Readings.{IsFirstWord, IsNoPair, IsPairOf, AreMarkedBy, AreUnmarked, IsMarkedOf, IsUnmarked}
+
+-- So many pairs were read, and these words are left.
+pub record IsMarking (words text : List ℕ) (marks : List Bool) (rest : List ℕ) : Type 0 where
+  pub forth : (more : List ℕ) (others : List Bool) → ArePairs (words_of rest) more others → ArePairs (words_of words) (text ++ more) (marks ++ others)
+  pub back : (all : List ℕ) (those : List Bool) → ArePairs (words_of words) all those → (more : List ℕ) × (others : List Bool) × ArePairs (words_of rest) more others
+  pub few : 6 * length marks + length rest ≤ length words
+  pub same : length text ≡ length marks
+
+pub IsMarking-start : (words : List ℕ) → IsMarking words [] [] words
+IsMarking-start words = record { forth = λ more others h. h; back = λ all those h. (all, those, h); few = omega arith; same = refl }
+
+tail_of : (point p : List ℕ) (words : List (List ℕ)) (s : List ℕ) (r : List (List ℕ)) → point ∷ words ≡ p ∷ s ∷ r → (p ≡ point) × (words ≡ s ∷ r)
+tail_of point p words s r e = (cc, cc)
+
+rest_of : (sign s : List ℕ) (words r : List (List ℕ)) → sign ∷ words ≡ s ∷ r → r ≡ words
+rest_of sign s words r e = cc
+
+-- one pair more
+pub IsMarking-more : (words text : List ℕ) (marks : List Bool) (rest point after : List ℕ) (c : ℕ) (mark : Bool) (left : List ℕ) → IsMarking words text marks rest → IsFirstWord rest point after → IsPairOf point after c mark left →
+    IsMarking words (text ++ c ∷ []) (marks ++ mark ∷ []) left
+IsMarking-more words text marks rest point after c mark left h first pair = record {
+  forth = λ more others pairs.
+      subst (λ t. ArePairs (words_of words) t (marks ++ mark ∷ [] ++ others)) (sym (append_assoc text (c ∷ []) more))
+      (subst (λ m. ArePairs (words_of words) (text ++ c ∷ more) m) (sym (append_assoc marks (mark ∷ []) others))
+      (h.forth (c ∷ more) (mark ∷ others) (point, pair.sign, words_of left, first.words ∙ ap (λ ws. point ∷ ws) pair.words, pair.is_point, pair.is_mark, pairs)));
+  back = λ all those pairs.
+      let before = h.back all those pairs in
+      behind before.0 before.1 before.2;
+  few = let f = h.few in let p = first.parts in let q = pair.parts in let l = length-append marks (mark ∷ []) in omega arith;
+  same = let s = h.same in let l = length-append marks (mark ∷ []) in let k = length-append text (c ∷ []) in omega arith;
+}
+  where
+    behind : (all : List ℕ) (those : List Bool) → ArePairs (words_of rest) all those → (more : List ℕ) × (others : List Bool) × ArePairs (words_of left) more others
+    behind [] [] e = absurd (let k : point ∷ words_of after ≡ [] = sym first.words ∙ e in cc)
+    behind (d ∷ all) [] e = absurd e
+    behind [] (m ∷ those) e = absurd e
+    behind (d ∷ all) (m ∷ those) (p, s, r, e, is_point, is_mark, pairs) =
+        let tail = (tail_of point p (words_of after) s r (sym first.words ∙ e)).1 in
+        (all, those, subst (λ ws. ArePairs ws all those) (rest_of pair.sign s (words_of left) r (sym pair.words ∙ tail)) pairs)
+
+-- no pair follows
+pub IsMarking-bad : (words text : List ℕ) (marks : List Bool) (rest point after : List ℕ) → IsMarking words text marks rest → IsFirstWord rest point after → IsNoPair point (words_of after) → AreUnmarked words
+IsMarking-bad words text marks rest point after h first none all those pairs =
+    let before = h.back all those pairs in
+    refused before.0 before.1 before.2
+  where
+    refused : (all : List ℕ) (those : List Bool) → ArePairs (words_of rest) all those → ⊥
+    refused [] [] e = let k : point ∷ words_of after ≡ [] = sym first.words ∙ e in cc
+    refused (d ∷ all) [] e = e
+    refused [] (m ∷ those) e = e
+    refused (d ∷ all) (m ∷ those) (p, s, r, e, is_point, is_mark, pairs) =
+        let tail = tail_of point p (words_of after) s r (sym first.words ∙ e) in
+        none d m s r tail.1 (subst (λ w. IsCodePoint w d) tail.0 is_point) is_mark
+
+-- no word is left
+pub IsMarking-end : (words text : List ℕ) (marks : List Bool) (rest : List ℕ) → IsMarking words text marks rest → words_of rest ≡ [] → AreMarkedBy words text marks
+IsMarking-end words text marks rest h none = record {
+  pairs =
+      subst (λ t. ArePairs (words_of words) t marks) (append-nil text)
+      (subst (λ m. ArePairs (words_of words) (text ++ []) m) (append-nil marks) (h.forth [] [] none));
+  same = h.same;
+  few = let f = h.few in omega arith;
+}
+
+no_first : (sign : List ℕ) (rest : List (List ℕ)) → [] ≡ sign ∷ rest → ⊥
+no_first sign rest e = cc
+
+-- a line without words writes no test
+pub unmarked_empty : (line : List ℕ) → words_of (before_comment line) ≡ [] → IsUnmarked line
+unmarked_empty line none text marks h = no_first h.sign h.rest (sym none ∙ h.words)
+
+-- nor does one whose first word is no mark
+pub unmarked_first : (line word rest : List ℕ) → IsFirstWord (before_comment line) word rest → ((mark : Bool) → ¬ IsMark word mark) → IsUnmarked line
+unmarked_first line word rest first none text marks h =
+    none h.mark (subst (λ w. IsMark w h.mark) (sym (head_of word h.sign (words_of rest) h.rest (sym first.words ∙ h.words))) h.first)
+  where
+    head_of : (w s : List ℕ) (ws r : List (List ℕ)) → w ∷ ws ≡ s ∷ r → w ≡ s
+    head_of w s ws r e = cc
+
+-- nor one whose other words are no pairs
+pub unmarked_rest : (line word rest : List ℕ) → IsFirstWord (before_comment line) word rest → AreUnmarked rest → IsUnmarked line
+unmarked_rest line word rest first none text marks h =
+    none text marks (subst (λ ws. ArePairs ws text marks) (rest_of word h.sign (words_of rest) h.rest (sym first.words ∙ h.words)) h.pairs)
+
+-- a mark and pairs are a test
+pub marked_line : (line word rest text : List ℕ) (marks : List Bool) (mark : Bool) → IsFirstWord (before_comment line) word rest → length (before_comment line) ≤ length line → IsMark word mark → AreMarkedBy rest text marks → IsMarkedOf line text marks
+marked_line line word rest text marks mark first shorter is pairs = record {
+  writes = record { sign = word; mark = mark; rest = words_of rest; words = first.words; first = is; pairs = pairs.pairs };
+  same = pairs.same;
+  few = let f = pairs.few in let p = first.parts in omega arith;
+}

@@ -1,0 +1,191 @@
+//! A line of a test file.
+ghost use Rattle.std.specs.Prelude.{◌≡◌, ◌+◌, ◌*◌, ◌<◌, ◌≤◌, ◌∷◌, [], ◌++◌, length, drop, IfOk, OnOk, MatchOption, ◌==◌, chars, string_bytes};
+ghost use Rattle.std.specs.List.{list_all, before_first, prefix_len, position_or_len};
+ghost use Rattle.rbbi_conform.specs.Grammar as spec;
+ghost use Rattle.rbbi_conform.specs.Readings.{IsFirstWord, IsMarkOf, IsCodePointOf, IsNoPair, IsPairOf, IsMarkedOf, IsUnmarked, AreMarkedBy, AreUnmarked};
+
+use rbbi_text::hexadecimal;
+use std::alloc::{AllocError, Global};
+
+/// The greatest code point.
+const LAST: u32 = 0x10_FFFF;
+
+/// The text and the marks that a line writes.
+#[derive(Drop)]
+pub(crate) struct Marked {
+    pub(crate) text: String,
+    pub(crate) marks: Vec<bool>,
+}
+
+/// A word, and what follows it.
+#[derive(Drop)]
+struct WordCut<'a> {
+    word: &'a [u8],
+    rest: &'a [u8],
+}
+
+/// A space or a tab.
+fn is_blank(byte: u8) -> bool
+    ensures { result ≡ spec.is_blank byte }
+{
+    byte == b' ' || byte == b'\t'
+}
+
+/// What stands before the first `#` of a line.
+fn before_comment(line: &[u8]) -> &[u8]
+    ensures text { result.now ≡ spec.before_comment line.now }
+    ensures no_longer { length result.now ≤ length line.now }
+{
+    &line[..comment_start(line)]
+}
+
+/// The place of the first `#` of a line, and its length where it has none.
+fn comment_start(line: &[u8]) -> usize
+    ensures place { result ≡ position_or_len (λ byte. byte == 35) line.now }
+    ensures bound { result ≤ length line.now }
+{
+    for (place, byte) in line.iter().enumerate() {
+        if *byte == b'#' {
+            return place;
+        }
+    }
+    line.len()
+}
+
+/// Whether nothing but spaces and tabs stands before the first `#` of a line.
+pub(crate) fn is_skipped(line: &[u8]) -> bool
+    ensures { result ≡ spec.is_skipped line.now }
+{
+    are_blank(before_comment(line))
+}
+
+fn are_blank(text: &[u8]) -> bool
+    ensures { result ≡ list_all spec.is_blank text.now }
+{
+    text.iter().all(|byte| is_blank(*byte))
+}
+
+/// The text without the spaces and tabs at its start.
+fn trim_start(text: &[u8]) -> &[u8]
+    ensures { result.now ≡ drop (prefix_len spec.is_blank text.now) text.now }
+{
+    let mut start = 0;
+    while start < text.len() && is_blank(text[start]) {
+        start += 1;
+    }
+    &text[start..]
+}
+
+/// How many bytes stand before the first space or tab.
+fn word_len(text: &[u8]) -> usize
+    ensures place { result ≡ position_or_len spec.is_blank text.now }
+    ensures bound { result ≤ length text.now }
+{
+    for (place, byte) in text.iter().enumerate() {
+        if is_blank(*byte) {
+            return place;
+        }
+    }
+    text.len()
+}
+
+/// The first word between spaces and tabs, and what follows it; none where there is no word.
+fn first_word(text: &[u8]) -> Option<WordCut<'_>>
+    ensures { MatchOption result (spec.words_of text.now ≡ [])
+        (λ cut. IsFirstWord text.now cut.word.now cut.rest.now) }
+{
+    let text = trim_start(text);
+    let end = word_len(text);
+    if end == 0 {
+        return None;
+    }
+    Some(WordCut {
+        word: &text[..end],
+        rest: &text[end..],
+    })
+}
+
+/// Whether the word marks a boundary (U+00F7) or none (U+00D7).
+fn mark_of(word: &[u8]) -> Option<bool>
+    ensures { IsMarkOf word.now result }
+{
+    if word == [0xC3, 0xB7].as_slice() {
+        return Some(true);
+    }
+    if word == [0xC3, 0x97].as_slice() {
+        return Some(false);
+    }
+    None
+}
+
+/// The character of a word of four to six hexadecimal digits.
+fn character_of(word: &[u8]) -> Option<char>
+    ensures { IsCodePointOf word.now result }
+{
+    let number = hexadecimal(word, 4, 6, LAST)?;
+    char::from_u32(number)
+}
+
+/// A code point and the mark behind it, and what follows both.
+#[derive(Drop)]
+struct Pair<'a> {
+    character: char,
+    mark: bool,
+    rest: &'a [u8],
+}
+
+/// The pair that begins with this word, before what follows it.
+fn pair_of<'a>(point: &[u8], after: &'a [u8]) -> Option<Pair<'a>>
+    ensures { MatchOption result (IsNoPair point.now (spec.words_of after.now))
+        (λ pair. IsPairOf point.now after.now pair.character pair.mark pair.rest.now) }
+{
+    let character = character_of(point)?;
+    let sign = first_word(after)?;
+    let mark = mark_of(sign.word)?;
+    Some(Pair {
+        character,
+        mark,
+        rest: sign.rest,
+    })
+}
+
+/// Adds a character to a text.
+fn push_character(text: &mut String, c: char) -> Result<(), AllocError>
+    ensures { OnOk result
+        (chars (string_bytes text.new) ≡ chars (string_bytes text.old) ++ c ∷ []) }
+{
+    text.push(c)
+}
+
+/// The text and the marks that a line writes, and none where it is of no stated form.
+pub(crate) fn marked_text(alloc: Global, line: &[u8]) -> Result<Option<Marked>, AllocError>
+    ensures { IfOk result (λ found. MatchOption found (IsUnmarked line.now)
+        (λ marked. IsMarkedOf line.now (chars (string_bytes marked.text)) marked.marks.items)) }
+{
+    let Some(first) = first_word(before_comment(line)) else {
+        return Ok(None);
+    };
+    let Some(_mark) = mark_of(first.word) else {
+        return Ok(None);
+    };
+    marked_pairs(alloc, first.rest)
+}
+
+/// The text and the marks that the words behind the first mark write.
+fn marked_pairs(alloc: Global, words: &[u8]) -> Result<Option<Marked>, AllocError>
+    ensures { IfOk result (λ found. MatchOption found (AreUnmarked words.now)
+        (λ marked. AreMarkedBy words.now (chars (string_bytes marked.text)) marked.marks.items)) }
+{
+    let mut text = String::new(alloc);
+    let mut marks = Vec::new(alloc);
+    let mut rest = words;
+    while let Some(point) = first_word(rest) {
+        let Some(pair) = pair_of(point.word, point.rest) else {
+            return Ok(None);
+        };
+        push_character(&mut text, pair.character)?;
+        marks.push(pair.mark)?;
+        rest = pair.rest;
+    }
+    Ok(Some(Marked { text, marks }))
+}

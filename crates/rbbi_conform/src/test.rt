@@ -1,0 +1,111 @@
+//! A test, and the list of the tests of a file.
+ghost use Rattle.std.specs.Prelude.{◌≡◌, ◌-◌, ◌<◌, ◌≤◌, List, [], ◌∷◌, ◌++◌, length, slice_get, slice_index_or, false, Some, OnOk, OnErr};
+ghost use Rattle.rbbi_conform.specs.Tests.{Test};
+
+use rbbi_text::PlainText;
+use std::alloc::{AllocError, Global};
+use std::marker::Model;
+
+/// A text, and for each place behind one of its characters whether a boundary is marked there.
+#[derive(Debug, Drop)]
+pub struct Test {
+    line: u32,
+    text: PlainText,
+    /// The mark of place `i` has number `i - 1`.
+    marks: Vec<bool>,
+}
+
+impl Model for Test {
+    ghost use Rattle.std.specs.Prelude.{◌≡◌, length};
+    ghost use Rattle.rbbi_conform.specs.Tests.{Test};
+
+    ghost Value = { Test };
+
+    ghost view = { λ test. record { line = test.line; text = test.text; marks = test.marks.items } };
+
+    ghost invariant = { λ test. length test.marks.items ≡ length test.text };
+}
+
+impl Test {
+    /// The test of a line.
+    pub(crate) fn new(line: u32, text: PlainText, marks: Vec<bool>) -> Test
+        requires { length marks.items ≡ length text }
+        ensures { result ≡ record { line = line; text = text; marks = marks.items } }
+    {
+        Test { line, text, marks }
+    }
+
+    /// The line of the file, from 1.
+    pub fn line(&self) -> u32
+        ensures { result ≡ self.now.line }
+    {
+        self.line
+    }
+
+    /// The text.
+    pub fn text(&self) -> &PlainText
+        ensures { result.now ≡ self.now.text }
+    {
+        &self.text
+    }
+
+    /// Whether a boundary is marked at this place, in characters from 0. The place before the first
+    /// character isn't compared, and has no mark here.
+    pub fn mark(&self, i: u32) -> bool
+        requires first { 1 ≤ i }
+        requires last { i ≤ length self.now.text }
+        ensures { result ≡ slice_index_or self.now.marks (i - 1) false }
+    {
+        self.marks[i as usize - 1]
+    }
+}
+
+/// The tests of a file, in order. Contracts see it as their list.
+#[derive(Debug, Drop)]
+pub struct Tests {
+    items: Vec<Test>,
+}
+
+impl Model for Tests {
+    ghost use Rattle.std.specs.Prelude.{List};
+    ghost use Rattle.rbbi_conform.specs.Tests.{Test};
+
+    ghost Value = { List Test };
+
+    ghost view = { λ tests. tests.items.items };
+}
+
+impl Tests {
+    /// No tests.
+    pub(crate) fn new(alloc: Global) -> Tests
+        ensures { result ≡ [] }
+    {
+        Tests {
+            items: Vec::new(alloc),
+        }
+    }
+
+    /// Adds a test at the end, unless memory runs out.
+    pub(crate) fn push(&mut self, test: Test) -> Result<(), AllocError>
+        ensures ok { OnOk result (self.new ≡ self.old ++ test ∷ []) }
+        ensures err { OnErr result (self.new ≡ self.old) }
+    {
+        self.items.push(test)?;
+        Ok(())
+    }
+
+    /// The number of tests.
+    pub fn len(&self) -> usize
+        ensures { result ≡ length self.now }
+    {
+        self.items.len()
+    }
+
+    /// The test with this number, from 0.
+    pub fn get(&self, i: usize) -> &Test
+        requires { i < length self.now }
+        ensures { slice_get self.now i ≡ Some result.now }
+    {
+        &self.items[i]
+    }
+}

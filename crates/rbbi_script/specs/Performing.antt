@@ -1,0 +1,51 @@
+-- What performing commands answers and leaves.
+use Rattle.std.specs.Prelude.{◌≡◌, ◌⊎◌, ℕ, List, [], ◌∷◌, ◌++◌, map, Result, Ok, Err}
+use Rattle.rbbi_model.specs.Tables.{Table}
+use Rattle.rbbi_model.specs.Searches.{table_boundaries}
+use Rattle.rbbi_model.specs.Answers.{Reply}
+use Rattle.rbbi_model.specs.Scripts.{Command, State, Turn, edit, turn, replies_by}
+use Rattle.rbbi_model.specs.Lines.{reply_lines, all_reply_lines}
+use Rattle.rbbi_session.specs.Sessions.{Session, boundaries_of}
+use Rattle.rbbi_script.specs.Readings.{IsEdit}
+use Rattle.rbbi_script.specs.Saying.{AppendsFront}
+
+-- the reply to the command, and the text and the cursor after it
+abbrev pub turn_of : Session → Command → Turn
+turn_of session command = turn (boundaries_of session) session.state command
+
+-- the reply was appended, and the session is as after the command
+pub record IsPerformed (old : Session) (command : Command) (before : List ℕ) (new : Session) (after : List ℕ) : Type 0 where
+  pub appended : after ≡ before ++ reply_lines (turn_of old command).reply
+  pub state_is : new.state ≡ (turn_of old command).state
+  pub table_is : new.table ≡ old.table
+
+-- A front of the reply was appended. The session is as after the command or, where an edit was refused, as before it.
+pub record IsBrokenOff (old : Session) (command : Command) (before : List ℕ) (new : Session) (after : List ℕ) : Type 0 where
+  pub appended : AppendsFront before (reply_lines (turn_of old command).reply) after
+  pub state_is : (new.state ≡ (turn_of old command).state) ⊎ (IsEdit command × (new.state ≡ old.state))
+  pub table_is : new.table ≡ old.table
+
+-- what performing the command answers and leaves: the refusal is want of memory
+abbrev pub Performs : {T E : Type 0} → Session → Command → List ℕ → Result T E → Session → List ℕ → Type 0
+Performs old command before (Ok done) new after = IsPerformed old command before new after
+Performs old command before (Err error) new after = IsBrokenOff old command before new after
+
+-- the replies to the commands, from the session's text and cursor on
+abbrev pub replies_of : Session → List Command → List Reply
+replies_of session commands = replies_by edit (table_boundaries session.table) session.state commands
+
+-- the text and the cursor after the commands, by a table
+abbrev pub state_after : Table → State → List Command → State
+state_after table state [] = state
+state_after table state (command ∷ commands) = state_after table (turn (table_boundaries table state.text) state command).state commands
+
+-- all replies were appended, and the session is as after the commands
+pub record ArePlayed (old : Session) (commands : List Command) (before : List ℕ) (new : Session) (after : List ℕ) : Type 0 where
+  pub appended : after ≡ before ++ all_reply_lines (replies_of old commands)
+  pub state_is : new.state ≡ state_after old.table old.state commands
+  pub table_is : new.table ≡ old.table
+
+-- what performing the commands in order answers and leaves: where memory ran out, a front of the replies was appended
+abbrev pub Plays : {T E : Type 0} → Session → List Command → List ℕ → Result T E → Session → List ℕ → Type 0
+Plays old commands before (Ok done) new after = ArePlayed old commands before new after
+Plays old commands before (Err error) new after = AppendsFront before (all_reply_lines (replies_of old commands)) after × (new.table ≡ old.table)

@@ -1,0 +1,82 @@
+//! Replies that list all boundaries or all characters of a text.
+ghost use Rattle.std.specs.Prelude.{◌≡◌};
+ghost use Rattle.rbbi_model.specs.Answers.{Breaks, Characters};
+ghost use Rattle.rbbi_model.specs.Scripts.{Ask};
+ghost use Rattle.rbbi_model.specs.Lines.{escaped, reply_lines, boundary_lines};
+ghost use Rattle.rbbi_session.specs.Sessions.{boundaries_of};
+ghost use Rattle.rbbi_script.specs.Saying.{Appends};
+ghost use Rattle.rbbi_script.specs.Performing.{Performs};
+
+use crate::saying::{put, say_bound};
+use rbbi_session::Session;
+use rbbi_text::{Chars, EditText, Steps};
+use std::alloc::AllocError;
+use std::sync::ledger::Ledger;
+
+/// Appends a line for each boundary, and leaves the cursor where it was.
+pub(crate) fn say_boundaries<T: EditText, L: Ledger>(
+    session: &mut Session<'_, T>,
+    reply: &mut Vec<u8>,
+    steps: &mut Steps<L>,
+) -> Result<(), AllocError>
+    ensures { Performs session.old (Ask Breaks) reply.old.items result session.new reply.new.items }
+{
+    let cursor = session.current();
+    let said = say_each(session, reply, steps);
+    session.is_boundary(cursor, steps);
+    said
+}
+
+/// Goes from boundary to boundary, and appends a line for each.
+fn say_each<T: EditText, L: Ledger>(
+    session: &mut Session<'_, T>,
+    reply: &mut Vec<u8>,
+    steps: &mut Steps<L>,
+) -> Result<(), AllocError>
+    ensures lines { Appends reply.old.items (boundary_lines (boundaries_of session.old))
+        result reply.new.items }
+    ensures text { session.new.state.text ≡ session.old.state.text }
+    ensures table { session.new.table ≡ session.old.table }
+{
+    let mut place = Some(session.first());
+    while let Some(at) = place {
+        say_bound(at, session.status_list(), reply)?;
+        place = session.next(steps);
+    }
+    Ok(())
+}
+
+/// Appends the characters of a text, with `\n`, `\r`, `\t` and `\\` for LF, CR, tab and `\`, and LF.
+pub(crate) fn say_text<T: Chars, L: Ledger>(
+    text: &T,
+    reply: &mut Vec<u8>,
+    steps: &mut Steps<L>,
+) -> Result<(), AllocError>
+    ensures { Appends reply.old.items (reply_lines (Characters (T.characters text.now)))
+        result reply.new.items }
+{
+    for i in 0..text.len() {
+        say_character(text.char_at(i, steps), reply)?;
+    }
+    put(b"\n", reply)
+}
+
+/// Appends a character in UTF-8, or the escape of it.
+fn say_character(c: char, reply: &mut Vec<u8>) -> Result<(), AllocError>
+    ensures { Appends reply.old.items (escaped c) result reply.new.items }
+{
+    if c == '\n' {
+        return put(b"\\n", reply);
+    }
+    if c == '\r' {
+        return put(b"\\r", reply);
+    }
+    if c == '\t' {
+        return put(b"\\t", reply);
+    }
+    if c == '\\' {
+        return put(b"\\\\", reply);
+    }
+    let mut bytes = [0; 4];
+    put(c.encode_utf8(&mut bytes).as_bytes(), reply)
+}

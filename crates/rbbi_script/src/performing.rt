@@ -1,0 +1,104 @@
+//! Commands performed by a session.
+ghost use Rattle.std.specs.Prelude.{◌≡◌, map};
+ghost use Rattle.rbbi_model.specs.Scripts as model;
+ghost use Rattle.rbbi_session.specs.Sessions.{place_reply, test_reply};
+ghost use Rattle.rbbi_script.specs.Meaning.{meaning};
+ghost use Rattle.rbbi_script.specs.Saying.{reply_of};
+ghost use Rattle.rbbi_script.specs.Performing.{Performs, Plays};
+
+use crate::command::{Command, Commands};
+use crate::listing::{say_boundaries, say_text};
+use crate::saying::{Said, say, say_list};
+use rbbi_session::Session;
+use rbbi_text::{Chars, EditErr, EditText, Steps, Word};
+use std::alloc::AllocError;
+use std::sync::ledger::Ledger;
+
+/// Performs a command, and appends the lines of its reply.
+///
+/// The reply to a question is one line: the place or `done`, `yes` or `no`, the greatest status, or all
+/// statuses with commas between. `breaks` replies a line for each boundary, and leaves the cursor.
+/// `text` replies the characters with `\n`, `\r`, `\t` and `\\` for LF, CR, tab and `\`. An edit
+/// replies `ok` and the new length, or `outside` or `toolong`.
+///
+/// After the refusal a front of the reply was appended. Text and cursor are as after the command, or,
+/// where an edit was refused for memory, as before it.
+pub fn perform<T: EditText, L: Ledger>(
+    session: &mut Session<'_, T>,
+    command: &Command,
+    reply: &mut Vec<u8>,
+    steps: &mut Steps<L>,
+) -> Result<(), AllocError>
+    ensures { Performs session.old (meaning command.now) reply.old.items
+        result session.new reply.new.items }
+{
+    match command {
+        Command::First => say(Said::Place(session.first()), reply),
+        Command::Last => say(Said::Place(session.last(steps)), reply),
+        Command::Next => say(place_said(session.next(steps)), reply),
+        Command::Previous => say(place_said(session.previous(steps)), reply),
+        Command::Current => say(Said::Place(session.current()), reply),
+        Command::Status => say(Said::Number(session.status()), reply),
+        Command::Statuses => say_list(session.status_list(), reply),
+        Command::Following(place) => say(place_said(session.following(*place, steps)), reply),
+        Command::Preceding(place) => say(place_said(session.preceding(*place, steps)), reply),
+        Command::Is(place) => say(test_said(session.is_boundary(*place, steps)), reply),
+        Command::Replace { at, remove, text } => edit(session, *at, *remove, text, reply, steps),
+        Command::Breaks => say_boundaries(session, reply, steps),
+        Command::Text => say_text(session.text(), reply, steps),
+    }
+}
+
+/// Performs all commands in order, and appends the lines of their replies. After the refusal a front of
+/// the lines was appended.
+pub fn play<T: EditText, L: Ledger>(
+    session: &mut Session<'_, T>,
+    commands: &Commands,
+    replies: &mut Vec<u8>,
+    steps: &mut Steps<L>,
+) -> Result<(), AllocError>
+    ensures { Plays session.old (map meaning commands.now) replies.old.items
+        result session.new replies.new.items }
+{
+    for i in 0..commands.len() {
+        perform(session, commands.get(i), replies, steps)?;
+    }
+    Ok(())
+}
+
+/// The reply of a place that was found, or not.
+fn place_said(place: Option<u32>) -> Said
+    ensures { reply_of result ≡ place_reply place }
+{
+    match place {
+        Some(place) => Said::Place(place),
+        None => Said::Done,
+    }
+}
+
+/// The reply of a test.
+fn test_said(is: bool) -> Said
+    ensures { reply_of result ≡ test_reply is }
+{
+    if is { Said::Yes } else { Said::No }
+}
+
+/// Performs an edit.
+fn edit<T: EditText, L: Ledger>(
+    session: &mut Session<'_, T>,
+    at: u32,
+    remove: u32,
+    text: &Word,
+    reply: &mut Vec<u8>,
+    steps: &mut Steps<L>,
+) -> Result<(), AllocError>
+    ensures { Performs session.old (model.Replace at remove text.now) reply.old.items
+        result session.new reply.new.items }
+{
+    match session.replace(at, remove, text.as_str(), steps) {
+        Ok(()) => say(Said::Edited(session.text().len()), reply),
+        Err(EditErr::Outside) => say(Said::Outside, reply),
+        Err(EditErr::TooLong) => say(Said::TooLong, reply),
+        Err(EditErr::Memory) => Err(AllocError),
+    }
+}

@@ -1,0 +1,4 @@
+pub mod Places
+pub mod Rises
+pub mod Reaching
+pub mod Answering

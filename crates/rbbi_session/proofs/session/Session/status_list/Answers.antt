@@ -1,0 +1,12 @@
+use Rattle.std.proofs.Common.{◌≡◌, ℕ, ◌+◌, ◌-◌, ◌<◌, ◌≤◌, List, length, sym, refl, ap, ◌∙◌, subst, arith}
+use Rattle.rbbi_model.specs.Answers.{AllOf, statuses_at}
+use Rattle.rbbi_session.specs.Sessions.{boundaries_of}
+use Rattle.rbbi_session.proofs.Reaching.{statuses_are}
+use Rattle.rbbi_session.proofs.session.Session.status_list.Goals as goal
+
+pub returns : goal.returns
+returns g c =
+    ap AllOf
+    (c.status_list.ensures
+    ∙ sym (statuses_are c.self.inside.table.now (g.T.Chars.characters c.self.inside.text) c.self.inside.here.at c.self.inside.here.status c.self.invariant.reached)
+    ∙ ap (λ s. statuses_at (boundaries_of s) s.state.cursor) c.self.view_is)

@@ -1,0 +1,23 @@
+//! Boundaries as a session keeps them.
+ghost use Rattle.std.specs.Prelude.{◌≡◌, ℕ, List};
+ghost use Rattle.rbbi_session.specs.Scans.{IsReached};
+
+use rbbi_table::Table;
+
+/// A boundary of a text.
+#[derive(Clone, Copy, Debug)]
+pub(crate) struct Boundary {
+    /// Its place, in characters from 0.
+    pub(crate) at: u32,
+    /// The number of its status list in the table.
+    pub(crate) status: u16,
+}
+
+/// The boundary before the first character, by this table.
+pub(crate) fn start(table: &Table) -> Boundary
+    ensures at { result.at ≡ 0 }
+    ensures reached { (x : List ℕ) → IsReached table.now x result.at result.status }
+{
+    table.valid();
+    Boundary { at: 0, status: 0 }
+}

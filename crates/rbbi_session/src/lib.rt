@@ -1,0 +1,13 @@
+//! Sessions: questions about the boundaries of a text, and edits of it.
+//!
+//! A [`Session`] has a table, a text and a cursor that stands at a boundary. It answers each question
+//! as one scan of the whole text, as it stands at that moment, gives it.
+#![tactic(auto)]
+
+mod boundary;
+mod scan;
+mod session;
+#[cfg(test)]
+mod tests;
+
+pub use session::Session;

@@ -1,0 +1,219 @@
+//! A session over a text.
+ghost use Rattle.std.specs.Prelude.{◌≡◌, ◌<◌, length, chars, Some, IfOk};
+ghost use Rattle.rbbi_model.specs.Cover.{IsPlaceOf};
+ghost use Rattle.rbbi_model.specs.Answers.{Place, Largest, AllOf, first_after, last_before};
+ghost use Rattle.rbbi_model.specs.Answers as question;
+ghost use Rattle.rbbi_session.specs.Sessions.{boundaries_of, answer_of, IsOpened, MovesTo, Answers, place_reply, test_reply, Replaces};
+
+use crate::boundary::{Boundary, start};
+use crate::scan::{scan_before, scan_past};
+use rbbi_table::{Marks, Table};
+use rbbi_text::{EditErr, EditText, Steps};
+use std::alloc::{AllocError, Global};
+use std::marker::Model;
+use std::sync::ledger::Ledger;
+
+/// A text with a table of break rules and a cursor. The cursor stands at a boundary, at first at 0.
+///
+/// Each answer is the one that a scan of the whole text from its start gives. A scan begins at the
+/// cursor where what is asked lies past it, and otherwise at the text's start. Places are in
+/// characters, from 0. No call but `open` and `replace` takes memory.
+#[derive(Drop)]
+pub struct Session<'a, T: EditText> {
+    table: &'a Table,
+    text: T,
+    /// The boundary at the cursor.
+    here: Boundary,
+    marks: Marks,
+}
+
+impl<'a, T: EditText> Model for Session<'a, T> {
+    ghost use Rattle.rbbi_session.specs.Sessions.{Session};
+
+    ghost Value = { Session };
+
+    ghost use Rattle.rbbi_session.specs.Scans.{IsKept};
+
+    ghost view = { λ session. record {
+      table = session.table.now;
+      state = record { text = T.characters session.text; cursor = session.here.at };
+    } };
+
+    ghost invariant = { λ session. IsKept session.table.now (T.characters session.text)
+        session.here.at session.here.status session.marks };
+}
+
+impl<'a, T: EditText + Drop> Session<'a, T> {
+    /// A session over a text, with the cursor at 0. After the refusal the text is dropped.
+    pub fn open(alloc: Global, table: &'a Table, text: T) -> Result<Session<'a, T>, AllocError>
+        ensures { IfOk result (λ session. IsOpened table.now (T.characters text) session) }
+    {
+        let marks = Marks::new(alloc, table)?;
+        Ok(Session {
+            table,
+            text,
+            here: start(table),
+            marks,
+        })
+    }
+}
+
+impl<'a, T: EditText> Session<'a, T> {
+    /// Goes to the first boundary, which is 0.
+    pub fn first(&mut self) -> u32
+        ensures { Answers self.old question.First (Place result) self.new }
+    {
+        self.here = start(self.table);
+        0
+    }
+
+    /// Goes to the last boundary, which is the text's length.
+    pub fn last<L: Ledger>(&mut self, steps: &mut Steps<L>) -> u32
+        ensures { Answers self.old question.Last (Place result) self.new }
+    {
+        let len = self.text.len();
+        if len == 0 {
+            return self.first();
+        }
+        self.go_past(len - 1, steps)
+    }
+
+    /// Goes to the first boundary past the cursor. None where the cursor is at the text's end; then it
+    /// stays.
+    pub fn next<L: Ledger>(&mut self, steps: &mut Steps<L>) -> Option<u32>
+        ensures { Answers self.old question.Next (place_reply result) self.new }
+    {
+        if self.here.at >= self.text.len() {
+            return None;
+        }
+        Some(self.go_past(self.here.at, steps))
+    }
+
+    /// Goes to the last boundary before the cursor. None where the cursor is at 0; then it stays.
+    pub fn previous<L: Ledger>(&mut self, steps: &mut Steps<L>) -> Option<u32>
+        ensures { Answers self.old question.Previous (place_reply result) self.new }
+    {
+        if self.here.at == 0 {
+            return None;
+        }
+        Some(self.go_before(self.here.at, steps))
+    }
+
+    /// Goes to the first boundary past a place, which may lie behind the text. None where there is
+    /// none; then the cursor goes to the text's end.
+    pub fn following<L: Ledger>(&mut self, o: u32, steps: &mut Steps<L>) -> Option<u32>
+        ensures { Answers self.old (question.Following o) (place_reply result) self.new }
+    {
+        if o >= self.text.len() {
+            self.last(steps);
+            return None;
+        }
+        Some(self.go_past(o, steps))
+    }
+
+    /// Goes to the last boundary before a place, which may lie behind the text. None where there is
+    /// none, as for place 0; then the cursor goes to 0.
+    pub fn preceding<L: Ledger>(&mut self, o: u32, steps: &mut Steps<L>) -> Option<u32>
+        ensures { Answers self.old (question.Preceding o) (place_reply result) self.new }
+    {
+        if o == 0 {
+            self.first();
+            return None;
+        }
+        Some(self.go_before(o, steps))
+    }
+
+    /// Whether a place is a boundary. The cursor goes to the first boundary that isn't before the
+    /// place, or where there is none, to the text's end.
+    pub fn is_boundary<L: Ledger>(&mut self, o: u32, steps: &mut Steps<L>) -> bool
+        ensures { Answers self.old (question.IsBoundary o) (test_reply result) self.new }
+    {
+        if o == 0 {
+            self.first();
+            return true;
+        }
+        if o > self.text.len() {
+            self.last(steps);
+            return false;
+        }
+        self.go_past(o - 1, steps) == o
+    }
+
+    /// Where the cursor is: at a boundary.
+    pub fn current(&self) -> u32
+        ensures answer { Place result ≡ (answer_of self.now question.Current).reply }
+        ensures boundary { IsPlaceOf (boundaries_of self.now) result }
+    {
+        self.here.at
+    }
+
+    /// The greatest status of the boundary at the cursor.
+    pub fn status(&self) -> u32
+        ensures { Largest result ≡ (answer_of self.now question.Status).reply }
+    {
+        let mut greatest = 0;
+        for status in self.status_list() {
+            greatest = greatest.max(*status);
+        }
+        greatest
+    }
+
+    /// The statuses of the boundary at the cursor, which rise.
+    pub fn status_list(&self) -> &[u32]
+        ensures { AllOf result.now ≡ (answer_of self.now question.Statuses).reply }
+    {
+        self.table.status_list(self.here.status)
+    }
+
+    /// The text as it is now.
+    pub fn text(&self) -> &T
+        ensures { T.characters result.now ≡ self.now.state.text }
+    {
+        &self.text
+    }
+
+    /// Puts the characters of `insert` in place of `remove` characters from `at` on, and the cursor at
+    /// 0.
+    ///
+    /// Refuses `Outside` where the text has fewer than `at + remove` characters, and otherwise
+    /// `TooLong` where it would have more than 16,777,216 characters. After a refusal, also for
+    /// memory, text and cursor are as before.
+    pub fn replace<L: Ledger>(
+        &mut self,
+        at: u32,
+        remove: u32,
+        insert: &str,
+        _steps: &mut Steps<L>,
+    ) -> Result<(), EditErr>
+        ensures { Replaces self.old at remove (chars insert.now) result self.new }
+    {
+        self.text.replace(at, remove, insert)?;
+        self.here = start(self.table);
+        Ok(())
+    }
+
+    /// Goes to the first boundary past `i`, which lies within the text.
+    fn go_past<L: Ledger>(&mut self, i: u32, steps: &mut Steps<L>) -> u32
+        requires { i < length self.old.state.text }
+        ensures first { first_after (boundaries_of self.old) i ≡ Some result }
+        ensures moved { MovesTo self.old result self.new }
+    {
+        let from = if self.here.at <= i {
+            self.here
+        } else {
+            start(self.table)
+        };
+        self.here = scan_past(self.table, &self.text, from, i, &mut self.marks, steps);
+        self.here.at
+    }
+
+    /// Goes to the last boundary before `o`, which isn't 0.
+    fn go_before<L: Ledger>(&mut self, o: u32, steps: &mut Steps<L>) -> u32
+        requires { 0 < o }
+        ensures last { last_before (boundaries_of self.old) o ≡ Some result }
+        ensures moved { MovesTo self.old result self.new }
+    {
+        self.here = scan_before(self.table, &self.text, o, &mut self.marks, steps);
+        self.here.at
+    }
+}
