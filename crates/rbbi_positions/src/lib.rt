@@ -5,6 +5,7 @@
 mod bits;
 mod empty;
 mod laws;
+mod making;
 
 pub use laws::{
     front_walks_are_spelled, fronts_are_exchanged, prefixes_are_walks, spelled_are_exchanged,
@@ -14,4 +15,5 @@ pub use laws::{
 mod marks;
 mod rule_mark;
 
+pub use making::positions;
 pub use marks::Positions;
