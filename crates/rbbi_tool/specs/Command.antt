@@ -1,2 +1,4 @@
 -- What each command answers, from what was read.
+pub mod Check
+pub mod Compile
 pub mod Breaks

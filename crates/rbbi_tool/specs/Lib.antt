@@ -1,11 +1,15 @@
 pub mod Stages
 pub mod Refusals
+pub mod Settings
 pub mod Words
+pub mod Requests
 pub mod Files
 pub mod Reads
 pub mod Texts
+pub mod Properties
 pub mod Rules
-pub mod Plain
+pub mod Basis
 pub mod Command
 pub mod Program
+pub mod Delivery
 pub mod Causes

@@ -13,6 +13,8 @@ use std::alloc::{AllocError, AllocFailed, Global};
 pub(crate) enum Subject {
     /// The rule file.
     Rules,
+    /// The table file.
+    Table,
     /// A file that is told by its name.
     File(Name),
 }
@@ -24,6 +26,8 @@ pub(crate) enum Place {
     Whole,
     /// At a byte, from 0.
     Byte(u32),
+    /// At a line, from 1.
+    Row(u32),
     /// At a line and a column, each from 1.
     Within { row: u32, column: u32 },
 }
@@ -68,6 +72,7 @@ impl Subject {
     {
         match self {
             Subject::Rules => "rules",
+            Subject::Table => "table",
             Subject::File(name) => name.as_str(),
         }
     }
@@ -78,6 +83,7 @@ impl Subject {
     {
         match self {
             Subject::Rules => 3,
+            Subject::Table => 4,
             Subject::File(_) => 5,
         }
     }
@@ -110,6 +116,10 @@ fn fault_line(alloc: Global, name: &str, label: &str, place: Place) -> Result<Ve
         Place::Byte(at) => {
             let at = numbers.format(at).as_bytes();
             joined(alloc, &[name, b": ", label, b" ", at, b"\n"])
+        }
+        Place::Row(row) => {
+            let row = numbers.format(row).as_bytes();
+            joined(alloc, &[name, b":", row, b": ", label, b"\n"])
         }
         Place::Within { row, column } => {
             let row = numbers.format(row).as_bytes();
