@@ -1,8 +1,8 @@
 -- The stages of commands refuse with faults of files alone.
-use Rattle.std.proofs.Common.{◌≡◌, ℕ, Bool, true, false, Option, List, [], ◌∷◌, sym, subst, inl, inr}
+use Rattle.std.proofs.Common.{◌≡◌, ◌≢◌, refl, ℕ, Bool, true, false, Option, List, [], ◌∷◌, sym, subst, inl, inr}
 use Rattle.rbbi_model.specs.Rules.{Rule}
 use Rattle.rbbi_tool.specs.declared.words.command.Command.{Command}
-use Rattle.rbbi_tool.specs.declared.words.command.Command.TheVariants.{Check, Compile, Breaks}
+use Rattle.rbbi_tool.specs.declared.words.command.Command.TheVariants.{Check, Compile, Breaks, Run, Conform}
 use Rattle.rbbi_tool.specs.declared.words.setting.Property.{Property}
 use Rattle.rbbi_tool.specs.declared.refusal.Subject.{Subject}
 use Rattle.rbbi_tool.specs.declared.refusal.Place.{Place}
@@ -13,6 +13,11 @@ use Rattle.rbbi_tool.specs.Words.{Request}
 use Rattle.rbbi_tool.specs.Texts.{text_stage}
 use Rattle.rbbi_tool.specs.Properties.{properties_stage}
 use Rattle.rbbi_tool.specs.Rules.{IsTold, rules_stage}
+use Rattle.rbbi_script.specs.declared.error.ScriptErr.{ScriptErr}
+use Rattle.rbbi_script.specs.declared.error.ScriptErr.TheVariants as script
+use Rattle.rbbi_conform.specs.declared.error.TestErr.{TestErr}
+use Rattle.rbbi_conform.specs.declared.error.TestErr.TheVariants as tests
+use Rattle.rbbi_tool.specs.Scripts.{script_fault, tests_fault}
 use Rattle.rbbi_tool.specs.Basis.{limits_stage, compiled_stage, basis_stage}
 use Rattle.rbbi_tool.specs.Program.{command_stage}
 
@@ -74,6 +79,17 @@ text_fault : (name bytes : List ℕ) → Faults (text_stage name bytes)
 text_fault name bytes r (inl (at, wrong, is)) = is_fault _ _ _ r is
 text_fault name bytes r (inr (x, passed, is)) = is_fault _ _ _ r is.1
 
+-- scripts and test files
+script_fault_is : (name : List ℕ) (e : ScriptErr) (r : Refusal) → e ≢ script.Memory → r ≡ script_fault name e → IsFault r
+script_fault_is name (script.NotUtf8 at) r some is = is_fault _ _ _ r is
+script_fault_is name (script.BadLine line) r some is = is_fault _ _ _ r is
+script_fault_is name script.Memory r some is = absurd (some refl)
+
+tests_fault_is : (name : List ℕ) (e : TestErr) (r : Refusal) → e ≢ tests.Memory → r ≡ tests_fault name e → IsFault r
+tests_fault_is name (tests.NotUtf8 at) r some is = is_fault _ _ _ r is
+tests_fault_is name (tests.BadLine line) r some is = is_fault _ _ _ r is
+tests_fault_is name tests.Memory r some is = absurd (some refl)
+
 -- commands
 pub command_fault : (command : Command) (request : Request) (handed files : List (List ℕ)) (r : Refusal)
     → (command_stage command request handed files).refuses r → IsFault r
@@ -84,3 +100,10 @@ command_fault Compile request handed files r (inr (rules, mean, never)) = absurd
 command_fault Breaks request handed files r (inl is) = basis_fault request.properties request.ignored request.by_table handed _ r is
 command_fault Breaks request handed files r (inr (basis, passed, inl is)) = text_fault _ _ r is
 command_fault Breaks request handed files r (inr (basis, passed, inr (x, taken, never))) = absurd never
+command_fault Run request handed files r (inl is) = basis_fault request.properties request.ignored request.by_table handed _ r is
+command_fault Run request handed files r (inr (basis, passed, inl is)) = text_fault _ _ r is
+command_fault Run request handed files r (inr (basis, passed, inr (x, taken, inl is))) = script_fault_is _ is.error r is.not_memory is.is
+command_fault Run request handed files r (inr (basis, passed, inr (x, taken, inr (commands, read, never)))) = absurd never
+command_fault Conform request handed files r (inl is) = basis_fault request.properties request.ignored request.by_table handed _ r is
+command_fault Conform request handed files r (inr (basis, passed, inl is)) = tests_fault_is _ is.error r is.not_memory is.is
+command_fault Conform request handed files r (inr (basis, passed, inr (tests, read, never))) = absurd never

@@ -1,23 +1,31 @@
 -- What words ask for, and that they are of no form.
-use Rattle.std.proofs.Common.{◌≡◌, ◌≢◌, ℕ, Bool, true, false, List, [], ◌∷◌, length, sym, ap, ◌∙◌, subst}
+use Rattle.std.proofs.Common.{◌≡◌, ◌≢◌, ℕ, Bool, true, false, List, [], ◌∷◌, length, Option, None, Some, refl, sym, ap, ◌∙◌, subst}
+use Rattle.std.specs.Prelude.{codes, bytes_eq, if◌then◌else◌}
 use Rattle.rbbi_tool.specs.declared.words.command.Command.{Command}
-use Rattle.rbbi_tool.specs.declared.words.command.Command.TheVariants.{Check, Compile, Breaks}
+use Rattle.rbbi_tool.specs.declared.words.command.Command.TheVariants.{Check, Compile, Breaks, Run, Conform}
 use Rattle.rbbi_tool.specs.declared.words.setting.Setting.{Setting}
 use Rattle.rbbi_tool.specs.Settings.{are_taken, properties_of, ignores_dictionary, are_by_table, BeginWithSettings}
 use Rattle.rbbi_tool.specs.Words.{Request, Asks, AreNoForm, name_of, taken_by, operands_of}
 use Rattle.rbbi_tool.proofs.SettingLemmas.{same_settings}
 
+-- the command of a word
+abbrev command_at : List ℕ → Option Command
+command_at word =
+    if bytes_eq word (codes "check") then Some Check
+    else (if bytes_eq word (codes "compile") then Some Compile
+    else (if bytes_eq word (codes "breaks") then Some Breaks
+    else (if bytes_eq word (codes "run") then Some Run else (if bytes_eq word (codes "conform") then Some Conform else None))))
+
+named : (command : Command) → command_at (name_of command) ≡ Some command
+named Check = refl
+named Compile = refl
+named Breaks = refl
+named Run = refl
+named Conform = refl
+
 -- a word is that of one command alone
 pub same_command : (one other : Command) → name_of one ≡ name_of other → one ≡ other
-same_command Check Check same = λ i. Check
-same_command Check Compile same = absurd cc
-same_command Check Breaks same = absurd cc
-same_command Compile Check same = absurd cc
-same_command Compile Compile same = λ i. Compile
-same_command Compile Breaks same = absurd cc
-same_command Breaks Check same = absurd cc
-same_command Breaks Compile same = absurd cc
-same_command Breaks Breaks same = λ i. Breaks
+same_command one other same = let both = sym (named one) ∙ ap command_at same ∙ named other in cc
 
 -- no words at all
 pub no_words : (words : List (List ℕ)) → words ≡ [] → AreNoForm words

@@ -10,6 +10,8 @@ pub mod Delivering
 pub mod Numbers
 pub mod Sizes
 pub mod BasisLemmas
+pub mod Verdicts
+pub mod Replies
 pub mod Commands
 pub mod Faults
 pub mod Runs

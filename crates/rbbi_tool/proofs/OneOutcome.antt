@@ -30,7 +30,7 @@ use Rattle.rbbi_file.specs.declared.error.FileErr.TheVariants as file
 use Rattle.rbbi_file.specs.Errors as reader
 use Rattle.rbbi_file.specs.Answers.{ReadsTable}
 use Rattle.rbbi_tool.specs.declared.words.command.Command.{Command}
-use Rattle.rbbi_tool.specs.declared.words.command.Command.TheVariants.{Check, Compile, Breaks}
+use Rattle.rbbi_tool.specs.declared.words.command.Command.TheVariants.{Check, Compile, Breaks, Run, Conform}
 use Rattle.rbbi_tool.specs.declared.words.setting.Property.{Property}
 use Rattle.rbbi_tool.specs.declared.files.Source.{Source}
 use Rattle.rbbi_tool.specs.declared.refusal.Subject.{Subject}
@@ -52,6 +52,7 @@ use Rattle.rbbi_tool.specs.Command.Check.{counts_line}
 use Rattle.rbbi_tool.specs.Command.Compile.{TellsTable}
 use Rattle.rbbi_tool.specs.Command.Breaks.{boundaries_stage}
 use Rattle.rbbi_tool.specs.Program.{nth, words_stage, command_stage, files_stage, request_stage, run_stage, IsOutcome}
+use Rattle.rbbi_tool.specs.Causes.{AskToReadLines}
 use Rattle.rbbi_tool.proofs.Forms.{same_request}
 use Rattle.rbbi_tool.proofs.StageLemmas.{IsSettled, settled, determined_both, settled_both}
 use Rattle.rbbi_tool.proofs.LeastFaults.{same_fault, meaning_excludes}
@@ -301,23 +302,25 @@ module _ (laws : Laws) where
     apart = λ o r is is'. is';
   }
 
-  -- what a command answers is settled
-  command_settled : (command : Command) (request : Request) (handed files : List (List ℕ))
+  -- what a command answers is settled, but for those that read scripts and test files
+  command_settled : (command : Command) (request : Request) (handed files : List (List ℕ)) → command ≢ Run → command ≢ Conform
       → IsSettled Outcome AreAlike (command_stage command request handed files)
-  command_settled Check request handed files =
+  command_settled Run request handed files other other' = absurd (other refl)
+  command_settled Conform request handed files other other' = absurd (other' refl)
+  command_settled Check request handed files other other' =
       settled AreAlike (command_stage Check request handed files) alike
       (determined_both (rules_stage request.properties request.ignored handed (nth files 0)) (λ rules. gives (printed (counts_line rules)))
       (rules_determined request.properties request.ignored handed (nth files 0)) (λ rules. gives_determined (printed (counts_line rules))))
-  command_settled Compile request handed files =
+  command_settled Compile request handed files other other' =
       settled_both (compiled_stage request.properties request.ignored handed (nth files 0))
       (λ rules. record { passes = TellsTable rules (nth request.operands 1); refuses = λ _. ⊥ }) AreAlike
       (compiled_determined request.properties request.ignored handed (nth files 0))
-      (λ rules. record {
+      (λ rules mean. record {
         value = λ o p is is'. inr (subst (λ q. IsSome q.file) (sym is.is) refl, subst (λ q. IsSome q.file) (sym is'.is) refl);
         refusal = λ r s is is'. absurd is;
         apart = λ o r is is'. is';
       })
-  command_settled Breaks request handed files =
+  command_settled Breaks request handed files other other' =
       settled AreAlike (command_stage Breaks request handed files) alike
       (determined_both (basis_stage request.properties request.ignored request.by_table handed (nth files 0))
       (λ basis. followed_by (text_stage (nth request.operands 1) (nth files 1)) (boundaries_stage basis))
@@ -326,17 +329,20 @@ module _ (laws : Laws) where
       (text_determined (nth request.operands 1) (nth files 1)) (boundaries_determined basis)))
 
   -- a run over files that tell what they hold is settled
-  run_settled : (words : List (List ℕ)) (held : List ℕ → List ℕ) → IsSettled Outcome AreAlike (run_stage words held)
-  run_settled words held =
+  run_settled : (words : List (List ℕ)) (held : List ℕ → List ℕ) → ¬ AskToReadLines words → IsSettled Outcome AreAlike (run_stage words held)
+  run_settled words held none =
       settled_both (words_stage words) (request_stage held) AreAlike (words_determined words)
-      (λ request.
+      (λ request asks.
       settled_both (lengths_stage held (sources_of request)) (λ _. files_stage request (bytes_of held (sources_of request))) AreAlike
-      (lengths_determined held (sources_of request)) (λ _. command_settled request.command request _ _))
+      (lengths_determined held (sources_of request))
+      (λ _ short.
+      command_settled request.command request _ _ (λ is. none (record { request = request; asks = asks; reads = inl is }))
+      (λ is. none (record { request = request; asks = asks; reads = inr is }))))
 
-  pub same_outcome : (words : List (List ℕ)) (held : List ℕ → List ℕ) (one other : Outcome) → IsOutcome words held one → IsOutcome words held other
-      → AreAlike one other
-  same_outcome words held one other is is' =
-      let run = run_settled words held in
+  pub same_outcome : (words : List (List ℕ)) (held : List ℕ → List ℕ) → ¬ AskToReadLines words → (one other : Outcome) → IsOutcome words held one
+      → IsOutcome words held other → AreAlike one other
+  same_outcome words held none one other is is' =
+      let run = run_settled words held none in
       ⊎_elim
       (λ (r, refuses, told). ⊎_elim (λ (s, refuses', told'). inl (told ∙ ap refused (run.refusal r s refuses refuses') ∙ sym told'))
       (λ passes. absurd (run.apart other r passes refuses)) is')

@@ -64,7 +64,7 @@ module _ (words : List (List ℕ)) (contents : Option (List ℕ → List ℕ)) (
       → Meets (λ outcome. outcome) (files_stage request bytes) result → ComesTo words contents before now result
   command_ends sources bytes (Ok outcome) same read met =
       let told = command_told request.command request _ _ outcome refl asks.count met in (
-        omega (arith, told.status),
+        told.status,
         λ none. none request asks,
         named outcome.file told.file,
         all_told contents (AreRead sources bytes) (λ held. (run_stage words held).passes outcome) read

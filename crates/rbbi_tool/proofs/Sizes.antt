@@ -4,7 +4,7 @@ use Rattle.std.specs.List.{AllByRecursion}
 use Rattle.std.proofs.lemmas.List.{length-map, length-append, length-take-le, length-drop, get_or_read}
 use Rattle.rbbi_text.specs.Bytes.{most_bytes}
 use Rattle.rbbi_tool.specs.declared.words.command.Command.{Command}
-use Rattle.rbbi_tool.specs.declared.words.command.Command.TheVariants.{Check, Compile, Breaks}
+use Rattle.rbbi_tool.specs.declared.words.command.Command.TheVariants.{Check, Compile, Breaks, Run, Conform}
 use Rattle.rbbi_tool.specs.declared.words.setting.Property.{Property}
 use Rattle.rbbi_tool.specs.declared.files.Role.{Role}
 use Rattle.rbbi_tool.specs.declared.files.Role.TheVariants as role
@@ -21,6 +21,8 @@ limit_fits role.Property = omega arith
 limit_fits role.Rules = omega arith
 limit_fits role.Table = omega arith
 limit_fits role.Text = omega arith
+limit_fits role.Script = omega arith
+limit_fits role.Tests = omega arith
 
 -- there are as many lists of bytes as files, and each is short
 pub within_length : (sources : List Source) (files : List (List ℕ)) → AreWithin sources files → length files ≡ length sources
@@ -68,6 +70,8 @@ abbrev pub read_by : Command → ℕ
 read_by Check = 1
 read_by Compile = 1
 read_by Breaks = 2
+read_by Run = 3
+read_by Conform = 2
 
 operand_count : (command : Command) (by_table : Bool) (names : List (List ℕ)) → length names ≡ length (operands_of command by_table)
     → length (operand_sources (operands_of command by_table) names) ≡ read_by command
@@ -86,6 +90,24 @@ operand_count Breaks true (n ∷ m ∷ []) count = refl
 operand_count Breaks true [] count = absurd (omega arith)
 operand_count Breaks true (n ∷ []) count = absurd (omega arith)
 operand_count Breaks true (n ∷ m ∷ o ∷ names) count = absurd (omega arith)
+operand_count Run false (n ∷ m ∷ o ∷ []) count = refl
+operand_count Run false [] count = absurd (omega arith)
+operand_count Run false (n ∷ []) count = absurd (omega arith)
+operand_count Run false (n ∷ m ∷ []) count = absurd (omega arith)
+operand_count Run false (n ∷ m ∷ o ∷ q ∷ names) count = absurd (omega arith)
+operand_count Conform false (n ∷ m ∷ []) count = refl
+operand_count Conform false [] count = absurd (omega arith)
+operand_count Conform false (n ∷ []) count = absurd (omega arith)
+operand_count Conform false (n ∷ m ∷ o ∷ names) count = absurd (omega arith)
+operand_count Run true (n ∷ m ∷ o ∷ []) count = refl
+operand_count Run true [] count = absurd (omega arith)
+operand_count Run true (n ∷ []) count = absurd (omega arith)
+operand_count Run true (n ∷ m ∷ []) count = absurd (omega arith)
+operand_count Run true (n ∷ m ∷ o ∷ q ∷ names) count = absurd (omega arith)
+operand_count Conform true (n ∷ m ∷ []) count = refl
+operand_count Conform true [] count = absurd (omega arith)
+operand_count Conform true (n ∷ []) count = absurd (omega arith)
+operand_count Conform true (n ∷ m ∷ o ∷ names) count = absurd (omega arith)
 
 pub file_count : (request : Request) (files : List (List ℕ)) → length request.operands ≡ length (operands_of request.command request.by_table)
     → AreWithin (sources_of request) files
@@ -102,6 +124,8 @@ pub some_files : (command : Command) → 1 ≤ read_by command
 some_files Check = omega arith
 some_files Compile = omega arith
 some_files Breaks = omega arith
+some_files Run = omega arith
+some_files Conform = omega arith
 
 module _ (request : Request) (files : List (List ℕ)) (within : AreWithin (sources_of request) files) where
   -- the property files are among the files

@@ -53,22 +53,22 @@ module _ {A B : Type 0} (first : Stage A) (next : A → Stage B) where
   }
 
   -- of a determined stage and a settled one the row is settled
-  pub settled_both : (R : B → B → Type 0) → IsDetermined A first → ((a : A) → IsSettled B R (next a)) → IsSettled B R (followed_by first next)
+  pub settled_both : (R : B → B → Type 0) → IsDetermined A first → ((a : A) → first.passes a → IsSettled B R (next a)) → IsSettled B R (followed_by first next)
   settled_both R one each = record {
     value = λ b c (a, passed, is) (a', passed', is').
-        (each a').value b c (subst (λ v. (next v).passes b) (one.value a a' passed passed') is) is';
+        (each a' passed').value b c (subst (λ v. (next v).passes b) (one.value a a' passed passed') is) is';
     refusal = λ r s either other.
         ⊎_elim
         (λ is. ⊎_elim (λ is'. one.refusal r s is is') (λ (a', passed', is'). absurd (one.apart a' r passed' is)) other)
         (λ (a, passed, is).
         ⊎_elim
         (λ is'. absurd (one.apart a s passed is'))
-        (λ (a', passed', is'). (each a').refusal r s (subst (λ v. (next v).refuses r) (one.value a a' passed passed') is) is')
+        (λ (a', passed', is'). (each a' passed').refusal r s (subst (λ v. (next v).refuses r) (one.value a a' passed passed') is) is')
         other)
         either;
     apart = λ b r (a, passed, is) either.
         ⊎_elim
         (λ is'. one.apart a r passed is')
-        (λ (a', passed', is'). (each a').apart b r (subst (λ v. (next v).passes b) (one.value a a' passed passed') is) is')
+        (λ (a', passed', is'). (each a' passed').apart b r (subst (λ v. (next v).passes b) (one.value a a' passed passed') is) is')
         either;
   }

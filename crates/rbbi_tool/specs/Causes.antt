@@ -5,6 +5,7 @@ use Rattle.rbbi_io.specs.Counts.{Rose}
 use Rattle.rbbi_io.specs.Sinks.{Takes}
 use Rattle.rbbi_tool.specs.declared.files.Source.{Source}
 use Rattle.rbbi_tool.specs.declared.words.command.Operand.TheVariants as operand
+use Rattle.rbbi_tool.specs.declared.words.command.Command.TheVariants as command
 use Rattle.rbbi_tool.specs.declared.refusal.Refusal.{Refusal}
 use Rattle.rbbi_tool.specs.declared.refusal.Refusal.TheVariants.{Usage, Unread, Fault, Memory}
 use Rattle.rbbi_tool.specs.Refusals.{Outcome, refused}
@@ -123,6 +124,12 @@ OthersUnwritten words writes writes' = (name : List ℕ) → ¬ NamesToWrite wor
 abbrev pub TakesFailedRead : List (List ℕ) → Option (List ℕ → List ℕ) → (List ℕ → ℕ) → (List ℕ → ℕ) → Option (List ℕ) → Option (List ℕ) → Type 0
 TakesFailedRead words contents before now taken taken' =
     (line : List ℕ) × TellsFailedRead words contents before now line × Takes taken taken' line
+
+-- the words ask for a command that reads a script or a test file
+pub record AskToReadLines (words : List (List ℕ)) : Type 0 where
+  pub request : Request
+  pub asks : Asks words request
+  pub reads : (request.command ≡ command.Run) ⊎ (request.command ≡ command.Conform)
 
 -- No two outcomes differ, but where both write a file: of a table that is compiled the row numbers are free.
 abbrev pub HasOneOutcome : List (List ℕ) → (List ℕ → List ℕ) → Type 0

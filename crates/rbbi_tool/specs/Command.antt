@@ -2,3 +2,5 @@
 pub mod Check
 pub mod Compile
 pub mod Breaks
+pub mod Run
+pub mod Conform

@@ -20,6 +20,8 @@ limit_of role.Property = 8388608
 limit_of role.Rules = 1048576
 limit_of role.Table = 100663296
 limit_of role.Text = 67108864
+limit_of role.Script = 1048576
+limit_of role.Tests = 16777216
 
 -- what the faults of a file are told of
 abbrev pub subject_of : Role → List ℕ → Subject
@@ -27,6 +29,8 @@ subject_of role.Property name = File name
 subject_of role.Rules name = Rules
 subject_of role.Table name = Table
 subject_of role.Text name = File name
+subject_of role.Script name = File name
+subject_of role.Tests name = File name
 
 -- the property file
 abbrev pub property_source : Property → Source

@@ -9,7 +9,9 @@ pub mod Texts
 pub mod Properties
 pub mod Rules
 pub mod Basis
+pub mod Scripts
 pub mod Command
+pub mod Judging
 pub mod Program
 pub mod Delivery
 pub mod Causes

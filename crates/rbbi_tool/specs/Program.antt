@@ -1,7 +1,7 @@
 -- What a run of the program answers, where the files tell what they hold: the exit status, and what is written.
 use Rattle.std.specs.Prelude.{◌≡◌, ◌⊎◌, ℕ, List, [], slice_index_or, length, take, drop}
 use Rattle.rbbi_tool.specs.declared.words.command.Command.{Command}
-use Rattle.rbbi_tool.specs.declared.words.command.Command.TheVariants.{Check, Compile, Breaks}
+use Rattle.rbbi_tool.specs.declared.words.command.Command.TheVariants.{Check, Compile, Breaks, Run, Conform}
 use Rattle.rbbi_tool.specs.declared.refusal.Refusal.{Refusal}
 use Rattle.rbbi_tool.specs.declared.refusal.Refusal.TheVariants.{Usage}
 use Rattle.rbbi_tool.specs.Stages.{Stage, followed_by}
@@ -12,6 +12,8 @@ use Rattle.rbbi_tool.specs.Reads.{bytes_of}
 use Rattle.rbbi_tool.specs.Command.Check.{check_stage}
 use Rattle.rbbi_tool.specs.Command.Compile.{compile_stage}
 use Rattle.rbbi_tool.specs.Command.Breaks.{breaks_stage}
+use Rattle.rbbi_tool.specs.Command.Run.{play_stage}
+use Rattle.rbbi_tool.specs.Command.Conform.{conform_stage}
 
 -- what the words ask for
 abbrev pub words_stage : List (List ℕ) → Stage Request
@@ -27,6 +29,11 @@ command_stage Check request handed files = check_stage request.properties reques
 command_stage Compile request handed files = compile_stage request.properties request.ignored handed (nth files 0) (nth request.operands 1)
 command_stage Breaks request handed files =
     breaks_stage request.properties request.ignored request.by_table handed (nth files 0) (nth request.operands 1) (nth files 1)
+command_stage Run request handed files =
+    play_stage request.properties request.ignored request.by_table handed (nth files 0) (nth request.operands 1) (nth files 1) (nth request.operands 2)
+    (nth files 2)
+command_stage Conform request handed files =
+    conform_stage request.properties request.ignored request.by_table handed (nth files 0) (nth request.operands 1) (nth files 1)
 
 -- what a request is answered, from the bytes of all files in order: the property files come first
 abbrev pub files_stage : Request → List (List ℕ) → Stage Outcome

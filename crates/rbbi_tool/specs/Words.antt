@@ -1,12 +1,12 @@
 -- The forms of the command line.
 use Rattle.std.specs.Prelude.{◌≡◌, Bool, true, false, List, [], ◌∷◌, ℕ, length, codes}
 use Rattle.rbbi_tool.specs.declared.words.command.Command.{Command}
-use Rattle.rbbi_tool.specs.declared.words.command.Command.TheVariants.{Check, Compile, Breaks}
+use Rattle.rbbi_tool.specs.declared.words.command.Command.TheVariants.{Check, Compile, Breaks, Run, Conform}
 use Rattle.rbbi_tool.specs.declared.words.command.Takes.{Takes}
 use Rattle.rbbi_tool.specs.declared.words.command.Takes.TheVariants.{RuleOptions, RuleOptionsOrTable}
 use Rattle.rbbi_tool.specs.declared.words.command.Operand.{Operand}
 use Rattle.rbbi_tool.specs.declared.words.command.Operand.TheVariants.{Read, Written}
-use Rattle.rbbi_tool.specs.declared.files.Role.TheVariants.{Rules, Table, Text}
+use Rattle.rbbi_tool.specs.declared.files.Role.TheVariants.{Rules, Table, Text, Script, Tests}
 use Rattle.rbbi_tool.specs.declared.words.setting.Property.{Property}
 use Rattle.rbbi_tool.specs.declared.words.setting.Setting.{Setting}
 use Rattle.rbbi_tool.specs.Settings.{are_taken, properties_of, ignores_dictionary, are_by_table, BeginWithSettings}
@@ -16,12 +16,16 @@ abbrev pub name_of : Command → List ℕ
 name_of Check = codes "check"
 name_of Compile = codes "compile"
 name_of Breaks = codes "breaks"
+name_of Run = codes "run"
+name_of Conform = codes "conform"
 
 -- which options a command takes
 abbrev pub taken_by : Command → Takes
 taken_by Check = RuleOptions
 taken_by Compile = RuleOptions
 taken_by Breaks = RuleOptionsOrTable
+taken_by Run = RuleOptionsOrTable
+taken_by Conform = RuleOptionsOrTable
 
 -- what each operand of a command is, in order, where the first is a table file or isn't
 abbrev pub operands_of : Command → Bool → List Operand
@@ -29,6 +33,10 @@ operands_of Check by_table = Read Rules ∷ []
 operands_of Compile by_table = Read Rules ∷ Written ∷ []
 operands_of Breaks false = Read Rules ∷ Read Text ∷ []
 operands_of Breaks true = Read Table ∷ Read Text ∷ []
+operands_of Run false = Read Rules ∷ Read Text ∷ Read Script ∷ []
+operands_of Run true = Read Table ∷ Read Text ∷ Read Script ∷ []
+operands_of Conform false = Read Rules ∷ Read Tests ∷ []
+operands_of Conform true = Read Table ∷ Read Tests ∷ []
 
 -- what the words ask for: a command, the property files, whether `$dictionary` is ignored, whether the first operand is a table
 -- file, and the operands

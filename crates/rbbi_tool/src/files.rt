@@ -22,6 +22,10 @@ pub(crate) enum Role {
     Table,
     /// The text.
     Text,
+    /// The script.
+    Script,
+    /// The test file.
+    Tests,
 }
 
 /// A file that is to be read.
@@ -41,6 +45,8 @@ impl Role {
             Role::Rules => 1_048_576,
             Role::Table => 100_663_296,
             Role::Text => 67_108_864,
+            Role::Script => 1_048_576,
+            Role::Tests => 16_777_216,
         }
     }
 
@@ -51,7 +57,9 @@ impl Role {
         match self {
             Role::Rules => Ok(Subject::Rules),
             Role::Table => Ok(Subject::Table),
-            Role::Property | Role::Text => Ok(Subject::File(Name::new(alloc, name)?)),
+            Role::Property | Role::Text | Role::Script | Role::Tests => Ok(Subject::File(Name::new(
+                alloc, name,
+            )?)),
         }
     }
 }

@@ -19,6 +19,7 @@ mod program;
 mod properties;
 mod refusal;
 mod rules;
+mod scripts;
 mod sources;
 #[cfg(test)]
 mod tests;

@@ -8,7 +8,7 @@ ghost use Rattle.rbbi_tool.specs.Files.{sources_of};
 ghost use Rattle.rbbi_tool.specs.Reads.{AreWithin};
 ghost use Rattle.rbbi_tool.specs.Program.{nth, files_stage};
 
-use crate::command::{Output, breaks, check, compile};
+use crate::command::{Output, breaks, check, compile, conform, run};
 use crate::refusal::Refusal;
 use crate::words::{Command, Request};
 use rbbi_text::{Raw, Steps};
@@ -46,21 +46,39 @@ pub(crate) fn output_of<L: Ledger>(
     let options = &request.options;
     let operands = request.operands;
     let (handed, files) = files.split_at(options.properties.len());
-    let first = file(files, 0);
+    let source = file(files, 0);
     match request.command {
-        Command::Check => check(alloc, options, handed, first, steps),
-        Command::Compile => compile(alloc, options, handed, first, word(operands, 1), steps),
+        Command::Check => check(alloc, options, handed, source, steps),
+        Command::Compile => {
+            let table_name = word(operands, 1);
+            compile(alloc, options, handed, source, table_name, steps)
+        }
         Command::Breaks => {
+            let text_name = word(operands, 1);
             let text = file(files, 1);
-            breaks(
+            breaks(alloc, options, handed, source, text_name, text, steps)
+        }
+        Command::Run => {
+            let played_name = word(operands, 1);
+            let played = file(files, 1);
+            let script_name = word(operands, 2);
+            let script = file(files, 2);
+            run(
                 alloc,
                 options,
                 handed,
-                first,
-                word(operands, 1),
-                text,
+                source,
+                played_name,
+                played,
+                script_name,
+                script,
                 steps,
             )
+        }
+        Command::Conform => {
+            let tests_name = word(operands, 1);
+            let tests = file(files, 1);
+            conform(alloc, options, handed, source, tests_name, tests, steps)
         }
     }
 }

@@ -1,6 +1,7 @@
 //! What ends a run before its output.
 ghost use Rattle.std.specs.Prelude.{◌≡◌, ◌⊎◌, IfOk, OnOk};
 ghost use Rattle.rbbi_tool.specs.declared.refusal.Refusal.TheVariants as refusal;
+ghost use Rattle.rbbi_tool.specs.declared.refusal.Subject.TheVariants as file;
 ghost use Rattle.rbbi_tool.specs.Refusals as spec;
 
 use crate::lines::joined;
@@ -99,6 +100,17 @@ pub(crate) fn fault(alloc: Global, subject: Subject, label: &str, place: Place) 
             label,
             place,
         },
+        Err(AllocError) => Refusal::Memory,
+    }
+}
+
+/// A fault of this label in the file of this name, or want of memory.
+pub(crate) fn file_fault(alloc: Global, name: &str, label: &str, place: Place) -> Refusal
+    ensures { (result ≡ Refusal.Memory)
+        ⊎ (result ≡ Refusal.Fault (file.File name.now) label.now place) }
+{
+    match Name::new(alloc, name) {
+        Ok(name) => fault(alloc, Subject::File(name), label, place),
         Err(AllocError) => Refusal::Memory,
     }
 }

@@ -4,8 +4,10 @@ ghost use Rattle.std.specs.Prelude.{◌≡◌, ◌<◌};
 mod breaks;
 mod check;
 mod compile;
+mod conform;
 mod faults;
 mod forms;
+mod run;
 
 use crate::rbbi;
 use rbbi_io::{MemFiles, MemSink};
@@ -54,7 +56,11 @@ fn files_of(rt: &HostRuntime, held: &[(&str, &[u8])]) -> Result<MemFiles, AllocE
 }
 
 /// Runs the words over the files.
-fn run(rt: &HostRuntime, words: &str, files: &mut MemFiles) -> Result<(u8, MemSink), AllocError> {
+fn run_words(
+    rt: &HostRuntime,
+    words: &str,
+    files: &mut MemFiles,
+) -> Result<(u8, MemSink), AllocError> {
     let mut out = MemSink::new(rt.alloc());
     let words = split(rt, words)?;
     let status = status_of::<Brand>(rt, &words, files, &mut out, Blank::new(1));
@@ -65,7 +71,7 @@ fn run(rt: &HostRuntime, words: &str, files: &mut MemFiles) -> Result<(u8, MemSi
 fn run_rows(rt: &HostRuntime, rows: &[Row]) -> Result<(), Fail> {
     for (words, held, status, output) in rows {
         let mut files = files_of(rt, held)?;
-        let (answered, out) = run(rt, words, &mut files)?;
+        let (answered, out) = run_words(rt, words, &mut files)?;
         assert_eq!(rt; answered, *status, "of {words} over {held:?}");
         assert_eq!(rt; out.taken(), output.as_bytes(), "of {words} over {held:?}");
     }

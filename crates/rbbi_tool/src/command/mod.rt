@@ -3,11 +3,15 @@
 mod breaks;
 mod check;
 mod compile;
+mod conform;
+mod run;
 
 use crate::name::Name;
 pub(crate) use breaks::breaks;
 pub(crate) use check::check;
 pub(crate) use compile::compile;
+pub(crate) use conform::conform;
+pub(crate) use run::run;
 use std::marker::Model;
 
 /// A file that is written. Contracts see its name and its bytes.

@@ -1,5 +1,5 @@
 //! The command `compile`.
-use super::{files_of, run, run_rows};
+use super::{files_of, run_rows, run_words};
 use std::test::Fail;
 
 /// The table file of the rules `a;`.
@@ -62,7 +62,7 @@ fn categories(rt: HostRuntime) -> Result<(), Fail> {
         }
         rules.push(';')?;
         let mut files = files_of(&rt, &[("r.txt", rules.as_bytes())])?;
-        let (answered, out) = run(&rt, "compile r.txt b.tbl", &mut files)?;
+        let (answered, out) = run_words(&rt, "compile r.txt b.tbl", &mut files)?;
         assert_eq!(rt; answered, status);
         if status == 3 {
             assert_eq!(rt; out.taken(), b"rules: TooManyCategories\n".as_slice());
@@ -75,15 +75,15 @@ fn categories(rt: HostRuntime) -> Result<(), Fail> {
 #[test]
 fn files(rt: HostRuntime) -> Result<(), Fail> {
     let mut files = files_of(&rt, &[("r.txt", b"a;")])?;
-    run(&rt, "compile r.txt b.tbl", &mut files)?;
+    run_words(&rt, "compile r.txt b.tbl", &mut files)?;
     assert_eq!(rt; files.get("b.tbl"), Some(TABLE.as_slice()));
     let mut files = files_of(&rt, &[("r.txt", b"(")])?;
-    run(&rt, "compile r.txt b.tbl", &mut files)?;
+    run_words(&rt, "compile r.txt b.tbl", &mut files)?;
     assert_eq!(rt; files.get("b.tbl"), None);
     // a write that fails ends the run before anything goes out
     let mut files = files_of(&rt, &[("r.txt", b"a;")])?;
     files.fail_at(2)?;
-    let (status, out) = run(&rt, "compile r.txt b.tbl", &mut files)?;
+    let (status, out) = run_words(&rt, "compile r.txt b.tbl", &mut files)?;
     assert_eq!(rt; status, 7);
     assert_eq!(rt; out.taken(), b"".as_slice());
     Ok(())

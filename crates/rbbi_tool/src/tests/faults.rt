@@ -1,5 +1,5 @@
 //! Faults of files, of the sink and of memory.
-use super::{files_of, run, split, status_of};
+use super::{files_of, run_words, split, status_of};
 use rbbi_io::MemSink;
 use std::marker::Brand;
 use std::sync::ledger::Blank;
@@ -40,7 +40,7 @@ fn too_long_ends_the_reading(rt: HostRuntime) -> Result<(), Fail> {
     for failing in [0, 2] {
         let mut files = files_of(&rt, &[("r.txt", &rules), ("t.txt", b"a")])?;
         files.fail_at(failing)?;
-        let (status, out) = run(&rt, "breaks r.txt t.txt", &mut files)?;
+        let (status, out) = run_words(&rt, "breaks r.txt t.txt", &mut files)?;
         assert_eq!(rt; status, 3);
         assert_eq!(rt; out.taken(), b"rules: TooLong\n".as_slice());
         assert_eq!(rt; files.calls(), 1);
@@ -52,7 +52,7 @@ fn too_long_ends_the_reading(rt: HostRuntime) -> Result<(), Fail> {
 #[test]
 fn answers_or_wants_memory(rt: HostRuntime) -> Result<(), Fail> {
     let mut files = files_of(&rt, &[("r.txt", b"[a-z]+;"), ("t.txt", b"ab1c")])?;
-    let (status, out) = run(&rt, "breaks r.txt t.txt", &mut files)?;
+    let (status, out) = run_words(&rt, "breaks r.txt t.txt", &mut files)?;
     let whole = b"0 0\n2 0\n3 0\n4 0\n".as_slice();
     let given = status == 0 && out.taken() == whole;
     let wanting = status == 8 && whole.starts_with(out.taken());

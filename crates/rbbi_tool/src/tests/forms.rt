@@ -1,5 +1,5 @@
 //! Words of no form, and options.
-use super::{files_of, run, run_rows};
+use super::{files_of, run_rows, run_words};
 use std::test::Fail;
 
 const USAGE: &str = "usage: rbbi COMMAND [OPTIONS] OPERANDS\n";
@@ -32,7 +32,7 @@ fn words_of_no_form(rt: HostRuntime) -> Result<(), Fail> {
     ];
     for words in forms {
         let mut files = files_of(&rt, &[("r.txt", b"a;"), ("t.txt", b"a")])?;
-        let (status, out) = run(&rt, words, &mut files)?;
+        let (status, out) = run_words(&rt, words, &mut files)?;
         assert_eq!(rt; status, 2, "of {words}");
         assert_eq!(rt; out.taken(), USAGE.as_bytes(), "of {words}");
         assert_eq!(rt; files.calls(), 0, "of {words}");

@@ -14,6 +14,10 @@ pub(crate) enum Command {
     Compile,
     /// Tell the boundaries of a text.
     Breaks,
+    /// Reply to the commands of a script over a text.
+    Run,
+    /// Compare the boundaries of tests with their marks.
+    Conform,
 }
 
 /// Which options a command takes.
@@ -41,7 +45,7 @@ impl Command {
     {
         match self {
             Command::Check | Command::Compile => Takes::RuleOptions,
-            Command::Breaks => Takes::RuleOptionsOrTable,
+            Command::Breaks | Command::Run | Command::Conform => Takes::RuleOptionsOrTable,
         }
     }
 
@@ -54,6 +58,18 @@ impl Command {
             (Command::Compile, _) => &[Operand::Read(Role::Rules), Operand::Written],
             (Command::Breaks, false) => &[Operand::Read(Role::Rules), Operand::Read(Role::Text)],
             (Command::Breaks, true) => &[Operand::Read(Role::Table), Operand::Read(Role::Text)],
+            (Command::Run, false) => &[
+                Operand::Read(Role::Rules),
+                Operand::Read(Role::Text),
+                Operand::Read(Role::Script),
+            ],
+            (Command::Run, true) => &[
+                Operand::Read(Role::Table),
+                Operand::Read(Role::Text),
+                Operand::Read(Role::Script),
+            ],
+            (Command::Conform, false) => &[Operand::Read(Role::Rules), Operand::Read(Role::Tests)],
+            (Command::Conform, true) => &[Operand::Read(Role::Table), Operand::Read(Role::Tests)],
         }
     }
 }
@@ -67,6 +83,8 @@ pub(crate) fn command_of(word: &str) -> Option<Command>
         "check" => Some(Command::Check),
         "compile" => Some(Command::Compile),
         "breaks" => Some(Command::Breaks),
+        "run" => Some(Command::Run),
+        "conform" => Some(Command::Conform),
         _ => None,
     }
 }
