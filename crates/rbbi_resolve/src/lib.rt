@@ -7,6 +7,7 @@ mod error;
 mod fault;
 mod joining;
 mod laws;
+mod outcome;
 mod properties;
 mod rules;
 mod scope;
@@ -17,4 +18,5 @@ mod variables;
 
 pub use error::ResolveErr;
 pub use laws::{at_most_one_meaning, the_earliest_is_noted};
+pub use outcome::resolve;
 pub use rules::{Rule, Rules, SetList, Tree, Trees};

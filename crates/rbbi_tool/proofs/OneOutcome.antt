@@ -1,9 +1,12 @@
 -- Each stage is determined, and so is the outcome. The laws of the lower crates are handed in.
-use Rattle.std.proofs.Common.{◌≡◌, ⊎_elim, ℕ, List, [], ◌∷◌, length, Option, Some, is_some, sym, refl, ap, ◌∙◌, arith}
-use Rattle.std.specs.Prelude.{codes}
+use Rattle.std.proofs.Common.{◌≡◌, ◌≢◌, ◌⊎◌, ◌+◌, inl, inr, ⊎_elim, ℕ, Bool, true, false, List, [], ◌∷◌, length, Option, Some, is_some, sym, refl, ap, ◌∙◌, subst, arith}
+use Rattle.std.specs.Prelude.{codes, IsSome, Result, Err, Ok}
 use Rattle.rbbi_model.specs.Rules.{Rule}
 use Rattle.rbbi_model.specs.Boundaries.{Boundary, AreBoundaries}
 use Rattle.rbbi_model.specs.Lines.{boundary_lines}
+use Rattle.rbbi_model.specs.Tables.{Table}
+use Rattle.rbbi_model.specs.ValidTables.{IsValidTable}
+use Rattle.rbbi_model.specs.TableFile.{spelling}
 use Rattle.rbbi_lex.specs.declared.token.Token.{Token}
 use Rattle.rbbi_lex.specs.declared.error.LexErr.{LexErr}
 use Rattle.rbbi_lex.specs.declared.error.LexErr.TheVariants as lexing
@@ -15,26 +18,44 @@ use Rattle.rbbi_tree.specs.Grammar.{IsFile, HasOneReading}
 use Rattle.rbbi_tree.specs.declared.error.TreeErr.{TreeErr}
 use Rattle.rbbi_tree.specs.Brackets.{IsShallow}
 use Rattle.rbbi_tree.specs.Refusals as parser
+use Rattle.rbbi_props.specs.Rows as rows
+use Rattle.rbbi_resolve.specs.Laws.{HasOneMeaning}
+use Rattle.rbbi_resolve.specs.Refusals as resolver
+use Rattle.rbbi_dfa.specs.declared.error.BuildErr.{BuildErr}
+use Rattle.rbbi_dfa.specs.declared.error.BuildErr.TheVariants as build
+use Rattle.rbbi_dfa.specs.Refusals as builder
+use Rattle.rbbi_dfa.specs.Builds.{BuildsTable, IsWithinLimits}
+use Rattle.rbbi_file.specs.declared.error.FileErr.{FileErr}
+use Rattle.rbbi_file.specs.declared.error.FileErr.TheVariants as file
+use Rattle.rbbi_file.specs.Errors as reader
+use Rattle.rbbi_file.specs.Answers.{ReadsTable}
 use Rattle.rbbi_tool.specs.declared.words.command.Command.{Command}
-use Rattle.rbbi_tool.specs.declared.words.command.Command.TheVariants.{Breaks}
+use Rattle.rbbi_tool.specs.declared.words.command.Command.TheVariants.{Check, Compile, Breaks, Run, Conform}
+use Rattle.rbbi_tool.specs.declared.words.setting.Property.{Property}
 use Rattle.rbbi_tool.specs.declared.files.Source.{Source}
 use Rattle.rbbi_tool.specs.declared.refusal.Subject.{Subject}
-use Rattle.rbbi_tool.specs.declared.refusal.Subject.TheVariants.{Rules}
-use Rattle.rbbi_tool.specs.declared.refusal.Place.TheVariants.{Byte}
+use Rattle.rbbi_tool.specs.declared.refusal.Subject.TheVariants as subject
+use Rattle.rbbi_tool.specs.declared.refusal.Place.TheVariants.{Whole, Byte, Row}
 use Rattle.rbbi_tool.specs.declared.refusal.Refusal.{Refusal}
 use Rattle.rbbi_tool.specs.declared.refusal.Refusal.TheVariants.{Fault}
-use Rattle.rbbi_tool.specs.Stages.{IsDetermined}
-use Rattle.rbbi_tool.specs.Refusals.{Outcome, refused}
-use Rattle.rbbi_tool.specs.Words.{Request, Asks, name_of}
+use Rattle.rbbi_tool.specs.Stages.{Stage, followed_by, gives, IsDetermined}
+use Rattle.rbbi_tool.specs.Refusals.{Outcome, refused, printed}
+use Rattle.rbbi_tool.specs.Words.{Request, Asks, AreNoForm}
 use Rattle.rbbi_tool.specs.Files.{length_stage, lengths_stage, sources_of}
-use Rattle.rbbi_tool.specs.Texts.{TellsNotUtf8, utf8_stage, count_stage, text_stage}
-use Rattle.rbbi_tool.specs.Rules.{IsTold, fault_at, rule_text_stage, tokens_stage, statements_stage, built_stage, some_rule_stage}
-use Rattle.rbbi_tool.specs.Rules.{rules_of_text_stage, rules_stage}
+use Rattle.rbbi_tool.specs.Texts.{TellsNotUtf8, checked_utf8_stage, utf8_stage, count_stage, text_stage}
+use Rattle.rbbi_tool.specs.Properties.{rows_stage, property_stage, properties_stage, property_files}
+use Rattle.rbbi_tool.specs.Rules.{IsTold, fault_at, rule_text_stage, tokens_stage, statements_stage, meaning_stage, rules_of_text_stage, rule_bytes_stage, rules_stage}
+use Rattle.rbbi_tool.specs.Basis.{categories_stage, TellsLimit, sizes_stage, limits_stage, compiled_stage, table_place, TellsTableFault, table_stage}
+use Rattle.rbbi_tool.specs.Basis.{Basis, ByRules, ByTable, AreBoundariesBy, basis_stage}
 use Rattle.rbbi_tool.specs.Reads.{bytes_of}
+use Rattle.rbbi_tool.specs.Command.Check.{counts_line}
+use Rattle.rbbi_tool.specs.Command.Compile.{TellsTable}
 use Rattle.rbbi_tool.specs.Command.Breaks.{boundaries_stage}
-use Rattle.rbbi_tool.specs.Program.{nth, words_stage, command_stage, request_stage, run_stage, IsOutcome}
-use Rattle.rbbi_tool.specs.Plain.Meaning.{rules_of}
-use Rattle.rbbi_tool.proofs.StageLemmas.{determined_both}
+use Rattle.rbbi_tool.specs.Program.{nth, words_stage, command_stage, files_stage, request_stage, run_stage, IsOutcome}
+use Rattle.rbbi_tool.specs.Causes.{AskToReadLines}
+use Rattle.rbbi_tool.proofs.Forms.{same_request}
+use Rattle.rbbi_tool.proofs.StageLemmas.{IsSettled, settled, determined_both, settled_both}
+use Rattle.rbbi_tool.proofs.LeastFaults.{same_fault, meaning_excludes}
 
 -- what the lower crates state of tokens, faults, readings and boundaries
 pub record Laws : Type 0 where
@@ -45,19 +66,18 @@ pub record Laws : Type 0 where
   pub refusals : (ts : List Token) (end : ℕ) (e f : TreeErr) → parser.IsFaultOf ts end e → parser.IsFaultOf ts end f → e ≡ f
   pub excludes : (ts : List Token) (end : ℕ) (statements : List StatementTree) (e : TreeErr) → IsFile ts statements → IsShallow ts
       → parser.IsFaultOf ts end e → ⊥
+  pub meanings : HasOneMeaning
+  pub tables : (these those : Table) → IsValidTable these → IsValidTable those → spelling these ≡ spelling those → these ≡ those
+  pub answers : (bytes : List ℕ) (one other : Result Table FileErr) → ReadsTable bytes one → ReadsTable bytes other → one ≢ Err file.Memory
+      → other ≢ Err file.Memory → one ≡ other
   pub boundaries : (rules : List Rule) (x : List ℕ) (these those : List Boundary) → AreBoundaries rules x these → AreBoundaries rules x those → these ≡ those
 
--- a word is that of one command alone
-same_command : (one other : Command) → name_of one ≡ name_of other → one ≡ other
-same_command Breaks Breaks same = refl
+-- outcomes are the same, or both write a file
+abbrev AreAlike : Outcome → Outcome → Type 0
+AreAlike one other = (one ≡ other) ⊎ (IsSome one.file × IsSome other.file)
 
--- one request fits the words
-pub same_request : (words : List (List ℕ)) (one other : Request) → Asks words one → Asks words other → one ≡ other
-same_request words one other asks asks' =
-    let same = sym asks.are ∙ asks'.are in
-    let command : one.command ≡ other.command = same_command one.command other.command cc in
-    let operands : one.operands ≡ other.operands = cc in
-    λ i. record { command = command i; operands = operands i }
+alike : (one other : Outcome) → one ≡ other → AreAlike one other
+alike one other same = inl same
 
 words_determined : (words : List (List ℕ)) → IsDetermined Request (words_stage words)
 words_determined words = record {
@@ -97,6 +117,70 @@ count_determined subject x = record {
   refusal = λ r s is is'. is.1 ∙ sym is'.1;
   apart = λ y r is is'. let few = is.1 in let many = is'.0 in omega arith;
 }
+
+checked_determined : (subject : Subject) (bytes : List ℕ) → IsDetermined (Unit {0}) (checked_utf8_stage subject bytes)
+checked_determined subject bytes = record {
+  value = λ x y is is'. refl;
+  refusal = not_utf8_once subject bytes;
+  apart = λ x r is (at, wrong, told). wrong.not_utf8 is;
+}
+
+rows_determined : (name bytes : List ℕ) → IsDetermined (Unit {0}) (rows_stage name bytes)
+rows_determined name bytes = record {
+  value = λ a b is is'. refl;
+  refusal = λ r s (line, (k, first, at), is) (line', (k', first', at'), is').
+      let same : k ≡ k' = (let both = sym first ∙ first' in cc) in
+      is ∙ ap (λ n. Fault (subject.File name) (codes "BadRow") (Row n)) (at ∙ ap (λ n. n + 1) same ∙ sym at') ∙ sym is';
+  apart = λ a r is (line, (k, first, at), told). let both = sym is ∙ first in absurd cc;
+}
+
+properties_determined : (properties : List Property) (handed : List (List ℕ)) → IsDetermined (Unit {0}) (properties_stage properties handed)
+properties_determined [] handed = record { value = λ a b is is'. refl; refusal = λ r s is is'. absurd is; apart = λ a r is is'. is' }
+properties_determined (p ∷ properties) [] = record { value = λ a b is is'. refl; refusal = λ r s is is'. absurd is; apart = λ a r is is'. is' }
+properties_determined (p ∷ properties) (b ∷ handed) =
+    determined_both (property_stage p.file b) (λ _. properties_stage properties handed)
+    (determined_both (checked_utf8_stage (subject.File p.file) b) (λ _. rows_stage p.file b) (checked_determined (subject.File p.file) b)
+    (λ _. rows_determined p.file b))
+    (λ _. properties_determined properties handed)
+
+-- a stage that gives one value is determined
+gives_determined : {A : Type 0} (a : A) → IsDetermined A (gives a)
+gives_determined a = record { value = λ b c is is'. is ∙ sym is'; refusal = λ r s is is'. absurd is; apart = λ b r is is'. is' }
+
+-- the limits on tables are passed or not
+limit_twice : (rules : List Rule) (e f : BuildErr) → BuildsTable rules (Err e) → BuildsTable rules (Err f) → e ≢ build.Memory → f ≢ build.Memory → e ≡ f
+limit_twice rules build.TooManySets build.TooManySets is is' some some' = refl
+limit_twice rules build.TooManySets build.TooManyRows is is' some some' = absurd (is'.0 is)
+limit_twice rules build.TooManySets build.TooManyStatuses is is' some some' = absurd (is'.0 is)
+limit_twice rules build.TooManyRows build.TooManySets is is' some some' = absurd (is.0 is')
+limit_twice rules build.TooManyRows build.TooManyRows is is' some some' = refl
+limit_twice rules build.TooManyRows build.TooManyStatuses is is' some some' = absurd (is'.1 is.1)
+limit_twice rules build.TooManyStatuses build.TooManySets is is' some some' = absurd (is.0 is')
+limit_twice rules build.TooManyStatuses build.TooManyRows is is' some some' = absurd (is.1 is'.1)
+limit_twice rules build.TooManyStatuses build.TooManyStatuses is is' some some' = refl
+limit_twice rules build.Memory f is is' some some' = absurd (some refl)
+limit_twice rules build.TooManySets build.Memory is is' some some' = absurd (some' refl)
+limit_twice rules build.TooManyRows build.Memory is is' some some' = absurd (some' refl)
+limit_twice rules build.TooManyStatuses build.Memory is is' some some' = absurd (some' refl)
+
+limit_or_within : (rules : List Rule) (e : BuildErr) → BuildsTable rules (Err e) → e ≢ build.Memory → IsWithinLimits rules → ⊥
+limit_or_within rules build.TooManySets is some within = within.sets is
+limit_or_within rules build.TooManyRows is some within = within.rows is.1
+limit_or_within rules build.TooManyStatuses is some within = within.statuses is.2
+limit_or_within rules build.Memory is some within = some refl
+
+limits_determined : (rules : List Rule) → IsDetermined (Unit {0}) (limits_stage rules)
+limits_determined rules =
+    determined_both (categories_stage rules) (λ _. sizes_stage rules)
+    (record { value = λ a b is is'. refl; refusal = λ r s is is'. is.1 ∙ sym is'.1; apart = λ a r is is'. is is'.0 })
+    (λ _. record {
+      value = λ a b is is'. refl;
+      refusal = λ r s is is'.
+          is.is
+          ∙ ap (λ e. Fault subject.Rules (builder.label_of e) Whole) (limit_twice rules is.error is'.error is.passed is'.passed is.not_memory is'.not_memory)
+          ∙ sym is'.is;
+      apart = λ a r is is'. limit_or_within rules is'.error is'.passed is'.not_memory is;
+    })
 
 text_determined : (name bytes : List ℕ) → IsDetermined (List ℕ) (text_stage name bytes)
 text_determined name bytes =
@@ -153,58 +237,114 @@ module _ (laws : Laws) where
     apart = λ f r is is'. laws.excludes ts (length x) f is'.error is.0 is.1 (is'.holds, ap is_some is'.placed);
   }
 
-  built_determined : (statements : List StatementTree) → IsDetermined (Unit {0}) (built_stage statements)
-  built_determined statements = record {
-    value = λ a b is is'. refl;
-    refusal = λ r s is is'. is.1 ∙ sym is'.1;
-    apart = λ a r is is'. let not = is'.0 in absurd cc;
-  }
-
-  some_rule_determined : (x : List ℕ) (statements : List StatementTree) → IsDetermined (List StatementTree) (some_rule_stage x statements)
-  some_rule_determined x statements = record {
-    value = λ f g is is'. is.0 ∙ sym is'.0;
-    refusal = λ r s is is'. is.1 ∙ sym is'.1;
-    apart = λ f r is is'. is.1 is'.0;
+  -- what the statements mean is determined
+  meaning_determined : (files : List rows.File) (ignored : Bool) (x : List ℕ) (statements : List StatementTree)
+      → IsDetermined (List Rule) (meaning_stage files ignored x statements)
+  meaning_determined files ignored x statements = record {
+    value = laws.meanings files ignored statements;
+    refusal = told_once (resolver.IsRefusedFor files ignored statements (length x)) resolver.label_of resolver.place_of x
+        (λ e f i j is placed is' placed'. same_fault _ _ e f i j is placed is' placed');
+    apart = λ rules r means is. meaning_excludes files ignored statements rules (length x) is.error is.place means is.holds is.placed;
   }
 
   -- what a rule file comes to is determined
-  rules_determined : (bytes : List ℕ) → IsDetermined (List StatementTree) (rules_stage bytes)
-  rules_determined bytes =
-      determined_both (rule_text_stage bytes) rules_of_text_stage
-      (record { value = λ x y is is'. is.1 ∙ sym is'.1; refusal = not_utf8_once Rules bytes; apart = λ x r is (at, wrong, told). wrong.not_utf8 is.0 })
+  rules_determined : (properties : List Property) (ignored : Bool) (handed : List (List ℕ)) (bytes : List ℕ)
+      → IsDetermined (List Rule) (rules_stage properties ignored handed bytes)
+  rules_determined properties ignored handed bytes =
+      let files : List rows.File = property_files properties handed in
+      determined_both (properties_stage properties handed) (λ _. rule_bytes_stage files ignored bytes) (properties_determined properties handed)
+      (λ _.
+      determined_both (rule_text_stage bytes) (rules_of_text_stage files ignored)
+      (record { value = λ x y is is'. is.1 ∙ sym is'.1; refusal = not_utf8_once subject.Rules bytes; apart = λ x r is (at, wrong, told). wrong.not_utf8 is.0 })
       (λ x.
-      determined_both (tokens_stage x) _ (tokens_determined x)
-      (λ ts. determined_both (statements_stage x ts) _ (statements_determined x ts)
-      (λ statements. determined_both (built_stage statements) _ (built_determined statements) (λ _. some_rule_determined x statements))))
+      determined_both (tokens_stage x) (λ ts. followed_by (statements_stage x ts) (meaning_stage files ignored x)) (tokens_determined x)
+      (λ ts. determined_both (statements_stage x ts) (meaning_stage files ignored x) (statements_determined x ts) (meaning_determined files ignored x))))
 
-  boundaries_determined : (rules : List Rule) (x : List ℕ) → IsDetermined Outcome (boundaries_stage rules x)
-  boundaries_determined rules x = record {
-    value = λ o p (bs, are, is) (cs, are', is'). is ∙ ap (λ list. record { status = 0; bytes = boundary_lines list })
-        (laws.boundaries rules x bs cs are are') ∙ sym is';
+  compiled_determined : (properties : List Property) (ignored : Bool) (handed : List (List ℕ)) (bytes : List ℕ)
+      → IsDetermined (List Rule) (compiled_stage properties ignored handed bytes)
+  compiled_determined properties ignored handed bytes =
+      determined_both (rules_stage properties ignored handed bytes) (λ rules. followed_by (limits_stage rules) (λ _. gives rules))
+      (rules_determined properties ignored handed bytes)
+      (λ rules. determined_both (limits_stage rules) (λ _. gives rules) (limits_determined rules) (λ _. gives_determined rules))
+
+  -- what a table file comes to is determined
+  err_same : (e f : FileErr) → (let this : Result Table FileErr = Err e in this) ≡ Err f → e ≡ f
+  err_same e f same = cc
+
+  table_determined : (bytes : List ℕ) → IsDetermined Table (table_stage bytes)
+  table_determined bytes = record {
+    value = λ t u is is'. laws.tables t u is.0 is'.0 (sym is.1 ∙ is'.1);
+    refusal = λ r s is is'.
+        let same = laws.answers bytes (Err is.error) (Err is'.error) is.refused is'.refused (λ m. is.not_memory cc) (λ m. is'.not_memory cc) in
+        is.is ∙ ap (λ e. Fault subject.Table (reader.label_of e) (table_place (reader.place_of e))) (err_same is.error is'.error same) ∙ sym is'.is;
+    apart = λ t r is is'.
+        let same = laws.answers bytes (Ok t) (Err is'.error) is is'.refused (λ m. absurd cc) (λ m. is'.not_memory cc) in
+        absurd cc;
+  }
+
+  basis_determined : (properties : List Property) (ignored by_table : Bool) (handed : List (List ℕ)) (bytes : List ℕ)
+      → IsDetermined Basis (basis_stage properties ignored by_table handed bytes)
+  basis_determined properties ignored false handed bytes =
+      determined_both (compiled_stage properties ignored handed bytes) (λ rules. gives (ByRules rules)) (compiled_determined properties ignored handed bytes)
+      (λ rules. gives_determined (ByRules rules))
+  basis_determined properties ignored true handed bytes =
+      determined_both (table_stage bytes) (λ table. gives (ByTable table)) (table_determined bytes) (λ table. gives_determined (ByTable table))
+
+  -- boundaries are determined
+  same_boundaries : (basis : Basis) (x : List ℕ) (these those : List Boundary) → AreBoundariesBy basis x these → AreBoundariesBy basis x those → these ≡ those
+  same_boundaries (ByRules rules) x these those are are' = laws.boundaries rules x these those are are'
+  same_boundaries (ByTable table) x these those are are' = are ∙ sym are'
+
+  boundaries_determined : (basis : Basis) (x : List ℕ) → IsDetermined Outcome (boundaries_stage basis x)
+  boundaries_determined basis x = record {
+    value = λ o p (bs, are, is) (cs, are', is'). is ∙ ap (λ list. printed (boundary_lines list)) (same_boundaries basis x bs cs are are') ∙ sym is';
     refusal = λ r s is is'. absurd is;
     apart = λ o r is is'. is';
   }
 
-  command_determined : (command : Command) (operands bytes : List (List ℕ)) → IsDetermined Outcome (command_stage command operands bytes)
-  command_determined Breaks operands bytes =
-      determined_both (rules_stage (nth bytes 0)) _ (rules_determined (nth bytes 0))
-      (λ statements. determined_both (text_stage (nth operands 1) (nth bytes 1)) _ (text_determined (nth operands 1) (nth bytes 1))
-      (boundaries_determined (rules_of statements)))
+  -- what a command answers is settled, but for those that read scripts and test files
+  command_settled : (command : Command) (request : Request) (handed files : List (List ℕ)) → command ≢ Run → command ≢ Conform
+      → IsSettled Outcome AreAlike (command_stage command request handed files)
+  command_settled Run request handed files other other' = absurd (other refl)
+  command_settled Conform request handed files other other' = absurd (other' refl)
+  command_settled Check request handed files other other' =
+      settled AreAlike (command_stage Check request handed files) alike
+      (determined_both (rules_stage request.properties request.ignored handed (nth files 0)) (λ rules. gives (printed (counts_line rules)))
+      (rules_determined request.properties request.ignored handed (nth files 0)) (λ rules. gives_determined (printed (counts_line rules))))
+  command_settled Compile request handed files other other' =
+      settled_both (compiled_stage request.properties request.ignored handed (nth files 0))
+      (λ rules. record { passes = TellsTable rules (nth request.operands 1); refuses = λ _. ⊥ }) AreAlike
+      (compiled_determined request.properties request.ignored handed (nth files 0))
+      (λ rules mean. record {
+        value = λ o p is is'. inr (subst (λ q. IsSome q.file) (sym is.is) refl, subst (λ q. IsSome q.file) (sym is'.is) refl);
+        refusal = λ r s is is'. absurd is;
+        apart = λ o r is is'. is';
+      })
+  command_settled Breaks request handed files other other' =
+      settled AreAlike (command_stage Breaks request handed files) alike
+      (determined_both (basis_stage request.properties request.ignored request.by_table handed (nth files 0))
+      (λ basis. followed_by (text_stage (nth request.operands 1) (nth files 1)) (boundaries_stage basis))
+      (basis_determined request.properties request.ignored request.by_table handed (nth files 0))
+      (λ basis. determined_both (text_stage (nth request.operands 1) (nth files 1)) (boundaries_stage basis)
+      (text_determined (nth request.operands 1) (nth files 1)) (boundaries_determined basis)))
 
-  -- a run over files that tell what they hold is determined
-  run_determined : (words : List (List ℕ)) (held : List ℕ → List ℕ) → IsDetermined Outcome (run_stage words held)
-  run_determined words held =
-      determined_both (words_stage words) (request_stage held) (words_determined words)
-      (λ request.
-      determined_both (lengths_stage held (sources_of request)) _ (lengths_determined held (sources_of request))
-      (λ _. command_determined request.command request.operands (bytes_of held (sources_of request))))
+  -- a run over files that tell what they hold is settled
+  run_settled : (words : List (List ℕ)) (held : List ℕ → List ℕ) → ¬ AskToReadLines words → IsSettled Outcome AreAlike (run_stage words held)
+  run_settled words held none =
+      settled_both (words_stage words) (request_stage held) AreAlike (words_determined words)
+      (λ request asks.
+      settled_both (lengths_stage held (sources_of request)) (λ _. files_stage request (bytes_of held (sources_of request))) AreAlike
+      (lengths_determined held (sources_of request))
+      (λ _ short.
+      command_settled request.command request _ _ (λ is. none (record { request = request; asks = asks; reads = inl is }))
+      (λ is. none (record { request = request; asks = asks; reads = inr is }))))
 
-  pub same_outcome : (words : List (List ℕ)) (held : List ℕ → List ℕ) (one other : Outcome) → IsOutcome words held one → IsOutcome words held other
-      → one ≡ other
-  same_outcome words held one other is is' =
-      let run = run_determined words held in
+  pub same_outcome : (words : List (List ℕ)) (held : List ℕ → List ℕ) → ¬ AskToReadLines words → (one other : Outcome) → IsOutcome words held one
+      → IsOutcome words held other → AreAlike one other
+  same_outcome words held none one other is is' =
+      let run = run_settled words held none in
       ⊎_elim
-      (λ (r, refuses, told). ⊎_elim (λ (s, refuses', told'). told ∙ ap refused (run.refusal r s refuses refuses') ∙ sym told')
+      (λ (r, refuses, told). ⊎_elim (λ (s, refuses', told'). inl (told ∙ ap refused (run.refusal r s refuses refuses') ∙ sym told'))
       (λ passes. absurd (run.apart other r passes refuses)) is')
       (λ passes. ⊎_elim (λ (s, refuses, told). absurd (run.apart one s passes refuses)) (λ passes'. run.value one other passes passes') is')
       is

@@ -1,37 +1,16 @@
--- The loops over the files that words name: the list of them, and their reads in order.
-use Rattle.std.proofs.Common.{◌≡◌, ◌≢◌, ◌<◌, ◌≤◌, ◌+◌, ◌⊎◌, ℕ, zero, suc, List, [], ◌∷◌, ◌++◌, length, take, drop, get_or, slice_get}
-use Rattle.std.proofs.Common.{Option, None, Some, refl, sym, ap, ◌∙◌, subst, inl, inr, ⊎_elim, arith, append_assoc}
+-- The reads of the files that words name, in order.
+use Rattle.std.proofs.Common.{◌≡◌, ◌≢◌, ◌<◌, ◌≤◌, ◌+◌, ◌⊎◌, ℕ, zero, suc, List, [], ◌∷◌, ◌++◌, length, take, get_or, slice_get}
+use Rattle.std.proofs.Common.{Option, None, Some, refl, sym, ap, ◌∙◌, subst, inl, inr, ⊎_elim, arith}
 use Rattle.std.specs.Prelude.{IfSome, OnSome}
 use Rattle.std.proofs.lemmas.Bool.{cases_lt}
 use Rattle.std.proofs.lemmas.Option.{slice_get_within}
-use Rattle.std.proofs.lemmas.List.{drop_more, take_more, take_all, map-append}
+use Rattle.std.proofs.lemmas.List.{take_more, take_all, map-append}
 use Rattle.rbbi_io.specs.Counts.{Rose, EachGoesOn, EachStays, OthersStay}
-use Rattle.rbbi_tool.specs.declared.files.Role.{Role}
 use Rattle.rbbi_tool.specs.declared.files.Source.{Source}
 use Rattle.rbbi_tool.specs.declared.refusal.Refusal.{Refusal}
 use Rattle.rbbi_tool.specs.declared.refusal.Refusal.TheVariants.{Usage, Unread, Fault, Memory}
-use Rattle.rbbi_tool.specs.Files.{in_roles, limit_of, length_stage, lengths_stage}
+use Rattle.rbbi_tool.specs.Files.{limit_of, length_stage, lengths_stage}
 use Rattle.rbbi_tool.specs.Reads.{AreWithin, IsReadOf, EndsRead, EndsReading, MakesReads, MakesSomeReads, bytes_of, AreRead}
-
--- what is left of the files, of which the first is next
-pub in_roles_turn : (roles : List Role) (names : List (List ℕ)) (i : ℕ) (role d : Role) (name : List ℕ) → i < length roles → i < length names
-    → role ≡ get_or roles i d → name ≡ get_or names i name
-    → in_roles (drop i roles) (drop i names) ≡ record { role = role; name = name } ∷ in_roles (drop (i + 1) roles) (drop (i + 1) names)
-in_roles_turn roles names i role d name inside inside' is is' =
-    ap (λ rs. in_roles rs (drop i names)) (drop_more roles i d inside) ∙ ap (λ ns. in_roles (get_or roles i d ∷ drop (i + 1) roles) ns)
-    (drop_more names i name inside')
-    ∙ ap (λ r. record { role = r; name = get_or names i name } ∷ in_roles (drop (i + 1) roles) (drop (i + 1) names)) (sym is)
-    ∙ ap (λ n. record { role = role; name = n } ∷ in_roles (drop (i + 1) roles) (drop (i + 1) names)) (sym is')
-
--- one file more
-pub in_roles_more : (roles : List Role) (names : List (List ℕ)) (so_far after all : List Source) (i : ℕ) (role d : Role) (name : List ℕ) → i < length roles
-    → i < length names → role ≡ get_or roles i d → name ≡ get_or names i name
-    → after ≡ so_far ++ record { role = role; name = name } ∷ [] → so_far ++ in_roles (drop i roles) (drop i names) ≡ all → after ++ in_roles
-    (drop (i + 1) roles) (drop (i + 1) names) ≡ all
-in_roles_more roles names so_far after all i role d name inside inside' is is' pushed invariant =
-    let rest : List Source = in_roles (drop (i + 1) roles) (drop (i + 1) names) in
-    ap (λ w. w ++ rest) pushed ∙ append_assoc so_far (record { role = role; name = name } ∷ []) rest
-    ∙ ap (λ w. so_far ++ w) (sym (in_roles_turn roles names i role d name inside inside' is is')) ∙ invariant
 
 -- So many of the files were read, and what they hold: each is within its limit, and no other name's count changed.
 pub record AreReadBefore (held : List ℕ → List ℕ) (sources : List Source) (before now : List ℕ → ℕ) (i : ℕ) (bytes : List (List ℕ)) : Type 0 where

@@ -1,66 +1,30 @@
 -- What a run comes to, what is told of it, and what the sink takes.
-use Rattle.std.proofs.Common.{◌≡◌, ◌≢◌, ◌⊎◌, ℕ, Option, Some, None, List, [], ◌∷◌, take, sym, refl, ap, ◌∙◌, subst, inl, inr, ⊎_elim, arith}
-use Rattle.std.specs.Prelude.{IfSome, IfOk, Result, Ok, Err}
+use Rattle.std.proofs.Common.{◌≡◌, ◌≢◌, ◌⊎◌, ◌≤◌, ◌<◌, ℕ, Option, Some, None, List, [], ◌∷◌, length, take, sym, refl, ap, ◌∙◌, subst, inl, inr, ⊎_elim, arith}
+use Rattle.std.specs.Prelude.{IfSome, IsSomeAnd, OnSome, Result, Ok, Err}
 use Rattle.std.proofs.lemmas.List.{append-nil}
-use Rattle.rbbi_model.specs.Lists.{Member}
+use Rattle.std.proofs.lemmas.Bool.{cases_lt}
+use Rattle.rbbi_io.specs.Counts.{Rose, EachStays, OthersStay}
+use Rattle.rbbi_io.specs.Answers.{WhereTold}
 use Rattle.rbbi_io.specs.Sinks.{Takes, TakesFront}
-use Rattle.rbbi_tool.specs.declared.words.command.Command.{Command}
-use Rattle.rbbi_tool.specs.declared.words.command.Command.TheVariants.{Breaks}
 use Rattle.rbbi_tool.specs.declared.files.Source.{Source}
 use Rattle.rbbi_tool.specs.declared.refusal.Subject.{Subject}
-use Rattle.rbbi_tool.specs.declared.refusal.Subject.TheVariants.{Rules, File}
-use Rattle.rbbi_tool.specs.declared.refusal.Place.{Place}
+use Rattle.rbbi_tool.specs.declared.refusal.Subject.TheVariants.{Rules, Table, File}
 use Rattle.rbbi_tool.specs.declared.refusal.Refusal.{Refusal}
 use Rattle.rbbi_tool.specs.declared.refusal.Refusal.TheVariants.{Usage, Unread, Fault, Memory}
-use Rattle.rbbi_tool.specs.Stages.{Stage, followed_by, Meets}
-use Rattle.rbbi_tool.specs.Refusals.{Outcome, status_of_subject}
-use Rattle.rbbi_tool.specs.Words.{Request, Asks}
+use Rattle.rbbi_tool.specs.Stages.{Stage, Meets}
+use Rattle.rbbi_tool.specs.Refusals.{Outcome, Written, status_of_subject}
+use Rattle.rbbi_model.specs.Lines.{usage_line}
+use Rattle.rbbi_tool.specs.Words.{Request, Asks, AreNoForm}
 use Rattle.rbbi_tool.specs.Files.{sources_of, lengths_stage}
-use Rattle.rbbi_tool.specs.Reads.{EndsReading, AreRead, bytes_of}
-use Rattle.rbbi_tool.specs.Texts.{text_stage}
-use Rattle.rbbi_tool.specs.Rules.{IsTold, rules_stage}
-use Rattle.rbbi_tool.specs.Program.{nth, command_stage, run_stage, IsOutcome}
-use Rattle.rbbi_tool.specs.Causes.{ComesTo, Tells, IsAnswer, TellsFailedRead, NoReadFailed, IsPartOfAnswer, TakesPart, TakesOutcome}
+use Rattle.rbbi_tool.specs.Reads.{EndsReading, AreRead, MakesSomeReads, bytes_of}
+use Rattle.rbbi_tool.specs.Program.{files_stage, run_stage, IsOutcome}
+use Rattle.rbbi_tool.specs.Delivery.{HoldsFile, FileFailed, OthersUncounted, EachHoldsOrIsFile}
+use Rattle.rbbi_tool.specs.Causes.{NamesToWrite, IsWrittenBy, ComesTo, Tells, IsAnswer, TellsFailedRead, NoReadFailed, IsPartOfAnswer, TakesPart, TakesOutcome, TakesFailedRead}
+use Rattle.rbbi_tool.specs.Causes.{EachHolds, IsWritten, SomeWriteFailed, OthersUnwritten}
+use Rattle.rbbi_tool.proofs.Forms.{same_request}
 use Rattle.rbbi_tool.proofs.Reading.{all_told}
-
--- a fault of a file ends the run
-IsFault : Refusal → Type 0
-IsFault Usage = ⊥
-IsFault (Unread name) = ⊥
-IsFault (Fault subject label place) = Unit {0}
-IsFault Memory = ⊥
-
--- the stage refuses with faults of files alone
-abbrev Faults : {A : Type 0} → Stage A → Type 0
-Faults stage = (r : Refusal) → stage.refuses r → IsFault r
-
-faults_both : {A B : Type 0} (first : Stage A) (next : A → Stage B) → Faults first → ((a : A) → Faults (next a)) → Faults (followed_by first next)
-faults_both first next one each r either = ⊎_elim (one r) (λ (a, passed, is). each a r is) either
-
-is_fault : (subject : Subject) (label : List ℕ) (place : Place) (r : Refusal) → r ≡ Fault subject label place → IsFault r
-unfolding IsFault
-is_fault subject label place r is = subst IsFault (sym is) tt
-
-told_fault : {E : Type 0} (Holds : E → Type 0) (label_of : E → List ℕ) (place_of : E → Option ℕ) (x : List ℕ) (r : Refusal)
-    → IsTold Holds label_of place_of x r → IsFault r
-told_fault Holds label_of place_of x r is = is_fault _ _ _ r is.is
-
--- a rule file and a text are refused for faults alone
-rules_fault : (bytes : List ℕ) → Faults (rules_stage bytes)
-rules_fault bytes r (inl (at, wrong, is)) = is_fault _ _ _ r is
-rules_fault bytes r (inr (x, passed, inl is)) = told_fault _ _ _ x r is
-rules_fault bytes r (inr (x, passed, inr (tokens, are, inl is))) = told_fault _ _ _ x r is
-rules_fault bytes r (inr (x, passed, inr (tokens, are, inr (statements, read, inl is)))) = is_fault _ _ _ r is.1
-rules_fault bytes r (inr (x, passed, inr (tokens, are, inr (statements, read, inr (u, built, is))))) = is_fault _ _ _ r is.1
-
-text_fault : (name bytes : List ℕ) → Faults (text_stage name bytes)
-text_fault name bytes r (inl (at, wrong, is)) = is_fault _ _ _ r is
-text_fault name bytes r (inr (x, passed, is)) = is_fault _ _ _ r is.1
-
-command_fault : (command : Command) (operands bytes : List (List ℕ)) → Faults (command_stage command operands bytes)
-command_fault Breaks operands bytes r (inl is) = rules_fault (nth bytes 0) r is
-command_fault Breaks operands bytes r (inr (statements, passed, inl is)) = text_fault (nth operands 1) (nth bytes 1) r is
-command_fault Breaks operands bytes r (inr (statements, passed, inr (x, is, never))) = absurd never
+use Rattle.rbbi_tool.proofs.Faults.{IsFault, command_fault}
+use Rattle.rbbi_tool.proofs.Commands.{command_told}
 
 -- a fact of what the files hold
 always_told : {H : Type 0} (o : Option H) (P : H → Type 0) → ((h : H) → P h) → IfSome o P
@@ -90,69 +54,77 @@ module _ (words : List (List ℕ)) (contents : Option (List ℕ → List ℕ)) (
   fault_ends (Fault subject label place) is told = (λ none. none request asks, told)
   fault_ends Memory is told = absurd is
 
+  named : (file : Option Written) → IfSome file (λ f. IsWrittenBy request f.name) → IfSome file (λ f. NamesToWrite words f.name)
+  named None written = tt
+  named (Some file) written = record { request = request; asks = asks; written = written }
+
   -- the command ends the run
   pub command_ends : (sources : List Source) (bytes : List (List ℕ)) (result : Result Outcome Refusal) → sources ≡ sources_of request → IfSome contents
       (AreRead sources bytes)
-      → Meets (λ outcome. outcome) (command_stage request.command request.operands bytes) result → IfOk result (λ outcome. outcome.status ≡ 0)
-      → ComesTo words contents before now result
-  command_ends sources bytes (Ok outcome) same read met done = (
-    done,
-    λ none. none request asks,
-    all_told contents (AreRead sources bytes) (λ held. (run_stage words held).passes outcome) read
-        (λ held (bytes_are, short).
-        let short' : (lengths_stage held (sources_of request)).passes tt = subst (λ ss. (lengths_stage held ss).passes tt) same short in (
-          request,
-          asks,
-          (
-            tt,
-            short',
-            subst (λ bs. (command_stage request.command request.operands bs).passes outcome)
-                (bytes_are ∙ ap (λ ss. bytes_of held ss) same) met,
-          ),
-        )),
-  )
-  command_ends sources bytes (Err r) same read met done =
+      → Meets (λ outcome. outcome) (files_stage request bytes) result → ComesTo words contents before now result
+  command_ends sources bytes (Ok outcome) same read met =
+      let told = command_told request.command request _ _ outcome refl asks.count met in (
+        told.status,
+        λ none. none request asks,
+        named outcome.file told.file,
+        all_told contents (AreRead sources bytes) (λ held. (run_stage words held).passes outcome) read
+            (λ held (bytes_are, short).
+            let short' : (lengths_stage held (sources_of request)).passes tt = subst (λ ss. (lengths_stage held ss).passes tt) same short in (
+              request,
+              asks,
+              (tt, short', subst (λ bs. (files_stage request bs).passes outcome) (bytes_are ∙ ap (λ ss. bytes_of held ss) same) met),
+            )),
+      )
+  command_ends sources bytes (Err r) same read met =
       ⊎_elim (λ memory. subst (λ s. ComesTo words contents before now (Err s)) (sym memory) tt)
       (λ refuses.
-      fault_ends r (command_fault request.command request.operands bytes r refuses)
+      fault_ends r (command_fault request.command request _ _ r refuses)
       (all_told contents (AreRead sources bytes) (λ held. (run_stage words held).refuses r) read
       (λ held (bytes_are, short).
       let short' : (lengths_stage held (sources_of request)).passes tt = subst (λ ss. (lengths_stage held ss).passes tt) same short in
-      inr (
-        request,
-        asks,
-        inr (
-          tt,
-          short',
-          subst (λ bs. (command_stage request.command request.operands bs).refuses r)
-              (bytes_are ∙ ap (λ ss. bytes_of held ss) same) refuses,
-        ),
-      ))))
+      inr (request, asks, inr (tt, short', subst (λ bs. (files_stage request bs).refuses r) (bytes_are ∙ ap (λ ss. bytes_of held ss) same) refuses)))))
       met
 
+-- the files are read in the order of the one request that the words ask for
+pub ordered : (words : List (List ℕ)) (contents : Option (List ℕ → List ℕ)) (here request : Request) → Asks words request → Asks words here
+    → (sources : List Source) → sources ≡ sources_of here → (before now : List ℕ → ℕ) → IfSome contents (MakesSomeReads sources before now)
+    → IfSome contents (MakesSomeReads (sources_of request) before now)
+ordered words contents here request asks asks' sources is before now made =
+    subst (λ ss. IfSome contents (MakesSomeReads ss before now)) (is ∙ ap sources_of (same_request words here request asks' asks)) made
+
 -- the status of a fault
-status_of_fault : (subject : Subject) → (status_of_subject subject ≡ 3) ⊎ (status_of_subject subject ≡ 5)
-status_of_fault Rules = inl refl
-status_of_fault (File name) = inr refl
+fault_low : (subject : Subject) → (3 ≤ status_of_subject subject) × (status_of_subject subject ≤ 5)
+fault_low Rules = (omega arith, omega arith)
+fault_low Table = (omega arith, omega arith)
+fault_low (File name) = (omega arith, omega arith)
 
 module _ (words : List (List ℕ)) (contents : Option (List ℕ → List ℕ)) (before now : List ℕ → ℕ) (outcome : Outcome) where
+  no_file_told : outcome.file ≡ None → IfSome outcome.file (λ f. NamesToWrite words f.name)
+  no_file_told none = subst (λ f. IfSome f (λ f. NamesToWrite words f.name)) (sym none) tt
+
   -- what is told is what the program answers
   pub is_answer : (result : Result Outcome Refusal) → ComesTo words contents before now result → Tells result outcome
       → IsAnswer words contents before now outcome
   is_answer (Ok output) comes told =
-      let status : outcome.status ≡ 0 = ap (λ o. o.status) told ∙ comes.0 in
+      let status : outcome.status ≡ output.status = ap (λ o. o.status) told in
+      let low : output.status ≤ 1 = comes.0 in
       record {
-        status_is = inl (sym status);
+        low = omega arith;
+        file = subst (λ f. IfSome f (λ f. NamesToWrite words f.name)) (sym (ap (λ o. o.file) told)) comes.2;
+        no_file = λ two. absurd (omega arith);
         usage = λ two. absurd (omega arith);
         form = λ none. absurd (comes.1 none);
-        is = λ other. all_told contents (λ held. (run_stage words held).passes output) (λ held. IsOutcome words held outcome) comes.2
+        is = λ other. all_told contents (λ held. (run_stage words held).passes output) (λ held. IsOutcome words held outcome) comes.3
             (λ held passes. inr (subst (λ o. (run_stage words held).passes o) (sym told) passes));
         read_failed = λ six. absurd (omega arith);
       }
   is_answer (Err Usage) comes told =
       let status : outcome.status ≡ 2 = ap (λ o. o.status) told.1 in
+      let none : outcome.file ≡ None = ap (λ o. o.file) told.1 in
       record {
-        status_is = inr (inl (sym status));
+        low = omega arith;
+        file = no_file_told none;
+        no_file = λ two. none;
         usage = λ two. (comes, ap (λ o. o.bytes) told.1);
         form = λ none. status;
         is = λ other. always_told contents (λ held. IsOutcome words held outcome) (λ held. inl (Usage, inl (comes, refl), told.1));
@@ -160,23 +132,29 @@ module _ (words : List (List ℕ)) (contents : Option (List ℕ → List ℕ)) (
       }
   is_answer (Err (Unread name)) comes told =
       let status : outcome.status ≡ 6 = ap (λ o. o.status) told.1 in
+      let none : outcome.file ≡ None = ap (λ o. o.file) told.1 in
       record {
-        status_is = inr (inr (inr (inr (inl (sym status)))));
+        low = omega arith;
+        file = no_file_told none;
+        no_file = λ two. none;
         usage = λ two. absurd (omega arith);
-        form = λ none. absurd (none comes.request comes.asks);
+        form = λ no. absurd (no comes.request comes.asks);
         is = λ other. absurd (other status);
         read_failed = λ six. (name, comes, ap (λ o. o.bytes) told.1);
       }
   is_answer (Err (Fault subject label place)) comes told =
       let status : outcome.status ≡ status_of_subject subject = ap (λ o. o.status) told.1 in
-      let one = status_of_fault subject in
+      let none : outcome.file ≡ None = ap (λ o. o.file) told.1 in
+      let low = fault_low subject in
       record {
-        status_is = ⊎_elim (λ is. inr (inr (inl (sym (status ∙ is))))) (λ is. inr (inr (inr (inl (sym (status ∙ is)))))) one;
-        usage = λ two. absurd (⊎_elim (λ is. omega arith) (λ is. omega arith) one);
-        form = λ none. absurd (comes.0 none);
+        low = omega arith;
+        file = no_file_told none;
+        no_file = λ two. none;
+        usage = λ two. absurd (omega arith);
+        form = λ no. absurd (comes.0 no);
         is = λ other. all_told contents (λ held. (run_stage words held).refuses (Fault subject label place)) (λ held. IsOutcome words held outcome) comes.1
             (λ held refuses. inl (Fault subject label place, refuses, told.1));
-        read_failed = λ six. absurd (⊎_elim (λ is. omega arith) (λ is. omega arith) one);
+        read_failed = λ six. absurd (omega arith);
       }
   is_answer (Err Memory) comes told = absurd (told.0 refl)
 
@@ -187,20 +165,16 @@ module _ (words : List (List ℕ)) (contents : Option (List ℕ → List ℕ)) (
       ⊎_elim (λ six. failed contents (answer.read_failed six))
       (λ other. all_told contents (λ held. IsOutcome words held outcome) (λ held. IsPartOfAnswer words held before now (take n outcome.bytes))
       (answer.is other) (λ held is. inr (inl (outcome, is, (n, refl)))))
-      (six_or_not answer.status_is)
+      (six_or_not (cases_lt outcome.status 6))
     where
       failed : (o : Option (List ℕ → List ℕ)) → TellsFailedRead words o before now outcome.bytes → IfSome o
           (λ held. IsPartOfAnswer words held before now (take n outcome.bytes))
       failed None tells = tt
       failed (Some held) tells = inr (inr (outcome.bytes, tells, (n, refl)))
 
-      six_or_not : Member (0 ∷ 2 ∷ 3 ∷ 5 ∷ 6 ∷ []) outcome.status → (outcome.status ≡ 6) ⊎ (outcome.status ≢ 6)
-      six_or_not (inl is) = inr (λ six. omega arith)
-      six_or_not (inr (inl is)) = inr (λ six. omega arith)
-      six_or_not (inr (inr (inl is))) = inr (λ six. omega arith)
-      six_or_not (inr (inr (inr (inl is)))) = inr (λ six. omega arith)
-      six_or_not (inr (inr (inr (inr (inl is))))) = inl (sym is)
-      six_or_not (inr (inr (inr (inr (inr never))))) = absurd never
+      six_or_not : (outcome.status < 6) ⊎ (6 ≤ outcome.status) → (outcome.status ≡ 6) ⊎ (outcome.status ≢ 6)
+      six_or_not (inl low) = inr (λ six. omega arith)
+      six_or_not (inr high) = inl (omega (arith, answer.low))
 
 -- nothing was taken
 takes_nothing : (taken : Option (List ℕ)) → Takes taken taken []
@@ -213,27 +187,41 @@ module _ (words : List (List ℕ)) (contents : Option (List ℕ → List ℕ)) (
   takes_no_part same =
       always_told contents (TakesPart words before now taken taken') (λ held. ([], inl refl, subst (λ t. Takes taken t []) (sym same) (takes_nothing taken)))
 
-  pub takes_front : (outcome : Outcome) (bytes : List ℕ) → IsAnswer words contents before now outcome → bytes ≡ outcome.bytes
-      → TakesFront taken taken' bytes → IfSome contents (TakesPart words before now taken taken')
-  takes_front outcome bytes answer same front =
+  pub takes_front : (outcome : Outcome) → IsAnswer words contents before now outcome → TakesFront taken taken' outcome.bytes
+      → IfSome contents (TakesPart words before now taken taken')
+  takes_front outcome answer front =
       all_told contents (λ held. IsPartOfAnswer words held before now (take front.0 outcome.bytes)) (TakesPart words before now taken taken')
       (front_of_answer words contents before now outcome front.0 answer)
-      (λ held is. (take front.0 outcome.bytes, is, subst (λ b. Takes taken taken' (take front.0 b)) same front.2))
+      (λ held is. (take front.0 outcome.bytes, is, front.2))
 
--- the status of an outcome isn't that of a failed read
-pub not_six : (status : ℕ) → Member (0 ∷ 2 ∷ 3 ∷ 5 ∷ []) status → status ≢ 6
-not_six status (inl is) six = omega arith
-not_six status (inr (inl is)) six = omega arith
-not_six status (inr (inr (inl is))) six = omega arith
-not_six status (inr (inr (inr (inl is)))) six = omega arith
-not_six status (inr (inr (inr (inr never)))) six = never
+-- a fact of what the names held and hold, from two such facts
+both_held : (before now : Option (List ℕ → List ℕ)) (P : (List ℕ → List ℕ) → Type 0) (Q R : (List ℕ → List ℕ) → (List ℕ → List ℕ) → Type 0)
+    → IfSome before P → WhereTold before now Q → ((held held' : List ℕ → List ℕ) → P held → Q held held' → R held held') → WhereTold before now R
+both_held None now P Q R p q both = tt
+both_held (Some held) None P Q R p q both = q
+both_held (Some held) (Some held') P Q R p q both = both held held' p q
 
-module _ (words : List (List ℕ)) (contents : Option (List ℕ → List ℕ)) (before now : List ℕ → ℕ) (outcome : Outcome) (status : ℕ) (bytes : List ℕ)
-    (same : record { status = status; bytes = bytes } ≡ outcome) (answer : IsAnswer words contents before now outcome) where
+held_more : (before now : Option (List ℕ → List ℕ)) (Q R : (List ℕ → List ℕ) → (List ℕ → List ℕ) → Type 0)
+    → WhereTold before now Q → ((held held' : List ℕ → List ℕ) → Q held held' → R held held') → WhereTold before now R
+held_more None now Q R q more = tt
+held_more (Some held) None Q R q more = q
+held_more (Some held) (Some held') Q R q more = more held held' q
+
+pub held_same : (before now : Option (List ℕ → List ℕ)) (words : List (List ℕ)) (writes writes' : List ℕ → ℕ) → now ≡ before
+    → WhereTold before now (EachHolds words writes writes')
+held_same before now words writes writes' same =
+    subst (λ o. WhereTold before o (EachHolds words writes writes')) (sym same) (at before)
+  where
+    at : (o : Option (List ℕ → List ℕ)) → WhereTold o o (EachHolds words writes writes')
+    at None = tt
+    at (Some held) = λ name. inl refl
+
+module _ (words : List (List ℕ)) (contents contents' : Option (List ℕ → List ℕ)) (before now : List ℕ → ℕ) (outcome : Outcome)
+    (answer : IsAnswer words contents before now outcome) where
   -- where no read failed, no failed read is told
-  pub no_six : NoReadFailed words before now → status ≢ 6
+  pub no_six : NoReadFailed words before now → outcome.status ≢ 6
   no_six none six =
-      let told = answer.read_failed (sym (ap (λ o. o.status) same) ∙ six) in
+      let told = answer.read_failed six in
       let fails = told.1.fails in
       none told.0 (record {
         request = told.1.request;
@@ -244,11 +232,128 @@ module _ (words : List (List ℕ)) (contents : Option (List ℕ → List ℕ)) (
         named = fails.named;
       }) fails.rose
 
-  -- the sink took the outcome
-  pub takes_outcome : (taken taken' : Option (List ℕ)) (put : List ℕ) → status ≢ 6 → put ≡ bytes → Takes taken taken' put → IfSome contents
-      (TakesOutcome words status taken taken')
-  takes_outcome taken taken' put other put_is takes =
-      let whole : IsAnswer words contents before now (record { status = status; bytes = bytes }) = subst (IsAnswer words contents before now)
-      (sym same) answer in
-      all_told contents (λ held. IsOutcome words held (record { status = status; bytes = bytes })) (TakesOutcome words status taken taken') (whole.is other)
-      (λ held is. (bytes, is, subst (Takes taken taken') put_is takes))
+  -- the sink took the outcome, and its file is held
+  pub takes_outcome : (status : ℕ) (taken taken' : Option (List ℕ)) → status ≡ outcome.status → status ≢ 6 → Takes taken taken' outcome.bytes
+      → WhereTold contents contents' (HoldsFile outcome.file) → WhereTold contents contents' (TakesOutcome words status taken taken')
+  takes_outcome status taken taken' same other takes holds =
+      both_held contents contents' (λ held. IsOutcome words held outcome) (HoldsFile outcome.file) (TakesOutcome words status taken taken')
+      (answer.is (λ six. other (same ∙ six))) holds
+      (λ held held' is file. record { outcome = outcome; is = is; status_is = sym same; takes = takes; holds = file })
+
+  -- each name holds what it held, or is that of the outcome's file
+  pub each_holds : (writes writes' : List ℕ → ℕ) → WhereTold contents contents' (EachHoldsOrIsFile outcome.file writes writes')
+      → WhereTold contents contents' (EachHolds words writes writes')
+  each_holds writes writes' told =
+      ⊎_elim
+      (λ low.
+      both_held contents contents' (λ held. IsOutcome words held outcome) (EachHoldsOrIsFile outcome.file writes writes') (EachHolds words writes writes')
+      (answer.is (λ six. omega arith)) told
+      (λ held held' is each name. ⊎_elim inl (λ file. inr (record { outcome = outcome; is = is; bytes = file.bytes; file = file.is; holds = file.holds }))
+      (each name)))
+      (λ high.
+      let none : outcome.file ≡ None = answer.no_file (omega arith) in
+      held_more contents contents' (EachHoldsOrIsFile outcome.file writes writes') (EachHolds words writes writes') told
+      (λ held held' each name. ⊎_elim inl (λ file. absurd (cc (none, file.is))) (each name)))
+      (cases_lt outcome.status 6)
+
+  failed_named : (file : Option Written) (writes writes' : List ℕ → ℕ) → IfSome file (λ f. NamesToWrite words f.name) → FileFailed file writes writes'
+      → SomeWriteFailed words writes writes'
+  failed_named None writes writes' named failed = absurd failed
+  failed_named (Some file) writes writes' named failed = (file.name, named, failed)
+
+  -- the write of the outcome's file failed
+  pub write_failed : (writes writes' : List ℕ → ℕ) → FileFailed outcome.file writes writes' → SomeWriteFailed words writes writes'
+  write_failed writes writes' failed = failed_named outcome.file writes writes' answer.file failed
+
+  others_of : (file : Option Written) (writes writes' : List ℕ → ℕ) → IfSome file (λ f. NamesToWrite words f.name) → OthersUncounted file writes writes'
+      → OthersUnwritten words writes writes'
+  others_of None writes writes' named stay = λ name other. stay name
+  others_of (Some file) writes writes' named stay =
+      λ name other. stay name (λ same. other (subst (NamesToWrite words) (sym same) named))
+
+  -- no count changed but of files that the words name to be written
+  pub others_unwritten : (writes writes' : List ℕ → ℕ) → OnSome contents (OthersUncounted outcome.file writes writes')
+      → IfSome contents (λ _. OthersUnwritten words writes writes')
+  others_unwritten writes writes' stay =
+      all_told contents (λ _. OthersUncounted outcome.file writes writes') (λ _. OthersUnwritten words writes writes') stay
+      (λ held others. others_of outcome.file writes writes' answer.file others)
+
+  -- after a status from 2 on no file was written
+  pub unwritten : 2 ≤ outcome.status → (outcome.file ≡ None → contents' ≡ contents) → contents' ≡ contents
+  unwritten two same = same (answer.no_file two)
+
+-- What writing and putting an outcome leaves: before are the files, counts and sink of the run's start.
+pub record IsDelivered (words : List (List ℕ)) (contents contents' : Option (List ℕ → List ℕ)) (reads reads' writes writes' : List ℕ → ℕ)
+    (taken taken' : Option (List ℕ)) (faults faults' : ℕ) (outcome : Outcome) (result : ℕ) : Type 0 where
+  pub answer : IsAnswer words contents reads reads' outcome
+  pub status : (result ≡ outcome.status) ⊎ ((result ≡ 7) ⊎ (result ≡ 8))
+  pub takes : result ≤ 6 → Takes taken taken' outcome.bytes
+  pub holds : result ≤ 6 → WhereTold contents contents' (HoldsFile outcome.file)
+  pub failed : result ≡ 7 → Rose faults faults' ⊎ FileFailed outcome.file writes writes'
+  pub front : TakesFront taken taken' outcome.bytes
+  pub each : WhereTold contents contents' (EachHoldsOrIsFile outcome.file writes writes')
+  pub others : OnSome contents (OthersUncounted outcome.file writes writes')
+
+module _ {words : List (List ℕ)} {contents contents' : Option (List ℕ → List ℕ)} {reads reads' writes writes' : List ℕ → ℕ}
+    {taken taken' : Option (List ℕ)} {faults faults' : ℕ} {outcome : Outcome} {result : ℕ}
+    (d : IsDelivered words contents contents' reads reads' writes writes' taken taken' faults faults' outcome result) where
+  same_status : result ≤ 6 → result ≡ outcome.status
+  same_status low = ⊎_elim (λ is. is) (λ other. absurd (⊎_elim (λ seven. omega arith) (λ eight. omega arith) other)) d.status
+
+  pub usage_of : result ≡ 2 → AreNoForm words × Takes taken taken' usage_line
+  usage_of two =
+      let usage = d.answer.usage (sym (same_status (omega arith)) ∙ two) in
+      (usage.0, subst (Takes taken taken') usage.1 (d.takes (omega arith)))
+
+  pub outcome_of : result ≤ 5 → WhereTold contents contents' (TakesOutcome words result taken taken')
+  outcome_of low =
+      takes_outcome words contents contents' reads reads' outcome d.answer result taken taken' (same_status (omega arith)) (λ six. omega arith)
+      (d.takes (omega arith)) (d.holds (omega arith))
+
+  pub read_failed_of : result ≡ 6 → TakesFailedRead words contents reads reads' taken taken'
+  read_failed_of six =
+      (outcome.bytes, d.answer.read_failed (sym (same_status (omega arith)) ∙ six), d.takes (omega arith))
+
+  pub put_failed_of : result ≡ 7 → Rose faults faults' ⊎ SomeWriteFailed words writes writes'
+  put_failed_of seven = ⊎_elim inl (λ failed. inr (write_failed words contents contents' reads reads' outcome d.answer writes writes' failed)) (d.failed seven)
+
+  pub front_of : 7 ≤ result → IfSome contents (TakesPart words reads reads' taken taken')
+  front_of high = takes_front words contents reads reads' taken taken' outcome d.answer d.front
+
+  pub complete_of : NoReadFailed words reads reads' → ¬ Rose faults faults' → ¬ SomeWriteFailed words writes writes' → result ≢ 8
+      → WhereTold contents contents' (TakesOutcome words result taken taken')
+  complete_of none calm unfailed other =
+      ⊎_elim
+      (λ is.
+      let low : outcome.status ≤ 6 = d.answer.low in
+      takes_outcome words contents contents' reads reads' outcome d.answer result taken taken' is
+      (λ six. no_six words contents contents' reads reads' outcome d.answer none (sym is ∙ six)) (d.takes (omega arith)) (d.holds (omega arith)))
+      (λ failed. absurd (⊎_elim (λ seven. ⊎_elim calm unfailed (put_failed_of seven)) other failed)) d.status
+
+  pub each_of : WhereTold contents contents' (EachHolds words writes writes')
+  each_of = each_holds words contents contents' reads reads' outcome d.answer writes writes' d.each
+
+  pub others_of_all : IfSome contents (λ _. OthersUnwritten words writes writes')
+  others_of_all = others_unwritten words contents contents' reads reads' outcome d.answer writes writes' d.others
+
+-- what is said of the moment after the answer, which changed no file, is said of the start
+pub from_start : (words : List (List ℕ)) (k0 k1 k2 : Option (List ℕ → List ℕ)) (r0 r1 r2 w0 w1 w2 : List ℕ → ℕ) (taken taken' : Option (List ℕ))
+    (faults faults' : ℕ) (outcome : Outcome) (result : ℕ) → k1 ≡ k0 → EachStays r1 r2 → EachStays w0 w1
+    → IsAnswer words k0 r0 r1 outcome → (result ≡ outcome.status) ⊎ ((result ≡ 7) ⊎ (result ≡ 8)) → (result ≤ 6 → Takes taken taken' outcome.bytes)
+    → (result ≤ 6 → WhereTold k1 k2 (HoldsFile outcome.file)) → (result ≡ 7 → Rose faults faults' ⊎ FileFailed outcome.file w1 w2)
+    → TakesFront taken taken' outcome.bytes → WhereTold k1 k2 (EachHoldsOrIsFile outcome.file w1 w2) → OnSome k1 (OthersUncounted outcome.file w1 w2)
+    → IsDelivered words k0 k2 r0 r2 w0 w2 taken taken' faults faults' outcome result
+from_start words k0 k1 k2 r0 r1 r2 w0 w1 w2 taken taken' faults faults' outcome result same reads writes answer status takes holds failed front each others =
+    let reads_are : r1 ≡ r2 = λ i n. sym (reads n) i in
+    let writes_are : w1 ≡ w0 = λ i n. writes n i in
+    record {
+      answer = subst (λ r. IsAnswer words k0 r0 r outcome) reads_are answer;
+      status = status;
+      takes = takes;
+      holds = λ low. subst (λ k. WhereTold k k2 (HoldsFile outcome.file)) same (holds low);
+      failed = λ seven. subst (λ w. Rose faults faults' ⊎ FileFailed outcome.file w w2) writes_are (failed seven);
+      front = front;
+      each = subst (λ k. WhereTold k k2 (EachHoldsOrIsFile outcome.file w0 w2)) same
+          (subst (λ w. WhereTold k1 k2 (EachHoldsOrIsFile outcome.file w w2)) writes_are each);
+      others = subst (λ k. OnSome k (OthersUncounted outcome.file w0 w2)) same (subst (λ w. OnSome k1 (OthersUncounted outcome.file w w2)) writes_are others);
+    }

@@ -5,6 +5,16 @@ use Rattle.rbbi_tool.specs.declared.refusal.Refusal.{Refusal}
 use Rattle.rbbi_tool.specs.declared.refusal.Refusal.TheVariants.{Memory}
 use Rattle.rbbi_tool.specs.Stages.{Stage, followed_by, Meets, IsDetermined}
 
+-- the stage doesn't both pass and refuse, it refuses in one way alone, and values that it passes with are so related
+pub record IsSettled (A : Type 0) (R : A → A → Type 0) (stage : Stage A) : Type 0 where
+  pub value : (a b : A) → stage.passes a → stage.passes b → R a b
+  pub refusal : (r s : Refusal) → stage.refuses r → stage.refuses s → r ≡ s
+  pub apart : (a : A) (r : Refusal) → stage.passes a → stage.refuses r → ⊥
+
+-- a determined stage is settled
+pub settled : {A : Type 0} (R : A → A → Type 0) (stage : Stage A) → ((a b : A) → a ≡ b → R a b) → IsDetermined A stage → IsSettled A R stage
+settled R stage same is = record { value = λ a b p q. same a b (is.value a b p q); refusal = is.refusal; apart = is.apart }
+
 module _ {A B : Type 0} (first : Stage A) (next : A → Stage B) where
   -- the first stage refuses
   pub stops_first : (refusal : Refusal) → (refusal ≡ Memory) ⊎ first.refuses refusal → (refusal ≡ Memory) ⊎ (followed_by first next).refuses refusal
@@ -39,5 +49,26 @@ module _ {A B : Type 0} (first : Stage A) (next : A → Stage B) where
         ⊎_elim
         (λ is'. one.apart a r passed is')
         (λ (a', passed', is'). (each a').apart b r (subst (λ v. (next v).passes b) (one.value a a' passed passed') is) is')
+        either;
+  }
+
+  -- of a determined stage and a settled one the row is settled
+  pub settled_both : (R : B → B → Type 0) → IsDetermined A first → ((a : A) → first.passes a → IsSettled B R (next a)) → IsSettled B R (followed_by first next)
+  settled_both R one each = record {
+    value = λ b c (a, passed, is) (a', passed', is').
+        (each a' passed').value b c (subst (λ v. (next v).passes b) (one.value a a' passed passed') is) is';
+    refusal = λ r s either other.
+        ⊎_elim
+        (λ is. ⊎_elim (λ is'. one.refusal r s is is') (λ (a', passed', is'). absurd (one.apart a' r passed' is)) other)
+        (λ (a, passed, is).
+        ⊎_elim
+        (λ is'. absurd (one.apart a s passed is'))
+        (λ (a', passed', is'). (each a' passed').refusal r s (subst (λ v. (next v).refuses r) (one.value a a' passed passed') is) is')
+        other)
+        either;
+    apart = λ b r (a, passed, is) either.
+        ⊎_elim
+        (λ is'. one.apart a r passed is')
+        (λ (a', passed', is'). (each a' passed').apart b r (subst (λ v. (next v).passes b) (one.value a a' passed passed') is) is')
         either;
   }

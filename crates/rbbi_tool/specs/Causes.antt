@@ -1,17 +1,31 @@
 -- What a run of the program answers and writes, and why.
-use Rattle.std.specs.Prelude.{◌≡◌, ◌≢◌, ◌⊎◌, ℕ, List, [], ◌∷◌, take, slice_get, Option, Some, IfSome, Result, Ok, Err}
-use Rattle.rbbi_model.specs.Lists.{Member}
+use Rattle.std.specs.Prelude.{◌≡◌, ◌≢◌, ◌⊎◌, ◌≤◌, ℕ, List, [], take, slice_get, Option, Some, None, IfSome, IsSome, Result, Ok, Err}
 use Rattle.rbbi_model.specs.Lines.{usage_line, unread_line}
 use Rattle.rbbi_io.specs.Counts.{Rose}
 use Rattle.rbbi_io.specs.Sinks.{Takes}
 use Rattle.rbbi_tool.specs.declared.files.Source.{Source}
+use Rattle.rbbi_tool.specs.declared.words.command.Operand.TheVariants as operand
+use Rattle.rbbi_tool.specs.declared.words.command.Command.TheVariants as command
 use Rattle.rbbi_tool.specs.declared.refusal.Refusal.{Refusal}
 use Rattle.rbbi_tool.specs.declared.refusal.Refusal.TheVariants.{Usage, Unread, Fault, Memory}
 use Rattle.rbbi_tool.specs.Refusals.{Outcome, refused}
-use Rattle.rbbi_tool.specs.Words.{Request, Asks, AreNoForm}
+use Rattle.rbbi_tool.specs.Words.{Request, Asks, AreNoForm, operands_of}
 use Rattle.rbbi_tool.specs.Files.{sources_of}
 use Rattle.rbbi_tool.specs.Reads.{FailsToRead}
 use Rattle.rbbi_tool.specs.Program.{run_stage, IsOutcome}
+use Rattle.rbbi_tool.specs.Delivery.{HoldsFile}
+
+-- an operand of the request is a file that is written, and this is its name
+pub record IsWrittenBy (request : Request) (name : List ℕ) : Type 0 where
+  pub number : ℕ
+  pub written : slice_get (operands_of request.command request.by_table) number ≡ Some operand.Written
+  pub is : slice_get request.operands number ≡ Some name
+
+-- the words name this file to be written
+pub record NamesToWrite (words : List (List ℕ)) (name : List ℕ) : Type 0 where
+  pub request : Request
+  pub asks : Asks words request
+  pub written : IsWrittenBy request name
 
 -- the words name this file to be read
 pub record NamesToRead (words : List (List ℕ)) (name : List ℕ) : Type 0 where
@@ -36,7 +50,7 @@ pub record ReadFails (words : List (List ℕ)) (contents : Option (List ℕ → 
 -- what a run comes to before anything is written: its output, or what ends it
 abbrev pub ComesTo : List (List ℕ) → Option (List ℕ → List ℕ) → (List ℕ → ℕ) → (List ℕ → ℕ) → Result Outcome Refusal → Type 0
 ComesTo words contents before now (Ok outcome) =
-    (outcome.status ≡ 0) × (¬ AreNoForm words) × IfSome contents (λ held. (run_stage words held).passes outcome)
+    (outcome.status ≤ 1) × (¬ AreNoForm words) × IfSome outcome.file (λ file. NamesToWrite words file.name) × IfSome contents (λ held. (run_stage words held).passes outcome)
 ComesTo words contents before now (Err Usage) = AreNoForm words
 ComesTo words contents before now (Err (Unread name)) = ReadFails words contents before now name
 ComesTo words contents before now (Err (Fault subject label place)) =
@@ -52,9 +66,11 @@ Tells (Err refusal) outcome = (refusal ≢ Memory) × (outcome ≡ refused refus
 abbrev pub TellsFailedRead : List (List ℕ) → Option (List ℕ → List ℕ) → (List ℕ → ℕ) → (List ℕ → ℕ) → List ℕ → Type 0
 TellsFailedRead words contents before now line = (name : List ℕ) × ReadFails words contents before now name × (line ≡ unread_line name)
 
--- What the program answers, before anything is written: a status from 0 to 6 and all that is to be written.
+-- What the program answers, before anything is written: a status from 0 to 6, all that goes out, and the file that is written.
 pub record IsAnswer (words : List (List ℕ)) (contents : Option (List ℕ → List ℕ)) (before now : List ℕ → ℕ) (outcome : Outcome) : Type 0 where
-  pub status_is : Member (0 ∷ 2 ∷ 3 ∷ 5 ∷ 6 ∷ []) outcome.status
+  pub low : outcome.status ≤ 6
+  pub file : IfSome outcome.file (λ file. NamesToWrite words file.name)
+  pub no_file : 2 ≤ outcome.status → outcome.file ≡ None
   pub usage : outcome.status ≡ 2 → AreNoForm words × (outcome.bytes ≡ usage_line)
   pub form : AreNoForm words → outcome.status ≡ 2
   pub is : outcome.status ≢ 6 → IfSome contents (λ held. IsOutcome words held outcome)
@@ -76,16 +92,46 @@ abbrev pub TakesPart : List (List ℕ) → (List ℕ → ℕ) → (List ℕ → 
 TakesPart words before now taken taken' held =
     (piece : List ℕ) × IsPartOfAnswer words held before now piece × Takes taken taken' piece
 
--- the status is that of the outcome, and its bytes are all that the sink took
-abbrev pub TakesOutcome : List (List ℕ) → ℕ → Option (List ℕ) → Option (List ℕ) → (List ℕ → List ℕ) → Type 0
-TakesOutcome words status taken taken' held =
-    (bytes : List ℕ) × IsOutcome words held (record { status = status; bytes = bytes }) × Takes taken taken' bytes
+-- The status is that of the outcome, its bytes are all that the sink took, and its file holds its bytes.
+pub record TakesOutcome (words : List (List ℕ)) (status : ℕ) (taken taken' : Option (List ℕ)) (held held' : List ℕ → List ℕ) : Type 0 where
+  pub outcome : Outcome
+  pub is : IsOutcome words held outcome
+  pub status_is : outcome.status ≡ status
+  pub takes : Takes taken taken' outcome.bytes
+  pub holds : HoldsFile outcome.file held held'
+
+-- the name is that of the file that the outcome writes: it holds the bytes, or its count of failed writes rose
+pub record IsWritten (words : List (List ℕ)) (held held' : List ℕ → List ℕ) (writes writes' : List ℕ → ℕ) (name : List ℕ) : Type 0 where
+  pub outcome : Outcome
+  pub is : IsOutcome words held outcome
+  pub bytes : List ℕ
+  pub file : outcome.file ≡ Some (record { name = name; bytes = bytes })
+  pub holds : (held' name ≡ bytes) ⊎ Rose (writes name) (writes' name)
+
+-- each name holds what it held, or is that of the file that is written
+abbrev pub EachHolds : List (List ℕ) → (List ℕ → ℕ) → (List ℕ → ℕ) → (List ℕ → List ℕ) → (List ℕ → List ℕ) → Type 0
+EachHolds words writes writes' held held' = (name : List ℕ) → (held' name ≡ held name) ⊎ IsWritten words held held' writes writes' name
+
+-- a write of a file that the words name failed
+abbrev pub SomeWriteFailed : List (List ℕ) → (List ℕ → ℕ) → (List ℕ → ℕ) → Type 0
+SomeWriteFailed words writes writes' = (name : List ℕ) × NamesToWrite words name × Rose (writes name) (writes' name)
+
+-- no count of failed writes changed but of files that the words name to be written
+abbrev pub OthersUnwritten : List (List ℕ) → (List ℕ → ℕ) → (List ℕ → ℕ) → Type 0
+OthersUnwritten words writes writes' = (name : List ℕ) → ¬ NamesToWrite words name → writes' name ≡ writes name
 
 -- a failed read is told, and that line is all that the sink took
 abbrev pub TakesFailedRead : List (List ℕ) → Option (List ℕ → List ℕ) → (List ℕ → ℕ) → (List ℕ → ℕ) → Option (List ℕ) → Option (List ℕ) → Type 0
 TakesFailedRead words contents before now taken taken' =
     (line : List ℕ) × TellsFailedRead words contents before now line × Takes taken taken' line
 
--- no two outcomes differ
+-- the words ask for a command that reads a script or a test file
+pub record AskToReadLines (words : List (List ℕ)) : Type 0 where
+  pub request : Request
+  pub asks : Asks words request
+  pub reads : (request.command ≡ command.Run) ⊎ (request.command ≡ command.Conform)
+
+-- No two outcomes differ, but where both write a file: of a table that is compiled the row numbers are free.
 abbrev pub HasOneOutcome : List (List ℕ) → (List ℕ → List ℕ) → Type 0
-HasOneOutcome words held = (one other : Outcome) → IsOutcome words held one → IsOutcome words held other → one ≡ other
+HasOneOutcome words held =
+    (one other : Outcome) → IsOutcome words held one → IsOutcome words held other → (one ≡ other) ⊎ (IsSome one.file × IsSome other.file)

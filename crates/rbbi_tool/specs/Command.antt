@@ -1,2 +1,6 @@
 -- What each command answers, from what was read.
+pub mod Check
+pub mod Compile
 pub mod Breaks
+pub mod Run
+pub mod Conform

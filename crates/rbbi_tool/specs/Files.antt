@@ -1,10 +1,13 @@
 -- The files that words name to be read, each with its limit.
-use Rattle.std.specs.Prelude.{◌≡◌, ◌<◌, ◌≤◌, ℕ, List, [], ◌∷◌, length, codes}
+use Rattle.std.specs.Prelude.{◌≡◌, ◌<◌, ◌≤◌, ℕ, List, [], ◌∷◌, ◌++◌, length, map, codes}
+use Rattle.rbbi_tool.specs.declared.words.setting.Property.{Property}
+use Rattle.rbbi_tool.specs.declared.words.command.Operand.{Operand}
+use Rattle.rbbi_tool.specs.declared.words.command.Operand.TheVariants.{Read, Written}
 use Rattle.rbbi_tool.specs.declared.files.Role.{Role}
 use Rattle.rbbi_tool.specs.declared.files.Role.TheVariants as role
 use Rattle.rbbi_tool.specs.declared.files.Source.{Source}
 use Rattle.rbbi_tool.specs.declared.refusal.Subject.{Subject}
-use Rattle.rbbi_tool.specs.declared.refusal.Subject.TheVariants.{Rules, File}
+use Rattle.rbbi_tool.specs.declared.refusal.Subject.TheVariants.{Rules, Table, File}
 use Rattle.rbbi_tool.specs.declared.refusal.Place.TheVariants.{Whole}
 use Rattle.rbbi_tool.specs.declared.refusal.Refusal.{Refusal}
 use Rattle.rbbi_tool.specs.declared.refusal.Refusal.TheVariants.{Fault}
@@ -13,23 +16,41 @@ use Rattle.rbbi_tool.specs.Words.{Request, operands_of}
 
 -- the most bytes that a file in this role may have
 abbrev pub limit_of : Role → ℕ
+limit_of role.Property = 8388608
 limit_of role.Rules = 1048576
+limit_of role.Table = 100663296
 limit_of role.Text = 67108864
+limit_of role.Script = 1048576
+limit_of role.Tests = 16777216
 
 -- what the faults of a file are told of
 abbrev pub subject_of : Role → List ℕ → Subject
+subject_of role.Property name = File name
 subject_of role.Rules name = Rules
+subject_of role.Table name = Table
 subject_of role.Text name = File name
+subject_of role.Script name = File name
+subject_of role.Tests name = File name
 
--- the files with these names in these roles
-abbrev pub in_roles : List Role → List (List ℕ) → List Source
-in_roles [] names = []
-in_roles (role ∷ roles) [] = []
-in_roles (role ∷ roles) (name ∷ names) = record { role = role; name = name } ∷ in_roles roles names
+-- the property file
+abbrev pub property_source : Property → Source
+property_source property = record { role = role.Property; name = property.file }
+
+-- the file of an operand, where it is read
+abbrev pub operand_source : Operand → List ℕ → List Source
+operand_source (Read role) name = record { role = role; name = name } ∷ []
+operand_source Written name = []
+
+-- the files of these operands that are read
+abbrev pub operand_sources : List Operand → List (List ℕ) → List Source
+operand_sources [] names = []
+operand_sources (operand ∷ operands) [] = []
+operand_sources (operand ∷ operands) (name ∷ names) = operand_source operand name ++ operand_sources operands names
 
 -- the files that a request names to be read, in the order of the words
 abbrev pub sources_of : Request → List Source
-sources_of request = in_roles (operands_of request.command) request.operands
+sources_of request =
+    map property_source request.properties ++ operand_sources (operands_of request.command request.by_table) request.operands
 
 -- the file is too long
 abbrev pub too_long : Source → Refusal

@@ -1,7 +1,7 @@
 -- What a run of the program answers, where the files tell what they hold: the exit status, and what is written.
-use Rattle.std.specs.Prelude.{◌≡◌, ◌⊎◌, ℕ, List, [], slice_index_or}
+use Rattle.std.specs.Prelude.{◌≡◌, ◌⊎◌, ℕ, List, [], slice_index_or, length, take, drop}
 use Rattle.rbbi_tool.specs.declared.words.command.Command.{Command}
-use Rattle.rbbi_tool.specs.declared.words.command.Command.TheVariants.{Breaks}
+use Rattle.rbbi_tool.specs.declared.words.command.Command.TheVariants.{Check, Compile, Breaks, Run, Conform}
 use Rattle.rbbi_tool.specs.declared.refusal.Refusal.{Refusal}
 use Rattle.rbbi_tool.specs.declared.refusal.Refusal.TheVariants.{Usage}
 use Rattle.rbbi_tool.specs.Stages.{Stage, followed_by}
@@ -9,7 +9,11 @@ use Rattle.rbbi_tool.specs.Refusals.{Outcome, refused}
 use Rattle.rbbi_tool.specs.Words.{Request, Asks, AreNoForm}
 use Rattle.rbbi_tool.specs.Files.{sources_of, lengths_stage}
 use Rattle.rbbi_tool.specs.Reads.{bytes_of}
+use Rattle.rbbi_tool.specs.Command.Check.{check_stage}
+use Rattle.rbbi_tool.specs.Command.Compile.{compile_stage}
 use Rattle.rbbi_tool.specs.Command.Breaks.{breaks_stage}
+use Rattle.rbbi_tool.specs.Command.Run.{play_stage}
+use Rattle.rbbi_tool.specs.Command.Conform.{conform_stage}
 
 -- what the words ask for
 abbrev pub words_stage : List (List ℕ) → Stage Request
@@ -19,14 +23,27 @@ words_stage words = record { passes = Asks words; refuses = λ refusal. AreNoFor
 abbrev pub nth : List (List ℕ) → ℕ → List ℕ
 nth lists number = slice_index_or lists number []
 
--- what a command answers to its operands, from the bytes of its files
-abbrev pub command_stage : Command → List (List ℕ) → List (List ℕ) → Stage Outcome
-command_stage Breaks operands bytes = breaks_stage (nth bytes 0) (nth operands 1) (nth bytes 1)
+-- what a request is answered, from the bytes of the property files and of the other files
+abbrev pub command_stage : Command → Request → List (List ℕ) → List (List ℕ) → Stage Outcome
+command_stage Check request handed files = check_stage request.properties request.ignored handed (nth files 0)
+command_stage Compile request handed files = compile_stage request.properties request.ignored handed (nth files 0) (nth request.operands 1)
+command_stage Breaks request handed files =
+    breaks_stage request.properties request.ignored request.by_table handed (nth files 0) (nth request.operands 1) (nth files 1)
+command_stage Run request handed files =
+    play_stage request.properties request.ignored request.by_table handed (nth files 0) (nth request.operands 1) (nth files 1) (nth request.operands 2)
+    (nth files 2)
+command_stage Conform request handed files =
+    conform_stage request.properties request.ignored request.by_table handed (nth files 0) (nth request.operands 1) (nth files 1)
+
+-- what a request is answered, from the bytes of all files in order: the property files come first
+abbrev pub files_stage : Request → List (List ℕ) → Stage Outcome
+files_stage request bytes =
+    command_stage request.command request (take (length request.properties) bytes) (drop (length request.properties) bytes)
 
 -- what a request is answered over files that hold this: first whether a file is too long, in the order of the words
 abbrev pub request_stage : (List ℕ → List ℕ) → Request → Stage Outcome
 request_stage held request =
-    followed_by (lengths_stage held (sources_of request)) (λ _. command_stage request.command request.operands (bytes_of held (sources_of request)))
+    followed_by (lengths_stage held (sources_of request)) (λ _. files_stage request (bytes_of held (sources_of request)))
 
 -- what the words are answered over files that hold this
 abbrev pub run_stage : List (List ℕ) → (List ℕ → List ℕ) → Stage Outcome

@@ -1,5 +1,7 @@
 -- What reading the files of a list, in order, answers and leaves.
 use Rattle.std.specs.Prelude.{◌≡◌, ◌≢◌, ◌<◌, ◌≤◌, ◌+◌, ℕ, List, [], ◌∷◌, map, length, Option, Some, slice_get, IfSome}
+use Rattle.std.specs.List.{AllByRecursion}
+use Rattle.rbbi_text.specs.Bytes.{most_bytes}
 use Rattle.rbbi_io.specs.Counts.{Rose}
 use Rattle.rbbi_tool.specs.declared.files.Source.{Source}
 use Rattle.rbbi_tool.specs.declared.refusal.Refusal.{Refusal}
@@ -12,6 +14,10 @@ AreWithin [] [] = Unit {0}
 AreWithin [] (bytes ∷ more) = ⊥
 AreWithin (source ∷ sources) [] = ⊥
 AreWithin (source ∷ sources) (bytes ∷ more) = (length bytes ≤ limit_of source.role) × AreWithin sources more
+
+-- none has more bytes than are read at once
+abbrev pub AreShort : List (List ℕ) → Type 0
+AreShort files = AllByRecursion (λ bytes. length bytes ≤ most_bytes) files
 
 -- the bytes are those of the file, within its limit
 abbrev pub IsReadOf : Source → Option (List ℕ → List ℕ) → List ℕ → Type 0

@@ -1,6 +1,7 @@
--- From the bytes of a rule file to what runs, and the first fault on the way.
-use Rattle.std.specs.Prelude.{◌≡◌, ◌≢◌, ℕ, true, false, List, [], length, codes, Option, Some, IsUtf8}
+-- From the bytes of a rule file to its rules, and the first fault on the way.
+use Rattle.std.specs.Prelude.{◌≡◌, ℕ, Bool, List, length, codes, Option, Some, IsUtf8}
 use Rattle.std.specs.Str.{chars}
+use Rattle.rbbi_model.specs.Rules.{Rule}
 use Rattle.rbbi_model.specs.Lines.{row_of, column_of}
 use Rattle.rbbi_text.specs.Bytes.{without_mark}
 use Rattle.rbbi_lex.specs.declared.token.Token.{Token}
@@ -10,14 +11,17 @@ use Rattle.rbbi_tree.specs.Trees.{StatementTree}
 use Rattle.rbbi_tree.specs.Grammar.{IsFile}
 use Rattle.rbbi_tree.specs.Brackets.{IsShallow}
 use Rattle.rbbi_tree.specs.Refusals as parser
+use Rattle.rbbi_props.specs.Rows.{File}
+use Rattle.rbbi_resolve.specs.Outcomes.{Means}
+use Rattle.rbbi_resolve.specs.Refusals as resolver
 use Rattle.rbbi_tool.specs.declared.refusal.Subject.TheVariants.{Rules}
 use Rattle.rbbi_tool.specs.declared.refusal.Place.TheVariants.{Whole, Within}
 use Rattle.rbbi_tool.specs.declared.refusal.Refusal.{Refusal}
 use Rattle.rbbi_tool.specs.declared.refusal.Refusal.TheVariants.{Fault}
 use Rattle.rbbi_tool.specs.Stages.{Stage, followed_by}
 use Rattle.rbbi_tool.specs.Texts.{TellsNotUtf8}
-use Rattle.rbbi_tool.specs.Plain.Meaning.{rules_of}
-use Rattle.rbbi_tool.specs.Plain.Built.{are_built}
+use Rattle.rbbi_tool.specs.declared.words.setting.Property.{Property}
+use Rattle.rbbi_tool.specs.Properties.{properties_stage, property_files}
 
 -- a fault of this label at a place of the text of the rule file
 abbrev pub fault_at : List ℕ → List ℕ → ℕ → Refusal
@@ -49,26 +53,23 @@ statements_stage x tokens = record {
   refuses = IsTold (parser.IsRefusedFor tokens (length x)) parser.label_of parser.place_of x;
 }
 
--- each statement is of a form that is built
-abbrev pub built_stage : List StatementTree → Stage (Unit {0})
-built_stage statements = record {
-  passes = λ _. are_built statements ≡ true;
-  refuses = λ refusal. (are_built statements ≡ false) × (refusal ≡ Fault Rules (codes "Unbuilt") Whole);
+-- the rules that the statements mean, or the first fault, with these property files
+abbrev pub meaning_stage : List File → Bool → List ℕ → List StatementTree → Stage (List Rule)
+meaning_stage files ignored x statements = record {
+  passes = Means files ignored statements;
+  refuses = IsTold (resolver.IsRefusedFor files ignored statements (length x)) resolver.label_of resolver.place_of x;
 }
 
--- there is a rule; where one is missing stands at the end of the text
-abbrev pub some_rule_stage : List ℕ → List StatementTree → Stage (List StatementTree)
-some_rule_stage x statements = record {
-  passes = λ those. (those ≡ statements) × (rules_of statements ≢ []);
-  refuses = λ refusal. (rules_of statements ≡ []) × (refusal ≡ fault_at x (codes "NoRules") (length x));
-}
+-- the rules of the text of a rule file: its tokens, its grammar, its meaning
+abbrev pub rules_of_text_stage : List File → Bool → List ℕ → Stage (List Rule)
+rules_of_text_stage files ignored x =
+    followed_by (tokens_stage x) (λ tokens. followed_by (statements_stage x tokens) (meaning_stage files ignored x))
 
--- the statements of the text of a rule file: its tokens, its grammar, its forms, its rules
-abbrev pub rules_of_text_stage : List ℕ → Stage (List StatementTree)
-rules_of_text_stage x =
-    followed_by (tokens_stage x)
-    (λ tokens. followed_by (statements_stage x tokens) (λ statements. followed_by (built_stage statements) (λ _. some_rule_stage x statements)))
+-- the rules of the bytes of a rule file, with these property files
+abbrev pub rule_bytes_stage : List File → Bool → List ℕ → Stage (List Rule)
+rule_bytes_stage files ignored bytes = followed_by (rule_text_stage bytes) (rules_of_text_stage files ignored)
 
--- the statements of a rule file
-abbrev pub rules_stage : List ℕ → Stage (List StatementTree)
-rules_stage bytes = followed_by (rule_text_stage bytes) rules_of_text_stage
+-- the rules of a rule file, behind the property files that are handed in
+abbrev pub rules_stage : List Property → Bool → List (List ℕ) → List ℕ → Stage (List Rule)
+rules_stage properties ignored handed bytes =
+    followed_by (properties_stage properties handed) (λ _. rule_bytes_stage (property_files properties handed) ignored bytes)

@@ -14,6 +14,10 @@ use Rattle.rbbi_tool.specs.Stages.{Stage, followed_by}
 abbrev pub TellsNotUtf8 : Subject → List ℕ → Refusal → Type 0
 TellsNotUtf8 subject bytes refusal = (at : ℕ) × IsNotUtf8At bytes at × (refusal ≡ Fault subject (codes "NotUtf8") (Byte at))
 
+-- the bytes are UTF-8, or aren't
+abbrev pub checked_utf8_stage : Subject → List ℕ → Stage (Unit {0})
+checked_utf8_stage subject bytes = record { passes = λ _. IsUtf8 bytes; refuses = TellsNotUtf8 subject bytes }
+
 -- the characters that the bytes spell in UTF-8
 abbrev pub utf8_stage : Subject → List ℕ → Stage (List ℕ)
 utf8_stage subject bytes = record {

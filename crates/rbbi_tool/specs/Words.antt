@@ -1,37 +1,63 @@
 -- The forms of the command line.
-use Rattle.std.specs.Prelude.{◌≡◌, ◌++◌, List, [], ◌∷◌, ℕ, length, codes}
+use Rattle.std.specs.Prelude.{◌≡◌, Bool, true, false, List, [], ◌∷◌, ℕ, length, codes}
 use Rattle.rbbi_tool.specs.declared.words.command.Command.{Command}
-use Rattle.rbbi_tool.specs.declared.words.command.Command.TheVariants.{Breaks}
-use Rattle.rbbi_tool.specs.declared.files.Role.{Role}
-use Rattle.rbbi_tool.specs.declared.files.Role.TheVariants.{Rules, Text}
+use Rattle.rbbi_tool.specs.declared.words.command.Command.TheVariants.{Check, Compile, Breaks, Run, Conform}
+use Rattle.rbbi_tool.specs.declared.words.command.Takes.{Takes}
+use Rattle.rbbi_tool.specs.declared.words.command.Takes.TheVariants.{RuleOptions, RuleOptionsOrTable}
+use Rattle.rbbi_tool.specs.declared.words.command.Operand.{Operand}
+use Rattle.rbbi_tool.specs.declared.words.command.Operand.TheVariants.{Read, Written}
+use Rattle.rbbi_tool.specs.declared.files.Role.TheVariants.{Rules, Table, Text, Script, Tests}
+use Rattle.rbbi_tool.specs.declared.words.setting.Property.{Property}
+use Rattle.rbbi_tool.specs.declared.words.setting.Setting.{Setting}
+use Rattle.rbbi_tool.specs.Settings.{are_taken, properties_of, ignores_dictionary, are_by_table, BeginWithSettings}
 
 -- the word of a command
 abbrev pub name_of : Command → List ℕ
+name_of Check = codes "check"
+name_of Compile = codes "compile"
 name_of Breaks = codes "breaks"
+name_of Run = codes "run"
+name_of Conform = codes "conform"
 
--- what each operand of a command is, in order
-abbrev pub operands_of : Command → List Role
-operands_of Breaks = Rules ∷ Text ∷ []
+-- which options a command takes
+abbrev pub taken_by : Command → Takes
+taken_by Check = RuleOptions
+taken_by Compile = RuleOptions
+taken_by Breaks = RuleOptionsOrTable
+taken_by Run = RuleOptionsOrTable
+taken_by Conform = RuleOptionsOrTable
 
--- what the words ask for: a command and its operands
+-- what each operand of a command is, in order, where the first is a table file or isn't
+abbrev pub operands_of : Command → Bool → List Operand
+operands_of Check by_table = Read Rules ∷ []
+operands_of Compile by_table = Read Rules ∷ Written ∷ []
+operands_of Breaks false = Read Rules ∷ Read Text ∷ []
+operands_of Breaks true = Read Table ∷ Read Text ∷ []
+operands_of Run false = Read Rules ∷ Read Text ∷ Read Script ∷ []
+operands_of Run true = Read Table ∷ Read Text ∷ Read Script ∷ []
+operands_of Conform false = Read Rules ∷ Read Tests ∷ []
+operands_of Conform true = Read Table ∷ Read Tests ∷ []
+
+-- what the words ask for: a command, the property files, whether `$dictionary` is ignored, whether the first operand is a table
+-- file, and the operands
 pub record Request : Type 0 where
   pub command : Command
+  pub properties : List Property
+  pub ignored : Bool
+  pub by_table : Bool
   pub operands : List (List ℕ)
 
--- the word begins as an option does
-abbrev pub IsOption : List ℕ → Type 0
-IsOption word = (rest : List ℕ) × (word ≡ codes "--" ++ rest)
-
--- the first word, if there is one, doesn't begin as an option does
-abbrev pub BeginsWithoutOption : List (List ℕ) → Type 0
-BeginsWithoutOption [] = Unit {0}
-BeginsWithoutOption (word ∷ words) = ¬ IsOption word
-
--- The words are a command and just its operands. The first operand doesn't begin as an option does.
+-- The words are a command, options that it takes, and just its operands. The first operand doesn't begin as an option does.
 pub record Asks (words : List (List ℕ)) (request : Request) : Type 0 where
-  pub are : words ≡ name_of request.command ∷ request.operands
-  pub count : length request.operands ≡ length (operands_of request.command)
-  pub no_option : BeginsWithoutOption request.operands
+  pub settings : List Setting
+  pub more : List (List ℕ)
+  pub are : words ≡ name_of request.command ∷ more
+  pub begin : BeginWithSettings more settings request.operands
+  pub taken : are_taken (taken_by request.command) settings ≡ true
+  pub properties : request.properties ≡ properties_of settings
+  pub ignored : request.ignored ≡ ignores_dictionary settings
+  pub by_table : request.by_table ≡ are_by_table settings
+  pub count : length request.operands ≡ length (operands_of request.command request.by_table)
 
 -- the words are of no stated form
 abbrev pub AreNoForm : List (List ℕ) → Type 0

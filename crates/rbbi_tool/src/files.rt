@@ -14,10 +14,18 @@ use std::alloc::{AllocError, Global};
 /// What a file is to the program.
 #[derive(Clone, Copy, Debug)]
 pub(crate) enum Role {
+    /// A property file.
+    Property,
     /// The rule file.
     Rules,
+    /// The table file.
+    Table,
     /// The text.
     Text,
+    /// The script.
+    Script,
+    /// The test file.
+    Tests,
 }
 
 /// A file that is to be read.
@@ -33,8 +41,12 @@ impl Role {
         ensures { result ≡ spec.limit_of self }
     {
         match self {
+            Role::Property => 8_388_608,
             Role::Rules => 1_048_576,
+            Role::Table => 100_663_296,
             Role::Text => 67_108_864,
+            Role::Script => 1_048_576,
+            Role::Tests => 16_777_216,
         }
     }
 
@@ -44,7 +56,10 @@ impl Role {
     {
         match self {
             Role::Rules => Ok(Subject::Rules),
-            Role::Text => Ok(Subject::File(Name::new(alloc, name)?)),
+            Role::Table => Ok(Subject::Table),
+            Role::Property | Role::Text | Role::Script | Role::Tests => Ok(Subject::File(Name::new(
+                alloc, name,
+            )?)),
         }
     }
 }

@@ -1,11 +1,14 @@
 //! Laws of what the program answers. The functions carry no code: each states a law as its
 //! contract.
 ghost use Rattle.std.specs.Prelude.{ℕ, List};
-ghost use Rattle.rbbi_tool.specs.Causes.{HasOneOutcome};
+ghost use Rattle.rbbi_tool.specs.Causes.{AskToReadLines, HasOneOutcome};
 
-/// To words over files that tell what they hold there is one outcome: one status, and one text.
+/// To words over files that tell what they hold there is one outcome: one status, one text, and one
+/// file. Of a table that is compiled the row numbers are free, and so are its bytes. Nothing is said
+/// of commands that read a script or a test file.
 pub fn outcomes_are_unique()
-    ensures { (words : List (List ℕ)) (held : List ℕ → List ℕ) → HasOneOutcome words held }
+    ensures { (words : List (List ℕ)) (held : List ℕ → List ℕ) → ¬ AskToReadLines words
+        → HasOneOutcome words held }
 {
     rbbi_model::boundaries_are_unique();
     rbbi_lex::tokens_are_unique();
@@ -14,4 +17,7 @@ pub fn outcomes_are_unique()
     rbbi_tree::at_most_one_reading();
     rbbi_tree::at_most_one_refusal();
     rbbi_tree::file_excludes_fault();
+    rbbi_resolve::at_most_one_meaning();
+    rbbi_model::spelling_tells_the_table();
+    rbbi_file::one_answer();
 }

@@ -1,46 +1,28 @@
 //! The top call.
-ghost use Rattle.std.specs.Prelude.{◌≡◌, ◌≢◌, ◌∷◌, [], map, length, IfOk, IfSome};
+ghost use Rattle.std.specs.Prelude.{◌≡◌, ◌≢◌, ◌≤◌, ◌⊎◌, map, length, IfOk, IfSome};
 ghost use Rattle.std.specs.String.{string_bytes};
-ghost use Rattle.rbbi_model.specs.Lists.{Member};
 ghost use Rattle.rbbi_model.specs.Lines.{usage_line};
 ghost use Rattle.rbbi_io.specs.Counts.{Rose, GoesOn, EachGoesOn, EachStays};
+ghost use Rattle.rbbi_io.specs.Answers.{WhereTold};
 ghost use Rattle.rbbi_io.specs.Sinks.{Takes};
-ghost use Rattle.rbbi_tool.specs.Stages.{Meets};
-ghost use Rattle.rbbi_tool.specs.Words.{Request, Asks, AreNoForm, operands_of};
-ghost use Rattle.rbbi_tool.specs.Files.{in_roles, sources_of};
-ghost use Rattle.rbbi_tool.specs.Reads.{AreWithin, MakesSomeReads};
-ghost use Rattle.rbbi_tool.specs.Program.{command_stage};
+ghost use Rattle.rbbi_tool.specs.Words.{Request, Asks, AreNoForm};
+ghost use Rattle.rbbi_tool.specs.Files.{sources_of};
+ghost use Rattle.rbbi_tool.specs.Reads.{MakesSomeReads};
 ghost use Rattle.rbbi_tool.specs.Causes.{ComesTo, Tells, IsAnswer, NoReadFailed};
 ghost use Rattle.rbbi_tool.specs.Causes.{TakesOutcome, TakesFailedRead, TakesPart};
+ghost use Rattle.rbbi_tool.specs.Causes.{EachHolds, SomeWriteFailed, OthersUnwritten};
 
-use crate::command::{Output, breaks};
+use crate::command::Output;
+use crate::deliver::deliver;
 use crate::files::read_all;
+use crate::output::output_of;
 use crate::refusal::Refusal;
-use crate::words::{Command, request_of, sources_of};
-use rbbi_io::{Files, Sink, WriteErr, put_all};
-use rbbi_text::{Raw, Steps};
+use crate::sources::sources_of;
+use crate::words::request_of;
+use rbbi_io::{Files, Sink};
+use rbbi_text::Steps;
 use std::alloc::{AllocError, Global};
 use std::sync::ledger::Ledger;
-
-/// What a command makes of its operands and of the bytes of its files.
-fn output_of<L: Ledger>(
-    alloc: Global,
-    command: Command,
-    operands: &[String],
-    files: &Vec<Raw>,
-    steps: &mut Steps<L>,
-) -> Result<Output, Refusal>
-    requires count { length operands.now ≡ length (operands_of command) }
-    requires within { AreWithin
-        (in_roles (operands_of command) (map string_bytes operands.now)) files.now.items }
-    ensures exact { Meets (λ output. output)
-        (command_stage command (map string_bytes operands.now) files.now.items) result }
-    ensures status { IfOk result (λ output. output.status ≡ 0) }
-{
-    match command {
-        Command::Breaks => breaks(alloc, &files[0], operands[1].as_str(), &files[1], steps),
-    }
-}
 
 /// What the words come to over the files: an output, or what ends the run. No file is written.
 fn run<F: Files, L: Ledger>(
@@ -61,12 +43,12 @@ fn run<F: Files, L: Ledger>(
     ensures reads { EachGoesOn (F.failed_reads files.old) (F.failed_reads files.new) }
     ensures writes { EachStays (F.failed_writes files.old) (F.failed_writes files.new) }
 {
-    let Some(request) = request_of(words) else {
+    let Some(request) = request_of(alloc, words)? else {
         return Err(Refusal::Usage);
     };
     let sources = sources_of(alloc, &request)?;
     let all = read_all(alloc, &sources, files)?;
-    output_of(alloc, request.command, request.operands, &all, steps)
+    output_of(alloc, &request, &all, steps)
 }
 
 /// The status and the bytes that go out.
@@ -81,10 +63,12 @@ fn told(alloc: Global, ended: Result<Output, Refusal>) -> Result<Output, AllocEr
             Ok(Output {
                 status: refusal.status(),
                 bytes,
+                file: None,
             })
         }
     }
 }
+
 /// What is answered to the words over the files. No file is written.
 fn answer<F: Files, L: Ledger>(
     alloc: Global,
@@ -113,16 +97,18 @@ fn answer<F: Files, L: Ledger>(
 ///
 /// | status | comes | what is written |
 /// |---|---|---|
-/// | 0 | the boundaries are told | a line for each |
+/// | 0 | all is done | what the command tells |
 /// | 2 | the words are of no stated form | how to call the program |
 /// | 3 | the rule file is too long, isn't UTF-8 or has a fault | the fault |
-/// | 5 | the text file is too long, isn't UTF-8 or has too many characters | the fault |
-/// | 6 | a read of one of the two files failed | the file |
-/// | 7 | a put failed | a front of what was to be written |
+/// | 4 | the table file is too long, or no spelling of a valid table | the fault |
+/// | 5 | another file is too long, isn't UTF-8, has too many characters or a bad row | the fault |
+/// | 6 | a read of a file failed | the file |
+/// | 7 | a put or a write failed | a front of what was to be written |
 /// | 8 | memory ran out | a front of what was to be written |
 ///
-/// The words are looked at first, then the files are read in the order of the words; then comes the
-/// rule file, and then the text. No file is written.
+/// The words are looked at first, then the files are read in the order of the words; then come the
+/// property files, then the rule file or the table file, and then the text. A file that the command
+/// writes is written before anything goes out.
 pub fn rbbi<F: Files, K: Sink, L: Ledger>(
     alloc: Global,
     words: &Vec<String>,
@@ -130,13 +116,14 @@ pub fn rbbi<F: Files, K: Sink, L: Ledger>(
     out: &mut K,
     steps: &mut Steps<L>,
 ) -> u8
-    ensures statuses { Member (0 ∷ 2 ∷ 3 ∷ 5 ∷ 6 ∷ 7 ∷ 8 ∷ []) result }
+    ensures statuses { result ≤ 8 }
 
     // 2 comes exactly where the words are of no form, but for a line that can't be put and want of
     // memory; and then no file is read.
     ensures usage { result ≡ 2 → AreNoForm (map string_bytes words.now.items)
         × Takes (K.taken out.old) (K.taken out.new) usage_line }
-    ensures no_form { AreNoForm (map string_bytes words.now.items) → Member (2 ∷ 7 ∷ 8 ∷ []) result }
+    ensures no_form { AreNoForm (map string_bytes words.now.items)
+        → (result ≡ 2) ⊎ ((result ≡ 7) ⊎ (result ≡ 8)) }
     ensures unread { AreNoForm (map string_bytes words.now.items)
         → EachStays (F.failed_reads files.old) (F.failed_reads files.new) }
 
@@ -146,39 +133,45 @@ pub fn rbbi<F: Files, K: Sink, L: Ledger>(
         → IfSome (F.contents files.old) (MakesSomeReads (sources_of request)
         (F.failed_reads files.old) (F.failed_reads files.new)) }
 
-    // 0, 2, 3 and 5 are the one outcome of the words and of what the files hold.
-    ensures outcome { Member (0 ∷ 2 ∷ 3 ∷ 5 ∷ []) result → IfSome (F.contents files.old)
+    // 0 to 5 are the one outcome of the words and of what the files hold.
+    ensures outcome { result ≤ 5 → WhereTold (F.contents files.old) (F.contents files.new)
         (TakesOutcome (map string_bytes words.now.items) result (K.taken out.old) (K.taken out.new)) }
 
     // 6 and 7 come only with a fault that the files or the sink counted.
     ensures read_failed { result ≡ 6 → TakesFailedRead (map string_bytes words.now.items)
         (F.contents files.old) (F.failed_reads files.old) (F.failed_reads files.new)
         (K.taken out.old) (K.taken out.new) }
-    ensures put_failed { result ≡ 7 → Rose (K.faults out.old) (K.faults out.new) }
+    ensures put_failed { result ≡ 7 → Rose (K.faults out.old) (K.faults out.new)
+        ⊎ SomeWriteFailed (map string_bytes words.now.items)
+        (F.failed_writes files.old) (F.failed_writes files.new) }
 
-    // After 7 and 8 a front of what was to be written was taken.
-    ensures front { Member (7 ∷ 8 ∷ []) result → IfSome (F.contents files.old)
+    // After 7 and 8 a front of what was to go out was taken.
+    ensures front { 7 ≤ result → IfSome (F.contents files.old)
         (TakesPart (map string_bytes words.now.items) (F.failed_reads files.old)
         (F.failed_reads files.new) (K.taken out.old) (K.taken out.new)) }
 
     // Where no fault was counted, there is the outcome or want of memory.
     ensures complete { NoReadFailed (map string_bytes words.now.items) (F.failed_reads files.old)
-        (F.failed_reads files.new) → ¬ Rose (K.faults out.old) (K.faults out.new) → result ≢ 8
-        → IfSome (F.contents files.old) (TakesOutcome (map string_bytes words.now.items)
-        result (K.taken out.old) (K.taken out.new)) }
+        (F.failed_reads files.new) → ¬ Rose (K.faults out.old) (K.faults out.new)
+        → ¬ SomeWriteFailed (map string_bytes words.now.items)
+        (F.failed_writes files.old) (F.failed_writes files.new) → result ≢ 8
+        → WhereTold (F.contents files.old) (F.contents files.new)
+        (TakesOutcome (map string_bytes words.now.items) result (K.taken out.old) (K.taken out.new)) }
 
-    // Every file holds what it held, and no count falls.
-    ensures contents { F.contents files.new ≡ F.contents files.old }
+    // Every file holds what it held, but for one that the outcome writes; and after 2 to 6 that one
+    // too. No count falls, and no write is counted but of a file that the words name to be written.
+    ensures contents { WhereTold (F.contents files.old) (F.contents files.new)
+        (EachHolds (map string_bytes words.now.items)
+        (F.failed_writes files.old) (F.failed_writes files.new)) }
+    ensures unwritten { 2 ≤ result → result ≤ 6 → F.contents files.new ≡ F.contents files.old }
+    ensures others { IfSome (F.contents files.old) (λ _. OthersUnwritten
+        (map string_bytes words.now.items) (F.failed_writes files.old) (F.failed_writes files.new)) }
     ensures reads { EachGoesOn (F.failed_reads files.old) (F.failed_reads files.new) }
-    ensures writes { EachStays (F.failed_writes files.old) (F.failed_writes files.new) }
+    ensures writes { EachGoesOn (F.failed_writes files.old) (F.failed_writes files.new) }
     ensures faults { GoesOn (K.faults out.old) (K.faults out.new) }
 {
-    let Ok(output) = answer(alloc, words, files, steps) else {
-        return 8;
-    };
-    match put_all(out, &output.bytes) {
-        Ok(()) => output.status,
-        Err(WriteErr::Failed) => 7,
-        Err(WriteErr::Memory) => 8,
+    match answer(alloc, words, files, steps) {
+        Ok(output) => deliver(&output, files, out),
+        Err(AllocError) => 8,
     }
 }

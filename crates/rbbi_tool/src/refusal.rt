@@ -1,6 +1,7 @@
 //! What ends a run before its output.
 ghost use Rattle.std.specs.Prelude.{◌≡◌, ◌⊎◌, IfOk, OnOk};
 ghost use Rattle.rbbi_tool.specs.declared.refusal.Refusal.TheVariants as refusal;
+ghost use Rattle.rbbi_tool.specs.declared.refusal.Subject.TheVariants as file;
 ghost use Rattle.rbbi_tool.specs.Refusals as spec;
 
 use crate::lines::joined;
@@ -13,6 +14,8 @@ use std::alloc::{AllocError, AllocFailed, Global};
 pub(crate) enum Subject {
     /// The rule file.
     Rules,
+    /// The table file.
+    Table,
     /// A file that is told by its name.
     File(Name),
 }
@@ -24,6 +27,8 @@ pub(crate) enum Place {
     Whole,
     /// At a byte, from 0.
     Byte(u32),
+    /// At a line, from 1.
+    Row(u32),
     /// At a line and a column, each from 1.
     Within { row: u32, column: u32 },
 }
@@ -68,6 +73,7 @@ impl Subject {
     {
         match self {
             Subject::Rules => "rules",
+            Subject::Table => "table",
             Subject::File(name) => name.as_str(),
         }
     }
@@ -78,6 +84,7 @@ impl Subject {
     {
         match self {
             Subject::Rules => 3,
+            Subject::Table => 4,
             Subject::File(_) => 5,
         }
     }
@@ -97,6 +104,17 @@ pub(crate) fn fault(alloc: Global, subject: Subject, label: &str, place: Place) 
     }
 }
 
+/// A fault of this label in the file of this name, or want of memory.
+pub(crate) fn file_fault(alloc: Global, name: &str, label: &str, place: Place) -> Refusal
+    ensures { (result ≡ Refusal.Memory)
+        ⊎ (result ≡ Refusal.Fault (file.File name.now) label.now place) }
+{
+    match Name::new(alloc, name) {
+        Ok(name) => fault(alloc, Subject::File(name), label, place),
+        Err(AllocError) => Refusal::Memory,
+    }
+}
+
 /// The line of a fault, by the name of its file.
 fn fault_line(alloc: Global, name: &str, label: &str, place: Place) -> Result<Vec<u8>, AllocError>
     ensures { IfOk result (λ line. line.items ≡ spec.told_at name.now label.now place) }
@@ -110,6 +128,10 @@ fn fault_line(alloc: Global, name: &str, label: &str, place: Place) -> Result<Ve
         Place::Byte(at) => {
             let at = numbers.format(at).as_bytes();
             joined(alloc, &[name, b": ", label, b" ", at, b"\n"])
+        }
+        Place::Row(row) => {
+            let row = numbers.format(row).as_bytes();
+            joined(alloc, &[name, b":", row, b": ", label, b"\n"])
         }
         Place::Within { row, column } => {
             let row = numbers.format(row).as_bytes();

@@ -1,17 +1,24 @@
-//! From the bytes of a rule file to what runs.
+//! From the bytes of a rule file to its rules.
 ghost use Rattle.std.specs.Prelude.{◌≡◌, ◌≤◌, ◌⊎◌, length, IfOk, MatchOption};
 ghost use Rattle.std.specs.Str.{chars};
 ghost use Rattle.rbbi_text.specs.Bytes.{most_bytes};
 ghost use Rattle.rbbi_lex.specs.Places.{PlacesRise};
-ghost use Rattle.rbbi_lex.specs.WellMade.{AreWellMade};
+ghost use Rattle.rbbi_lex.specs.WellMade as lex;
 ghost use Rattle.rbbi_tree.specs.Values.{statement_trees};
+ghost use Rattle.rbbi_tree.specs.WellMade.{AreWellMade};
+ghost use Rattle.rbbi_model.specs.Rules.{AreLawful};
+ghost use Rattle.rbbi_resolve.specs.RuleLists.{rules_of};
+ghost use Rattle.rbbi_tool.specs.Properties.{AreHanded};
 ghost use Rattle.rbbi_tool.specs.Stages.{Meets};
 ghost use Rattle.rbbi_tool.specs.Rules as spec;
 
-use crate::plain::{are_built, has_rule};
 use crate::position::position_of;
+use crate::properties::properties_of;
 use crate::refusal::{Place, Refusal, Subject, fault};
+use crate::words::Options;
 use rbbi_lex::Tokens;
+use rbbi_props::PropTable;
+use rbbi_resolve::Rules;
 use rbbi_text::{Raw, Steps, utf8_text, without_mark};
 use rbbi_tree::Statements;
 use std::alloc::Global;
@@ -61,7 +68,7 @@ fn tokens_of(alloc: Global, text: &str) -> Result<Tokens, Refusal>
     requires { length text.now ≤ most_bytes }
     ensures exact { Meets (λ tokens. tokens) (spec.tokens_stage (chars text.now)) result }
     ensures places { IfOk result (PlacesRise 0 (length (chars text.now))) }
-    ensures well_made { IfOk result AreWellMade }
+    ensures well_made { IfOk result lex.AreWellMade }
 {
     match rbbi_lex::lex(alloc, text) {
         Ok(tokens) => Ok(tokens),
@@ -78,11 +85,13 @@ fn count_characters(text: &str) -> u32
 }
 
 /// The statements of the tokens of the text.
-fn statements_of_tokens(alloc: Global, text: &str, tokens: &Tokens) -> Result<Statements, Refusal>
+fn statements_of(alloc: Global, text: &str, tokens: &Tokens) -> Result<Statements, Refusal>
     requires short { length text.now ≤ most_bytes }
     requires places { PlacesRise 0 (length (chars text.now)) tokens.now }
-    requires well_made { AreWellMade tokens.now }
-    ensures { Meets statement_trees (spec.statements_stage (chars text.now) tokens.now) result }
+    requires well_made { lex.AreWellMade tokens.now }
+    ensures exact { Meets statement_trees
+        (spec.statements_stage (chars text.now) tokens.now) result }
+    ensures well_made { IfOk result (λ statements. AreWellMade (statement_trees statements)) }
 {
     match rbbi_tree::parse(alloc, tokens, count_characters(text)) {
         Ok(statements) => Ok(statements),
@@ -90,33 +99,59 @@ fn statements_of_tokens(alloc: Global, text: &str, tokens: &Tokens) -> Result<St
     }
 }
 
-/// The statements of the text of a rule file.
-fn statements_of_text(alloc: Global, text: &str) -> Result<Statements, Refusal>
-    requires { length text.now ≤ most_bytes }
-    ensures { Meets statement_trees (spec.rules_of_text_stage (chars text.now)) result }
+/// The rules that the statements of the text mean.
+fn meaning_of(
+    alloc: Global,
+    text: &str,
+    statements: &Statements,
+    props: &PropTable,
+    ignored: bool,
+) -> Result<Rules, Refusal>
+    requires short { length text.now ≤ most_bytes }
+    requires well_made { AreWellMade (statement_trees statements.now) }
+    ensures exact { Meets rules_of (spec.meaning_stage props.now ignored (chars text.now)
+        (statement_trees statements.now)) result }
+    ensures lawful { IfOk result (λ rules. AreLawful (rules_of rules)) }
 {
-    let tokens = tokens_of(alloc, text)?;
-    let statements = statements_of_tokens(alloc, text, &tokens)?;
-    if !are_built(&statements) {
-        return Err(fault(alloc, Subject::Rules, "Unbuilt", Place::Whole));
-    }
-    if has_rule(&statements) {
-        Ok(statements)
-    } else {
-        Err(fault_at(alloc, text, "NoRules", count_characters(text)))
+    match rbbi_resolve::resolve(alloc, statements, count_characters(text), props, ignored) {
+        Ok(rules) => Ok(rules),
+        Err(error) => Err(told(alloc, text, error.label(), error.place())),
     }
 }
 
-/// The statements of a rule file, of forms that are built, with at least one rule. Its fault is the
-/// first of its bytes, its tokens, its grammar, its forms and its rules.
-pub(crate) fn statements_of<L: Ledger>(
+/// The rules of the text of a rule file.
+fn rules_of_text(
     alloc: Global,
+    text: &str,
+    props: &PropTable,
+    ignored: bool,
+) -> Result<Rules, Refusal>
+    requires { length text.now ≤ most_bytes }
+    ensures exact { Meets rules_of
+        (spec.rules_of_text_stage props.now ignored (chars text.now)) result }
+    ensures lawful { IfOk result (λ rules. AreLawful (rules_of rules)) }
+{
+    let tokens = tokens_of(alloc, text)?;
+    let statements = statements_of(alloc, text, &tokens)?;
+    meaning_of(alloc, text, &statements, props, ignored)
+}
+
+/// The rules of a rule file. Its fault is the first of the property files, of its bytes, its tokens,
+/// its grammar and its meaning.
+pub(crate) fn rules_from<L: Ledger>(
+    alloc: Global,
+    options: &Options,
+    handed: &[Raw],
     bytes: &Raw,
     steps: &mut Steps<L>,
-) -> Result<Statements, Refusal>
-    requires { length bytes.now ≤ most_bytes }
-    ensures { Meets statement_trees (spec.rules_stage bytes.now) result }
+) -> Result<Rules, Refusal>
+    requires handed { AreHanded options.now.properties.items handed.now }
+    requires short { length bytes.now ≤ most_bytes }
+    ensures exact { Meets rules_of (spec.rules_stage options.now.properties.items
+        options.now.ignored handed.now bytes.now) result }
+    ensures lawful { IfOk result (λ rules. AreLawful (rules_of rules)) }
 {
+    let props = properties_of(alloc, &options.properties, handed, steps)?;
     let text = text_of(alloc, bytes.bytes(steps))?;
-    statements_of_text(alloc, text)
+    rules_of_text(alloc, text, &props, options.ignored)
 }

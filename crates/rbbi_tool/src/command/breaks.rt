@@ -1,34 +1,65 @@
 //! The command `breaks`.
 ghost use Rattle.std.specs.Prelude.{◌≡◌, ◌≤◌, length, IfOk};
 ghost use Rattle.rbbi_text.specs.Bytes.{most_bytes};
+ghost use Rattle.rbbi_model.specs.Lines.{boundary_lines};
+ghost use Rattle.rbbi_model.specs.Searches.{table_boundaries};
 ghost use Rattle.rbbi_tool.specs.Stages.{Meets};
+ghost use Rattle.rbbi_tool.specs.Properties.{AreHanded};
 ghost use Rattle.rbbi_tool.specs.Command.Breaks.{breaks_stage};
 
 use super::Output;
-use crate::plain::{boundaries, boundary_lines};
+use crate::basis::basis;
 use crate::refusal::Refusal;
-use crate::rules::statements_of;
 use crate::texts::text_of;
-use rbbi_text::{Raw, Steps};
-use std::alloc::Global;
+use crate::words::Options;
+use rbbi_script::say_bound;
+use rbbi_table::{Marks, Table};
+use rbbi_text::{Chars, PlainText, Raw, Steps};
+use std::alloc::{AllocError, Global};
 use std::sync::ledger::Ledger;
 
-/// The boundaries of a text file of this name by a rule file, a line for each.
+/// The lines of all boundaries of a text by a table.
+fn lines_of<L: Ledger>(
+    alloc: Global,
+    table: &Table,
+    text: &PlainText,
+    steps: &mut Steps<L>,
+) -> Result<Vec<u8>, AllocError>
+    ensures { IfOk result (λ lines.
+        lines.items ≡ boundary_lines (table_boundaries table.now text.now)) }
+{
+    rbbi_model::next_boundary_is_past_the_start();
+    table.valid();
+    let mut marks = Marks::new(alloc, table)?;
+    let mut lines = Vec::new(alloc);
+    say_bound(0, &[0], &mut lines)?;
+    let mut at = 0;
+    while at < text.len() {
+        let found = table.next(text, at, &mut marks, steps);
+        say_bound(found.at, table.status_list(found.status), &mut lines)?;
+        at = found.at;
+    }
+    Ok(lines)
+}
+
+/// The boundaries of a text file of this name by a rule file or a table file, a line for each.
 pub(crate) fn breaks<L: Ledger>(
     alloc: Global,
-    rules: &Raw,
+    options: &Options,
+    handed: &[Raw],
+    source: &Raw,
     name: &str,
     text: &Raw,
     steps: &mut Steps<L>,
 ) -> Result<Output, Refusal>
-    requires rules { length rules.now ≤ most_bytes }
+    requires handed { AreHanded options.now.properties.items handed.now }
+    requires source { length source.now ≤ most_bytes }
     requires text { length text.now ≤ most_bytes }
-    ensures exact { Meets (λ output. output) (breaks_stage rules.now name.now text.now) result }
-    ensures status { IfOk result (λ output. output.status ≡ 0) }
+    ensures { Meets (λ output. output) (breaks_stage options.now.properties.items options.now.ignored
+        options.now.by_table handed.now source.now name.now text.now) result }
 {
-    let statements = statements_of(alloc, rules, steps)?;
+    let table = basis(alloc, options, handed, source, steps)?;
     let text = text_of(alloc, name, text)?;
-    let places = boundaries(alloc, &statements, &text, steps)?;
-    let bytes = boundary_lines(alloc, &places)?;
-    Ok(Output { status: 0, bytes })
+    let bytes = lines_of(alloc, &table, &text, steps)?;
+    Ok(Output::printed(bytes))
 }

@@ -10,5 +10,8 @@ returns c =
       readings = c.at_most_one_reading.ensures;
       refusals = c.at_most_one_refusal.ensures;
       excludes = c.file_excludes_fault.ensures;
+      meanings = c.at_most_one_meaning.ensures;
+      tables = c.spelling_tells_the_table.ensures;
+      answers = c.one_answer.ensures;
       boundaries = c.boundaries_are_unique.ensures;
     })

@@ -1,14 +1,26 @@
-use Rattle.std.proofs.Common.{inl, inr, ⊎_elim}
+use Rattle.std.proofs.Common.{inl, inr, ⊎_elim, ap, ◌∙◌}
 use Rattle.std.proofs.lemmas.Result.{err_from_is_err_and}
-use Rattle.rbbi_tree.specs.Values.{statement_trees}
+use Rattle.rbbi_model.specs.Searches.{table_boundaries}
+use Rattle.rbbi_tool.specs.Refusals.{printed}
+use Rattle.rbbi_tool.proofs.BasisLemmas.{boundaries_given}
 use Rattle.rbbi_tool.proofs.command.breaks.breaks.Goals as goal
 
-pub returns-in_err-statements-clause-exact : goal.returns-in_err-statements-clause-exact
-returns-in_err-statements-clause-exact g c =
-    let p = err_from_is_err_and c.from_residual.result c.from_residual.ensures.1 in
-    rw (p.1, p.2) (⊎_elim inl (λ is. inr (inl is)) c.in_err-statements.ensures)
-
-pub returns-in_err-text-clause-exact : goal.returns-in_err-text-clause-exact
-returns-in_err-text-clause-exact g c =
+pub returns-in_err-text : goal.returns-in_err-text
+returns-in_err-text g c =
     let p = err_from_is_err_and c.from_residual-in_err-text.result c.from_residual-in_err-text.ensures.1 in
-    rw (p.1, p.2) (⊎_elim inl (λ is. inr (inr (statement_trees c.in_ok-statements.statements, c.in_ok-statements.ensures, inl is))) c.in_err-text.ensures)
+    let basis = c.in_ok-table.ensures in
+    rw (p.1, p.2) (⊎_elim inl (λ is. inr (inr (basis.0, basis.1, inl is))) c.in_err-text.ensures.exact)
+
+pub returns : goal.returns
+returns g c =
+    let basis = c.in_ok-table.ensures in
+    let table = c.in_ok-table.table in
+    let x = c.in_ok-text.text in (
+      basis.0,
+      basis.1,
+      (
+        x,
+        c.in_ok-text.ensures.exact,
+        (table_boundaries table x, boundaries_given basis.0 table x basis.2 c.in_ok-text.ensures.text, c.printed.ensures ∙ ap printed c.in_ok-bytes.ensures),
+      ),
+    )

@@ -1,0 +1,109 @@
+-- The stages of commands refuse with faults of files alone.
+use Rattle.std.proofs.Common.{◌≡◌, ◌≢◌, refl, ℕ, Bool, true, false, Option, List, [], ◌∷◌, sym, subst, inl, inr}
+use Rattle.rbbi_model.specs.Rules.{Rule}
+use Rattle.rbbi_tool.specs.declared.words.command.Command.{Command}
+use Rattle.rbbi_tool.specs.declared.words.command.Command.TheVariants.{Check, Compile, Breaks, Run, Conform}
+use Rattle.rbbi_tool.specs.declared.words.setting.Property.{Property}
+use Rattle.rbbi_tool.specs.declared.refusal.Subject.{Subject}
+use Rattle.rbbi_tool.specs.declared.refusal.Place.{Place}
+use Rattle.rbbi_tool.specs.declared.refusal.Refusal.{Refusal}
+use Rattle.rbbi_tool.specs.declared.refusal.Refusal.TheVariants.{Usage, Unread, Fault, Memory}
+use Rattle.rbbi_tool.specs.Stages.{Stage}
+use Rattle.rbbi_tool.specs.Words.{Request}
+use Rattle.rbbi_tool.specs.Texts.{text_stage}
+use Rattle.rbbi_tool.specs.Properties.{properties_stage}
+use Rattle.rbbi_tool.specs.Rules.{IsTold, rules_stage}
+use Rattle.rbbi_script.specs.declared.error.ScriptErr.{ScriptErr}
+use Rattle.rbbi_script.specs.declared.error.ScriptErr.TheVariants as script
+use Rattle.rbbi_conform.specs.declared.error.TestErr.{TestErr}
+use Rattle.rbbi_conform.specs.declared.error.TestErr.TheVariants as tests
+use Rattle.rbbi_tool.specs.Scripts.{script_fault, tests_fault}
+use Rattle.rbbi_tool.specs.Basis.{limits_stage, compiled_stage, basis_stage}
+use Rattle.rbbi_tool.specs.Program.{command_stage}
+
+-- a fault of a file ends the run
+unfoldable pub IsFault : Refusal → Type 0
+IsFault Usage = ⊥
+IsFault (Unread name) = ⊥
+IsFault (Fault subject label place) = Unit {0}
+IsFault Memory = ⊥
+
+-- the stage refuses with faults of files alone
+abbrev Faults : {A : Type 0} → Stage A → Type 0
+Faults stage = (r : Refusal) → stage.refuses r → IsFault r
+
+is_fault : (subject : Subject) (label : List ℕ) (place : Place) (r : Refusal) → r ≡ Fault subject label place → IsFault r
+unfolding IsFault
+is_fault subject label place r is = subst IsFault (sym is) tt
+
+told_fault : {E : Type 0} (Holds : E → Type 0) (label_of : E → List ℕ) (place_of : E → Option ℕ) (x : List ℕ) (r : Refusal)
+    → IsTold Holds label_of place_of x r → IsFault r
+told_fault Holds label_of place_of x r is = is_fault _ _ _ r is.is
+
+-- property files
+properties_fault : (properties : List Property) (handed : List (List ℕ)) → Faults (properties_stage properties handed)
+properties_fault [] handed r never = absurd never
+properties_fault (p ∷ properties) [] r never = absurd never
+properties_fault (p ∷ properties) (b ∷ handed) r (inl (inl (at, wrong, is))) = is_fault _ _ _ r is
+properties_fault (p ∷ properties) (b ∷ handed) r (inl (inr (u, utf8, (line, bad, is)))) = is_fault _ _ _ r is
+properties_fault (p ∷ properties) (b ∷ handed) r (inr (u, passed, is)) = properties_fault properties handed r is
+
+-- rule files
+rules_fault : (properties : List Property) (ignored : Bool) (handed : List (List ℕ)) (bytes : List ℕ) → Faults (rules_stage properties ignored handed bytes)
+rules_fault properties ignored handed bytes r (inl is) = properties_fault properties handed r is
+rules_fault properties ignored handed bytes r (inr (u, passed, inl (at, wrong, is))) = is_fault _ _ _ r is
+rules_fault properties ignored handed bytes r (inr (u, passed, inr (x, text, inl is))) = told_fault _ _ _ x r is
+rules_fault properties ignored handed bytes r (inr (u, passed, inr (x, text, inr (tokens, are, inl is)))) = told_fault _ _ _ x r is
+rules_fault properties ignored handed bytes r (inr (u, passed, inr (x, text, inr (tokens, are, inr (statements, read, is))))) = told_fault _ _ _ x r is
+
+limits_fault : (rules : List Rule) → Faults (limits_stage rules)
+limits_fault rules r (inl is) = is_fault _ _ _ r is.1
+limits_fault rules r (inr (u, few, is)) = is_fault _ _ _ r is.is
+
+compiled_fault : (properties : List Property) (ignored : Bool) (handed : List (List ℕ)) (bytes : List ℕ)
+    → Faults (compiled_stage properties ignored handed bytes)
+compiled_fault properties ignored handed bytes r (inl is) = rules_fault properties ignored handed bytes r is
+compiled_fault properties ignored handed bytes r (inr (rules, mean, inl is)) = limits_fault rules r is
+compiled_fault properties ignored handed bytes r (inr (rules, mean, inr (u, few, never))) = absurd never
+
+-- what boundaries come by
+basis_fault : (properties : List Property) (ignored by_table : Bool) (handed : List (List ℕ)) (bytes : List ℕ)
+    → Faults (basis_stage properties ignored by_table handed bytes)
+basis_fault properties ignored false handed bytes r (inl is) = compiled_fault properties ignored handed bytes r is
+basis_fault properties ignored false handed bytes r (inr (rules, mean, never)) = absurd never
+basis_fault properties ignored true handed bytes r (inl is) = is_fault _ _ _ r is.is
+basis_fault properties ignored true handed bytes r (inr (table, spelled, never)) = absurd never
+
+-- texts
+text_fault : (name bytes : List ℕ) → Faults (text_stage name bytes)
+text_fault name bytes r (inl (at, wrong, is)) = is_fault _ _ _ r is
+text_fault name bytes r (inr (x, passed, is)) = is_fault _ _ _ r is.1
+
+-- scripts and test files
+script_fault_is : (name : List ℕ) (e : ScriptErr) (r : Refusal) → e ≢ script.Memory → r ≡ script_fault name e → IsFault r
+script_fault_is name (script.NotUtf8 at) r some is = is_fault _ _ _ r is
+script_fault_is name (script.BadLine line) r some is = is_fault _ _ _ r is
+script_fault_is name script.Memory r some is = absurd (some refl)
+
+tests_fault_is : (name : List ℕ) (e : TestErr) (r : Refusal) → e ≢ tests.Memory → r ≡ tests_fault name e → IsFault r
+tests_fault_is name (tests.NotUtf8 at) r some is = is_fault _ _ _ r is
+tests_fault_is name (tests.BadLine line) r some is = is_fault _ _ _ r is
+tests_fault_is name tests.Memory r some is = absurd (some refl)
+
+-- commands
+pub command_fault : (command : Command) (request : Request) (handed files : List (List ℕ)) (r : Refusal)
+    → (command_stage command request handed files).refuses r → IsFault r
+command_fault Check request handed files r (inl is) = rules_fault request.properties request.ignored handed _ r is
+command_fault Check request handed files r (inr (rules, mean, never)) = absurd never
+command_fault Compile request handed files r (inl is) = compiled_fault request.properties request.ignored handed _ r is
+command_fault Compile request handed files r (inr (rules, mean, never)) = absurd never
+command_fault Breaks request handed files r (inl is) = basis_fault request.properties request.ignored request.by_table handed _ r is
+command_fault Breaks request handed files r (inr (basis, passed, inl is)) = text_fault _ _ r is
+command_fault Breaks request handed files r (inr (basis, passed, inr (x, taken, never))) = absurd never
+command_fault Run request handed files r (inl is) = basis_fault request.properties request.ignored request.by_table handed _ r is
+command_fault Run request handed files r (inr (basis, passed, inl is)) = text_fault _ _ r is
+command_fault Run request handed files r (inr (basis, passed, inr (x, taken, inl is))) = script_fault_is _ is.error r is.not_memory is.is
+command_fault Run request handed files r (inr (basis, passed, inr (x, taken, inr (commands, read, never)))) = absurd never
+command_fault Conform request handed files r (inl is) = basis_fault request.properties request.ignored request.by_table handed _ r is
+command_fault Conform request handed files r (inr (basis, passed, inl is)) = tests_fault_is _ is.error r is.not_memory is.is
+command_fault Conform request handed files r (inr (basis, passed, inr (tests, read, never))) = absurd never

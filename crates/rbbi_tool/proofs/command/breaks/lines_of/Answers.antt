@@ -1,0 +1,40 @@
+use Rattle.std.proofs.Common.{◌≡◌, ◌<◌, ◌++◌, length, sym, ap, ◌∙◌, subst, arith}
+use Rattle.rbbi_model.specs.Boundaries.{Boundary, start}
+use Rattle.rbbi_model.specs.Lines.{boundary_line}
+use Rattle.rbbi_model.specs.Tables.{statuses_of}
+use Rattle.rbbi_model.specs.Searches.{next_boundary}
+use Rattle.rbbi_tool.proofs.Listing.{found_within, listed_start, listed_more, all_listed}
+use Rattle.rbbi_tool.proofs.command.breaks.lines_of.Goals as goal
+
+pub loop-at-init : goal.loop-at-init
+loop-at-init g c = record {
+  listed = listed_start c.args.table.now c.args.text.now c.say_bound.new.reply.items
+      (c.in_ok-say_bound.ensures ∙ ap (λ l. l ++ boundary_line start) c.new-lines.ensures.items);
+  fit = c.in_ok-marks.ensures;
+}
+
+pub status_list-requires : goal.status_list-requires
+status_list-requires g c =
+    subst (λ n. n < length c.args.table.now.lists) (sym c.next-found.ensures.status)
+    (found_within c.args.table.now c.valid.ensures c.args.text.now c.loop-at.at)
+
+pub loop-at-preserved : goal.loop-at-preserved
+loop-at-preserved g c =
+    let table = c.args.table.now in
+    let x = c.args.text.now in
+    let inside : c.loop-at.at < length x = omega (arith, c.loop-at-test.true, c.len.ensures.exact) in
+    let found : record { at = c.next-found.result.at; statuses = c.status_list.result.now } ≡ next_boundary table x c.loop-at.at = λ i. record {
+      at = c.next-found.ensures.at i;
+      statuses = (c.status_list.ensures ∙ ap (statuses_of table) c.next-found.ensures.status) i;
+    } in
+    record {
+      listed = listed_more table x c.loop-at.lines.items c.say_bound-in-loop-at.new.reply.items c.loop-at.at c.next-found.result.at c.loop-at.invariant.listed
+          inside (c.next_boundary_is_past_the_start.ensures table x c.loop-at.at inside) c.next-found.ensures.at
+          (c.in_ok-say_bound-2.ensures ∙ ap (λ b. c.loop-at.lines.items ++ boundary_line b) found);
+      fit = c.next-found.ensures.fit ∙ c.loop-at.invariant.fit;
+    }
+
+pub returns : goal.returns
+returns g c =
+    all_listed c.args.table.now c.args.text.now c.loop-at.lines.items c.loop-at.at c.loop-at.invariant.listed
+    (omega (arith, c.loop-at-test.false, c.len.ensures.exact))

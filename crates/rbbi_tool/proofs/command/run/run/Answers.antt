@@ -1,0 +1,43 @@
+use Rattle.std.proofs.Common.{inl, inr, ⊎_elim, map, ap, ◌∙◌}
+use Rattle.std.proofs.lemmas.Result.{err_from_is_err_and}
+use Rattle.rbbi_model.specs.Scripts.{table_replies}
+use Rattle.rbbi_model.specs.Lines.{all_reply_lines}
+use Rattle.rbbi_script.specs.Meaning.{meaning}
+use Rattle.rbbi_tool.specs.Refusals.{printed}
+use Rattle.rbbi_tool.proofs.Replies.{replies_given}
+use Rattle.rbbi_tool.proofs.command.run.run.Goals as goal
+
+pub returns-in_err-text : goal.returns-in_err-text
+returns-in_err-text g c =
+    let p = err_from_is_err_and c.from_residual-in_err-text.result c.from_residual-in_err-text.ensures.1 in
+    let basis = c.in_ok-table.ensures in
+    rw (p.1, p.2) (⊎_elim inl (λ is. inr (inr (basis.0, basis.1, inl is))) c.in_err-text.ensures.exact)
+
+pub returns-in_err-commands : goal.returns-in_err-commands
+returns-in_err-commands g c =
+    let p = err_from_is_err_and c.from_residual-in_err-commands.result c.from_residual-in_err-commands.ensures.1 in
+    let basis = c.in_ok-table.ensures in
+    rw (p.1, p.2) (⊎_elim inl (λ is. inr (inr (basis.0, basis.1, inr (c.in_ok-text.text, c.in_ok-text.ensures.exact, inl is)))) c.in_err-commands.ensures)
+
+pub returns : goal.returns
+returns g c =
+    let basis = c.in_ok-table.ensures in
+    let table = c.in_ok-table.table in
+    let x = c.in_ok-text.text in
+    let commands = map meaning c.in_ok-commands.commands in (
+      basis.0,
+      basis.1,
+      (
+        x,
+        c.in_ok-text.ensures.exact,
+        (
+          commands,
+          c.in_ok-commands.ensures,
+          (
+            table_replies table x commands,
+            replies_given basis.0 table x commands c.table_replies_are_those_of_the_rules.ensures basis.2 c.in_ok-text.ensures.text c.insert_texts.ensures,
+            c.printed.ensures ∙ ap printed c.in_ok-replies.ensures,
+          ),
+        ),
+      ),
+    )

@@ -1,0 +1,162 @@
+use Rattle.std.proofs.Common.{◌≡◌, ◌<◌, length, take, drop, ap, ◌∙◌, arith}
+use Rattle.std.specs.String.{string_bytes}
+use Rattle.std.proofs.lemmas.List.{length-map}
+use Rattle.rbbi_tool.specs.Requests.{asked_by}
+use Rattle.rbbi_tool.specs.Words.{operands_of}
+use Rattle.rbbi_tool.proofs.Sizes.{handed_fit, handed_are, file_short, files_behind, read_by, some_files}
+use Rattle.rbbi_tool.proofs.Commands.{check_answers, compile_answers, breaks_answers, run_answers, conform_answers}
+use Rattle.rbbi_tool.proofs.output.output_of.Goals as goal
+
+pub split_at-requires : goal.split_at-requires
+split_at-requires g c = omega (arith, c.len.ensures, handed_fit (asked_by c.args.request.now) c.args.files.now c.requires.within)
+
+pub file-source-requires : goal.file-source-requires
+file-source-requires g c =
+    let request = asked_by c.args.request.now in
+    let count = length-map c.args.request.now.operands.now string_bytes ∙ c.requires.count in
+    let same : c.len.result ≡ length c.args.request.now.options.properties.items = omega (arith, c.len.ensures) in
+    let many = files_behind request c.args.files.now c.requires.within c.len.result c.split_at.result.1.now count c.split_at.ensures.back same in
+    omega (arith, many, some_files c.args.request.now.command)
+
+pub file-text-requires : goal.file-text-requires
+file-text-requires g c =
+    let request = asked_by c.args.request.now in
+    let count = length-map c.args.request.now.operands.now string_bytes ∙ c.requires.count in
+    let same : c.len.result ≡ length c.args.request.now.options.properties.items = omega (arith, c.len.ensures) in
+    let many = files_behind request c.args.files.now c.requires.within c.len.result c.split_at.result.1.now count c.split_at.ensures.back same in
+    omega (arith, many, ap read_by c.in-Breaks.is)
+
+pub check-requires-clause-handed : goal.check-requires-clause-handed
+check-requires-clause-handed g c =
+    let same : c.len.result ≡ length c.args.request.now.options.properties.items = omega (arith, c.len.ensures) in
+    handed_are (asked_by c.args.request.now) c.args.files.now c.requires.within c.len.result c.split_at.result.0.now c.split_at.ensures.front same
+
+pub check-requires-clause-short : goal.check-requires-clause-short
+check-requires-clause-short g c =
+    file_short (asked_by c.args.request.now) c.args.files.now c.requires.within c.len.result 0 c.split_at.result.1.now c.file-source.result.now
+    c.split_at.ensures.back c.file-source.ensures
+
+pub returns-in-Check : goal.returns-in-Check
+returns-in-Check g c =
+    let files = c.args.files.now in
+    let same : c.len.result ≡ length c.args.request.now.options.properties.items = omega (arith, c.len.ensures) in
+    check_answers (asked_by c.args.request.now) files c.split_at.result.0.now c.split_at.result.1.now c.file-source.result.now c.check.result
+    (c.split_at.ensures.front ∙ ap (λ n. take n files) same) (c.split_at.ensures.back ∙ ap (λ n. drop n files) same)
+    c.file-source.ensures c.in-Check.is c.check.ensures
+
+pub compile-requires-clause-handed : goal.compile-requires-clause-handed
+compile-requires-clause-handed g c =
+    let same : c.len.result ≡ length c.args.request.now.options.properties.items = omega (arith, c.len.ensures) in
+    handed_are (asked_by c.args.request.now) c.args.files.now c.requires.within c.len.result c.split_at.result.0.now c.split_at.ensures.front same
+
+pub compile-requires-clause-short : goal.compile-requires-clause-short
+compile-requires-clause-short g c =
+    file_short (asked_by c.args.request.now) c.args.files.now c.requires.within c.len.result 0 c.split_at.result.1.now c.file-source.result.now
+    c.split_at.ensures.back c.file-source.ensures
+
+pub returns-in-Compile : goal.returns-in-Compile
+returns-in-Compile g c =
+    let files = c.args.files.now in
+    let same : c.len.result ≡ length c.args.request.now.options.properties.items = omega (arith, c.len.ensures) in
+    compile_answers (asked_by c.args.request.now) files c.split_at.result.0.now c.split_at.result.1.now c.file-source.result.now c.compile.result
+    (c.split_at.ensures.front ∙ ap (λ n. take n files) same) (c.split_at.ensures.back ∙ ap (λ n. drop n files) same)
+    c.file-source.ensures c.word-table_name.result.now c.word-table_name.ensures c.in-Compile.is c.compile.ensures
+
+pub breaks-requires-clause-handed : goal.breaks-requires-clause-handed
+breaks-requires-clause-handed g c =
+    let same : c.len.result ≡ length c.args.request.now.options.properties.items = omega (arith, c.len.ensures) in
+    handed_are (asked_by c.args.request.now) c.args.files.now c.requires.within c.len.result c.split_at.result.0.now c.split_at.ensures.front same
+
+pub breaks-requires-clause-source : goal.breaks-requires-clause-source
+breaks-requires-clause-source g c =
+    file_short (asked_by c.args.request.now) c.args.files.now c.requires.within c.len.result 0 c.split_at.result.1.now c.file-source.result.now
+    c.split_at.ensures.back c.file-source.ensures
+
+pub breaks-requires-clause-text : goal.breaks-requires-clause-text
+breaks-requires-clause-text g c =
+    file_short (asked_by c.args.request.now) c.args.files.now c.requires.within c.len.result 1 c.split_at.result.1.now c.file-text.result.now
+    c.split_at.ensures.back c.file-text.ensures
+
+pub returns-in-Breaks : goal.returns-in-Breaks
+returns-in-Breaks g c =
+    let files = c.args.files.now in
+    let same : c.len.result ≡ length c.args.request.now.options.properties.items = omega (arith, c.len.ensures) in
+    breaks_answers (asked_by c.args.request.now) files c.split_at.result.0.now c.split_at.result.1.now c.file-source.result.now c.breaks.result
+    (c.split_at.ensures.front ∙ ap (λ n. take n files) same) (c.split_at.ensures.back ∙ ap (λ n. drop n files) same)
+    c.file-source.ensures c.word-text_name.result.now c.file-text.result.now c.word-text_name.ensures c.file-text.ensures c.in-Breaks.is c.breaks.ensures
+
+pub file-played-requires : goal.file-played-requires
+file-played-requires g c =
+    let request = asked_by c.args.request.now in
+    let count = length-map c.args.request.now.operands.now string_bytes ∙ c.requires.count in
+    let same : c.len.result ≡ length c.args.request.now.options.properties.items = omega (arith, c.len.ensures) in
+    let many = files_behind request c.args.files.now c.requires.within c.len.result c.split_at.result.1.now count c.split_at.ensures.back same in
+    omega (arith, many, ap read_by c.in-Run.is)
+
+pub file-script-requires : goal.file-script-requires
+file-script-requires g c =
+    let request = asked_by c.args.request.now in
+    let count = length-map c.args.request.now.operands.now string_bytes ∙ c.requires.count in
+    let same : c.len.result ≡ length c.args.request.now.options.properties.items = omega (arith, c.len.ensures) in
+    let many = files_behind request c.args.files.now c.requires.within c.len.result c.split_at.result.1.now count c.split_at.ensures.back same in
+    omega (arith, many, ap read_by c.in-Run.is)
+
+pub file-tests-requires : goal.file-tests-requires
+file-tests-requires g c =
+    let request = asked_by c.args.request.now in
+    let count = length-map c.args.request.now.operands.now string_bytes ∙ c.requires.count in
+    let same : c.len.result ≡ length c.args.request.now.options.properties.items = omega (arith, c.len.ensures) in
+    let many = files_behind request c.args.files.now c.requires.within c.len.result c.split_at.result.1.now count c.split_at.ensures.back same in
+    omega (arith, many, ap read_by c.in-Conform.is)
+
+pub run-requires-clause-handed : goal.run-requires-clause-handed
+run-requires-clause-handed g c =
+    let same : c.len.result ≡ length c.args.request.now.options.properties.items = omega (arith, c.len.ensures) in
+    handed_are (asked_by c.args.request.now) c.args.files.now c.requires.within c.len.result c.split_at.result.0.now c.split_at.ensures.front same
+
+pub run-requires-clause-source : goal.run-requires-clause-source
+run-requires-clause-source g c =
+    file_short (asked_by c.args.request.now) c.args.files.now c.requires.within c.len.result 0 c.split_at.result.1.now c.file-source.result.now
+    c.split_at.ensures.back c.file-source.ensures
+
+pub run-requires-clause-text : goal.run-requires-clause-text
+run-requires-clause-text g c =
+    file_short (asked_by c.args.request.now) c.args.files.now c.requires.within c.len.result 1 c.split_at.result.1.now c.file-played.result.now
+    c.split_at.ensures.back c.file-played.ensures
+
+pub run-requires-clause-script : goal.run-requires-clause-script
+run-requires-clause-script g c =
+    file_short (asked_by c.args.request.now) c.args.files.now c.requires.within c.len.result 2 c.split_at.result.1.now c.file-script.result.now
+    c.split_at.ensures.back c.file-script.ensures
+
+pub returns-in-Run : goal.returns-in-Run
+returns-in-Run g c =
+    let files = c.args.files.now in
+    let same : c.len.result ≡ length c.args.request.now.options.properties.items = omega (arith, c.len.ensures) in
+    run_answers (asked_by c.args.request.now) files c.split_at.result.0.now c.split_at.result.1.now c.file-source.result.now c.run.result
+    (c.split_at.ensures.front ∙ ap (λ n. take n files) same) (c.split_at.ensures.back ∙ ap (λ n. drop n files) same)
+    c.file-source.ensures c.word-played_name.result.now c.file-played.result.now c.word-script_name.result.now
+    c.file-script.result.now c.word-played_name.ensures c.file-played.ensures c.word-script_name.ensures c.file-script.ensures c.in-Run.is c.run.ensures
+
+pub conform-requires-clause-handed : goal.conform-requires-clause-handed
+conform-requires-clause-handed g c =
+    let same : c.len.result ≡ length c.args.request.now.options.properties.items = omega (arith, c.len.ensures) in
+    handed_are (asked_by c.args.request.now) c.args.files.now c.requires.within c.len.result c.split_at.result.0.now c.split_at.ensures.front same
+
+pub conform-requires-clause-source : goal.conform-requires-clause-source
+conform-requires-clause-source g c =
+    file_short (asked_by c.args.request.now) c.args.files.now c.requires.within c.len.result 0 c.split_at.result.1.now c.file-source.result.now
+    c.split_at.ensures.back c.file-source.ensures
+
+pub conform-requires-clause-tests : goal.conform-requires-clause-tests
+conform-requires-clause-tests g c =
+    file_short (asked_by c.args.request.now) c.args.files.now c.requires.within c.len.result 1 c.split_at.result.1.now c.file-tests.result.now
+    c.split_at.ensures.back c.file-tests.ensures
+
+pub returns-in-Conform : goal.returns-in-Conform
+returns-in-Conform g c =
+    let files = c.args.files.now in
+    let same : c.len.result ≡ length c.args.request.now.options.properties.items = omega (arith, c.len.ensures) in
+    conform_answers (asked_by c.args.request.now) files c.split_at.result.0.now c.split_at.result.1.now c.file-source.result.now c.conform.result
+    (c.split_at.ensures.front ∙ ap (λ n. take n files) same) (c.split_at.ensures.back ∙ ap (λ n. drop n files) same)
+    c.file-source.ensures c.word-tests_name.result.now c.file-tests.result.now c.word-tests_name.ensures c.file-tests.ensures c.in-Conform.is c.conform.ensures

@@ -1,0 +1,27 @@
+use Rattle.std.proofs.Common.{◌<◌, length, arith, inl, inr, ⊎_elim}
+use Rattle.std.proofs.lemmas.Result.{err_from_is_err_and}
+use Rattle.rbbi_tool.proofs.Handing.{handing_ends, handing_more, handed_none, all_handed, all_files}
+use Rattle.rbbi_tool.proofs.properties.properties_of.Goals as goal
+
+pub loop-i-init : goal.loop-i-init
+loop-i-init g c = handed_none c.args.properties.now c.args.handed.now c.new-table.result c.new-table.ensures
+
+pub returns-in_err-add-clause-exact : goal.returns-in_err-add-clause-exact
+returns-in_err-add-clause-exact g c =
+    let p = err_from_is_err_and c.from_residual.result c.from_residual.ensures.1 in
+    let inside : c.loop-i.i < length c.args.handed.now = omega (arith, c.requires.many, c.loop-i-test.true) in
+    rw (p.1, p.2) (⊎_elim inl
+    (λ is. inr (handing_ends c.loop-i.invariant c.index-properties-i.result c.index-handed-i.result c.loop-i-test.true inside c.index-properties-i.is
+    c.index-handed-i.is c.in_err-add.field-0.0 is)) c.in_err-add.ensures.exact)
+
+pub loop-i-preserved : goal.loop-i-preserved
+loop-i-preserved g c =
+    let inside : c.loop-i.i < length c.args.handed.now = omega (arith, c.requires.many, c.loop-i-test.true) in
+    handing_more c.loop-i.invariant c.index-properties-i.result c.index-handed-i.result c.loop-i-test.true inside c.index-properties-i.is
+    c.index-handed-i.is c.add.new.table c.in_ok-add.ensures.exact c.in_ok-add.ensures.added
+
+pub returns-clause-exact : goal.returns-clause-exact
+returns-clause-exact g c = all_handed c.loop-i.invariant c.loop-i-test.false
+
+pub returns-clause-files : goal.returns-clause-files
+returns-clause-files g c = all_files c.loop-i.invariant c.loop-i-test.false

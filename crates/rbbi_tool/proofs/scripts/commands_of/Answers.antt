@@ -1,0 +1,21 @@
+use Rattle.std.proofs.Common.{inl, inr, ⊎_elim, subst, refl}
+use Rattle.std.specs.Prelude.{Ok, Err}
+use Rattle.rbbi_script.specs.Files.{ReadsScript}
+use Rattle.rbbi_tool.proofs.scripts.commands_of.Goals as goal
+
+pub returns-in-Ok : goal.returns-in-Ok
+returns-in-Ok g c = record {
+  written = c.in-Ok.commands;
+  read = subst (λ b. ReadsScript b (Ok c.in-Ok.commands)) c.bytes.ensures.bytes c.in-Ok.ensures;
+  mean = refl;
+}
+
+pub returns-in-Err : goal.returns-in-Err
+returns-in-Err g c =
+    ⊎_elim inl
+    (λ (some, is). inr (record {
+      error = c.in-Err.error;
+      refused = subst (λ b. ReadsScript b (Err c.in-Err.error)) c.bytes.ensures.bytes c.in-Err.ensures;
+      not_memory = some;
+      is = is;
+    })) c.script_refusal.ensures

@@ -1,0 +1,29 @@
+-- What `run` answers.
+use Rattle.std.specs.Prelude.{◌≡◌, ℕ, Bool, List}
+use Rattle.rbbi_model.specs.Answers.{Reply}
+use Rattle.rbbi_model.specs.Scripts.{Command, AreReplies, table_replies}
+use Rattle.rbbi_model.specs.Lines.{all_reply_lines}
+use Rattle.rbbi_tool.specs.declared.words.setting.Property.{Property}
+use Rattle.rbbi_tool.specs.Stages.{Stage, followed_by}
+use Rattle.rbbi_tool.specs.Refusals.{Outcome, printed}
+use Rattle.rbbi_tool.specs.Texts.{text_stage}
+use Rattle.rbbi_tool.specs.Scripts.{script_stage}
+use Rattle.rbbi_tool.specs.Basis.{Basis, ByRules, ByTable, basis_stage}
+
+-- these are the replies to the commands over the text, which the commands edit
+abbrev pub AreRepliesFrom : Basis → List ℕ → List Command → List Reply → Type 0
+AreRepliesFrom (ByRules rules) x commands replies = AreReplies rules x commands replies
+AreRepliesFrom (ByTable table) x commands replies = replies ≡ table_replies table x commands
+
+-- the lines of the replies
+abbrev pub replies_stage : Basis → List ℕ → List Command → Stage Outcome
+replies_stage basis x commands = record {
+  passes = λ outcome. (replies : List Reply) × AreRepliesFrom basis x commands replies × (outcome ≡ printed (all_reply_lines replies));
+  refuses = λ _. ⊥;
+}
+
+-- the replies to a script, over a text file of this name, by a rule file or a table file
+abbrev pub play_stage : List Property → Bool → Bool → List (List ℕ) → List ℕ → List ℕ → List ℕ → List ℕ → List ℕ → Stage Outcome
+play_stage properties ignored by_table handed source name text script_name script =
+    followed_by (basis_stage properties ignored by_table handed source)
+    (λ basis. followed_by (text_stage name text) (λ x. followed_by (script_stage script_name script) (replies_stage basis x)))

@@ -1,0 +1,43 @@
+-- From the bytes of property files to their rows.
+use Rattle.std.specs.Prelude.{◌≡◌, ℕ, List, [], ◌∷◌, length, codes, IsUtf8}
+use Rattle.rbbi_text.specs.Bytes.{file_lines}
+use Rattle.rbbi_props.specs.Rows as rows
+use Rattle.rbbi_props.specs.Files.{file_of}
+use Rattle.rbbi_props.specs.Refusals.{HasRowsAlone, IsBadRow}
+use Rattle.rbbi_tool.specs.declared.words.setting.Property.{Property}
+use Rattle.rbbi_tool.specs.declared.refusal.Subject.TheVariants.{File}
+use Rattle.rbbi_tool.specs.declared.refusal.Place.TheVariants.{Row}
+use Rattle.rbbi_tool.specs.declared.refusal.Refusal.{Refusal}
+use Rattle.rbbi_tool.specs.declared.refusal.Refusal.TheVariants.{Fault}
+use Rattle.rbbi_tool.specs.Stages.{Stage, followed_by}
+use Rattle.rbbi_tool.specs.Reads.{AreShort}
+use Rattle.rbbi_tool.specs.Texts.{checked_utf8_stage}
+
+-- the bytes of a property file of this name are lines that are skipped and rows, or the first bad row is told
+abbrev pub rows_stage : List ℕ → List ℕ → Stage (Unit {0})
+rows_stage name bytes = record {
+  passes = λ _. HasRowsAlone bytes;
+  refuses = λ refusal. (line : ℕ) × IsBadRow (file_lines bytes) line × (refusal ≡ Fault (File name) (codes "BadRow") (Row line));
+}
+
+-- the bytes of a property file: UTF-8, and then its rows
+abbrev pub property_stage : List ℕ → List ℕ → Stage (Unit {0})
+property_stage name bytes = followed_by (checked_utf8_stage (File name) bytes) (λ _. rows_stage name bytes)
+
+-- the bytes of the property files, each in order
+abbrev pub properties_stage : List Property → List (List ℕ) → Stage (Unit {0})
+properties_stage [] handed = record { passes = λ _. Unit {0}; refuses = λ _. ⊥ }
+properties_stage (property ∷ properties) [] = record { passes = λ _. Unit {0}; refuses = λ _. ⊥ }
+properties_stage (property ∷ properties) (bytes ∷ handed) =
+    followed_by (property_stage property.file bytes) (λ _. properties_stage properties handed)
+
+-- the property files under the names of their properties
+abbrev pub property_files : List Property → List (List ℕ) → List rows.File
+property_files [] handed = []
+property_files (property ∷ properties) [] = []
+property_files (property ∷ properties) (bytes ∷ handed) = file_of property.name bytes ∷ property_files properties handed
+
+-- there are the bytes of each property file, and none has more than are read at once
+pub record AreHanded (properties : List Property) (handed : List (List ℕ)) : Type 0 where
+  pub many : length handed ≡ length properties
+  pub short : AreShort handed

@@ -1,0 +1,116 @@
+//! The table that the boundaries of a text come by: compiled from a rule file, or read from a table
+//! file.
+ghost use Rattle.std.specs.Prelude.{◌≡◌, ◌≤◌, length, IfOk};
+ghost use Rattle.rbbi_text.specs.Bytes.{most_bytes};
+ghost use Rattle.rbbi_model.specs.Rules.{AreLawful};
+ghost use Rattle.rbbi_model.specs.Compiled.{AreClasses, IsCompiled};
+ghost use Rattle.rbbi_model.specs.ValidTables.{AreValidRanges};
+ghost use Rattle.rbbi_resolve.specs.RuleLists.{rules_of};
+ghost use Rattle.rbbi_tool.specs.Stages.{Meets, Serves};
+ghost use Rattle.rbbi_tool.specs.Properties.{AreHanded};
+ghost use Rattle.rbbi_tool.specs.Basis as spec;
+
+use crate::refusal::{Place, Refusal, Subject, fault};
+use crate::rules::rules_from;
+use crate::words::Options;
+use rbbi_cats::{Categories, CatsErr};
+use rbbi_dfa::BuildErr;
+use rbbi_file::FileErr;
+use rbbi_resolve::Rules;
+use rbbi_table::Table;
+use rbbi_text::{Raw, Steps};
+use std::alloc::Global;
+use std::sync::ledger::Ledger;
+
+/// The categories of the rules.
+fn categories_of(alloc: Global, rules: &Rules) -> Result<Categories, Refusal>
+    requires { AreLawful (rules_of rules.now) }
+    ensures exact { Meets (λ _. tt) (spec.categories_stage (rules_of rules.now)) result }
+    ensures classes { IfOk result (λ cats.
+        AreClasses (rules_of rules.now) cats.count cats.ranges) }
+    ensures form { IfOk result (λ cats. AreValidRanges cats.count cats.ranges) }
+{
+    match rbbi_cats::partition(alloc, rules) {
+        Ok(cats) => Ok(cats),
+        Err(CatsErr::TooManyCategories) => Err(fault(
+            alloc,
+            Subject::Rules,
+            "TooManyCategories",
+            Place::Whole,
+        )),
+        Err(CatsErr::Memory) => Err(Refusal::Memory),
+    }
+}
+
+/// The table of rules with these categories.
+fn built(alloc: Global, rules: &Rules, cats: &Categories) -> Result<Table, Refusal>
+    requires lawful { AreLawful (rules_of rules.now) }
+    requires classes { AreClasses (rules_of rules.now) cats.now.count cats.now.ranges }
+    requires form { AreValidRanges cats.now.count cats.now.ranges }
+    ensures exact { Meets (λ _. tt) (spec.sizes_stage (rules_of rules.now)) result }
+    ensures compiled { IfOk result (λ table. IsCompiled table (rules_of rules.now)) }
+{
+    let positions = rbbi_positions::positions(alloc, rules, cats)?;
+    match rbbi_dfa::build(alloc, &positions, cats) {
+        Ok(table) => Ok(table),
+        Err(BuildErr::Memory) => Err(Refusal::Memory),
+        Err(error) => Err(fault(alloc, Subject::Rules, error.label(), Place::Whole)),
+    }
+}
+
+/// The table of a rule file. Its fault is the first of the property files, of the rule file, of the
+/// number of its categories, and of the size of its table.
+pub(crate) fn compiled<L: Ledger>(
+    alloc: Global,
+    options: &Options,
+    handed: &[Raw],
+    bytes: &Raw,
+    steps: &mut Steps<L>,
+) -> Result<Table, Refusal>
+    requires handed { AreHanded options.now.properties.items handed.now }
+    requires short { length bytes.now ≤ most_bytes }
+    ensures { Serves IsCompiled (spec.compiled_stage options.now.properties.items
+        options.now.ignored handed.now bytes.now) result }
+{
+    let rules = rules_from(alloc, options, handed, bytes, steps)?;
+    let cats = categories_of(alloc, &rules)?;
+    built(alloc, &rules, &cats)
+}
+
+/// The table that the bytes of a table file spell.
+fn read(alloc: Global, bytes: &[u8]) -> Result<Table, Refusal>
+    requires { length bytes.now ≤ most_bytes }
+    ensures { Meets (λ table. table) (spec.table_stage bytes.now) result }
+{
+    match rbbi_file::read_table(alloc, bytes) {
+        Ok(table) => Ok(table),
+        Err(FileErr::Memory) => Err(Refusal::Memory),
+        Err(error) => {
+            let place = match error.place() {
+                Some(at) => Place::Byte(at),
+                None => Place::Whole,
+            };
+            Err(fault(alloc, Subject::Table, error.label(), place))
+        }
+    }
+}
+
+/// The table that boundaries come by: read from a table file, or compiled from a rule file.
+pub(crate) fn basis<L: Ledger>(
+    alloc: Global,
+    options: &Options,
+    handed: &[Raw],
+    bytes: &Raw,
+    steps: &mut Steps<L>,
+) -> Result<Table, Refusal>
+    requires handed { AreHanded options.now.properties.items handed.now }
+    requires short { length bytes.now ≤ most_bytes }
+    ensures { Serves spec.GivesThem (spec.basis_stage options.now.properties.items
+        options.now.ignored options.now.by_table handed.now bytes.now) result }
+{
+    if options.by_table {
+        return read(alloc, bytes.bytes(steps));
+    }
+    rbbi_model::same_marks_give_the_boundaries();
+    compiled(alloc, options, handed, bytes, steps)
+}

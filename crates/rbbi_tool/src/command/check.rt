@@ -1,0 +1,60 @@
+//! The command `check`.
+ghost use Rattle.std.specs.Prelude.{◌≡◌, ◌≤◌, length, IfOk};
+ghost use Rattle.rbbi_text.specs.Bytes.{most_bytes};
+ghost use Rattle.rbbi_resolve.specs.RuleLists.{rules_of};
+ghost use Rattle.rbbi_tool.specs.Stages.{Meets};
+ghost use Rattle.rbbi_tool.specs.Properties.{AreHanded};
+ghost use Rattle.rbbi_tool.specs.Command.Check as spec;
+
+use super::Output;
+use crate::lines::joined;
+use crate::refusal::Refusal;
+use crate::rules::rules_from;
+use crate::words::Options;
+use itoa::Buffer;
+use rbbi_resolve::Rules;
+use rbbi_text::{Raw, Steps};
+use std::alloc::{AllocError, Global};
+use std::sync::ledger::Ledger;
+
+/// The line of the counts of rules.
+fn counts_line(alloc: Global, rules: &Rules) -> Result<Vec<u8>, AllocError>
+    ensures { IfOk result (λ line. line.items ≡ spec.counts_line (rules_of rules.now)) }
+{
+    let mut count = Buffer::new();
+    let mut slashes = Buffer::new();
+    let mut leaves = Buffer::new();
+    let count = count.format(rules.len()).as_bytes();
+    let slashes = slashes.format(rules.slashes()).as_bytes();
+    let leaves = leaves.format(rules.leaves()).as_bytes();
+    joined(
+        alloc,
+        &[
+            b"rules ",
+            count,
+            b" slashes ",
+            slashes,
+            b" leaves ",
+            leaves,
+            b"\n",
+        ],
+    )
+}
+
+/// The counts of the rules of a rule file.
+pub(crate) fn check<L: Ledger>(
+    alloc: Global,
+    options: &Options,
+    handed: &[Raw],
+    rules: &Raw,
+    steps: &mut Steps<L>,
+) -> Result<Output, Refusal>
+    requires handed { AreHanded options.now.properties.items handed.now }
+    requires short { length rules.now ≤ most_bytes }
+    ensures { Meets (λ output. output) (spec.check_stage options.now.properties.items
+        options.now.ignored handed.now rules.now) result }
+{
+    let rules = rules_from(alloc, options, handed, rules, steps)?;
+    let bytes = counts_line(alloc, &rules)?;
+    Ok(Output::printed(bytes))
+}

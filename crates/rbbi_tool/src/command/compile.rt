@@ -1,0 +1,76 @@
+//! The command `compile`.
+ghost use Rattle.std.specs.Prelude.{◌≡◌, ◌≤◌, length, IfOk};
+ghost use Rattle.rbbi_text.specs.Bytes.{most_bytes};
+ghost use Rattle.rbbi_model.specs.Lines.{compile_line};
+ghost use Rattle.rbbi_tool.specs.Stages.{Meets};
+ghost use Rattle.rbbi_tool.specs.Properties.{AreHanded};
+ghost use Rattle.rbbi_tool.specs.Command.Compile.{compile_stage};
+
+use super::{Output, Written};
+use crate::basis::compiled;
+use crate::lines::joined;
+use crate::name::Name;
+use crate::refusal::Refusal;
+use crate::words::Options;
+use itoa::Buffer;
+use rbbi_table::Table;
+use rbbi_text::{Raw, Steps};
+use std::alloc::{AllocError, Global};
+use std::sync::ledger::Ledger;
+
+/// The line of a table's numbers.
+fn numbers_line(alloc: Global, table: &Table) -> Result<Vec<u8>, AllocError>
+    ensures { IfOk result (λ line. line.items ≡ compile_line table.now) }
+{
+    let mut categories = Buffer::new();
+    let mut rows = Buffer::new();
+    let mut lists = Buffer::new();
+    let mut slashes = Buffer::new();
+    let mut safe = Buffer::new();
+    let categories = categories.format(table.categories()).as_bytes();
+    let rows = rows.format(table.rows()).as_bytes();
+    let lists = lists.format(table.lists()).as_bytes();
+    let slashes = slashes.format(table.slashes()).as_bytes();
+    let safe = safe.format(table.safe_count()).as_bytes();
+    joined(
+        alloc,
+        &[
+            b"categories ",
+            categories,
+            b" rows ",
+            rows,
+            b" lists ",
+            lists,
+            b" slashes ",
+            slashes,
+            b" safe ",
+            safe,
+            b"\n",
+        ],
+    )
+}
+
+/// The table file of a rule file, under this name, and the line of the table's numbers.
+pub(crate) fn compile<L: Ledger>(
+    alloc: Global,
+    options: &Options,
+    handed: &[Raw],
+    rules: &Raw,
+    name: &str,
+    steps: &mut Steps<L>,
+) -> Result<Output, Refusal>
+    requires handed { AreHanded options.now.properties.items handed.now }
+    requires short { length rules.now ≤ most_bytes }
+    ensures { Meets (λ output. output) (compile_stage options.now.properties.items
+        options.now.ignored handed.now rules.now name.now) result }
+{
+    let table = compiled(alloc, options, handed, rules, steps)?;
+    let name = Name::new(alloc, name)?;
+    let bytes = rbbi_file::write_table(alloc, &table)?;
+    let line = numbers_line(alloc, &table)?;
+    Ok(Output {
+        status: 0,
+        bytes: line,
+        file: Some(Written { name, bytes }),
+    })
+}

@@ -1,0 +1,153 @@
+//! The command `conform`.
+ghost use Rattle.std.specs.Prelude.{◌≡◌, ◌≤◌, ◌<◌, ◌+◌, ◌-◌, ◌^◌, ◌++◌, ◌==◌, if◌then◌else◌, length, None, IfOk, OnOk};
+ghost use Rattle.rbbi_text.specs.Bytes.{most_bytes};
+ghost use Rattle.rbbi_model.specs.Lines.{differs_line, verdicts_line};
+ghost use Rattle.rbbi_tool.specs.Stages.{Meets};
+ghost use Rattle.rbbi_tool.specs.Properties.{AreHanded};
+ghost use Rattle.rbbi_tool.specs.Judging.{TellsVerdicts};
+ghost use Rattle.rbbi_tool.specs.Command.Conform as spec;
+
+use super::Output;
+use crate::basis::basis;
+use crate::lines::joined;
+use crate::refusal::Refusal;
+use crate::scripts::tests_of;
+use crate::words::Options;
+use itoa::Buffer;
+use rbbi_conform::{Test, Tests, Verdict, judge};
+use rbbi_table::{Marks, Table};
+use rbbi_text::{Chars, Raw, Steps};
+use std::alloc::{AllocError, Global};
+use std::sync::ledger::Ledger;
+
+/// What is told of tests: a line for each that differs, and how many pass and differ.
+#[derive(Debug, Drop)]
+struct Report {
+    lines: Vec<u8>,
+    passed: usize,
+    failed: usize,
+}
+
+/// The line of a test that differs first at a place.
+fn line_of(alloc: Global, test: &Test, place: u32) -> Result<Vec<u8>, AllocError>
+    ensures { IfOk result (λ line. line.items ≡ differs_line test.now.line place) }
+{
+    let mut row = Buffer::new();
+    let mut at = Buffer::new();
+    let row = row.format(test.line()).as_bytes();
+    let at = at.format(place).as_bytes();
+    joined(alloc, &[b"line ", row, b" place ", at, b"\n"])
+}
+
+/// Adds a test with its verdict.
+fn add(report: &mut Report, alloc: Global, test: &Test, verdict: Verdict) -> Result<(), AllocError>
+    requires { report.old.passed + report.old.failed < 2 ^ 64 - 1 }
+    ensures lines { OnOk result
+        (report.new.lines.items ≡ report.old.lines.items ++ spec.test_lines test.now verdict) }
+    ensures passed { OnOk result (report.new.passed
+        ≡ report.old.passed + (if spec.is_passed verdict then 1 else 0)) }
+    ensures failed { OnOk result (report.new.failed
+        ≡ report.old.failed + (if spec.is_passed verdict then 0 else 1)) }
+{
+    match verdict {
+        Verdict::Same => {
+            report.passed += 1;
+            Ok(())
+        }
+        Verdict::Differs(place) => {
+            let line = line_of(alloc, test, place)?;
+            report.lines.extend_from_slice(&line)?;
+            report.failed += 1;
+            Ok(())
+        }
+    }
+}
+
+/// What the verdicts on the tests by a table come to.
+fn report_of<L: Ledger>(
+    alloc: Global,
+    table: &Table,
+    tests: &Tests,
+    steps: &mut Steps<L>,
+) -> Result<Report, AllocError>
+    ensures { IfOk result (λ report. TellsVerdicts table.now tests.now report.lines.items
+        report.passed report.failed) }
+{
+    let mut marks = Marks::new(alloc, table)?;
+    let mut report = Report {
+        lines: Vec::new(alloc),
+        passed: 0,
+        failed: 0,
+    };
+    for i in 0..tests.len() {
+        let test = tests.get(i);
+        // With its length it is told that these are characters.
+        let _length = test.text().len();
+        let verdict = judge(table, test, &mut marks, steps);
+        add(&mut report, alloc, test, verdict)?;
+    }
+    Ok(report)
+}
+
+/// The line of the counts.
+fn counts_line(alloc: Global, passed: usize, failed: usize) -> Result<Vec<u8>, AllocError>
+    ensures { IfOk result (λ line. line.items ≡ verdicts_line passed failed) }
+{
+    let mut good = Buffer::new();
+    let mut bad = Buffer::new();
+    let good = good.format(passed).as_bytes();
+    let bad = bad.format(failed).as_bytes();
+    joined(alloc, &[b"passed ", good, b" failed ", bad, b"\n"])
+}
+
+/// The exit status: 1 where a test differs.
+fn status_of(failed: usize) -> u8
+    ensures { result ≡ (if failed == 0 then 0 else 1) }
+{
+    if failed == 0 { 0 } else { 1 }
+}
+
+/// The output that tells a report.
+fn output_of(alloc: Global, report: Report) -> Result<Output, AllocError>
+    ensures status { IfOk result (λ output.
+        output.status ≡ (if report.failed == 0 then 0 else 1)) }
+    ensures bytes { IfOk result (λ output. output.bytes
+        ≡ report.lines.items ++ verdicts_line report.passed report.failed) }
+    ensures file { IfOk result (λ output. output.file ≡ None) }
+{
+    let Report {
+        lines,
+        passed,
+        failed,
+    } = report;
+    let end = counts_line(alloc, passed, failed)?;
+    let mut bytes = lines;
+    bytes.extend_from_slice(&end)?;
+    Ok(Output {
+        status: status_of(failed),
+        bytes,
+        file: None,
+    })
+}
+
+/// The verdicts on a test file of this name, by a rule file or a table file.
+pub(crate) fn conform<L: Ledger>(
+    alloc: Global,
+    options: &Options,
+    handed: &[Raw],
+    source: &Raw,
+    name: &str,
+    tests: &Raw,
+    steps: &mut Steps<L>,
+) -> Result<Output, Refusal>
+    requires handed { AreHanded options.now.properties.items handed.now }
+    requires source { length source.now ≤ most_bytes }
+    requires tests { length tests.now ≤ most_bytes }
+    ensures { Meets (λ output. output) (spec.conform_stage options.now.properties.items
+        options.now.ignored options.now.by_table handed.now source.now name.now tests.now) result }
+{
+    let table = basis(alloc, options, handed, source, steps)?;
+    let tests = tests_of(alloc, name, tests, steps)?;
+    let report = report_of(alloc, &table, &tests, steps)?;
+    Ok(output_of(alloc, report)?)
+}

@@ -1,0 +1,87 @@
+//! The command `run`.
+ghost use Rattle.std.specs.Prelude.{◌≡◌, ◌≤◌, length, map, IfOk};
+ghost use Rattle.rbbi_text.specs.Bytes.{most_bytes};
+ghost use Rattle.rbbi_model.specs.Lines.{all_reply_lines};
+ghost use Rattle.std.specs.List.{AllByRecursion};
+ghost use Rattle.rbbi_model.specs.Scripts.{table_replies, InsertsText};
+ghost use Rattle.rbbi_script.specs.Meaning.{meaning};
+ghost use Rattle.rbbi_tool.specs.Stages.{Meets};
+ghost use Rattle.rbbi_tool.specs.Properties.{AreHanded};
+ghost use Rattle.rbbi_tool.specs.Command.Run.{play_stage};
+
+use super::Output;
+use crate::basis::basis;
+use crate::refusal::Refusal;
+use crate::scripts::commands_of;
+use crate::texts::text_of;
+use crate::words::Options;
+use rbbi_script::{Command, Commands, play};
+use rbbi_session::Session;
+use rbbi_table::Table;
+use rbbi_text::{PlainText, Raw, Steps};
+use std::alloc::{AllocError, Global};
+use std::sync::ledger::Ledger;
+
+/// That what a command puts into a text is characters: it is there for proofs, and changes nothing.
+fn insert_text(command: &Command)
+    ensures { InsertsText (meaning command.now) }
+{
+    if let Command::Replace { text, .. } = command {
+        let _characters = text.as_str();
+    }
+}
+
+/// That what commands put into a text is characters: it is there for proofs, and changes nothing.
+fn insert_texts(commands: &Commands)
+    ensures { AllByRecursion InsertsText (map meaning commands.now) }
+{
+    for i in 0..commands.len() {
+        insert_text(commands.get(i));
+    }
+}
+
+/// The lines of the replies to the commands of a script, over a text, by a table.
+fn replies_of<L: Ledger>(
+    alloc: Global,
+    table: &Table,
+    text: PlainText,
+    commands: &Commands,
+    steps: &mut Steps<L>,
+) -> Result<Vec<u8>, AllocError>
+    ensures { IfOk result (λ lines. lines.items
+        ≡ all_reply_lines (table_replies table.now text (map meaning commands.now))) }
+{
+    let mut session = Session::open(alloc, table, text)?;
+    let mut replies = Vec::new(alloc);
+    play(&mut session, commands, &mut replies, steps)?;
+    Ok(replies)
+}
+
+/// The replies to a script over a text file, each of these names, by a rule file or a table file.
+pub(crate) fn run<L: Ledger>(
+    alloc: Global,
+    options: &Options,
+    handed: &[Raw],
+    source: &Raw,
+    name: &str,
+    text: &Raw,
+    script_name: &str,
+    script: &Raw,
+    steps: &mut Steps<L>,
+) -> Result<Output, Refusal>
+    requires handed { AreHanded options.now.properties.items handed.now }
+    requires source { length source.now ≤ most_bytes }
+    requires text { length text.now ≤ most_bytes }
+    requires script { length script.now ≤ most_bytes }
+    ensures { Meets (λ output. output) (play_stage options.now.properties.items options.now.ignored
+        options.now.by_table handed.now source.now name.now text.now
+        script_name.now script.now) result }
+{
+    let table = basis(alloc, options, handed, source, steps)?;
+    let text = text_of(alloc, name, text)?;
+    let commands = commands_of(alloc, script_name, script, steps)?;
+    insert_texts(&commands);
+    rbbi_model::table_replies_are_those_of_the_rules();
+    let replies = replies_of(alloc, &table, text, &commands, steps)?;
+    Ok(Output::printed(replies))
+}

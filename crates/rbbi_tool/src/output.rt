@@ -1,0 +1,84 @@
+//! What a request comes to, from the bytes of its files.
+ghost use Rattle.std.specs.Prelude.{◌≡◌, ◌<◌, map, length};
+ghost use Rattle.std.specs.String.{string_bytes};
+ghost use Rattle.rbbi_tool.specs.Stages.{Meets};
+ghost use Rattle.rbbi_tool.specs.Words.{operands_of};
+ghost use Rattle.rbbi_tool.specs.Requests.{asked_by};
+ghost use Rattle.rbbi_tool.specs.Files.{sources_of};
+ghost use Rattle.rbbi_tool.specs.Reads.{AreWithin};
+ghost use Rattle.rbbi_tool.specs.Program.{nth, files_stage};
+
+use crate::command::{Output, breaks, check, compile, conform, run};
+use crate::refusal::Refusal;
+use crate::words::{Command, Request};
+use rbbi_text::{Raw, Steps};
+use std::alloc::Global;
+use std::sync::ledger::Ledger;
+
+/// The word with this number, from 0.
+fn word(words: &[String], number: usize) -> &str
+    requires { number < length words.now }
+    ensures { result.now ≡ nth (map string_bytes words.now) number }
+{
+    words[number].as_str()
+}
+
+/// The bytes of the file with this number, from 0.
+fn file(files: &[Raw], number: usize) -> &Raw
+    requires { number < length files.now }
+    ensures { result.now ≡ nth files.now number }
+{
+    &files[number]
+}
+
+/// What a request comes to, from the bytes of its files in order.
+pub(crate) fn output_of<L: Ledger>(
+    alloc: Global,
+    request: &Request,
+    files: &[Raw],
+    steps: &mut Steps<L>,
+) -> Result<Output, Refusal>
+    requires count { length request.now.operands.now
+        ≡ length (operands_of request.now.command request.now.options.by_table) }
+    requires within { AreWithin (sources_of (asked_by request.now)) files.now }
+    ensures { Meets (λ output. output) (files_stage (asked_by request.now) files.now) result }
+{
+    let options = &request.options;
+    let operands = request.operands;
+    let (handed, files) = files.split_at(options.properties.len());
+    let source = file(files, 0);
+    match request.command {
+        Command::Check => check(alloc, options, handed, source, steps),
+        Command::Compile => {
+            let table_name = word(operands, 1);
+            compile(alloc, options, handed, source, table_name, steps)
+        }
+        Command::Breaks => {
+            let text_name = word(operands, 1);
+            let text = file(files, 1);
+            breaks(alloc, options, handed, source, text_name, text, steps)
+        }
+        Command::Run => {
+            let played_name = word(operands, 1);
+            let played = file(files, 1);
+            let script_name = word(operands, 2);
+            let script = file(files, 2);
+            run(
+                alloc,
+                options,
+                handed,
+                source,
+                played_name,
+                played,
+                script_name,
+                script,
+                steps,
+            )
+        }
+        Command::Conform => {
+            let tests_name = word(operands, 1);
+            let tests = file(files, 1);
+            conform(alloc, options, handed, source, tests_name, tests, steps)
+        }
+    }
+}

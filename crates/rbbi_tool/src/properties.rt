@@ -1,0 +1,60 @@
+//! From the bytes of property files to their rows.
+ghost use Rattle.std.specs.Prelude.{◌≡◌, ◌≤◌, ◌∷◌, [], ◌++◌, length, IfOk, OnOk};
+ghost use Rattle.rbbi_text.specs.Bytes.{most_bytes};
+ghost use Rattle.rbbi_props.specs.Files.{file_of};
+ghost use Rattle.rbbi_tool.specs.Stages.{Meets};
+ghost use Rattle.rbbi_tool.specs.Properties as spec;
+
+use crate::name::Name;
+use crate::refusal::{Place, Refusal, Subject, fault};
+use crate::words::Property;
+use rbbi_props::{PropErr, PropTable};
+use rbbi_text::{Raw, Steps};
+use std::alloc::Global;
+use std::sync::ledger::Ledger;
+
+/// Adds the rows of a property file.
+fn add<L: Ledger>(
+    table: &mut PropTable,
+    alloc: Global,
+    property: &Property,
+    bytes: &Raw,
+    steps: &mut Steps<L>,
+) -> Result<(), Refusal>
+    requires { length bytes.now ≤ most_bytes }
+    ensures exact { Meets (λ _. tt) (spec.property_stage property.now.file bytes.now) result }
+    ensures added { OnOk result
+        (table.new ≡ table.old ++ file_of property.now.name bytes.now ∷ []) }
+{
+    match table.add(property.name.as_str(), bytes.bytes(steps)) {
+        Ok(()) => Ok(()),
+        Err(PropErr::NotUtf8(at)) => {
+            let subject = Subject::File(Name::new(alloc, property.file.as_str())?);
+            Err(fault(alloc, subject, "NotUtf8", Place::Byte(at)))
+        }
+        Err(PropErr::BadRow(line)) => {
+            let subject = Subject::File(Name::new(alloc, property.file.as_str())?);
+            Err(fault(alloc, subject, "BadRow", Place::Row(line)))
+        }
+        Err(PropErr::Memory) => Err(Refusal::Memory),
+    }
+}
+
+/// The rows of the property files, each under the name of its property. The first file that isn't
+/// UTF-8 or has a bad row is told.
+pub(crate) fn properties_of<L: Ledger>(
+    alloc: Global,
+    properties: &[Property],
+    handed: &[Raw],
+    steps: &mut Steps<L>,
+) -> Result<PropTable, Refusal>
+    requires { spec.AreHanded properties.now handed.now }
+    ensures exact { Meets (λ _. tt) (spec.properties_stage properties.now handed.now) result }
+    ensures files { IfOk result (λ table. table ≡ spec.property_files properties.now handed.now) }
+{
+    let mut table = PropTable::new(alloc);
+    for i in 0..properties.len() {
+        add(&mut table, alloc, &properties[i], &handed[i], steps)?;
+    }
+    Ok(table)
+}

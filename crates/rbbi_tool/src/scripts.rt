@@ -1,0 +1,70 @@
+//! From the bytes of a script to its commands, and from those of a test file to its tests.
+ghost use Rattle.std.specs.Prelude.{◌≡◌, ◌≢◌, ◌≤◌, ◌⊎◌, length, map};
+ghost use Rattle.rbbi_text.specs.Bytes.{most_bytes};
+ghost use Rattle.rbbi_script.specs.Meaning.{meaning};
+ghost use Rattle.rbbi_tool.specs.Stages.{Meets};
+ghost use Rattle.rbbi_tool.specs.Scripts as spec;
+
+use crate::refusal::{Place, Refusal, file_fault};
+use rbbi_conform::{TestErr, Tests, read_tests};
+use rbbi_script::{Commands, ScriptErr, read_script};
+use rbbi_text::{Raw, Steps};
+use std::alloc::Global;
+use std::sync::ledger::Ledger;
+
+/// What a fault of the script of this name tells, or want of memory.
+fn script_refusal(alloc: Global, name: &str, error: ScriptErr) -> Refusal
+    ensures { (result ≡ Refusal.Memory)
+        ⊎ ((error ≢ ScriptErr.Memory) × (result ≡ spec.script_fault name.now error)) }
+{
+    match error {
+        ScriptErr::NotUtf8(at) => file_fault(alloc, name, "NotUtf8", Place::Byte(at)),
+        ScriptErr::BadLine(line) => file_fault(alloc, name, "BadLine", Place::Row(line)),
+        ScriptErr::Memory => Refusal::Memory,
+    }
+}
+
+/// The commands of a script of this name.
+pub(crate) fn commands_of<L: Ledger>(
+    alloc: Global,
+    name: &str,
+    bytes: &Raw,
+    steps: &mut Steps<L>,
+) -> Result<Commands, Refusal>
+    requires { length bytes.now ≤ most_bytes }
+    ensures { Meets (λ commands. map meaning commands)
+        (spec.script_stage name.now bytes.now) result }
+{
+    match read_script(alloc, bytes.bytes(steps)) {
+        Ok(commands) => Ok(commands),
+        Err(error) => Err(script_refusal(alloc, name, error)),
+    }
+}
+
+/// What a fault of the test file of this name tells, or want of memory.
+fn tests_refusal(alloc: Global, name: &str, error: TestErr) -> Refusal
+    ensures { (result ≡ Refusal.Memory)
+        ⊎ ((error ≢ TestErr.Memory) × (result ≡ spec.tests_fault name.now error)) }
+{
+    match error {
+        TestErr::NotUtf8(at) => file_fault(alloc, name, "NotUtf8", Place::Byte(at)),
+        TestErr::BadLine(line) => file_fault(alloc, name, "BadLine", Place::Row(line)),
+        TestErr::Memory => Refusal::Memory,
+    }
+}
+
+/// The tests of a test file of this name.
+pub(crate) fn tests_of<L: Ledger>(
+    alloc: Global,
+    name: &str,
+    bytes: &Raw,
+    steps: &mut Steps<L>,
+) -> Result<Tests, Refusal>
+    requires { length bytes.now ≤ most_bytes }
+    ensures { Meets (λ tests. tests) (spec.tests_stage name.now bytes.now) result }
+{
+    match read_tests(alloc, bytes.bytes(steps)) {
+        Ok(tests) => Ok(tests),
+        Err(error) => Err(tests_refusal(alloc, name, error)),
+    }
+}

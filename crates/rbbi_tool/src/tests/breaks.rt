@@ -1,0 +1,156 @@
+//! The command `breaks`.
+use super::check::WORDS;
+use super::compile::TABLE;
+use super::run_rows;
+use std::test::Fail;
+
+/// The rules of a part of the default grapheme clusters, by a property file of their classes.
+pub(super) const GRAPHEMES: &[u8] = b"!!chain;
+!!quoted_literals_only;
+$CR      = [\\p{GCB = CR}];
+$LF      = [\\p{GCB = LF}];
+$Control = [\\p{GCB = Control}];
+$Extend  = [\\p{GCB = Extend}];
+$CR $LF;
+[^$Control $CR $LF] $Extend;
+.;
+";
+
+/// An extract of the property file of these classes.
+pub(super) const CLASSES: &[u8] = b"# an extract
+000D          ; CR      # <control-000D>
+000A          ; LF      # <control-000A>
+0000..0009    ; Control
+000B..000C    ; Control
+000E..001F    ; Control
+007F..009F    ; Control
+0300..036F    ; Extend  # combining diacritical marks
+";
+
+#[test]
+fn boundaries(rt: HostRuntime) -> Result<(), Fail> {
+    let rows: [(&[u8], &[u8], &str); 22] = [
+        (b"[a-z]+;", b"ab1c", "0 0\n2 0\n3 0\n4 0\n"),
+        (b"!!chain; 'ab'; 'bc'{7};", b"abc", "0 0\n3 7\n"),
+        (b"'ab'; 'bc'{7};", b"abc", "0 0\n2 0\n3 0\n"),
+        (b"!!chain; 'ab'; ^'bc';", b"abc", "0 0\n2 0\n3 0\n"),
+        (b"a+ / b; b;", b"aab", "0 0\n2 0\n3 0\n"),
+        (b"a+ / ab;", b"aaab", "0 0\n3 0\n4 0\n"),
+        (b"a*;", b"b", "0 0\n1 0\n"),
+        (
+            b"!!chain; $RI = [\\U0001F1E6-\\U0001F1FF]; ^$RI $RI / $RI; ^$RI $RI; .;",
+            "\u{1F1E6}\u{1F1E6}\u{1F1E6}\u{1F1E6}\u{1F1E6}".as_bytes(),
+            "0 0\n2 0\n4 0\n5 0\n",
+        ),
+        (b"[[ace][bdf]-[abc][def]]+;", b"dab", "0 0\n1 0\n2 0\n3 0\n"),
+        (b"[[a-f]&[d-k]]+; [^a-z];", b"defg1", "0 0\n3 0\n4 0\n5 0\n"),
+        (WORDS, b"can't 32.3.", "0 0\n5 200\n6 0\n10 100\n11 0\n"),
+        (
+            b"\xEF\xBB\xBF# note\n'a b'; 'it''s'; \\u0061\\x62+;",
+            b"a bit'sabb",
+            "0 0\n3 0\n7 0\n10 0\n",
+        ),
+        (b"!!reverse; b; !!forward; a;", b"ab", "0 0\n1 0\n2 0\n"),
+        (b"$v = [a-c]; [$v-[b]] d;", b"cdbd", "0 0\n2 0\n3 0\n4 0\n"),
+        (b"a;", b"", "0 0\n"),
+        (b"ab{5}; a[b]{3}; ab;", b"ab", "0 0\n2 3,5\n"),
+        // the longest of several matches, by one rule or by two; a character that no rule takes
+        (b"a; ab; abc;", b"abcab", "0 0\n3 0\n5 0\n"),
+        (b"a|ab|abc;", b"abab", "0 0\n2 0\n4 0\n"),
+        (b"ab;", b"ba", "0 0\n1 0\n2 0\n"),
+        // places count characters and not bytes; a mark at the start of a text is a character
+        (
+            "\u{e9} \u{4e00};".as_bytes(),
+            "\u{feff}\u{e9}\u{4e00}\u{e9}".as_bytes(),
+            "0 0\n1 0\n3 0\n4 0\n",
+        ),
+        // of two look-ahead rules that are completed at one place the first cuts
+        (b"a / bc; ab / c;", b"abc", "0 0\n1 0\n2 0\n3 0\n"),
+        // the cut is the last end of the front, and its statuses are those of the whole rule
+        (b"a+ / b {3}; b;", b"aab", "0 0\n2 3\n3 0\n"),
+    ];
+    for (rules, text, output) in rows {
+        let files = [("r.txt", rules), ("t.txt", text)];
+        run_rows(&rt, &[("breaks r.txt t.txt", &files, 0, output)])?;
+    }
+    let files = [
+        ("r.txt", GRAPHEMES),
+        ("g.txt", CLASSES),
+        ("t.txt", "\r\na\u{308}".as_bytes()),
+    ];
+    run_rows(
+        &rt,
+        &[(
+            "breaks --prop GCB=g.txt r.txt t.txt",
+            &files,
+            0,
+            "0 0\n2 0\n4 0\n",
+        )],
+    )
+}
+
+#[test]
+fn by_table(rt: HostRuntime) -> Result<(), Fail> {
+    let changed = |byte: u8| -> [u8; 81] {
+        let mut table = TABLE;
+        table[80] = byte;
+        table
+    };
+    let words = "breaks --table b.tbl t.txt";
+    let text = ("t.txt", b"ab".as_slice());
+    run_rows(
+        &rt,
+        &[
+            (words, &[("b.tbl", &TABLE), text], 0, "0 0\n1 0\n2 0\n"),
+            (
+                words,
+                &[("b.tbl", &TABLE[..0]), text],
+                4,
+                "table: BadMagic\n",
+            ),
+            (
+                words,
+                &[("b.tbl", &TABLE[..7]), text],
+                4,
+                "table: BadMagic\n",
+            ),
+            (
+                words,
+                &[("b.tbl", &TABLE[..8]), text],
+                4,
+                "table: Short 8\n",
+            ),
+            (
+                words,
+                &[("b.tbl", &TABLE[..80]), text],
+                4,
+                "table: Short 80\n",
+            ),
+            (
+                words,
+                &[("b.tbl", &changed(0x0E)), text],
+                4,
+                "table: BadSafe\n",
+            ),
+            (
+                words,
+                &[("b.tbl", &changed(0x1F)), text],
+                4,
+                "table: BadSafe\n",
+            ),
+            // the table comes before the text
+            (
+                words,
+                &[("b.tbl", &TABLE[..7]), ("t.txt", b"\xFF")],
+                4,
+                "table: BadMagic\n",
+            ),
+            (
+                words,
+                &[("b.tbl", &TABLE), ("t.txt", b"a\xFF")],
+                5,
+                "t.txt: NotUtf8 1\n",
+            ),
+        ],
+    )
+}

@@ -1,0 +1,90 @@
+//! The command `compile`.
+use super::{files_of, run_rows, run_words};
+use std::test::Fail;
+
+/// The table file of the rules `a;`.
+pub(super) const TABLE: [u8; 81] = [
+    0x52, 0x42, 0x42, 0x49, 0x54, 0x42, 0x4C, 0x01, 2, 0, 3, 0, 0, 0, 1, 0, 3, 0, 0, 0, 0, 0, 0, 0,
+    0, 0, 0x61, 0, 0, 0, 1, 0, 0x62, 0, 0, 0, 0, 0, 1, 0, 0, 0, 0, 0, 0, 0, 0, 0, 0, 0, 0, 0, 0, 0,
+    0, 0, 0, 0, 0, 0, 0, 0, 0, 0, 0, 0, 2, 0, 1, 0, 0, 0, 0, 0, 0, 0, 0, 0, 0, 0, 0x0F,
+];
+
+#[test]
+fn tables(rt: HostRuntime) -> Result<(), Fail> {
+    let rows: [(&[u8], u8, &str); 8] = [
+        (
+            b"[a-z]+; ' '+;",
+            0,
+            "categories 3 rows 4 lists 1 slashes 0 safe 7\n",
+        ),
+        (
+            b"a+ / b; b;",
+            0,
+            "categories 3 rows 5 lists 1 slashes 1 safe 7\n",
+        ),
+        (b"a;", 0, "categories 2 rows 3 lists 1 slashes 0 safe 4\n"),
+        (
+            b"(a|b)*a(a|b)(a|b)(a|b)(a|b)(a|b)(a|b)(a|b)(a|b)(a|b)(a|b);",
+            0,
+            "categories 3 rows 2049 lists 1 slashes 0 safe 5\n",
+        ),
+        (
+            b"(a|b)*a(a|b)(a|b)(a|b)(a|b)(a|b)(a|b)(a|b)(a|b)(a|b)(a|b)(a|b)(a|b)(a|b);",
+            3,
+            "rules: TooManyRows\n",
+        ),
+        (
+            b"(a|b)*a(a|b)(a|b)(a|b)(a|b)(a|b)(a|b)(a|b)(a|b)(a|b)(a|b)(a|b)(a|b)(a|b)(a|b);",
+            3,
+            "rules: TooManySets\n",
+        ),
+        (b"[z-a];", 3, "rules:1:2: BadRange\n"),
+        (b"", 3, "rules:1:1: NoRules\n"),
+    ];
+    for (rules, status, output) in rows {
+        run_rows(
+            &rt,
+            &[("compile r.txt b.tbl", &[("r.txt", rules)], status, output)],
+        )?;
+    }
+    Ok(())
+}
+
+/// A literal of 254 different characters has 255 categories, and one more has too many.
+#[test]
+fn categories(rt: HostRuntime) -> Result<(), Fail> {
+    for (last, status) in [(0x4EFD, 0), (0x4EFE, 3)] {
+        let mut rules = String::new(rt.alloc());
+        for c in '\u{4E00}'..='\u{4EFE}' {
+            if c as u32 <= last {
+                rules.push(c)?;
+            }
+        }
+        rules.push(';')?;
+        let mut files = files_of(&rt, &[("r.txt", rules.as_bytes())])?;
+        let (answered, out) = run_words(&rt, "compile r.txt b.tbl", &mut files)?;
+        assert_eq!(rt; answered, status);
+        if status == 3 {
+            assert_eq!(rt; out.taken(), b"rules: TooManyCategories\n".as_slice());
+        }
+    }
+    Ok(())
+}
+
+/// The table file is written before the line, and not at all behind a fault.
+#[test]
+fn files(rt: HostRuntime) -> Result<(), Fail> {
+    let mut files = files_of(&rt, &[("r.txt", b"a;")])?;
+    run_words(&rt, "compile r.txt b.tbl", &mut files)?;
+    assert_eq!(rt; files.get("b.tbl"), Some(TABLE.as_slice()));
+    let mut files = files_of(&rt, &[("r.txt", b"(")])?;
+    run_words(&rt, "compile r.txt b.tbl", &mut files)?;
+    assert_eq!(rt; files.get("b.tbl"), None);
+    // a write that fails ends the run before anything goes out
+    let mut files = files_of(&rt, &[("r.txt", b"a;")])?;
+    files.fail_at(2)?;
+    let (status, out) = run_words(&rt, "compile r.txt b.tbl", &mut files)?;
+    assert_eq!(rt; status, 7);
+    assert_eq!(rt; out.taken(), b"".as_slice());
+    Ok(())
+}

@@ -1,0 +1,93 @@
+//! Words of no form, and options.
+use super::{files_of, run_rows, run_words};
+use std::test::Fail;
+
+const USAGE: &str = "usage: rbbi COMMAND [OPTIONS] OPERANDS\n";
+
+#[test]
+fn words_of_no_form(rt: HostRuntime) -> Result<(), Fail> {
+    let forms = [
+        "",
+        "Breaks r.txt t.txt",
+        "check",
+        "check r.txt t.txt",
+        "compile r.txt",
+        "breaks r.txt",
+        "breaks r.txt t.txt t.txt",
+        "breaks --fast r.txt t.txt",
+        "breaks --fast t.txt",
+        "breaks --prop r.txt t.txt",
+        "breaks --prop =g.txt r.txt t.txt",
+        "breaks --prop A= r.txt t.txt",
+        "breaks --prop - --=g.txt r.txt t.txt",
+        "breaks --prop A.B=g.txt r.txt t.txt",
+        "breaks --ignore-dictionary --ignore-dictionary r.txt t.txt",
+        "breaks --table --table r.txt t.txt",
+        "breaks --table --ignore-dictionary r.txt t.txt",
+        "check --table r.txt",
+        "compile --table r.txt b.txt",
+        "--ignore-dictionary check r.txt",
+        "check r.txt --ignore-dictionary",
+        "demo 0",
+    ];
+    for words in forms {
+        let mut files = files_of(&rt, &[("r.txt", b"a;"), ("t.txt", b"a")])?;
+        let (status, out) = run_words(&rt, words, &mut files)?;
+        assert_eq!(rt; status, 2, "of {words}");
+        assert_eq!(rt; out.taken(), USAGE.as_bytes(), "of {words}");
+        assert_eq!(rt; files.calls(), 0, "of {words}");
+    }
+    Ok(())
+}
+
+#[test]
+fn options(rt: HostRuntime) -> Result<(), Fail> {
+    let rules: &[u8] = b"[\\p{A=x}] b;";
+    let rows: &[u8] = b"0061 ; x\n";
+    let files: [(&str, &[u8]); 4] = [
+        ("r.txt", rules),
+        ("g.txt", rows),
+        ("=.txt", rows),
+        ("h.txt", b"0061;x\n61;x\n"),
+    ];
+    let done = "rules 1 slashes 0 leaves 2\n";
+    run_rows(
+        &rt,
+        &[
+            ("check --prop A=g.txt r.txt", &files, 0, done),
+            (
+                "check --prop a-_=g.txt --ignore-dictionary r.txt",
+                &files,
+                0,
+                done,
+            ),
+            (
+                "check --ignore-dictionary --prop --A==.txt r.txt",
+                &files,
+                0,
+                done,
+            ),
+            (
+                "check --prop B=g.txt r.txt",
+                &files,
+                3,
+                "rules:1:2: UnknownProperty\n",
+            ),
+            // property files come before the rule file, in order, and a read before all checks
+            ("check --prop A=h.txt r.txt", &files, 5, "h.txt:2: BadRow\n"),
+            (
+                "check --prop A=h.txt --prop A=none r.txt",
+                &files,
+                6,
+                "cannot read none\n",
+            ),
+            ("check --prop A=h.txt none", &files, 6, "cannot read none\n"),
+            (
+                "check --prop A=g.txt none",
+                &[("g.txt", b"\xFF"), ("none", b"(")],
+                5,
+                "g.txt: NotUtf8 0\n",
+            ),
+        ],
+    )
+}
