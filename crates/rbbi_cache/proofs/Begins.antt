@@ -1,5 +1,6 @@
 -- How the searches past a place begin, and what they leave.
-use Rattle.std.proofs.Common.{◌≡◌, ℕ, ◌+◌, ◌<◌, ◌≤◌, List, [], ◌∷◌, ◌++◌, length, length-append, drop, map, true, false, sym, refl, ap, ◌∙◌, subst, ⊎_elim, arith}
+use Rattle.std.proofs.Common.{◌≡◌, ℕ, ◌+◌, ◌<◌, ◌≤◌, List, [], ◌∷◌, ◌++◌, length, length-append, drop, map, true, false, sym, refl, ap, ◌∙◌, subst, ⊎_elim}
+use Rattle.std.proofs.Common.{arith}
 use Rattle.std.specs.Prelude.{IsTrue}
 use Rattle.rbbi_model.specs.Tables.{Table}
 use Rattle.rbbi_model.specs.ValidTables.{IsValidTable}
@@ -14,7 +15,8 @@ use Rattle.rbbi_cache.proofs.Scanned.{scan_from_anchor, scan_from_entry}
 use Rattle.std.specs.List.{AllByRecursion}
 use Rattle.rbbi_cache.proofs.Lists.{all_right}
 use Rattle.rbbi_cache.proofs.Nearer.{searched_path, nearer_cost}
-use Rattle.rbbi_cache.proofs.Ready.{IsAnchorBelow, anchor_is, anchored_below, ready_from_anchor, scan_cost, some_entry, is_extended, ready_extended, ready_beside}
+use Rattle.rbbi_cache.proofs.Ready.{IsAnchorBelow, anchor_is, anchored_below, ready_from_anchor, scan_cost, some_entry, is_extended, ready_extended}
+use Rattle.rbbi_cache.proofs.Ready.{ready_beside}
 
 module _ (table : Table) (valid : IsValidTable table) (x : List ℕ) (i : ℕ) where
   pub anchor_low : anchor_below table x i ≤ i

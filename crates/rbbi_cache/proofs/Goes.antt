@@ -1,5 +1,6 @@
 -- A scan goes on search by search.
-use Rattle.std.proofs.Common.{◌≡◌, ℕ, ◌+◌, ◌-◌, ◌<◌, ◌≤◌, max, min, ltb, eqb, false, drop, List, [], ◌∷◌, ◌++◌, length, sym, refl, ap, ◌∙◌, subst, append_assoc, arith}
+use Rattle.std.proofs.Common.{◌≡◌, ℕ, ◌+◌, ◌-◌, ◌<◌, ◌≤◌, max, min, ltb, eqb, false, drop, List, [], ◌∷◌, ◌++◌, length, sym, refl, ap, ◌∙◌, subst}
+use Rattle.std.proofs.Common.{append_assoc, arith}
 use Rattle.std.specs.Prelude.{sum_by}
 use Rattle.std.proofs.lemmas.Bool.{cond-true, cond_both, lt-ltb}
 use Rattle.std.proofs.lemmas.List.{append-nil}
@@ -25,8 +26,10 @@ goes_start table x p i from run steps start is here = record {
   read = omega arith;
 }
 
-module _ (table : Table) (x : List ℕ) (p i : ℕ) (from : Entry) (first : Run) (here : Entry) (run : Run) (before now : ℕ) (gone : GoesOn table x p i from first here run before now)
-    (up_to : here.at ≤ i) (short : i < length x) (next : Entry) (next_is : IsNextEntry table x here next) (now' : ℕ) (read : now' ≡ now + (min (look_end table x here.at) (length x) - here.at)) where
+module _ (table : Table) (x : List ℕ) (p i : ℕ) (from : Entry) (first : Run) (here : Entry) (run : Run) (before now : ℕ)
+    (gone : GoesOn table x p i from first here run before now)
+    (up_to : here.at ≤ i) (short : i < length x) (next : Entry) (next_is : IsNextEntry table x here next) (now' : ℕ)
+    (read : now' ≡ now + (min (look_end table x here.at) (length x) - here.at)) where
   read_is : characters_read table x here.at ≡ min (look_end table x here.at) (length x) - here.at
   read_is = cond-true (ltb here.at (length x)) (min (look_end table x here.at) (length x) - here.at) 0 (lt-ltb here.at (length x) (omega arith))
 
@@ -43,14 +46,16 @@ module _ (table : Table) (x : List ℕ) (p i : ℕ) (from : Entry) (first : Run)
     short_here : (gone start is_start here_start).scan.here.at < length x
     short_here = omega (arith, ap (λ e. e.at) (gone start is_start here_start).here_is)
 
-    more_done : (gone start is_start here_start).scan.done ++ boundary_of table (gone start is_start here_start).scan.here ∷ [] ≡ start.done ++ ((gone start is_start here_start).searched ++ boundary_of table here ∷ [])
+    more_done : (gone start is_start here_start).scan.done ++ boundary_of table (gone start is_start here_start).scan.here ∷ [] ≡ start.done ++
+        ((gone start is_start here_start).searched ++ boundary_of table here ∷ [])
     more_done =
         let so = gone start is_start here_start in
         ap (λ bs. bs ++ boundary_of table so.scan.here ∷ []) so.done
         ∙ append_assoc start.done so.searched (boundary_of table so.scan.here ∷ [])
         ∙ ap (λ e. start.done ++ (so.searched ++ boundary_of table e ∷ [])) so.here_is
 
-    more_read : now' ≡ before + sum_by (λ (b : Boundary). characters_read table x b.at) ((gone start is_start here_start).searched ++ boundary_of table here ∷ [])
+    more_read : now' ≡ before + sum_by (λ (b : Boundary). characters_read table x b.at)
+        ((gone start is_start here_start).searched ++ boundary_of table here ∷ [])
     more_read =
         let so = gone start is_start here_start in
         omega (arith, read, read_is, so.read, sum_by_push (λ (b : Boundary). characters_read table x b.at) so.searched (boundary_of table here))
@@ -59,7 +64,14 @@ module _ (table : Table) (x : List ℕ) (p i : ℕ) (from : Entry) (first : Run)
     found_on high =
         let so = gone start is_start here_start in
         record {
-          scan = record { done = so.scan.done ++ boundary_of table so.scan.here ∷ []; skipped = so.scan.skipped; known = so.scan.known; found = so.scan.found ++ next ∷ []; here = next };
+          scan = record {
+            done = so.scan.done ++ boundary_of table so.scan.here ∷ [];
+            skipped = so.scan.skipped;
+            known = so.scan.known;
+            found =
+                so.scan.found ++ next ∷ [];
+            here = next;
+          };
           is = found_next table x p i so.scan run so.is up_to_here short_here next next_here high;
           here_is = refl;
           known = so.known;
@@ -72,7 +84,14 @@ module _ (table : Table) (x : List ℕ) (p i : ℕ) (from : Entry) (first : Run)
     skipped_on near =
         let so = gone start is_start here_start in
         record {
-          scan = record { done = so.scan.done ++ boundary_of table so.scan.here ∷ []; skipped = so.scan.skipped ++ boundary_of table next ∷ []; known = so.scan.known; found = so.scan.found; here = next };
+          scan = record {
+            done = so.scan.done ++ boundary_of table so.scan.here ∷ [];
+            skipped = so.scan.skipped ++ boundary_of table next ∷ [];
+            known =
+                so.scan.known;
+            found = so.scan.found;
+            here = next;
+          };
           is = skipped_next table x p i so.scan run so.is up_to_here short_here next next_here near;
           here_is = refl;
           known = so.known;
@@ -89,11 +108,14 @@ module _ (table : Table) (x : List ℕ) (p i : ℕ) (from : Entry) (first : Run)
 
 pub pushed_anchor : (run : Run) (entry : Entry) → (pushed run entry).anchor ≡ run.anchor
 pushed_anchor run entry =
-    cond_both {A = Run} (eqb (length run.entries) 256) (record { anchor = run.anchor; entries = drop 128 run.entries ++ entry ∷ []; leads = false }) (record { anchor = run.anchor; entries = run.entries ++ entry ∷ []; leads = run.leads })
+    cond_both {A = Run} (eqb (length run.entries) 256) (record { anchor = run.anchor; entries = drop 128 run.entries ++ entry ∷ []; leads = false })
+    (record { anchor = run.anchor; entries = run.entries ++ entry ∷ []; leads = run.leads })
     (λ r. r.anchor ≡ run.anchor) (λ _. refl) (λ _. refl)
 
 -- the entry that a search finds after another
-pub is_next : (table : Table) (x : List ℕ) (here : Entry) (at reach : ℕ) (next : Entry) → at ≡ here.at → reach ≡ here.reach → next.at ≡ (found table x at).at → next.status ≡ (found table x at).list → (look : ℕ) → look ≡ look_end table x at → next.reach ≡ max reach look → IsNextEntry table x here next
+pub is_next : (table : Table) (x : List ℕ) (here : Entry) (at reach : ℕ) (next : Entry) → at ≡ here.at → reach ≡ here.reach →
+    next.at ≡ (found table x at).at → next.status ≡ (found table x at).list → (look : ℕ) → look ≡ look_end table x at → next.reach ≡ max reach look →
+    IsNextEntry table x here next
 is_next table x here at reach next at_is reach_is at' status' look look_is reach' = record {
   at = at' ∙ ap (λ s. (found table x s).at) at_is;
   status = status' ∙ ap (λ s. (found table x s).list) at_is;

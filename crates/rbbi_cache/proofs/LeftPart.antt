@@ -1,5 +1,6 @@
 -- The left part of a true run is true of the edited text.
-use Rattle.std.proofs.Common.{◌≡◌, ℕ, ◌+◌, ◌<◌, ◌≤◌, ◌⊎◌, false, leb, List, [], ◌∷◌, ◌++◌, length, map, filter, sym, refl, ap, ◌∙◌, subst, inl, inr, ⊎_elim, append_assoc, arith}
+use Rattle.std.proofs.Common.{◌≡◌, ℕ, ◌+◌, ◌<◌, ◌≤◌, ◌⊎◌, false, leb, List, [], ◌∷◌, ◌++◌, length, map, filter, sym, refl, ap, ◌∙◌, subst, inl, inr, ⊎_elim}
+use Rattle.std.proofs.Common.{append_assoc, arith}
 use Rattle.std.specs.List.{AllByRecursion}
 use Rattle.std.proofs.lemmas.Bool.{cond-true, cases_lt, le-leb, lt-leb}
 use Rattle.std.proofs.lemmas.List.{map-append, append-nil, get_or-take}
@@ -34,8 +35,11 @@ pub record AreFirst (at : ℕ) (entries : List Entry) : Type 0 where
 
 pub reaches_after : (entry : Entry) (entries : List Entry) → ReachesRise (entry ∷ entries) → AllByRecursion (λ e. entry.reach ≤ e.reach) entries
 reaches_after entry [] rise = tt
-reaches_after entry (next ∷ entries) rise =
-    (rise.0, all_through (λ e. next.reach ≤ e.reach) (λ e. entry.reach ≤ e.reach) (λ e less. omega (arith, less, rise.0)) entries (reaches_after next entries rise.1))
+reaches_after entry (next ∷ entries) rise = (
+  rise.0,
+  all_through (λ e. next.reach ≤ e.reach) (λ e. entry.reach ≤ e.reach) (λ e less. omega (arith, less, rise.0)) entries
+      (reaches_after next entries rise.1),
+)
 
 pub reaches_tail : (entry : Entry) (entries : List Entry) → ReachesRise (entry ∷ entries) → ReachesRise entries
 reaches_tail entry [] rise = tt
@@ -52,7 +56,8 @@ are_first at (entry ∷ entries) rise =
       left = [];
       rest = entry ∷ entries;
       whole = refl;
-      kept = filter_none (λ e. leb e.reach at) (entry ∷ entries) (all_through (λ e. at < e.reach) (λ e. leb e.reach at ≡ false) (λ e more. lt-leb e.reach at more) (entry ∷ entries) all);
+      kept = filter_none (λ e. leb e.reach at) (entry ∷ entries)
+          (all_through (λ e. at < e.reach) (λ e. leb e.reach at ≡ false) (λ e more. lt-leb e.reach at more) (entry ∷ entries) all);
       each = tt;
       later = all;
     })
@@ -62,7 +67,8 @@ are_first at (entry ∷ entries) rise =
       left = entry ∷ first.left;
       rest = first.rest;
       whole = ap (λ l. entry ∷ l) first.whole;
-      kept = cond-true (leb entry.reach at) (entry ∷ filter (λ e. leb e.reach at) entries) (filter (λ e. leb e.reach at) entries) (le-leb entry.reach at up_to) ∙ ap (λ l. entry ∷ l) first.kept;
+      kept = cond-true (leb entry.reach at) (entry ∷ filter (λ e. leb e.reach at) entries) (filter (λ e. leb e.reach at) entries)
+          (le-leb entry.reach at up_to) ∙ ap (λ l. entry ∷ l) first.kept;
       each = (up_to, first.each);
       later = first.later;
     })
@@ -81,16 +87,23 @@ pub record HasLast (entries : List Entry) : Type 0 where
 
 pub has_last : (entry : Entry) (entries : List Entry) → HasLast (entry ∷ entries)
 has_last entry [] = record { front = []; last = entry; whole = refl }
-has_last entry (next ∷ entries) = let later = has_last next entries in record { front = entry ∷ later.front; last = later.last; whole = ap (λ l. entry ∷ l) later.whole }
+has_last entry (next ∷ entries) = let later = has_last next entries in record {
+  front = entry ∷ later.front;
+  last = later.last;
+  whole =
+      ap (λ l. entry ∷ l) later.whole;
+}
 
 stay : (bs : List Boundary) → map (λ (b : Boundary). let c : Boundary = record { at = b.at; statuses = b.statuses } in c) bs ≡ bs
 stay [] = refl
 stay (b ∷ bs) = ap (λ l. b ∷ l) (stay bs)
 
-module _ (table : Table) (valid : IsValidTable table) (x y : List ℕ) (at removed inserted : ℕ) (edited : IsEdited x y at removed inserted) (run : Run) (is_true : IsTrueRun table x run) where
+module _ (table : Table) (valid : IsValidTable table) (x y : List ℕ) (at removed inserted : ℕ) (edited : IsEdited x y at removed inserted) (run : Run)
+    (is_true : IsTrueRun table x run) where
   here : (b : Boundary) → b.at < length x → look_end table x b.at ≤ at → IsCarried table x y (λ q. q) b
   here b short look =
-      carried table x y (λ q. q) b (alike_before x y at removed inserted edited table b.at short look) (room_before x y at removed inserted edited table b.at short look) (λ q from. refl)
+      carried table x y (λ q. q) b (alike_before x y at removed inserted edited table b.at short look)
+      (room_before x y at removed inserted edited table b.at short look) (λ q from. refl)
 
   module _ (front : List Entry) (entry : Entry) (rest : List Entry) (whole : run.entries ≡ front ++ entry ∷ rest) (up_to : entry.reach ≤ at) where
     done : List Boundary
@@ -99,10 +112,12 @@ module _ (table : Table) (valid : IsValidTable table) (x y : List ℕ) (at remov
     each_short : AllByRecursion (λ m. (m.at < length x) × (look_end table x m.at ≤ at)) (is_true.consecutive.before ++ map (boundary_of table) front)
     each_short =
         both (is_true.consecutive.before ++ map (boundary_of table) front)
-        (path_short table x (first_member run.anchor) (is_true.consecutive.before ++ map (boundary_of table) front) (boundary_of table entry) (facts.path_is table valid x run is_true front entry rest whole))
+        (path_short table x (first_member run.anchor) (is_true.consecutive.before ++ map (boundary_of table) front) (boundary_of table entry)
+        (facts.path_is table valid x run is_true front entry rest whole))
         (facts.looks table valid x run is_true front entry rest whole)
       where
-        both : (bs : List Boundary) → AllByRecursion (λ m. m.at < length x) bs → AllByRecursion (λ m. look_end table x m.at ≤ entry.reach) bs → AllByRecursion (λ m. (m.at < length x) × (look_end table x m.at ≤ at)) bs
+        both : (bs : List Boundary) → AllByRecursion (λ m. m.at < length x) bs → AllByRecursion (λ m. look_end table x m.at ≤ entry.reach) bs →
+            AllByRecursion (λ m. (m.at < length x) × (look_end table x m.at ≤ at)) bs
         both [] short looks = tt
         both (b ∷ bs) short looks = ((short.0, omega (arith, looks.0)), both bs short.1 looks.1)
 
@@ -112,12 +127,15 @@ module _ (table : Table) (valid : IsValidTable table) (x y : List ℕ) (at remov
         subst (λ bs. Path table y (first_member run.anchor) bs (boundary_of table entry)) (stay done)
         (path_moved table x y (λ q. q) (first_member run.anchor) done (boundary_of table entry)
         (facts.path_is table valid x run is_true front entry rest whole)
-        (all_through (λ m. (m.at < length x) × (look_end table x m.at ≤ at)) (IsCarried table x y (λ q. q)) (λ m facts. here m facts.0 facts.1) done each_short))
+        (all_through (λ m. (m.at < length x) × (look_end table x m.at ≤ at)) (IsCarried table x y (λ q. q)) (λ m facts. here m facts.0 facts.1) done
+        each_short))
 
     pub reached_stays : Reached table y run.anchor (is_true.consecutive.before ++ map (boundary_of table) front) (boundary_of table entry)
-    reached_stays = path_reaches table y run.anchor [] (first_member run.anchor) (is_true.consecutive.before ++ map (boundary_of table) front) (boundary_of table entry) (reached_start table y run.anchor) path_stays
+    reached_stays = path_reaches table y run.anchor [] (first_member run.anchor) (is_true.consecutive.before ++ map (boundary_of table) front)
+        (boundary_of table entry) (reached_start table y run.anchor) path_stays
 
-    same_look : (bs : List Boundary) → AllByRecursion (λ m. (m.at < length x) × (look_end table x m.at ≤ at)) bs → map (λ m. look_end table y m.at) bs ≡ map (λ m. look_end table x m.at) bs
+    same_look : (bs : List Boundary) → AllByRecursion (λ m. (m.at < length x) × (look_end table x m.at ≤ at)) bs → map (λ m. look_end table y m.at) bs ≡ map
+        (λ m. look_end table x m.at) bs
     same_look [] each = refl
     same_look (b ∷ bs) each =
         let finds = finds_alike table x y b.at b.at (alike_before x y at removed inserted edited table b.at each.0.0 each.0.1) in
@@ -146,7 +164,8 @@ module _ (table : Table) (valid : IsValidTable table) (x y : List ℕ) (at remov
       let near : run.anchor + 2 ≤ at = omega (arith, facts.at_by_reach table valid x run is_true front entry rest whole) in
       let within = edited.within in
       let same : (q : ℕ) → q < at → category_at table y q ≡ category_at table x q =
-      λ q before. ap (category_of table.ranges) (sym (get_or-take at y q 0 before) ∙ ap (λ z. get_or z q 0) (left_stays x y at removed inserted edited) ∙ get_or-take at x q 0 before) in
+      λ q before. ap (category_of table.ranges) (sym (get_or-take at y q 0 before) ∙ ap (λ z. get_or z q 0) (left_stays x y at removed inserted edited)
+      ∙ get_or-take at x q 0 before) in
       inr (
         omega (arith, length_is x y at removed inserted edited),
         subst (λ c. IsSafePair table c (category_at table y (run.anchor + 1))) (sym (same run.anchor (omega arith)))
@@ -155,20 +174,24 @@ module _ (table : Table) (valid : IsValidTable table) (x y : List ℕ) (at remov
       (facts.place table valid x run is_true front entry rest whole))
       is_true.anchor
 
-  module _ (first : Entry) (more : List Entry) (rest : List Entry) (whole : run.entries ≡ (first ∷ more) ++ rest) (each : AllByRecursion (λ e. e.reach ≤ at) (first ∷ more)) where
+  module _ (first : Entry) (more : List Entry) (rest : List Entry) (whole : run.entries ≡ (first ∷ more) ++ rest)
+      (each : AllByRecursion (λ e. e.reach ≤ at) (first ∷ more)) where
     -- the entries and what follows them in the new text
     consecutive : (after : List Boundary) × (fresh table y run.anchor ≡ (is_true.consecutive.before ++ map (boundary_of table) (first ∷ more)) ++ after)
     consecutive =
         let last = has_last first more in
         let b : Entry → Boundary = boundary_of table in
         let split : run.entries ≡ last.front ++ last.last ∷ rest = whole ∙ ap (λ l. l ++ rest) last.whole ∙ append_assoc last.front (last.last ∷ []) rest in
-        let up_to : last.last.reach ≤ at = (all_right (λ e. e.reach ≤ at) last.front (last.last ∷ []) (subst (λ l. AllByRecursion (λ e. e.reach ≤ at) l) last.whole each)).0 in
+        let up_to : last.last.reach ≤ at =
+        (all_right (λ e. e.reach ≤ at) last.front (last.last ∷ []) (subst (λ l. AllByRecursion (λ e. e.reach ≤ at) l) last.whole each)).0 in
         let reached = reached_stays last.front last.last rest split up_to in (
           follow_by (next_boundary table y) (length y) reached.most (b last.last),
           reached.whole
-              ∙ sym (append_assoc (is_true.consecutive.before ++ map b last.front) (b last.last ∷ []) (follow_by (next_boundary table y) (length y) reached.most (b last.last)))
+              ∙ sym (append_assoc (is_true.consecutive.before ++ map b last.front) (b last.last ∷ [])
+              (follow_by (next_boundary table y) (length y) reached.most (b last.last)))
               ∙ ap (λ bs. bs ++ follow_by (next_boundary table y) (length y) reached.most (b last.last))
-              (append_assoc is_true.consecutive.before (map b last.front) (b last.last ∷ []) ∙ ap (λ bs. is_true.consecutive.before ++ bs) (sym (map-append b last.front (last.last ∷ [])) ∙ ap (map b) (sym last.whole))),
+              (append_assoc is_true.consecutive.before (map b last.front) (b last.last ∷ [])
+              ∙ ap (λ bs. is_true.consecutive.before ++ bs) (sym (map-append b last.front (last.last ∷ [])) ∙ ap (map b) (sym last.whole))),
         )
 
     leads_stay : IsTrue run.leads → LeadsTruly table y run.anchor (first ∷ more)
@@ -178,14 +201,18 @@ module _ (table : Table) (valid : IsValidTable table) (x y : List ℕ) (at remov
         let P : Boundary → Type 0 = λ m. low run.anchor ≤ m.at → first.at ≤ m.at in
         let old : AllByRecursion P (fresh table x run.anchor) = leads_of run.entries whole (is_true.leads leads) in
         let reached = reached_stays [] first (more ++ rest) whole each.0 in
-        subst (λ bs. AllByRecursion P bs) (sym (reached.whole ∙ ap (λ bs. bs ++ b first ∷ follow_by (next_boundary table y) (length y) reached.most (b first)) (append-nil before)))
+        subst (λ bs. AllByRecursion P bs)
+        (sym (reached.whole ∙ ap (λ bs. bs ++ b first ∷ follow_by (next_boundary table y) (length y) reached.most (b first)) (append-nil before)))
         (all_join P before (b first ∷ follow_by (next_boundary table y) (length y) reached.most (b first))
-        (all_left P before (map b run.entries ++ is_true.consecutive.after) (subst (λ bs. AllByRecursion P bs) (is_true.consecutive.whole ∙ append_assoc before (map b run.entries) is_true.consecutive.after) old)) (
+        (all_left P before (map b run.entries ++ is_true.consecutive.after)
+        (subst (λ bs. AllByRecursion P bs) (is_true.consecutive.whole ∙ append_assoc before (map b run.entries) is_true.consecutive.after) old)) (
           λ _. omega arith,
-          all_through (λ m. first.at < m.at) P (λ m later _. omega (arith, later)) (follow_by (next_boundary table y) (length y) reached.most (b first)) (rest_after table y run.anchor (before ++ []) (b first) reached),
+          all_through (λ m. first.at < m.at) P (λ m later _. omega (arith, later)) (follow_by (next_boundary table y) (length y) reached.most (b first))
+              (rest_after table y run.anchor (before ++ []) (b first) reached),
         ))
       where
-        leads_of : (entries : List Entry) → entries ≡ (first ∷ more) ++ rest → LeadsTruly table x run.anchor entries → AllByRecursion (λ m. low run.anchor ≤ m.at → first.at ≤ m.at) (fresh table x run.anchor)
+        leads_of : (entries : List Entry) → entries ≡ (first ∷ more) ++ rest → LeadsTruly table x run.anchor entries →
+            AllByRecursion (λ m. low run.anchor ≤ m.at → first.at ≤ m.at) (fresh table x run.anchor)
         leads_of entries is leads = subst (λ l. LeadsTruly table x run.anchor l) is leads
 
     true_stays : IsTrueRun table y (record { anchor = run.anchor; entries = first ∷ more; leads = run.leads })
@@ -204,12 +231,14 @@ module _ (table : Table) (valid : IsValidTable table) (x y : List ℕ) (at remov
               (λ front e after is.
               farthest_stays front e (after ++ rest) (whole ∙ ap (λ l. l ++ rest) is ∙ append_assoc front (e ∷ after) rest)
               (all_right (λ f. f.reach ≤ at) front (e ∷ after) (subst (λ l. AllByRecursion (λ f. f.reach ≤ at) l) is each)).0);
-          reach_within = all_through (λ e. e.reach ≤ at) (λ e. e.reach ≤ length y + 1) (λ e up_to. omega (arith, length_is x y at removed inserted edited)) (first ∷ more) each;
+          reach_within = all_through (λ e. e.reach ≤ at) (λ e. e.reach ≤ length y + 1) (λ e up_to. omega (arith, length_is x y at removed inserted edited))
+              (first ∷ more) each;
           reaches_rise = rise_left (first ∷ more) rest (subst ReachesRise whole is_true.reaches_rise);
           leads = leads_stay;
         }
 
-  left_of : (left : List Entry) (rest : List Entry) → run.entries ≡ left ++ rest → AllByRecursion (λ e. e.reach ≤ at) left → 1 ≤ length left → IsTrueRun table y (record { anchor = run.anchor; entries = left; leads = run.leads })
+  left_of : (left : List Entry) (rest : List Entry) → run.entries ≡ left ++ rest → AllByRecursion (λ e. e.reach ≤ at) left → 1 ≤ length left →
+      IsTrueRun table y (record { anchor = run.anchor; entries = left; leads = run.leads })
   left_of [] rest whole each some = absurd (omega arith)
   left_of (first ∷ more) rest whole each some = true_stays first more rest whole each
 

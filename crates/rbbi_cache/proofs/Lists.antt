@@ -34,14 +34,19 @@ all_unmap f P [] each = tt
 all_unmap f P (x ∷ xs) each = (each.0, all_unmap f P xs each.1)
 
 -- what holds of the elements that a test keeps, and of those that it doesn't, holds of all
-pub all_by_test : {X : Type 0} (P : X → Type 0) (test : X → Bool) (xs : List X) → AllByRecursion P (filter test xs) → AllByRecursion (λ x. test x ≡ false → P x) xs → AllByRecursion P xs
+pub all_by_test : {X : Type 0} (P : X → Type 0) (test : X → Bool) (xs : List X) → AllByRecursion P (filter test xs) →
+    AllByRecursion (λ x. test x ≡ false → P x) xs → AllByRecursion P xs
 all_by_test P test [] kept others = tt
 all_by_test P test (x ∷ xs) kept others =
     ⊎_elim
     (λ holds.
     let both = subst (λ l. AllByRecursion P l) (cond-true (test x) (x ∷ filter test xs) (filter test xs) holds) kept in
     (both.0, all_by_test P test xs both.1 others.1))
-    (λ fails. (others.0 fails, all_by_test P test xs (subst (λ l. AllByRecursion P l) (cond-false (test x) (x ∷ filter test xs) (filter test xs) fails) kept) others.1))
+    (λ fails. (
+      others.0 fails,
+      all_by_test P test xs (subst (λ l. AllByRecursion P l) (cond-false (test x) (x ∷ filter test xs) (filter test xs) fails) kept)
+          others.1,
+    ))
     (cases_Bool (test x))
 
 pub all_filter : {X : Type 0} (P : X → Type 0) (test : X → Bool) (xs : List X) → AllByRecursion P xs → AllByRecursion P (filter test xs)
@@ -62,7 +67,8 @@ dropped_inside more less x xs fails =
     (cases_Bool (less x))
 
 -- a test that asks less keeps nothing else after one that asks more
-pub filter_twice : {X : Type 0} (more less : X → Bool) → ((x : X) → more x ≡ true → less x ≡ true) → (xs : List X) → filter more (filter less xs) ≡ filter more xs
+pub filter_twice : {X : Type 0} (more less : X → Bool) → ((x : X) → more x ≡ true → less x ≡ true) →
+    (xs : List X) → filter more (filter less xs) ≡ filter more xs
 filter_twice more less weaker [] = refl
 filter_twice more less weaker (x ∷ xs) =
     ⊎_elim

@@ -18,12 +18,15 @@ pub data Path (table : Table) (x : List ℕ) : Boundary → List Boundary → Bo
   Then : (b : Boundary) (done : List Boundary) (c : Boundary) → b.at < length x → Path table x (next_boundary table x b.at) done c → Path table x b (b ∷ done) c
 
 -- one search further
-pub path_step : (table : Table) (x : List ℕ) (b : Boundary) (done : List Boundary) (c : Boundary) → Path table x b done c → c.at < length x → Path table x b (done ++ c ∷ []) (next_boundary table x c.at)
+pub path_step : (table : Table) (x : List ℕ) (b : Boundary) (done : List Boundary) (c : Boundary) → Path table x b done c → c.at < length x →
+    Path table x b (done ++ c ∷ []) (next_boundary table x c.at)
 path_step table x _ _ _ (Here b) short = Then b [] (next_boundary table x b.at) short (Here (next_boundary table x b.at))
-path_step table x _ _ _ (Then b done c room path) short = Then b (done ++ c ∷ []) (next_boundary table x c.at) room (path_step table x (next_boundary table x b.at) done c path short)
+path_step table x _ _ _ (Then b done c room path) short =
+    Then b (done ++ c ∷ []) (next_boundary table x c.at) room (path_step table x (next_boundary table x b.at) done c path short)
 
 -- a path from a member that was reached reaches its end
-pub path_reaches : (table : Table) (x : List ℕ) (p : ℕ) (before : List Boundary) (b : Boundary) (done : List Boundary) (c : Boundary) → Reached table x p before b → Path table x b done c → Reached table x p (before ++ done) c
+pub path_reaches : (table : Table) (x : List ℕ) (p : ℕ) (before : List Boundary) (b : Boundary) (done : List Boundary) (c : Boundary) →
+    Reached table x p before b → Path table x b done c → Reached table x p (before ++ done) c
 path_reaches table x p before _ _ _ reached (Here b) = subst (λ bs. Reached table x p bs b) (sym (append-nil before)) reached
 path_reaches table x p before _ _ _ reached (Then b done c short path) =
     subst (λ bs. Reached table x p bs c) (append_assoc before (b ∷ []) done)
@@ -50,14 +53,17 @@ path_of_follow table x (suc most) b (d ∷ done) c rest whole =
     sym (cond-true (ltb b.at (length x)) (next ∷ follow_by (next_boundary table x) (length x) most next) [] (lt-ltb b.at (length x) short)) ∙ parts.1 in
     subst (λ e. Path table x b (e ∷ done) c) parts.0 (Then b done c short (path_of_follow table x most next done c rest goes_on)))
     (λ end.
-    absurd (nothing_left done c rest (sym (cond-false (ltb b.at (length x)) (next ∷ follow_by (next_boundary table x) (length x) most next) [] (le-ltb b.at (length x) end)) ∙ parts.1)))
+    absurd (nothing_left done c rest
+    (sym (cond-false (ltb b.at (length x)) (next ∷ follow_by (next_boundary table x) (length x) most next) [] (le-ltb b.at (length x) end)) ∙ parts.1)))
     (cases_lt b.at (length x))
 
-pub path_to : (table : Table) (x : List ℕ) (p : ℕ) (done : List Boundary) (c : Boundary) (rest : List Boundary) → fresh table x p ≡ done ++ c ∷ rest → Path table x (first_member p) done c
+pub path_to : (table : Table) (x : List ℕ) (p : ℕ) (done : List Boundary) (c : Boundary) (rest : List Boundary) → fresh table x p ≡ done ++ c ∷ rest →
+    Path table x (first_member p) done c
 path_to table x p done c rest whole = path_of_follow table x (length x) (first_member p) done c rest whole
 
 -- what stands before a member and the member are reached
-pub reached_of : (table : Table) (x : List ℕ) (p : ℕ) (done : List Boundary) (c : Boundary) (rest : List Boundary) → fresh table x p ≡ done ++ c ∷ rest → Reached table x p done c
+pub reached_of : (table : Table) (x : List ℕ) (p : ℕ) (done : List Boundary) (c : Boundary) (rest : List Boundary) → fresh table x p ≡ done ++ c ∷ rest →
+    Reached table x p done c
 reached_of table x p done c rest whole = path_reaches table x p [] (first_member p) done c (reached_start table x p) (path_to table x p done c rest whole)
 
 module _ (table : Table) (x y : List ℕ) (move : ℕ → ℕ) where
@@ -71,14 +77,16 @@ module _ (table : Table) (x y : List ℕ) (move : ℕ → ℕ) where
     pub next : next_boundary table y (move b.at) ≡ moved (next_boundary table x b.at)
 
   -- a path all of whose searches are carried over is one of the other text
-  pub path_moved : (b : Boundary) (done : List Boundary) (c : Boundary) → Path table x b done c → AllByRecursion IsCarried done → Path table y (moved b) (map moved done) (moved c)
+  pub path_moved : (b : Boundary) (done : List Boundary) (c : Boundary) → Path table x b done c → AllByRecursion IsCarried done →
+      Path table y (moved b) (map moved done) (moved c)
   path_moved _ _ _ (Here b) each = Here (moved b)
   path_moved _ _ _ (Then b done c short path) each =
       Then (moved b) (map moved done) (moved c) each.0.short
       (subst (λ d. Path table y d (map moved done) (moved c)) (sym each.0.next) (path_moved (next_boundary table x b.at) done c path each.1))
 
   -- a search that reads alike is carried over, where the places that it leads to are moved by the same distance
-  pub carried : (b : Boundary) → ReadsAlike table x y b.at (move b.at) → move b.at < length y → ((q : ℕ) → b.at ≤ q → move q + b.at ≡ q + move b.at) → IsCarried b
+  pub carried : (b : Boundary) → ReadsAlike table x y b.at (move b.at) → move b.at < length y → ((q : ℕ) → b.at ≤ q → move q + b.at ≡ q + move b.at) →
+      IsCarried b
   carried b alike short moves =
       let finds = finds_alike table x y b.at (move b.at) alike in
       let lies = found_lies table x b.at alike.within in

@@ -1,5 +1,6 @@
 -- The members found by fresh searches from an anchor, as far as they have come.
-use Rattle.std.proofs.Common.{◌≡◌, ℕ, zero, suc, ◌+◌, ◌<◌, ◌≤◌, max, Bool, true, false, ltb, leb, List, [], ◌∷◌, ◌++◌, length, map, filter, sym, refl, ap, ◌∙◌, subst, append_assoc, arith}
+use Rattle.std.proofs.Common.{◌≡◌, ℕ, zero, suc, ◌+◌, ◌<◌, ◌≤◌, max, Bool, true, false, ltb, leb, List, [], ◌∷◌, ◌++◌, length, map, filter, sym, refl, ap}
+use Rattle.std.proofs.Common.{◌∙◌, subst, append_assoc, arith}
 use Rattle.std.specs.List.{AllByRecursion}
 use Rattle.std.proofs.lemmas.Bool.{cond-true, cond-false, lt-ltb, le-ltb, lt-leb, le-leb}
 use Rattle.std.proofs.lemmas.List.{map-append, append-nil}
@@ -36,13 +37,15 @@ reached_step_from table x p done here (suc most) whole enough short =
       most = most;
       whole =
           whole
-          ∙ ap (λ bs. done ++ here ∷ bs) (cond-true (ltb here.at (length x)) (next ∷ follow_by (next_boundary table x) (length x) most next) [] (lt-ltb here.at (length x) short))
+          ∙ ap (λ bs. done ++ here ∷ bs) (cond-true (ltb here.at (length x)) (next ∷ follow_by (next_boundary table x) (length x) most next) []
+          (lt-ltb here.at (length x) short))
           ∙ sym (append_assoc done (here ∷ []) (next ∷ follow_by (next_boundary table x) (length x) most next));
       enough = omega (arith, (found_lies table x here.at short).0);
     }
 
 -- one search further
-pub reached_step : (table : Table) (x : List ℕ) (p : ℕ) (done : List Boundary) (here : Boundary) → Reached table x p done here → here.at < length x → Reached table x p (done ++ here ∷ []) (next_boundary table x here.at)
+pub reached_step : (table : Table) (x : List ℕ) (p : ℕ) (done : List Boundary) (here : Boundary) → Reached table x p done here → here.at < length x →
+    Reached table x p (done ++ here ∷ []) (next_boundary table x here.at)
 reached_step table x p done here reached short = reached_step_from table x p done here reached.most reached.whole reached.enough short
 
 pub none_follows : (next : ℕ → Boundary) (n most : ℕ) (here : Boundary) → n ≤ here.at → follow_by next n most here ≡ []
@@ -50,14 +53,17 @@ none_follows next n zero here end = refl
 none_follows next n (suc most) here end = cond-false (ltb here.at n) (next here.at ∷ follow_by next n most (next here.at)) [] (le-ltb here.at n end)
 
 -- at the text's end nothing follows
-pub reached_end : (table : Table) (x : List ℕ) (p : ℕ) (done : List Boundary) (here : Boundary) → Reached table x p done here → length x ≤ here.at → fresh table x p ≡ done ++ here ∷ []
-reached_end table x p done here reached end = reached.whole ∙ ap (λ bs. done ++ here ∷ bs) (none_follows (next_boundary table x) (length x) reached.most here end)
+pub reached_end : (table : Table) (x : List ℕ) (p : ℕ) (done : List Boundary) (here : Boundary) → Reached table x p done here → length x ≤ here.at →
+    fresh table x p ≡ done ++ here ∷ []
+reached_end table x p done here reached end =
+    reached.whole ∙ ap (λ bs. done ++ here ∷ bs) (none_follows (next_boundary table x) (length x) reached.most here end)
 
 max_zero : (a b : ℕ) → max a (max b 0) ≡ max a b
 max_zero a b = omega arith
 
 -- what stands before a member lies before it, and what stands behind it lies behind it
-rises_before : (done : List Boundary) (here : Boundary) (rest : List Boundary) → IsRising (places (done ++ here ∷ rest)) → AllByRecursion (λ b. b.at < here.at) done
+rises_before : (done : List Boundary) (here : Boundary) (rest : List Boundary) → IsRising (places (done ++ here ∷ rest)) →
+    AllByRecursion (λ b. b.at < here.at) done
 rises_before [] here rest rising = tt
 rises_before (b ∷ []) here rest rising = (rising.0, tt)
 rises_before (b ∷ c ∷ done) here rest rising =
@@ -83,10 +89,12 @@ module _ (table : Table) (x : List ℕ) (p : ℕ) (done : List Boundary) (here :
   done_before = rises_before done here (follow_by (next_boundary table x) (length x) reached.most here) rises
 
   pub rest_after : AllByRecursion (λ b. here.at < b.at) (follow_by (next_boundary table x) (length x) reached.most here)
-  rest_after = rises_after here (follow_by (next_boundary table x) (length x) reached.most here) (rising_right done (here ∷ follow_by (next_boundary table x) (length x) reached.most here) rises)
+  rest_after = rises_after here (follow_by (next_boundary table x) (length x) reached.most here)
+      (rising_right done (here ∷ follow_by (next_boundary table x) (length x) reached.most here) rises)
 
   -- a filter that keeps what lies before a place past what is done, and not past here, keeps what is done
-  keeps_done : (test : Boundary → Bool) → AllByRecursion (λ b. test b ≡ true) done → test here ≡ false → ((b : Boundary) → here.at < b.at → test b ≡ false) → filter test (fresh table x p) ≡ done
+  keeps_done : (test : Boundary → Bool) → AllByRecursion (λ b. test b ≡ true) done → test here ≡ false → ((b : Boundary) → here.at < b.at → test b ≡ false) →
+      filter test (fresh table x p) ≡ done
   keeps_done test each here_fails after_fails =
       let rest : List Boundary = follow_by (next_boundary table x) (length x) reached.most here in
       ap (filter test) reached.whole

@@ -1,5 +1,6 @@
 -- What a scan leaves is ready to be kept.
-use Rattle.std.proofs.Common.{◌≡◌, ◌≢◌, ℕ, ◌+◌, ◌<◌, ◌≤◌, ◌⊎◌, false, eqb, Option, Some, None, List, [], ◌∷◌, ◌++◌, length, length-append, length-drop, map, sym, refl, ap, ◌∙◌, subst, inl, inr, ⊎_elim, append_assoc, arith}
+use Rattle.std.proofs.Common.{◌≡◌, ◌≢◌, ℕ, ◌+◌, ◌<◌, ◌≤◌, ◌⊎◌, false, eqb, Option, Some, None, List, [], ◌∷◌, ◌++◌, length, length-append, length-drop, map}
+use Rattle.std.proofs.Common.{sym, refl, ap, ◌∙◌, subst, inl, inr, ⊎_elim, append_assoc, arith}
 use Rattle.std.specs.Prelude.{IsTrue, unwrap_or, sum_by}
 use Rattle.std.specs.List.{AllByRecursion}
 use Rattle.std.proofs.lemmas.Bool.{cond-true, cond-false, cases_eq, eq-eqb, ne_eqb}
@@ -49,7 +50,8 @@ anchor_is table valid x i = of (greatest_below (is_anchor table x) i) refl
         record { anchor = (anchors_stored table valid x q).0 lies.1; below = inr lies.0; low_is = low_below i q (inr lies.0) }
 
 -- the anchor of a true run from whose last entry it goes on
-pub anchored_below : (table : Table) → IsValidTable table → (x : List ℕ) (i : ℕ) (former : Run) → IsTrueRun table x former → (from : Entry) → GoesOnFrom i from former → IsAnchorBelow table x i former.anchor
+pub anchored_below : (table : Table) → IsValidTable table → (x : List ℕ) (i : ℕ) (former : Run) → IsTrueRun table x former →
+    (from : Entry) → GoesOnFrom i from former → IsAnchorBelow table x i former.anchor
 anchored_below table valid x i former is_true from goes =
     let up_to = goes.up_to in
     let below : (former.anchor ≡ 0) ⊎ (former.anchor < i) =
@@ -58,7 +60,8 @@ anchored_below table valid x i former is_true from goes =
 
 module _ (table : Table) (valid : IsValidTable table) (x : List ℕ) (i : ℕ) where
   -- what a scan read is a part of the cost of all searches up to i
-  pub scan_cost : (p : ℕ) (start : Scan) (here : Entry) (run : Run) (before now : ℕ) → HasGoneOn table x p i start here run before now → i < here.at → now ≤ before + searches_cost table x p i
+  pub scan_cost : (p : ℕ) (start : Scan) (here : Entry) (run : Run) (before now : ℕ) → HasGoneOn table x p i start here run before now → i < here.at →
+      now ≤ before + searches_cost table x p i
   scan_cost p start here run before now gone past =
       let of : Boundary → ℕ = λ b. characters_read table x b.at in
       omega (
@@ -75,13 +78,22 @@ module _ (table : Table) (valid : IsValidTable table) (x : List ℕ) (i : ℕ) w
       ⊎_elim
       (λ whole. ⊎_elim
       (λ nothing. let none = is.none nothing in absurd (omega (arith, none.0)))
-      (λ last. omega (arith, ap length is.entries, length-drop is.cut (scan.known ++ scan.found), whole, ap length last.1, length-append last.0 (scan.here ∷ [])))
+      (λ last. omega (
+        arith,
+        ap length is.entries,
+        length-drop is.cut (scan.known ++ scan.found),
+        whole,
+        ap length last.1,
+        length-append last.0
+            (scan.here ∷ []),
+      ))
       is.last)
       (λ two. omega arith)
       is.enough_left
 
   -- A run made from an anchor.
-  pub ready_from_anchor : (p : ℕ) → IsAnchorBelow table x i p → (start : Scan) → start.known ≡ [] → (here : Entry) (run : Run) (before now : ℕ) → HasGoneOn table x p i start here run before now → i < here.at →
+  pub ready_from_anchor : (p : ℕ) → IsAnchorBelow table x i p → (start : Scan) → start.known ≡ [] → (here : Entry) (run : Run) (before now : ℕ) →
+      HasGoneOn table x p i start here run before now → i < here.at →
       (kept : List Run) → IsReady table x i kept here run
   ready_from_anchor p anchor start unknown here run before now gone past kept =
       let is = gone.is in
@@ -93,18 +105,21 @@ module _ (table : Table) (valid : IsValidTable table) (x : List ℕ) (i : ℕ) w
       record {
         is_true = subst (λ a. IsTrueRun table x (record { anchor = a; entries = run.entries; leads = run.leads })) (sym is.anchor)
             (scan_true table valid x p i gone.scan run is run.leads anchor.anchor some (λ leads. (known, is.leads.0 leads)));
-        shows = subst (IsShownAfter run i) gone.here_is (scan_shows table valid x p i gone.scan run is run ends.0 ends.1 ends.2 past' (nearest ends.0 ends.1 is.enough_left));
+        shows = subst (IsShownAfter run i) gone.here_is
+            (scan_shows table valid x p i gone.scan run is run ends.0 ends.1 ends.2 past' (nearest ends.0 ends.1 is.enough_left));
         reaches = subst (λ a. HasLeastReaches table x kept (record { anchor = a; entries = run.entries; leads = run.leads })) (sym is.anchor)
             (scan_least table valid x p i gone.scan run is kept run.leads (inl known));
       }
     where
-      nearest : (front : List Entry) → run.entries ≡ front ++ gone.scan.here ∷ [] → ((gone.is.cut ≡ 0) ⊎ (2 ≤ length run.entries)) → (front ≢ []) ⊎ (IsTrue run.leads × (low run.anchor ≤ i + 1))
+      nearest : (front : List Entry) → run.entries ≡ front ++ gone.scan.here ∷ [] → ((gone.is.cut ≡ 0) ⊎ (2 ≤ length run.entries)) →
+          (front ≢ []) ⊎ (IsTrue run.leads × (low run.anchor ≤ i + 1))
       nearest front whole (inl all) = inr (gone.is.leads.1 all, omega (arith, ap low gone.is.anchor, anchor.low_is))
       nearest front whole (inr two) = inl (λ none. omega (arith, ap length whole, length-append front (gone.scan.here ∷ []), ap length none))
 
   -- A run that goes on from the last entry of a kept one.
   module _ (former : Run) (is_true : IsTrueRun table x former) (from : Entry) (goes : GoesOnFrom i from former)
-      (start : Scan) (known_start : start.known ≡ from ∷ []) (here : Entry) (run : Run) (before now : ℕ) (gone : HasGoneOn table x former.anchor i start here run before now) (past : i < here.at) where
+      (start : Scan) (known_start : start.known ≡ from ∷ []) (here : Entry) (run : Run) (before now : ℕ)
+      (gone : HasGoneOn table x former.anchor i start here run before now) (past : i < here.at) where
     known : gone.scan.known ≡ from ∷ []
     known = gone.known ∙ known_start
 
@@ -122,7 +137,8 @@ module _ (table : Table) (valid : IsValidTable table) (x : List ℕ) (i : ℕ) w
         (λ last. of last.0 (ap (λ l. l ++ gone.scan.found) (sym known) ∙ last.1))
         gone.is.last
       where
-        of : (front : List Entry) → from ∷ gone.scan.found ≡ front ++ gone.scan.here ∷ [] → (front' : List Entry) × (gone.scan.found ≡ front' ++ gone.scan.here ∷ [])
+        of : (front : List Entry) → from ∷ gone.scan.found ≡ front ++ gone.scan.here ∷ [] → (front' : List Entry) ×
+            (gone.scan.found ≡ front' ++ gone.scan.here ∷ [])
         of [] whole = absurd (let same : from ≡ gone.scan.here = cc in let low_from = goes.up_to in omega (arith, ap (λ e. e.at) same, past_here))
         of (e ∷ front) whole = (front, cc)
 
@@ -138,7 +154,8 @@ module _ (table : Table) (valid : IsValidTable table) (x : List ℕ) (i : ℕ) w
         rising_up_to (e ∷ f ∷ front) rising = let more = rising_up_to (f ∷ front) rising.1 in (omega (arith, rising.0, more.0), more)
 
     -- the kept run, extended
-    pub ready_extended : length (former.entries ++ gone.scan.found) ≤ 256 → (kept : List Run) → IsAmong kept former → IsReady table x i kept here (record { anchor = former.anchor; entries = former.entries ++ gone.scan.found; leads = former.leads })
+    pub ready_extended : length (former.entries ++ gone.scan.found) ≤ 256 → (kept : List Run) → IsAmong kept former →
+        IsReady table x i kept here (record { anchor = former.anchor; entries = former.entries ++ gone.scan.found; leads = former.leads })
     ready_extended few kept among =
         let ends = found_ends in
         let new_up_to : AllByRecursion (λ e. e.at ≤ i) (from ∷ ends.0) =
@@ -146,10 +163,12 @@ module _ (table : Table) (valid : IsValidTable table) (x : List ℕ) (i : ℕ) w
         record {
           is_true = extended_true table valid x i former is_true goes.front from goes.whole gone.scan run gone.is known few;
           shows = subst (IsShownAfter (record { anchor = former.anchor; entries = former.entries ++ gone.scan.found; leads = former.leads }) i) gone.here_is
-              (scan_shows table valid x former.anchor i gone.scan run gone.is (record { anchor = former.anchor; entries = former.entries ++ gone.scan.found; leads = former.leads }) (former.entries ++ ends.0)
+              (scan_shows table valid x former.anchor i gone.scan run gone.is
+              (record { anchor = former.anchor; entries = former.entries ++ gone.scan.found; leads = former.leads }) (former.entries ++ ends.0)
               (ap (λ l. former.entries ++ l) ends.1 ∙ sym (append_assoc former.entries ends.0 (gone.scan.here ∷ [])))
               (all_join (λ e. e.at ≤ i) former.entries ends.0 old_up_to new_up_to.1) past_here (inl (some_before ends.0)));
-          reaches = extended_least table valid x i former is_true goes.front from goes.whole gone.scan run gone.is known among.before among.after kept among.whole;
+          reaches = extended_least table valid x i former is_true goes.front from goes.whole gone.scan run gone.is known among.before among.after kept
+              among.whole;
         }
       where
         some_before : (front : List Entry) → former.entries ++ front ≢ []
@@ -159,7 +178,8 @@ module _ (table : Table) (valid : IsValidTable table) (x : List ℕ) (i : ℕ) w
     is_extended = extends table valid x i former is_true goes.front from goes.whole gone.scan run gone.is known
 
     -- another run
-    pub ready_beside : (kept : List Run) → IsAmong kept former → IsReady table x i kept here (record { anchor = run.anchor; entries = run.entries; leads = false })
+    pub ready_beside : (kept : List Run) → IsAmong kept former →
+        IsReady table x i kept here (record { anchor = run.anchor; entries = run.entries; leads = false })
     ready_beside kept among =
         let is = gone.is in
         let some = some_entry former.anchor gone.scan run is past_here anchored.low_is in
@@ -169,11 +189,21 @@ module _ (table : Table) (valid : IsValidTable table) (x : List ℕ) (i : ℕ) w
           is_true = subst (λ a. IsTrueRun table x (record { anchor = a; entries = run.entries; leads = false })) (sym is.anchor)
               (scan_true table valid x former.anchor i gone.scan run is false anchored.anchor some (λ leads. absurd (never leads)));
           shows = subst (IsShownAfter (record { anchor = run.anchor; entries = run.entries; leads = false }) i) gone.here_is
-              (scan_shows table valid x former.anchor i gone.scan run is (record { anchor = run.anchor; entries = run.entries; leads = false }) ends.0 ends.1 ends.2 past_here
+              (scan_shows table valid x former.anchor i gone.scan run is (record { anchor = run.anchor; entries = run.entries; leads = false }) ends.0 ends.1
+              ends.2 past_here
               (inl (λ none. omega (arith, two, ap length ends.1, length-append ends.0 (gone.scan.here ∷ []), ap length none))));
           reaches = subst (λ a. HasLeastReaches table x kept (record { anchor = a; entries = run.entries; leads = false })) (sym is.anchor)
               (scan_least table valid x former.anchor i gone.scan run is kept false
-              (inr (subst (EndFormerRun kept former.anchor) (sym known) (record { earlier = among.before; run = former; later = among.after; kept = among.whole; same = refl; before = goes.front; whole = goes.whole }))));
+              (inr (subst (EndFormerRun kept former.anchor) (sym known) (record {
+                earlier = among.before;
+                run = former;
+                later = among.after;
+                kept =
+                    among.whole;
+                same = refl;
+                before = goes.front;
+                whole = goes.whole;
+              }))));
         }
       where
         never : IsTrue false → ⊥
@@ -182,4 +212,14 @@ module _ (table : Table) (valid : IsValidTable table) (x : List ℕ) (i : ℕ) w
         two_entries : ((gone.is.cut ≡ 0) ⊎ (2 ≤ length run.entries)) → 2 ≤ length run.entries
         two_entries (inr two) = two
         two_entries (inl all) =
-            omega (arith, ap length gone.is.entries, length-drop gone.is.cut (gone.scan.known ++ gone.scan.found), all, length-append gone.scan.known gone.scan.found, ap length known, ap length found_ends.1, length-append found_ends.0 (gone.scan.here ∷ []))
+            omega (
+              arith,
+              ap length gone.is.entries,
+              length-drop gone.is.cut (gone.scan.known ++ gone.scan.found),
+              all,
+              length-append gone.scan.known
+                  gone.scan.found,
+              ap length known,
+              ap length found_ends.1,
+              length-append found_ends.0 (gone.scan.here ∷ []),
+            )

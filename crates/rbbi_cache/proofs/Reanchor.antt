@@ -1,5 +1,6 @@
 -- The entries of a true run behind a safe pair are a true run of that pair.
-use Rattle.std.proofs.Common.{◌≡◌, ℕ, ◌+◌, ◌<◌, ◌≤◌, ◌⊎◌, true, false, eqb, leb, ltb, List, [], ◌∷◌, ◌++◌, length, length-append, map, filter, sym, refl, ap, ◌∙◌, subst, inr, ⊎_elim, append_assoc, arith}
+use Rattle.std.proofs.Common.{◌≡◌, ℕ, ◌+◌, ◌<◌, ◌≤◌, ◌⊎◌, true, false, eqb, leb, ltb, List, [], ◌∷◌, ◌++◌, length, length-append, map, filter, sym, refl, ap}
+use Rattle.std.proofs.Common.{◌∙◌, subst, inr, ⊎_elim, append_assoc, arith}
 use Rattle.std.specs.Prelude.{IsTrue}
 use Rattle.std.specs.List.{AllByRecursion}
 use Rattle.std.proofs.lemmas.Bool.{cases_Bool, cases_lt, cases_eq, cond-true, cond-false, le-leb, lt-leb, leb-true, leb-false, ltb-true, ne_eqb, eq-eqb}
@@ -85,7 +86,8 @@ pub record Passes (table : Table) (x : List ℕ) (q k : ℕ) : Type 0 where
   pub spans : q < (next_boundary table x m).at
   pub look : look_end table x m ≤ k
 
-passing : (table : Table) (x : List ℕ) (q k : ℕ) (b : Boundary) (done : List Boundary) (c : Boundary) → Path table x b done c → AllByRecursion (λ m. look_end table x m.at ≤ k) done → b.at ≤ q → q < c.at → Passes table x q k
+passing : (table : Table) (x : List ℕ) (q k : ℕ) (b : Boundary) (done : List Boundary) (c : Boundary) → Path table x b done c →
+    AllByRecursion (λ m. look_end table x m.at ≤ k) done → b.at ≤ q → q < c.at → Passes table x q k
 passing table x q k _ _ _ (Here b) looks starts ends = absurd (omega arith)
 passing table x q k _ _ _ (Then b done c short path) looks starts ends =
     ⊎_elim
@@ -96,7 +98,8 @@ passing table x q k _ _ _ (Then b done c short path) looks starts ends =
 pub fresh_rises : (table : Table) (x : List ℕ) (p : ℕ) → IsRising (places (fresh table x p))
 fresh_rises table x p = follow_rise (next_boundary table x) (length x) (λ s short. found_lies table x s short) (length x) (first_member p)
 
-module _ (table : Table) (valid : IsValidTable table) (x : List ℕ) (run : Run) (is_true : IsTrueRun table x run) (q : ℕ) (room : q + 2 ≤ length x) (safe : IsSafePair table (category_at table x q) (category_at table x (q + 1))) (order : run.anchor ≤ q) where
+module _ (table : Table) (valid : IsValidTable table) (x : List ℕ) (run : Run) (is_true : IsTrueRun table x run) (q : ℕ) (room : q + 2 ≤ length x)
+    (safe : IsSafePair table (category_at table x q) (category_at table x (q + 1))) (order : run.anchor ≤ q) where
   -- past the pair the searches from it find the places that those from the anchor find
   same_places : places (from_place (q + 1) (fresh table x q)) ≡ places (from_place (q + 1) (fresh table x run.anchor))
   same_places =
@@ -128,7 +131,8 @@ module _ (table : Table) (valid : IsValidTable table) (x : List ℕ) (run : Run)
     -- the search from the pair looks no farther than the entry reaches
     look_here : look_end table x q ≤ entry.reach
     look_here =
-        let passes = passing table x q entry.reach (first_member run.anchor) (is_true.consecutive.before ++ map (boundary_of table) front) (boundary_of table entry)
+        let passes = passing table x q entry.reach (first_member run.anchor) (is_true.consecutive.before ++ map (boundary_of table) front)
+        (boundary_of table entry)
         (facts.path_is table valid x run is_true front entry rest whole) (facts.looks table valid x run is_true front entry rest whole) order (omega arith) in
         ⊎_elim
         (λ is. omega (arith, ap (look_end table x) is, passes.look))
@@ -149,13 +153,17 @@ module _ (table : Table) (valid : IsValidTable table) (x : List ℕ) (run : Run)
         let there : AllByRecursion (λ m. Ok m.at) (fresh table x run.anchor) =
         subst (λ bs. AllByRecursion (λ m. Ok m.at) bs) (sym reached.whole)
         (all_join (λ m. Ok m.at) done (b entry ∷ follow)
-        (all_through (λ m. look_end table x m.at ≤ entry.reach) (λ m. Ok m.at) (λ m look _. look) done (facts.looks table valid x run is_true front entry rest whole)) (
+        (all_through (λ m. look_end table x m.at ≤ entry.reach) (λ m. Ok m.at) (λ m look _. look) done
+        (facts.looks table valid x run is_true front entry rest whole)) (
           λ less. absurd (omega arith),
-          all_through (λ m. entry.at < m.at) (λ m. Ok m.at) (λ m later less. absurd (omega arith)) follow (rest_after table x run.anchor done (b entry) reached),
+          all_through (λ m. entry.at < m.at) (λ m. Ok m.at) (λ m later less. absurd (omega arith)) follow
+              (rest_after table x run.anchor done (b entry) reached),
         )) in
         let kept : AllByRecursion (λ m. Ok m.at) (from_place (q + 1) (fresh table x q)) =
         all_unmap (λ m. m.at) Ok (from_place (q + 1) (fresh table x q))
-        (subst (λ ns. AllByRecursion Ok ns) (sym same_places) (all_map (λ m. m.at) Ok (from_place (q + 1) (fresh table x run.anchor)) (all_filter (λ m. Ok m.at) (λ m. leb (q + 1) m.at) (fresh table x run.anchor) there))) in
+        (subst (λ ns. AllByRecursion Ok ns) (sym same_places)
+        (all_map (λ m. m.at) Ok (from_place (q + 1) (fresh table x run.anchor))
+        (all_filter (λ m. Ok m.at) (λ m. leb (q + 1) m.at) (fresh table x run.anchor) there))) in
         all_by_test (λ m. Ok m.at) (λ m. leb (q + 1) m.at) (fresh table x q) kept
         (all_through (λ m. q ≤ m.at) (λ m. leb (q + 1) m.at ≡ false → Ok m.at)
         (λ m from fails less.
@@ -173,13 +181,17 @@ module _ (table : Table) (valid : IsValidTable table) (x : List ℕ) (run : Run)
         (all_map (λ m. look_end table x m.at) (λ n. n ≤ entry.reach) (filter (λ m. ltb m.at entry.at) (fresh table x q))
         (kept_less (fresh table x q) looks_here))
       where
-        kept_less : (bs : List Boundary) → AllByRecursion (λ m. m.at < entry.at → look_end table x m.at ≤ entry.reach) bs → AllByRecursion (λ m. look_end table x m.at ≤ entry.reach) (filter (λ m. ltb m.at entry.at) bs)
+        kept_less : (bs : List Boundary) → AllByRecursion (λ m. m.at < entry.at → look_end table x m.at ≤ entry.reach) bs →
+            AllByRecursion (λ m. look_end table x m.at ≤ entry.reach) (filter (λ m. ltb m.at entry.at) bs)
         kept_less [] each = tt
         kept_less (b ∷ bs) each =
             let more = kept_less bs each.1 in
             ⊎_elim
-            (λ holds. subst (λ l. AllByRecursion (λ m. look_end table x m.at ≤ entry.reach) l) (sym (cond-true (ltb b.at entry.at) (b ∷ filter (λ m. ltb m.at entry.at) bs) (filter (λ m. ltb m.at entry.at) bs) holds)) (each.0 (ltb-true b.at entry.at holds), more))
-            (λ fails. subst (λ l. AllByRecursion (λ m. look_end table x m.at ≤ entry.reach) l) (sym (cond-false (ltb b.at entry.at) (b ∷ filter (λ m. ltb m.at entry.at) bs) (filter (λ m. ltb m.at entry.at) bs) fails)) more)
+            (λ holds. subst (λ l. AllByRecursion (λ m. look_end table x m.at ≤ entry.reach) l)
+            (sym (cond-true (ltb b.at entry.at) (b ∷ filter (λ m. ltb m.at entry.at) bs) (filter (λ m. ltb m.at entry.at) bs) holds))
+            (each.0 (ltb-true b.at entry.at holds), more))
+            (λ fails. subst (λ l. AllByRecursion (λ m. look_end table x m.at ≤ entry.reach) l)
+            (sym (cond-false (ltb b.at entry.at) (b ∷ filter (λ m. ltb m.at entry.at) bs) (filter (λ m. ltb m.at entry.at) bs) fails)) more)
             (cases_Bool (ltb b.at entry.at))
 
   rise_right : (left rest : List Entry) → ReachesRise (left ++ rest) → ReachesRise rest
@@ -189,7 +201,8 @@ module _ (table : Table) (valid : IsValidTable table) (x : List ℕ) (run : Run)
   rise_right (e ∷ f ∷ left) rest rise = rise_right (f ∷ left) rest rise.1
 
   -- the entries from two characters behind the pair on are a true run of it
-  pub true_behind : (front : List Entry) (first : Entry) (more : List Entry) → run.entries ≡ front ++ first ∷ more → AllByRecursion (λ e. q + 2 ≤ e.at) (first ∷ more) → IsTrueRun table x (record { anchor = q; entries = first ∷ more; leads = false })
+  pub true_behind : (front : List Entry) (first : Entry) (more : List Entry) → run.entries ≡ front ++ first ∷ more →
+      AllByRecursion (λ e. q + 2 ≤ e.at) (first ∷ more) → IsTrueRun table x (record { anchor = q; entries = first ∷ more; leads = false })
   true_behind front first more whole past =
       let b : Entry → Boundary = boundary_of table in
       let before : List Boundary = is_true.consecutive.before in
@@ -205,11 +218,14 @@ module _ (table : Table) (valid : IsValidTable table) (x : List ℕ) (run : Run)
       let rises : AllByRecursion (λ (m : Boundary). q + 2 ≤ m.at) tail = (
         past.0,
         all_through (λ m. first.at < m.at) (λ m. q + 2 ≤ m.at) (λ m less. omega (arith, past.0)) (map b more ++ after)
-            (rises_after (b first) (map b more ++ after) (rising_right done tail (subst (λ bs. IsRising (places bs)) fresh_is (fresh_rises table x run.anchor)))),
+            (rises_after (b first) (map b more ++ after)
+            (rising_right done tail (subst (λ bs. IsRising (places bs)) fresh_is (fresh_rises table x run.anchor)))),
       ) in
       let kept : from_place (q + 2) (done ++ tail) ≡ from_place (q + 2) done ++ tail =
       filter-append (λ (m : Boundary). leb (q + 2) m.at) done tail
-      ∙ ap (λ bs. from_place (q + 2) done ++ bs) (filter_all (λ (m : Boundary). leb (q + 2) m.at) tail (all_through (λ m. q + 2 ≤ m.at) (λ m. leb (q + 2) m.at ≡ true) (λ m from. le-leb (q + 2) m.at from) tail rises)) in
+      ∙ ap (λ bs. from_place (q + 2) done ++ bs)
+      (filter_all (λ (m : Boundary). leb (q + 2) m.at) tail
+      (all_through (λ m. q + 2 ≤ m.at) (λ m. leb (q + 2) m.at ≡ true) (λ m from. le-leb (q + 2) m.at from) tail rises)) in
       record {
         anchor = inr (room, safe);
         some = omega arith;

@@ -1,5 +1,6 @@
 -- What the searches up to an entry of a true run have done.
-use Rattle.std.proofs.Common.{◌≡◌, ℕ, ◌+◌, ◌<◌, ◌≤◌, ◌⊎◌, max, List, [], ◌∷◌, ◌++◌, length, map, sym, refl, ap, ◌∙◌, subst, inl, inr, ⊎_elim, append_assoc, arith}
+use Rattle.std.proofs.Common.{◌≡◌, ℕ, ◌+◌, ◌<◌, ◌≤◌, ◌⊎◌, max, List, [], ◌∷◌, ◌++◌, length, map, sym, refl, ap, ◌∙◌, subst, inl, inr, ⊎_elim, append_assoc}
+use Rattle.std.proofs.Common.{arith}
 use Rattle.std.specs.List.{AllByRecursion}
 use Rattle.std.proofs.lemmas.List.{map-append}
 use Rattle.rbbi_model.specs.Places.{largest}
@@ -17,7 +18,8 @@ use Rattle.rbbi_cache.proofs.Paths.{Path, Here, Then, path_to, reached_of}
 use Rattle.rbbi_cache.proofs.Texts.{end_by_look}
 
 -- what holds of each element with what stands round it holds of all
-pub all_by_splits : {X : Type 0} (P : X → Type 0) (xs : List X) → ((before : List X) (x : X) (after : List X) → xs ≡ before ++ x ∷ after → P x) → AllByRecursion P xs
+pub all_by_splits : {X : Type 0} (P : X → Type 0) (xs : List X) → ((before : List X) (x : X) (after : List X) → xs ≡ before ++ x ∷ after → P x) →
+    AllByRecursion P xs
 all_by_splits P [] each = tt
 all_by_splits P (x ∷ xs) each = (each [] x xs refl, all_by_splits P xs (λ before y after whole. each (x ∷ before) y after (ap (λ l. x ∷ l) whole)))
 
@@ -26,12 +28,14 @@ largest_bounds [] = tt
 largest_bounds (n ∷ ns) = (omega arith, all_through (λ m. m ≤ largest ns) (λ m. m ≤ max n (largest ns)) (λ m less. omega arith) ns (largest_bounds ns))
 
 -- each member that is done starts a search within the text
-pub path_short : (table : Table) (x : List ℕ) (b : Boundary) (done : List Boundary) (c : Boundary) → Path table x b done c → AllByRecursion (λ m. m.at < length x) done
+pub path_short : (table : Table) (x : List ℕ) (b : Boundary) (done : List Boundary) (c : Boundary) → Path table x b done c →
+    AllByRecursion (λ m. m.at < length x) done
 path_short table x _ _ _ (Here b) = tt
 path_short table x _ _ _ (Then b done c short path) = (short, path_short table x (next_boundary table x b.at) done c path)
 
 -- a member that isn't the first lies no farther than the searches up to it look
-pub at_by_look : (table : Table) (x : List ℕ) → IsValidTable table → (b : Boundary) (done : List Boundary) (c : Boundary) → Path table x b done c → (c ≡ b) ⊎ (c.at ≤ largest (map (λ m. look_end table x m.at) done))
+pub at_by_look : (table : Table) (x : List ℕ) → IsValidTable table → (b : Boundary) (done : List Boundary) (c : Boundary) → Path table x b done c →
+    (c ≡ b) ⊎ (c.at ≤ largest (map (λ m. look_end table x m.at) done))
 at_by_look table x valid _ _ _ (Here b) = inl refl
 at_by_look table x valid _ _ _ (Then b done c short path) =
     inr (⊎_elim
@@ -44,7 +48,8 @@ pub path_within : (table : Table) (x : List ℕ) (b : Boundary) (done : List Bou
 path_within table x _ _ _ (Here b) within = within
 path_within table x _ _ _ (Then b done c short path) within = path_within table x (next_boundary table x b.at) done c path (found_lies table x b.at short).1
 
-module _ (table : Table) (valid : IsValidTable table) (x : List ℕ) (run : Run) (is_true : IsTrueRun table x run) (front : List Entry) (entry : Entry) (rest : List Entry) (whole : run.entries ≡ front ++ entry ∷ rest) where
+module _ (table : Table) (valid : IsValidTable table) (x : List ℕ) (run : Run) (is_true : IsTrueRun table x run) (front : List Entry) (entry : Entry)
+    (rest : List Entry) (whole : run.entries ≡ front ++ entry ∷ rest) where
   -- what was done before the entry
   abbrev pub done_before : List Boundary
   done_before = is_true.consecutive.before ++ map (boundary_of table) front
@@ -52,7 +57,8 @@ module _ (table : Table) (valid : IsValidTable table) (x : List ℕ) (run : Run)
   abbrev pub behind : List Boundary
   behind = map (boundary_of table) rest ++ is_true.consecutive.after
 
-  pub fresh_is : fresh table x run.anchor ≡ (is_true.consecutive.before ++ map (boundary_of table) front) ++ boundary_of table entry ∷ (map (boundary_of table) rest ++ is_true.consecutive.after)
+  pub fresh_is : fresh table x run.anchor ≡ (is_true.consecutive.before ++ map (boundary_of table) front) ++ boundary_of table entry ∷
+      (map (boundary_of table) rest ++ is_true.consecutive.after)
   fresh_is =
       let before : List Boundary = is_true.consecutive.before in
       let after : List Boundary = is_true.consecutive.after in
@@ -64,10 +70,12 @@ module _ (table : Table) (valid : IsValidTable table) (x : List ℕ) (run : Run)
       ∙ append_assoc (before ++ map b front) (b entry ∷ map b rest) after
 
   pub path_is : Path table x (first_member run.anchor) (is_true.consecutive.before ++ map (boundary_of table) front) (boundary_of table entry)
-  path_is = path_to table x run.anchor (is_true.consecutive.before ++ map (boundary_of table) front) (boundary_of table entry) (map (boundary_of table) rest ++ is_true.consecutive.after) fresh_is
+  path_is = path_to table x run.anchor (is_true.consecutive.before ++ map (boundary_of table) front) (boundary_of table entry)
+      (map (boundary_of table) rest ++ is_true.consecutive.after) fresh_is
 
   pub reached_is : Reached table x run.anchor (is_true.consecutive.before ++ map (boundary_of table) front) (boundary_of table entry)
-  reached_is = reached_of table x run.anchor (is_true.consecutive.before ++ map (boundary_of table) front) (boundary_of table entry) (map (boundary_of table) rest ++ is_true.consecutive.after) fresh_is
+  reached_is = reached_of table x run.anchor (is_true.consecutive.before ++ map (boundary_of table) front) (boundary_of table entry)
+      (map (boundary_of table) rest ++ is_true.consecutive.after) fresh_is
 
   this : (P : Entry → Type 0) → AllByRecursion P run.entries → P entry
   this P each = (all_right P front (entry ∷ rest) (subst (λ entries. AllByRecursion P entries) whole each)).0

@@ -1,5 +1,6 @@
 -- Runs at their places in a list.
-use Rattle.std.proofs.Common.{◌≡◌, ℕ, suc, ◌+◌, ◌-◌, ◌<◌, List, [], ◌∷◌, ◌++◌, length, length-append, length-take, take, drop, get_or, sym, ap, ◌∙◌, subst, append_assoc, arith}
+use Rattle.std.proofs.Common.{◌≡◌, ℕ, suc, ◌+◌, ◌-◌, ◌<◌, List, [], ◌∷◌, ◌++◌, length, length-append, length-take, take, drop, get_or, sym, ap, ◌∙◌, subst}
+use Rattle.std.proofs.Common.{append_assoc, arith}
 use Rattle.std.specs.List.{AllByRecursion}
 use Rattle.std.proofs.lemmas.List.{take-append-drop, take_more}
 use Rattle.std.proofs.Math.Seq.{drop-cons, take-append_seam, drop-append_seam}
@@ -17,17 +18,22 @@ has_at P runs k run short is such = record {
   such = such;
 }
 
-pub one_more : (P : Run → Type 0) (runs : List Run) (k : ℕ) (run : Run) → k < length runs → run ≡ get_or runs k run → AllByRecursion P (take k runs) → P run → AllByRecursion P (take (k + 1) runs)
+pub one_more : (P : Run → Type 0) (runs : List Run) (k : ℕ) (run : Run) → k < length runs → run ≡ get_or runs k run → AllByRecursion P (take k runs) →
+    P run → AllByRecursion P (take (k + 1) runs)
 one_more P runs k run short is each such =
-    subst (λ l. AllByRecursion P l) (sym (take_more runs k run short ∙ ap (λ r. take k runs ++ r ∷ []) (sym is))) (all_join P (take k runs) (run ∷ []) each (such, tt))
+    subst (λ l. AllByRecursion P l) (sym (take_more runs k run short ∙ ap (λ r. take k runs ++ r ∷ []) (sym is)))
+    (all_join P (take k runs) (run ∷ []) each (such, tt))
 
 pub rotated : (runs before after : List Run) (run : Run) (k : ℕ) (first : List Run) → runs ≡ before ++ run ∷ after → length before ≡ k →
-    first ≡ drop (length (take (k + 1) runs) - 1) (take (k + 1) runs) ++ take (length (take (k + 1) runs) - 1) (take (k + 1) runs) → first ++ drop (k + 1) runs ≡ run ∷ (before ++ after)
+    first ≡ drop (length (take (k + 1) runs) - 1) (take (k + 1) runs) ++ take (length (take (k + 1) runs) - 1) (take (k + 1) runs) →
+    first ++ drop (k + 1) runs ≡ run ∷ (before ++ after)
 rotated runs before after run k first whole number is =
     let size : length (before ++ run ∷ []) ≡ k + 1 = omega (arith, length-append before (run ∷ [])) in
     let split : runs ≡ (before ++ run ∷ []) ++ after = whole ∙ sym (append_assoc before (run ∷ []) after) in
-    let front : take (k + 1) runs ≡ before ++ run ∷ [] = ap (take (k + 1)) split ∙ ap (λ n. take n ((before ++ run ∷ []) ++ after)) (sym size) ∙ take-append_seam (before ++ run ∷ []) after in
-    let back : drop (k + 1) runs ≡ after = ap (drop (k + 1)) split ∙ ap (λ n. drop n ((before ++ run ∷ []) ++ after)) (sym size) ∙ drop-append_seam (before ++ run ∷ []) after in
+    let front : take (k + 1) runs ≡ before ++ run ∷ [] = ap (take (k + 1)) split ∙ ap (λ n. take n ((before ++ run ∷ []) ++ after)) (sym size)
+    ∙ take-append_seam (before ++ run ∷ []) after in
+    let back : drop (k + 1) runs ≡ after = ap (drop (k + 1)) split ∙ ap (λ n. drop n ((before ++ run ∷ []) ++ after)) (sym size)
+    ∙ drop-append_seam (before ++ run ∷ []) after in
     let less : length (before ++ run ∷ []) - 1 ≡ length before = omega (arith, size, number) in
     let turned : first ≡ run ∷ before =
     is

@@ -1,5 +1,6 @@
 -- How a scan begins, and what the run that it leaves is.
-use Rattle.std.proofs.Common.{◌≡◌, ◌≢◌, ℕ, ◌+◌, ◌<◌, ◌≤◌, ◌⊎◌, Bool, true, eqb, List, [], ◌∷◌, ◌++◌, length, length-append, length-drop, take, drop, map, sym, refl, ap, ◌∙◌, subst, inl, inr, ⊎_elim, append_assoc, arith}
+use Rattle.std.proofs.Common.{◌≡◌, ◌≢◌, ℕ, ◌+◌, ◌<◌, ◌≤◌, ◌⊎◌, Bool, true, eqb, List, [], ◌∷◌, ◌++◌, length, length-append, length-drop, take, drop, map, sym}
+use Rattle.std.proofs.Common.{refl, ap, ◌∙◌, subst, inl, inr, ⊎_elim, append_assoc, arith}
 use Rattle.std.specs.Prelude.{IsTrue, slice_index_or}
 use Rattle.std.specs.List.{AllByRecursion}
 use Rattle.std.proofs.lemmas.Bool.{cond-true, cond-false, cases_eq, eq-eqb, ne_eqb}
@@ -33,11 +34,19 @@ module _ (table : Table) (valid : IsValidTable table) (x : List ℕ) (p i : ℕ)
   first_is = λ j. record { at = p; statuses = zero_alone table.lists valid.lists.first j }
 
   low_past : p < low p
-  low_past = ⊎_elim (λ zero. omega (arith, cond-true (eqb p 0) 1 (p + 2) (eq-eqb p 0 zero))) (λ other. omega (arith, cond-false (eqb p 0) 1 (p + 2) (ne_eqb p 0 other))) (cases_eq p 0)
+  low_past = ⊎_elim (λ zero. omega (arith, cond-true (eqb p 0) 1 (p + 2) (eq-eqb p 0 zero)))
+      (λ other. omega (arith, cond-false (eqb p 0) 1 (p + 2) (ne_eqb p 0 other))) (cases_eq p 0)
 
   -- a scan from an anchor
   pub scan_from_anchor : (run : Run) → run ≡ record { anchor = p; entries = []; leads = true } → p ≤ length x →
-      IsScan table x p i (record { done = []; skipped = boundary_of table (record { at = p; status = 0; reach = 0 }) ∷ []; known = []; found = []; here = record { at = p; status = 0; reach = 0 } }) run
+      IsScan table x p i (record {
+        done = [];
+        skipped = boundary_of table (record { at = p; status = 0; reach = 0 }) ∷ [];
+        known = [];
+        found = [];
+        here =
+            record { at = p; status = 0; reach = 0 };
+      }) run
   scan_from_anchor run is within =
       let here : Entry = record { at = p; status = 0; reach = 0 } in
       let farthest : farthest_look table x p p ≡ 0 = farthest_start table x p in
@@ -69,19 +78,29 @@ module _ (table : Table) (valid : IsValidTable table) (x : List ℕ) (p i : ℕ)
       leads_so is = ap (λ r. r.leads) is
 
   -- a scan from the last entry of a true run
-  pub scan_from_entry : (former : Run) (is_true : IsTrueRun table x former) → former.anchor ≡ p → (front : List Entry) (from : Entry) → former.entries ≡ front ++ from ∷ [] → from.at ≤ i →
+  pub scan_from_entry : (former : Run) (is_true : IsTrueRun table x former) → former.anchor ≡ p → (front : List Entry) (from : Entry) →
+      former.entries ≡ front ++ from ∷ [] → from.at ≤ i →
       (run : Run) → run ≡ record { anchor = p; entries = from ∷ []; leads = true } →
-      IsScan table x p i (record { done = is_true.consecutive.before ++ map (boundary_of table) front; skipped = is_true.consecutive.before ++ map (boundary_of table) front; known = from ∷ []; found = []; here = from }) run
+      IsScan table x p i (record {
+        done = is_true.consecutive.before ++ map (boundary_of table) front;
+        skipped =
+            is_true.consecutive.before ++ map (boundary_of table) front;
+        known = from ∷ [];
+        found = [];
+        here = from;
+      }) run
   scan_from_entry former is_true same front from whole up_to run is =
       let done : List Boundary = is_true.consecutive.before ++ map (boundary_of table) front in
-      let reached = subst (λ a. Reached table x a (is_true.consecutive.before ++ map (boundary_of table) front) (boundary_of table from)) same (facts.reached_is table valid x former is_true front from [] whole) in
+      let reached = subst (λ a. Reached table x a (is_true.consecutive.before ++ map (boundary_of table) front) (boundary_of table from)) same
+      (facts.reached_is table valid x former is_true front from [] whole) in
       let enough = subst (λ a. farthest_look table x a from.at ≤ from.reach) same (facts.enough table valid x former is_true front from [] whole) in
       let place = subst (λ a. (a ≡ 0) ⊎ (a + 2 ≤ from.at)) same (facts.place table valid x former is_true front from [] whole) in
       let within = facts.within table valid x former is_true front from [] whole in
       record {
         reached = reached;
         up_to = all_through (λ b. b.at < from.at) (λ b. b.at ≤ i) (λ b less. omega arith) done (done_before table x p done (boundary_of table from) reached);
-        within = facts.path_within table x (first_member former.anchor) done (boundary_of table from) (facts.path_is table valid x former is_true front from [] whole) (anchor_within is_true.anchor);
+        within = facts.path_within table x (first_member former.anchor) done (boundary_of table from)
+            (facts.path_is table valid x former is_true front from [] whole) (anchor_within is_true.anchor);
         whole = refl;
         last = inr ([], refl);
         places = (place, tt);
@@ -124,7 +143,8 @@ rises_drop n entries rise = rises_right (take n entries) (drop n entries) (subst
 
 module _ (table : Table) (valid : IsValidTable table) (x : List ℕ) (p i : ℕ) (scan : Scan) (run : Run) (is : IsScan table x p i scan run) where
   -- the fresh searches, with all entries that the scan had
-  pub fresh_is : fresh table x p ≡ (scan.skipped ++ map (boundary_of table) (scan.known ++ scan.found)) ++ follow_by (next_boundary table x) (length x) is.reached.most (boundary_of table scan.here)
+  pub fresh_is : fresh table x p ≡ (scan.skipped ++ map (boundary_of table) (scan.known ++ scan.found)) ++ follow_by (next_boundary table x)
+      (length x) is.reached.most (boundary_of table scan.here)
   fresh_is =
       let rest : List Boundary = follow_by (next_boundary table x) (length x) is.reached.most (boundary_of table scan.here) in
       is.reached.whole
@@ -132,7 +152,8 @@ module _ (table : Table) (valid : IsValidTable table) (x : List ℕ) (p i : ℕ)
       ∙ ap (λ bs. bs ++ rest) is.whole
 
   -- The run is true, where it has an entry, and leads where nothing that was found is left out.
-  pub scan_true : (leads : Bool) → IsAnchor table x p → 1 ≤ length run.entries → (IsTrue leads → (scan.known ≡ []) × (is.cut ≡ 0)) → IsTrueRun table x (record { anchor = p; entries = run.entries; leads = leads })
+  pub scan_true : (leads : Bool) → IsAnchor table x p → 1 ≤ length run.entries → (IsTrue leads → (scan.known ≡ []) × (is.cut ≡ 0)) →
+      IsTrueRun table x (record { anchor = p; entries = run.entries; leads = leads })
   scan_true leads anchor some leading =
       let b : Entry → Boundary = boundary_of table in
       let rest : List Boundary = follow_by (next_boundary table x) (length x) is.reached.most (b scan.here) in
@@ -159,7 +180,8 @@ module _ (table : Table) (valid : IsValidTable table) (x : List ℕ) (p i : ℕ)
         leads = λ so. leads_truly run.entries (is.entries ∙ ap (λ n. drop n (scan.known ++ scan.found)) (leading so).1) (is.skipped_low (leading so).0);
       }
     where
-      leads_truly : (entries : List Entry) → entries ≡ drop 0 (scan.known ++ scan.found) → AllByRecursion (λ (b : Boundary). b.at < low p) scan.skipped → LeadsTruly table x p entries
+      leads_truly : (entries : List Entry) → entries ≡ drop 0 (scan.known ++ scan.found) → AllByRecursion (λ (b : Boundary). b.at < low p) scan.skipped →
+          LeadsTruly table x p entries
       leads_truly [] are low_skipped = tt
       leads_truly (first ∷ more) are low_skipped =
           let b : Entry → Boundary = boundary_of table in
@@ -172,7 +194,8 @@ module _ (table : Table) (valid : IsValidTable table) (x : List ℕ) (p i : ℕ)
           (all_through (λ m. m.at < low p) P (λ m less from. absurd (omega arith)) scan.skipped low_skipped) (
             λ _. omega arith,
             all_through (λ m. first.at < m.at) P (λ m less _. omega (arith, less)) (map b more ++ rest)
-                (rises_after (b first) (map b more ++ rest) (rising_right scan.skipped (b first ∷ (map b more ++ rest)) (subst (λ bs. IsRising (places bs)) whole (fresh_rises table x p)))),
+                (rises_after (b first) (map b more ++ rest)
+                (rising_right scan.skipped (b first ∷ (map b more ++ rest)) (subst (λ bs. IsRising (places bs)) whole (fresh_rises table x p)))),
           ))
 
   -- the entries before the last aren't past i
@@ -181,11 +204,13 @@ module _ (table : Table) (valid : IsValidTable table) (x : List ℕ) (p i : ℕ)
       let b : Entry → Boundary = boundary_of table in
       let done : scan.done ≡ scan.skipped ++ map b front =
       append_cancel_right scan.done (scan.skipped ++ map b front) (b scan.here ∷ [])
-      (is.whole ∙ ap (λ l. scan.skipped ++ map b l) whole ∙ ap (λ bs. scan.skipped ++ bs) (map-append b front (scan.here ∷ [])) ∙ sym (append_assoc scan.skipped (map b front) (b scan.here ∷ []))) in
+      (is.whole ∙ ap (λ l. scan.skipped ++ map b l) whole ∙ ap (λ bs. scan.skipped ++ bs) (map-append b front (scan.here ∷ []))
+      ∙ sym (append_assoc scan.skipped (map b front) (b scan.here ∷ []))) in
       all_unmap b (λ c. c.at ≤ i) front (all_right (λ c. c.at ≤ i) scan.skipped (map b front) (subst (λ bs. AllByRecursion (λ c. c.at ≤ i) bs) done is.up_to))
 
   -- A run that ends with the scan's last entry shows it, where another entry stands before it, or it leads and the scan went far enough.
-  pub scan_shows : (run' : Run) (front : List Entry) → run'.entries ≡ front ++ scan.here ∷ [] → AllByRecursion (λ e. e.at ≤ i) front → i < scan.here.at → ((front ≢ []) ⊎ (IsTrue run'.leads × (low run'.anchor ≤ i + 1))) → IsShownAfter run' i scan.here
+  pub scan_shows : (run' : Run) (front : List Entry) → run'.entries ≡ front ++ scan.here ∷ [] → AllByRecursion (λ e. e.at ≤ i) front → i < scan.here.at →
+      ((front ≢ []) ⊎ (IsTrue run'.leads × (low run'.anchor ≤ i + 1))) → IsShownAfter run' i scan.here
   scan_shows run' [] whole each past nearest = (
     record {
       before = [];
@@ -217,7 +242,8 @@ module _ (table : Table) (valid : IsValidTable table) (x : List ℕ) (p i : ℕ)
       ⊎_elim
       (λ nothing. absurd (omega (arith, ap length is.entries, length-drop is.cut (scan.known ++ scan.found), ap length nothing)))
       (λ last.
-      let short : is.cut ≤ length last.0 = omega (arith, ap length is.entries, length-drop is.cut (scan.known ++ scan.found), ap length last.1, length-append last.0 (scan.here ∷ [])) in (
+      let short : is.cut ≤ length last.0 =
+      omega (arith, ap length is.entries, length-drop is.cut (scan.known ++ scan.found), ap length last.1, length-append last.0 (scan.here ∷ [])) in (
         drop is.cut last.0,
         is.entries ∙ ap (drop is.cut) last.1 ∙ drop-append-le is.cut last.0 (scan.here ∷ []) short,
         all_drop (λ e. e.at ≤ i) is.cut last.0 (front_up_to last.0 last.1),
@@ -225,7 +251,8 @@ module _ (table : Table) (valid : IsValidTable table) (x : List ℕ) (p i : ℕ)
       is.last
 
   -- the new entries have the least reaches
-  pub scan_least : (former : List Run) (leads : Bool) → ((scan.known ≡ []) ⊎ EndFormerRun former p scan.known) → HasLeastReaches table x former (record { anchor = p; entries = run.entries; leads = leads })
+  pub scan_least : (former : List Run) (leads : Bool) → ((scan.known ≡ []) ⊎ EndFormerRun former p scan.known) →
+      HasLeastReaches table x former (record { anchor = p; entries = run.entries; leads = leads })
   scan_least former leads known =
       let rest : List Boundary = follow_by (next_boundary table x) (length x) is.reached.most (boundary_of table scan.here) in
       record {

@@ -1,5 +1,6 @@
 -- Each search of a scan adds what it should.
-use Rattle.std.proofs.Common.{◌≡◌, ℕ, ◌+◌, ◌-◌, ◌<◌, ◌≤◌, max, ◌⊎◌, ◌↔◌, false, eqb, List, [], ◌∷◌, ◌++◌, length, length-append, length-drop, drop, map, sym, refl, ap, ◌∙◌, subst, inl, inr, ⊎_elim, append_assoc, arith}
+use Rattle.std.proofs.Common.{◌≡◌, ℕ, ◌+◌, ◌-◌, ◌<◌, ◌≤◌, max, ◌⊎◌, ◌↔◌, false, eqb, List, [], ◌∷◌, ◌++◌, length, length-append, length-drop, drop, map, sym}
+use Rattle.std.proofs.Common.{refl, ap, ◌∙◌, subst, inl, inr, ⊎_elim, append_assoc, arith}
 use Rattle.std.specs.Prelude.{IsTrue}
 use Rattle.std.specs.List.{AllByRecursion}
 use Rattle.std.proofs.lemmas.Bool.{cond-true, cond-false, cases_eq, eq-eqb, ne_eqb}
@@ -37,22 +38,26 @@ last_is [] e = refl
 last_is (f ∷ []) e = refl
 last_is (f ∷ g ∷ front) e = last_is (g ∷ front) e
 
-least_push : (table : Table) (x : List ℕ) (p reach : ℕ) (entries : List Entry) (next : Entry) → HaveLeastReaches table x p reach entries → next.reach ≡ max (reach_after reach entries) (farthest_look table x p next.at) → HaveLeastReaches table x p reach (entries ++ next ∷ [])
+least_push : (table : Table) (x : List ℕ) (p reach : ℕ) (entries : List Entry) (next : Entry) → HaveLeastReaches table x p reach entries →
+    next.reach ≡ max (reach_after reach entries) (farthest_look table x p next.at) → HaveLeastReaches table x p reach (entries ++ next ∷ [])
 unfolding reach_after
 least_push table x p reach [] next least is = (is, tt)
 least_push table x p reach (e ∷ entries) next least is = (least.0, least_push table x p e.reach entries next least.1 is)
 
-rise_push : (front : List Entry) (here next : Entry) → ReachesRise (front ++ here ∷ []) → here.reach ≤ next.reach → ReachesRise ((front ++ here ∷ []) ++ next ∷ [])
+rise_push : (front : List Entry) (here next : Entry) → ReachesRise (front ++ here ∷ []) → here.reach ≤ next.reach →
+    ReachesRise ((front ++ here ∷ []) ++ next ∷ [])
 rise_push [] here next rise more = (more, tt)
 rise_push (e ∷ []) here next rise more = (rise.0, (more, tt))
 rise_push (e ∷ f ∷ front) here next rise more = (rise.0, rise_push (f ∷ front) here next rise.1 more)
 
-module _ (table : Table) (x : List ℕ) (p i : ℕ) (scan : Scan) (run : Run) (is : IsScan table x p i scan run) (from : scan.here.at ≤ i) (short : scan.here.at < length x) (next : Entry) (next_is : IsNextEntry table x scan.here next) where
+module _ (table : Table) (x : List ℕ) (p i : ℕ) (scan : Scan) (run : Run) (is : IsScan table x p i scan run) (from : scan.here.at ≤ i)
+    (short : scan.here.at < length x) (next : Entry) (next_is : IsNextEntry table x scan.here next) where
   boundary_is : boundary_of table next ≡ next_boundary table x scan.here.at
   boundary_is = λ j. record { at = next_is.at j; statuses = statuses_of table (next_is.status j) }
 
   reached : Reached table x p (scan.done ++ boundary_of table scan.here ∷ []) (boundary_of table next)
-  reached = subst (λ b. Reached table x p (scan.done ++ boundary_of table scan.here ∷ []) b) (sym boundary_is) (reached_step table x p scan.done (boundary_of table scan.here) is.reached short)
+  reached = subst (λ b. Reached table x p (scan.done ++ boundary_of table scan.here ∷ []) b) (sym boundary_is)
+      (reached_step table x p scan.done (boundary_of table scan.here) is.reached short)
 
   farthest_next : farthest_look table x p next.at ≡ max (farthest_look table x p scan.here.at) (look_end table x scan.here.at)
   farthest_next = ap (farthest_look table x p) next_is.at ∙ farthest_step table x p scan.done (boundary_of table scan.here) is.reached short
@@ -84,13 +89,21 @@ module _ (table : Table) (x : List ℕ) (p i : ℕ) (scan : Scan) (run : Run) (i
   rise_next =
       ⊎_elim
       (λ nothing. subst (λ l. ReachesRise (l ++ next ∷ [])) (sym nothing) tt)
-      (λ last. subst (λ l. ReachesRise (l ++ next ∷ [])) (sym last.1) (rise_push last.0 scan.here next (subst ReachesRise last.1 is.rise) (omega (arith, next_is.reach))))
+      (λ last. subst (λ l. ReachesRise (l ++ next ∷ [])) (sym last.1)
+      (rise_push last.0 scan.here next (subst ReachesRise last.1 is.rise) (omega (arith, next_is.reach))))
       is.last
 
   -- an entry is found
   module _ (high : low p ≤ next.at) where
     abbrev found_scan : Scan
-    found_scan = record { done = scan.done ++ boundary_of table scan.here ∷ []; skipped = scan.skipped; known = scan.known; found = scan.found ++ next ∷ []; here = next }
+    found_scan = record {
+      done = scan.done ++ boundary_of table scan.here ∷ [];
+      skipped = scan.skipped;
+      known = scan.known;
+      found =
+          scan.found ++ next ∷ [];
+      here = next;
+    }
 
     full_run : Run
     full_run = record { anchor = run.anchor; entries = drop 128 run.entries ++ next ∷ []; leads = false }
@@ -101,7 +114,8 @@ module _ (table : Table) (x : List ℕ) (p i : ℕ) (scan : Scan) (run : Run) (i
     next_place : (p ≡ 0) ⊎ (p + 2 ≤ next.at)
     next_place = ⊎_elim (λ zero. inl zero) (λ other. inr (omega (arith, cond-false (eqb p 0) 1 (p + 2) (ne_eqb p 0 other)))) (cases_eq p 0)
 
-    whole_next : (scan.done ++ boundary_of table scan.here ∷ []) ++ boundary_of table next ∷ [] ≡ scan.skipped ++ map (boundary_of table) (scan.known ++ (scan.found ++ next ∷ []))
+    whole_next : (scan.done ++ boundary_of table scan.here ∷ []) ++ boundary_of table next ∷ [] ≡ scan.skipped ++ map (boundary_of table)
+        (scan.known ++ (scan.found ++ next ∷ []))
     whole_next =
         let b : Entry → Boundary = boundary_of table in
         ap (λ bs. bs ++ b next ∷ []) is.whole
@@ -112,7 +126,9 @@ module _ (table : Table) (x : List ℕ) (p i : ℕ) (scan : Scan) (run : Run) (i
     each P all holds = subst (λ l. AllByRecursion P l) (sym grown) (all_join P (scan.known ++ scan.found) (next ∷ []) all (holds, tt))
 
     -- the run keeps the entries from a place on
-    kept_so : (run' : Run) (cut : ℕ) → run'.anchor ≡ p → cut ≤ length ((scan.known ++ scan.found) ++ next ∷ []) → run'.entries ≡ drop cut ((scan.known ++ scan.found) ++ next ∷ []) → ((cut ≡ 0) ⊎ (2 ≤ length run'.entries)) → length run'.entries ≤ 256 → (IsTrue run'.leads ↔ (cut ≡ 0)) → IsScan table x p i found_scan run'
+    kept_so : (run' : Run) (cut : ℕ) → run'.anchor ≡ p → cut ≤ length ((scan.known ++ scan.found) ++ next ∷ []) →
+        run'.entries ≡ drop cut ((scan.known ++ scan.found) ++ next ∷ []) → ((cut ≡ 0) ⊎ (2 ≤ length run'.entries)) → length run'.entries ≤ 256 →
+        (IsTrue run'.leads ↔ (cut ≡ 0)) → IsScan table x p i found_scan run'
     kept_so run' cut anchor cut_within entries enough_left few leads =
         record {
           reached = reached;
@@ -143,7 +159,8 @@ module _ (table : Table) (x : List ℕ) (p i : ℕ) (scan : Scan) (run : Run) (i
     found_next =
         let cut_within = is.cut_within in
         let few = is.few in
-        let kept_length : length run.entries ≡ length (scan.known ++ scan.found) - is.cut = ap length is.entries ∙ length-drop is.cut (scan.known ++ scan.found) in
+        let kept_length : length run.entries ≡ length (scan.known ++ scan.found) - is.cut =
+        ap length is.entries ∙ length-drop is.cut (scan.known ++ scan.found) in
         ⊎_elim
         (λ full.
         let pushed_is : pushed run next ≡ full_run = cond-true (eqb (length run.entries) 256) full_run more_run (eq-eqb (length run.entries) 256 full) in
@@ -152,9 +169,11 @@ module _ (table : Table) (x : List ℕ) (p i : ℕ) (scan : Scan) (run : Run) (i
         ap (λ l. drop 128 l ++ next ∷ []) is.entries
         ∙ ap (λ l. l ++ next ∷ []) (drop-drop 128 is.cut (scan.known ++ scan.found))
         ∙ sym (drop-append-le (is.cut + 128) (scan.known ++ scan.found) (next ∷ []) (omega arith)) in
-        let long : length (drop 128 run.entries ++ next ∷ []) ≡ 129 = omega (arith, length-append (drop 128 run.entries) (next ∷ []), length-drop 128 run.entries, full) in
+        let long : length (drop 128 run.entries ++ next ∷ []) ≡ 129 =
+        omega (arith, length-append (drop 128 run.entries) (next ∷ []), length-drop 128 run.entries, full) in
         subst (λ r. IsScan table x p i found_scan r) (sym pushed_is)
-        (kept_so full_run (is.cut + 128) is.anchor (omega (arith, length-append (scan.known ++ scan.found) (next ∷ []))) entries (inr (omega (arith, long))) (omega (arith, long))
+        (kept_so full_run (is.cut + 128) is.anchor (omega (arith, length-append (scan.known ++ scan.found) (next ∷ []))) entries (inr (omega (arith, long)))
+        (omega (arith, long))
         (λ so. absurd (never so), λ zero. absurd (omega arith))))
         (λ room.
         let pushed_is : pushed run next ≡ more_run = cond-false (eqb (length run.entries) 256) full_run more_run (ne_eqb (length run.entries) 256 room) in
@@ -172,14 +191,23 @@ module _ (table : Table) (x : List ℕ) (p i : ℕ) (scan : Scan) (run : Run) (i
   -- a member before the low place is no entry
   module _ (near : next.at < low p) where
     abbrev skipped_scan : Scan
-    skipped_scan = record { done = scan.done ++ boundary_of table scan.here ∷ []; skipped = scan.skipped ++ boundary_of table next ∷ []; known = scan.known; found = scan.found; here = next }
+    skipped_scan = record {
+      done = scan.done ++ boundary_of table scan.here ∷ [];
+      skipped = scan.skipped ++ boundary_of table next ∷ [];
+      known =
+          scan.known;
+      found = scan.found;
+      here = next;
+    }
 
     still_none : scan.known ++ scan.found ≡ []
     still_none =
         ⊎_elim
         (λ nothing. nothing)
         (λ last.
-        let place : (p ≡ 0) ⊎ (p + 2 ≤ scan.here.at) = (all_right (λ e. (p ≡ 0) ⊎ (p + 2 ≤ e.at)) last.0 (scan.here ∷ []) (subst (λ l. AllByRecursion (λ e. (p ≡ 0) ⊎ (p + 2 ≤ e.at)) l) last.1 is.places)).0 in
+        let place : (p ≡ 0) ⊎ (p + 2 ≤ scan.here.at) =
+        (all_right (λ e. (p ≡ 0) ⊎ (p + 2 ≤ e.at)) last.0 (scan.here ∷ [])
+        (subst (λ l. AllByRecursion (λ e. (p ≡ 0) ⊎ (p + 2 ≤ e.at)) l) last.1 is.places)).0 in
         ⊎_elim
         (λ zero. absurd (omega (arith, cond-true (eqb p 0) 1 (p + 2) (eq-eqb p 0 zero), next_is.at, (found_lies table x scan.here.at short).0)))
         (λ past. absurd (⊎_elim

@@ -1,5 +1,6 @@
 -- When a run shows an entry, and when none.
-use Rattle.std.proofs.Common.{◌≡◌, ℕ, zero, suc, ◌+◌, ◌-◌, ◌<◌, ◌≤◌, ◌⊎◌, List, [], ◌∷◌, ◌++◌, length, length-take, length-drop, take, drop, map, get_or, sym, refl, ap, ◌∙◌, subst, inl, inr, ⊎_elim, append_assoc, arith, add-one}
+use Rattle.std.proofs.Common.{◌≡◌, ℕ, zero, suc, ◌+◌, ◌-◌, ◌<◌, ◌≤◌, ◌⊎◌, List, [], ◌∷◌, ◌++◌, length, length-take, length-drop, take, drop, map, get_or, sym}
+use Rattle.std.proofs.Common.{refl, ap, ◌∙◌, subst, inl, inr, ⊎_elim, append_assoc, arith, add-one}
 use Rattle.std.specs.Prelude.{IsTrue}
 use Rattle.std.specs.List.{AllByRecursion}
 use Rattle.std.proofs.lemmas.Bool.{cases_eq}
@@ -13,7 +14,8 @@ use Rattle.rbbi_cache.proofs.Lists.{all_left, all_right, all_through}
 -- the list parted at an element
 pub parted_at : (entries : List Entry) (k : ℕ) (d : Entry) → k < length entries → entries ≡ take k entries ++ get_or entries k d ∷ drop (k + 1) entries
 parted_at entries k d short =
-    sym (take-append-drop k entries) ∙ ap (λ l. take k entries ++ l) (drop-cons entries k d short ∙ ap (λ n. get_or entries k d ∷ drop n entries) (sym (add-one k)))
+    sym (take-append-drop k entries)
+    ∙ ap (λ l. take k entries ++ l) (drop-cons entries k d short ∙ ap (λ n. get_or entries k d ∷ drop n entries) (sym (add-one k)))
 
 tail_rises : (e : Entry) (entries : List Entry) → IsRising (map (λ f. f.at) (e ∷ entries)) → IsRising (map (λ f. f.at) entries)
 tail_rises e [] rising = tt
@@ -21,15 +23,18 @@ tail_rises e (f ∷ entries) rising = rising.1
 
 later : (e : Entry) (entries : List Entry) → IsRising (map (λ f. f.at) (e ∷ entries)) → AllByRecursion (λ f. e.at < f.at) entries
 later e [] rising = tt
-later e (f ∷ entries) rising = (rising.0, all_through (λ g. f.at < g.at) (λ g. e.at < g.at) (λ g less. omega (arith, less, rising.0)) entries (later f entries rising.1))
+later e (f ∷ entries) rising =
+    (rising.0, all_through (λ g. f.at < g.at) (λ g. e.at < g.at) (λ g less. omega (arith, less, rising.0)) entries (later f entries rising.1))
 
-first_below : (e : Entry) (entries : List Entry) (k : ℕ) (d : Entry) → AllByRecursion (λ f. e.at < f.at) entries → k < length entries → e.at < (get_or entries k d).at
+first_below : (e : Entry) (entries : List Entry) (k : ℕ) (d : Entry) → AllByRecursion (λ f. e.at < f.at) entries → k < length entries →
+    e.at < (get_or entries k d).at
 first_below e [] k d each short = absurd (omega arith)
 first_below e (f ∷ entries) zero d each short = each.0
 first_below e (f ∷ entries) (suc k) d each short = first_below e entries k d each.1 (omega arith)
 
 -- where entries rise, those up to one that isn't past the place aren't either
-pub up_to_one : (entries : List Entry) (i k : ℕ) (d : Entry) → IsRising (map (λ f. f.at) entries) → k < length entries → (get_or entries k d).at ≤ i → AllByRecursion (λ f. f.at ≤ i) (take (suc k) entries)
+pub up_to_one : (entries : List Entry) (i k : ℕ) (d : Entry) → IsRising (map (λ f. f.at) entries) → k < length entries → (get_or entries k d).at ≤ i →
+    AllByRecursion (λ f. f.at ≤ i) (take (suc k) entries)
 up_to_one [] i k d rising short less = absurd (omega arith)
 up_to_one (e ∷ entries) i zero d rising short less = (less, tt)
 up_to_one (e ∷ entries) i (suc k) d rising short less =
@@ -37,9 +42,11 @@ up_to_one (e ∷ entries) i (suc k) d rising short less =
     (omega arith, up_to_one entries i k d (tail_rises e entries rising) (omega arith) less)
 
 -- and those from one that is past it on are too
-pub past_one : (entries : List Entry) (i k : ℕ) (d : Entry) → IsRising (map (λ f. f.at) entries) → k < length entries → i < (get_or entries k d).at → AllByRecursion (λ f. i < f.at) (drop k entries)
+pub past_one : (entries : List Entry) (i k : ℕ) (d : Entry) → IsRising (map (λ f. f.at) entries) → k < length entries → i < (get_or entries k d).at →
+    AllByRecursion (λ f. i < f.at) (drop k entries)
 past_one [] i k d rising short high = absurd (omega arith)
-past_one (e ∷ entries) i zero d rising short high = (high, all_through (λ f. e.at < f.at) (λ f. i < f.at) (λ f less. omega arith) entries (later e entries rising))
+past_one (e ∷ entries) i zero d rising short high =
+    (high, all_through (λ f. e.at < f.at) (λ f. i < f.at) (λ f less. omega arith) entries (later e entries rising))
 past_one (e ∷ entries) i (suc k) d rising short high = past_one entries i k d (tail_rises e entries rising) (omega arith) high
 
 ends_up_to : (e : Entry) (entries : List Entry) (i : ℕ) → AllByRecursion (λ f. f.at ≤ i) (e ∷ entries) → EndsUpTo (e ∷ entries) i
@@ -56,8 +63,10 @@ module _ (run : Run) (i count : ℕ) (d : Entry) (are : AreUpTo run.entries i co
   -- none is past the place
   pub none_past : count ≡ length run.entries → (a : ℕ) → ShowsAfter run i a → ⊥
   none_past all a shows =
-      let each : AllByRecursion (λ f. f.at ≤ i) run.entries = subst (λ l. AllByRecursion (λ f. f.at ≤ i) l) (ap (λ n. take n run.entries) all ∙ take_all run.entries) are.up_to in
-      let here : shows.entry.at ≤ i = (all_right (λ f. f.at ≤ i) shows.before (shows.entry ∷ shows.after) (subst (λ l. AllByRecursion (λ f. f.at ≤ i) l) shows.whole each)).0 in
+      let each : AllByRecursion (λ f. f.at ≤ i) run.entries =
+      subst (λ l. AllByRecursion (λ f. f.at ≤ i) l) (ap (λ n. take n run.entries) all ∙ take_all run.entries) are.up_to in
+      let here : shows.entry.at ≤ i =
+      (all_right (λ f. f.at ≤ i) shows.before (shows.entry ∷ shows.after) (subst (λ l. AllByRecursion (λ f. f.at ≤ i) l) shows.whole each)).0 in
       omega (arith, here, shows.at, shows.past)
     where
       take_all : (entries : List Entry) → take (length entries) entries ≡ entries
@@ -68,14 +77,16 @@ module _ (run : Run) (i count : ℕ) (d : Entry) (are : AreUpTo run.entries i co
   pub none_shown : count ≡ 0 → (IsTrue run.leads → i + 1 < low run.anchor) → (a : ℕ) → ShowsAfter run i a → ⊥
   none_shown nothing follows a shows =
       let each : AllByRecursion (λ f. i < f.at) run.entries = subst (λ n. AllByRecursion (λ f. i < f.at) (drop n run.entries)) nothing are.past in
-      let before : AllByRecursion (λ f. i < f.at) shows.before = all_left (λ f. i < f.at) shows.before (shows.entry ∷ shows.after) (subst (λ l. AllByRecursion (λ f. i < f.at) l) shows.whole each) in
+      let before : AllByRecursion (λ f. i < f.at) shows.before =
+      all_left (λ f. i < f.at) shows.before (shows.entry ∷ shows.after) (subst (λ l. AllByRecursion (λ f. i < f.at) l) shows.whole each) in
       ⊎_elim
       (λ ends. has_low shows.before i ends before)
       (λ first. let far = follows first.1 in omega (arith, first.2))
       shows.nearest
 
   -- the one behind them is shown
-  pub shown_next : (short : count < length run.entries) → ((0 < count) ⊎ (IsTrue run.leads × (low run.anchor ≤ i + 1))) → IsShownAfter run i (get_or run.entries count d)
+  pub shown_next : (short : count < length run.entries) → ((0 < count) ⊎ (IsTrue run.leads × (low run.anchor ≤ i + 1))) →
+      IsShownAfter run i (get_or run.entries count d)
   shown_next short nearest =
       let entry : Entry = get_or run.entries count d in
       let past : i < (get_or run.entries count d).at = (subst (λ l. AllByRecursion (λ f. i < f.at) l) (drop-cons run.entries count d short) are.past).0 in (
@@ -106,7 +117,8 @@ module _ (x : List ℕ) (run : Run) (i count : ℕ) (d : Entry) (some : 0 < i) (
   pub none_before : count ≡ 0 → (a : ℕ) → ShowsBefore x run i a → ⊥
   none_before nothing a shows =
       let each : AllByRecursion (λ f. i - 1 < f.at) run.entries = subst (λ n. AllByRecursion (λ f. i - 1 < f.at) (drop n run.entries)) nothing are.past in
-      let here : i - 1 < shows.entry.at = (all_right (λ f. i - 1 < f.at) shows.before (shows.entry ∷ shows.after) (subst (λ l. AllByRecursion (λ f. i - 1 < f.at) l) shows.whole each)).0 in
+      let here : i - 1 < shows.entry.at =
+      (all_right (λ f. i - 1 < f.at) shows.before (shows.entry ∷ shows.after) (subst (λ l. AllByRecursion (λ f. i - 1 < f.at) l) shows.whole each)).0 in
       omega (arith, here, shows.at, shows.short_of)
 
   module _ (few : 0 < count) where
@@ -126,11 +138,13 @@ module _ (x : List ℕ) (run : Run) (i count : ℕ) (d : Entry) (some : 0 < i) (
     before_it =
         let whole : take count run.entries ≡ take (count - 1) run.entries ++ get_or run.entries (count - 1) d ∷ [] =
         ap (λ n. take n run.entries) (sym there) ∙ take_more run.entries (count - 1) d short in
-        let each = (all_right (λ f. f.at ≤ i - 1) (take (count - 1) run.entries) (get_or run.entries (count - 1) d ∷ []) (subst (λ l. AllByRecursion (λ f. f.at ≤ i - 1) l) whole are.up_to)).0 in
+        let each = (all_right (λ f. f.at ≤ i - 1) (take (count - 1) run.entries) (get_or run.entries (count - 1) d ∷ [])
+        (subst (λ l. AllByRecursion (λ f. f.at ≤ i - 1) l) whole are.up_to)).0 in
         omega arith
 
     -- the last of those before it is shown, where another follows, or it lies at the text's end
-    pub shown_last : ((count < length run.entries) ⊎ ((get_or run.entries (count - 1) d).at ≡ length x)) → IsShownBefore x run i (get_or run.entries (count - 1) d)
+    pub shown_last : ((count < length run.entries) ⊎ ((get_or run.entries (count - 1) d).at ≡ length x)) →
+        IsShownBefore x run i (get_or run.entries (count - 1) d)
     shown_last nearest = (
       record {
         before = take (count - 1) run.entries;
@@ -152,7 +166,8 @@ module _ (x : List ℕ) (run : Run) (i count : ℕ) (d : Entry) (some : 0 < i) (
         starts (e ∷ entries) more each = omega (arith, each.0)
 
     -- else none is
-    pub none_last : length run.entries ≡ count → ((get_or run.entries (count - 1) d).at ≡ length x → ⊥) → IsRising (map (λ f. f.at) run.entries) → AllByRecursion (λ f. f.at ≤ length x) run.entries → (a : ℕ) → ShowsBefore x run i a → ⊥
+    pub none_last : length run.entries ≡ count → ((get_or run.entries (count - 1) d).at ≡ length x → ⊥) → IsRising (map (λ f. f.at) run.entries) →
+        AllByRecursion (λ f. f.at ≤ length x) run.entries → (a : ℕ) → ShowsBefore x run i a → ⊥
     none_last all not_end rising within a shows =
         ⊎_elim
         (λ starts. no_start shows.after starts (all_right (λ f. f.at ≤ i - 1) (shows.before ++ shows.entry ∷ []) shows.after
@@ -174,13 +189,15 @@ module _ (x : List ℕ) (run : Run) (i count : ℕ) (d : Entry) (some : 0 < i) (
         no_start [] starts less = starts
         no_start (e ∷ entries) starts less = omega (arith, less.0, starts)
 
-        last_bounds : (e : Entry) (entries : List Entry) → IsRising (map (λ f. f.at) (e ∷ entries)) → AllByRecursion (λ f. f.at ≤ (get_or (e ∷ entries) (length entries) d).at) (e ∷ entries)
+        last_bounds : (e : Entry) (entries : List Entry) → IsRising (map (λ f. f.at) (e ∷ entries)) →
+            AllByRecursion (λ f. f.at ≤ (get_or (e ∷ entries) (length entries) d).at) (e ∷ entries)
         last_bounds e [] rising = (omega arith, tt)
         last_bounds e (f ∷ entries) rising =
             let more = last_bounds f entries rising.1 in
             (omega (arith, rising.0, more.0), more)
 
-        bounds : (entries : List Entry) (n : ℕ) → length entries ≡ n → 0 < n → IsRising (map (λ f. f.at) entries) → AllByRecursion (λ f. f.at ≤ (get_or entries (n - 1) d).at) entries
+        bounds : (entries : List Entry) (n : ℕ) → length entries ≡ n → 0 < n → IsRising (map (λ f. f.at) entries) →
+            AllByRecursion (λ f. f.at ≤ (get_or entries (n - 1) d).at) entries
         bounds [] n is some rising = tt
         bounds (e ∷ entries) n is some rising =
             let here : length entries ≡ n - 1 = omega arith in
@@ -193,5 +210,6 @@ module _ (x : List ℕ) (run : Run) (i count : ℕ) (d : Entry) (some : 0 < i) (
             (all_right (λ f. f.at ≤ (get_or run.entries (count - 1) d).at) shows.before (shows.entry ∷ shows.after)
             (subst (λ l. AllByRecursion (λ f. f.at ≤ (get_or run.entries (count - 1) d).at) l) shows.whole (bounds run.entries count all few rising))).0 in
             let down : (get_or run.entries (count - 1) d).at ≤ length x =
-            (all_right (λ f. f.at ≤ length x) (take (count - 1) run.entries) (get_or run.entries (count - 1) d ∷ drop count run.entries) (subst (λ l. AllByRecursion (λ f. f.at ≤ length x) l) split within)).0 in
+            (all_right (λ f. f.at ≤ length x) (take (count - 1) run.entries) (get_or run.entries (count - 1) d ∷ drop count run.entries)
+            (subst (λ l. AllByRecursion (λ f. f.at ≤ length x) l) split within)).0 in
             omega (arith, up, down, shows.at)

@@ -1,5 +1,6 @@
 -- What an edit leaves of the text, and the searches that it doesn't touch.
-use Rattle.std.proofs.Common.{◌≡◌, ℕ, ◌+◌, ◌-◌, ◌<◌, ◌≤◌, List, length, take, drop, ◌++◌, sym, ap, ◌∙◌, inl, inr, ⊎_elim, append_assoc, arith, length-append, length-take, length-drop}
+use Rattle.std.proofs.Common.{◌≡◌, ℕ, ◌+◌, ◌-◌, ◌<◌, ◌≤◌, List, length, take, drop, ◌++◌, sym, ap, ◌∙◌, inl, inr, ⊎_elim, append_assoc, arith, length-append}
+use Rattle.std.proofs.Common.{length-take, length-drop}
 use Rattle.std.specs.Prelude.{slice_range}
 use Rattle.std.proofs.lemmas.Bool.{cases_Bool, cond-true, cond-false}
 use Rattle.std.proofs.lemmas.List.{take-take, drop-take, drop-drop}
@@ -30,7 +31,15 @@ module _ (x y : List ℕ) (at removed inserted : ℕ) (edited : IsEdited x y at 
   length_is =
       let within = edited.within in
       let many = edited.many in
-      omega (arith, ap length whole, length-append (take at x) (edited.characters ++ drop (at + removed) x), length-append edited.characters (drop (at + removed) x), long, length-drop (at + removed) x)
+      omega (
+        arith,
+        ap length whole,
+        length-append (take at x) (edited.characters ++ drop (at + removed) x),
+        length-append edited.characters
+            (drop (at + removed) x),
+        long,
+        length-drop (at + removed) x,
+      )
 
   pub left_stays : take at y ≡ take at x
   left_stays =
@@ -42,7 +51,8 @@ module _ (x y : List ℕ) (at removed inserted : ℕ) (edited : IsEdited x y at 
   right_stays =
       ap (drop (at + inserted)) whole
       ∙ sym (drop-drop inserted at (take at x ++ (edited.characters ++ drop (at + removed) x)))
-      ∙ ap (drop inserted) (ap (λ n. drop n (take at x ++ (edited.characters ++ drop (at + removed) x))) (sym long) ∙ drop-append_seam (take at x) (edited.characters ++ drop (at + removed) x))
+      ∙ ap (drop inserted) (ap (λ n. drop n (take at x ++ (edited.characters ++ drop (at + removed) x))) (sym long)
+      ∙ drop-append_seam (take at x) (edited.characters ++ drop (at + removed) x))
       ∙ ap (λ n. drop n (edited.characters ++ drop (at + removed) x)) (sym edited.many)
       ∙ drop-append_seam edited.characters (drop (at + removed) x)
 

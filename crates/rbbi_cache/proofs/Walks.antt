@@ -1,5 +1,6 @@
 -- Walks over places in search of a safe pair.
-use Rattle.std.proofs.Common.{◌≡◌, ℕ, zero, suc, ◌+◌, ◌-◌, ◌<◌, ◌≤◌, max, ◌⊎◌, Bool, true, false, ◌&&◌, ◌||◌, eqb, leb, List, Option, Some, None, length, get_or, sym, refl, ap, ◌∙◌, ⊎_elim, arith}
+use Rattle.std.proofs.Common.{◌≡◌, ℕ, zero, suc, ◌+◌, ◌-◌, ◌<◌, ◌≤◌, max, ◌⊎◌, Bool, true, false, ◌&&◌, ◌||◌, eqb, leb, List, Option, Some, None, length}
+use Rattle.std.proofs.Common.{get_or, sym, refl, ap, ◌∙◌, ⊎_elim, arith}
 use Rattle.std.specs.Prelude.{unwrap_or}
 use Rattle.std.proofs.lemmas.Bool.{cases_eq, cond-true, cond-false, ne_eqb, le-leb, lt-leb, or_right, and_from, cases_lt, false≢true}
 use Rattle.rbbi_model.specs.Places.{greatest_below}
@@ -33,37 +34,40 @@ module _ (table : Table) (x : List ℕ) (high : ℕ) (short : high < length x) w
       let there : high - 1 + 1 ≡ high = omega arith in
       record { below = omega arith; category = is ∙ ap (λ n. category_of table.ranges (get_or x n 0)) (sym there); none = λ p past less. absurd (omega arith) }
 
-  module _ (place next here : ℕ) (walk : WalksBack table x high place next) (some : 0 < place) (here_is : here ≡ category_of table.ranges (get_or x place 0)) where
-    pair_is : is_safe table here next ≡ is_safe table (category_at table x place) (category_at table x (place + 1))
-    pair_is = ap (λ c. is_safe table c next) here_is ∙ ap (is_safe table (category_at table x place)) walk.category
+  module _ (place next here : ℕ) (walk : WalksBack table x high place next) (some : 0 < place) (here_is : here ≡ category_of table.ranges (get_or x place 0))
+    where
+      pair_is : is_safe table here next ≡ is_safe table (category_at table x place) (category_at table x (place + 1))
+      pair_is = ap (λ c. is_safe table c next) here_is ∙ ap (is_safe table (category_at table x place)) walk.category
 
-    -- the place is no anchor, and the walk goes on
-    pub walk_goes : is_safe table here next ≡ false → WalksBack table x high (place - 1) here
-    walk_goes fails =
-        let below = walk.below in
-        let there : place - 1 + 1 ≡ place = omega arith in
-        let here_no : is_anchor table x place ≡ false =
-        ap (λ b. b || (leb (place + 2) (length x) && is_safe table (category_at table x place) (category_at table x (place + 1)))) (ne_eqb place 0 (λ zero. omega arith))
-        ∙ ap (λ b. leb (place + 2) (length x) && b) (sym pair_is ∙ fails)
-        ∙ and_false (leb (place + 2) (length x)) in
-        record {
-          below = omega arith;
-          category = here_is ∙ ap (λ n. category_of table.ranges (get_or x n 0)) (sym there);
-          none = λ p past less. ⊎_elim (λ is. ap (is_anchor table x) is ∙ here_no) (λ other. walk.none p (omega arith) less) (cases_eq p place);
-        }
-      where
-        and_false : (b : Bool) → b && false ≡ false
-        and_false true = refl
-        and_false false = refl
+      -- the place is no anchor, and the walk goes on
+      pub walk_goes : is_safe table here next ≡ false → WalksBack table x high (place - 1) here
+      walk_goes fails =
+          let below = walk.below in
+          let there : place - 1 + 1 ≡ place = omega arith in
+          let here_no : is_anchor table x place ≡ false =
+          ap (λ b. b || (leb (place + 2) (length x) && is_safe table (category_at table x place) (category_at table x (place + 1))))
+          (ne_eqb place 0 (λ zero. omega arith))
+          ∙ ap (λ b. leb (place + 2) (length x) && b) (sym pair_is ∙ fails)
+          ∙ and_false (leb (place + 2) (length x)) in
+          record {
+            below = omega arith;
+            category = here_is ∙ ap (λ n. category_of table.ranges (get_or x n 0)) (sym there);
+            none = λ p past less. ⊎_elim (λ is. ap (is_anchor table x) is ∙ here_no) (λ other. walk.none p (omega arith) less) (cases_eq p place);
+          }
+        where
+          and_false : (b : Bool) → b && false ≡ false
+          and_false true = refl
+          and_false false = refl
 
-    -- the place is the greatest anchor
-    pub walk_ends : is_safe table here next ≡ true → anchor_below table x high ≡ place
-    walk_ends holds =
-        let below = walk.below in
-        let yes : is_anchor table x place ≡ true =
-        or_right (eqb place 0) (leb (place + 2) (length x) && is_safe table (category_at table x place) (category_at table x (place + 1)))
-        (and_from (leb (place + 2) (length x)) (is_safe table (category_at table x place) (category_at table x (place + 1))) (le-leb (place + 2) (length x) (omega arith)) (sym pair_is ∙ holds)) in
-        ap (λ o. unwrap_or o 0) (greatest_is (is_anchor table x) high place walk.below yes walk.none)
+      -- the place is the greatest anchor
+      pub walk_ends : is_safe table here next ≡ true → anchor_below table x high ≡ place
+      walk_ends holds =
+          let below = walk.below in
+          let yes : is_anchor table x place ≡ true =
+          or_right (eqb place 0) (leb (place + 2) (length x) && is_safe table (category_at table x place) (category_at table x (place + 1)))
+          (and_from (leb (place + 2) (length x)) (is_safe table (category_at table x place) (category_at table x (place + 1)))
+          (le-leb (place + 2) (length x) (omega arith)) (sym pair_is ∙ holds)) in
+          ap (λ o. unwrap_or o 0) (greatest_is (is_anchor table x) high place walk.below yes walk.none)
 
   -- where no anchor lies past a place, the greatest isn't past it
   pub none_past : (low : ℕ) → ((p : ℕ) → low < p → p < high → is_anchor table x p ≡ false) → max low (anchor_below table x high) ≡ low
@@ -95,7 +99,8 @@ module _ (table : Table) (x : List ℕ) (low : ℕ) where
     pub walk_on_goes : is_safe table here next ≡ false → WalksOn table x low (place + 1) next
     walk_on_goes fails =
         let from = walk.from in
-        let here_no : begins_pair table x place ≡ false = ap (λ b. leb (place + 2) (length x) && b) (sym pair_on ∙ fails) ∙ and_false (leb (place + 2) (length x)) in
+        let here_no : begins_pair table x place ≡ false = ap (λ b. leb (place + 2) (length x) && b) (sym pair_on ∙ fails)
+        ∙ and_false (leb (place + 2) (length x)) in
         record {
           from = omega arith;
           category = next_is;
@@ -111,7 +116,8 @@ module _ (table : Table) (x : List ℕ) (low : ℕ) where
         record {
           from = walk.from;
           near = near;
-          begins = and_from (leb (place + 2) (length x)) (is_safe table (category_at table x place) (category_at table x (place + 1))) (le-leb (place + 2) (length x) (omega arith)) (sym pair_on ∙ holds);
+          begins = and_from (leb (place + 2) (length x)) (is_safe table (category_at table x place) (category_at table x (place + 1)))
+              (le-leb (place + 2) (length x) (omega arith)) (sym pair_on ∙ holds);
           none_before = walk.none;
         }
 

@@ -1,5 +1,6 @@
 -- What an edit of the text leaves of the kept runs.
-use Rattle.std.specs.Prelude.{◌≡◌, ℕ, ◌+◌, ◌-◌, ◌<◌, ◌≤◌, Bool, true, false, not, ◌&&◌, ◌||◌, List, [], ◌∷◌, map, length, filter, take, if◌then◌else◌, ◌==◌, nat_lt, nat_le}
+use Rattle.std.specs.Prelude.{◌≡◌, ℕ, ◌+◌, ◌-◌, ◌<◌, ◌≤◌, Bool, true, false, not, ◌&&◌, ◌||◌, List, [], ◌∷◌, map, length, filter, take, if◌then◌else◌, ◌==◌}
+use Rattle.std.specs.Prelude.{nat_lt, nat_le}
 use Rattle.rbbi_model.specs.Tables.{Table}
 use Rattle.rbbi_model.specs.SafePairs.{is_safe}
 use Rattle.rbbi_model.specs.Scripts.{splice}
@@ -49,7 +50,8 @@ moved_run at removed inserted run =
     if run.anchor == 0
     then record {
       anchor = anchor;
-      entries = filter (λ entry. (anchor == 0) || nat_le (anchor + 2) entry.at) (map (moved_entry removed inserted) (filter (λ entry. nat_lt at entry.reach) run.entries));
+      entries = filter (λ entry. (anchor == 0) || nat_le (anchor + 2) entry.at)
+          (map (moved_entry removed inserted) (filter (λ entry. nat_lt at entry.reach) run.entries));
       leads = run.leads;
     }
     else record { anchor = anchor; entries = map (moved_entry removed inserted) run.entries; leads = run.leads && not (anchor == 0) }
@@ -71,8 +73,10 @@ goes_whole table x at removed run = nat_le (at + removed) run.anchor && begins_p
 -- nothing, where no pair is near.
 pub data IsRightPart (table : Table) (x y : List ℕ) (at removed inserted : ℕ) (run : Run) : Run → Type 0 where
   Whole : goes_whole table x at removed run ≡ true → IsRightPart table x y at removed inserted run (moved_run at removed inserted run)
-  Behind : (q : ℕ) → goes_whole table x at removed run ≡ false → IsFirstPair table y (at + inserted) q → IsRightPart table x y at removed inserted run (run_behind at removed inserted q run)
-  Nothing : goes_whole table x at removed run ≡ false → HasNoPair table y (at + inserted) → IsRightPart table x y at removed inserted run (record { anchor = 0; entries = []; leads = false })
+  Behind : (q : ℕ) → goes_whole table x at removed run ≡ false → IsFirstPair table y (at + inserted) q → IsRightPart table x y at removed inserted run
+      (run_behind at removed inserted q run)
+  Nothing : goes_whole table x at removed run ≡ false → HasNoPair table y (at + inserted) → IsRightPart table x y at removed inserted run
+      (record { anchor = 0; entries = []; leads = false })
 
 -- the run has an entry
 abbrev pub has_entries : Run → Bool
@@ -82,7 +86,8 @@ has_entries run = not (length run.entries == 0)
 abbrev pub AreParts : Table → List ℕ → List ℕ → ℕ → ℕ → ℕ → List Run → List Run → Type 0
 AreParts table x y at removed inserted [] parts = parts ≡ []
 AreParts table x y at removed inserted (run ∷ runs) parts =
-    (right : Run) × (rest : List Run) × IsRightPart table x y at removed inserted run right × AreParts table x y at removed inserted runs rest × (parts ≡ left_part at run ∷ right ∷ rest)
+    (right : Run) × (rest : List Run) × IsRightPart table x y at removed inserted run right × AreParts table x y at removed inserted runs rest ×
+    (parts ≡ left_part at run ∷ right ∷ rest)
 
 -- What is kept after an edit: each run is replaced by its parts; of those that have entries the first 16 are kept.
 pub record AreKeptAfter (table : Table) (x y : List ℕ) (at removed inserted : ℕ) (former now : List Run) : Type 0 where

@@ -1,9 +1,11 @@
 //! The boundaries that are kept between questions.
 ghost use Rattle.std.specs.Prelude.{◌≡◌, ℕ, ◌+◌, ◌<◌, ◌≤◌, [], length, MatchOption, IfOk};
 ghost use Rattle.rbbi_model.specs.Words.{most_characters};
-ghost use Rattle.rbbi_model.specs.Costs.{anchor_below, searches_cost, forward_cost, back_cost, preceding_cost};
+ghost use Rattle.rbbi_model.specs.Costs.{anchor_below, searches_cost, forward_cost, back_cost};
+ghost use Rattle.rbbi_model.specs.Costs.{preceding_cost};
 ghost use Rattle.rbbi_model.specs.Runs.{ShowsAfter, ShowsBefore};
-ghost use Rattle.rbbi_cache.specs.Kept.{AreTrueRuns, IsFirstAfter, IsLastBefore, SomeRun, Keeps, KeepsBack};
+ghost use Rattle.rbbi_cache.specs.Kept.{AreTrueRuns, IsFirstAfter, IsLastBefore, SomeRun, Keeps};
+ghost use Rattle.rbbi_cache.specs.Kept.{KeepsBack};
 ghost use Rattle.rbbi_cache.specs.Shown.{IsShownAfter};
 ghost use Rattle.rbbi_cache.specs.Lists.{HasAt, GoesOnFrom};
 ghost use Rattle.rbbi_cache.specs.Ready.{KeepsTrue};
@@ -154,8 +156,8 @@ impl Cache {
         Some(self.find_back(table, text, i, steps))
     }
 
-    /// Searches for the first boundary past `i`, from the nearest place that serves, and keeps what it
-    /// finds.
+    /// Searches for the first boundary past `i`, from the nearest place that serves, and keeps what
+    /// it finds.
     fn find_past<T: Chars, L: Ledger>(
         &mut self,
         table: &Table,

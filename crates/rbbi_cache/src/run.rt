@@ -1,5 +1,6 @@
 //! Kept runs: boundaries in a row that were found from one anchor.
-ghost use Rattle.std.specs.Prelude.{◌≡◌, ◌+◌, ◌<◌, ◌≤◌, ◌++◌, [], ◌∷◌, true, false, length, drop, IfOk, if◌then◌else◌, ◌==◌};
+ghost use Rattle.std.specs.Prelude.{◌≡◌, ◌+◌, ◌<◌, ◌≤◌, ◌++◌, [], ◌∷◌, true, false, length, drop};
+ghost use Rattle.std.specs.Prelude.{IfOk, if◌then◌else◌, ◌==◌};
 ghost use Rattle.rbbi_model.specs.Runs as model;
 ghost use Rattle.rbbi_cache.specs.Pushed.{pushed};
 

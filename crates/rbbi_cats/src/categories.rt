@@ -19,8 +19,8 @@ use std::marker::Model;
 
 /// The categories of code points. Contracts see their number, and their ranges.
 ///
-/// A character is looked up in two steps: its block of 256 code points, then its place in the block.
-/// Equal blocks are kept once.
+/// A character is looked up in two steps: its block of 256 code points, then its place in the
+/// block. Equal blocks are kept once.
 #[derive(Debug, Drop)]
 pub struct Categories {
     count: u16,
@@ -43,8 +43,8 @@ impl Model for Categories {
 }
 
 /// The categories of the rules: 0 for the code points that no leaf reads, and one for each class of
-/// code points that the leaves' sets don't tell apart, numbered by their least code point (partition
-/// refinement; Paige and Tarjan 1987).
+/// code points that the leaves' sets don't tell apart, numbered by their least code point
+/// (partition refinement; Paige and Tarjan 1987).
 ///
 /// Refuses `TooManyCategories` where there are more than 255, category 0 counted.
 pub fn partition(alloc: Global, rules: &Rules) -> Result<Categories, CatsErr>
@@ -52,7 +52,8 @@ pub fn partition(alloc: Global, rules: &Rules) -> Result<Categories, CatsErr>
     ensures classes { IfOk result (λ cats. AreClasses (rules_of rules.now) cats.count cats.ranges) }
     ensures form { IfOk result (λ cats. AreValidRanges cats.count cats.ranges) }
     ensures few { IfOk result (λ cats. ¬ HasClasses (rules_of rules.now) MOST_CATEGORIES) }
-    ensures too_many { result ≡ Err TooManyCategories → HasClasses (rules_of rules.now) MOST_CATEGORIES }
+    ensures too_many { result ≡ Err TooManyCategories →
+        HasClasses (rules_of rules.now) MOST_CATEGORIES }
 {
     let sets = rules.sets();
     let cuts = cuts_of(alloc, sets)?;
@@ -84,8 +85,8 @@ impl Categories {
         self.count
     }
 
-    /// The ranges of the categories: the first starts at 0, starts rise, and neighbours have different
-    /// categories.
+    /// The ranges of the categories: the first starts at 0, starts rise, and neighbours have
+    /// different categories.
     pub fn ranges(&self) -> &[CatRange]
         ensures { result.now ≡ self.now.ranges }
     {

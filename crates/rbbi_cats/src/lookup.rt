@@ -1,5 +1,5 @@
-//! The look-up of a character's category in two steps: the block of 256 code points, and the place in
-//! the block. Equal blocks are kept once.
+//! The look-up of a character's category in two steps: the block of 256 code points, and the place
+//! in the block. Equal blocks are kept once.
 ghost use Rattle.std.specs.Prelude.{◌≡◌, ◌<◌, ◌*◌, ◌+◌, ◌^◌, ℕ, IfOk, OnOk, length};
 ghost use Rattle.rbbi_model.specs.Tables.{category_of};
 ghost use Rattle.rbbi_model.specs.ValidTables.{StartsAtZero, AreApart};

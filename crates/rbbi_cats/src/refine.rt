@@ -16,7 +16,8 @@ use std::alloc::{AllocError, Global};
 const MOVING: usize = usize::MAX;
 
 /// Splits each class of which the members are a part, so that they have a class of their own. The
-/// members' classes are counted first, so it takes time in proportion to the members and the classes.
+/// members' classes are counted first, so it takes time in proportion to the members and the
+/// classes.
 pub(crate) fn refine(
     alloc: Global,
     classes: &mut Vec<usize>,

@@ -1,5 +1,6 @@
 -- The words of a text, taken off one by one.
-use Rattle.std.proofs.Common.{◌≡◌, ◌≢◌, ℕ, suc, ◌+◌, ◌-◌, ◌<◌, ◌≤◌, Bool, true, false, not, cond, eqb, List, [], ◌∷◌, ◌++◌, length, get_or, take, drop, refl, ap, sym, subst, ◌∙◌, inl, inr, drop-cons, add-one, arith}
+use Rattle.std.proofs.Common.{◌≡◌, ◌≢◌, ℕ, suc, ◌+◌, ◌-◌, ◌<◌, ◌≤◌, Bool, true, false, not, cond, eqb, List, [], ◌∷◌, ◌++◌, length, get_or, take, drop, refl}
+use Rattle.std.proofs.Common.{ap, sym, subst, ◌∙◌, inl, inr, drop-cons, add-one, arith}
 use Rattle.std.specs.Prelude.{filter}
 use Rattle.std.specs.List.{prefix_len, position_or_len, before_first, after_first, slice_split}
 use Rattle.std.proofs.lemmas.Bool.{cases_Bool, cases_lt}
@@ -46,7 +47,8 @@ no_word [] trim none = refl
 no_word (b ∷ text) trim none =
     elim (cases_Bool (is_blank b)) [
       | inl blank ↦ absurd (let k : 1 + prefix_len is_blank text ≡ 0 = sym (ap (λ t. cond t (1 + prefix_len is_blank text) 0) blank) ∙ trim in omega arith)
-      | inr other ↦ absurd (let k : 1 + position_or_len is_blank text ≡ 0 = sym (ap (λ t. cond (not t) (1 + position_or_len is_blank text) 0) other) ∙ none in omega arith)
+      | inr other ↦ absurd (let k : 1 + position_or_len is_blank text ≡ 0 = sym (ap (λ t. cond (not t) (1 + position_or_len is_blank text) 0) other)
+          ∙ none in omega arith)
     ]
 
 filled_first : (word : List ℕ) (words : List (List ℕ)) → 0 < length word → filter filled (word ∷ words) ≡ word ∷ filter filled words
@@ -69,10 +71,12 @@ first_word text end is some =
       | inl blank ↦
           let at : is_blank (get_or text end 0) ≡ true = ap (λ n. is_blank (get_or text n 0)) is ∙ passes_at_first is_blank text 0 blank in
           ap (filter filled) (slice_split_first is_blank text 0 blank)
-          ∙ filled_first (before_first is_blank text) (slice_split is_blank (after_first is_blank text)) (let n = length-take-le end text (omega arith) in let m = ap (λ n. length (take n text)) is in omega arith)
+          ∙ filled_first (before_first is_blank text) (slice_split is_blank (after_first is_blank text)) (let n =
+          length-take-le end text (omega arith) in let m = ap (λ n. length (take n text)) is in omega arith)
           ∙ ap (λ n. take n text ∷ words_of (drop (n + 1) text)) (sym is)
           ∙ ap (λ ws. take end text ∷ ws)
-          (ap (λ n. words_of (drop n text)) (add-one end) ∙ sym (words_behind (get_or text end 0) (drop (suc end) text) at) ∙ ap words_of (sym (drop-cons text end 0 (omega arith))))
+          (ap (λ n. words_of (drop n text)) (add-one end) ∙ sym (words_behind (get_or text end 0) (drop (suc end) text) at)
+          ∙ ap words_of (sym (drop-cons text end 0 (omega arith))))
       | inr none ↦
           let all : position_or_len is_blank text ≡ length text = let le = prefix_len-le-length (λ b. not (is_blank b)) text in omega arith in
           let whole : end ≡ length text = is ∙ all in

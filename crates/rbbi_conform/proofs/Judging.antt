@@ -1,5 +1,6 @@
 -- What a judge knows between two searches.
-use Rattle.std.proofs.Common.{◌≡◌, ◌≢◌, ℕ, zero, suc, ◌+◌, ◌-◌, ◌<◌, ◌≤◌, ◌⊎◌, inl, inr, Bool, true, false, cond, eqb, List, [], ◌∷◌, length, refl, ap, sym, subst, ◌∙◌, arith}
+use Rattle.std.proofs.Common.{◌≡◌, ◌≢◌, ℕ, zero, suc, ◌+◌, ◌-◌, ◌<◌, ◌≤◌, ◌⊎◌, inl, inr, Bool, true, false, cond, eqb, List, [], ◌∷◌, length, refl, ap, sym}
+use Rattle.std.proofs.Common.{subst, ◌∙◌, arith}
 use Rattle.std.specs.Prelude.{is_some, Some, None, slice_index, ◌==◌}
 use Rattle.std.proofs.lemmas.Bool.{lt-ltb, le-ltb, eq-eqb, cases_lt}
 use Rattle.std.proofs.lemmas.Bool.Decides.{nat_tests}
@@ -25,7 +26,8 @@ first_not b rest i e = ap (λ t. is_some (cond t (Some b.at) (first_place (λ at
 abbrev pub rest_of : Table → List ℕ → ℕ → Boundary → List Boundary
 rest_of table x most here = follow_by (next_boundary table x) (length x) most here
 
-follows : (table : Table) (x : List ℕ) (most : ℕ) (here : Boundary) → here.at < length x → rest_of table x (suc most) here ≡ next_boundary table x here.at ∷ rest_of table x most (next_boundary table x here.at)
+follows : (table : Table) (x : List ℕ) (most : ℕ) (here : Boundary) → here.at < length x → rest_of table x (suc most) here ≡ next_boundary table x here.at ∷
+    rest_of table x most (next_boundary table x here.at)
 follows table x most here l =
     ap (λ t. cond t (next_boundary table x here.at ∷ rest_of table x most (next_boundary table x here.at)) []) (lt-ltb here.at (length x) l)
 
@@ -69,13 +71,15 @@ IsJudged-start table test = record {
       record {
         within = omega arith;
         enough = omega arith;
-        rest_is = λ i l. first_not (record { at = 0; statuses = 0 ∷ [] }) (rest_of table test.text (length test.text) (record { at = 0; statuses = 0 ∷ [] })) i (λ e. omega arith);
+        rest_is = λ i l. first_not (record { at = 0; statuses = 0 ∷ [] }) (rest_of table test.text (length test.text) (record { at = 0; statuses = 0 ∷ [] }))
+            i (λ e. omega arith);
         agreed = λ i l m. absurd (omega arith);
       };
 }
 
 -- which places up to the next boundary are boundaries
-next_alone : (table : Table) (test : Test) (here : Boundary) (most : ℕ) → IsJudged table test here most → here.at < length test.text → (i : ℕ) → here.at < i → i ≤ (next_boundary table test.text here.at).at →
+next_alone : (table : Table) (test : Test) (here : Boundary) (most : ℕ) → IsJudged table test here most → here.at < length test.text →
+    (i : ℕ) → here.at < i → i ≤ (next_boundary table test.text here.at).at →
     is_place_of (table_boundaries table test.text) i ≡ (i == (next_boundary table test.text here.at).at)
 next_alone table test here zero h l i above below = absurd (let e = h.enough in omega arith)
 next_alone table test here (suc most) h l i above below =
@@ -88,7 +92,8 @@ next_alone table test here (suc most) h l i above below =
       | inr from ↦ whole ∙ first_is next (rest_of table test.text most next) i (omega arith) ∙ sym (eq-eqb i next.at (omega arith))
     ]
 
-agrees_on : (table : Table) (test : Test) (here : Boundary) (most place : ℕ) → IsJudged table test here most → here.at < length test.text → AreRight test here.at (next_boundary table test.text here.at).at place → place ≤ (next_boundary table test.text here.at).at →
+agrees_on : (table : Table) (test : Test) (here : Boundary) (most place : ℕ) → IsJudged table test here most → here.at < length test.text →
+    AreRight test here.at (next_boundary table test.text here.at).at place → place ≤ (next_boundary table test.text here.at).at →
     (i : ℕ) → 1 ≤ i → i ≤ place → Agrees (table_boundaries table test.text) test i
 agrees_on table test here most place h l right up_to i first last =
     elim (cases_lt here.at i) [
@@ -97,13 +102,16 @@ agrees_on table test here most place h l right up_to i first last =
     ]
 
 -- the marks up to the next boundary are right
-pub IsJudged-more : (table : Table) (test : Test) (last : ℕ) → IsJudgedTo table test last → last < length test.text → AreRight test last (found table test.text last).at (found table test.text last).at →
+pub IsJudged-more : (table : Table) (test : Test) (last : ℕ) → IsJudgedTo table test last → last < length test.text →
+    AreRight test last (found table test.text last).at (found table test.text last).at →
     IsJudgedTo table test (found table test.text last).at
 IsJudged-more table test last h l right =
     subst (λ p. IsJudgedTo table test (found table test.text p).at) h.at
-    (more h.here h.most h.judged (subst (λ p. p < length test.text) (sym h.at) l) (subst (λ p. AreRight test p (found table test.text p).at (found table test.text p).at) (sym h.at) right))
+    (more h.here h.most h.judged (subst (λ p. p < length test.text) (sym h.at) l)
+    (subst (λ p. AreRight test p (found table test.text p).at (found table test.text p).at) (sym h.at) right))
   where
-    more : (here : Boundary) (most : ℕ) → IsJudged table test here most → here.at < length test.text → AreRight test here.at (found table test.text here.at).at (found table test.text here.at).at → IsJudgedTo table test (found table test.text here.at).at
+    more : (here : Boundary) (most : ℕ) → IsJudged table test here most → here.at < length test.text →
+        AreRight test here.at (found table test.text here.at).at (found table test.text here.at).at → IsJudgedTo table test (found table test.text here.at).at
     more here zero j short right = absurd (let e = j.enough in omega arith)
     more here (suc most) j short right =
         let next = next_boundary table test.text here.at in
@@ -124,11 +132,14 @@ IsJudged-more table test last h l right =
         }
 
 -- a mark is wrong
-pub IsJudged-wrong : (table : Table) (test : Test) (last place : ℕ) → IsJudgedTo table test last → last < length test.text → IsFirstWrong test last (found table test.text last).at place → IsFirstDifference (table_boundaries table test.text) test place
+pub IsJudged-wrong : (table : Table) (test : Test) (last place : ℕ) → IsJudgedTo table test last → last < length test.text →
+    IsFirstWrong test last (found table test.text last).at place → IsFirstDifference (table_boundaries table test.text) test place
 IsJudged-wrong table test last place h l wrong =
-    first h.here h.most h.judged (subst (λ p. p < length test.text) (sym h.at) l) (subst (λ p. IsFirstWrong test p (found table test.text p).at place) (sym h.at) wrong)
+    first h.here h.most h.judged (subst (λ p. p < length test.text) (sym h.at) l)
+    (subst (λ p. IsFirstWrong test p (found table test.text p).at place) (sym h.at) wrong)
   where
-    first : (here : Boundary) (most : ℕ) → IsJudged table test here most → here.at < length test.text → IsFirstWrong test here.at (found table test.text here.at).at place → IsFirstDifference (table_boundaries table test.text) test place
+    first : (here : Boundary) (most : ℕ) → IsJudged table test here most → here.at < length test.text →
+        IsFirstWrong test here.at (found table test.text here.at).at place → IsFirstDifference (table_boundaries table test.text) test place
     first here most j short w =
         let past = w.past in
         let up_to = w.up_to in
@@ -140,5 +151,6 @@ IsJudged-wrong table test last place h l wrong =
         }
 
 -- the text's end
-pub IsJudged-end : (table : Table) (test : Test) (last : ℕ) → IsJudgedTo table test last → length test.text ≤ last → (i : ℕ) → 1 ≤ i → i ≤ length test.text → Agrees (table_boundaries table test.text) test i
+pub IsJudged-end : (table : Table) (test : Test) (last : ℕ) → IsJudgedTo table test last → length test.text ≤ last → (i : ℕ) → 1 ≤ i → i ≤ length test.text →
+    Agrees (table_boundaries table test.text) test i
 IsJudged-end table test last h end i one within = h.judged.agreed i one (let e = h.at in omega arith)

@@ -1,12 +1,14 @@
 -- Pairs of code points and marks, taken off one by one.
-use Rattle.std.proofs.Common.{◌≡◌, ℕ, ◌+◌, ◌*◌, ◌≤◌, Bool, List, [], ◌∷◌, ◌++◌, length, refl, ap, sym, subst, ◌∙◌, append_assoc, append-nil, length-append, arith}
+use Rattle.std.proofs.Common.{◌≡◌, ℕ, ◌+◌, ◌*◌, ◌≤◌, Bool, List, [], ◌∷◌, ◌++◌, length, refl, ap, sym, subst, ◌∙◌, append_assoc, append-nil, length-append}
+use Rattle.std.proofs.Common.{arith}
 use Rattle.rbbi_conform.specs.Grammar.{before_comment, words_of, IsMark, IsCodePoint, ArePairs, WritesTest}
 use Rattle.rbbi_conform.specs.Readings.{IsFirstWord, IsNoPair, IsPairOf, AreMarkedBy, AreUnmarked, IsMarkedOf, IsUnmarked}
 
 -- So many pairs were read, and these words are left.
 pub record IsMarking (words text : List ℕ) (marks : List Bool) (rest : List ℕ) : Type 0 where
   pub forth : (more : List ℕ) (others : List Bool) → ArePairs (words_of rest) more others → ArePairs (words_of words) (text ++ more) (marks ++ others)
-  pub back : (all : List ℕ) (those : List Bool) → ArePairs (words_of words) all those → (more : List ℕ) × (others : List Bool) × ArePairs (words_of rest) more others
+  pub back : (all : List ℕ) (those : List Bool) → ArePairs (words_of words) all those → (more : List ℕ) × (others : List Bool) ×
+      ArePairs (words_of rest) more others
   pub few : 6 * length marks + length rest ≤ length words
   pub same : length text ≡ length marks
 
@@ -20,13 +22,23 @@ rest_of : (sign s : List ℕ) (words r : List (List ℕ)) → sign ∷ words ≡
 rest_of sign s words r e = cc
 
 -- one pair more
-pub IsMarking-more : (words text : List ℕ) (marks : List Bool) (rest point after : List ℕ) (c : ℕ) (mark : Bool) (left : List ℕ) → IsMarking words text marks rest → IsFirstWord rest point after → IsPairOf point after c mark left →
+pub IsMarking-more : (words text : List ℕ) (marks : List Bool) (rest point after : List ℕ) (c : ℕ) (mark : Bool) (left : List ℕ) →
+    IsMarking words text marks rest → IsFirstWord rest point after → IsPairOf point after c mark left →
     IsMarking words (text ++ c ∷ []) (marks ++ mark ∷ []) left
 IsMarking-more words text marks rest point after c mark left h first pair = record {
   forth = λ more others pairs.
       subst (λ t. ArePairs (words_of words) t (marks ++ mark ∷ [] ++ others)) (sym (append_assoc text (c ∷ []) more))
       (subst (λ m. ArePairs (words_of words) (text ++ c ∷ more) m) (sym (append_assoc marks (mark ∷ []) others))
-      (h.forth (c ∷ more) (mark ∷ others) (point, pair.sign, words_of left, first.words ∙ ap (λ ws. point ∷ ws) pair.words, pair.is_point, pair.is_mark, pairs)));
+      (h.forth (c ∷ more) (mark ∷ others) (
+        point,
+        pair.sign,
+        words_of left,
+        first.words
+            ∙ ap (λ ws. point ∷ ws) pair.words,
+        pair.is_point,
+        pair.is_mark,
+        pairs,
+      )));
   back = λ all those pairs.
       let before = h.back all those pairs in
       behind before.0 before.1 before.2;
@@ -34,7 +46,8 @@ IsMarking-more words text marks rest point after c mark left h first pair = reco
   same = let s = h.same in let l = length-append marks (mark ∷ []) in let k = length-append text (c ∷ []) in omega arith;
 }
   where
-    behind : (all : List ℕ) (those : List Bool) → ArePairs (words_of rest) all those → (more : List ℕ) × (others : List Bool) × ArePairs (words_of left) more others
+    behind : (all : List ℕ) (those : List Bool) → ArePairs (words_of rest) all those → (more : List ℕ) × (others : List Bool) ×
+        ArePairs (words_of left) more others
     behind [] [] e = absurd (let k : point ∷ words_of after ≡ [] = sym first.words ∙ e in cc)
     behind (d ∷ all) [] e = absurd e
     behind [] (m ∷ those) e = absurd e
@@ -43,7 +56,8 @@ IsMarking-more words text marks rest point after c mark left h first pair = reco
         (all, those, subst (λ ws. ArePairs ws all those) (rest_of pair.sign s (words_of left) r (sym pair.words ∙ tail)) pairs)
 
 -- no pair follows
-pub IsMarking-bad : (words text : List ℕ) (marks : List Bool) (rest point after : List ℕ) → IsMarking words text marks rest → IsFirstWord rest point after → IsNoPair point (words_of after) → AreUnmarked words
+pub IsMarking-bad : (words text : List ℕ) (marks : List Bool) (rest point after : List ℕ) → IsMarking words text marks rest → IsFirstWord rest point after →
+    IsNoPair point (words_of after) → AreUnmarked words
 IsMarking-bad words text marks rest point after h first none all those pairs =
     let before = h.back all those pairs in
     refused before.0 before.1 before.2
@@ -57,7 +71,8 @@ IsMarking-bad words text marks rest point after h first none all those pairs =
         none d m s r tail.1 (subst (λ w. IsCodePoint w d) tail.0 is_point) is_mark
 
 -- no word is left
-pub IsMarking-end : (words text : List ℕ) (marks : List Bool) (rest : List ℕ) → IsMarking words text marks rest → words_of rest ≡ [] → AreMarkedBy words text marks
+pub IsMarking-end : (words text : List ℕ) (marks : List Bool) (rest : List ℕ) → IsMarking words text marks rest → words_of rest ≡ [] →
+    AreMarkedBy words text marks
 IsMarking-end words text marks rest h none = record {
   pairs =
       subst (λ t. ArePairs (words_of words) t marks) (append-nil text)
@@ -87,7 +102,8 @@ unmarked_rest line word rest first none text marks h =
     none text marks (subst (λ ws. ArePairs ws text marks) (rest_of word h.sign (words_of rest) h.rest (sym first.words ∙ h.words)) h.pairs)
 
 -- a mark and pairs are a test
-pub marked_line : (line word rest text : List ℕ) (marks : List Bool) (mark : Bool) → IsFirstWord (before_comment line) word rest → length (before_comment line) ≤ length line → IsMark word mark → AreMarkedBy rest text marks → IsMarkedOf line text marks
+pub marked_line : (line word rest text : List ℕ) (marks : List Bool) (mark : Bool) → IsFirstWord (before_comment line) word rest →
+    length (before_comment line) ≤ length line → IsMark word mark → AreMarkedBy rest text marks → IsMarkedOf line text marks
 marked_line line word rest text marks mark first shorter is pairs = record {
   writes = record { sign = word; mark = mark; rest = words_of rest; words = first.words; first = is; pairs = pairs.pairs };
   same = pairs.same;

@@ -36,7 +36,8 @@ ArePairs words [] [] = words ≡ []
 ArePairs words (c ∷ text) [] = ⊥
 ArePairs words [] (mark ∷ marks) = ⊥
 ArePairs words (c ∷ text) (mark ∷ marks) =
-    (point : List ℕ) × (sign : List ℕ) × (rest : List (List ℕ)) × (words ≡ point ∷ sign ∷ rest) × IsCodePoint point c × IsMark sign mark × ArePairs rest text marks
+    (point : List ℕ) × (sign : List ℕ) × (rest : List (List ℕ)) × (words ≡ point ∷ sign ∷ rest) × IsCodePoint point c × IsMark sign mark ×
+    ArePairs rest text marks
 
 -- the line is a mark, which isn't compared, and pairs of a code point and a mark
 pub record WritesTest (line text : List ℕ) (marks : List Bool) : Type 0 where

@@ -1,8 +1,11 @@
 //! A line of a test file.
-ghost use Rattle.std.specs.Prelude.{◌≡◌, ◌+◌, ◌*◌, ◌<◌, ◌≤◌, ◌∷◌, [], ◌++◌, length, drop, IfOk, OnOk, MatchOption, ◌==◌, chars, string_bytes};
+ghost use Rattle.std.specs.Prelude.{◌≡◌, ◌+◌, ◌*◌, ◌<◌, ◌≤◌, ◌∷◌, [], ◌++◌, length, drop, IfOk};
+ghost use Rattle.std.specs.Prelude.{OnOk, MatchOption, ◌==◌, chars, string_bytes};
 ghost use Rattle.std.specs.List.{list_all, before_first, prefix_len, position_or_len};
 ghost use Rattle.rbbi_conform.specs.Grammar as spec;
-ghost use Rattle.rbbi_conform.specs.Readings.{IsFirstWord, IsMarkOf, IsCodePointOf, IsNoPair, IsPairOf, IsMarkedOf, IsUnmarked, AreMarkedBy, AreUnmarked};
+ghost use Rattle.rbbi_conform.specs.Readings.{IsFirstWord, IsMarkOf, IsCodePointOf, IsNoPair};
+ghost use Rattle.rbbi_conform.specs.Readings.{IsPairOf, IsMarkedOf, IsUnmarked, AreMarkedBy};
+ghost use Rattle.rbbi_conform.specs.Readings.{AreUnmarked};
 
 use rbbi_text::hexadecimal;
 use std::alloc::{AllocError, Global};

@@ -13,15 +13,16 @@ use std::alloc::Global;
 
 /// The tests of a test file.
 ///
-/// The bytes are at most 100,663,296. One U+FEFF at their start isn't part of the file. A line ends at
-/// LF, and one CR before it isn't part of the line. It is cut before its first `#`, and skipped where
-/// only spaces and tabs are left. The rest is words between spaces and tabs: a mark, then any number
-/// of times a code point and a mark. A mark is U+00F7 (a boundary) or U+00D7 (none). A code point has
-/// four to six hexadecimal digits of either case and is a character. The test files of the Unicode
-/// Character Database have this form (UAX #29, section 7). The first mark isn't compared.
+/// The bytes are at most 100,663,296. One U+FEFF at their start isn't part of the file. A line ends
+/// at LF, and one CR before it isn't part of the line. It is cut before its first `#`, and skipped
+/// where only spaces and tabs are left. The rest is words between spaces and tabs: a mark, then any
+/// number of times a code point and a mark. A mark is U+00F7 (a boundary) or U+00D7 (none). A code
+/// point has four to six hexadecimal digits of either case and is a character. The test files of
+/// the Unicode Character Database have this form (UAX #29, section 7). The first mark isn't
+/// compared.
 ///
-/// Refuses `NotUtf8` with the first byte past the longest valid front, `BadLine` with the first line
-/// that is neither skipped nor of this form, and `Memory`.
+/// Refuses `NotUtf8` with the first byte past the longest valid front, `BadLine` with the first
+/// line that is neither skipped nor of this form, and `Memory`.
 pub fn read_tests(alloc: Global, bytes: &[u8]) -> Result<Tests, TestErr>
     requires { length bytes.now ≤ most_bytes }
     ensures { ReadsTests bytes.now result }
@@ -56,7 +57,8 @@ fn read_line(tests: &mut Tests, alloc: Global, line: &[u8], number: u32) -> Resu
     let Some(Marked { text, marks }) = marked_text(alloc, line)? else {
         return Err(TestErr::BadLine(number));
     };
-    // A character takes six bytes and more of the line, so a line of a test file never has too many.
+    // A character takes six bytes and more of the line, so a line of a test file never has too
+    // many.
     let Ok(text) = PlainText::new(alloc, &text) else {
         return Err(TestErr::Memory);
     };

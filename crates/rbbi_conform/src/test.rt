@@ -1,5 +1,6 @@
 //! A test, and the list of the tests of a file.
-ghost use Rattle.std.specs.Prelude.{◌≡◌, ◌-◌, ◌<◌, ◌≤◌, List, [], ◌∷◌, ◌++◌, length, slice_get, slice_index_or, false, Some, OnOk, OnErr};
+ghost use Rattle.std.specs.Prelude.{◌≡◌, ◌-◌, ◌<◌, ◌≤◌, List, [], ◌∷◌, ◌++◌, length, slice_get};
+ghost use Rattle.std.specs.Prelude.{slice_index_or, false, Some, OnOk, OnErr};
 ghost use Rattle.rbbi_conform.specs.Tests.{Test};
 
 use rbbi_text::PlainText;

@@ -17,8 +17,8 @@ pub enum Verdict {
     Differs(u32),
 }
 
-/// Whether the marks of a test are those of the boundaries of its text by the table. The mark before
-/// the first character isn't compared. No memory is taken.
+/// Whether the marks of a test are those of the boundaries of its text by the table. The mark
+/// before the first character isn't compared. No memory is taken.
 pub fn judge<L: Ledger>(
     table: &Table,
     test: &Test,
@@ -41,8 +41,8 @@ pub fn judge<L: Ledger>(
     Verdict::Same
 }
 
-/// The first place past `last` and up to `next` whose mark is wrong, where `next` is the first boundary
-/// past `last`.
+/// The first place past `last` and up to `next` whose mark is wrong, where `next` is the first
+/// boundary past `last`.
 fn first_wrong(test: &Test, last: u32, next: u32) -> Option<u32>
     requires past { last < next }
     requires within { next ≤ length test.now.text }

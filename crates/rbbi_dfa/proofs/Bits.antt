@@ -1,5 +1,6 @@
 -- Rows of bits, word by word.
-use Rattle.std.proofs.Common.{◌≡◌, ◌≢◌, ℕ, ◌+◌, ◌*◌, ◌/◌, ◌%◌, ◌^◌, ◌<◌, ◌≤◌, ◌⊎◌, ◌↔◌, List, length, get_or, min, max, sym, ap, ◌∙◌, inl, inr, ⊎_elim, arith, set}
+use Rattle.std.proofs.Common.{◌≡◌, ◌≢◌, ℕ, ◌+◌, ◌*◌, ◌/◌, ◌%◌, ◌^◌, ◌<◌, ◌≤◌, ◌⊎◌, ◌↔◌, List, length, get_or, min, max, sym, ap, ◌∙◌, inl, inr, ⊎_elim, arith}
+use Rattle.std.proofs.Common.{set}
 use Rattle.std.specs.Int.{bit_at, w64}
 use Rattle.std.specs.Prelude.{bit_and}
 use Rattle.std.specs.Int.RustNames.{bit_or}
@@ -13,29 +14,34 @@ one_or : (a b : ℕ) → max a b ≡ 1 → a < 2 → b < 2 → (a ≡ 1) ⊎ (b 
 one_or a b one low low' = ⊎_elim (λ is. inl is) (λ other. inr (omega (arith, one, low, low', other))) (cases_eq a 1)
 
 -- a row whose words are those of others joined, or met
-pub holds_or : (row these those : List ℕ) → ((k : ℕ) → get_or row k 0 ≡ bit_or (get_or these k 0) (get_or those k 0)) → (p : ℕ) → Holds row p ↔ (Holds these p ⊎ Holds those p)
+pub holds_or : (row these those : List ℕ) → ((k : ℕ) → get_or row k 0 ≡ bit_or (get_or these k 0) (get_or those k 0)) →
+    (p : ℕ) → Holds row p ↔ (Holds these p ⊎ Holds those p)
 holds_or row these those each p =
     let a : ℕ = bit_at (get_or these (p / 64) 0) (p % 64) in
     let b : ℕ = bit_at (get_or those (p / 64) 0) (p % 64) in
     let low : a < 2 = bit_at-lt (get_or these (p / 64) 0) (p % 64) in
     let low' : b < 2 = bit_at-lt (get_or those (p / 64) 0) (p % 64) in
-    let same : bit_at (get_or row (p / 64) 0) (p % 64) ≡ max a b = ap (λ n. bit_at n (p % 64)) (each (p / 64)) ∙ bit_at_or (get_or these (p / 64) 0) (get_or those (p / 64) 0) (p % 64) in (
+    let same : bit_at (get_or row (p / 64) 0) (p % 64) ≡ max a b = ap (λ n. bit_at n (p % 64)) (each (p / 64))
+    ∙ bit_at_or (get_or these (p / 64) 0) (get_or those (p / 64) 0) (p % 64) in (
       λ holds. one_or a b (sym same ∙ holds) low low',
       ⊎_elim (λ one. same ∙ (let m : max a b ≡ 1 = omega (arith, one, low') in m)) (λ one. same ∙ (let m : max a b ≡ 1 = omega (arith, one, low) in m)),
     )
 
-pub holds_and : (row these those : List ℕ) → ((k : ℕ) → get_or row k 0 ≡ bit_and (get_or these k 0) (get_or those k 0)) → (p : ℕ) → Holds row p ↔ (Holds these p × Holds those p)
+pub holds_and : (row these those : List ℕ) → ((k : ℕ) → get_or row k 0 ≡ bit_and (get_or these k 0) (get_or those k 0)) →
+    (p : ℕ) → Holds row p ↔ (Holds these p × Holds those p)
 holds_and row these those each p =
     let a : ℕ = bit_at (get_or these (p / 64) 0) (p % 64) in
     let b : ℕ = bit_at (get_or those (p / 64) 0) (p % 64) in
     let low : a < 2 = bit_at-lt (get_or these (p / 64) 0) (p % 64) in
     let low' : b < 2 = bit_at-lt (get_or those (p / 64) 0) (p % 64) in
-    let same : bit_at (get_or row (p / 64) 0) (p % 64) ≡ min a b = ap (λ n. bit_at n (p % 64)) (each (p / 64)) ∙ bit_at_and (get_or these (p / 64) 0) (get_or those (p / 64) 0) (p % 64) in (
+    let same : bit_at (get_or row (p / 64) 0) (p % 64) ≡ min a b = ap (λ n. bit_at n (p % 64)) (each (p / 64))
+    ∙ bit_at_and (get_or these (p / 64) 0) (get_or those (p / 64) 0) (p % 64) in (
       λ holds. let one : min a b ≡ 1 = sym same ∙ holds in (omega (arith, one, low, low'), omega (arith, one, low, low')),
       λ both. same ∙ (let m : min a b ≡ 1 = omega (arith, both.0, both.1) in m),
     )
 
-pub holds_or_and : (row old these those : List ℕ) → ((k : ℕ) → get_or row k 0 ≡ bit_or (get_or old k 0) (bit_and (get_or these k 0) (get_or those k 0))) → (p : ℕ) → Holds row p ↔ (Holds old p ⊎ (Holds these p × Holds those p))
+pub holds_or_and : (row old these those : List ℕ) → ((k : ℕ) → get_or row k 0 ≡ bit_or (get_or old k 0) (bit_and (get_or these k 0) (get_or those k 0))) →
+    (p : ℕ) → Holds row p ↔ (Holds old p ⊎ (Holds these p × Holds those p))
 holds_or_and row old these those each p =
     let a : ℕ = bit_at (get_or these (p / 64) 0) (p % 64) in
     let b : ℕ = bit_at (get_or those (p / 64) 0) (p % 64) in
@@ -47,8 +53,10 @@ holds_or_and row old these those each p =
     ap (λ n. bit_at n (p % 64)) (each (p / 64)) ∙ bit_at_or (get_or old (p / 64) 0) (bit_and (get_or these (p / 64) 0) (get_or those (p / 64) 0)) (p % 64)
     ∙ ap (λ n. max d n) (bit_at_and (get_or these (p / 64) 0) (get_or those (p / 64) 0) (p % 64)) in
     let small : min a b < 2 = omega (arith, low) in (
-      λ holds. ⊎_elim (λ one. inl one) (λ one. inr (omega (arith, one, low, low'), omega (arith, one, low, low'))) (one_or d (min a b) (sym same ∙ holds) low'' small),
-      ⊎_elim (λ one. same ∙ (let m : max d (min a b) ≡ 1 = omega (arith, one, small) in m)) (λ both. same ∙ (let m : max d (min a b) ≡ 1 = omega (arith, both.0, both.1, low'') in m)),
+      λ holds. ⊎_elim (λ one. inl one) (λ one. inr (omega (arith, one, low, low'), omega (arith, one, low, low')))
+          (one_or d (min a b) (sym same ∙ holds) low'' small),
+      ⊎_elim (λ one. same ∙ (let m : max d (min a b) ≡ 1 = omega (arith, one, small) in m))
+          (λ both. same ∙ (let m : max d (min a b) ≡ 1 = omega (arith, both.0, both.1, low'') in m)),
     )
 
 -- a number that isn't 0 has a bit
@@ -62,7 +70,8 @@ holds_word row k t small bit =
     ap (λ n. bit_at (get_or row n 0) ((64 * k + t) % 64)) word ∙ ap (λ n. bit_at (get_or row k 0) n) place ∙ bit
 
 -- words in common
-pub words_meet : (these those : List ℕ) (k : ℕ) → bit_and (get_or these k 0) (get_or those k 0) ≢ 0 → bit_and (get_or these k 0) (get_or those k 0) < 2 ^ 64 → (p : ℕ) × Holds these p × Holds those p
+pub words_meet : (these those : List ℕ) (k : ℕ) → bit_and (get_or these k 0) (get_or those k 0) ≢ 0 →
+    bit_and (get_or these k 0) (get_or those k 0) < 2 ^ 64 → (p : ℕ) × Holds these p × Holds those p
 words_meet these those k some small =
     let bit = some_bit (bit_and (get_or these k 0) (get_or those k 0)) some small in
     let a : ℕ = bit_at (get_or these k 0) bit.0 in
@@ -72,7 +81,8 @@ words_meet these those k some small =
     let low' : b < 2 = bit_at-lt (get_or those k 0) bit.0 in
     (64 * k + bit.0, holds_word these k bit.0 bit.1 (omega (arith, one, low, low')), holds_word those k bit.0 bit.1 (omega (arith, one, low, low')))
 
-pub words_apart : (these those : List ℕ) → length these ≡ length those → ((k : ℕ) → k < length these → bit_and (get_or these k 0) (get_or those k 0) ≡ 0) → (p : ℕ) → Holds these p → ¬ Holds those p
+pub words_apart : (these those : List ℕ) → length these ≡ length those → ((k : ℕ) → k < length these → bit_and (get_or these k 0) (get_or those k 0) ≡ 0) →
+    (p : ℕ) → Holds these p → ¬ Holds those p
 words_apart these those long each p holds = λ holds'.
     let k : ℕ = p / 64 in
     ⊎_elim
@@ -89,7 +99,8 @@ words_apart these those long each p holds = λ holds'.
 
 -- outside of a span a word stays, and there the other is 0
 pub or_within : (row old other : List ℕ) (from to i : ℕ) → IsSpan other from to → to ≤ i →
-    ((k : ℕ) → from ≤ k → k < i → get_or row k 0 ≡ bit_or (get_or old k 0) (get_or other k 0)) → ((k : ℕ) → (k < from) ⊎ (i ≤ k) → get_or row k 0 ≡ get_or old k 0) →
+    ((k : ℕ) → from ≤ k → k < i → get_or row k 0 ≡ bit_or (get_or old k 0) (get_or other k 0)) →
+    ((k : ℕ) → (k < from) ⊎ (i ≤ k) → get_or row k 0 ≡ get_or old k 0) →
     (k : ℕ) → get_or row k 0 ≡ bit_or (get_or old k 0) (get_or other k 0)
 or_within row old other from to i span all inside outside k =
     let kept : get_or other k 0 ≡ 0 → get_or row k 0 ≡ get_or old k 0 → get_or row k 0 ≡ bit_or (get_or old k 0) (get_or other k 0) =
@@ -114,7 +125,8 @@ and_within these those from to i span all inside k =
     (cases_lt k i))
     (cases_lt k from)
 
-pub IsSpan-from_loop : (row : List ℕ) (from to i : ℕ) → length row ≤ i → to ≤ length row → ((k : ℕ) → k < from → k < i → get_or row k 0 ≡ 0) → ((k : ℕ) → to ≤ k → k < i → get_or row k 0 ≡ 0) → IsSpan row from to
+pub IsSpan-from_loop : (row : List ℕ) (from to i : ℕ) → length row ≤ i → to ≤ length row → ((k : ℕ) → k < from → k < i → get_or row k 0 ≡ 0) →
+    ((k : ℕ) → to ≤ k → k < i → get_or row k 0 ≡ 0) → IsSpan row from to
 IsSpan-from_loop row from to i all within before past = record {
   within = within;
   before = λ k sooner. ⊎_elim (λ short. before k sooner short) (λ beyond. get_or_past row k 0 (omega (arith, all, beyond))) (cases_lt k i);
@@ -122,20 +134,24 @@ IsSpan-from_loop row from to i all within before past = record {
 }
 
 pub and_each : (row these those : List ℕ) (i : ℕ) → length row ≤ i → length these ≤ i → length those ≤ i →
-    ((k : ℕ) → k < i → get_or row k 0 ≡ bit_and (get_or these k 0) (get_or those k 0)) → (k : ℕ) → get_or row k 0 ≡ bit_and (get_or these k 0) (get_or those k 0)
+    ((k : ℕ) → k < i → get_or row k 0 ≡ bit_and (get_or these k 0) (get_or those k 0)) →
+    (k : ℕ) → get_or row k 0 ≡ bit_and (get_or these k 0) (get_or those k 0)
 and_each row these those i a b d each k =
     ⊎_elim (λ short. each k short)
     (λ past.
-    get_or_past row k 0 (omega (arith, a, past)) ∙ ap (λ n. bit_and n 0) (sym (get_or_past these k 0 (omega (arith, b, past)))) ∙ ap (λ n. bit_and (get_or these k 0) n) (sym (get_or_past those k 0 (omega (arith, d, past)))))
+    get_or_past row k 0 (omega (arith, a, past)) ∙ ap (λ n. bit_and n 0) (sym (get_or_past these k 0 (omega (arith, b, past))))
+    ∙ ap (λ n. bit_and (get_or these k 0) n) (sym (get_or_past those k 0 (omega (arith, d, past)))))
     (cases_lt k i)
 
 pub or_and_each : (row old these those : List ℕ) (i : ℕ) → length row ≤ i → length old ≤ i → length these ≤ i → length those ≤ i →
-    ((k : ℕ) → k < i → get_or row k 0 ≡ bit_or (get_or old k 0) (bit_and (get_or these k 0) (get_or those k 0))) → (k : ℕ) → get_or row k 0 ≡ bit_or (get_or old k 0) (bit_and (get_or these k 0) (get_or those k 0))
+    ((k : ℕ) → k < i → get_or row k 0 ≡ bit_or (get_or old k 0) (bit_and (get_or these k 0) (get_or those k 0))) →
+    (k : ℕ) → get_or row k 0 ≡ bit_or (get_or old k 0) (bit_and (get_or these k 0) (get_or those k 0))
 or_and_each row old these those i a b d e each k =
     ⊎_elim (λ short. each k short)
     (λ past.
     get_or_past row k 0 (omega (arith, a, past)) ∙ ap (λ n. bit_or n (bit_and 0 0)) (sym (get_or_past old k 0 (omega (arith, b, past))))
-    ∙ ap (λ n. bit_or (get_or old k 0) (bit_and n 0)) (sym (get_or_past these k 0 (omega (arith, d, past)))) ∙ ap (λ n. bit_or (get_or old k 0) (bit_and (get_or these k 0) n)) (sym (get_or_past those k 0 (omega (arith, e, past)))))
+    ∙ ap (λ n. bit_or (get_or old k 0) (bit_and n 0)) (sym (get_or_past these k 0 (omega (arith, d, past))))
+    ∙ ap (λ n. bit_or (get_or old k 0) (bit_and (get_or these k 0) n)) (sym (get_or_past those k 0 (omega (arith, e, past)))))
     (cases_lt k i)
 
 -- a row with one position more
@@ -150,7 +166,8 @@ holds_insert row position other short =
     let here : get_or (set row k new) k 0 ≡ new = get_or-set_same row k new 0 short in
     ⊎_elim
     (λ word.
-    let read : bit_at (get_or (set row k new) (other / 64) 0) (other % 64) ≡ bit_at new (other % 64) = ap (λ n. bit_at (get_or (set row k new) n 0) (other % 64)) word ∙ ap (λ n. bit_at n (other % 64)) here in
+    let read : bit_at (get_or (set row k new) (other / 64) 0) (other % 64) ≡ bit_at new (other % 64) =
+    ap (λ n. bit_at (get_or (set row k new) n 0) (other % 64)) word ∙ ap (λ n. bit_at n (other % 64)) here in
     let before : bit_at (get_or row (other / 64) 0) (other % 64) ≡ bit_at old (other % 64) = ap (λ n. bit_at (get_or row n 0) (other % 64)) word in
     ⊎_elim
     (λ place.
@@ -163,6 +180,7 @@ holds_insert row position other short =
     ))
     (cases_eq (other % 64) t))
     (λ apart.
-    let read : bit_at (get_or (set row k new) (other / 64) 0) (other % 64) ≡ bit_at (get_or row (other / 64) 0) (other % 64) = ap (λ n. bit_at n (other % 64)) (get_or-set_other row k (other / 64) new 0 apart) in
+    let read : bit_at (get_or (set row k new) (other / 64) 0) (other % 64) ≡ bit_at (get_or row (other / 64) 0) (other % 64) =
+    ap (λ n. bit_at n (other % 64)) (get_or-set_other row k (other / 64) new 0 apart) in
     (λ holds. inl (sym read ∙ holds), ⊎_elim (λ holds. read ∙ holds) (λ same. absurd (apart (ap (λ n. n / 64) same)))))
     (cases_eq (other / 64) k)

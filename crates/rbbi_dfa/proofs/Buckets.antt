@@ -1,11 +1,13 @@
 -- Sets in buckets: the links of a bucket lead over all of its sets, the newest first.
-use Rattle.std.proofs.Common.{◌≡◌, ◌≢◌, ℕ, ◌+◌, ◌-◌, ◌/◌, ◌^◌, ◌<◌, ◌≤◌, Bool, true, false, eqb, List, [], ◌∷◌, ◌++◌, length, get_or, set, replicate, take, refl, sym, ap, ◌∙◌, subst, ⊎_elim, arith}
+use Rattle.std.proofs.Common.{◌≡◌, ◌≢◌, ℕ, ◌+◌, ◌-◌, ◌/◌, ◌^◌, ◌<◌, ◌≤◌, Bool, true, false, eqb, List, [], ◌∷◌, ◌++◌, length, get_or, set, replicate, take}
+use Rattle.std.proofs.Common.{refl, sym, ap, ◌∙◌, subst, ⊎_elim, arith}
 use Rattle.std.specs.List.{fold}
 use Rattle.std.specs.Cmp.Lexicographic.{pointwise}
 use Rattle.std.proofs.lemmas.Slice.Eq.{slice_eq-Decides}
 use Rattle.std.proofs.lemmas.Bool.Decides.{Decides-eqb}
 use Rattle.std.proofs.lemmas.Bool.{cases_lt, cases_eq, false≢true}
-use Rattle.std.proofs.lemmas.List.{get_or-replicate, get_or_past, get_or-set_same, get_or-set_other, get_or_append_left, get_or_push, length_push, length-set, length-replicate, take_all}
+use Rattle.std.proofs.lemmas.List.{get_or-replicate, get_or_past, get_or-set_same, get_or-set_other, get_or_append_left, get_or_push, length_push, length-set}
+use Rattle.std.proofs.lemmas.List.{length-replicate, take_all}
 use Rattle.std.proofs.lemmas.List.Sums.{fold_more}
 use Rattle.rbbi_dfa.specs.BitRows.{row_at}
 use Rattle.rbbi_dfa.specs.LeafSetIndex.{mixed, bucket_of, IsIndexed, IsAbsent}
@@ -41,13 +43,15 @@ module _ (sets : List (List ℕ)) (newest older : List ℕ) (indexed : IsIndexed
         absurd (omega (arith, most, here, is, above));
   }
 
-  pub unfound_next : (set : List ℕ) (bucket at next : ℕ) → IsUnfound sets bucket set at → 0 < at → row_at sets (at - 1) ≢ set → next ≡ get_or older (at - 1) 0 → IsUnfound sets bucket set next
+  pub unfound_next : (set : List ℕ) (bucket at next : ℕ) → IsUnfound sets bucket set at → 0 < at → row_at sets (at - 1) ≢ set →
+      next ≡ get_or older (at - 1) 0 → IsUnfound sets bucket set next
   unfound_next set bucket at next unfound some other is =
       let i : ℕ = at - 1 in
       let short : i < length sets = omega (arith, unfound.within, some) in
       record {
         within = omega (arith, is, indexed.older_within i short, short);
-        in_bucket = λ more. subst (λ n. 0 < n → bucket_of (row_at sets (n - 1)) ≡ bucket_of (row_at sets i)) (sym is) (indexed.older_of i short) more ∙ unfound.in_bucket some;
+        in_bucket = λ more. subst (λ n. 0 < n → bucket_of (row_at sets (n - 1)) ≡ bucket_of (row_at sets i)) (sym is) (indexed.older_of i short) more
+            ∙ unfound.in_bucket some;
         past = λ j above short' same.
             ⊎_elim
             (λ less.
@@ -64,7 +68,8 @@ module _ (sets : List (List ℕ)) (newest older : List ℕ) (indexed : IsIndexed
   pub unfound_end : (set : List ℕ) (bucket : ℕ) → bucket ≡ bucket_of set → IsUnfound sets bucket set 0 → IsAbsent sets set
   unfound_end set bucket is unfound i short = λ same. unfound.past i (omega arith) short (ap bucket_of same ∙ sym is) same
 
-  pub set_added : (set' : List ℕ) (bucket : ℕ) → length sets < 16384 → bucket < 32768 → bucket ≡ bucket_of set' → IsIndexed (sets ++ set' ∷ []) (set newest bucket (length sets + 1)) (set older (length sets) (get_or newest bucket 0))
+  pub set_added : (set' : List ℕ) (bucket : ℕ) → length sets < 16384 → bucket < 32768 → bucket ≡ bucket_of set' →
+      IsIndexed (sets ++ set' ∷ []) (set newest bucket (length sets + 1)) (set older (length sets) (get_or newest bucket 0))
   set_added set' bucket room small is =
       let n : ℕ = length sets in
       let new : List (List ℕ) = sets ++ set' ∷ [] in
@@ -76,7 +81,8 @@ module _ (sets : List (List ℕ)) (newest older : List ℕ) (indexed : IsIndexed
       let newest_here : get_or newest' bucket 0 ≡ n + 1 = get_or-set_same newest bucket (n + 1) 0 (omega (arith, indexed.many_buckets, small)) in
       let newest_other : (b : ℕ) → b ≢ bucket → get_or newest' b 0 ≡ get_or newest b 0 = λ b other. get_or-set_other newest bucket b (n + 1) 0 other in
       let older_here : get_or older' n 0 ≡ get_or newest bucket 0 = get_or-set_same older n (get_or newest bucket 0) 0 (omega (arith, indexed.room, room)) in
-      let older_other : (i : ℕ) → i < n → get_or older' i 0 ≡ get_or older i 0 = λ i short. get_or-set_other older n i (get_or newest bucket 0) 0 (omega (arith, short)) in
+      let older_other : (i : ℕ) → i < n → get_or older' i 0 ≡ get_or older i 0 =
+      λ i short. get_or-set_other older n i (get_or newest bucket 0) 0 (omega (arith, short)) in
       let within : get_or newest bucket 0 ≤ n = indexed.newest_within bucket small in
       record {
         few = omega (arith, long, room);
@@ -95,7 +101,8 @@ module _ (sets : List (List ℕ)) (newest older : List ℕ) (indexed : IsIndexed
             (λ other.
             let some' : 0 < get_or newest b 0 = omega (arith, some, newest_other b other) in
             let short : get_or newest b 0 - 1 < n = omega (arith, some', indexed.newest_within b small') in
-            ap (λ k. bucket_of (row_at new (k - 1))) (newest_other b other) ∙ ap bucket_of (old_at (get_or newest b 0 - 1) short) ∙ indexed.newest_of b small' some')
+            ap (λ k. bucket_of (row_at new (k - 1))) (newest_other b other) ∙ ap bucket_of (old_at (get_or newest b 0 - 1) short)
+            ∙ indexed.newest_of b small' some')
             (cases_eq b bucket);
         newest_most = λ i short.
             ⊎_elim
@@ -122,24 +129,28 @@ module _ (sets : List (List ℕ)) (newest older : List ℕ) (indexed : IsIndexed
             let value : get_or older' i 0 ≡ get_or newest bucket 0 = ap (λ k. get_or older' k 0) at ∙ older_here in
             let some' : 0 < get_or newest bucket 0 = omega (arith, some, value) in
             let short' : get_or newest bucket 0 - 1 < n = omega (arith, some', within) in
-            ap (λ k. bucket_of (row_at new (k - 1))) value ∙ ap bucket_of (old_at (get_or newest bucket 0 - 1) short') ∙ indexed.newest_of bucket small some' ∙ is ∙ sym (ap bucket_of new_at) ∙ ap (λ k. bucket_of (row_at new k)) (sym at))
+            ap (λ k. bucket_of (row_at new (k - 1))) value ∙ ap bucket_of (old_at (get_or newest bucket 0 - 1) short') ∙ indexed.newest_of bucket small some'
+            ∙ is ∙ sym (ap bucket_of new_at) ∙ ap (λ k. bucket_of (row_at new k)) (sym at))
             (λ other.
             let short' : i < n = omega (arith, short, long, other) in
             let value = older_other i short' in
             let some' : 0 < get_or older i 0 = omega (arith, some, value) in
             let before : get_or older i 0 - 1 < n = omega (arith, some', indexed.older_within i short', short') in
-            ap (λ k. bucket_of (row_at new (k - 1))) value ∙ ap bucket_of (old_at (get_or older i 0 - 1) before) ∙ indexed.older_of i short' some' ∙ sym (ap bucket_of (old_at i short')))
+            ap (λ k. bucket_of (row_at new (k - 1))) value ∙ ap bucket_of (old_at (get_or older i 0 - 1) before) ∙ indexed.older_of i short' some'
+            ∙ sym (ap bucket_of (old_at i short')))
             (cases_eq i n);
         older_most = λ earlier i less short same.
             ⊎_elim
             (λ at.
             let before : earlier < n = omega (arith, less, at) in
-            let here : bucket_of (row_at sets earlier) ≡ bucket = ap bucket_of (sym (old_at earlier before)) ∙ same ∙ ap (λ k. bucket_of (row_at new k)) at ∙ ap bucket_of new_at ∙ sym is in
+            let here : bucket_of (row_at sets earlier) ≡ bucket = ap bucket_of (sym (old_at earlier before)) ∙ same ∙ ap (λ k. bucket_of (row_at new k)) at
+            ∙ ap bucket_of new_at ∙ sym is in
             omega (arith, indexed.newest_most earlier before, ap (λ b. get_or newest b 0) here, ap (λ k. get_or older' k 0) at, older_here))
             (λ other.
             let short' : i < n = omega (arith, short, long, other) in
             let before : earlier < n = omega (arith, less, short') in
-            let same' : bucket_of (row_at sets earlier) ≡ bucket_of (row_at sets i) = ap bucket_of (sym (old_at earlier before)) ∙ same ∙ ap bucket_of (old_at i short') in
+            let same' : bucket_of (row_at sets earlier) ≡ bucket_of (row_at sets i) = ap bucket_of (sym (old_at earlier before)) ∙ same
+            ∙ ap bucket_of (old_at i short') in
             omega (arith, older_other i short', indexed.older_most earlier i less short' same'))
             (cases_eq i n);
       }
@@ -158,7 +169,8 @@ none_indexed newest older many room zero = record {
 }
 
 pub zeros : (n i z : ℕ) → z ≡ 0 → get_or (replicate n z) i 0 ≡ 0
-zeros n i z none = ⊎_elim (λ short. get_or-replicate n i z 0 short ∙ none) (λ past. get_or_past (replicate n z) i 0 (omega (arith, past, length-replicate n z))) (cases_lt i n)
+zeros n i z none = ⊎_elim (λ short. get_or-replicate n i z 0 short ∙ none)
+    (λ past. get_or_past (replicate n z) i 0 (omega (arith, past, length-replicate n z))) (cases_lt i n)
 
 -- what `==` says of two rows
 pub same_rows : (these those : List ℕ) (r : Bool) → r ≡ pointwise eqb these those → r ≡ true → these ≡ those

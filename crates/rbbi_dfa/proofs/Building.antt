@@ -61,7 +61,8 @@ module _
     BuildsTable-from_gives (Err Memory) h = tt
 
 -- what is wanted of positions and categories, and what is read off them, by the rules that they are those of
-pub AreOf-from_compilable : (rules : List Rule) (marks : PositionMarks) (cats : CategoryList) (categories slashes : ℕ) → AreCompilable rules marks cats → categories ≡ cats.count → slashes ≡ count_by has_slash marks.rules →
+pub AreOf-from_compilable : (rules : List Rule) (marks : PositionMarks) (cats : CategoryList) (categories slashes : ℕ) → AreCompilable rules marks cats →
+    categories ≡ cats.count → slashes ≡ count_by has_slash marks.rules →
     AreOf rules categories slashes cats.ranges marks
 AreOf-from_compilable rules marks cats categories slashes h is counted = record {
   lawful = h.lawful;
@@ -71,7 +72,8 @@ AreOf-from_compilable rules marks cats categories slashes h is counted = record 
   slashes_are = counted ∙ look_aheads_by_marks rules cats.count cats.ranges marks h.positions;
 }
 
-pub AreReadable-from_of : (rules : List Rule) (categories slashes : ℕ) (ranges : List CategoryRange) (marks : PositionMarks) → AreOf rules categories slashes ranges marks → AreReadable marks categories slashes
+pub AreReadable-from_of : (rules : List Rule) (categories slashes : ℕ) (ranges : List CategoryRange) (marks : PositionMarks) →
+    AreOf rules categories slashes ranges marks → AreReadable marks categories slashes
 AreReadable-from_of rules categories slashes ranges marks of = record {
   few = omega (arith, of.positions.leaves, of.lawful.few_leaves);
   few_slashes = omega (arith, of.slashes_are, of.lawful.few_look_aheads);
@@ -81,7 +83,8 @@ AreReadable-from_of rules categories slashes ranges marks of = record {
 }
 
 -- a refusal of determinising is one of compiling
-pub BuildsTable-from_refused : (rules : List Rule) (error : DeterminizeErr) (result : Result Table BuildErr) → IsErr result × IsErrAnd result (λ e. e ≡ refusal_of error) → (error ≡ ManyReached → HasLeafSets rules 16385) → BuildsTable rules result
+pub BuildsTable-from_refused : (rules : List Rule) (error : DeterminizeErr) (result : Result Table BuildErr) → IsErr result ×
+    IsErrAnd result (λ e. e ≡ refusal_of error) → (error ≡ ManyReached → HasLeafSets rules 16385) → BuildsTable rules result
 BuildsTable-from_refused rules error (Ok table) h many = let wrong : false ≡ true = h.0 in absurd (cc)
 BuildsTable-from_refused rules ManyReached (Err e) h many = subst (λ (r : BuildErr). BuildsTable rules (Err r)) (sym h.1) (many refl)
 BuildsTable-from_refused rules NoMemory (Err e) h many = subst (λ (r : BuildErr). BuildsTable rules (Err r)) (sym h.1) tt

@@ -1,5 +1,6 @@
 -- A least table with its ranges and safe pairs is compiled from the rules.
-use Rattle.std.proofs.Common.{◌≡◌, ◌≢◌, ℕ, ◌+◌, ◌*◌, ◌/◌, ◌<◌, Bool, true, false, cond, nat_le, List, [], ◌∷◌, length, map, take, refl, ap, sym, ◌∙◌, subst, ⊎_elim, arith, slice_index_or}
+use Rattle.std.proofs.Common.{◌≡◌, ◌≢◌, ℕ, ◌+◌, ◌*◌, ◌/◌, ◌<◌, Bool, true, false, cond, nat_le, List, [], ◌∷◌, length, map, take, refl, ap, sym, ◌∙◌, subst}
+use Rattle.std.proofs.Common.{⊎_elim, arith, slice_index_or}
 use Rattle.std.specs.List.{AllByRecursion}
 use Rattle.rbbi_model.specs.Places.{has_bit}
 use Rattle.rbbi_model.specs.Words.{IsWord}
@@ -19,7 +20,8 @@ either : (b : Bool) (count x y : ℕ) → x < count → y < count → cond b x y
 either true count x y h k = h
 either false count x y h k = k
 
-category_within : (categories before c : ℕ) (ranges : List CategoryRange) → before < categories → AllByRecursion (IsWithin categories) ranges → category_from before ranges c < categories
+category_within : (categories before c : ℕ) (ranges : List CategoryRange) → before < categories → AllByRecursion (IsWithin categories) ranges →
+    category_from before ranges c < categories
 category_within categories before c [] h k = h
 category_within categories before c (range ∷ ranges) h k =
     either (nat_le range.start c) categories (category_from range.category ranges c) before (category_within categories range.category c ranges k.0.1 k.1) h
@@ -27,7 +29,8 @@ category_within categories before c (range ∷ ranges) h k =
 pub AreWithin-from_valid : (categories : ℕ) (ranges : List CategoryRange) → AreValidRanges categories ranges → AreWithin categories ranges
 AreWithin-from_valid categories ranges h c = category_within categories 0 c ranges (omega (arith, h.some_categories)) h.within
 
-pub row_along-finished : (table : Table) (ranges : List CategoryRange) (safe : List ℕ) (row : ℕ) (way : List ℕ) → row_along (finished table ranges safe) row way ≡ row_along table row way
+pub row_along-finished : (table : Table) (ranges : List CategoryRange) (safe : List ℕ) (row : ℕ) (way : List ℕ) →
+    row_along (finished table ranges safe) row way ≡ row_along table row way
 row_along-finished table ranges safe row [] = refl
 row_along-finished table ranges safe row (category ∷ way) = row_along-finished table ranges safe (step table row category) way
 
@@ -90,7 +93,8 @@ module _
     within : AreWithin automaton.categories ranges
     within = AreWithin-from_valid automaton.categories ranges valid
 
-    marks_after_word : (w : List ℕ) → marks_of table (row_along table 1 (map (category_of ranges) w)) ≡ marks_of automaton (row_along automaton 1 (map (category_of ranges) w))
+    marks_after_word : (w : List ℕ) → marks_of table (row_along table 1 (map (category_of ranges) w)) ≡ marks_of automaton
+        (row_along automaton 1 (map (category_of ranges) w))
     marks_after_word w = least.marks (map (category_of ranges) w) (word_IsWay automaton ranges within w)
 
     pub HasSameMarks-finished : (safe : List ℕ) → HasSameMarks (finished table ranges safe) rules
@@ -128,7 +132,10 @@ module _
       first_zero (statuses ∷ lists) h = h
 
       table_row_within : (w : List ℕ) → row_along table 1 (map (category_of ranges) w) < length table.rows
-      table_row_within w = along_within 1 (map (category_of ranges) w) (omega (arith, least.rows.some)) (subst (λ (n : ℕ). AllByRecursion (λ category. category < n) (map (category_of ranges) w)) (sym least.categories) (word_IsWay automaton ranges within w))
+      table_row_within w =
+          along_within 1 (map (category_of ranges) w) (omega (arith, least.rows.some))
+          (subst (λ (n : ℕ). AllByRecursion (λ category. category < n) (map (category_of ranges) w)) (sym least.categories)
+          (word_IsWay automaton ranges within w))
         where
           along_within : (row : ℕ) (way : List ℕ) → row < length table.rows → IsWay table way → row_along table row way < length table.rows
           along_within row [] h k = h
@@ -142,7 +149,8 @@ module _
           let w = after.0 in
           let is : after.1 ≡ marks_of automaton (row_along automaton 1 (map (category_of ranges) after.0)) =
           unique after.0 after.1 _ after.4
-          (subst (λ (row : ℕ). AreMarks rules after.0 (marks_of automaton row)) (row_along-ranges automaton ranges 1 (map (category_of ranges) after.0)) (same.each after.0 after.2 after.3)) in
+          (subst (λ (row : ℕ). AreMarks rules after.0 (marks_of automaton row)) (row_along-ranges automaton ranges 1 (map (category_of ranges) after.0))
+          (same.each after.0 after.2 after.3)) in
           let row = row_along table 1 (map (category_of ranges) after.0) in (
             list_of table (row_along table 1 (map (category_of ranges) after.0)),
             (

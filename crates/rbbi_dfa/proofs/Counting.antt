@@ -1,5 +1,6 @@
 -- The sets that are reached are the leaf sets of words, so there are as many.
-use Rattle.std.proofs.Common.{◌≡◌, ℕ, zero, suc, ◌-◌, ◌<◌, ◌↔◌, Bool, true, false, ◌||◌, eqb, List, [], ◌∷◌, length, map, get_or, sym, refl, ap, ◌∙◌, subst, ⊎_elim, arith}
+use Rattle.std.proofs.Common.{◌≡◌, ℕ, zero, suc, ◌-◌, ◌<◌, ◌↔◌, Bool, true, false, ◌||◌, eqb, List, [], ◌∷◌, length, map, get_or, sym, refl, ap, ◌∙◌, subst}
+use Rattle.std.proofs.Common.{⊎_elim, arith}
 use Rattle.std.specs.List.{AllByRecursion, list_any}
 use Rattle.std.proofs.lemmas.Bool.{cases_Bool, eqb-true, ne_eqb, false≢true}
 use Rattle.std.proofs.lemmas.Map.Keys.{IsDistinct-from_apart}
@@ -34,7 +35,8 @@ pub all_by_index : {X : Type 0} (P : X → Type 0) (d : X) (xs : List X) → ((i
 all_by_index P d [] each = tt
 all_by_index P d (x ∷ xs) each = (each 0 (omega arith), all_by_index P d xs (λ i short. each (suc i) (omega (arith, short))))
 
-all_map : {X Y : Type 0} (P : X → Type 0) (Q : Y → Type 0) (f : X → Y) (xs : List X) → ((x : X) → P x → Q (f x)) → AllByRecursion P xs → AllByRecursion Q (map f xs)
+all_map : {X Y : Type 0} (P : X → Type 0) (Q : Y → Type 0) (f : X → Y) (xs : List X) → ((x : X) → P x → Q (f x)) → AllByRecursion P xs →
+    AllByRecursion Q (map f xs)
 all_map P Q f [] to all = tt
 all_map P Q f (x ∷ xs) to all = (to x all.0, all_map P Q f xs to all.1)
 
@@ -67,7 +69,8 @@ module _ (rules : List Rule) (lawful : AreLawful rules) (ranges : List CategoryR
   words_are [] all = tt
   words_are (set ∷ sets) all = (all.0.is_word, words_are sets all.1)
 
-  word_set : (sets : List (List ℕ)) (all : AllByRecursion (HasWord rules lawful ranges rows of) sets) (i : ℕ) (d : List ℕ) → i < length sets → IsSetOf rules lawful ranges rows of (get_or (words_of sets all) i d) (row_at sets i)
+  word_set : (sets : List (List ℕ)) (all : AllByRecursion (HasWord rules lawful ranges rows of) sets) (i : ℕ) (d : List ℕ) → i < length sets →
+      IsSetOf rules lawful ranges rows of (get_or (words_of sets all) i d) (row_at sets i)
   unfolding words_of
   word_set [] all i d short = absurd (omega (arith, short))
   word_set (set ∷ sets) all zero d short = all.0.set_of
@@ -76,7 +79,8 @@ module _ (rules : List Rule) (lawful : AreLawful rules) (ranges : List CategoryR
   -- as many leaf sets as there are sets that are reached
   pub reached_are_leaf_sets : (count : ℕ) → HasReachedSets rows count → HasLeafSets rules count
   reached_are_leaf_sets count (sets, many, are) =
-      let all = all_by_index (HasWord rules lawful ranges rows of) [] sets (λ i short. reached_word rules lawful ranges rows of (row_at sets i) (are.reached i short) (are.some i short)) in
+      let all = all_by_index (HasWord rules lawful ranges rows of) [] sets
+      (λ i short. reached_word rules lawful ranges rows of (row_at sets i) (are.reached i short) (are.some i short)) in
       let words : List (List ℕ) = words_of sets all in
       let long : length words ≡ length sets = words_many sets all in
       record {
@@ -107,9 +111,12 @@ module _ (rules : List Rule) (lawful : AreLawful rules) (ranges : List CategoryR
 
     numbered : (w : List ℕ) → IsWord w × ((p : ℕ) × InLeafSet rules w p) → IsNumbered w
     unfolding number_of
-    numbered w (word, (p, leaf)) = by_row (row_along automaton 1 (map (category_of ranges) w)) refl (row_of_word rules lawful ranges rows of sets automaton is w (λ none. nothing_reads rules p (subst (λ l. ReadBy rules l p) none leaf.1)) word)
+    numbered w (word, (p, leaf)) =
+        by_row (row_along automaton 1 (map (category_of ranges) w)) refl
+        (row_of_word rules lawful ranges rows of sets automaton is w (λ none. nothing_reads rules p (subst (λ l. ReadBy rules l p) none leaf.1)) word)
       where
-        by_row : (row : ℕ) → row ≡ row_along automaton 1 (map (category_of ranges) w) → IsRowOf rules lawful ranges rows of sets automaton is w row → IsNumbered w
+        by_row : (row : ℕ) → row ≡ row_along automaton 1 (map (category_of ranges) w) → IsRowOf rules lawful ranges rows of sets automaton is w row →
+            IsNumbered w
         by_row _ same (Stop row at (Ended ended)) = absurd (leaf.0 ended)
         by_row _ same (Stop row at (Unread before none)) = absurd (none p leaf.1)
         by_row _ same (Set row i at short set) =
@@ -119,12 +126,18 @@ module _ (rules : List Rule) (lawful : AreLawful rules) (ranges : List CategoryR
     -- there are no more leaf sets than sets that are reached
     pub no_more_leaf_sets : (count : ℕ) → length sets < count → HasLeafSets rules count → ⊥
     no_more_leaf_sets count few has =
-        let all = all_map (λ w. IsWord w × ((p : ℕ) × InLeafSet rules w p)) (λ n. n < length sets) number_of has.words (λ w leaf. (numbered w leaf).within) (both_all IsWord (λ w. (p : ℕ) × InLeafSet rules w p) has.words has.are_words has.not_empty) in
+        let all = all_map (λ w. IsWord w × ((p : ℕ) × InLeafSet rules w p)) (λ n. n < length sets) number_of has.words (λ w leaf. (numbered w leaf).within)
+        (both_all IsWord (λ w. (p : ℕ) × InLeafSet rules w p) has.words has.are_words has.not_empty) in
         let numbers : List ℕ = map number_of has.words in
         let long : length numbers ≡ length has.words = length-map has.words number_of in
         let word_at : (i : ℕ) → i < length has.words → IsNumbered (get_or has.words i []) =
-        λ i short. numbered (get_or has.words i []) (all_at IsWord has.words i [] has.are_words short, all_at (λ w. (p : ℕ) × InLeafSet rules w p) has.words i [] has.not_empty short) in
-        let at : (i : ℕ) (d : ℕ) → i < length has.words → get_or numbers i d ≡ number_of (get_or has.words i []) = λ i d short. get_or-map number_of has.words i [] d short in
+        λ i short. numbered (get_or has.words i []) (
+          all_at IsWord has.words i [] has.are_words short,
+          all_at (λ w. (p : ℕ) × InLeafSet rules w p) has.words
+              i [] has.not_empty short,
+        ) in
+        let at : (i : ℕ) (d : ℕ) → i < length has.words → get_or numbers i d ≡ number_of (get_or has.words i []) =
+        λ i d short. get_or-map number_of has.words i [] d short in
         let distinct = IsDistinct-from_apart eqb numbers
         (λ i j d less short.
         let short' : j < length has.words = omega (arith, short, long) in
@@ -134,8 +147,10 @@ module _ (rules : List Rule) (lawful : AreLawful rules) (ranges : List CategoryR
         let one : number_of (get_or has.words i []) ≡ number_of (get_or has.words j []) = sym (at i d short'') ∙ same ∙ at j d short' in
         let this = set_leaves (get_or has.words i []) (row_at sets (number_of (get_or has.words i []))) (word_at i short'').set in
         let that = set_leaves (get_or has.words j []) (row_at sets (number_of (get_or has.words j []))) (word_at j short').set in
-        let to : (p : ℕ) → InLeafSet rules (get_or has.words i []) p → InLeafSet rules (get_or has.words j []) p = λ p leaf. (that p).0 (subst (λ n. Holds (row_at sets n) p) one ((this p).1 leaf)) in
-        let from : (p : ℕ) → InLeafSet rules (get_or has.words j []) p → InLeafSet rules (get_or has.words i []) p = λ p leaf. (this p).0 (subst (λ n. Holds (row_at sets n) p) (sym one) ((that p).1 leaf)) in
+        let to : (p : ℕ) → InLeafSet rules (get_or has.words i []) p → InLeafSet rules (get_or has.words j []) p =
+        λ p leaf. (that p).0 (subst (λ n. Holds (row_at sets n) p) one ((this p).1 leaf)) in
+        let from : (p : ℕ) → InLeafSet rules (get_or has.words j []) p → InLeafSet rules (get_or has.words i []) p =
+        λ p leaf. (this p).0 (subst (λ n. Holds (row_at sets n) p) (sym one) ((that p).1 leaf)) in
         has.apart i j [] less short' (λ p. (to p, from p)))) in
         let most = length-le_from_distinct_below numbers (length sets) distinct (λ q member. member_below numbers (length sets) q all member) in
         omega (arith, most, long, has.many, few)

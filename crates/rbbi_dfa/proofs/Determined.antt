@@ -24,7 +24,8 @@ rule_within (r ∷ rules) zero rule is = omega arith
 rule_within (r ∷ rules) (suc number) rule is = omega (arith, rule_within rules number rule is)
 
 -- numbers of look-ahead rules are below their count
-pub number_small : (rules : List Rule) (number : ℕ) (rule : Rule) → IsRule rules number rule → LooksAhead rule → look_ahead_number rules number < length (look_aheads rules)
+pub number_small : (rules : List Rule) (number : ℕ) (rule : Rule) → IsRule rules number rule → LooksAhead rule →
+    look_ahead_number rules number < length (look_aheads rules)
 number_small rules number rule is looks =
     subst (λ l. look_ahead_number rules number < length (look_aheads l)) (take_all (length rules) rules (omega arith))
     (counts rules number (length rules) rule is looks (rule_within rules number rule is))
@@ -32,9 +33,11 @@ number_small rules number rule is looks =
 -- a rising list whose only member is 0
 pub zero_alone : (statuses : List ℕ) → IsRising statuses → ((t : ℕ) → Member statuses t ↔ (t ≡ 0)) → statuses ≡ 0 ∷ []
 zero_alone statuses rising only =
-    rising_same statuses (0 ∷ []) rising tt (λ t member. inl (sym ((only t).0 member))) (λ t member. (only t).1 (⊎_elim (λ same. sym same) (λ out. absurd out) member))
+    rising_same statuses (0 ∷ []) rising tt (λ t member. inl (sym ((only t).0 member)))
+    (λ t member. (only t).1 (⊎_elim (λ same. sym same) (λ out. absurd out) member))
 
-module _ (rules : List Rule) (lawful : AreLawful rules) (ranges : List CategoryRange) (rows : PositionRows) (of : IsOfRules rules ranges rows) (sets : List (List ℕ)) (automaton : Table) (is : IsDeterminized rows sets automaton) where
+module _ (rules : List Rule) (lawful : AreLawful rules) (ranges : List CategoryRange) (rows : PositionRows) (of : IsOfRules rules ranges rows)
+    (sets : List (List ℕ)) (automaton : Table) (is : IsDeterminized rows sets automaton) where
   cell_within : (candidates : List ℕ) (category cell : ℕ) → IsCell rows sets candidates category cell → cell < length automaton.rows
   cell_within candidates category cell =
       ⊎_elim (λ none. omega (arith, none.0, is.many)) (λ some. omega (arith, some.1, is.many))
@@ -48,7 +51,9 @@ module _ (rules : List Rule) (lawful : AreLawful rules) (ranges : List CategoryR
       let held = is.reached.some (cell - 2) short in
       absurd (of.unread held.0 ((some.2 held.0).0 held.1).0))
 
-  plain_row : (row : ℕ) → marks_of automaton row ≡ no_marks → ((category : ℕ) → category < rows.categories → step automaton row category < length automaton.rows) → step automaton row 0 ≡ 0 → row < length automaton.rows → IsAutomatonRow automaton row
+  plain_row : (row : ℕ) → marks_of automaton row ≡ no_marks →
+      ((category : ℕ) → category < rows.categories → step automaton row category < length automaton.rows) → step automaton row 0 ≡ 0 →
+      row < length automaton.rows → IsAutomatonRow automaton row
   plain_row row plain next unread short =
       let accept : accept_of automaton row ≡ 0 = ap (λ (m : Marks). m.accept) plain in
       let fronts : fronts_of automaton row ≡ 0 = ap (λ (m : Marks). m.fronts) plain in
@@ -100,7 +105,11 @@ module _ (rules : List Rule) (lawful : AreLawful rules) (ranges : List CategoryR
             let one = marks.accept.ended has.0 has.1 ((of.last has.0).1 (tagged.0, tagged.1)) in
             omega (arith, none, one) in
             zero_alone (statuses_of automaton (list_of automaton row)) marks.tags.rising
-            (λ t. (λ member. ⊎_elim (λ has. absurd (no_tag t has)) (λ nothing. nothing.0) ((marks.tags.exactly t).0 member), λ same. (marks.tags.exactly t).1 (inr (same, no_tag))));
+            (λ t. (
+              λ member. ⊎_elim (λ has. absurd (no_tag t has)) (λ nothing. nothing.0) ((marks.tags.exactly t).0 member),
+              λ same. (marks.tags.exactly t).1
+                  (inr (same, no_tag)),
+            ));
         completed = λ many. (
           marks.no_fronts many,
           λ category within.
@@ -121,7 +130,8 @@ module _ (rules : List Rule) (lawful : AreLawful rules) (ranges : List CategoryR
       ⊎_elim
       (λ one.
       subst (IsAutomatonRow automaton) (sym one)
-      (plain_row 1 is.plain_start (λ category within. cell_within rows.first category (step automaton 1 category) (is.start category within)) (cell_unread rows.first (step automaton 1 0) (is.start 0 of.some_categories)) (omega (arith, is.many))))
+      (plain_row 1 is.plain_start (λ category within. cell_within rows.first category (step automaton 1 category) (is.start category within))
+      (cell_unread rows.first (step automaton 1 0) (is.start 0 of.some_categories)) (omega (arith, is.many))))
       (λ more.
       let i : ℕ = row - 2 in
       let at : i + 2 ≡ row = omega (arith, some, more) in
@@ -130,16 +140,20 @@ module _ (rules : List Rule) (lawful : AreLawful rules) (ranges : List CategoryR
       (cases_eq row 0)
 
   -- sets of one word are one set
-  same_set : (w : List ℕ) (i j : ℕ) → i < length sets → j < length sets → IsSetOf rules lawful ranges rows of w (row_at sets i) → IsSetOf rules lawful ranges rows of w (row_at sets j) → i ≡ j
+  same_set : (w : List ℕ) (i j : ℕ) → i < length sets → j < length sets → IsSetOf rules lawful ranges rows of w (row_at sets i) →
+      IsSetOf rules lawful ranges rows of w (row_at sets j) → i ≡ j
   same_set w i j short short' set set' =
       ⊎_elim (λ same. same)
       (⊎_elim
-      (λ less. absurd (is.reached.apart i j less short' (λ p. (λ holds. (set'.holds p).1 ((set.holds p).0 holds), λ holds. (set.holds p).1 ((set'.holds p).0 holds)))))
-      (λ more. absurd (is.reached.apart j i more short (λ p. (λ holds. (set.holds p).1 ((set'.holds p).0 holds), λ holds. (set'.holds p).1 ((set.holds p).0 holds))))))
+      (λ less. absurd (is.reached.apart i j less short'
+      (λ p. (λ holds. (set'.holds p).1 ((set.holds p).0 holds), λ holds. (set.holds p).1 ((set'.holds p).0 holds)))))
+      (λ more. absurd (is.reached.apart j i more short
+      (λ p. (λ holds. (set.holds p).1 ((set'.holds p).0 holds), λ holds. (set'.holds p).1 ((set.holds p).0 holds))))))
       (cases_order i j)
 
   -- the row of a word is the one of its set
-  row_is : (w : List ℕ) (row i : ℕ) → IsRowOf rules lawful ranges rows of sets automaton is w row → i < length sets → IsSetOf rules lawful ranges rows of w (row_at sets i) → row ≡ i + 2
+  row_is : (w : List ℕ) (row i : ℕ) → IsRowOf rules lawful ranges rows of sets automaton is w row → i < length sets →
+      IsSetOf rules lawful ranges rows of w (row_at sets i) → row ≡ i + 2
   row_is w _ i (Stop row at (Ended ended)) short set = absurd (set.open_before ended)
   row_is w _ i (Stop row at (Unread before none)) short set = let held = is.reached.some i short in absurd (none held.0 ((set.holds held.0).0 held.1))
   row_is w _ i (Set row j at short' set') short set = at ∙ ap (λ n. n + 2) (same_set w j i short' short set' set)
@@ -162,6 +176,7 @@ module _ (rules : List Rule) (lawful : AreLawful rules) (ranges : List CategoryR
       let word = set_word i short' in (
         map (category_of ranges) word.w,
         categories_way word.w,
-        row_is word.w (row_along automaton 1 (map (category_of ranges) word.w)) i (row_of_word rules lawful ranges rows of sets automaton is word.w word.some word.is_word) short' word.set_of ∙ at,
+        row_is word.w (row_along automaton 1 (map (category_of ranges) word.w)) i
+            (row_of_word rules lawful ranges rows of sets automaton is word.w word.some word.is_word) short' word.set_of ∙ at,
       ))
       (cases_eq row 1)

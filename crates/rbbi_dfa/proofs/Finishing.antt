@@ -10,7 +10,8 @@ use Rattle.rbbi_dfa.specs.LeastTables.{AreValidParts, IsLeastOf, finished}
 use Rattle.rbbi_dfa.proofs.Compiling.{AreValidRows-finished, AreFronted-finished}
 
 -- each next row is a row
-pub AreSteps-from_valid : (table : Table) → length table.cells ≡ length table.rows * table.categories → AreValidRows table → AreSteps table.categories table.rows table.cells
+pub AreSteps-from_valid : (table : Table) → length table.cells ≡ length table.rows * table.categories → AreValidRows table →
+    AreSteps table.categories table.rows table.cells
 AreSteps-from_valid table all valid = record {
   all = all;
   within = λ i h.
@@ -28,16 +29,19 @@ AreSteps-from_valid table all valid = record {
 }
 
 -- safe pairs of the rows are those of a table with these rows
-pub ArePairsOf-finished : (table : Table) (ranges : List CategoryRange) (safe : List ℕ) → ArePairsOf (rows_of table.categories table.rows table.cells safe) → ArePairsOf (finished table ranges safe)
+pub ArePairsOf-finished : (table : Table) (ranges : List CategoryRange) (safe : List ℕ) → ArePairsOf (rows_of table.categories table.rows table.cells safe) →
+    ArePairsOf (finished table ranges safe)
 ArePairsOf-finished table ranges safe h = record {
   all = h.all;
   pairs = record { exactly = h.pairs.exactly; filling = h.pairs.filling };
 }
 
-pub HasFittingParts-finished : (table : Table) (ranges : List CategoryRange) (safe : List ℕ) → length table.cells ≡ length table.rows * table.categories → ArePairsOf (finished table ranges safe) → HasFittingParts (finished table ranges safe)
+pub HasFittingParts-finished : (table : Table) (ranges : List CategoryRange) (safe : List ℕ) → length table.cells ≡ length table.rows * table.categories →
+    ArePairsOf (finished table ranges safe) → HasFittingParts (finished table ranges safe)
 HasFittingParts-finished table ranges safe all pairs = record { cells = all; safe = pairs.all }
 
-pub ArePairsOf-parts : (categories slashes : ℕ) (ranges : List CategoryRange) (lists : List (List ℕ)) (rows : List RowHead) (cells safe : List ℕ) → ArePairsOf (rows_of categories rows cells safe) →
+pub ArePairsOf-parts : (categories slashes : ℕ) (ranges : List CategoryRange) (lists : List (List ℕ)) (rows : List RowHead) (cells safe : List ℕ) →
+    ArePairsOf (rows_of categories rows cells safe) →
     ArePairsOf (record { categories = categories; slashes = slashes; ranges = ranges; lists = lists; rows = rows; cells = cells; safe = safe })
 ArePairsOf-parts categories slashes ranges lists rows cells safe h = record {
   all = h.all;
@@ -45,7 +49,8 @@ ArePairsOf-parts categories slashes ranges lists rows cells safe h = record {
 }
 
 -- the parts of a finished table are valid
-pub AreValidParts-finished : (automaton least : Table) (ranges : List CategoryRange) (safe : List ℕ) → AreValidRanges automaton.categories ranges → IsLeastOf automaton least → ArePairsOf (finished least ranges safe) → AreValidParts (finished least ranges safe)
+pub AreValidParts-finished : (automaton least : Table) (ranges : List CategoryRange) (safe : List ℕ) → AreValidRanges automaton.categories ranges →
+    IsLeastOf automaton least → ArePairsOf (finished least ranges safe) → AreValidParts (finished least ranges safe)
 AreValidParts-finished automaton least ranges safe valid h pairs = record {
   fitting = HasFittingParts-finished least ranges safe h.cells pairs;
   ranges = subst (λ (n : ℕ). AreValidRanges n ranges) (sym h.categories) valid;

@@ -1,5 +1,6 @@
 -- Rows grouped by their marks.
-use Rattle.std.proofs.Common.{◌≡◌, ◌≢◌, ◌↔◌, ℕ, zero, suc, ◌+◌, ◌<◌, ◌≤◌, List, [], ◌∷◌, ◌++◌, length, refl, ap, sym, ◌∙◌, subst, ◌⊎◌, ⊎_elim, arith, slice_index, slice_index_or}
+use Rattle.std.proofs.Common.{◌≡◌, ◌≢◌, ◌↔◌, ℕ, zero, suc, ◌+◌, ◌<◌, ◌≤◌, List, [], ◌∷◌, ◌++◌, length, refl, ap, sym, ◌∙◌, subst, ◌⊎◌, ⊎_elim, arith}
+use Rattle.std.proofs.Common.{slice_index, slice_index_or}
 use Rattle.std.proofs.lemmas.Bool.{cases_eq, cases_order, cases_lt}
 use Rattle.std.proofs.lemmas.List.{get_or_append_left, get_or_push, length_push}
 use borrow.Author.Count.{below_more}
@@ -12,13 +13,16 @@ use Rattle.rbbi_dfa.specs.Ranks.{AreRanked}
 use Rattle.rbbi_dfa.proofs.Merged.{IsBefore-irreflexive}
 
 -- lists with one rank are equal, and equal lists have one rank
-pub rank_alike : (lists sorted : List (List ℕ)) (places : List ℕ) (i j : ℕ) → AreRanked lists sorted places → i < length lists → j < length lists → slice_index places i ≡ slice_index places j → slice_index_or lists i [] ≡ slice_index_or lists j []
+pub rank_alike : (lists sorted : List (List ℕ)) (places : List ℕ) (i j : ℕ) → AreRanked lists sorted places → i < length lists → j < length lists →
+    slice_index places i ≡ slice_index places j → slice_index_or lists i [] ≡ slice_index_or lists j []
 rank_alike lists sorted places i j h hi hj e =
     sym (h.places.placed i hi) ∙ ap (λ place. slice_index_or sorted place []) e ∙ h.places.placed j hj
 
-pub alike_rank : (lists sorted : List (List ℕ)) (places : List ℕ) (i j : ℕ) → AreRanked lists sorted places → i < length lists → j < length lists → slice_index_or lists i [] ≡ slice_index_or lists j [] → slice_index places i ≡ slice_index places j
+pub alike_rank : (lists sorted : List (List ℕ)) (places : List ℕ) (i j : ℕ) → AreRanked lists sorted places → i < length lists → j < length lists →
+    slice_index_or lists i [] ≡ slice_index_or lists j [] → slice_index places i ≡ slice_index places j
 alike_rank lists sorted places i j h hi hj e =
-    let same : slice_index_or sorted (slice_index places i) [] ≡ slice_index_or sorted (slice_index places j) [] = h.places.placed i hi ∙ e ∙ sym (h.places.placed j hj) in
+    let same : slice_index_or sorted (slice_index places i) [] ≡ slice_index_or sorted (slice_index places j) [] =
+    h.places.placed i hi ∙ e ∙ sym (h.places.placed j hj) in
     ⊎_elim
     (λ (x : slice_index places i ≡ slice_index places j). x)
     (λ (x : (slice_index places i < slice_index places j) ⊎ (slice_index places j < slice_index places i)).
@@ -38,7 +42,8 @@ alike_rank lists sorted places i j h hi hj e =
 pub marks_by_parts : (this that : Marks) → this.accept ≡ that.accept → this.fronts ≡ that.fronts → this.statuses ≡ that.statuses → this ≡ that
 marks_by_parts this that a f s = λ i. record { accept = a i; fronts = f i; statuses = s i }
 
-pub row_along-append : (automaton : Table) (row : ℕ) (these those : List ℕ) → row_along automaton row (these ++ those) ≡ row_along automaton (row_along automaton row these) those
+pub row_along-append : (automaton : Table) (row : ℕ) (these those : List ℕ) → row_along automaton row (these ++ those) ≡ row_along automaton
+    (row_along automaton row these) those
 row_along-append automaton row [] those = refl
 row_along-append automaton row (category ∷ these) those = row_along-append automaton (step automaton row category) these those
 
@@ -60,7 +65,8 @@ module _ (automaton : Table) (determined : IsDetermined automaton) where
       let on = determined.lead 2 (omega arith) (omega arith) in (
         there.0 ++ on.0,
         IsWay-append automaton there.0 on.0 there.1 on.1,
-        λ e. on.2 (ap (λ row. marks_of automaton (row_along automaton row on.0)) (sym there.2) ∙ ap (λ row. marks_of automaton row) (sym (row_along-append automaton 1 there.0 on.0)) ∙ e),
+        λ e. on.2 (ap (λ row. marks_of automaton (row_along automaton row on.0)) (sym there.2)
+            ∙ ap (λ row. marks_of automaton row) (sym (row_along-append automaton 1 there.0 on.0)) ∙ e),
       )
   alive many (suc (suc row)) some h = determined.lead (suc (suc row)) (omega arith) h
 
@@ -112,7 +118,8 @@ module _ (automaton : Table) (row : ℕ) (classes firsts : List ℕ) (h : AreGro
   class_here class = get_or_push classes class 0 row h.rows
 
   -- a row with the marks of a class that is there
-  pub AreGrouped-known : (class : ℕ) (more : List ℕ) → 2 ≤ row → 1 ≤ class → class < length firsts → marks_of automaton (slice_index firsts class) ≡ marks_of automaton row → more ≡ classes ++ class ∷ [] → AreGrouped automaton (row + 1) more firsts
+  pub AreGrouped-known : (class : ℕ) (more : List ℕ) → 2 ≤ row → 1 ≤ class → class < length firsts →
+      marks_of automaton (slice_index firsts class) ≡ marks_of automaton row → more ≡ classes ++ class ∷ [] → AreGrouped automaton (row + 1) more firsts
   AreGrouped-known class more two one is_class same e =
       subst (λ (xs : List ℕ). AreGrouped automaton (row + 1) xs firsts) (sym e) (record {
         rows = length_push classes class ∙ ap (λ n. n + 1) h.rows;
@@ -139,7 +146,8 @@ module _ (automaton : Table) (row : ℕ) (classes firsts : List ℕ) (h : AreGro
   first_here = get_or_push firsts row 0 (length firsts) refl
 
   -- a row with marks that no class has
-  pub AreGrouped-new : (more others : List ℕ) → 1 ≤ row → ((class : ℕ) → 1 ≤ class → class < length firsts → marks_of automaton (slice_index firsts class) ≢ marks_of automaton row) →
+  pub AreGrouped-new : (more others : List ℕ) → 1 ≤ row →
+      ((class : ℕ) → 1 ≤ class → class < length firsts → marks_of automaton (slice_index firsts class) ≢ marks_of automaton row) →
       more ≡ classes ++ length firsts ∷ [] → others ≡ firsts ++ row ∷ [] → AreGrouped automaton (row + 1) more others
   AreGrouped-new more others one new e f =
       let class = length firsts in
@@ -170,10 +178,12 @@ module _ (automaton : Table) (row : ℕ) (classes firsts : List ℕ) (h : AreGro
             later m less;
       }))
     where
-      first_cases : (P : ℕ → ℕ → Type 0) → ((k : ℕ) → k < length firsts → P k (slice_index firsts k)) → P (length firsts) row → (k : ℕ) → k < length (firsts ++ row ∷ []) → P k (slice_index (firsts ++ row ∷ []) k)
+      first_cases : (P : ℕ → ℕ → Type 0) → ((k : ℕ) → k < length firsts → P k (slice_index firsts k)) → P (length firsts) row →
+          (k : ℕ) → k < length (firsts ++ row ∷ []) → P k (slice_index (firsts ++ row ∷ []) k)
       first_cases P old here k l =
           ⊎_elim
-          (λ (s : k ≡ length firsts). subst (λ n. P n (slice_index (firsts ++ row ∷ []) n)) (sym s) (subst (λ first. P (length firsts) first) (sym first_here) here))
+          (λ (s : k ≡ length firsts). subst (λ n. P n (slice_index (firsts ++ row ∷ []) n)) (sym s)
+          (subst (λ first. P (length firsts) first) (sym first_here) here))
           (λ (d : k ≢ length firsts).
           let below : k < length firsts = omega (arith, length_push firsts row) in
           subst (λ first. P k first) (sym (first_before k below)) (old k below))
@@ -192,7 +202,8 @@ module _ (automaton : Table) (row : ℕ) (classes firsts : List ℕ) (h : AreGro
           (cases_lt row 2)
 
 -- all rows are grouped
-pub IsPartition-from_grouped : (automaton : Table) (row : ℕ) (classes firsts : List ℕ) → IsDetermined automaton → row ≡ length automaton.rows → AreGrouped automaton row classes firsts → IsPartition automaton classes firsts
+pub IsPartition-from_grouped : (automaton : Table) (row : ℕ) (classes firsts : List ℕ) → IsDetermined automaton → row ≡ length automaton.rows →
+    AreGrouped automaton row classes firsts → IsPartition automaton classes firsts
 IsPartition-from_grouped automaton row classes firsts determined e h = record {
   rows = h.rows ∙ e;
   some = (h.start two).0;
@@ -223,9 +234,11 @@ IsPartition-from_grouped automaton row classes firsts determined e h = record {
     two = omega (arith, determined.some)
 
     some_class : (k : ℕ) → k < row → k ≢ 0 → 1 ≤ slice_index classes k
-    some_class k l s = ⊎_elim (λ (z : slice_index classes k < 1). absurd (s (h.alone k l (omega arith)))) (λ (g : 1 ≤ slice_index classes k). g) (cases_lt (slice_index classes k) 1)
+    some_class k l s = ⊎_elim (λ (z : slice_index classes k < 1). absurd (s (h.alone k l (omega arith)))) (λ (g : 1 ≤ slice_index classes k). g)
+        (cases_lt (slice_index classes k) 1)
 
-    by_marks : (this that : ℕ) → this < row → that < row → this ≢ 0 → that ≢ 0 → slice_index classes this ≢ slice_index classes that → marks_of automaton this ≢ marks_of automaton that
+    by_marks : (this that : ℕ) → this < row → that < row → this ≢ 0 → that ≢ 0 → slice_index classes this ≢ slice_index classes that →
+        marks_of automaton this ≢ marks_of automaton that
     by_marks this that l m s t differ same =
         let joined : marks_of automaton (slice_index firsts (slice_index classes this)) ≡ marks_of automaton (slice_index firsts (slice_index classes that)) =
         sym (h.alike this l) ∙ same ∙ h.alike that m in
@@ -241,12 +254,15 @@ IsPartition-from_grouped automaton row classes firsts determined e h = record {
         (cases_order (slice_index classes this) (slice_index classes that))
 
 -- whether the status lists have one rank tells whether the marks are the same, where accept numbers and masks are
-pub same_marks : (automaton : Table) (sorted : List (List ℕ)) (places : List ℕ) (this that : ℕ) → IsDetermined automaton → AreRanked automaton.lists sorted places → this < length automaton.rows → that < length automaton.rows →
+pub same_marks : (automaton : Table) (sorted : List (List ℕ)) (places : List ℕ) (this that : ℕ) → IsDetermined automaton →
+    AreRanked automaton.lists sorted places → this < length automaton.rows → that < length automaton.rows →
     accept_of automaton this ≡ accept_of automaton that → fronts_of automaton this ≡ fronts_of automaton that →
     (slice_index places (list_of automaton this) ≡ slice_index places (list_of automaton that)) ↔ (marks_of automaton this ≡ marks_of automaton that)
 same_marks automaton sorted places this that determined ranked h k a f =
     let these = (determined.each this h).list in
     let those = (determined.each that k).list in (
-      λ e. marks_by_parts (marks_of automaton this) (marks_of automaton that) a f (rank_alike automaton.lists sorted places (list_of automaton this) (list_of automaton that) ranked these those e),
-      λ e. alike_rank automaton.lists sorted places (list_of automaton this) (list_of automaton that) ranked these those (ap (λ (marks : Marks). marks.statuses) e),
+      λ e. marks_by_parts (marks_of automaton this) (marks_of automaton that) a f
+          (rank_alike automaton.lists sorted places (list_of automaton this) (list_of automaton that) ranked these those e),
+      λ e. alike_rank automaton.lists sorted places (list_of automaton this) (list_of automaton that) ranked these those
+          (ap (λ (marks : Marks). marks.statuses) e),
     )

@@ -14,13 +14,18 @@ abbrev pub automaton_of : ℕ → ℕ → List RowHead → List (List ℕ) → L
 automaton_of categories slashes heads lists cells =
     record { categories = categories; slashes = slashes; ranges = []; lists = lists; rows = heads; cells = cells; safe = [] }
 
-pub is_determinized : (rows : PositionRows) (sets : List (List ℕ)) (categories slashes : ℕ) (heads : List RowHead) (lists : List (List ℕ)) (cells : List ℕ) → categories ≡ rows.categories → slashes ≡ rows.slashes → AreReachedSets rows sets →
-    AreCellsUpTo rows sets cells (length sets) → AreMarked rows sets heads lists (length sets) → IsDeterminized rows sets (automaton_of categories slashes heads lists cells)
+pub is_determinized : (rows : PositionRows) (sets : List (List ℕ)) (categories slashes : ℕ) (heads : List RowHead) (lists : List (List ℕ)) (cells : List ℕ) →
+    categories ≡ rows.categories → slashes ≡ rows.slashes → AreReachedSets rows sets →
+    AreCellsUpTo rows sets cells (length sets) → AreMarked rows sets heads lists (length sets) →
+    IsDeterminized rows sets (automaton_of categories slashes heads lists cells)
 is_determinized rows sets categories slashes heads lists cells same same_slashes reached led marked =
     let automaton : Table = automaton_of categories slashes heads lists cells in
-    let at : (row category : ℕ) → step automaton row category ≡ cell_of rows cells row category = λ row category. ap (λ n. get_or cells (row * n + category) 0) same in
-    let plain : (head : RowHead) → head ≡ empty_head → (let m : Marks = record { accept = head.accept; fronts = head.fronts; statuses = get_or lists head.list [] } in m ≡ no_marks) =
-    λ head is. ap (λ (h : RowHead). let m : Marks = record { accept = h.accept; fronts = h.fronts; statuses = get_or lists h.list [] } in m) is ∙ ap (λ l. let m : Marks = record { accept = 0; fronts = 0; statuses = l } in m) marked.first_list in
+    let at : (row category : ℕ) → step automaton row category ≡ cell_of rows cells row category =
+    λ row category. ap (λ n. get_or cells (row * n + category) 0) same in
+    let plain : (head : RowHead) → head ≡ empty_head →
+    (let m : Marks = record { accept = head.accept; fronts = head.fronts; statuses = get_or lists head.list [] } in m ≡ no_marks) =
+    λ head is. ap (λ (h : RowHead). let m : Marks = record { accept = h.accept; fronts = h.fronts; statuses = get_or lists h.list [] } in m) is
+    ∙ ap (λ l. let m : Marks = record { accept = 0; fronts = 0; statuses = l } in m) marked.first_list in
     record {
       reached = reached;
       categories = same;
@@ -29,7 +34,8 @@ is_determinized rows sets categories slashes heads lists cells same same_slashes
       cells = led.many ∙ ap (λ n. (length sets + 2) * n) (sym same) ∙ ap (λ n. n * categories) (sym marked.many);
       stop = λ category within. at 0 category ∙ led.stop category within;
       start = λ category within. subst (IsCell rows sets rows.first category) (sym (at 1 category)) (led.start category within);
-      each = λ i short. lead_kept rows sets sets (row_at sets i) (cell_of rows cells (i + 2)) (step automaton (i + 2)) (begin_refl rows sets) (λ category within. at (i + 2) category) (led.each i short);
+      each = λ i short. lead_kept rows sets sets (row_at sets i) (cell_of rows cells (i + 2)) (step automaton (i + 2)) (begin_refl rows sets)
+          (λ category within. at (i + 2) category) (led.each i short);
       lists_within = λ row short. omega (arith, marked.lists_within row (omega (arith, short, marked.many)), marked.many_lists);
       named = λ list short.
           ⊎_elim

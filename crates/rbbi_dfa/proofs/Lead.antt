@@ -1,12 +1,14 @@
 -- The cells of one row, and the sets that they lead to.
-use Rattle.std.proofs.Common.{◌≡◌, ◌≢◌, ℕ, ◌+◌, ◌-◌, ◌*◌, ◌/◌, ◌%◌, ◌<◌, List, [], ◌∷◌, ◌++◌, length, get_or, refl, sym, ap, ◌∙◌, subst, inl, inr, ⊎_elim, arith}
+use Rattle.std.proofs.Common.{◌≡◌, ◌≢◌, ℕ, ◌+◌, ◌-◌, ◌*◌, ◌/◌, ◌%◌, ◌<◌, List, [], ◌∷◌, ◌++◌, length, get_or, refl, sym, ap, ◌∙◌, subst, inl, inr, ⊎_elim}
+use Rattle.std.proofs.Common.{arith}
 use Rattle.std.specs.Int.{bit_at}
 use Rattle.std.proofs.lemmas.Bool.{cases_eq}
 use Rattle.std.proofs.lemmas.List.{ext_get_or, get_or_append_left, get_or_push, length_push}
 use Rattle.std.proofs.lemmas.Nat.Bits.{bit_at-lt, same_from_bits_below}
 use Rattle.rbbi_dfa.specs.BitRows.{Holds, row_at}
 use Rattle.rbbi_dfa.specs.PositionRows.{PositionRows}
-use Rattle.rbbi_dfa.specs.Determinizing.{IsStep, IsReached, FromFirst, FromSet, IsSome, AreDifferent, IsRow, AreReachedSets, IsCell, AreReachedCandidates, Begin, AddsCells, HasReachedSets}
+use Rattle.rbbi_dfa.specs.Determinizing.{IsStep, IsReached, FromFirst, FromSet, IsSome, AreDifferent, IsRow, AreReachedSets, IsCell, AreReachedCandidates}
+use Rattle.rbbi_dfa.specs.Determinizing.{Begin, AddsCells, HasReachedSets}
 use Rattle.rbbi_dfa.specs.LeafSetIndex.{IsAbsent, KeepsOrAdds}
 use Rattle.rbbi_dfa.proofs.Bits.{holds_word}
 
@@ -35,7 +37,8 @@ rows_apart width these those is is' other = λ same.
     other (ext_get_or 0 these those (is.wide ∙ sym is'.wide) (λ i _. word i))
 
 module _ (rows : PositionRows) where
-  pub reached_next : (candidates next : List ℕ) (category : ℕ) → AreReachedCandidates rows candidates → category < rows.categories → IsStep rows candidates category next → IsReached rows next
+  pub reached_next : (candidates next : List ℕ) (category : ℕ) → AreReachedCandidates rows candidates → category < rows.categories →
+      IsStep rows candidates category next → IsReached rows next
   reached_next candidates next category reached within is =
       ⊎_elim
       (λ first. FromFirst category next within (subst (λ l. IsStep rows l category next) first is))
@@ -43,7 +46,8 @@ module _ (rows : PositionRows) where
       reached
 
   -- one set more
-  pub sets_more : (sets : List (List ℕ)) (next : List ℕ) → AreReachedSets rows sets → IsAbsent sets next → IsRow rows.width next → IsReached rows next → IsSome next → AreReachedSets rows (sets ++ next ∷ [])
+  pub sets_more : (sets : List (List ℕ)) (next : List ℕ) → AreReachedSets rows sets → IsAbsent sets next → IsRow rows.width next → IsReached rows next →
+      IsSome next → AreReachedSets rows (sets ++ next ∷ [])
   sets_more sets next are absent row reached some =
       let new : List (List ℕ) = sets ++ next ∷ [] in
       let long = length_push sets next in
@@ -64,7 +68,8 @@ module _ (rows : PositionRows) where
             (λ here.
             let short' : i < length sets = omega (arith, less, here) in
             subst (λ l. AreDifferent l (row_at new j)) (sym (old_at i short'))
-            (subst (AreDifferent (row_at sets i)) (sym (ap (λ n. row_at new n) here ∙ new_at)) (rows_apart rows.width (row_at sets i) next (are.are_rows i short') row (absent i short'))))
+            (subst (AreDifferent (row_at sets i)) (sym (ap (λ n. row_at new n) here ∙ new_at))
+            (rows_apart rows.width (row_at sets i) next (are.are_rows i short') row (absent i short'))))
             (λ other.
             let short' : j < length sets = omega (arith, short, long, other) in
             let short'' : i < length sets = omega (arith, less, short') in
@@ -79,7 +84,8 @@ module _ (rows : PositionRows) where
   pub begin_trans : (a b d : List (List ℕ)) → Begin a b → Begin b d → Begin a d
   begin_trans a b d first second = (omega (arith, first.0, second.0), λ i short. second.1 i (omega (arith, short, first.0)) ∙ first.1 i short)
 
-  pub kept_or_added : (sets new : List (List ℕ)) (next : List ℕ) → AreReachedSets rows sets → KeepsOrAdds sets next new → IsRow rows.width next → IsReached rows next → IsSome next → AreReachedSets rows new × Begin sets new
+  pub kept_or_added : (sets new : List (List ℕ)) (next : List ℕ) → AreReachedSets rows sets → KeepsOrAdds sets next new → IsRow rows.width next →
+      IsReached rows next → IsSome next → AreReachedSets rows new × Begin sets new
   kept_or_added sets new next are kept row reached some =
       ⊎_elim
       (λ same. (subst (AreReachedSets rows) (sym same) are, subst (Begin sets) (sym same) (begin_refl sets)))
@@ -89,29 +95,39 @@ module _ (rows : PositionRows) where
       ))
       kept
 
-  pub one_too_many : (sets : List (List ℕ)) (next : List ℕ) → AreReachedSets rows sets → length sets ≡ 16384 → IsAbsent sets next → IsRow rows.width next → IsReached rows next → IsSome next → HasReachedSets rows 16385
+  pub one_too_many : (sets : List (List ℕ)) (next : List ℕ) → AreReachedSets rows sets → length sets ≡ 16384 → IsAbsent sets next → IsRow rows.width next →
+      IsReached rows next → IsSome next → HasReachedSets rows 16385
   one_too_many sets next are many absent row reached some =
       (sets ++ next ∷ [], omega (arith, length_push sets next, many), sets_more sets next are absent row reached some)
 
   -- a cell stays right where sets are added
-  pub cell_kept : (sets new : List (List ℕ)) (candidates : List ℕ) (category cell : ℕ) → Begin sets new → IsCell rows sets candidates category cell → IsCell rows new candidates category cell
+  pub cell_kept : (sets new : List (List ℕ)) (candidates : List ℕ) (category cell : ℕ) → Begin sets new → IsCell rows sets candidates category cell →
+      IsCell rows new candidates category cell
   cell_kept sets new candidates category cell begin =
       ⊎_elim inl
-      (λ some. inr (some.0, omega (arith, some.1, begin.0), subst (IsStep rows candidates category) (sym (begin.1 (cell - 2) (omega (arith, some.0, some.1)))) some.2))
+      (λ some. inr (
+        some.0,
+        omega (arith, some.1, begin.0),
+        subst (IsStep rows candidates category)
+            (sym (begin.1 (cell - 2) (omega (arith, some.0, some.1)))) some.2,
+      ))
 
   -- no candidate reads the category
   abbrev pub IsUnread : List ℕ → ℕ → Type 0
   IsUnread candidates category = (p : ℕ) → Holds candidates p → ¬ Holds (row_at rows.reads category) p
 
-  pub empty_cell : (sets : List (List ℕ)) (candidates : List ℕ) (category cell : ℕ) → cell ≡ 0 → IsUnread candidates category → IsCell rows sets candidates category cell
+  pub empty_cell : (sets : List (List ℕ)) (candidates : List ℕ) (category cell : ℕ) → cell ≡ 0 → IsUnread candidates category →
+      IsCell rows sets candidates category cell
   empty_cell sets candidates category cell none unread =
       inl (none, λ p comes. ⊎_elim (λ candidate. unread p candidate comes.0) (λ chain. unread chain.1.0 chain.1.1 chain.1.2) comes.1)
 
   -- some candidate reads the category, and comes next
-  pub some_next : (candidates next : List ℕ) (category : ℕ) → IsStep rows candidates category next → (p : ℕ) × Holds candidates p × Holds (row_at rows.reads category) p → IsSome next
+  pub some_next : (candidates next : List ℕ) (category : ℕ) → IsStep rows candidates category next → (p : ℕ) × Holds candidates p ×
+      Holds (row_at rows.reads category) p → IsSome next
   some_next candidates next category is read = (read.0, (is read.0).1 (read.2, inl read.1))
 
-  pub set_cell : (sets : List (List ℕ)) (candidates next : List ℕ) (category number cell : ℕ) → cell ≡ number + 2 → number < length sets → row_at sets number ≡ next → IsStep rows candidates category next → IsCell rows sets candidates category cell
+  pub set_cell : (sets : List (List ℕ)) (candidates next : List ℕ) (category number cell : ℕ) → cell ≡ number + 2 → number < length sets →
+      row_at sets number ≡ next → IsStep rows candidates category next → IsCell rows sets candidates category cell
   set_cell sets candidates next category number cell at short same is =
       inr (
         omega (arith, at),
@@ -122,7 +138,8 @@ module _ (rows : PositionRows) where
   pub no_cells : (sets : List (List ℕ)) (candidates cells : List ℕ) → AddsCells rows sets candidates cells cells 0
   no_cells sets candidates cells = record { many = omega arith; kept = λ k short. refl; each = λ category short. absurd (omega (arith, short)) }
 
-  pub cells_more : (sets new : List (List ℕ)) (candidates old cells : List ℕ) (category cell : ℕ) → AddsCells rows sets candidates old cells category → Begin sets new → IsCell rows new candidates category cell → AddsCells rows new candidates old (cells ++ cell ∷ []) (category + 1)
+  pub cells_more : (sets new : List (List ℕ)) (candidates old cells : List ℕ) (category cell : ℕ) → AddsCells rows sets candidates old cells category →
+      Begin sets new → IsCell rows new candidates category cell → AddsCells rows new candidates old (cells ++ cell ∷ []) (category + 1)
   cells_more sets new candidates old cells category cell adds begin is =
       record {
         many = omega (arith, length_push cells cell, adds.many);
@@ -130,12 +147,15 @@ module _ (rows : PositionRows) where
         each = λ other short.
             ⊎_elim
             (λ here.
-            let last : get_or (cells ++ cell ∷ []) (length old + other) 0 ≡ cell = get_or_push cells cell 0 (length old + other) (omega (arith, adds.many, here)) in
+            let last : get_or (cells ++ cell ∷ []) (length old + other) 0 ≡ cell =
+            get_or_push cells cell 0 (length old + other) (omega (arith, adds.many, here)) in
             subst (IsCell rows new candidates other) (sym last) (subst (λ k. IsCell rows new candidates k cell) (sym here) is))
             (λ before.
             let short' : other < category = omega (arith, short, before) in
-            let same : get_or (cells ++ cell ∷ []) (length old + other) 0 ≡ get_or cells (length old + other) 0 = get_or_append_left cells (cell ∷ []) 0 (length old + other) (omega (arith, adds.many, short')) in
-            subst (IsCell rows new candidates other) (sym same) (cell_kept sets new candidates other (get_or cells (length old + other) 0) begin (adds.each other short')))
+            let same : get_or (cells ++ cell ∷ []) (length old + other) 0 ≡ get_or cells (length old + other) 0 =
+            get_or_append_left cells (cell ∷ []) 0 (length old + other) (omega (arith, adds.many, short')) in
+            subst (IsCell rows new candidates other) (sym same) (cell_kept sets new candidates other (get_or cells (length old + other) 0) begin
+            (adds.each other short')))
             (cases_eq other category);
       }
 

@@ -8,7 +8,8 @@ use Rattle.rbbi_dfa.specs.LeastTables.{IsLeastOf}
 use Rattle.rbbi_dfa.proofs.Merged.{merged_IsLeast, merged_AreValidRows, merged_AreFronted, marks_from_start}
 use Rattle.rbbi_dfa.proofs.Needed.{NeedsRows-at_most}
 
-pub IsLeastOf-merged : (automaton table : Table) (classes firsts : List ℕ) → IsDetermined automaton → IsMinimized automaton classes firsts → IsMerged automaton classes firsts table → IsLeastOf automaton table
+pub IsLeastOf-merged : (automaton table : Table) (classes firsts : List ℕ) → IsDetermined automaton → IsMinimized automaton classes firsts →
+    IsMerged automaton classes firsts table → IsLeastOf automaton table
 IsLeastOf-merged automaton table classes firsts determined minimized merged =
     let partition = minimized.partition in
     let stable = minimized.stable in

@@ -22,10 +22,12 @@ counted_by : (marks : List RuleMark) (rule : ℕ) (mark : RuleMark) (b : Bool) �
 counted_by marks rule mark true at is =
     count_by_more_yes has_slash marks rule mark (slice_get_within marks rule mark at) (ap has_slash (get_or_from_slice_get marks rule mark mark at) ∙ is)
 counted_by marks rule mark false at is =
-    let e = count_by_more_no has_slash marks rule mark (slice_get_within marks rule mark at) (ap has_slash (get_or_from_slice_get marks rule mark mark at) ∙ is) in
+    let e = count_by_more_no has_slash marks rule mark (slice_get_within marks rule mark at) (ap has_slash (get_or_from_slice_get marks rule mark mark at)
+    ∙ is) in
     omega (arith, e)
 
-of_mark : (found : Option RuleMark) (slash : Option ℕ) → option_map (λ mark. mark.slash) found ≡ Some slash → (mark : RuleMark) × (found ≡ Some mark) × (mark.slash ≡ slash)
+of_mark : (found : Option RuleMark) (slash : Option ℕ) → option_map (λ mark. mark.slash) found ≡ Some slash → (mark : RuleMark) × (found ≡ Some mark) ×
+    (mark.slash ≡ slash)
 of_mark None slash h = absurd (cc)
 of_mark (Some mark) slash h = (mark, refl, cc)
 
@@ -36,7 +38,8 @@ counted_more marks rule slash h =
     counted_by marks rule found.0 (is_some slash) found.1 (ap is_some found.2)
 
 same_counts : (rules : List Rule) (marks : List RuleMark) → length marks ≡ length rules →
-    ((n : ℕ) (rule : Rule) (mark : RuleMark) → slice_get rules n ≡ Some rule → slice_get marks n ≡ Some mark → has_slash mark ≡ has_rest rule) → count_by has_slash marks ≡ count_by has_rest rules
+    ((n : ℕ) (rule : Rule) (mark : RuleMark) → slice_get rules n ≡ Some rule → slice_get marks n ≡ Some mark → has_slash mark ≡ has_rest rule) →
+    count_by has_slash marks ≡ count_by has_rest rules
 same_counts [] [] h each = refl
 same_counts [] (mark ∷ marks) h each = absurd (omega (arith, h))
 same_counts (rule ∷ rules) [] h each = absurd (omega (arith, h))
@@ -51,7 +54,8 @@ some_mapped f None = refl
 some_mapped f (Some rest) = refl
 
 -- the marks have as many look-ahead rules as the rules
-pub look_aheads_by_marks : (rules : List Rule) (categories : ℕ) (ranges : List CategoryRange) (marks : PositionMarks) → ArePositions rules categories ranges marks →
+pub look_aheads_by_marks : (rules : List Rule) (categories : ℕ) (ranges : List CategoryRange) (marks : PositionMarks) →
+    ArePositions rules categories ranges marks →
     count_by has_slash marks.rules ≡ length (look_aheads rules)
 look_aheads_by_marks rules categories ranges marks h =
     same_counts rules marks.rules h.rule_count (λ n rule mark at is. ap is_some (h.rule_marks n rule mark at is).slash ∙ some_mapped _ rule.rest)

@@ -1,5 +1,6 @@
 -- Loops over the marks of positions.
-use Rattle.std.proofs.Common.{◌≡◌, ◌≢◌, ℕ, zero, suc, ◌+◌, ◌-◌, ◌*◌, ◌%◌, ◌^◌, ◌<◌, ◌≤◌, ◌⊎◌, ◌↔◌, Bool, true, false, not, eqb, List, [], ◌∷◌, ◌++◌, length, get_or, refl, sym, ap, ◌∙◌, subst, inl, inr, ⊎_elim, arith}
+use Rattle.std.proofs.Common.{◌≡◌, ◌≢◌, ℕ, zero, suc, ◌+◌, ◌-◌, ◌*◌, ◌%◌, ◌^◌, ◌<◌, ◌≤◌, ◌⊎◌, ◌↔◌, Bool, true, false, not, eqb, List, [], ◌∷◌, ◌++◌, length}
+use Rattle.std.proofs.Common.{get_or, refl, sym, ap, ◌∙◌, subst, inl, inr, ⊎_elim, arith}
 use Rattle.std.specs.Prelude.{IsTrue, bit_and}
 use Rattle.std.specs.List.{All, AllPairs}
 use Rattle.std.specs.Int.{bit_at, w32}
@@ -29,14 +30,16 @@ HasMarkUpTo marks set i mark = (k : ℕ) × (k < i) × Holds set (mark_at marks 
 pub has_none : (marks : List PositionMark) (set : List ℕ) (mark : ℕ) → ¬ HasMarkUpTo marks set 0 mark
 has_none marks set mark = λ has. omega (arith, has.1)
 
-pub has_here : (marks : List PositionMark) (set : List ℕ) (i position mark : ℕ) → record { position = position; mark = mark } ≡ mark_at marks i → Holds set position → HasMarkUpTo marks set (i + 1) mark
+pub has_here : (marks : List PositionMark) (set : List ℕ) (i position mark : ℕ) → record { position = position; mark = mark } ≡ mark_at marks i →
+    Holds set position → HasMarkUpTo marks set (i + 1) mark
 has_here marks set i position mark read holds =
     (i, omega arith, subst (λ (m : PositionMark). Holds set m.position) read holds, sym (ap (λ (m : PositionMark). m.mark) read))
 
 pub has_later : (marks : List PositionMark) (set : List ℕ) (i mark : ℕ) → HasMarkUpTo marks set i mark → HasMarkUpTo marks set (i + 1) mark
 has_later marks set i mark has = (has.0, omega (arith, has.1), has.2, has.3)
 
-pub has_cases : (marks : List PositionMark) (set : List ℕ) (i mark position here : ℕ) → record { position = position; mark = here } ≡ mark_at marks i → HasMarkUpTo marks set (i + 1) mark → HasMarkUpTo marks set i mark ⊎ (Holds set position × (here ≡ mark))
+pub has_cases : (marks : List PositionMark) (set : List ℕ) (i mark position here : ℕ) → record { position = position; mark = here } ≡ mark_at marks i →
+    HasMarkUpTo marks set (i + 1) mark → HasMarkUpTo marks set i mark ⊎ (Holds set position × (here ≡ mark))
 has_cases marks set i mark position here read has =
     ⊎_elim
     (λ same.
@@ -46,12 +49,21 @@ has_cases marks set i mark position here read has =
     (cases_eq has.0 i)
 
 -- all marks
-pub has_all : (marks : List PositionMark) (set : List ℕ) (i mark : ℕ) → length marks ≤ i → i ≤ length marks → HasMarkUpTo marks set i mark ↔ HasMark set (Marked marks) mark
+pub has_all : (marks : List PositionMark) (set : List ℕ) (i mark : ℕ) → length marks ≤ i → i ≤ length marks → HasMarkUpTo marks set i mark ↔ HasMark set
+    (Marked marks) mark
 has_all marks set i mark all within = (
   λ has.
       let this : PositionMark = record { position = (mark_at marks has.0).position; mark = mark } in
-      let is : this ≡ mark_at marks has.0 = λ j. record { position = (mark_at marks has.0).position; mark = sym has.3 j } in
-      (this.position, has.2, (has.0, omega (arith, has.1, within), get_or_default marks has.0 this (record { position = 0; mark = 0 }) (omega (arith, has.1, within)) ∙ sym is)),
+      let is : this ≡ mark_at marks has.0 = λ j. record { position = (mark_at marks has.0).position; mark = sym has.3 j } in (
+        this.position,
+        has.2,
+        (
+          has.0,
+          omega (arith, has.1, within),
+          get_or_default marks has.0 this (record { position = 0; mark = 0 })
+              (omega (arith, has.1, within)) ∙ sym is,
+        ),
+      ),
   λ has.
       let this : PositionMark = record { position = has.0; mark = mark } in
       let k : ℕ = has.2.0 in
@@ -60,7 +72,8 @@ has_all marks set i mark all within = (
 )
 
 -- a mark as read from the list
-pub mark_read : (marks : List PositionMark) (i position mark : ℕ) (read : PositionMark) → i < length marks → read ≡ get_or marks i read → record { position = position; mark = mark } ≡ read → record { position = position; mark = mark } ≡ mark_at marks i
+pub mark_read : (marks : List PositionMark) (i position mark : ℕ) (read : PositionMark) → i < length marks → read ≡ get_or marks i read →
+    record { position = position; mark = mark } ≡ read → record { position = position; mark = mark } ≡ mark_at marks i
 mark_read marks i position mark read short is seen = seen ∙ is ∙ get_or_default marks i read (record { position = 0; mark = 0 }) short
 
 pub mark_small : (marks : List PositionMark) (bound i : ℕ) → All (λ mark. mark.mark < bound) marks → i < length marks → (mark_at marks i).mark < bound
@@ -73,7 +86,8 @@ pub record IsAcceptUpTo (marks : List PositionMark) (set last : List ℕ) (i acc
   pub ended : (position : ℕ) → Holds set position → Holds last position → 1 ≤ accept
   pub is_ended : accept ≡ 1 → (position : ℕ) × Holds set position × Holds last position
 
-pub accept_start : (marks : List PositionMark) (set last : List ℕ) (met : Bool) (accept : ℕ) → (met ≡ true → (p : ℕ) × Holds set p × Holds last p) → (met ≡ false → (p : ℕ) → Holds set p → ¬ Holds last p) → (met ≡ true → accept ≡ 1) → (met ≡ false → accept ≡ 0) → IsAcceptUpTo marks set last 0 accept
+pub accept_start : (marks : List PositionMark) (set last : List ℕ) (met : Bool) (accept : ℕ) → (met ≡ true → (p : ℕ) × Holds set p × Holds last p) →
+    (met ≡ false → (p : ℕ) → Holds set p → ¬ Holds last p) → (met ≡ true → accept ≡ 1) → (met ≡ false → accept ≡ 0) → IsAcceptUpTo marks set last 0 accept
 accept_start marks set last true accept some none is_one is_zero = record {
   completed = λ mark has. absurd (has_none marks set mark has);
   is_completed = λ many. absurd (omega (arith, many, is_one refl));
@@ -87,11 +101,17 @@ accept_start marks set last false accept some none is_one is_zero = record {
   is_ended = λ one. absurd (omega (arith, one, is_zero refl));
 }
 
-pub accept_takes : (marks : List PositionMark) (set last : List ℕ) (i accept position mark : ℕ) → record { position = position; mark = mark } ≡ mark_at marks i → (accept < 2) ⊎ (mark + 2 < accept) → Holds set position → IsAcceptUpTo marks set last i accept → IsAcceptUpTo marks set last (i + 1) (mark + 2)
+pub accept_takes : (marks : List PositionMark) (set last : List ℕ) (i accept position mark : ℕ) → record {
+  position = position;
+  mark =
+      mark;
+} ≡ mark_at marks i → (accept < 2) ⊎ (mark + 2 < accept) → Holds set position → IsAcceptUpTo marks set last i accept →
+    IsAcceptUpTo marks set last (i + 1) (mark + 2)
 accept_takes marks set last i accept position mark read better holds is = record {
   completed = λ other has.
       ⊎_elim
-      (λ earlier. let bound = is.completed other earlier in ⊎_elim (λ small. absurd (omega (arith, small, bound.0))) (λ less. (omega arith, omega (arith, less, bound.1))) better)
+      (λ earlier. let bound =
+      is.completed other earlier in ⊎_elim (λ small. absurd (omega (arith, small, bound.0))) (λ less. (omega arith, omega (arith, less, bound.1))) better)
       (λ here. (omega arith, omega (arith, here.1)))
       (has_cases marks set i other position mark read has);
   is_completed = λ many. (mark, has_here marks set i position mark read holds, refl);
@@ -99,7 +119,12 @@ accept_takes marks set last i accept position mark read better holds is = record
   is_ended = λ one. absurd (omega (arith, one));
 }
 
-pub accept_stays : (marks : List PositionMark) (set last : List ℕ) (i accept position mark : ℕ) → record { position = position; mark = mark } ≡ mark_at marks i → (Holds set position → (2 ≤ accept) × (accept ≤ mark + 2)) → IsAcceptUpTo marks set last i accept → IsAcceptUpTo marks set last (i + 1) accept
+pub accept_stays : (marks : List PositionMark) (set last : List ℕ) (i accept position mark : ℕ) → record {
+  position = position;
+  mark =
+      mark;
+} ≡ mark_at marks i → (Holds set position → (2 ≤ accept) × (accept ≤ mark + 2)) → IsAcceptUpTo marks set last i accept →
+    IsAcceptUpTo marks set last (i + 1) accept
 accept_stays marks set last i accept position mark read bound is = record {
   completed = λ other has.
       ⊎_elim
@@ -111,7 +136,8 @@ accept_stays marks set last i accept position mark read bound is = record {
   is_ended = is.is_ended;
 }
 
-pub accept_all : (rows : PositionRows) (set : List ℕ) (i accept : ℕ) → length rows.completed ≤ i → i ≤ length rows.completed → IsAcceptUpTo rows.completed set rows.last i accept → IsAccept rows set accept
+pub accept_all : (rows : PositionRows) (set : List ℕ) (i accept : ℕ) → length rows.completed ≤ i → i ≤ length rows.completed →
+    IsAcceptUpTo rows.completed set rows.last i accept → IsAccept rows set accept
 accept_all rows set i accept all within is = record {
   completed = λ mark has. is.completed mark ((has_all rows.completed set i mark all within).1 has);
   is_completed = λ many.
@@ -144,11 +170,13 @@ AreFrontsUpTo marks set i fronts = (mark : ℕ) → IsTrue (has_bit fronts mark)
 
 pub fronts_start : (marks : List PositionMark) (set : List ℕ) (fronts : ℕ) → fronts ≡ 0 → AreFrontsUpTo marks set 0 fronts
 fronts_start marks set fronts none mark = (
-  λ bit. absurd (let one = bit_is_one fronts mark bit in let zero' : bit_at fronts mark ≡ 0 = ap (λ n. bit_at n mark) none ∙ bit_at-zero mark in omega (arith, one, zero')),
+  λ bit. absurd (let one = bit_is_one fronts mark bit in let zero' : bit_at fronts mark ≡ 0 =
+      ap (λ n. bit_at n mark) none ∙ bit_at-zero mark in omega (arith, one, zero')),
   λ has. absurd (has_none marks set mark has),
 )
 
-pub fronts_takes : (marks : List PositionMark) (set : List ℕ) (i fronts position mark : ℕ) → record { position = position; mark = mark } ≡ mark_at marks i → mark < 32 → Holds set position → AreFrontsUpTo marks set i fronts → AreFrontsUpTo marks set (i + 1) (bit_or fronts (1 * 2 ^ mark % 2 ^ 32))
+pub fronts_takes : (marks : List PositionMark) (set : List ℕ) (i fronts position mark : ℕ) → record { position = position; mark = mark } ≡ mark_at marks i →
+    mark < 32 → Holds set position → AreFrontsUpTo marks set i fronts → AreFrontsUpTo marks set (i + 1) (bit_or fronts (1 * 2 ^ mark % 2 ^ 32))
 fronts_takes marks set i fronts position mark read small holds are other =
     let new : ℕ = bit_or fronts (1 * 2 ^ mark % 2 ^ 32) in (
       λ bit.
@@ -170,13 +198,15 @@ fronts_takes marks set i fronts position mark read small holds are other =
           (cases_eq other mark)),
     )
 
-pub fronts_stays : (marks : List PositionMark) (set : List ℕ) (i fronts position mark : ℕ) → record { position = position; mark = mark } ≡ mark_at marks i → ¬ Holds set position → AreFrontsUpTo marks set i fronts → AreFrontsUpTo marks set (i + 1) fronts
+pub fronts_stays : (marks : List PositionMark) (set : List ℕ) (i fronts position mark : ℕ) → record { position = position; mark = mark } ≡ mark_at marks i →
+    ¬ Holds set position → AreFrontsUpTo marks set i fronts → AreFrontsUpTo marks set (i + 1) fronts
 fronts_stays marks set i fronts position mark read absent are other = (
   λ bit. has_later marks set i other ((are other).0 bit),
   λ has. ⊎_elim (λ earlier. (are other).1 earlier) (λ here. absurd (absent here.0)) (has_cases marks set i other position mark read has),
 )
 
-pub fronts_all : (rows : PositionRows) (set : List ℕ) (i fronts : ℕ) → length rows.fronts ≤ i → i ≤ length rows.fronts → AreFrontsUpTo rows.fronts set i fronts → AreFrontsOf rows set fronts
+pub fronts_all : (rows : PositionRows) (set : List ℕ) (i fronts : ℕ) → length rows.fronts ≤ i → i ≤ length rows.fronts →
+    AreFrontsUpTo rows.fronts set i fronts → AreFrontsOf rows set fronts
 fronts_all rows set i fronts all within are mark =
     (λ bit. (has_all rows.fronts set i mark all within).0 ((are mark).0 bit), λ has. (are mark).1 ((has_all rows.fronts set i mark all within).1 has))
 
@@ -208,27 +238,35 @@ pub tags_start : (marks : List PositionMark) (set statuses : List ℕ) → statu
 tags_start marks set [] none = record { rising = tt; exactly = λ tag. (λ out. absurd out, λ has. absurd (has_none marks set tag has)) }
 tags_start marks set (s ∷ statuses) none = absurd (cc)
 
-pub tags_takes : (marks : List PositionMark) (set statuses : List ℕ) (i position mark : ℕ) → record { position = position; mark = mark } ≡ mark_at marks i → Holds set position → ((k : ℕ) → length statuses ≡ k + 1 → get_or statuses k 0 < mark) → AreTagsUpTo marks set i statuses → AreTagsUpTo marks set (i + 1) (statuses ++ mark ∷ [])
+pub tags_takes : (marks : List PositionMark) (set statuses : List ℕ) (i position mark : ℕ) → record { position = position; mark = mark } ≡ mark_at marks i →
+    Holds set position → ((k : ℕ) → length statuses ≡ k + 1 → get_or statuses k 0 < mark) → AreTagsUpTo marks set i statuses →
+    AreTagsUpTo marks set (i + 1) (statuses ++ mark ∷ [])
 tags_takes marks set statuses i position mark read holds above are = record {
   rising = rising_push statuses mark are.rising above;
   exactly = λ tag. (
-    λ member. ⊎_elim (λ old. has_later marks set i tag ((are.exactly tag).0 old)) (λ new. subst (HasMarkUpTo marks set (i + 1)) new (has_here marks set i position mark read holds)) ((member_push statuses mark tag).0 member),
-    λ has. (member_push statuses mark tag).1 (⊎_elim (λ earlier. inl ((are.exactly tag).1 earlier)) (λ here. inr here.1) (has_cases marks set i tag position mark read has)),
+    λ member. ⊎_elim (λ old. has_later marks set i tag ((are.exactly tag).0 old))
+        (λ new. subst (HasMarkUpTo marks set (i + 1)) new (has_here marks set i position mark read holds)) ((member_push statuses mark tag).0 member),
+    λ has. (member_push statuses mark tag).1
+        (⊎_elim (λ earlier. inl ((are.exactly tag).1 earlier)) (λ here. inr here.1) (has_cases marks set i tag position mark read has)),
   );
 }
 
 -- the mark is that of the last status, or its position isn't in the set
-pub tags_stays : (marks : List PositionMark) (set statuses : List ℕ) (i position mark : ℕ) → record { position = position; mark = mark } ≡ mark_at marks i → (Holds set position → Member statuses mark) → AreTagsUpTo marks set i statuses → AreTagsUpTo marks set (i + 1) statuses
+pub tags_stays : (marks : List PositionMark) (set statuses : List ℕ) (i position mark : ℕ) → record { position = position; mark = mark } ≡ mark_at marks i →
+    (Holds set position → Member statuses mark) → AreTagsUpTo marks set i statuses → AreTagsUpTo marks set (i + 1) statuses
 tags_stays marks set statuses i position mark read there are = record {
   rising = are.rising;
   exactly = λ tag. (
     λ member. has_later marks set i tag ((are.exactly tag).0 member),
-    λ has. ⊎_elim (λ earlier. (are.exactly tag).1 earlier) (λ here. subst (Member statuses) here.1 (there here.0)) (has_cases marks set i tag position mark read has),
+    λ has. ⊎_elim (λ earlier. (are.exactly tag).1 earlier) (λ here. subst (Member statuses) here.1 (there here.0))
+        (has_cases marks set i tag position mark read has),
   );
 }
 
 -- where the last status isn't less than the mark it is the mark, since marks don't fall
-pub last_is : (marks : List PositionMark) (set statuses : List ℕ) (i k position mark : ℕ) → record { position = position; mark = mark } ≡ mark_at marks i → i < length marks → AllPairs (λ these those. these.mark ≤ those.mark) marks → AreTagsUpTo marks set i statuses → length statuses ≡ k + 1 → mark ≤ get_or statuses k 0 → Member statuses mark
+pub last_is : (marks : List PositionMark) (set statuses : List ℕ) (i k position mark : ℕ) → record { position = position; mark = mark } ≡ mark_at marks i →
+    i < length marks → AllPairs (λ these those. these.mark ≤ those.mark) marks → AreTagsUpTo marks set i statuses → length statuses ≡ k + 1 →
+    mark ≤ get_or statuses k 0 → Member statuses mark
 last_is marks set statuses i k position mark read short sorted are long low =
     let member = member_last statuses k long in
     let has = (are.exactly (get_or statuses k 0)).0 member in
@@ -253,7 +291,8 @@ module _ (rows : PositionRows) (set : List ℕ) (i : ℕ) (all : length rows.tag
   pub tags_none : (statuses : List ℕ) → statuses ≡ [] → AreTagsUpTo rows.tags set i statuses → (one : List ℕ) → one ≡ 0 ∷ [] → AreTagsOf rows set one
   tags_none (s ∷ statuses) none are one is = absurd (cc)
   tags_none [] none are one is =
-      let nothing : (other : ℕ) → HasMark set (Marked rows.tags) other → ⊥ = λ other has. (are.exactly other).1 ((has_all rows.tags set i other all within).1 has) in
+      let nothing : (other : ℕ) → HasMark set (Marked rows.tags) other → ⊥ =
+      λ other has. (are.exactly other).1 ((has_all rows.tags set i other all within).1 has) in
       subst (AreTagsOf rows set) (sym is)
       (record {
         rising = tt;
@@ -270,7 +309,8 @@ fronts_small fronts mark slashes below few small =
 
 -- heads and lists with those of one set more
 module _ (rows : PositionRows) (sets : List (List ℕ)) where
-  pub marked_start : (heads : List RowHead) (lists : List (List ℕ)) → heads ≡ empty_head ∷ empty_head ∷ [] → lists ≡ (0 ∷ []) ∷ [] → AreMarked rows sets heads lists 0
+  pub marked_start : (heads : List RowHead) (lists : List (List ℕ)) → heads ≡ empty_head ∷ empty_head ∷ [] → lists ≡ (0 ∷ []) ∷ [] →
+      AreMarked rows sets heads lists 0
   marked_start heads lists are_heads are_lists = record {
     many = ap length are_heads;
     many_lists = ap length are_lists;
@@ -280,7 +320,8 @@ module _ (rows : PositionRows) (sets : List (List ℕ)) where
     numbered = λ i short. absurd (omega (arith, short));
     lists_within = λ row short.
         ⊎_elim
-        (λ first. subst (λ (h : RowHead). h.list < 1) (sym (ap (λ r. get_or heads r empty_head) first ∙ ap (λ l. get_or l 0 empty_head) are_heads)) (omega arith))
+        (λ first. subst (λ (h : RowHead). h.list < 1) (sym (ap (λ r. get_or heads r empty_head) first ∙ ap (λ l. get_or l 0 empty_head) are_heads))
+        (omega arith))
         (λ other.
         let second : row ≡ 1 = omega (arith, short, other) in
         subst (λ (h : RowHead). h.list < 1) (sym (ap (λ r. get_or heads r empty_head) second ∙ ap (λ l. get_or l 1 empty_head) are_heads)) (omega arith))
@@ -288,14 +329,18 @@ module _ (rows : PositionRows) (sets : List (List ℕ)) where
     each = λ i short. absurd (omega (arith, short));
   }
 
-  pub marked_more : (heads : List RowHead) (lists : List (List ℕ)) (count : ℕ) (head : RowHead) (statuses : List ℕ) → head.list ≡ count + 1 → IsAccept rows (row_at sets count) head.accept → (head.accept < 2 → AreFrontsOf rows (row_at sets count) head.fronts) → (2 ≤ head.accept → head.fronts ≡ 0) → head.fronts < 2 ^ rows.slashes → AreTagsOf rows (row_at sets count) statuses →
+  pub marked_more : (heads : List RowHead) (lists : List (List ℕ)) (count : ℕ) (head : RowHead) (statuses : List ℕ) → head.list ≡ count + 1 →
+      IsAccept rows (row_at sets count) head.accept → (head.accept < 2 → AreFrontsOf rows (row_at sets count) head.fronts) →
+      (2 ≤ head.accept → head.fronts ≡ 0) → head.fronts < 2 ^ rows.slashes → AreTagsOf rows (row_at sets count) statuses →
       AreMarked rows sets heads lists count → AreMarked rows sets (heads ++ head ∷ []) (lists ++ statuses ∷ []) (count + 1)
   marked_more heads lists count head statuses list accept fronts no_fronts small tags are =
       let new : List RowHead = heads ++ head ∷ [] in
       let new_lists : List (List ℕ) = lists ++ statuses ∷ [] in
-      let old_at : (row : ℕ) → row < count + 2 → get_or new row empty_head ≡ get_or heads row empty_head = λ row short. get_or_append_left heads (head ∷ []) empty_head row (omega (arith, short, are.many)) in
+      let old_at : (row : ℕ) → row < count + 2 → get_or new row empty_head ≡ get_or heads row empty_head =
+      λ row short. get_or_append_left heads (head ∷ []) empty_head row (omega (arith, short, are.many)) in
       let new_at : get_or new (count + 2) empty_head ≡ head = get_or_push heads head empty_head (count + 2) are.many in
-      let old_list : (i : ℕ) → i < count + 1 → get_or new_lists i [] ≡ get_or lists i [] = λ i short. get_or_append_left lists (statuses ∷ []) [] i (omega (arith, short, are.many_lists)) in
+      let old_list : (i : ℕ) → i < count + 1 → get_or new_lists i [] ≡ get_or lists i [] =
+      λ i short. get_or_append_left lists (statuses ∷ []) [] i (omega (arith, short, are.many_lists)) in
       let new_list : get_or new_lists (count + 1) [] ≡ statuses = get_or_push lists statuses [] (count + 1) are.many_lists in
       record {
         many = omega (arith, length_push heads head, are.many);
@@ -306,12 +351,14 @@ module _ (rows : PositionRows) (sets : List (List ℕ)) where
         numbered = λ i short.
             ⊎_elim
             (λ here. omega (arith, ap (λ n. (get_or new (n + 2) empty_head).list) here, ap (λ (h : RowHead). h.list) new_at, list, here))
-            (λ other. let before : i < count = omega (arith, short, other) in ap (λ (h : RowHead). h.list) (old_at (i + 2) (omega (arith, before))) ∙ are.numbered i before)
+            (λ other. let before : i < count = omega (arith, short, other) in ap (λ (h : RowHead). h.list) (old_at (i + 2) (omega (arith, before)))
+            ∙ are.numbered i before)
             (cases_eq i count);
         lists_within = λ row short.
             ⊎_elim
             (λ here. omega (arith, ap (λ r. (get_or new r empty_head).list) here, ap (λ (h : RowHead). h.list) new_at, list))
-            (λ other. let before : row < count + 2 = omega (arith, short, other) in omega (arith, ap (λ (h : RowHead). h.list) (old_at row before), are.lists_within row before))
+            (λ other. let before : row < count + 2 =
+            omega (arith, short, other) in omega (arith, ap (λ (h : RowHead). h.list) (old_at row before), are.lists_within row before))
             (cases_eq row (count + 2));
         each = λ i short.
             ⊎_elim
@@ -329,7 +376,8 @@ module _ (rows : PositionRows) (sets : List (List ℕ)) where
             let within = are.lists_within (i + 2) (omega (arith, before)) in
             let marks : marks_by new new_lists (i + 2) ≡ marks_by heads lists (i + 2) =
             ap (λ (h : RowHead). record { accept = h.accept; fronts = h.fronts; statuses = get_or new_lists h.list [] }) row
-            ∙ ap (λ l. record { accept = (get_or heads (i + 2) empty_head).accept; fronts = (get_or heads (i + 2) empty_head).fronts; statuses = l }) (old_list (get_or heads (i + 2) empty_head).list within) in
+            ∙ ap (λ l. record { accept = (get_or heads (i + 2) empty_head).accept; fronts = (get_or heads (i + 2) empty_head).fronts; statuses = l })
+            (old_list (get_or heads (i + 2) empty_head).list within) in
             subst (AreMarksOf rows (row_at sets i)) (sym marks) (are.each i before))
             (cases_eq i count);
       }

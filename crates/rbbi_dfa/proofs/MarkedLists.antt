@@ -23,7 +23,8 @@ marked_none marks kind list none position mark =
     (λ has. absurd (omega (arith, has.1, ap length none)), λ below. absurd (omega (arith, below.0)))
 
 module _ (marks : PositionMarks) (kind : ListKind) (list : List PositionMark) (count : ℕ) (are : AreMarkedUpTo marks kind list count) where
-  pub marked_takes : (mark : ℕ) → mark_in marks kind count ≡ Some mark → AreMarkedUpTo marks kind (list ++ record { position = count; mark = mark } ∷ []) (count + 1)
+  pub marked_takes : (mark : ℕ) → mark_in marks kind count ≡ Some mark → AreMarkedUpTo marks kind (list ++ record { position = count; mark = mark } ∷ [])
+      (count + 1)
   marked_takes mark is position other =
       let new : PositionMark = record { position = count; mark = mark } in (
         λ has.
@@ -40,7 +41,8 @@ module _ (marks : PositionMarks) (kind : ListKind) (list : List PositionMark) (c
             let value : mark ≡ other = ap (λ o. unwrap_or o mark) (sym is ∙ ap (λ n. mark_in marks kind n) (sym here) ∙ marked) in
             let same : new ≡ record { position = position; mark = other } = λ i. record { position = sym here i; mark = value i } in
             subst (λ m. Contains (list ++ new ∷ []) m) same (Contains-push list new))
-            (λ apart. Contains-append_left list (new ∷ []) (record { position = position; mark = other }) ((are position other).1 (omega (arith, short, apart), marked)))
+            (λ apart. Contains-append_left list (new ∷ []) (record { position = position; mark = other })
+            ((are position other).1 (omega (arith, short, apart), marked)))
             (cases_eq position count),
       )
 
@@ -58,7 +60,8 @@ module _ (marks : PositionMarks) (kind : ListKind) (list : List PositionMark) (c
 pub rows_none : (marks : PositionMarks) (kind : ℕ → RowKind) (rows : List (List ℕ)) → rows ≡ [] → AreRowsBy marks kind 0 rows
 rows_none marks kind rows none = record { many = ap length none; each = λ i short. absurd (omega (arith, short)) }
 
-pub rows_more : (marks : PositionMarks) (kind : ℕ → RowKind) (rows : List (List ℕ)) (row : List ℕ) (count : ℕ) → AreRowsBy marks kind count rows → IsRowBy marks (kind count) row → AreRowsBy marks kind (count + 1) (rows ++ row ∷ [])
+pub rows_more : (marks : PositionMarks) (kind : ℕ → RowKind) (rows : List (List ℕ)) (row : List ℕ) (count : ℕ) → AreRowsBy marks kind count rows →
+    IsRowBy marks (kind count) row → AreRowsBy marks kind (count + 1) (rows ++ row ∷ [])
 rows_more marks kind rows row count are is = record {
   many = omega (arith, length_push rows row, are.many);
   each = λ i short.
@@ -71,14 +74,19 @@ rows_more marks kind rows row count are is = record {
 }
 
 -- marks of a list that mark positions so
-pub marked_all : (marks : PositionMarks) (kind : ListKind) (list : List PositionMark) (P : ℕ → Type 0) → AreMarkedIn marks kind list → ((position mark : ℕ) → position < marks.leaves → mark_in marks kind position ≡ Some mark → P mark) → All (λ m. P m.mark) list
+pub marked_all : (marks : PositionMarks) (kind : ListKind) (list : List PositionMark) (P : ℕ → Type 0) → AreMarkedIn marks kind list →
+    ((position mark : ℕ) → position < marks.leaves → mark_in marks kind position ≡ Some mark → P mark) → All (λ m. P m.mark) list
 marked_all marks kind list P are each k d short =
     let m : PositionMark = get_or list k d in
     let is = (are m.position m.mark).0 (Contains-get_or list k d short) in
     each m.position m.mark is.0 is.1
 
 -- the same marks in another order
-pub marked_permuted : (marks : PositionMarks) (kind : ListKind) (list other : List PositionMark) → IsPermutation list other → AreMarkedIn marks kind list → AreMarkedIn marks kind other
+pub marked_permuted : (marks : PositionMarks) (kind : ListKind) (list other : List PositionMark) → IsPermutation list other → AreMarkedIn marks kind list →
+    AreMarkedIn marks kind other
 marked_permuted marks kind list other same are position mark =
-    let this : PositionMark = record { position = position; mark = mark } in
-    (λ has. (are position mark).0 (Contains-permutation other list this (IsPermutation-sym list other same) has), λ below. Contains-permutation list other this same ((are position mark).1 below))
+    let this : PositionMark = record { position = position; mark = mark } in (
+      λ has. (are position mark).0 (Contains-permutation other list this (IsPermutation-sym list other same) has),
+      λ below. Contains-permutation list other
+          this same ((are position mark).1 below),
+    )

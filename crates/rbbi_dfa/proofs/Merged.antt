@@ -1,5 +1,6 @@
 -- Merging rows that are alike changes no marks along any categories.
-use Rattle.std.proofs.Common.{◌≡◌, ◌≢◌, ℕ, zero, suc, ◌^◌, ◌<◌, ◌≤◌, List, [], ◌∷◌, length, take, refl, ap, sym, ◌∙◌, subst, inl, inr, ⊎_elim, arith, slice_index, slice_index_or}
+use Rattle.std.proofs.Common.{◌≡◌, ◌≢◌, ℕ, zero, suc, ◌^◌, ◌<◌, ◌≤◌, List, [], ◌∷◌, length, take, refl, ap, sym, ◌∙◌, subst, inl, inr, ⊎_elim, arith}
+use Rattle.std.proofs.Common.{slice_index, slice_index_or}
 use Rattle.std.specs.List.{AllByRecursion}
 use Rattle.std.proofs.lemmas.Bool.{cases_lt}
 use Rattle.rbbi_model.specs.Places.{has_bit}
@@ -35,13 +36,15 @@ IsBefore-trans (m ∷ these) (n ∷ those) (l ∷ last) (inr h) (inl k) = inl (o
 IsBefore-trans (m ∷ these) (n ∷ those) (l ∷ last) (inr h) (inr k) = inr (h.0 ∙ k.0, IsBefore-trans these those last h.1 k.1)
 
 -- a list that comes before all that follow it stands at no later place
-before_at : (statuses : List ℕ) (lists : List (List ℕ)) (i : ℕ) → AreInOrder (statuses ∷ lists) → i < length lists → IsBefore statuses (slice_index_or lists i [])
+before_at : (statuses : List ℕ) (lists : List (List ℕ)) (i : ℕ) → AreInOrder (statuses ∷ lists) → i < length lists →
+    IsBefore statuses (slice_index_or lists i [])
 before_at statuses [] i h k = absurd (omega arith)
 before_at statuses (next ∷ lists) zero h k = h.0
 before_at statuses (next ∷ lists) (suc i) h k =
     IsBefore-trans statuses next (slice_index_or lists i []) h.0 (before_at next lists i h.1 (omega arith))
 
-zero_alone_first : (lists : List (List ℕ)) (i : ℕ) → BeginsWithZeroAlone lists → AreInOrder lists → i < length lists → slice_index_or lists i [] ≡ 0 ∷ [] → i ≡ 0
+zero_alone_first : (lists : List (List ℕ)) (i : ℕ) → BeginsWithZeroAlone lists → AreInOrder lists → i < length lists → slice_index_or lists i [] ≡ 0 ∷ [] →
+    i ≡ 0
 zero_alone_first [] i z h k e = absurd z
 zero_alone_first (first ∷ lists) zero z h k e = refl
 zero_alone_first (first ∷ lists) (suc i) z h k e =
@@ -86,10 +89,12 @@ module _
     row_along_within row (category ∷ way) h k = row_along_within (step automaton row category) way (next_row row category h k.0) k.1
 
     module _ (stable : IsStable automaton classes firsts) where
-      step_class : (row category : ℕ) → row < length classes → category < automaton.categories → step table (Class row) category ≡ Class (step automaton row category)
+      step_class : (row category : ℕ) → row < length classes → category < automaton.categories →
+          step table (Class row) category ≡ Class (step automaton row category)
       step_class row category h k = merged.next (Class row) category (partition.within row h) k ∙ sym (stable row category h k)
 
-      pub row_along_class : (row : ℕ) (way : List ℕ) → row < length classes → IsWay automaton way → row_along table (Class row) way ≡ Class (row_along automaton row way)
+      pub row_along_class : (row : ℕ) (way : List ℕ) → row < length classes → IsWay automaton way →
+          row_along table (Class row) way ≡ Class (row_along automaton row way)
       row_along_class row [] h k = refl
       row_along_class row (category ∷ way) h k =
           ap (λ next. row_along table next way) (step_class row category h k.0)
@@ -98,7 +103,8 @@ module _
       marks_class : (row : ℕ) → row < length classes → marks_of table (Class row) ≡ marks_of automaton row
       marks_class row h = merged.marks (Class row) (partition.within row h) ∙ sym (partition.alike row h)
 
-      pub marks_along : (row : ℕ) (way : List ℕ) → row < length classes → IsWay automaton way → marks_of table (row_along table (Class row) way) ≡ marks_of automaton (row_along automaton row way)
+      pub marks_along : (row : ℕ) (way : List ℕ) → row < length classes → IsWay automaton way →
+          marks_of table (row_along table (Class row) way) ≡ marks_of automaton (row_along automaton row way)
       marks_along row way h k =
           ap (λ next. marks_of table next) (row_along_class row way h k) ∙ marks_class (row_along automaton row way) (row_along_within row way h k)
 
@@ -106,9 +112,11 @@ module _
       marks_from_start way k =
           ap (λ row. marks_of table (row_along table row way)) (sym class_of_start) ∙ marks_along 1 way start_row k
 
-      marks_from_first : (class : ℕ) (way : List ℕ) → class < length firsts → IsWay automaton way → marks_of table (row_along table class way) ≡ marks_of automaton (row_along automaton (First class) way)
+      marks_from_first : (class : ℕ) (way : List ℕ) → class < length firsts → IsWay automaton way →
+          marks_of table (row_along table class way) ≡ marks_of automaton (row_along automaton (First class) way)
       marks_from_first class way h k =
-          ap (λ row. marks_of table (row_along table row way)) (sym (partition.first_class class h)) ∙ marks_along (First class) way (partition.first_row class h) k
+          ap (λ row. marks_of table (row_along table row way)) (sym (partition.first_class class h))
+          ∙ marks_along (First class) way (partition.first_row class h) k
 
       -- The table is least.
 
@@ -120,7 +128,8 @@ module _
           let found = determined.reached (First class) (first_not_stop class h differ) (row_of (First class) (partition.first_row class h)) in (
             found.0,
             way_to found.0 found.1,
-            ap (λ row. row_along table row found.0) (sym class_of_start) ∙ row_along_class 1 found.0 start_row found.1 ∙ ap (λ row. Class row) found.2 ∙ partition.first_class class h,
+            ap (λ row. row_along table row found.0) (sym class_of_start) ∙ row_along_class 1 found.0 start_row found.1 ∙ ap (λ row. Class row) found.2
+                ∙ partition.first_class class h,
           )
 
       -- a first row that is row 0 or 1 is that of class 0 or 1
@@ -136,11 +145,13 @@ module _
           omega arith)
           (cases_lt (First class) 1)
 
-      apart : (this that : ℕ) → this < that → that < length firsts → ¬ ((this ≡ 0) × (that ≡ 1)) → (way : List ℕ) × IsWay table way × (marks_of table (row_along table this way) ≢ marks_of table (row_along table that way))
+      apart : (this that : ℕ) → this < that → that < length firsts → ¬ ((this ≡ 0) × (that ≡ 1)) → (way : List ℕ) × IsWay table way ×
+          (marks_of table (row_along table this way) ≢ marks_of table (row_along table that way))
       apart this that less h other =
           let this_class : this < length firsts = omega arith in
           ⊎_elim
-          (λ (few : length automaton.rows < 3). absurd (other (omega (arith, small_class that h (omega (arith, partition.rows))), omega (arith, small_class that h (omega (arith, partition.rows))))))
+          (λ (few : length automaton.rows < 3). absurd
+          (other (omega (arith, small_class that h (omega (arith, partition.rows))), omega (arith, small_class that h (omega (arith, partition.rows))))))
           (λ (many : 3 ≤ length automaton.rows).
           let found = partition.apart many (First this) (First that) (partition.first_row this this_class) (partition.first_row that h)
           (λ e. absurd (omega (arith, partition.first_class this this_class, partition.first_class that h))) in (
@@ -171,7 +182,8 @@ module _
       head_statuses class h = ap (λ (marks : Marks). marks.statuses) (merged.marks class h)
 
       list_zero : (class : ℕ) → class < length firsts → statuses_of automaton (list_of automaton (First class)) ≡ 0 ∷ [] → list_of table class ≡ 0
-      list_zero class h e = zero_alone_first table.lists (list_of table class) merged.first_list merged.in_order (merged.list class h) (head_statuses class h ∙ e)
+      list_zero class h e = zero_alone_first table.lists (list_of table class) merged.first_list merged.in_order (merged.list class h) (head_statuses class h
+          ∙ e)
 
       -- where the first row of a class leads to row 0 only, so does the class
       leads_zero : (class : ℕ) → class < length firsts → LeadsToZero automaton (First class) → LeadsToZero table class
@@ -188,7 +200,13 @@ module _
             list = merged.list class h;
             next = λ category k.
                 let old : category < automaton.categories = omega (arith, merged.categories) in
-                omega (arith, merged.rows, merged.next class category h old, partition.within (step automaton (First class) category) (next_row (First class) category (partition.first_row class h) old));
+                omega (
+                  arith,
+                  merged.rows,
+                  merged.next class category h old,
+                  partition.within (step automaton (First class) category)
+                      (next_row (First class) category (partition.first_row class h) old),
+                );
             unended = λ e. list_zero class h (row.unended (sym (head_accept class h) ∙ e));
             completed = λ two.
                 let done = row.completed (omega (arith, head_accept class h)) in
@@ -220,5 +238,6 @@ module _
           let found = determined.fronts way k old (ap (λ (marks : Marks). marks.accept) (sym (marks_from_start way old)) ∙ completed) in (
             found.0,
             found.1,
-            ap (λ fronts. has_bit fronts k) (ap (λ (marks : Marks). marks.fronts) (marks_from_start (take found.0 way) (IsWay-take automaton found.0 way old))) ∙ found.2,
+            ap (λ fronts. has_bit fronts k)
+                (ap (λ (marks : Marks). marks.fronts) (marks_from_start (take found.0 way) (IsWay-take automaton found.0 way old))) ∙ found.2,
           )

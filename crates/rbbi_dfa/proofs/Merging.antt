@@ -1,5 +1,6 @@
 -- What is made of a partition, part by part, is the merged table.
-use Rattle.std.proofs.Common.{◌≡◌, ℕ, zero, suc, ◌+◌, ◌*◌, ◌/◌, ◌%◌, ◌<◌, ◌≤◌, Bool, true, false, List, [], ◌∷◌, ◌++◌, length, refl, ap, sym, ◌∙◌, subst, inl, inr, arith, mul_comm, slice_index, slice_index_or}
+use Rattle.std.proofs.Common.{◌≡◌, ℕ, zero, suc, ◌+◌, ◌*◌, ◌/◌, ◌%◌, ◌<◌, ◌≤◌, Bool, true, false, List, [], ◌∷◌, ◌++◌, length, refl, ap, sym, ◌∙◌, subst, inl}
+use Rattle.std.proofs.Common.{inr, arith, mul_comm, slice_index, slice_index_or}
 use Rattle.std.specs.List.{AllByRecursion}
 use Rattle.std.proofs.lemmas.Nat.{div-mul-add, mod-mul-add, mul-add-lt}
 use Rattle.std.proofs.lemmas.List.{get_or_append_left, get_or_push, length_push}
@@ -15,11 +16,13 @@ use Rattle.rbbi_dfa.proofs.Grouping.{marks_by_parts}
 use Rattle.rbbi_dfa.proofs.Needed.{length-le_from_numbered, all_by_index}
 
 pub HaveCells-more : (automaton : Table) (classes firsts cells more : List ℕ) (count cell : ℕ) → HaveCells automaton classes firsts count cells →
-    cell ≡ slice_index classes (step automaton (slice_index firsts (count / automaton.categories)) (count % automaton.categories)) → more ≡ cells ++ cell ∷ [] → HaveCells automaton classes firsts (count + 1) more
+    cell ≡ slice_index classes (step automaton (slice_index firsts (count / automaton.categories)) (count % automaton.categories)) →
+    more ≡ cells ++ cell ∷ [] → HaveCells automaton classes firsts (count + 1) more
 HaveCells-more automaton classes firsts cells more count cell h here e =
     subst (λ (xs : List ℕ). HaveCells automaton classes firsts (count + 1) xs) (sym e) (record {
       many = length_push cells cell ∙ ap (λ n. n + 1) h.many;
-      each = below_more (λ k. slice_index (cells ++ cell ∷ []) k ≡ slice_index classes (step automaton (slice_index firsts (k / automaton.categories)) (k % automaton.categories))) count
+      each = below_more (λ k. slice_index (cells ++ cell ∷ []) k ≡ slice_index classes
+          (step automaton (slice_index firsts (k / automaton.categories)) (k % automaton.categories))) count
           (λ k l. get_or_append_left cells (cell ∷ []) 0 k (omega (arith, h.many)) ∙ h.each k l)
           (get_or_push cells cell 0 count h.many ∙ here);
     })
@@ -46,7 +49,8 @@ before_zero_alone [] h = refl
 before_zero_alone (m ∷ these) (inl h) = absurd (omega arith)
 before_zero_alone (m ∷ these) (inr h) = absurd h.1
 
-begins_with_zero : (lists : List (List ℕ)) (i : ℕ) → AllByRecursion IsValidList lists → AreRising lists → i < length lists → slice_index_or lists i [] ≡ 0 ∷ [] → BeginsWithZeroAlone lists
+begins_with_zero : (lists : List (List ℕ)) (i : ℕ) → AllByRecursion IsValidList lists → AreRising lists → i < length lists →
+    slice_index_or lists i [] ≡ 0 ∷ [] → BeginsWithZeroAlone lists
 begins_with_zero [] i valid rising h e = absurd (omega arith)
 begins_with_zero (first ∷ lists) zero valid rising h e = e
 begins_with_zero (first ∷ lists) (suc i) valid rising h e =
@@ -54,7 +58,8 @@ begins_with_zero (first ∷ lists) (suc i) valid rising h e =
     absurd (omega (arith, valid.0.some))
 
 -- a choice for each number below count, in a list
-pub picked : (P : ℕ → ℕ → Type 0) (count : ℕ) → ((i : ℕ) → i < count → (x : ℕ) × P i x) → (xs : List ℕ) × (length xs ≡ count) × ((i : ℕ) → i < count → P i (slice_index xs i))
+pub picked : (P : ℕ → ℕ → Type 0) (count : ℕ) → ((i : ℕ) → i < count → (x : ℕ) × P i x) → (xs : List ℕ) × (length xs ≡ count) ×
+    ((i : ℕ) → i < count → P i (slice_index xs i))
 picked P zero f = ([], refl, λ i h. absurd (omega arith))
 picked P (suc count) f =
     let before = picked P count (λ i h. f i (omega arith)) in
@@ -89,10 +94,12 @@ module _
     first_list class h = (determined.each (First class) (omega (arith, partition.first_row class h, partition.rows))).list
 
     class_place : (class : ℕ) → class < length firsts → slice_index class_places class < length sorted
-    class_place class h = subst (λ (n : ℕ). n < length sorted) (sym (of_classes.each class h)) (ranked.places.within (list_of automaton (First class)) (first_list class h))
+    class_place class h =
+        subst (λ (n : ℕ). n < length sorted) (sym (of_classes.each class h)) (ranked.places.within (list_of automaton (First class)) (first_list class h))
 
     -- the list at a class's place is that of its first row
-    place_list : (class : ℕ) → class < length firsts → slice_index_or sorted (slice_index class_places class) [] ≡ statuses_of automaton (list_of automaton (First class))
+    place_list : (class : ℕ) → class < length firsts → slice_index_or sorted (slice_index class_places class) [] ≡ statuses_of automaton
+        (list_of automaton (First class))
     place_list class h =
         ap (λ place. slice_index_or sorted place []) (of_classes.each class h) ∙ ranked.places.placed (list_of automaton (First class)) (first_list class h)
 
@@ -102,7 +109,8 @@ module _
     pub number_within : (class : ℕ) → class < length firsts → slice_index numbers (slice_index class_places class) < length lists
     number_within class h = numbered.within (slice_index class_places class) (class_place class h) (class_used class h)
 
-    number_list : (class : ℕ) → class < length firsts → slice_index_or lists (slice_index numbers (slice_index class_places class)) [] ≡ statuses_of automaton (list_of automaton (First class))
+    number_list : (class : ℕ) → class < length firsts → slice_index_or lists (slice_index numbers (slice_index class_places class)) [] ≡ statuses_of
+        automaton (list_of automaton (First class))
     number_list class h = numbered.same (slice_index class_places class) (class_place class h) (class_used class h) ∙ place_list class h
 
     -- each list is some class's
@@ -131,7 +139,8 @@ module _
         let class = named i h in
         let same : slice_index_or lists i [] ≡ statuses_of automaton (list_of automaton (First class.0)) =
         ap (λ k. slice_index_or lists k []) (sym class.1.1) ∙ number_list class.0 class.1.0 in
-        subst (λ (s : List ℕ). IsValidList s) (sym same) (index_by_lists IsValidList automaton.lists determined.lists (list_of automaton (First class.0)) (first_list class.0 class.1.0)))
+        subst (λ (s : List ℕ). IsValidList s) (sym same) (index_by_lists IsValidList automaton.lists determined.lists (list_of automaton (First class.0))
+        (first_list class.0 class.1.0)))
 
     module _
         (categories slashes : ℕ)
@@ -155,18 +164,31 @@ module _
             (ap (λ (head : RowHead). head.fronts) (have_heads.each class h))
             (ap (λ k. slice_index_or lists k []) (merged_list class h) ∙ number_list class h)
 
-        merged_next : (class category : ℕ) → class < length firsts → category < automaton.categories → step Merged class category ≡ slice_index classes (step automaton (First class) category)
+        merged_next : (class category : ℕ) → class < length firsts → category < automaton.categories → step Merged class category ≡ slice_index classes
+            (step automaton (First class) category)
         merged_next class category h k =
             ap (λ n. slice_index cells (class * n + category)) is_categories
             ∙ have_cells.each (class * automaton.categories + category) (cell_place class category h k)
-            ∙ ap (λ n. slice_index classes (step automaton (First n) ((class * automaton.categories + category) % automaton.categories))) (div-mul-add class automaton.categories category k)
+            ∙ ap (λ n. slice_index classes (step automaton (First n) ((class * automaton.categories + category) % automaton.categories)))
+            (div-mul-add class automaton.categories category k)
             ∙ ap (λ n. slice_index classes (step automaton (First class) n)) (mod-mul-add class automaton.categories category k)
           where
-            cell_place : (class category : ℕ) → class < length firsts → category < automaton.categories → class * automaton.categories + category < length firsts * automaton.categories
+            cell_place : (class category : ℕ) → class < length firsts → category < automaton.categories →
+                class * automaton.categories + category < length firsts * automaton.categories
             cell_place class category h k =
-                subst (λ (n : ℕ). class * automaton.categories + category < n) (mul_comm automaton.categories (length firsts)) (mul-add-lt class automaton.categories category (length firsts) h k)
+                subst (λ (n : ℕ). class * automaton.categories + category < n) (mul_comm automaton.categories (length firsts))
+                (mul-add-lt class automaton.categories category (length firsts) h k)
 
-        pub IsMerged-from_parts : IsMerged automaton classes firsts (record { categories = categories; slashes = slashes; ranges = []; lists = lists; rows = heads; cells = cells; safe = [] })
+        pub IsMerged-from_parts : IsMerged automaton classes firsts (record {
+          categories = categories;
+          slashes = slashes;
+          ranges = [];
+          lists = lists;
+          rows =
+              heads;
+          cells = cells;
+          safe = [];
+        })
         IsMerged-from_parts =
             let start : 0 < length firsts = omega (arith, partition.some) in
             let stop_list : statuses_of automaton (list_of automaton (First 0)) ≡ 0 ∷ [] =
@@ -181,7 +203,8 @@ module _
               few_lists = lists_few;
               list = λ class h. subst (λ (n : ℕ). n < length lists) (sym (merged_list class h)) (number_within class h);
               valid = lists_valid;
-              first_list = begins_with_zero lists (slice_index numbers (slice_index class_places 0)) lists_valid numbered.rising (number_within 0 start) (number_list 0 start ∙ stop_list);
+              first_list = begins_with_zero lists (slice_index numbers (slice_index class_places 0)) lists_valid numbered.rising (number_within 0 start)
+                  (number_list 0 start ∙ stop_list);
               in_order = AreInOrder-from_rising lists numbered.rising;
               named = λ list h.
                   let class = named list h in
@@ -189,21 +212,25 @@ module _
             }
 
 -- the same for lists that the code lends as slices
-pub numbered_as : (used lent_used : List Bool) (sorted lent_sorted : List (List ℕ)) (count : ℕ) (numbers : List ℕ) (lists : List (List ℕ)) → lent_used ≡ used → lent_sorted ≡ sorted → count ≡ length sorted →
+pub numbered_as : (used lent_used : List Bool) (sorted lent_sorted : List (List ℕ)) (count : ℕ) (numbers : List ℕ) (lists : List (List ℕ)) →
+    lent_used ≡ used → lent_sorted ≡ sorted → count ≡ length sorted →
     AreNumbered lent_used lent_sorted count numbers lists → AreNumbered used sorted (length sorted) numbers lists
 numbered_as used lent_used sorted lent_sorted count numbers lists u s n h =
     subst (λ (xs : List Bool). AreNumbered xs sorted (length sorted) numbers lists) u
     (subst (λ (xs : List (List ℕ)). AreNumbered lent_used xs (length sorted) numbers lists) s
     (subst (λ (k : ℕ). AreNumbered lent_used lent_sorted k numbers lists) n h))
 
-pub places_as : (automaton : Table) (places lent_places firsts lent_firsts class_places : List ℕ) → lent_places ≡ places → lent_firsts ≡ firsts → ArePlacesOf automaton lent_places lent_firsts class_places → ArePlacesOf automaton places firsts class_places
+pub places_as : (automaton : Table) (places lent_places firsts lent_firsts class_places : List ℕ) → lent_places ≡ places → lent_firsts ≡ firsts →
+    ArePlacesOf automaton lent_places lent_firsts class_places → ArePlacesOf automaton places firsts class_places
 places_as automaton places lent_places firsts lent_firsts class_places p f h =
     subst (λ (xs : List ℕ). ArePlacesOf automaton xs firsts class_places) p (subst (λ (xs : List ℕ). ArePlacesOf automaton lent_places xs class_places) f h)
 
 pub used_as : (class_places lent : List ℕ) (used : List Bool) → lent ≡ class_places → AreUsed lent used → AreUsed class_places used
 used_as class_places lent used e h = subst (λ (xs : List ℕ). AreUsed xs used) e h
 
-pub heads_as : (automaton : Table) (firsts class_places lent_places numbers lent_numbers : List ℕ) (heads : List RowHead) → lent_places ≡ class_places → lent_numbers ≡ numbers →
+pub heads_as : (automaton : Table) (firsts class_places lent_places numbers lent_numbers : List ℕ) (heads : List RowHead) → lent_places ≡ class_places →
+    lent_numbers ≡ numbers →
     HaveHeads automaton firsts lent_places lent_numbers (length firsts) heads → HaveHeads automaton firsts class_places numbers (length firsts) heads
 heads_as automaton firsts class_places lent_places numbers lent_numbers heads p n h =
-    subst (λ (xs : List ℕ). HaveHeads automaton firsts xs numbers (length firsts) heads) p (subst (λ (xs : List ℕ). HaveHeads automaton firsts lent_places xs (length firsts) heads) n h)
+    subst (λ (xs : List ℕ). HaveHeads automaton firsts xs numbers (length firsts) heads) p
+    (subst (λ (xs : List ℕ). HaveHeads automaton firsts lent_places xs (length firsts) heads) n h)

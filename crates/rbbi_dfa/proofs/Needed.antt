@@ -1,5 +1,6 @@
 -- How many rows a table needs: as many as there are classes.
-use Rattle.std.proofs.Common.{◌≡◌, ◌≢◌, ℕ, zero, suc, ◌+◌, ◌-◌, ◌<◌, ◌≤◌, true, false, ◌||◌, List, [], ◌∷◌, length, map, take, drop, get_or, eqb, ap, sym, ◌∙◌, subst, ⊎_elim, arith, add_comm, slice_index}
+use Rattle.std.proofs.Common.{◌≡◌, ◌≢◌, ℕ, zero, suc, ◌+◌, ◌-◌, ◌<◌, ◌≤◌, true, false, ◌||◌, List, [], ◌∷◌, length, map, take, drop, get_or, eqb, ap, sym}
+use Rattle.std.proofs.Common.{◌∙◌, subst, ⊎_elim, arith, add_comm, slice_index}
 use Rattle.std.specs.List.{AllByRecursion, list_any}
 use Rattle.std.proofs.lemmas.Bool.{cases_eq, cases_lt, cases_Bool, false≢true}
 use Rattle.std.proofs.lemmas.Bool.Decides.{Decides-eqb}
@@ -25,7 +26,8 @@ not_equal : (m n : ℕ) → m ≢ n → eqb m n ≡ false
 not_equal m n d = ⊎_elim (λ (y : eqb m n ≡ true). absurd (d ((Decides-eqb m n).0 y))) (λ (e : eqb m n ≡ false). e) (cases_Bool (eqb m n))
 
 -- Numbers that are given to the members of a list, each below count and each two different, are given to count members at most.
-pub length-le_from_numbered : (f : ℕ → ℕ) (count : ℕ) (xs : List ℕ) → AllByRecursion (λ x. f x < count) xs → ((i j : ℕ) → i < j → j < length xs → f (slice_index xs i) ≢ f (slice_index xs j)) → length xs ≤ count
+pub length-le_from_numbered : (f : ℕ → ℕ) (count : ℕ) (xs : List ℕ) → AllByRecursion (λ x. f x < count) xs →
+    ((i j : ℕ) → i < j → j < length xs → f (slice_index xs i) ≢ f (slice_index xs j)) → length xs ≤ count
 length-le_from_numbered f count xs below apart =
     omega (
       arith,
@@ -99,13 +101,15 @@ module _ (automaton : Table) (classes firsts : List ℕ) (determined : IsDetermi
             let j_class : j + 1 < length firsts = omega arith in
             subst (λ (k : ℕ). IsToldApart automaton k (get_or (take count (drop 1 firsts)) j d)) (sym (first_at i d (omega arith)))
             (subst (λ (k : ℕ). IsToldApart automaton (slice_index firsts (i + 1)) k) (sym (first_at j d (omega arith)))
-            (partition.apart (third (omega arith)) (slice_index firsts (i + 1)) (slice_index firsts (j + 1)) (partition.first_row (i + 1) i_class) (partition.first_row (j + 1) j_class)
+            (partition.apart (third (omega arith)) (slice_index firsts (i + 1)) (slice_index firsts (j + 1)) (partition.first_row (i + 1) i_class)
+            (partition.first_row (j + 1) j_class)
             (λ e. absurd (omega (arith, partition.first_class (i + 1) i_class, partition.first_class (j + 1) j_class)))));
       }
     where
       first_at : (i d : ℕ) → i < count → get_or (take count (drop 1 firsts)) i d ≡ slice_index firsts (i + 1)
       first_at i d h =
-          get_or-take count (drop 1 firsts) i d h ∙ get_or-drop 1 firsts i d ∙ ap (λ k. get_or firsts k d) (add_comm 1 i) ∙ get_or_default firsts (i + 1) d 0 (omega arith)
+          get_or-take count (drop 1 firsts) i d h ∙ get_or-drop 1 firsts i d ∙ ap (λ k. get_or firsts k d) (add_comm 1 i)
+          ∙ get_or_default firsts (i + 1) d 0 (omega arith)
 
   module _ (stable : IsStable automaton classes firsts) where
     next_row : (row category : ℕ) → row < length classes → category < automaton.categories → step automaton row category < length classes
@@ -113,26 +117,30 @@ module _ (automaton : Table) (classes firsts : List ℕ) (determined : IsDetermi
         subst (λ (n : ℕ). step automaton row category < n) (sym partition.rows) ((determined.each row (omega (arith, partition.rows))).next category k)
 
     -- rows of one class lead on to rows of one class
-    along : (this that : ℕ) (way : List ℕ) → this < length classes → that < length classes → IsWay automaton way → slice_index classes this ≡ slice_index classes that →
+    along : (this that : ℕ) (way : List ℕ) → this < length classes → that < length classes → IsWay automaton way →
+        slice_index classes this ≡ slice_index classes that →
         marks_of automaton (row_along automaton this way) ≡ marks_of automaton (row_along automaton that way)
     along this that [] h k w e =
         partition.alike this h ∙ ap (λ class. marks_of automaton (slice_index firsts class)) e ∙ sym (partition.alike that k)
     along this that (category ∷ way) h k w e =
         along (step automaton this category) (step automaton that category) way (next_row this category h w.0) (next_row that category k w.0) w.1
-        (stable this category h w.0 ∙ ap (λ class. slice_index classes (step automaton (slice_index firsts class) category)) e ∙ sym (stable that category k w.0))
+        (stable this category h w.0 ∙ ap (λ class. slice_index classes (step automaton (slice_index firsts class) category)) e
+        ∙ sym (stable that category k w.0))
 
     -- no more rows are needed than there are classes beside class 0
     pub NeedsRows-at_most : (count : ℕ) → NeedsRows automaton count → count < length firsts
     NeedsRows-at_most count needs =
         let few = length-le_from_numbered (λ row. slice_index classes row - 1) (length firsts - 1) needs.rows
-        (map_all (λ row. (row ≢ 0) × (row < length automaton.rows)) (λ row. slice_index classes row - 1 < length firsts - 1) (λ row h. below row h.0 h.1) needs.rows needs.are_rows)
+        (map_all (λ row. (row ≢ 0) × (row < length automaton.rows)) (λ row. slice_index classes row - 1 < length firsts - 1) (λ row h. below row h.0 h.1)
+        needs.rows needs.are_rows)
         (λ i j less h e.
         let this = index_by_all (λ row. (row ≢ 0) × (row < length automaton.rows)) needs.rows needs.are_rows i (omega arith) in
         let that = index_by_all (λ row. (row ≢ 0) × (row < length automaton.rows)) needs.rows needs.are_rows j h in
         let apart = needs.apart i j 0 less h in
         let same : slice_index classes (slice_index needs.rows i) ≡ slice_index classes (slice_index needs.rows j) =
         omega (arith, some (slice_index needs.rows i) this.0 this.1, some (slice_index needs.rows j) that.0 that.1) in
-        apart.2 (along (slice_index needs.rows i) (slice_index needs.rows j) apart.0 (omega (arith, this.1, partition.rows)) (omega (arith, that.1, partition.rows)) apart.1 same))
+        apart.2 (along (slice_index needs.rows i) (slice_index needs.rows j) apart.0 (omega (arith, this.1, partition.rows))
+        (omega (arith, that.1, partition.rows)) apart.1 same))
         in omega (arith, needs.many, partition.some)
       where
         some : (row : ℕ) → row ≢ 0 → row < length automaton.rows → 1 ≤ slice_index classes row

@@ -1,5 +1,6 @@
 -- Which positions can read the last code point of a word, from the first code point on.
-use Rattle.std.proofs.Common.{◌≡◌, ◌≢◌, ℕ, ◌+◌, ◌-◌, ◌≤◌, ◌⊎◌, true, List, [], ◌∷◌, ◌++◌, length, take, drop, sym, refl, ap, ◌∙◌, subst, inl, inr, ⊎_elim, arith}
+use Rattle.std.proofs.Common.{◌≡◌, ◌≢◌, ℕ, ◌+◌, ◌-◌, ◌≤◌, ◌⊎◌, true, List, [], ◌∷◌, ◌++◌, length, take, drop, sym, refl, ap, ◌∙◌, subst, inl, inr, ⊎_elim}
+use Rattle.std.proofs.Common.{arith}
 use Rattle.std.specs.Prelude.{slice_range}
 use Rattle.std.proofs.lemmas.Bool.{cases_lt}
 use Rattle.std.proofs.lemmas.List.{length_push, take_all, take_at, drop-append-le, length-take, length-drop}
@@ -17,14 +18,19 @@ ReadBy rules w position = BeginsToRead rules w position ⊎ IsChainedToRead rule
 -- how the positions of rules are first, last and follow each other, told by the words that they begin to read
 pub record ReadingLaws (rules : List Rule) (IsFirst IsLast IsFrontLast : ℕ → ℕ → Type 0) (Follows : ℕ → ℕ → ℕ → Type 0) : Type 0 where
   pub start : (number p c : ℕ) (rule : Rule) → IsRule rules number rule → IsFirst number p → Reads rules p c → ReadsLast rules number rule (c ∷ []) p
-  pub extend : (number other q p c : ℕ) (rule : Rule) (v : List ℕ) → IsRule rules number rule → ReadsLast rules number rule v q → Follows other q p → Reads rules p c → ReadsLast rules number rule (v ++ c ∷ []) p
+  pub extend : (number other q p c : ℕ) (rule : Rule) (v : List ℕ) → IsRule rules number rule → ReadsLast rules number rule v q → Follows other q p →
+      Reads rules p c → ReadsLast rules number rule (v ++ c ∷ []) p
   pub first : (number p c : ℕ) (rule : Rule) → IsRule rules number rule → ReadsLast rules number rule (c ∷ []) p → IsFirst number p
-  pub shrink : (number p c : ℕ) (rule : Rule) (v : List ℕ) → IsRule rules number rule → v ≢ [] → ReadsLast rules number rule (v ++ c ∷ []) p → (q : ℕ) × ReadsLast rules number rule v q × Follows number q p
+  pub shrink : (number p c : ℕ) (rule : Rule) (v : List ℕ) → IsRule rules number rule → v ≢ [] → ReadsLast rules number rule (v ++ c ∷ []) p →
+      (q : ℕ) × ReadsLast rules number rule v q × Follows number q p
   pub reads : (number p c : ℕ) (rule : Rule) (v : List ℕ) → IsRule rules number rule → ReadsLast rules number rule (v ++ c ∷ []) p → Reads rules p c
   pub word : (number : ℕ) (rule : Rule) (v : List ℕ) → IsRule rules number rule → IsWordOf rule v → (p : ℕ) × ReadsLast rules number rule v p × IsLast number p
-  pub whole : (number other p : ℕ) (rule : Rule) (v : List ℕ) → IsRule rules number rule → ReadsLast rules number rule v p → IsLast other p → (number ≡ other) × IsWordOf rule v
-  pub front_word : (number : ℕ) (rule : Rule) (v : List ℕ) → IsRule rules number rule → IsFrontWordOf rule v → (p : ℕ) × ReadsLast rules number rule v p × IsFrontLast number p
-  pub front_whole : (number other p : ℕ) (rule : Rule) (v : List ℕ) → IsRule rules number rule → ReadsLast rules number rule v p → IsFrontLast other p → (number ≡ other) × IsFrontWordOf rule v
+  pub whole : (number other p : ℕ) (rule : Rule) (v : List ℕ) → IsRule rules number rule → ReadsLast rules number rule v p → IsLast other p →
+      (number ≡ other) × IsWordOf rule v
+  pub front_word : (number : ℕ) (rule : Rule) (v : List ℕ) → IsRule rules number rule → IsFrontWordOf rule v → (p : ℕ) × ReadsLast rules number rule v p ×
+      IsFrontLast number p
+  pub front_whole : (number other p : ℕ) (rule : Rule) (v : List ℕ) → IsRule rules number rule → ReadsLast rules number rule v p → IsFrontLast other p →
+      (number ≡ other) × IsFrontWordOf rule v
 
 -- words by their last code point
 
@@ -57,14 +63,17 @@ some_push w c none = omega (arith, length_push w c, ap length none)
 pub ends_longer : (rules : List Rule) (w : List ℕ) (c m number : ℕ) → EndsAt rules w 0 m number → EndsAt rules (w ++ c ∷ []) 0 m number
 ends_longer rules w c m number ends =
     subst (λ e. EndsAt rules (w ++ c ∷ []) 0 e number) (let same : 0 + m ≡ m = omega arith in same)
-    (ends_from rules (w ++ c ∷ []) 0 (length w) (omega arith) (omega (arith, length_push w c)) m number (subst (λ v. EndsAt rules v 0 m number) (sym (front_piece w c)) ends))
+    (ends_from rules (w ++ c ∷ []) 0 (length w) (omega arith) (omega (arith, length_push w c)) m number
+    (subst (λ v. EndsAt rules v 0 m number) (sym (front_piece w c)) ends))
 
 pub ends_shorter : (rules : List Rule) (w : List ℕ) (c m number : ℕ) → m ≤ length w → EndsAt rules (w ++ c ∷ []) 0 m number → EndsAt rules w 0 m number
 ends_shorter rules w c m number short ends =
     subst (λ v. EndsAt rules v 0 m number) (front_piece w c)
-    (subst (λ e. EndsAt rules (slice_range (w ++ c ∷ []) 0 (length w)) 0 e number) (let same : m - 0 ≡ m = omega arith in same) (ends_to rules (w ++ c ∷ []) 0 (length w) (omega arith) (omega (arith, length_push w c)) m number short ends))
+    (subst (λ e. EndsAt rules (slice_range (w ++ c ∷ []) 0 (length w)) 0 e number) (let same : m - 0 ≡ m = omega arith in same)
+    (ends_to rules (w ++ c ∷ []) 0 (length w) (omega arith) (omega (arith, length_push w c)) m number short ends))
 
-module _ (rules : List Rule) (IsFirst IsLast IsFrontLast : ℕ → ℕ → Type 0) (Follows : ℕ → ℕ → ℕ → Type 0) (laws : ReadingLaws rules IsFirst IsLast IsFrontLast Follows) where
+module _ (rules : List Rule) (IsFirst IsLast IsFrontLast : ℕ → ℕ → Type 0) (Follows : ℕ → ℕ → ℕ → Type 0)
+    (laws : ReadingLaws rules IsFirst IsLast IsFrontLast Follows) where
   -- the position can come next after the word, without a chain there
   pub record ComesFirst (w : List ℕ) (p : ℕ) : Type 0 where
     pub none : w ≡ []
@@ -113,14 +122,30 @@ module _ (rules : List Rule) (IsFirst IsLast IsFrontLast : ℕ → ℕ → Type 
   begins_comes number p c rule w is_rule reads =
       ⊎_elim
       (λ none.
-      inl (record { none = none; number = number; rule = rule; is_rule = is_rule; first = laws.first number p c rule is_rule (subst (λ l. ReadsLast rules number rule l p) (push_nil w c none) reads) }))
+      inl (record {
+        none = none;
+        number = number;
+        rule = rule;
+        is_rule = is_rule;
+        first =
+            laws.first number p c rule is_rule (subst (λ l. ReadsLast rules number rule l p) (push_nil w c none) reads);
+      }))
       (λ some.
       let shorter = laws.shrink number p c rule w is_rule some reads in
-      inr (record { some = some; number = number; q = shorter.0; read = inl (record { number = number; rule = rule; is_rule = is_rule; reads = shorter.1 }); follows = shorter.2 }))
+      inr (record {
+        some = some;
+        number = number;
+        q = shorter.0;
+        read =
+            inl (record { number = number; rule = rule; is_rule = is_rule; reads = shorter.1 });
+        follows = shorter.2;
+      }))
       (cases_nil w)
 
   -- what a rule that is chained into before the last code point begins to read comes next
-  chained_comes : (number p c m before : ℕ) (rule : Rule) (w : List ℕ) → IsRule rules number rule → rule.chained_into ≡ true → EndsAt rules (w ++ c ∷ []) 0 m before → m ≤ length w → ReadsLast rules number rule (slice_range (w ++ c ∷ []) (m - 1) (length (w ++ c ∷ []))) p → Comes w p
+  chained_comes : (number p c m before : ℕ) (rule : Rule) (w : List ℕ) → IsRule rules number rule → rule.chained_into ≡ true →
+      EndsAt rules (w ++ c ∷ []) 0 m before → m ≤ length w → ReadsLast rules number rule (slice_range (w ++ c ∷ []) (m - 1) (length (w ++ c ∷ []))) p →
+      Comes w p
   chained_comes number p c m before rule w is_rule chained_into ends short reads =
       let lies = ends_lie rules (w ++ c ∷ []) 0 m before ends in
       let v : List ℕ = slice_range w (m - 1) (length w) in
@@ -131,7 +156,17 @@ module _ (rules : List Rule) (IsFirst IsLast IsFrontLast : ℕ → ℕ → Type 
         some = λ none. omega (arith, ap length none, lies.0);
         number = number;
         q = shorter.0;
-        read = inr (record { m = m; before = before; ends = ends_shorter rules w c m before short ends; number = number; rule = rule; is_rule = is_rule; chained_into = chained_into; reads = shorter.1 });
+        read = inr (record {
+          m = m;
+          before = before;
+          ends = ends_shorter rules w c m before short ends;
+          number = number;
+          rule = rule;
+          is_rule =
+              is_rule;
+          chained_into = chained_into;
+          reads = shorter.1;
+        });
         follows = shorter.2;
       })
 
@@ -140,15 +175,31 @@ module _ (rules : List Rule) (IsFirst IsLast IsFrontLast : ℕ → ℕ → Type 
   ends_now w c _ _ (Word e number rule is_rule piece) at =
       let same : slice_range (w ++ c ∷ []) 0 e ≡ w ++ c ∷ [] = ap (λ n. slice_range (w ++ c ∷ []) 0 n) at ∙ whole_piece (w ++ c ∷ []) in
       let read = laws.word number rule (w ++ c ∷ []) is_rule (subst (IsWordOf rule) same piece.word) in
-      record { number = number; q = read.0; comes = begins_comes number read.0 c rule w is_rule read.1; reads = laws.reads number read.0 c rule w is_rule read.1; last = read.2 }
+      record {
+        number = number;
+        q = read.0;
+        comes = begins_comes number read.0 c rule w is_rule read.1;
+        reads =
+            laws.reads number read.0 c rule w is_rule read.1;
+        last = read.2;
+      }
   ends_now w c _ _ (Chained m before e number rule ends is_rule chained_into piece) at =
       let lies = ends_lie rules (w ++ c ∷ []) 0 m before ends in
       ⊎_elim
       (λ less.
-      let same : slice_range (w ++ c ∷ []) (m - 1) e ≡ slice_range (w ++ c ∷ []) (m - 1) (length (w ++ c ∷ [])) = ap (λ n. slice_range (w ++ c ∷ []) (m - 1) n) at in
+      let same : slice_range (w ++ c ∷ []) (m - 1) e ≡ slice_range (w ++ c ∷ []) (m - 1) (length (w ++ c ∷ [])) =
+      ap (λ n. slice_range (w ++ c ∷ []) (m - 1) n) at in
       let read = laws.word number rule (slice_range (w ++ c ∷ []) (m - 1) (length (w ++ c ∷ []))) is_rule (subst (IsWordOf rule) same piece.word) in
-      let reads = laws.reads number read.0 c rule (slice_range w (m - 1) (length w)) is_rule (subst (λ l. ReadsLast rules number rule l read.0) (push_piece w c (m - 1) (omega (arith, length_push w c))) read.1) in
-      record { number = number; q = read.0; comes = chained_comes number read.0 c m before rule w is_rule chained_into ends (omega (arith, length_push w c)) read.1; reads = reads; last = read.2 })
+      let reads = laws.reads number read.0 c rule (slice_range w (m - 1) (length w)) is_rule
+      (subst (λ l. ReadsLast rules number rule l read.0) (push_piece w c (m - 1) (omega (arith, length_push w c))) read.1) in
+      record {
+        number = number;
+        q = read.0;
+        comes =
+            chained_comes number read.0 c m before rule w is_rule chained_into ends (omega (arith, length_push w c)) read.1;
+        reads = reads;
+        last = read.2;
+      })
       (λ more. ends_now w c m before ends (omega (arith, lies.1)))
       (cases_lt m (length (w ++ c ∷ [])))
 
@@ -157,13 +208,27 @@ module _ (rules : List Rule) (IsFirst IsLast IsFrontLast : ℕ → ℕ → Type 
   comes_reads w c p reads =
       ⊎_elim
       (λ first.
-      inl (record { number = first.number; rule = first.rule; is_rule = first.is_rule; reads = subst (λ l. ReadsLast rules first.number first.rule l p) (sym (push_nil w c first.none)) (laws.start first.number p c first.rule first.is_rule first.first reads) }))
+      inl (record {
+        number = first.number;
+        rule = first.rule;
+        is_rule = first.is_rule;
+        reads =
+            subst (λ l. ReadsLast rules first.number first.rule l p) (sym (push_nil w c first.none))
+            (laws.start first.number p c first.rule first.is_rule first.first reads);
+      }))
       (λ after.
       ⊎_elim
-      (λ begun. inl (record { number = begun.number; rule = begun.rule; is_rule = begun.is_rule; reads = laws.extend begun.number after.number after.q p c begun.rule w begun.is_rule begun.reads after.follows reads }))
+      (λ begun. inl (record {
+        number = begun.number;
+        rule = begun.rule;
+        is_rule = begun.is_rule;
+        reads =
+            laws.extend begun.number after.number after.q p c begun.rule w begun.is_rule begun.reads after.follows reads;
+      }))
       (λ chained.
       let lies = ends_lie rules w 0 chained.m chained.before chained.ends in
-      let reads' = laws.extend chained.number after.number after.q p c chained.rule (slice_range w (chained.m - 1) (length w)) chained.is_rule chained.reads after.follows reads in
+      let reads' = laws.extend chained.number after.number after.q p c chained.rule (slice_range w (chained.m - 1) (length w)) chained.is_rule chained.reads
+      after.follows reads in
       inr (record {
         m = chained.m;
         before = chained.before;
@@ -183,12 +248,14 @@ module _ (rules : List Rule) (IsFirst IsLast IsFrontLast : ℕ → ℕ → Type 
       (λ begun.
       let whole = laws.whole begun.number number p begun.rule w begun.is_rule begun.reads last in
       subst (λ n. EndsAt rules w 0 (length w) n) whole.0
-      (Word (length w) begun.number begun.rule begun.is_rule (record { starts = omega arith; ends = omega arith; word = subst (IsWordOf begun.rule) (sym (whole_piece w)) whole.1 })))
+      (Word (length w) begun.number begun.rule begun.is_rule
+      (record { starts = omega arith; ends = omega arith; word = subst (IsWordOf begun.rule) (sym (whole_piece w)) whole.1 })))
       (λ chained.
       let lies = ends_lie rules w 0 chained.m chained.before chained.ends in
       let whole = laws.whole chained.number number p chained.rule (slice_range w (chained.m - 1) (length w)) chained.is_rule chained.reads last in
       subst (λ n. EndsAt rules w 0 (length w) n) whole.0
-      (Chained chained.m chained.before (length w) chained.number chained.rule chained.ends chained.is_rule chained.chained_into (record { starts = omega (arith, lies.1); ends = omega arith; word = whole.1 })))
+      (Chained chained.m chained.before (length w) chained.number chained.rule chained.ends chained.is_rule chained.chained_into
+      (record { starts = omega (arith, lies.1); ends = omega arith; word = whole.1 })))
       read
 
   -- where a rule ends with the word, one of its last positions reads the last code point
@@ -199,8 +266,21 @@ module _ (rules : List Rule) (IsFirst IsLast IsFrontLast : ℕ → ℕ → Type 
       (read.0, inl (record { number = number; rule = rule; is_rule = is_rule; reads = read.1 }), read.2)
   ends_read_at w _ _ (Chained m before e number rule ends is_rule chained_into piece) at =
       let same : slice_range w (m - 1) e ≡ slice_range w (m - 1) (length w) = ap (λ n. slice_range w (m - 1) n) at in
-      let read = laws.word number rule (slice_range w (m - 1) (length w)) is_rule (subst (IsWordOf rule) same piece.word) in
-      (read.0, inr (record { m = m; before = before; ends = ends; number = number; rule = rule; is_rule = is_rule; chained_into = chained_into; reads = read.1 }), read.2)
+      let read = laws.word number rule (slice_range w (m - 1) (length w)) is_rule (subst (IsWordOf rule) same piece.word) in (
+        read.0,
+        inr (record {
+          m = m;
+          before = before;
+          ends = ends;
+          number = number;
+          rule = rule;
+          is_rule = is_rule;
+          chained_into = chained_into;
+          reads =
+              read.1;
+        }),
+        read.2,
+      )
 
   pub ends_read : (w : List ℕ) (number : ℕ) → EndsAt rules w 0 (length w) number → (p : ℕ) × ReadBy rules w p × IsLast number p
   ends_read w number ends = ends_read_at w (length w) number ends refl
@@ -213,8 +293,21 @@ module _ (rules : List Rule) (IsFirst IsLast IsFrontLast : ℕ → ℕ → Type 
       let read = laws.front_word number ends.rule w ends.is_rule (subst (IsFrontWordOf ends.rule) (whole_piece w) piece.word) in
       (read.0, inl (record { number = number; rule = ends.rule; is_rule = ends.is_rule; reads = read.1 }), read.2))
       (λ chained.
-      let read = laws.front_word number ends.rule (slice_range w (chained.m - 1) (length w)) ends.is_rule chained.piece.word in
-      (read.0, inr (record { m = chained.m; before = chained.before; ends = chained.ends; number = number; rule = ends.rule; is_rule = ends.is_rule; chained_into = chained.chained_into; reads = read.1 }), read.2))
+      let read = laws.front_word number ends.rule (slice_range w (chained.m - 1) (length w)) ends.is_rule chained.piece.word in (
+        read.0,
+        inr (record {
+          m = chained.m;
+          before = chained.before;
+          ends = chained.ends;
+          number = number;
+          rule = ends.rule;
+          is_rule =
+              ends.is_rule;
+          chained_into = chained.chained_into;
+          reads = read.1;
+        }),
+        read.2,
+      ))
       ends.front
 
   pub read_front : (w : List ℕ) (number p : ℕ) → ReadBy rules w p → IsFrontLast number p → FrontEndsAt rules w 0 (length w) number
@@ -223,7 +316,12 @@ module _ (rules : List Rule) (IsFirst IsLast IsFrontLast : ℕ → ℕ → Type 
       (λ begun.
       let whole = laws.front_whole begun.number number p begun.rule w begun.is_rule begun.reads last in
       subst (λ n. FrontEndsAt rules w 0 (length w) n) whole.0
-      (record { rule = begun.rule; is_rule = begun.is_rule; front = inl (record { starts = omega arith; ends = omega arith; word = subst (IsFrontWordOf begun.rule) (sym (whole_piece w)) whole.1 }) }))
+      (record {
+        rule = begun.rule;
+        is_rule = begun.is_rule;
+        front =
+            inl (record { starts = omega arith; ends = omega arith; word = subst (IsFrontWordOf begun.rule) (sym (whole_piece w)) whole.1 });
+      }))
       (λ chained.
       let lies = ends_lie rules w 0 chained.m chained.before chained.ends in
       let whole = laws.front_whole chained.number number p chained.rule (slice_range w (chained.m - 1) (length w)) chained.is_rule chained.reads last in
@@ -231,7 +329,14 @@ module _ (rules : List Rule) (IsFirst IsLast IsFrontLast : ℕ → ℕ → Type 
       (record {
         rule = chained.rule;
         is_rule = chained.is_rule;
-        front = inr (record { m = chained.m; before = chained.before; ends = chained.ends; chained_into = chained.chained_into; piece = record { starts = omega (arith, lies.1); ends = omega arith; word = whole.1 } });
+        front = inr (record {
+          m = chained.m;
+          before = chained.before;
+          ends = chained.ends;
+          chained_into = chained.chained_into;
+          piece =
+              record { starts = omega (arith, lies.1); ends = omega arith; word = whole.1 };
+        });
       }))
       read
 
@@ -239,17 +344,26 @@ module _ (rules : List Rule) (IsFirst IsLast IsFrontLast : ℕ → ℕ → Type 
   pub reads_next : (w : List ℕ) (c p : ℕ) → ReadBy rules (w ++ c ∷ []) p → ReadsNext w c p
   reads_next w c p =
       ⊎_elim
-      (λ begun. (laws.reads begun.number p c begun.rule w begun.is_rule begun.reads, inl (begins_comes begun.number p c begun.rule w begun.is_rule begun.reads)))
+      (λ begun. (
+        laws.reads begun.number p c begun.rule w begun.is_rule begun.reads,
+        inl
+            (begins_comes begun.number p c begun.rule w begun.is_rule begun.reads),
+      ))
       (λ chained.
       let lies = ends_lie rules (w ++ c ∷ []) 0 chained.m chained.before chained.ends in
       let long = length_push w c in
       ⊎_elim
       (λ less.
-      let reads = laws.reads chained.number p c chained.rule (slice_range w (chained.m - 1) (length w)) chained.is_rule (subst (λ l. ReadsLast rules chained.number chained.rule l p) (push_piece w c (chained.m - 1) (omega (arith, long))) chained.reads) in
-      (reads, inl (chained_comes chained.number p c chained.m chained.before chained.rule w chained.is_rule chained.chained_into chained.ends (omega (arith, long)) chained.reads)))
+      let reads = laws.reads chained.number p c chained.rule (slice_range w (chained.m - 1) (length w)) chained.is_rule
+      (subst (λ l. ReadsLast rules chained.number chained.rule l p) (push_piece w c (chained.m - 1) (omega (arith, long))) chained.reads) in (
+        reads,
+        inl (chained_comes chained.number p c chained.m chained.before chained.rule w chained.is_rule chained.chained_into chained.ends
+            (omega (arith, long)) chained.reads),
+      ))
       (λ more.
       let here : chained.m - 1 ≡ length w = omega (arith, long, lies.1) in
-      let one : slice_range (w ++ c ∷ []) (chained.m - 1) (length (w ++ c ∷ [])) ≡ c ∷ [] = ap (λ n. slice_range (w ++ c ∷ []) n (length (w ++ c ∷ []))) here ∙ last_piece w c in
+      let one : slice_range (w ++ c ∷ []) (chained.m - 1) (length (w ++ c ∷ [])) ≡ c ∷ [] = ap (λ n. slice_range (w ++ c ∷ []) n (length (w ++ c ∷ []))) here
+      ∙ last_piece w c in
       let read = subst (λ l. ReadsLast rules chained.number chained.rule l p) one chained.reads in (
         laws.reads chained.number p c chained.rule [] chained.is_rule read,
         inr (record {
@@ -267,10 +381,12 @@ module _ (rules : List Rule) (IsFirst IsLast IsFrontLast : ℕ → ℕ → Type 
       (λ comes. comes_reads w c p next.0 comes)
       (λ chained.
       let rule : Rule = chained.chained.rule in
-      let ends = read_ends (w ++ c ∷ []) chained.ends.number chained.ends.q (comes_reads w c chained.ends.q chained.ends.reads chained.ends.comes) chained.ends.last in
+      let ends = read_ends (w ++ c ∷ []) chained.ends.number chained.ends.q (comes_reads w c chained.ends.q chained.ends.reads chained.ends.comes)
+      chained.ends.last in
       let long = length_push w c in
       let here : length (w ++ c ∷ []) - 1 ≡ length w = omega (arith, long) in
-      let one : slice_range (w ++ c ∷ []) (length (w ++ c ∷ []) - 1) (length (w ++ c ∷ [])) ≡ c ∷ [] = ap (λ n. slice_range (w ++ c ∷ []) n (length (w ++ c ∷ []))) here ∙ last_piece w c in
+      let one : slice_range (w ++ c ∷ []) (length (w ++ c ∷ []) - 1) (length (w ++ c ∷ [])) ≡ c ∷ [] =
+      ap (λ n. slice_range (w ++ c ∷ []) n (length (w ++ c ∷ []))) here ∙ last_piece w c in
       inr (record {
         m = length (w ++ c ∷ []);
         before = chained.ends.number;
@@ -279,6 +395,7 @@ module _ (rules : List Rule) (IsFirst IsLast IsFrontLast : ℕ → ℕ → Type 
         rule = rule;
         is_rule = chained.chained.is_rule;
         chained_into = chained.chained.chained_into;
-        reads = subst (λ l. ReadsLast rules chained.number rule l p) (sym one) (laws.start chained.number p c rule chained.chained.is_rule chained.first next.0);
+        reads = subst (λ l. ReadsLast rules chained.number rule l p) (sym one)
+            (laws.start chained.number p c rule chained.chained.is_rule chained.first next.0);
       }))
       next.1

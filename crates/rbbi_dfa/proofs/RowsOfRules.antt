@@ -1,5 +1,6 @@
 -- The rows that are read off the marks of positions are those of the rules.
-use Rattle.std.proofs.Common.{◌≡◌, ℕ, zero, suc, ◌<◌, ◌≤◌, ◌↔◌, Bool, true, false, if◌then◌else◌, append_assoc, Option, Some, None, List, [], ◌∷◌, ◌++◌, length, get_or, sym, refl, ap, ◌∙◌, subst, ⊎_elim, arith}
+use Rattle.std.proofs.Common.{◌≡◌, ℕ, zero, suc, ◌<◌, ◌≤◌, ◌↔◌, Bool, true, false, if◌then◌else◌, append_assoc, Option, Some, None, List, [], ◌∷◌, ◌++◌}
+use Rattle.std.proofs.Common.{length, get_or, sym, refl, ap, ◌∙◌, subst, ⊎_elim, arith}
 use Rattle.std.specs.Prelude.{slice_get, sum_by, IsSome, unwrap_or}
 use Rattle.std.specs.List.{AllByRecursion}
 use Rattle.std.specs.Option.{option_map}
@@ -54,15 +55,18 @@ module _ (rules : List Rule) (categories : ℕ) (ranges : List CategoryRange) (m
       omega (arith, own.to, first_of_later rules number (length rules) own.rule own.is_rule (rule_within rules number own.rule own.is_rule), all, are.leaves)
 
   same_owner : (p this that : ℕ) → IsOfRule rules p this → IsOfRule rules p that → this ≡ that
-  same_owner p this that own own' = one_rule rules this that p own.rule own'.rule own.is_rule own'.is_rule (record { from = own.from; to = own.to }) (record { from = own'.from; to = own'.to })
+  same_owner p this that own own' = one_rule rules this that p own.rule own'.rule own.is_rule own'.is_rule (record { from = own.from; to = own.to })
+      (record { from = own'.from; to = own'.to })
 
   -- the marks of the position's rule
   mark_is : (p number : ℕ) (own : IsOfRule rules p number) → IsMarkedAs rules number own.rule (rule_mark marks p)
   mark_is p number own =
       let owner = are.owner p (leaf_short p number own) in
       let same = same_owner p number (get_or marks.owners p 0) own owner in
-      let short : get_or marks.owners p 0 < length marks.rules = omega (arith, are.rule_count, rule_within rules (get_or marks.owners p 0) owner.rule owner.is_rule) in
-      are.rule_marks number own.rule (rule_mark marks p) own.is_rule (ap (λ n. slice_get marks.rules n) same ∙ get_is marks.rules (get_or marks.owners p 0) no_rule short)
+      let short : get_or marks.owners p 0 < length marks.rules =
+      omega (arith, are.rule_count, rule_within rules (get_or marks.owners p 0) owner.rule owner.is_rule) in
+      are.rule_marks number own.rule (rule_mark marks p) own.is_rule (ap (λ n. slice_get marks.rules n) same
+      ∙ get_is marks.rules (get_or marks.owners p 0) no_rule short)
 
   first_own : (p number : ℕ) → FirstOf rules number p → IsOfRule rules p number
   first_own p number first = of_the_rule rules number p [] first.0 first.1
@@ -73,7 +77,8 @@ module _ (rules : List Rule) (categories : ℕ) (ranges : List CategoryRange) (m
   follows_own : (p q number : ℕ) → FollowsIn rules number p q → IsOfRule rules p number × IsOfRule rules q number
   follows_own p q number follows = (
     of_the_rule rules number p follows.0 (q ∷ follows.1) follows.2,
-    of_the_rule rules number q (follows.0 ++ p ∷ []) follows.1 (subst (λ l. IsSpelled rules number l) (sym (append_assoc follows.0 (p ∷ []) (q ∷ follows.1))) follows.2),
+    of_the_rule rules number q (follows.0 ++ p ∷ []) follows.1
+        (subst (λ l. IsSpelled rules number l) (sym (append_assoc follows.0 (p ∷ []) (q ∷ follows.1))) follows.2),
   )
 
   front_own : (p number : ℕ) (others : List ℕ) → IsFrontSpelled rules number (others ++ p ∷ []) → IsOfRule rules p number
@@ -101,8 +106,11 @@ module _ (rules : List Rule) (categories : ℕ) (ranges : List CategoryRange) (m
         let in_row = (is.1 p).0 holds in
         let both = and_parts (get_or marks.firsts p false) (rule_mark marks p).chained_into in_row.1 in
         let first = (are.first p in_row.0).0 both.0 in
-        let own = first_own p first.number (first.others, first.spelled) in
-        (first.number, record { rule = own.rule; is_rule = own.is_rule; chained_into = sym (mark_is p first.number own).chained_into ∙ both.1 }, (first.others, first.spelled)),
+        let own = first_own p first.number (first.others, first.spelled) in (
+          first.number,
+          record { rule = own.rule; is_rule = own.is_rule; chained_into = sym (mark_is p first.number own).chained_into ∙ both.1 },
+          (first.others, first.spelled),
+        ),
     λ (number, chained, first).
         let own = first_own p number first in
         let short = leaf_short p number own in
@@ -115,7 +123,8 @@ module _ (rules : List Rule) (categories : ℕ) (ranges : List CategoryRange) (m
         ),
   )
 
-  follow_rows_are : (rows : List (List ℕ)) → AreRowsBy marks (λ before. Follow before) marks.leaves rows → (p q : ℕ) → Holds (row_at rows p) q ↔ ((number : ℕ) × FollowsIn rules number p q)
+  follow_rows_are : (rows : List (List ℕ)) → AreRowsBy marks (λ before. Follow before) marks.leaves rows →
+      (p q : ℕ) → Holds (row_at rows p) q ↔ ((number : ℕ) × FollowsIn rules number p q)
   follow_rows_are rows by p q = (
     λ holds.
         ⊎_elim
@@ -129,7 +138,8 @@ module _ (rules : List Rule) (categories : ℕ) (ranges : List CategoryRange) (m
         let own = follows_own p q number follows in
         let short = leaf_short p number own.0 in
         let short' = leaf_short q number own.1 in
-        ((by.each p short).1 q).1 (short', (are.follows p q short short').1 (record { number = number; before = follows.0; after = follows.1; spelled = follows.2 })),
+        ((by.each p short).1 q).1
+        (short', (are.follows p q short short').1 (record { number = number; before = follows.0; after = follows.1; spelled = follows.2 })),
   )
 
   -- the status number of a rule, and its number among the look-ahead rules
@@ -157,7 +167,8 @@ module _ (rules : List Rule) (categories : ℕ) (ranges : List CategoryRange) (m
   choose true o mark holds is = is
   choose false o mark holds is = absurd (false≢true holds)
 
-  completed_are : (list : List PositionMark) → AreMarkedIn marks Completed list → (p mark : ℕ) → Marked list p mark ↔ ((number : ℕ) × LookAhead rules number × LastOf rules number p × (look_ahead_number rules number ≡ mark))
+  completed_are : (list : List PositionMark) → AreMarkedIn marks Completed list →
+      (p mark : ℕ) → Marked list p mark ↔ ((number : ℕ) × LookAhead rules number × LastOf rules number p × (look_ahead_number rules number ≡ mark))
   completed_are list in_list p mark = (
     λ has.
         let below = (in_list p mark).0 has in
@@ -172,12 +183,14 @@ module _ (rules : List Rule) (categories : ℕ) (ranges : List CategoryRange) (m
         let same = same_rule rules number looks.rule own.rule looks.is_rule own.is_rule in
         (in_list p mark).1 (
           short,
-          choose (get_or marks.lasts p false) (rule_mark marks p).slash mark ((are.last p short).1 (record { number = number; others = last.0; spelled = last.1 }))
+          choose (get_or marks.lasts p false) (rule_mark marks p).slash mark
+              ((are.last p short).1 (record { number = number; others = last.0; spelled = last.1 }))
               ((mark_is p number own).slash ∙ looks_slash number mark own.rule (subst LooksAhead same looks.looks_ahead) numbered),
         ),
   )
 
-  fronts_are : (list : List PositionMark) → AreMarkedIn marks Fronts list → (p mark : ℕ) → Marked list p mark ↔ ((number : ℕ) × FrontLastOf rules number p × (look_ahead_number rules number ≡ mark))
+  fronts_are : (list : List PositionMark) → AreMarkedIn marks Fronts list → (p mark : ℕ) → Marked list p mark ↔ ((number : ℕ) × FrontLastOf rules number p ×
+      (look_ahead_number rules number ≡ mark))
   unfolding front_own
   fronts_are list in_list p mark = (
     λ has.
@@ -185,20 +198,32 @@ module _ (rules : List Rule) (categories : ℕ) (ranges : List CategoryRange) (m
         let both = chosen (get_or marks.front_lasts p false) (rule_mark marks p).slash mark below.1 in
         let last = (are.front_last p below.0).0 both.0 in
         let own = front_own p last.number last.others last.spelled in
-        let looks = slash_looks last.number mark own.rule (sym (mark_is p last.number own).slash ∙ both.1) in
-        (last.number, record { rule = last.spelled.rule; is_rule = last.spelled.is_rule; looks_ahead = looks.0; others = last.others; spelled = last.spelled.spelled }, looks.1),
+        let looks = slash_looks last.number mark own.rule (sym (mark_is p last.number own).slash ∙ both.1) in (
+          last.number,
+          record {
+            rule = last.spelled.rule;
+            is_rule = last.spelled.is_rule;
+            looks_ahead = looks.0;
+            others = last.others;
+            spelled =
+                last.spelled.spelled;
+          },
+          looks.1,
+        ),
     λ (number, last, numbered).
         let spelled : IsFrontSpelled rules number (last.others ++ p ∷ []) = record { rule = last.rule; is_rule = last.is_rule; spelled = last.spelled } in
         let own = front_own p number last.others spelled in
         let short = leaf_short p number own in
         (in_list p mark).1 (
           short,
-          choose (get_or marks.front_lasts p false) (rule_mark marks p).slash mark ((are.front_last p short).1 (record { number = number; others = last.others; spelled = spelled }))
+          choose (get_or marks.front_lasts p false) (rule_mark marks p).slash mark
+              ((are.front_last p short).1 (record { number = number; others = last.others; spelled = spelled }))
               ((mark_is p number own).slash ∙ looks_slash number mark own.rule last.looks_ahead numbered),
         ),
   )
 
-  tags_are : (list : List PositionMark) → AreMarkedIn marks Tags list → (p mark : ℕ) → Marked list p mark ↔ ((number : ℕ) × LastOf rules number p × Tagged rules number mark)
+  tags_are : (list : List PositionMark) → AreMarkedIn marks Tags list →
+      (p mark : ℕ) → Marked list p mark ↔ ((number : ℕ) × LastOf rules number p × Tagged rules number mark)
   tags_are list in_list p mark = (
     λ has.
         let below = (in_list p mark).0 has in
@@ -212,7 +237,8 @@ module _ (rules : List Rule) (categories : ℕ) (ranges : List CategoryRange) (m
         let same = same_rule rules number own.rule tagged.rule own.is_rule tagged.is_rule in
         (in_list p mark).1 (
           short,
-          choose (get_or marks.lasts p false) (rule_mark marks p).tag mark ((are.last p short).1 (record { number = number; others = last.0; spelled = last.1 }))
+          choose (get_or marks.lasts p false) (rule_mark marks p).tag mark
+              ((are.last p short).1 (record { number = number; others = last.0; spelled = last.1 }))
               ((mark_is p number own).tag ∙ ap (λ (r : Rule). r.tag) same ∙ tagged.tagged),
         ),
   )
@@ -227,12 +253,24 @@ module _ (rules : List Rule) (categories : ℕ) (ranges : List CategoryRange) (m
 
   pub marks_small : AreLawful rules → (slashes : ℕ) → slashes ≡ length (look_aheads rules) → AreSmallMarks marks slashes
   marks_small lawful slashes many = record {
-    completed = λ p mark short is. let both = chosen (get_or marks.lasts p false) (rule_mark marks p).slash mark is in omega (arith, many, slash_small (get_or marks.owners p 0) mark p (are.owner p short) both.1);
-    fronts = λ p mark short is. let both = chosen (get_or marks.front_lasts p false) (rule_mark marks p).slash mark is in omega (arith, many, slash_small (get_or marks.owners p 0) mark p (are.owner p short) both.1);
+    completed = λ p mark short is. let both =
+        chosen (get_or marks.lasts p false) (rule_mark marks p).slash mark is in omega
+        (arith, many, slash_small (get_or marks.owners p 0) mark p (are.owner p short) both.1);
+    fronts = λ p mark short is. let both =
+        chosen (get_or marks.front_lasts p false) (rule_mark marks p).slash mark is in omega
+        (arith, many, slash_small (get_or marks.owners p 0) mark p (are.owner p short) both.1);
     tags = λ p mark short is.
         let both = chosen (get_or marks.lasts p false) (rule_mark marks p).tag mark is in
         let own = are.owner p short in
-        tag_small rules lawful mark (get_or marks.owners p 0, record { rule = own.rule; is_rule = own.is_rule; tagged = sym (mark_is p (get_or marks.owners p 0) own).tag ∙ both.1 });
+        tag_small rules lawful mark (
+          get_or marks.owners p 0,
+          record {
+            rule = own.rule;
+            is_rule = own.is_rule;
+            tagged =
+                sym (mark_is p (get_or marks.owners p 0) own).tag ∙ both.1;
+          },
+        );
   }
 
   module _ (valid : AreValidRanges categories ranges) (classes : AreClasses rules categories ranges) where
@@ -245,7 +283,8 @@ module _ (rules : List Rule) (categories : ℕ) (ranges : List CategoryRange) (m
         let alike = (classes.alike c d code code').0 same in
         (reads.0, reads.1, (all_get (λ set. Has set c ↔ Has set d) (all_sets rules) p reads.0 alike reads.1).0 reads.2)
 
-    reads_are : (rows : List (List ℕ)) → AreRowsBy marks (λ category. Read category) categories rows → (p c : ℕ) → IsCodePoint c → Holds (row_at rows (category_of ranges c)) p ↔ Reads rules p c
+    reads_are : (rows : List (List ℕ)) → AreRowsBy marks (λ category. Read category) categories rows → (p c : ℕ) → IsCodePoint c →
+        Holds (row_at rows (category_of ranges c)) p ↔ Reads rules p c
     reads_are rows by p c code =
         let category : ℕ = category_of ranges c in
         let within = category_within categories ranges c valid in (
@@ -266,7 +305,8 @@ module _ (rules : List Rule) (categories : ℕ) (ranges : List CategoryRange) (m
         (classes.none reads.c reads.code).0 reads.of
         (p, reads.reads.0, short, ap (λ o. unwrap_or o reads.reads.0) (sym (get_is (all_sets rules) p reads.reads.0 short) ∙ reads.reads.1), reads.reads.2)
 
-    pub rows_are_of_rules : (slashes : ℕ) (rows : PositionRows) → slashes ≡ length (look_aheads rules) → AreRowsOf marks categories slashes rows → IsOfRules rules ranges rows
+    pub rows_are_of_rules : (slashes : ℕ) (rows : PositionRows) → slashes ≡ length (look_aheads rules) → AreRowsOf marks categories slashes rows →
+        IsOfRules rules ranges rows
     rows_are_of_rules slashes rows many by =
         let same = by.categories_are in
         record {

@@ -1,5 +1,6 @@
 -- The rows that an automaton needs are words that the rules tell apart.
-use Rattle.std.proofs.Common.{◌≡◌, ◌≢◌, ℕ, zero, suc, ◌<◌, ◌≤◌, List, [], ◌∷◌, ◌++◌, length, map, get_or, refl, ap, sym, ◌∙◌, subst, ⊎_elim, arith, slice_index, slice_index_or}
+use Rattle.std.proofs.Common.{◌≡◌, ◌≢◌, ℕ, zero, suc, ◌<◌, ◌≤◌, List, [], ◌∷◌, ◌++◌, length, map, get_or, refl, ap, sym, ◌∙◌, subst, ⊎_elim, arith}
+use Rattle.std.proofs.Common.{slice_index, slice_index_or}
 use Rattle.std.specs.List.{AllByRecursion}
 use Rattle.std.proofs.lemmas.Bool.{cases_eq, cases_lt}
 use Rattle.std.proofs.lemmas.List.{length-map, map-append, get_or-map, get_or_default, get_or_append_left, get_or_push, length_push}
@@ -26,7 +27,8 @@ index_by_words P (x ∷ xs) h zero l = h.0
 index_by_words P (x ∷ xs) h (suc i) l = index_by_words P xs h.1 i (omega arith)
 
 -- a word for each number below count, in a list
-picked_words : (P : ℕ → List ℕ → Type 0) (count : ℕ) → ((i : ℕ) → i < count → (w : List ℕ) × P i w) → (ws : List (List ℕ)) × (length ws ≡ count) × ((i : ℕ) → i < count → P i (slice_index_or ws i []))
+picked_words : (P : ℕ → List ℕ → Type 0) (count : ℕ) → ((i : ℕ) → i < count → (w : List ℕ) × P i w) → (ws : List (List ℕ)) × (length ws ≡ count) ×
+    ((i : ℕ) → i < count → P i (slice_index_or ws i []))
 picked_words P zero f = ([], refl, λ i h. absurd (omega arith))
 picked_words P (suc count) f =
     let before = picked_words P count (λ i h. f i (omega arith)) in
@@ -39,7 +41,8 @@ picked_words P (suc count) f =
           i (omega arith),
     )
 
-pub row_along-ranges : (table : Table) (ranges : List CategoryRange) (row : ℕ) (way : List ℕ) → row_along (with_ranges table ranges) row way ≡ row_along table row way
+pub row_along-ranges : (table : Table) (ranges : List CategoryRange) (row : ℕ) (way : List ℕ) →
+    row_along (with_ranges table ranges) row way ≡ row_along table row way
 row_along-ranges table ranges row [] = refl
 row_along-ranges table ranges row (category ∷ way) = row_along-ranges table ranges (step table row category) way
 
@@ -80,7 +83,8 @@ module _
     pub row_of-append : (these those : List ℕ) → row_of (these ++ those) ≡ row_along automaton (row_of these) (map (category_of ranges) those)
     unfolding row_of
     row_of-append these those =
-        ap (λ way. row_along automaton 1 way) (map-append (category_of ranges) these those) ∙ row_along-append automaton 1 (map (category_of ranges) these) (map (category_of ranges) those)
+        ap (λ way. row_along automaton 1 way) (map-append (category_of ranges) these those) ∙ row_along-append automaton 1 (map (category_of ranges) these)
+        (map (category_of ranges) those)
 
     along_within : (row : ℕ) (way : List ℕ) → row < length automaton.rows → IsWay automaton way → row_along automaton row way < length automaton.rows
     along_within row [] h k = h
@@ -92,7 +96,8 @@ module _
 
     module _ (used : AreUsed automaton.categories ranges) where
       -- categories that lead to a row but row 0 are those of a word
-      word_along : (row : ℕ) (way : List ℕ) → row < length automaton.rows → IsWay automaton way → row_along automaton row way ≢ 0 → (w : List ℕ) × (IsWord w × (map (category_of ranges) w ≡ way))
+      word_along : (row : ℕ) (way : List ℕ) → row < length automaton.rows → IsWay automaton way → row_along automaton row way ≢ 0 → (w : List ℕ) ×
+          (IsWord w × (map (category_of ranges) w ≡ way))
       word_along row [] h k some = ([], (tt, refl))
       word_along row (zero ∷ way) h k some =
           absurd (some (ap (λ next. row_along automaton next way) (determined.each row h).unread ∙ stop_along automaton determined way k.1))
@@ -109,7 +114,8 @@ module _
           (w.0, (w.1.0, ap (λ xs. row_along automaton 1 xs) w.1.1 ∙ way.2))
 
       -- marks that differ along some categories differ after some word
-      rest_of : (this that : ℕ) → this < length automaton.rows → that < length automaton.rows → (apart : IsToldApart automaton this that) → (w : List ℕ) × (IsWord w × (map (category_of ranges) w ≡ apart.0))
+      rest_of : (this that : ℕ) → this < length automaton.rows → that < length automaton.rows → (apart : IsToldApart automaton this that) → (w : List ℕ) ×
+          (IsWord w × (map (category_of ranges) w ≡ apart.0))
       rest_of this that h k apart =
           ⊎_elim
           (λ (z : row_along automaton this apart.0 ≡ 0).

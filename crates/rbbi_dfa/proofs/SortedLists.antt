@@ -1,5 +1,6 @@
 -- Sorting lists of numbers and leaving each once.
-use Rattle.std.proofs.Common.{◌≡◌, ℕ, zero, suc, ◌+◌, ◌<◌, ◌≤◌, Bool, true, false, List, [], ◌∷◌, length, map, get_or, refl, ap, sym, ◌∙◌, subst, ◌⊎◌, inl, inr, ⊎_elim, arith, nat_eq, slice_index_or, Ordering}
+use Rattle.std.proofs.Common.{◌≡◌, ℕ, zero, suc, ◌+◌, ◌<◌, ◌≤◌, Bool, true, false, List, [], ◌∷◌, length, map, get_or, refl, ap, sym, ◌∙◌, subst, ◌⊎◌, inl}
+use Rattle.std.proofs.Common.{inr, ⊎_elim, arith, nat_eq, slice_index_or, Ordering}
 use Rattle.std.specs.declared.cmp.Ordering.TheVariants.{Less, Equal, Greater}
 use Rattle.std.specs.Ordering.{nat_cmp, ordering_then, ordering_index, is_lt, is_eq}
 use Rattle.std.specs.Cmp.Lexicographic.{slice_cmp, pointwise, on_texts_equal, texts_ties}
@@ -46,12 +47,14 @@ module _ {X : Type 0} (f : X → List ℕ) where
   abbrev Same : X → X → Bool
   Same x y = pointwise nat_eq (f x) (f y)
 
-  before_each : (x : X) (xs : List X) (j : ℕ) → AllByRecursion (λ y. Cmp x y ≡ Less) xs → j < length (map f xs) → IsBefore (f x) (slice_index_or (map f xs) j [])
+  before_each : (x : X) (xs : List X) (j : ℕ) → AllByRecursion (λ y. Cmp x y ≡ Less) xs → j < length (map f xs) →
+      IsBefore (f x) (slice_index_or (map f xs) j [])
   before_each x [] j h k = absurd (omega arith)
   before_each x (y ∷ xs) zero h k = IsBefore-from_less (f x) (f y) h.0
   before_each x (y ∷ xs) (suc j) h k = before_each x xs j h.1 (omega arith)
 
-  in_order : (xs : List X) → IsStrictlySortedBy Cmp xs → (i j : ℕ) → i < j → j < length (map f xs) → IsBefore (slice_index_or (map f xs) i []) (slice_index_or (map f xs) j [])
+  in_order : (xs : List X) → IsStrictlySortedBy Cmp xs → (i j : ℕ) → i < j → j < length (map f xs) → IsBefore (slice_index_or (map f xs) i [])
+      (slice_index_or (map f xs) j [])
   unfolding IsStrictlySortedBy
   in_order [] h i j l k = absurd (omega arith)
   in_order (x ∷ xs) h i zero l k = absurd (omega arith)
@@ -67,14 +70,16 @@ module _ {X : Type 0} (f : X → List ℕ) where
       let place = found.1 in
       (found.0, (suc place.0, omega (arith, place.1), place.2), found.2)
 
-  pub seen_at : (xs : List X) (k : ℕ) (x : X) (statuses : List ℕ) → k < length xs → get_or xs k x ≡ x → f x ≡ statuses → (k < length (map f xs)) × (get_or (map f xs) k statuses ≡ statuses)
+  pub seen_at : (xs : List X) (k : ℕ) (x : X) (statuses : List ℕ) → k < length xs → get_or xs k x ≡ x → f x ≡ statuses → (k < length (map f xs)) ×
+      (get_or (map f xs) k statuses ≡ statuses)
   seen_at [] k x statuses h e s = absurd (omega arith)
   seen_at (y ∷ xs) zero x statuses h e s = (omega arith, ap f e ∙ s)
   seen_at (y ∷ xs) (suc k) x statuses h e s =
       let found = seen_at xs k x statuses (omega arith) e s in
       (omega (arith, found.0), found.1)
 
-  pub AreSorted-from_sort : (lists : List (List ℕ)) (pushed sorted kept : List X) → map f pushed ≡ lists → IsPermutation pushed sorted → IsSorted Cmp sorted → kept ≡ dedup Same sorted → AreSorted lists (map f kept)
+  pub AreSorted-from_sort : (lists : List (List ℕ)) (pushed sorted kept : List X) → map f pushed ≡ lists → IsPermutation pushed sorted →
+      IsSorted Cmp sorted → kept ≡ dedup Same sorted → AreSorted lists (map f kept)
   AreSorted-from_sort lists pushed sorted kept of_lists moved rises e =
       subst (λ (xs : List X). AreSorted lists (map f xs)) (sym e) (record {
         rising = in_order (dedup Same sorted) (IsStrictlySortedBy-dedup (on_total f nat_list_cmp_total) (λ x y. texts_ties (f x) (f y)) sorted rises);
@@ -108,12 +113,14 @@ module _ {X : Type 0} (f : X → List ℕ) where
   equal_cmp x y e = sym (texts_ties (f x) (f y)) ∙ (bytes_eq-Decides (f x) (f y)).1 e
 
   -- what a search finds is the list that was searched for
-  pub found_is : (xs : List X) (x : X) (place : ℕ) → place < length xs → ((d : X) → Cmp (get_or xs place d) x ≡ Equal) → slice_index_or (map f xs) place [] ≡ f x
+  pub found_is : (xs : List X) (x : X) (place : ℕ) → place < length xs → ((d : X) → Cmp (get_or xs place d) x ≡ Equal) →
+      slice_index_or (map f xs) place [] ≡ f x
   found_is xs x place h e =
       at_map xs place x h ∙ (bytes_eq-Decides (f (get_or xs place x)) (f x)).0 (texts_ties (f (get_or xs place x)) (f x) ∙ ap is_eq (e x))
 
   -- a search for a list that is there finds one
-  pub found_some : (xs : List X) (x : X) (i : ℕ) → AreRising (map f xs) → Contains (map f xs) (f x) → (IsNonDecreasingBy (λ y. ordering_index (Cmp y x)) xs → IsPartitionPoint (λ y. Cmp y x ≡ Less) (λ y. Cmp y x ≡ Greater) xs i) → ⊥
+  pub found_some : (xs : List X) (x : X) (i : ℕ) → AreRising (map f xs) → Contains (map f xs) (f x) →
+      (IsNonDecreasingBy (λ y. ordering_index (Cmp y x)) xs → IsPartitionPoint (λ y. Cmp y x ≡ Less) (λ y. Cmp y x ≡ Greater) xs i) → ⊥
   found_some xs x i rising held h =
       let point = h (searchable_from_sorted nat_list_cmp_total f xs (f x) (sorted_by xs rising)) in
       let k = held.0 in

@@ -27,8 +27,10 @@ pub sets_many : (tree : Tree) → length (sets_of tree) ≡ leaf_count tree
 sets_many (Leaf set) = refl
 sets_many Empty = refl
 sets_many Never = refl
-sets_many (Then first rest) = length-append (sets_of first) (sets_of rest) ∙ ap (λ n. n + length (sets_of rest)) (sets_many first) ∙ ap (λ n. leaf_count first + n) (sets_many rest)
-sets_many (Either first rest) = length-append (sets_of first) (sets_of rest) ∙ ap (λ n. n + length (sets_of rest)) (sets_many first) ∙ ap (λ n. leaf_count first + n) (sets_many rest)
+sets_many (Then first rest) = length-append (sets_of first) (sets_of rest) ∙ ap (λ n. n + length (sets_of rest)) (sets_many first)
+    ∙ ap (λ n. leaf_count first + n) (sets_many rest)
+sets_many (Either first rest) = length-append (sets_of first) (sets_of rest) ∙ ap (λ n. n + length (sets_of rest)) (sets_many first)
+    ∙ ap (λ n. leaf_count first + n) (sets_many rest)
 sets_many (Repeat repetition part) = sets_many part
 
 -- two lists that match, in parts
@@ -73,15 +75,18 @@ module _ (all : List (List Range)) where
   abbrev pub SpelledBy : Tree → ℕ → List ℕ → Type 0
   SpelledBy tree first w = (positions : List ℕ) × SpellsPositions tree first positions × AllZip ReadsIn positions w
 
-  pieces_to : (part : Tree) (first : ℕ) → ((w : List ℕ) → Spells part w → SpelledBy part first w) → (pieces : List (List ℕ)) → AllByRecursion (Spells part) pieces →
-      (those : List (List ℕ)) × (length those ≡ length pieces) × AllByRecursion (SpellsPositions part first) those × AllZip ReadsIn (joined those) (joined pieces)
+  pieces_to : (part : Tree) (first : ℕ) → ((w : List ℕ) → Spells part w → SpelledBy part first w) → (pieces : List (List ℕ)) →
+      AllByRecursion (Spells part) pieces →
+      (those : List (List ℕ)) × (length those ≡ length pieces) × AllByRecursion (SpellsPositions part first) those ×
+      AllZip ReadsIn (joined those) (joined pieces)
   pieces_to part first to [] each = ([], refl, tt, tt)
   pieces_to part first to (piece ∷ pieces) each =
       let one = to piece each.0 in
       let rest = pieces_to part first to pieces each.1 in
       (one.0 ∷ rest.0, ap (λ n. suc n) rest.1, (one.1, rest.2), zip_append ReadsIn one.0 (joined rest.0) piece (joined pieces) one.2 rest.3)
 
-  pieces_from : (part : Tree) (first : ℕ) → ((positions w : List ℕ) → SpellsPositions part first positions → AllZip ReadsIn positions w → Spells part w) → (those : List (List ℕ)) (w : List ℕ) → AllByRecursion (SpellsPositions part first) those → AllZip ReadsIn (joined those) w →
+  pieces_from : (part : Tree) (first : ℕ) → ((positions w : List ℕ) → SpellsPositions part first positions → AllZip ReadsIn positions w → Spells part w) →
+      (those : List (List ℕ)) (w : List ℕ) → AllByRecursion (SpellsPositions part first) those → AllZip ReadsIn (joined those) w →
       (pieces : List (List ℕ)) × (length pieces ≡ length those) × AllByRecursion (Spells part) pieces × (w ≡ joined pieces)
   pieces_from part first from [] [] each z = ([], refl, tt, refl)
   pieces_from part first from [] (c ∷ w) each z = absurd z
@@ -105,17 +110,27 @@ module _ (all : List (List Range)) where
   spelled_to Never first stands w spells = absurd spells
   spelled_to (Then front rest) first stands w (u, v, left, right, same) =
       let one = spelled_to front first (stands_left first (sets_of front) (sets_of rest) stands) u left in
-      let two = spelled_to rest (first + leaf_count front) (stands_right first (leaf_count front) (sets_of front) (sets_of rest) (sets_many front) stands) v right in
-      (one.0 ++ two.0, (one.0, two.0, one.1, two.1, refl), subst (λ l. AllZip ReadsIn (one.0 ++ two.0) l) (sym same) (zip_append ReadsIn one.0 two.0 u v one.2 two.2))
+      let two = spelled_to rest (first + leaf_count front) (stands_right first (leaf_count front) (sets_of front) (sets_of rest) (sets_many front) stands) v
+      right in (
+        one.0 ++ two.0,
+        (one.0, two.0, one.1, two.1, refl),
+        subst (λ l. AllZip ReadsIn (one.0 ++ two.0) l) (sym same)
+            (zip_append ReadsIn one.0 two.0 u v one.2 two.2),
+      )
   spelled_to (Either front rest) first stands w (inl left) =
       let one = spelled_to front first (stands_left first (sets_of front) (sets_of rest) stands) w left in
       (one.0, inl one.1, one.2)
   spelled_to (Either front rest) first stands w (inr right) =
-      let two = spelled_to rest (first + leaf_count front) (stands_right first (leaf_count front) (sets_of front) (sets_of rest) (sets_many front) stands) w right in
+      let two = spelled_to rest (first + leaf_count front) (stands_right first (leaf_count front) (sets_of front) (sets_of rest) (sets_many front) stands) w
+      right in
       (two.0, inr two.1, two.2)
   spelled_to (Repeat repetition part) first stands w (pieces, allows, each, same) =
-      let those = pieces_to part first (spelled_to part first stands) pieces each in
-      (joined those.0, (those.0, allows_same repetition pieces those.0 (sym those.1) allows, those.2, refl), subst (λ l. AllZip ReadsIn (joined those.0) l) (sym same) those.3)
+      let those = pieces_to part first (spelled_to part first stands) pieces each in (
+        joined those.0,
+        (those.0, allows_same repetition pieces those.0 (sym those.1) allows, those.2, refl),
+        subst (λ l. AllZip ReadsIn (joined those.0) l)
+            (sym same) those.3,
+      )
 
   leaf_from : (set : List Range) (first : ℕ) (w : List ℕ) → StandsAt first (set ∷ []) → AllZip ReadsIn (first ∷ []) w → Spells (Leaf set) w
   leaf_from set first [] stands z = absurd z
@@ -129,7 +144,8 @@ module _ (all : List (List Range)) where
   empty_from [] z = refl
   empty_from (c ∷ w) z = absurd z
 
-  pub spelled_from : (tree : Tree) (first : ℕ) → StandsAt first (sets_of tree) → (positions w : List ℕ) → SpellsPositions tree first positions → AllZip ReadsIn positions w → Spells tree w
+  pub spelled_from : (tree : Tree) (first : ℕ) → StandsAt first (sets_of tree) → (positions w : List ℕ) → SpellsPositions tree first positions →
+      AllZip ReadsIn positions w → Spells tree w
   spelled_from (Leaf set) first stands positions w spells z = leaf_from set first w stands (subst (λ l. AllZip ReadsIn l w) spells z)
   spelled_from Empty first stands positions w spells z = empty_from w (subst (λ l. AllZip ReadsIn l w) spells z)
   spelled_from Never first stands positions w spells z = absurd spells
@@ -138,13 +154,15 @@ module _ (all : List (List Range)) where
         parts.front,
         parts.back,
         spelled_from front first (stands_left first (sets_of front) (sets_of rest) stands) u parts.front left parts.first,
-        spelled_from rest (first + leaf_count front) (stands_right first (leaf_count front) (sets_of front) (sets_of rest) (sets_many front) stands) v parts.back right parts.second,
+        spelled_from rest (first + leaf_count front) (stands_right first (leaf_count front) (sets_of front) (sets_of rest) (sets_many front) stands) v
+            parts.back right parts.second,
         parts.whole,
       )
   spelled_from (Either front rest) first stands positions w (inl left) z =
       inl (spelled_from front first (stands_left first (sets_of front) (sets_of rest) stands) positions w left z)
   spelled_from (Either front rest) first stands positions w (inr right) z =
-      inr (spelled_from rest (first + leaf_count front) (stands_right first (leaf_count front) (sets_of front) (sets_of rest) (sets_many front) stands) positions w right z)
+      inr (spelled_from rest (first + leaf_count front) (stands_right first (leaf_count front) (sets_of front) (sets_of rest) (sets_many front) stands)
+      positions w right z)
   spelled_from (Repeat repetition part) first stands positions w (those, allows, each, same) z =
       let pieces = pieces_from part first (spelled_from part first stands) those w each (subst (λ l. AllZip ReadsIn l w) same z) in
       (pieces.0, allows_same repetition those pieces.0 (sym pieces.1) allows, pieces.2, pieces.3)
@@ -153,10 +171,12 @@ module _ (all : List (List Range)) where
 
 fold_sum : (rules : List Rule) (a b : ℕ) → fold (λ n rule. n + leaves_of rule) (a + b) rules ≡ a + fold (λ n rule. n + leaves_of rule) b rules
 fold_sum [] a b = refl
-fold_sum (rule ∷ rules) a b = ap (λ n. fold (λ n rule. n + leaves_of rule) n rules) (let e : a + b + leaves_of rule ≡ a + (b + leaves_of rule) = omega arith in e) ∙ fold_sum rules a (b + leaves_of rule)
+fold_sum (rule ∷ rules) a b = ap (λ n. fold (λ n rule. n + leaves_of rule) n rules) (let e : a + b + leaves_of rule ≡ a + (b + leaves_of rule) =
+    omega arith in e) ∙ fold_sum rules a (b + leaves_of rule)
 
 sum_cons : (rule : Rule) (rules : List Rule) → sum_by leaves_of (rule ∷ rules) ≡ leaves_of rule + sum_by leaves_of rules
-sum_cons rule rules = ap (λ n. fold (λ n rule. n + leaves_of rule) n rules) (let e : 0 + leaves_of rule ≡ leaves_of rule + 0 = omega arith in e) ∙ fold_sum rules (leaves_of rule) 0
+sum_cons rule rules = ap (λ n. fold (λ n rule. n + leaves_of rule) n rules) (let e : 0 + leaves_of rule ≡ leaves_of rule + 0 = omega arith in e)
+    ∙ fold_sum rules (leaves_of rule) 0
 
 rest_many : (rest : Option Tree) → length (option_map_or sets_of rest []) ≡ option_map_or leaf_count rest 0
 rest_many None = refl
@@ -167,7 +187,8 @@ rule_sets_many rule =
     length-append (sets_of rule.front) (option_map_or sets_of rule.rest []) ∙ ap (λ n. n + length (option_map_or sets_of rule.rest [])) (sets_many rule.front)
     ∙ ap (λ n. leaf_count rule.front + n) (rest_many rule.rest)
 
-pub rule_stands : (rules : List Rule) (number : ℕ) (rule : Rule) → IsRule rules number rule → StandsAt (all_sets rules) (first_position rules number) (sets_of_rule rule)
+pub rule_stands : (rules : List Rule) (number : ℕ) (rule : Rule) → IsRule rules number rule → StandsAt (all_sets rules) (first_position rules number)
+    (sets_of_rule rule)
 rule_stands [] number rule is_rule i short = absurd (cc)
 rule_stands (other ∷ rules) zero rule is_rule i short =
     let same : other ≡ rule = ap (λ o. unwrap_or o rule) is_rule in

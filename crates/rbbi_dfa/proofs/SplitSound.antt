@@ -1,5 +1,6 @@
 -- A split of a partition is a partition, whatever was split by.
-use Rattle.std.proofs.Common.{◌≡◌, ◌≢◌, ℕ, ◌+◌, ◌<◌, ◌≤◌, Bool, true, false, List, [], ◌∷◌, ◌++◌, length, refl, ap, sym, ◌∙◌, subst, inl, inr, ⊎_elim, arith, slice_index}
+use Rattle.std.proofs.Common.{◌≡◌, ◌≢◌, ℕ, ◌+◌, ◌<◌, ◌≤◌, Bool, true, false, List, [], ◌∷◌, ◌++◌, length, refl, ap, sym, ◌∙◌, subst, inl, inr, ⊎_elim, arith}
+use Rattle.std.proofs.Common.{slice_index}
 use Rattle.std.proofs.lemmas.List.{get_or_append_left, get_or_push, length_push}
 use Rattle.std.proofs.lemmas.Bool.{cases_eq}
 use Rattle.rbbi_model.specs.Tables.{Table, step}
@@ -9,7 +10,8 @@ use Rattle.rbbi_dfa.specs.Partitions.{IsPartition, IsToldApart, AreSides, Leaves
 use Rattle.rbbi_dfa.proofs.Splits.{IsMoved, IsSplitUpTo, IsSplitUpTo-same}
 
 -- rows that lead by one category to rows that are told apart are told apart
-pub IsToldApart-step : (automaton : Table) (this that category : ℕ) → category < automaton.categories → IsToldApart automaton (step automaton this category) (step automaton that category) → IsToldApart automaton this that
+pub IsToldApart-step : (automaton : Table) (this that category : ℕ) → category < automaton.categories → IsToldApart automaton (step automaton this category)
+    (step automaton that category) → IsToldApart automaton this that
 IsToldApart-step automaton this that category h apart = (category ∷ apart.0, (h, apart.1), apart.2)
 
 -- of a test that isn't on one side, it is on the other
@@ -50,15 +52,19 @@ module _
         ((determined.each row (subst (λ n. row < n) partition.rows h)).next category is_category)
 
     -- rows that lead to different sides lead to rows of different classes
-    apart_by_sides : (this that : ℕ) → this < length classes → that < length classes → Side this ≢ Side that → slice_index classes (step automaton this category) ≢ slice_index classes (step automaton that category)
+    apart_by_sides : (this that : ℕ) → this < length classes → that < length classes → Side this ≢ Side that →
+        slice_index classes (step automaton this category) ≢ slice_index classes (step automaton that category)
     apart_by_sides this that h k differ e = differ (sides (step automaton this category) (step automaton that category) (next_row this h) (next_row that k) e)
 
-    split_by_sides : 3 ≤ length automaton.rows → (this that : ℕ) → this < length classes → that < length classes → Side this ≢ Side that → IsToldApart automaton this that
+    split_by_sides : 3 ≤ length automaton.rows → (this that : ℕ) → this < length classes → that < length classes → Side this ≢ Side that →
+        IsToldApart automaton this that
     split_by_sides many this that h k differ =
         IsToldApart-step automaton this that category is_category
-        (partition.apart many (step automaton this category) (step automaton that category) (next_row this h) (next_row that k) (apart_by_sides this that h k differ))
+        (partition.apart many (step automaton this category) (step automaton that category) (next_row this h) (next_row that k)
+        (apart_by_sides this that h k differ))
 
-    left_apart : 3 ≤ length automaton.rows → (this that : ℕ) → this < length classes → that < length classes → Goes this → ¬ Goes that → IsToldApart automaton this that
+    left_apart : 3 ≤ length automaton.rows → (this that : ℕ) → this < length classes → that < length classes → Goes this → ¬ Goes that →
+        IsToldApart automaton this that
     left_apart many this that h k goes stays =
         ⊎_elim
         (λ (e : slice_index classes that ≡ class).
@@ -70,14 +76,16 @@ module _
     apart_sym : (this that : ℕ) → IsToldApart automaton this that → IsToldApart automaton that this
     apart_sym this that apart = (apart.0, apart.1, λ e. apart.2 (sym e))
 
-    moved_apart : 3 ≤ length automaton.rows → (this that m n : ℕ) → this < length classes → that < length classes → Moved this m → Moved that n → m ≢ n → IsToldApart automaton this that
+    moved_apart : 3 ≤ length automaton.rows → (this that m n : ℕ) → this < length classes → that < length classes → Moved this m → Moved that n → m ≢ n →
+        IsToldApart automaton this that
     moved_apart many this that m n h k (inl (goes, e)) (inl (also, f)) differ = absurd (differ (e ∙ sym f))
     moved_apart many this that m n h k (inl (goes, e)) (inr (stays, f)) differ = left_apart many this that h k goes stays
     moved_apart many this that m n h k (inr (stays, e)) (inl (goes, f)) differ = apart_sym that this (left_apart many that this k h goes stays)
     moved_apart many this that m n h k (inr (stays, e)) (inr (also, f)) differ =
         partition.apart many this that h k (λ same. differ (e ∙ same ∙ sym f))
 
-    moved_sides : (this that m n : ℕ) → this < length classes → that < length classes → Moved this m → Moved that n → m ≡ n → slice_index classes this ≡ slice_index classes that
+    moved_sides : (this that m n : ℕ) → this < length classes → that < length classes → Moved this m → Moved that n → m ≡ n →
+        slice_index classes this ≡ slice_index classes that
     moved_sides this that m n h k (inl (goes, e)) (inl (also, f)) same = goes.0 ∙ sym also.0
     moved_sides this that m n h k (inl (goes, e)) (inr (stays, f)) same = absurd (omega (arith, partition.within that k))
     moved_sides this that m n h k (inr (stays, e)) (inl (goes, f)) same = absurd (omega (arith, partition.within this h))
@@ -93,7 +101,8 @@ module _
             let this_row : this < length classes = omega (arith, split.length_is) in
             let that_row : that < length classes = omega (arith, split.length_is) in
             sides this that this_row that_row
-            (moved_sides this that (slice_index after this) (slice_index after that) this_row that_row (split.each this this_row) (split.each that that_row) same)
+            (moved_sides this that (slice_index after this) (slice_index after that) this_row that_row (split.each this this_row) (split.each that that_row)
+            same)
 
         module _ (some : 0 < left) where
           leaver_row : leaver < length classes
@@ -111,7 +120,8 @@ module _
           pub first_last : (k : ℕ) → k ≡ length firsts → slice_index (firsts ++ leaver ∷ []) k ≡ leaver
           first_last k e = get_or_push firsts leaver 0 k (sym e)
 
-          first_cases : (P : ℕ → ℕ → Type 0) → ((k : ℕ) → k < length firsts → P k (slice_index firsts k)) → P (length firsts) leaver → (k : ℕ) → k < length (firsts ++ leaver ∷ []) → P k (slice_index (firsts ++ leaver ∷ []) k)
+          first_cases : (P : ℕ → ℕ → Type 0) → ((k : ℕ) → k < length firsts → P k (slice_index firsts k)) → P (length firsts) leaver →
+              (k : ℕ) → k < length (firsts ++ leaver ∷ []) → P k (slice_index (firsts ++ leaver ∷ []) k)
           first_cases P old new k h =
               ⊎_elim
               (λ (e : k ≡ length firsts). subst (λ row. P k row) (sym (first_last k e)) (subst (λ n. P n leaver) (sym e) new))
@@ -179,11 +189,13 @@ module _
             apart = λ many this that h k.
                 let this_row : this < length classes = omega (arith, split.length_is) in
                 let that_row : that < length classes = omega (arith, split.length_is) in
-                moved_apart many this that (slice_index after this) (slice_index after that) this_row that_row (split.each this this_row) (split.each that that_row);
+                moved_apart many this that (slice_index after this) (slice_index after that) this_row that_row (split.each this this_row)
+                (split.each that that_row);
           }
 
 -- the partition that the code leaves, by the values that it has
-pub partition_after : (automaton : Table) (classes firsts : List ℕ) (inside : List Bool) (class category : ℕ) (first : ℕ) (stays : Bool) (new row : ℕ) (after : List ℕ) (left leaver : ℕ) (more : List ℕ) →
+pub partition_after : (automaton : Table) (classes firsts : List ℕ) (inside : List Bool) (class category : ℕ) (first : ℕ) (stays : Bool) (new row : ℕ)
+    (after : List ℕ) (left leaver : ℕ) (more : List ℕ) →
     IsDetermined automaton → IsPartition automaton classes firsts → AreSides classes inside → class < length firsts → category < automaton.categories →
     first ≡ slice_index firsts class → stays ≡ leads_inside automaton inside category first → new ≡ length firsts → row ≡ length classes →
     IsSplitUpTo automaton classes inside class category stays new row after left leaver → 0 < left → more ≡ firsts ++ leaver ∷ [] →
@@ -198,8 +210,11 @@ partition_after automaton classes firsts inside class category first stays new r
     )
 
 -- where none left, no row leads to the other side
-pub none_leave : (automaton : Table) (classes firsts : List ℕ) (inside : List Bool) (class category : ℕ) (first : ℕ) (stays : Bool) (new row : ℕ) (after : List ℕ) (left leaver : ℕ) →
-    first ≡ slice_index firsts class → stays ≡ leads_inside automaton inside category first → IsSplitUpTo automaton classes inside class category stays new row after left leaver → left ≡ 0 →
-    (k : ℕ) → k < row → slice_index classes k ≡ class → leads_inside automaton inside category k ≢ leads_inside automaton inside category (slice_index firsts class) → ⊥
+pub none_leave : (automaton : Table) (classes firsts : List ℕ) (inside : List Bool) (class category : ℕ) (first : ℕ) (stays : Bool) (new row : ℕ)
+    (after : List ℕ) (left leaver : ℕ) →
+    first ≡ slice_index firsts class → stays ≡ leads_inside automaton inside category first → IsSplitUpTo automaton classes inside class category stays new
+    row after left leaver → left ≡ 0 →
+    (k : ℕ) → k < row → slice_index classes k ≡ class → leads_inside automaton inside category k ≢ leads_inside automaton inside category
+    (slice_index firsts class) → ⊥
 none_leave automaton classes firsts inside class category first stays new row after left leaver is_first is_stays h none k l of_class differ =
     h.none none k l (of_class, λ e. differ (e ∙ is_stays ∙ ap (λ n. leads_inside automaton inside category n) is_first))

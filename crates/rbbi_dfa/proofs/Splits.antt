@@ -1,5 +1,6 @@
 -- A split of a class: what it leaves, row by row, and that it is sound.
-use Rattle.std.proofs.Common.{◌≡◌, ℕ, ◌+◌, ◌<◌, ◌≤◌, Bool, true, false, List, [], ◌∷◌, ◌++◌, length, refl, ap, sym, ◌∙◌, subst, ◌⊎◌, inl, inr, arith, IsTrue, ◌↔◌, slice_index}
+use Rattle.std.proofs.Common.{◌≡◌, ℕ, ◌+◌, ◌<◌, ◌≤◌, Bool, true, false, List, [], ◌∷◌, ◌++◌, length, refl, ap, sym, ◌∙◌, subst, ◌⊎◌, inl, inr, arith, IsTrue}
+use Rattle.std.proofs.Common.{◌↔◌, slice_index}
 use Rattle.std.proofs.lemmas.List.{get_or_append_left, get_or_push, length_push}
 use Rattle.std.proofs.lemmas.Bool.{false≢true}
 use borrow.Author.Count.{below_more}
@@ -13,7 +14,8 @@ IsMoved automaton classes inside class category stays new row after =
     ⊎ ((¬ Leaves automaton classes inside class category stays row) × (after ≡ slice_index classes row))
 
 -- what is known after so many rows
-pub record IsSplitUpTo (automaton : Table) (classes : List ℕ) (inside : List Bool) (class category : ℕ) (stays : Bool) (new row : ℕ) (after : List ℕ) (left leaver : ℕ) : Type 0 where
+pub record IsSplitUpTo (automaton : Table) (classes : List ℕ) (inside : List Bool) (class category : ℕ) (stays : Bool) (new row : ℕ) (after : List ℕ)
+    (left leaver : ℕ) : Type 0 where
   pub length_is : length after ≡ row
   pub few : left ≤ row
   pub each : (k : ℕ) → k < row → IsMoved automaton classes inside class category stays new k (slice_index after k)
@@ -36,15 +38,20 @@ module _ (automaton : Table) (classes : List ℕ) (inside : List Bool) (class ca
     none = λ _ k h. absurd (omega arith);
   }
 
-  each-more : (after : List ℕ) (row next : ℕ) → length after ≡ row → ((k : ℕ) → k < row → IsMoved automaton classes inside class category stays new k (slice_index after k)) → IsMoved automaton classes inside class category stays new row next → (k : ℕ) → k < row + 1 → IsMoved automaton classes inside class category stays new k (slice_index (after ++ next ∷ []) k)
+  each-more : (after : List ℕ) (row next : ℕ) → length after ≡ row →
+      ((k : ℕ) → k < row → IsMoved automaton classes inside class category stays new k (slice_index after k)) →
+      IsMoved automaton classes inside class category stays new row next → (k : ℕ) → k < row + 1 →
+      IsMoved automaton classes inside class category stays new k (slice_index (after ++ next ∷ []) k)
   each-more after row next l each here =
       below_more
       (λ k. IsMoved automaton classes inside class category stays new k (slice_index (after ++ next ∷ []) k))
       row
-      (λ k h. subst (λ n. IsMoved automaton classes inside class category stays new k n) (sym (get_or_append_left after (next ∷ []) 0 k (omega arith))) (each k h))
+      (λ k h. subst (λ n. IsMoved automaton classes inside class category stays new k n) (sym (get_or_append_left after (next ∷ []) 0 k (omega arith)))
+      (each k h))
       (subst (λ n. IsMoved automaton classes inside class category stays new row n) (sym (get_or_push after next 0 row l)) here)
 
-  pub IsSplitUpTo-leaves : (row : ℕ) (after more : List ℕ) (left leaver : ℕ) → Split row after left leaver → Goes row → more ≡ after ++ new ∷ [] → Split (row + 1) more (left + 1) row
+  pub IsSplitUpTo-leaves : (row : ℕ) (after more : List ℕ) (left leaver : ℕ) → Split row after left leaver → Goes row → more ≡ after ++ new ∷ [] →
+      Split (row + 1) more (left + 1) row
   IsSplitUpTo-leaves row after more left leaver h goes e =
       subst (λ more. Split (row + 1) more (left + 1) row) (sym e) (record {
         length_is = length_push after new ∙ ap (λ n. n + 1) h.length_is;
@@ -54,7 +61,8 @@ module _ (automaton : Table) (classes : List ℕ) (inside : List Bool) (class ca
         none = λ z. absurd (omega arith);
       })
 
-  pub IsSplitUpTo-stays : (row : ℕ) (after more : List ℕ) (left leaver : ℕ) → Split row after left leaver → ¬ Goes row → more ≡ after ++ slice_index classes row ∷ [] → Split (row + 1) more left leaver
+  pub IsSplitUpTo-stays : (row : ℕ) (after more : List ℕ) (left leaver : ℕ) → Split row after left leaver → ¬ Goes row →
+      more ≡ after ++ slice_index classes row ∷ [] → Split (row + 1) more left leaver
   IsSplitUpTo-stays row after more left leaver h stay e =
       subst (λ more. Split (row + 1) more left leaver) (sym e) (record {
         length_is = length_push after (slice_index classes row) ∙ ap (λ n. n + 1) h.length_is;
@@ -64,11 +72,15 @@ module _ (automaton : Table) (classes : List ℕ) (inside : List Bool) (class ca
         none = λ z. below_more (λ k. ¬ Goes k) row (h.none z) stay;
       })
 
-  pub IsSplitUpTo-takes : (row : ℕ) (after more : List ℕ) (left leaver : ℕ) (others : List ℕ) (takes : Bool) → others ≡ classes → (IsTrue takes ↔ Leaves automaton others inside class category stays row) → takes ≡ true → Split row after left leaver → more ≡ after ++ new ∷ [] → Split (row + 1) more (left + 1) row
+  pub IsSplitUpTo-takes : (row : ℕ) (after more : List ℕ) (left leaver : ℕ) (others : List ℕ) (takes : Bool) → others ≡ classes →
+      (IsTrue takes ↔ Leaves automaton others inside class category stays row) → takes ≡ true → Split row after left leaver → more ≡ after ++ new ∷ [] →
+      Split (row + 1) more (left + 1) row
   IsSplitUpTo-takes row after more left leaver others takes same answer is h e =
       IsSplitUpTo-leaves row after more left leaver h (subst (λ (xs : List ℕ). Leaves automaton xs inside class category stays row) same (answer.0 is)) e
 
-  pub IsSplitUpTo-keeps : (row : ℕ) (after more : List ℕ) (left leaver : ℕ) (others : List ℕ) (takes : Bool) (old : ℕ) → others ≡ classes → (IsTrue takes ↔ Leaves automaton others inside class category stays row) → takes ≡ false → Split row after left leaver → old ≡ slice_index classes row → more ≡ after ++ old ∷ [] → Split (row + 1) more left leaver
+  pub IsSplitUpTo-keeps : (row : ℕ) (after more : List ℕ) (left leaver : ℕ) (others : List ℕ) (takes : Bool) (old : ℕ) → others ≡ classes →
+      (IsTrue takes ↔ Leaves automaton others inside class category stays row) → takes ≡ false → Split row after left leaver →
+      old ≡ slice_index classes row → more ≡ after ++ old ∷ [] → Split (row + 1) more left leaver
   IsSplitUpTo-keeps row after more left leaver others takes old same answer is h read e =
       IsSplitUpTo-stays row after more left leaver h
       (λ goes.
@@ -76,7 +88,8 @@ module _ (automaton : Table) (classes : List ℕ) (inside : List Bool) (class ca
       absurd (false≢true (sym is ∙ yes)))
       (e ∙ ap (λ n. after ++ n ∷ []) read)
 
-  pub IsSplitUpTo-same : (row : ℕ) (after : List ℕ) (left leaver : ℕ) (side : Bool) (number count : ℕ) → stays ≡ side → new ≡ number → row ≡ count → Split row after left leaver → IsSplitUpTo automaton classes inside class category side number count after left leaver
+  pub IsSplitUpTo-same : (row : ℕ) (after : List ℕ) (left leaver : ℕ) (side : Bool) (number count : ℕ) → stays ≡ side → new ≡ number → row ≡ count →
+      Split row after left leaver → IsSplitUpTo automaton classes inside class category side number count after left leaver
   IsSplitUpTo-same row after left leaver side number count a b c h =
       subst (λ (s : Bool). IsSplitUpTo automaton classes inside class category s number count after left leaver) a
       (subst (λ (n : ℕ). IsSplitUpTo automaton classes inside class category stays n count after left leaver) b

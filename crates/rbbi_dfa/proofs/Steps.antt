@@ -17,19 +17,22 @@ empty_holds row p none = λ holds.
 pub followers_none : (follow : List (List ℕ)) (set candidates : List ℕ) → ((p : ℕ) → ¬ Holds candidates p) → AreFollowersUpTo follow set 0 candidates
 followers_none follow set candidates none p = (λ holds. absurd (none p holds), λ few. absurd (omega (arith, few.1)))
 
-pub followers_all : (rows : PositionRows) (set candidates : List ℕ) (i : ℕ) → length set ≤ i → AreFollowersUpTo rows.follow set (64 * i) candidates → AreFollowers rows set candidates
+pub followers_all : (rows : PositionRows) (set candidates : List ℕ) (i : ℕ) → length set ≤ i → AreFollowersUpTo rows.follow set (64 * i) candidates →
+    AreFollowers rows set candidates
 followers_all rows set candidates i all before p = (
   λ holds. let few = (before p).0 holds in (few.0, few.2, few.3),
   λ (q, at, follows).
       ⊎_elim
       (λ short. (before p).1 (q, short, at, follows))
       (λ past.
-      let bit : bit_at (get_or set (q / 64) 0) (q % 64) ≡ 0 = ap (λ n. bit_at n (q % 64)) (get_or_past set (q / 64) 0 (omega (arith, all, past))) ∙ bit_at-zero (q % 64) in
+      let bit : bit_at (get_or set (q / 64) 0) (q % 64) ≡ 0 = ap (λ n. bit_at n (q % 64)) (get_or_past set (q / 64) 0 (omega (arith, all, past)))
+      ∙ bit_at-zero (q % 64) in
       absurd (omega (arith, bit, at)))
       (cases_lt q (64 * i)),
 )
 
-module _ (rows : PositionRows) (candidates : List ℕ) (category : ℕ) (reads last chained both : List ℕ) (reads_is : row_at rows.reads category ≡ reads) (last_is : last ≡ rows.last) (chained_is : chained ≡ rows.chained) (met : (p : ℕ) → Holds both p ↔ (Holds candidates p × Holds reads p)) where
+module _ (rows : PositionRows) (candidates : List ℕ) (category : ℕ) (reads last chained both : List ℕ) (reads_is : row_at rows.reads category ≡ reads)
+    (last_is : last ≡ rows.last) (chained_is : chained ≡ rows.chained) (met : (p : ℕ) → Holds both p ↔ (Holds candidates p × Holds reads p)) where
   here : (p : ℕ) → Holds reads p → Holds (row_at rows.reads category) p
   here p = subst (λ l. Holds l p) (sym reads_is)
 
@@ -48,7 +51,8 @@ module _ (rows : PositionRows) (candidates : List ℕ) (category : ℕ) (reads l
   )
 
   -- a candidate ends
-  pub step_with : (next : List ℕ) → (p : ℕ) × Holds both p × Holds last p → ((p : ℕ) → Holds next p ↔ (Holds both p ⊎ (Holds chained p × Holds reads p))) → IsStep rows candidates category next
+  pub step_with : (next : List ℕ) → (p : ℕ) × Holds both p × Holds last p → ((p : ℕ) → Holds next p ↔ (Holds both p ⊎ (Holds chained p × Holds reads p))) →
+      IsStep rows candidates category next
   step_with next (q, in_both, in_last) united p = (
     λ holds.
         ⊎_elim
@@ -65,7 +69,8 @@ module _ (rows : PositionRows) (candidates : List ℕ) (category : ℕ) (reads l
   )
 
 -- a mark that was read from the list
-pub mark_found : (marks items : List PositionMark) (i position mark : ℕ) (read : PositionMark) → items ≡ marks → i < length items → read ≡ get_or items i read → record { position = position; mark = mark } ≡ read → Marked marks position mark
+pub mark_found : (marks items : List PositionMark) (i position mark : ℕ) (read : PositionMark) → items ≡ marks → i < length items →
+    read ≡ get_or items i read → record { position = position; mark = mark } ≡ read → Marked marks position mark
 mark_found marks items i position mark read same short is seen =
     let this : PositionMark = record { position = position; mark = mark } in (
       i,

@@ -80,9 +80,11 @@ module _ (rules : List Rule) (lawful : AreLawful rules) where
       let short' : j < length tags = omega (arith, short, long) in
       ne_eqb (get_or those i d) (get_or those j d)
       (λ same.
-      let tag = same_tag (get_or those j d) (get_or tags i 0) (get_or tags j 0) (subst (λ n. Tagged rules n (get_or tags i 0)) same (number_at tags all i d (omega (arith, less, short')))) (number_at tags all j d short') in
+      let tag = same_tag (get_or those j d) (get_or tags i 0) (get_or tags j 0)
+      (subst (λ n. Tagged rules n (get_or tags i 0)) same (number_at tags all i d (omega (arith, less, short')))) (number_at tags all j d short') in
       omega (arith, tag, rising_places tags i j rising less short'))) in
-      let most = length-le_from_distinct_below those (length rules) distinct (λ q member. member_below those (length rules) q (numbers_small tags all) member) in
+      let most = length-le_from_distinct_below those (length rules) distinct
+      (λ q member. member_below those (length rules) q (numbers_small tags all) member) in
       omega (arith, most, long, lawful.few)
 
   pub tag_small : (tag : ℕ) → HasNumber tag → tag ≤ largest_tag
@@ -110,7 +112,11 @@ module _ (rules : List Rule) (lawful : AreLawful rules) where
         })
         (λ none.
         let only = zero_alone (s ∷ statuses) tags.rising
-        (λ t. (λ member. ⊎_elim (λ has. absurd (none.1 t has)) (λ nothing. nothing.0) ((tags.exactly t).0 member), λ same. (tags.exactly t).1 (inr (same, none.1)))) in
+        (λ t. (
+          λ member. ⊎_elim (λ has. absurd (none.1 t has)) (λ nothing. nothing.0) ((tags.exactly t).0 member),
+          λ same. (tags.exactly t).1
+              (inr (same, none.1)),
+        )) in
         subst IsValidList (sym only) zero_valid)
         ((tags.exactly s).0 (inl refl))
       where
@@ -126,15 +132,18 @@ module _ (rules : List Rule) (lawful : AreLawful rules) where
           let here : statuses_of automaton (list_of automaton row) ≡ statuses_of automaton list = ap (λ n. statuses_of automaton n) named.2 in
           subst IsValidList here
           (⊎_elim
-          (λ none. subst IsValidList (sym (ap (λ r. statuses_of automaton (list_of automaton r)) none ∙ ap (λ (m : Marks). m.statuses) is.plain_stop)) zero_valid)
+          (λ none. subst IsValidList (sym (ap (λ r. statuses_of automaton (list_of automaton r)) none ∙ ap (λ (m : Marks). m.statuses) is.plain_stop))
+          zero_valid)
           (λ some.
           ⊎_elim
-          (λ one. subst IsValidList (sym (ap (λ r. statuses_of automaton (list_of automaton r)) one ∙ ap (λ (m : Marks). m.statuses) is.plain_start)) zero_valid)
+          (λ one. subst IsValidList (sym (ap (λ r. statuses_of automaton (list_of automaton r)) one ∙ ap (λ (m : Marks). m.statuses) is.plain_start))
+          zero_valid)
           (λ more.
           let i : ℕ = row - 2 in
           let at : i + 2 ≡ row = omega (arith, some, more) in
           let marks = is.marks i (omega (arith, named.1, is.many, at)) in
-          subst (λ r. IsValidList (statuses_of automaton (list_of automaton r))) at (tags_valid (row_at sets i) (statuses_of automaton (list_of automaton (i + 2))) marks.tags))
+          subst (λ r. IsValidList (statuses_of automaton (list_of automaton r))) at
+          (tags_valid (row_at sets i) (statuses_of automaton (list_of automaton (i + 2))) marks.tags))
           (cases_eq row 1))
           (cases_eq row 0))
 

@@ -1,6 +1,7 @@
 -- How first, last and following positions are told by the words that rules begin to read: by exchanging spelled lists behind a
 -- position that they have in common.
-use Rattle.std.proofs.Common.{◌≡◌, ◌≢◌, ℕ, zero, suc, ◌+◌, ◌-◌, List, [], ◌∷◌, ◌++◌, Option, Some, None, length, take, sym, refl, ap, ◌∙◌, subst, inl, append_assoc, arith}
+use Rattle.std.proofs.Common.{◌≡◌, ◌≢◌, ℕ, zero, suc, ◌+◌, ◌-◌, List, [], ◌∷◌, ◌++◌, Option, Some, None, length, take, sym, refl, ap, ◌∙◌, subst, inl}
+use Rattle.std.proofs.Common.{append_assoc, arith}
 use Rattle.std.specs.Prelude.{slice_get, MatchOption, IfSome, unwrap_or}
 use Rattle.std.specs.List.{AllByRecursion, AllZip}
 use Rattle.std.proofs.lemmas.List.{nil_from_length, append-nil, length_push, take_at}
@@ -98,13 +99,20 @@ module _ (rules : List Rule) where
   reads_up_to number p rule v is_rule reads =
       let parts = around reads.positions (length v - 1) p reads.last in
       let end = ends_with v reads.some in
-      let long : length (parts.before ++ p ∷ []) ≡ length v = omega (arith, length_push parts.before p, parts.many, ap length end.whole, length_push end.front end.last) in
+      let long : length (parts.before ++ p ∷ []) ≡ length v =
+      omega (arith, length_push parts.before p, parts.many, ap length end.whole, length_push end.front end.last) in
       let front : take (length v) reads.positions ≡ parts.before ++ p ∷ [] =
-      ap (λ l. take (length v) l) (parts.whole ∙ sym (append_assoc parts.before (p ∷ []) parts.after)) ∙ take_at (parts.before ++ p ∷ []) parts.after (length v) long in
+      ap (λ l. take (length v) l) (parts.whole ∙ sym (append_assoc parts.before (p ∷ []) parts.after))
+      ∙ take_at (parts.before ++ p ∷ []) parts.after (length v) long in
       record {
         before = parts.before;
         after = parts.after;
-        spelled = record { rule = rule; is_rule = is_rule; spelled = subst (λ l. RuleSpellsPositions rule (first_position rules number) l) parts.whole reads.spelled };
+        spelled = record {
+          rule = rule;
+          is_rule = is_rule;
+          spelled =
+              subst (λ l. RuleSpellsPositions rule (first_position rules number) l) parts.whole reads.spelled;
+        };
         reads = subst (λ l. AllZip (Reads rules) l v) front reads.reads;
       }
 
@@ -116,10 +124,12 @@ module _ (rules : List Rule) where
       ap (λ l. take (length v) l) whole ∙ take_at (reads.before ++ p ∷ []) reads.after (length v) (length_push reads.before p ∙ long) in
       record {
         positions = reads.before ++ p ∷ reads.after;
-        spelled = subst (λ r. RuleSpellsPositions r (first_position rules number) (reads.before ++ p ∷ reads.after)) (same_rule rules number reads.spelled.rule rule reads.spelled.is_rule is_rule) reads.spelled.spelled;
+        spelled = subst (λ r. RuleSpellsPositions r (first_position rules number) (reads.before ++ p ∷ reads.after))
+            (same_rule rules number reads.spelled.rule rule reads.spelled.is_rule is_rule) reads.spelled.spelled;
         reads = subst (λ l. AllZip (Reads rules) l v) (sym front) reads.reads;
         some = λ none. omega (arith, long, ap length none);
-        last = ap (λ n. slice_get (reads.before ++ p ∷ reads.after) n) (let e : length v - 1 ≡ length reads.before = omega (arith, long) in e) ∙ get_at reads.before p reads.after;
+        last = ap (λ n. slice_get (reads.before ++ p ∷ reads.after) n) (let e : length v - 1 ≡ length reads.before = omega (arith, long) in e)
+            ∙ get_at reads.before p reads.after;
       }
 
 module _ (rules : List Rule) where
@@ -130,19 +140,26 @@ module _ (rules : List Rule) where
       let first : ℕ = first_position rules number in
       let stands = stands_left (all_sets rules) first (sets_of rule.front) (option_map_or sets_of rule.rest []) (rule_stands rules number rule is_rule) in
       let spells : Spells rule.front v = subst (λ o. MatchOption o (Spells rule.front v) (λ rest. SpellsBoth rule.front rest v)) same word.1 in
-      let one = spelled_to (all_sets rules) rule.front first stands v spells in
-      (one.0, subst (λ o. MatchOption o (SpellsPositions rule.front first one.0) (λ rest. (u : List ℕ) × (w : List ℕ) × SpellsPositions rule.front first u × SpellsPositions rest (first + leaf_count rule.front) w × (one.0 ≡ u ++ w))) (sym same) one.1, one.2)
+      let one = spelled_to (all_sets rules) rule.front first stands v spells in (
+        one.0,
+        subst (λ o. MatchOption o (SpellsPositions rule.front first one.0) (λ rest. (u : List ℕ) × (w : List ℕ) × SpellsPositions rule.front first u ×
+            SpellsPositions rest (first + leaf_count rule.front) w × (one.0 ≡ u ++ w))) (sym same) one.1,
+        one.2,
+      )
   word_to rule (Some rest) same number is_rule v word =
       let first : ℕ = first_position rules number in
       let placed = rule_stands rules number rule is_rule in
       let stands = stands_left (all_sets rules) first (sets_of rule.front) (option_map_or sets_of rule.rest []) placed in
-      let stands' = subst (λ o. StandsAt (all_sets rules) (first + leaf_count rule.front) (option_map_or sets_of o [])) same (stands_right (all_sets rules) first (leaf_count rule.front) (sets_of rule.front) (option_map_or sets_of rule.rest []) (sets_many rule.front) placed) in
+      let stands' = subst (λ o. StandsAt (all_sets rules) (first + leaf_count rule.front) (option_map_or sets_of o [])) same
+      (stands_right (all_sets rules) first (leaf_count rule.front) (sets_of rule.front) (option_map_or sets_of rule.rest []) (sets_many rule.front)
+      placed) in
       let spells : SpellsBoth rule.front rest v = subst (λ o. MatchOption o (Spells rule.front v) (λ rest. SpellsBoth rule.front rest v)) same word.1 in
       let one = spelled_to (all_sets rules) rule.front first stands spells.0 spells.2 in
       let two = spelled_to (all_sets rules) rest (first + leaf_count rule.front) stands' spells.1 spells.3 in
       let positions : List ℕ = one.0 ++ two.0 in (
         positions,
-        subst (λ o. MatchOption o (SpellsPositions rule.front first positions) (λ rest. (u : List ℕ) × (w : List ℕ) × SpellsPositions rule.front first u × SpellsPositions rest (first + leaf_count rule.front) w × (positions ≡ u ++ w))) (sym same)
+        subst (λ o. MatchOption o (SpellsPositions rule.front first positions) (λ rest. (u : List ℕ) × (w : List ℕ) × SpellsPositions rule.front first u ×
+            SpellsPositions rest (first + leaf_count rule.front) w × (positions ≡ u ++ w))) (sym same)
             (one.0, two.0, one.1, two.1, refl),
         subst (λ l. AllZip (Reads rules) positions l) (sym spells.4) (zip_append (Reads rules) one.0 two.0 spells.0 spells.1 one.2 two.2),
       )
@@ -152,35 +169,54 @@ module _ (rules : List Rule) where
   word_from rule None same number is_rule positions v some spells z =
       let first : ℕ = first_position rules number in
       let stands = stands_left (all_sets rules) first (sets_of rule.front) (option_map_or sets_of rule.rest []) (rule_stands rules number rule is_rule) in
-      let one : SpellsPositions rule.front first positions = subst (λ o. MatchOption o (SpellsPositions rule.front first positions) (λ rest. (u : List ℕ) × (w : List ℕ) × SpellsPositions rule.front first u × SpellsPositions rest (first + leaf_count rule.front) w × (positions ≡ u ++ w))) same spells in
-      (some, subst (λ o. MatchOption o (Spells rule.front v) (λ rest. SpellsBoth rule.front rest v)) (sym same) (spelled_from (all_sets rules) rule.front first stands positions v one z))
+      let one : SpellsPositions rule.front first positions =
+      subst (λ o. MatchOption o (SpellsPositions rule.front first positions) (λ rest. (u : List ℕ) × (w : List ℕ) × SpellsPositions rule.front first u ×
+      SpellsPositions rest (first + leaf_count rule.front) w × (positions ≡ u ++ w))) same spells in (
+        some,
+        subst (λ o. MatchOption o (Spells rule.front v) (λ rest. SpellsBoth rule.front rest v)) (sym same)
+            (spelled_from (all_sets rules) rule.front first stands positions v one z),
+      )
   word_from rule (Some rest) same number is_rule positions v some spells z =
       let first : ℕ = first_position rules number in
       let placed = rule_stands rules number rule is_rule in
       let stands = stands_left (all_sets rules) first (sets_of rule.front) (option_map_or sets_of rule.rest []) placed in
-      let stands' = subst (λ o. StandsAt (all_sets rules) (first + leaf_count rule.front) (option_map_or sets_of o [])) same (stands_right (all_sets rules) first (leaf_count rule.front) (sets_of rule.front) (option_map_or sets_of rule.rest []) (sets_many rule.front) placed) in
-      let both : (u : List ℕ) × (w : List ℕ) × SpellsPositions rule.front first u × SpellsPositions rest (first + leaf_count rule.front) w × (positions ≡ u ++ w) =
-      subst (λ o. MatchOption o (SpellsPositions rule.front first positions) (λ rest. (u : List ℕ) × (w : List ℕ) × SpellsPositions rule.front first u × SpellsPositions rest (first + leaf_count rule.front) w × (positions ≡ u ++ w))) same spells in
+      let stands' = subst (λ o. StandsAt (all_sets rules) (first + leaf_count rule.front) (option_map_or sets_of o [])) same
+      (stands_right (all_sets rules) first (leaf_count rule.front) (sets_of rule.front) (option_map_or sets_of rule.rest []) (sets_many rule.front)
+      placed) in
+      let both : (u : List ℕ) × (w : List ℕ) × SpellsPositions rule.front first u × SpellsPositions rest (first + leaf_count rule.front) w ×
+      (positions ≡ u ++ w) =
+      subst (λ o. MatchOption o (SpellsPositions rule.front first positions) (λ rest. (u : List ℕ) × (w : List ℕ) × SpellsPositions rule.front first u ×
+      SpellsPositions rest (first + leaf_count rule.front) w × (positions ≡ u ++ w))) same spells in
       let parts = zip_parts (Reads rules) both.0 both.1 v (subst (λ l. AllZip (Reads rules) l v) both.4 z) in (
         some,
-        subst (λ o. MatchOption o (Spells rule.front v) (λ rest. SpellsBoth rule.front rest v)) (sym same)
-            (parts.front, parts.back, spelled_from (all_sets rules) rule.front first stands both.0 parts.front both.2 parts.first, spelled_from (all_sets rules) rest (first + leaf_count rule.front) stands' both.1 parts.back both.3 parts.second, parts.whole),
+        subst (λ o. MatchOption o (Spells rule.front v) (λ rest. SpellsBoth rule.front rest v)) (sym same) (
+          parts.front,
+          parts.back,
+          spelled_from (all_sets rules) rule.front first stands both.0 parts.front both.2 parts.first,
+          spelled_from
+              (all_sets rules) rest (first + leaf_count rule.front) stands' both.1 parts.back both.3 parts.second,
+          parts.whole,
+        ),
       )
 
   -- a list of the front goes on to one of the rule
   front_goes_on : (rule : Rule) (rest : Option Tree) → rule.rest ≡ rest → (number : ℕ) → IsRule rules number rule → IsLawfulRule rule → (positions : List ℕ) →
-      SpellsPositions rule.front (first_position rules number) positions → (more : List ℕ) × RuleSpellsPositions rule (first_position rules number) (positions ++ more)
+      SpellsPositions rule.front (first_position rules number) positions → (more : List ℕ) × RuleSpellsPositions rule (first_position rules number)
+      (positions ++ more)
   front_goes_on rule None same number is_rule lawful positions spelled =
       let first : ℕ = first_position rules number in (
         [],
-        subst (λ o. MatchOption o (SpellsPositions rule.front first (positions ++ [])) (λ rest. (u : List ℕ) × (w : List ℕ) × SpellsPositions rule.front first u × SpellsPositions rest (first + leaf_count rule.front) w × (positions ++ [] ≡ u ++ w))) (sym same)
+        subst (λ o. MatchOption o (SpellsPositions rule.front first (positions ++ [])) (λ rest. (u : List ℕ) ×
+            (w : List ℕ) × SpellsPositions rule.front first u × SpellsPositions rest (first + leaf_count rule.front) w × (positions ++ [] ≡ u ++ w))) (sym same)
             (subst (λ l. SpellsPositions rule.front first l) (sym (append-nil positions)) spelled),
       )
   front_goes_on rule (Some rest) same number is_rule lawful positions spelled =
       let first : ℕ = first_position rules number in
       let more = some_spelled rest (first + leaf_count rule.front) (subst (λ o. IfSome o IsLawfulTree) same lawful.rest) in (
         more.0,
-        subst (λ o. MatchOption o (SpellsPositions rule.front first (positions ++ more.0)) (λ rest. (u : List ℕ) × (w : List ℕ) × SpellsPositions rule.front first u × SpellsPositions rest (first + leaf_count rule.front) w × (positions ++ more.0 ≡ u ++ w))) (sym same)
+        subst (λ o. MatchOption o (SpellsPositions rule.front first (positions ++ more.0)) (λ rest. (u : List ℕ) ×
+            (w : List ℕ) × SpellsPositions rule.front first u × SpellsPositions rest (first + leaf_count rule.front) w × (positions ++ more.0 ≡ u ++ w)))
+            (sym same)
             (positions, more.0, spelled, more.1, refl),
       )
 
@@ -189,7 +225,8 @@ module _ (rules : List Rule) (lawful : AllByRecursion IsLawfulRule rules) where
   starts number p c rule is_rule first reads =
       reads_last rules number p rule (c ∷ []) is_rule (record { before = []; after = first.0; spelled = first.1; reads = (reads, tt) })
 
-  extends : (number other q p c : ℕ) (rule : Rule) (v : List ℕ) → IsRule rules number rule → ReadsLast rules number rule v q → FollowsIn rules other q p → Reads rules p c → ReadsLast rules number rule (v ++ c ∷ []) p
+  extends : (number other q p c : ℕ) (rule : Rule) (v : List ℕ) → IsRule rules number rule → ReadsLast rules number rule v q → FollowsIn rules other q p →
+      Reads rules p c → ReadsLast rules number rule (v ++ c ∷ []) p
   extends number other q p c rule v is_rule reads follows reads' =
       let up = reads_up_to rules number q rule v is_rule reads in
       let new = exchange rules number other q up.before up.after follows.0 (p ∷ follows.1) up.spelled follows.2 in
@@ -210,7 +247,8 @@ module _ (rules : List Rule) (lawful : AllByRecursion IsLawfulRule rules) where
       let up = reads_up_to rules number p rule (c ∷ []) is_rule reads in
       (up.after, subst (λ l. IsSpelled rules number (l ++ p ∷ up.after)) (none_before up.before p c up.reads) up.spelled)
 
-  shrinks : (number p c : ℕ) (rule : Rule) (v : List ℕ) → IsRule rules number rule → v ≢ [] → ReadsLast rules number rule (v ++ c ∷ []) p → (q : ℕ) × ReadsLast rules number rule v q × FollowsIn rules number q p
+  shrinks : (number p c : ℕ) (rule : Rule) (v : List ℕ) → IsRule rules number rule → v ≢ [] → ReadsLast rules number rule (v ++ c ∷ []) p →
+      (q : ℕ) × ReadsLast rules number rule v q × FollowsIn rules number q p
   shrinks number p c rule v is_rule some reads =
       let up = reads_up_to rules number p rule (v ++ c ∷ []) is_rule reads in
       let parts = zip_push (Reads rules) up.before v p c up.reads in
@@ -221,7 +259,13 @@ module _ (rules : List Rule) (lawful : AllByRecursion IsLawfulRule rules) where
       ap (λ l. l ++ p ∷ up.after) last.whole ∙ append_assoc last.front (last.last ∷ []) (p ∷ up.after) in
       let spelled = subst (λ l. IsSpelled rules number l) whole up.spelled in (
         last.last,
-        reads_last rules number last.last rule v is_rule (record { before = last.front; after = p ∷ up.after; spelled = spelled; reads = subst (λ l. AllZip (Reads rules) l v) last.whole parts.0 }),
+        reads_last rules number last.last rule v is_rule (record {
+          before = last.front;
+          after = p ∷ up.after;
+          spelled = spelled;
+          reads =
+              subst (λ l. AllZip (Reads rules) l v) last.whole parts.0;
+        }),
         (last.front, up.after, spelled),
       )
 
@@ -230,25 +274,36 @@ module _ (rules : List Rule) (lawful : AllByRecursion IsLawfulRule rules) where
       let up = reads_up_to rules number p rule (v ++ c ∷ []) is_rule reads in
       (zip_push (Reads rules) up.before v p c up.reads).1
 
-  words : (number : ℕ) (rule : Rule) (v : List ℕ) → IsRule rules number rule → IsWordOf rule v → (p : ℕ) × ReadsLast rules number rule v p × LastOf rules number p
+  words : (number : ℕ) (rule : Rule) (v : List ℕ) → IsRule rules number rule → IsWordOf rule v → (p : ℕ) × ReadsLast rules number rule v p ×
+      LastOf rules number p
   words number rule v is_rule word =
       let one = word_to rules rule rule.rest refl number is_rule v word in
       let long = zip_long (Reads rules) one.0 v one.2 in
       let last = ends_with one.0 (λ none. word.0 (nil_from_length v (sym long ∙ ap length none))) in
-      let spelled : IsSpelled rules number (last.front ++ last.last ∷ []) = record { rule = rule; is_rule = is_rule; spelled = subst (λ l. RuleSpellsPositions rule (first_position rules number) l) last.whole one.1 } in (
+      let spelled : IsSpelled rules number (last.front ++ last.last ∷ []) =
+      record { rule = rule; is_rule = is_rule; spelled = subst (λ l. RuleSpellsPositions rule (first_position rules number) l) last.whole one.1 } in (
         last.last,
-        reads_last rules number last.last rule v is_rule (record { before = last.front; after = []; spelled = spelled; reads = subst (λ l. AllZip (Reads rules) l v) last.whole one.2 }),
+        reads_last rules number last.last rule v is_rule (record {
+          before = last.front;
+          after = [];
+          spelled = spelled;
+          reads =
+              subst (λ l. AllZip (Reads rules) l v) last.whole one.2;
+        }),
         (last.front, spelled),
       )
 
-  wholes : (number other p : ℕ) (rule : Rule) (v : List ℕ) → IsRule rules number rule → ReadsLast rules number rule v p → LastOf rules other p → (number ≡ other) × IsWordOf rule v
+  wholes : (number other p : ℕ) (rule : Rule) (v : List ℕ) → IsRule rules number rule → ReadsLast rules number rule v p → LastOf rules other p →
+      (number ≡ other) × IsWordOf rule v
   wholes number other p rule v is_rule reads last =
       let up = reads_up_to rules number p rule v is_rule reads in
       let new = exchange rules number other p up.before up.after last.0 [] up.spelled last.1 in
-      let spelled = subst (λ r. RuleSpellsPositions r (first_position rules number) (up.before ++ p ∷ [])) (same_rule rules number new.1.rule rule new.1.is_rule is_rule) new.1.spelled in
+      let spelled = subst (λ r. RuleSpellsPositions r (first_position rules number) (up.before ++ p ∷ []))
+      (same_rule rules number new.1.rule rule new.1.is_rule is_rule) new.1.spelled in
       (new.0, word_from rules rule rule.rest refl number is_rule (up.before ++ p ∷ []) v reads.some spelled up.reads)
 
-  front_words : (number : ℕ) (rule : Rule) (v : List ℕ) → IsRule rules number rule → IsFrontWordOf rule v → (p : ℕ) × ReadsLast rules number rule v p × FrontLastOf rules number p
+  front_words : (number : ℕ) (rule : Rule) (v : List ℕ) → IsRule rules number rule → IsFrontWordOf rule v → (p : ℕ) × ReadsLast rules number rule v p ×
+      FrontLastOf rules number p
   front_words number rule v is_rule word =
       let first : ℕ = first_position rules number in
       let stands = stands_left (all_sets rules) first (sets_of rule.front) (option_map_or sets_of rule.rest []) (rule_stands rules number rule is_rule) in
@@ -258,13 +313,25 @@ module _ (rules : List Rule) (lawful : AllByRecursion IsLawfulRule rules) where
       let spelled = subst (λ l. SpellsPositions rule.front first l) last.whole one.1 in
       let more = front_goes_on rules rule rule.rest refl number is_rule (lawful_rule rules number rule lawful is_rule) (last.front ++ last.last ∷ []) spelled in
       let whole : IsSpelled rules number (last.front ++ last.last ∷ more.0) =
-      record { rule = rule; is_rule = is_rule; spelled = subst (λ l. RuleSpellsPositions rule first l) (append_assoc last.front (last.last ∷ []) more.0) more.1 } in (
+      record {
+        rule = rule;
+        is_rule = is_rule;
+        spelled =
+            subst (λ l. RuleSpellsPositions rule first l) (append_assoc last.front (last.last ∷ []) more.0) more.1;
+      } in (
         last.last,
-        reads_last rules number last.last rule v is_rule (record { before = last.front; after = more.0; spelled = whole; reads = subst (λ l. AllZip (Reads rules) l v) last.whole one.2 }),
+        reads_last rules number last.last rule v is_rule (record {
+          before = last.front;
+          after = more.0;
+          spelled = whole;
+          reads =
+              subst (λ l. AllZip (Reads rules) l v) last.whole one.2;
+        }),
         record { rule = rule; is_rule = is_rule; looks_ahead = word.0; others = last.front; spelled = spelled },
       )
 
-  front_wholes : (number other p : ℕ) (rule : Rule) (v : List ℕ) → IsRule rules number rule → ReadsLast rules number rule v p → FrontLastOf rules other p → (number ≡ other) × IsFrontWordOf rule v
+  front_wholes : (number other p : ℕ) (rule : Rule) (v : List ℕ) → IsRule rules number rule → ReadsLast rules number rule v p → FrontLastOf rules other p →
+      (number ≡ other) × IsFrontWordOf rule v
   front_wholes number other p rule v is_rule reads last =
       let first : ℕ = first_position rules number in
       let up = reads_up_to rules number p rule v is_rule reads in
@@ -272,8 +339,10 @@ module _ (rules : List Rule) (lawful : AllByRecursion IsLawfulRule rules) where
       let new = exchange_front rules number other p up.before up.after last.others [] up.spelled here in
       let same : number ≡ other = new.0 in
       let front : IsFrontSpelled rules number (up.before ++ p ∷ []) = new.1 in
-      let spelled = subst (λ r. SpellsPositions r.front first (up.before ++ p ∷ [])) (same_rule rules number front.rule rule front.is_rule is_rule) front.spelled in
-      let looks = subst LooksAhead (same_rule rules number last.rule rule (subst (λ n. IsRule rules n last.rule) (sym same) last.is_rule) is_rule) last.looks_ahead in
+      let spelled = subst (λ r. SpellsPositions r.front first (up.before ++ p ∷ [])) (same_rule rules number front.rule rule front.is_rule is_rule)
+      front.spelled in
+      let looks = subst LooksAhead (same_rule rules number last.rule rule (subst (λ n. IsRule rules n last.rule) (sym same) last.is_rule) is_rule)
+      last.looks_ahead in
       let stands = stands_left (all_sets rules) first (sets_of rule.front) (option_map_or sets_of rule.rest []) (rule_stands rules number rule is_rule) in
       (same, (looks, reads.some, spelled_from (all_sets rules) rule.front first stands (up.before ++ p ∷ []) v spelled up.reads))
 

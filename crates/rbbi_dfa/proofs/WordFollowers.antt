@@ -1,5 +1,6 @@
 -- What may follow a set of positions, word by word.
-use Rattle.std.proofs.Common.{◌≡◌, ◌≢◌, ℕ, ◌+◌, ◌-◌, ◌*◌, ◌<◌, ◌≤◌, ◌⊎◌, ◌↔◌, List, [], ◌∷◌, ◌++◌, length, get_or, set, sym, ap, ◌∙◌, subst, inl, inr, ⊎_elim, arith}
+use Rattle.std.proofs.Common.{◌≡◌, ◌≢◌, ℕ, ◌+◌, ◌-◌, ◌*◌, ◌<◌, ◌≤◌, ◌⊎◌, ◌↔◌, List, [], ◌∷◌, ◌++◌, length, get_or, set, sym, ap, ◌∙◌, subst, inl, inr, ⊎_elim}
+use Rattle.std.proofs.Common.{arith}
 use Rattle.std.proofs.lemmas.Bool.{cases_lt, cases_eq}
 use Rattle.std.proofs.lemmas.List.{get_or_past, get_or_append_left, get_or_push, length_push, get_or-set_same, get_or-set_other, length-set}
 use Rattle.std.specs.Int.{bit_at}
@@ -15,7 +16,8 @@ pub adds_none : (follow : List (List ℕ)) (i word : ℕ) (row : List ℕ) → A
 adds_none follow i word row p = (λ holds. inl holds, ⊎_elim (λ old. old) (λ new. absurd (omega (arith, new.1))))
 
 -- a bit that is set
-pub adds_with : (follow : List (List ℕ)) (i word bit : ℕ) (old row next followers : List ℕ) → AddsFollowers follow i word bit old row → bit_at word bit ≡ 1 → row_at follow (64 * i + bit) ≡ followers →
+pub adds_with : (follow : List (List ℕ)) (i word bit : ℕ) (old row next followers : List ℕ) → AddsFollowers follow i word bit old row → bit_at word bit ≡ 1 →
+    row_at follow (64 * i + bit) ≡ followers →
     ((p : ℕ) → Holds next p ↔ (Holds row p ⊎ Holds followers p)) → AddsFollowers follow i word (bit + 1) old next
 adds_with follow i word bit old row next followers before one is united p = (
   λ holds.
@@ -33,7 +35,8 @@ adds_with follow i word bit old row next followers before one is united p = (
 )
 
 -- a bit that isn't set
-pub adds_without : (follow : List (List ℕ)) (i word bit : ℕ) (old row : List ℕ) → AddsFollowers follow i word bit old row → bit_at word bit ≢ 1 → AddsFollowers follow i word (bit + 1) old row
+pub adds_without : (follow : List (List ℕ)) (i word bit : ℕ) (old row : List ℕ) → AddsFollowers follow i word bit old row → bit_at word bit ≢ 1 →
+    AddsFollowers follow i word (bit + 1) old row
 adds_without follow i word bit old row before none p = (
   λ holds. ⊎_elim (λ was. inl was) (λ new. inr (new.0, omega (arith, new.1), new.2, new.3)) ((before p).0 holds),
   ⊎_elim
@@ -46,7 +49,8 @@ adds_without follow i word bit old row before none p = (
 )
 
 -- a position past the rows is followed by none
-pub adds_past : (follow : List (List ℕ)) (i word bit : ℕ) (old row : List ℕ) → AddsFollowers follow i word bit old row → length follow ≤ 64 * i + bit → AddsFollowers follow i word (bit + 1) old row
+pub adds_past : (follow : List (List ℕ)) (i word bit : ℕ) (old row : List ℕ) → AddsFollowers follow i word bit old row → length follow ≤ 64 * i + bit →
+    AddsFollowers follow i word (bit + 1) old row
 adds_past follow i word bit old row before past p = (
   λ holds. ⊎_elim (λ was. inl was) (λ new. inr (new.0, omega (arith, new.1), new.2, new.3)) ((before p).0 holds),
   ⊎_elim
@@ -59,15 +63,18 @@ adds_past follow i word bit old row before past p = (
 )
 
 -- what was added to nothing
-pub union_is : (follow : List (List ℕ)) (i word : ℕ) (old new : List ℕ) → ((p : ℕ) → ¬ Holds old p) → AddsFollowers follow i word 64 old new → (p : ℕ) → Holds new p ↔ FollowsWord follow i word p
+pub union_is : (follow : List (List ℕ)) (i word : ℕ) (old new : List ℕ) → ((p : ℕ) → ¬ Holds old p) → AddsFollowers follow i word 64 old new →
+    (p : ℕ) → Holds new p ↔ FollowsWord follow i word p
 union_is follow i word old new none adds p = (
   λ holds. ⊎_elim (λ was. absurd (none p was)) (λ new. new) ((adds p).0 holds),
   λ follows. (adds p).1 (inr follows),
 )
 
 -- what may follow one word more of the set was added
-pub followers_word : (follow : List (List ℕ)) (set candidates next union : List ℕ) (i word : ℕ) → AreFollowersUpTo follow set (64 * i) candidates → word ≡ get_or set i 0 →
-    ((p : ℕ) → Holds union p ↔ FollowsWord follow i word p) → ((p : ℕ) → Holds next p ↔ (Holds candidates p ⊎ Holds union p)) → AreFollowersUpTo follow set (64 * (i + 1)) next
+pub followers_word : (follow : List (List ℕ)) (set candidates next union : List ℕ) (i word : ℕ) → AreFollowersUpTo follow set (64 * i) candidates →
+    word ≡ get_or set i 0 →
+    ((p : ℕ) → Holds union p ↔ FollowsWord follow i word p) → ((p : ℕ) → Holds next p ↔ (Holds candidates p ⊎ Holds union p)) →
+    AreFollowersUpTo follow set (64 * (i + 1)) next
 followers_word follow set candidates next union i word before is union_of united p = (
   λ holds.
       ⊎_elim
@@ -93,7 +100,8 @@ followers_word follow set candidates next union i word before is union_of united
 )
 
 -- one word is another
-pub kept_with : (rows : PositionRows) (words : List ℕ) (unions : List (List ℕ)) (i word : ℕ) (union : List ℕ) → AreKept rows words unions → i < rows.width → length union ≡ rows.width →
+pub kept_with : (rows : PositionRows) (words : List ℕ) (unions : List (List ℕ)) (i word : ℕ) (union : List ℕ) → AreKept rows words unions → i < rows.width →
+    length union ≡ rows.width →
     ((p : ℕ) → Holds union p ↔ FollowsWord rows.follow i word p) → AreKept rows (set words i word) (set unions i union)
 kept_with rows words unions i word union kept short wide is =
     let word_same : get_or (set words i word) i 0 ≡ word = get_or-set_same words i word 0 (omega (arith, short, kept.many_words)) in
@@ -125,7 +133,12 @@ pub record AreFirstUnions (rows : PositionRows) (unions : List (List ℕ)) (coun
   pub each : (i : ℕ) → i < count → (p : ℕ) → Holds (row_at unions i) p ↔ FollowsWord rows.follow i 0 p
 
 pub unions_none : (rows : PositionRows) (unions : List (List ℕ)) → unions ≡ [] → AreFirstUnions rows unions 0
-unions_none rows unions none = record { many = ap length none; wide = λ i short. absurd (omega (arith, short)); each = λ i short. absurd (omega (arith, short)) }
+unions_none rows unions none = record {
+  many = ap length none;
+  wide = λ i short. absurd (omega (arith, short));
+  each =
+      λ i short. absurd (omega (arith, short));
+}
 
 pub unions_more : (rows : PositionRows) (unions : List (List ℕ)) (union : List ℕ) (count : ℕ) → AreFirstUnions rows unions count → length union ≡ rows.width →
     ((p : ℕ) → Holds union p ↔ FollowsWord rows.follow count 0 p) → AreFirstUnions rows (unions ++ union ∷ []) (count + 1)
@@ -150,7 +163,8 @@ unions_more rows unions union count are wide is =
           (cases_eq i count);
     }
 
-pub kept_none : (rows : PositionRows) (words : List ℕ) (unions : List (List ℕ)) (count : ℕ) → count ≡ rows.width → length words ≡ rows.width → ((i : ℕ) → get_or words i 0 ≡ 0) → AreFirstUnions rows unions count → AreKept rows words unions
+pub kept_none : (rows : PositionRows) (words : List ℕ) (unions : List (List ℕ)) (count : ℕ) → count ≡ rows.width → length words ≡ rows.width →
+    ((i : ℕ) → get_or words i 0 ≡ 0) → AreFirstUnions rows unions count → AreKept rows words unions
 kept_none rows words unions count all long zero are = record {
   many_words = long;
   many = are.many ∙ all;

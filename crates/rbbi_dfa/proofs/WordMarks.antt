@@ -1,5 +1,6 @@
 -- The row that a word leads to has the marks of the rules.
-use Rattle.std.proofs.Common.{◌≡◌, ℕ, zero, suc, ◌+◌, ◌-◌, ◌<◌, ◌≤◌, ◌^◌, true, not, eqb, List, [], ◌∷◌, Some, None, length, map, take, sym, refl, ap, ◌∙◌, subst, inl, inr, ⊎_elim, arith}
+use Rattle.std.proofs.Common.{◌≡◌, ℕ, zero, suc, ◌+◌, ◌-◌, ◌<◌, ◌≤◌, ◌^◌, true, not, eqb, List, [], ◌∷◌, Some, None, length, map, take, sym, refl, ap, ◌∙◌}
+use Rattle.std.proofs.Common.{subst, inl, inr, ⊎_elim, arith}
 use Rattle.std.specs.Prelude.{is_some, unwrap_or}
 use Rattle.std.specs.Int.Bits.{and_zero_l}
 use Rattle.std.proofs.lemmas.Bool.{cases_eq, cases_lt, cases_Bool, cond-true, cond-false, false≢true}
@@ -8,7 +9,8 @@ use Rattle.rbbi_model.specs.Rules.{Rule, LooksAhead, look_aheads, AreLawful}
 use Rattle.rbbi_model.specs.Chains.{IsRule, EndsAt, IsTagAt}
 use Rattle.rbbi_model.specs.Boundaries.{LookAheadEndsAt}
 use Rattle.rbbi_model.specs.Tables.{Table, CategoryRange, category_of, step, row_along}
-use Rattle.rbbi_model.specs.Marks.{Marks, no_marks, look_ahead_number, HasFront, IsCompleted, IsEnded, IsUnended, AreMarksAtEnd, AreMarks, marks_of, HasSameMarks}
+use Rattle.rbbi_model.specs.Marks.{Marks, no_marks, look_ahead_number, HasFront, IsCompleted, IsEnded, IsUnended, AreMarksAtEnd, AreMarks, marks_of}
+use Rattle.rbbi_model.specs.Marks.{HasSameMarks}
 use Rattle.rbbi_dfa.specs.BitRows.{row_at}
 use Rattle.rbbi_dfa.specs.Automata.{with_ranges}
 use Rattle.rbbi_dfa.specs.PositionRows.{PositionRows}
@@ -21,12 +23,15 @@ no_rule : (rule : Rule) → None ≡ Some rule → ⊥
 no_rule rule is = grind arith
 
 -- a look-ahead rule counts among those before a later one
-pub counts : (rules : List Rule) (number later : ℕ) (rule : Rule) → IsRule rules number rule → LooksAhead rule → number < later → look_ahead_number rules number < look_ahead_number rules later
+pub counts : (rules : List Rule) (number later : ℕ) (rule : Rule) → IsRule rules number rule → LooksAhead rule → number < later →
+    look_ahead_number rules number < look_ahead_number rules later
 counts [] number later rule is looks less = absurd (no_rule rule is)
 counts (r ∷ rs) number zero rule is looks less = absurd (omega (arith, less))
 counts (r ∷ rs) zero (suc later) rule is looks less =
     let same : r ≡ rule = ap (λ o. unwrap_or o r) is in
-    subst (λ l. 0 < length l) (sym (cond-true (is_some r.rest) (r ∷ look_aheads (take later rs)) (look_aheads (take later rs)) (subst (λ a. LooksAhead a) (sym same) looks))) (omega arith)
+    subst (λ l. 0 < length l)
+    (sym (cond-true (is_some r.rest) (r ∷ look_aheads (take later rs)) (look_aheads (take later rs)) (subst (λ a. LooksAhead a) (sym same) looks)))
+    (omega arith)
 counts (r ∷ rs) (suc number) (suc later) rule is looks less =
     let rest = counts rs number later rule is looks (omega (arith, less)) in
     ⊎_elim
@@ -46,40 +51,62 @@ no_bit k is = false≢true (sym (ap (λ m. not (eqb m 0)) (and_zero_l (2 ^ k))) 
 
 module _ (rules : List Rule) (lawful : AreLawful rules) (ranges : List CategoryRange) (rows : PositionRows) (of : IsOfRules rules ranges rows) where
   module _ (w set : List ℕ) (is : IsSetOf rules lawful ranges rows of w set) where
-    pub mark_completed : (mark : ℕ) → HasMark set (Marked rows.completed) mark → (number : ℕ) × LookAheadEndsAt rules w 0 (length w) number × (look_ahead_number rules number ≡ mark)
+    pub mark_completed : (mark : ℕ) → HasMark set (Marked rows.completed) mark → (number : ℕ) × LookAheadEndsAt rules w 0 (length w) number ×
+        (look_ahead_number rules number ≡ mark)
     mark_completed mark has =
         let last = (of.completed has.0 mark).0 has.2 in
-        let ends = read_ends rules (FirstOf rules) (LastOf rules) (FrontLastOf rules) (FollowsIn rules) (laws rules lawful ranges rows of) w last.0 has.0 ((is.holds has.0).0 has.1) last.2 in
+        let ends = read_ends rules (FirstOf rules) (LastOf rules) (FrontLastOf rules) (FollowsIn rules) (laws rules lawful ranges rows of) w last.0 has.0
+        ((is.holds has.0).0 has.1) last.2 in
         (last.0, record { rule = last.1.rule; is_rule = last.1.is_rule; looks_ahead = last.1.looks_ahead; ends = ends }, last.3)
 
     pub completed_mark : (number : ℕ) → LookAheadEndsAt rules w 0 (length w) number → HasMark set (Marked rows.completed) (look_ahead_number rules number)
     completed_mark number ends =
-        let read = ends_read rules (FirstOf rules) (LastOf rules) (FrontLastOf rules) (FollowsIn rules) (laws rules lawful ranges rows of) w number ends.ends in (
+        let read = ends_read rules (FirstOf rules) (LastOf rules) (FrontLastOf rules) (FollowsIn rules) (laws rules lawful ranges rows of) w number ends.ends
+        in (
           read.0,
           (is.holds read.0).1 read.1,
-          (of.completed read.0 (look_ahead_number rules number)).1 (number, record { rule = ends.rule; is_rule = ends.is_rule; looks_ahead = ends.looks_ahead }, read.2, refl),
+          (of.completed read.0 (look_ahead_number rules number)).1 (
+            number,
+            record {
+              rule = ends.rule;
+              is_rule = ends.is_rule;
+              looks_ahead =
+                  ends.looks_ahead;
+            },
+            read.2,
+            refl,
+          ),
         )
 
     tag_mark : (tag : ℕ) → IsTagAt rules w 0 (length w) tag → HasMark set (Marked rows.tags) tag
     tag_mark tag at =
-        let read = ends_read rules (FirstOf rules) (LastOf rules) (FrontLastOf rules) (FollowsIn rules) (laws rules lawful ranges rows of) w at.number at.ends in
+        let read = ends_read rules (FirstOf rules) (LastOf rules) (FrontLastOf rules) (FollowsIn rules) (laws rules lawful ranges rows of) w at.number
+        at.ends in
         (read.0, (is.holds read.0).1 read.1, (of.tags read.0 tag).1 (at.number, read.2, record { rule = at.rule; is_rule = at.is_rule; tagged = at.tagged }))
 
     mark_tag : (tag : ℕ) → HasMark set (Marked rows.tags) tag → IsTagAt rules w 0 (length w) tag
     mark_tag tag has =
         let last = (of.tags has.0 tag).0 has.2 in
-        let ends = read_ends rules (FirstOf rules) (LastOf rules) (FrontLastOf rules) (FollowsIn rules) (laws rules lawful ranges rows of) w last.0 has.0 ((is.holds has.0).0 has.1) last.1 in
+        let ends = read_ends rules (FirstOf rules) (LastOf rules) (FrontLastOf rules) (FollowsIn rules) (laws rules lawful ranges rows of) w last.0 has.0
+        ((is.holds has.0).0 has.1) last.1 in
         record { number = last.0; rule = last.2.rule; is_rule = last.2.is_rule; ends = ends; tagged = last.2.tagged }
 
     pub front_mark : (mark : ℕ) → HasFront rules w mark → HasMark set (Marked rows.fronts) mark
     front_mark mark front =
-        let read = front_read rules (FirstOf rules) (LastOf rules) (FrontLastOf rules) (FollowsIn rules) (laws rules lawful ranges rows of) w front.number front.front in
+        let read = front_read rules (FirstOf rules) (LastOf rules) (FrontLastOf rules) (FollowsIn rules) (laws rules lawful ranges rows of) w front.number
+        front.front in
         (read.0, (is.holds read.0).1 read.1, (of.fronts read.0 mark).1 (front.number, read.2, front.numbered))
 
     mark_front : (mark : ℕ) → HasMark set (Marked rows.fronts) mark → HasFront rules w mark
     mark_front mark has =
         let last = (of.fronts has.0 mark).0 has.2 in
-        record { number = last.0; numbered = last.2; front = read_front rules (FirstOf rules) (LastOf rules) (FrontLastOf rules) (FollowsIn rules) (laws rules lawful ranges rows of) w last.0 has.0 ((is.holds has.0).0 has.1) last.1 }
+        record {
+          number = last.0;
+          numbered = last.2;
+          front =
+              read_front rules (FirstOf rules) (LastOf rules) (FrontLastOf rules) (FollowsIn rules) (laws rules lawful ranges rows of) w last.0 has.0
+              ((is.holds has.0).0 has.1) last.1;
+        }
 
     module _ (marks : Marks) (are : AreMarksOf rows set marks) where
       completed_accept : 2 ≤ marks.accept → IsCompleted rules w marks.accept
@@ -91,7 +118,8 @@ module _ (rules : List Rule) (lawful : AreLawful rules) (ranges : List CategoryR
             ends = ends.1;
             first = λ other ends'.
                 let low = (are.accept.completed (look_ahead_number rules other) (completed_mark other ends')).1 in
-                ⊎_elim (λ less. absurd (omega (arith, low, ends.2, many, counts rules other ends.0 ends'.rule ends'.is_rule ends'.looks_ahead less))) (λ most. most) (cases_lt other ends.0);
+                ⊎_elim (λ less. absurd (omega (arith, low, ends.2, many, counts rules other ends.0 ends'.rule ends'.is_rule ends'.looks_ahead less)))
+                (λ most. most) (cases_lt other ends.0);
             numbered = omega (arith, ends.2, many);
           }
 
@@ -99,7 +127,8 @@ module _ (rules : List Rule) (lawful : AreLawful rules) (ranges : List CategoryR
       ended_accept one =
           let last = are.accept.is_ended one in
           let of_rule = (of.last last.0).0 last.2 in
-          let ends = read_ends rules (FirstOf rules) (LastOf rules) (FrontLastOf rules) (FollowsIn rules) (laws rules lawful ranges rows of) w of_rule.0 last.0 ((is.holds last.0).0 last.1) of_rule.1 in
+          let ends = read_ends rules (FirstOf rules) (LastOf rules) (FrontLastOf rules) (FollowsIn rules) (laws rules lawful ranges rows of) w of_rule.0
+          last.0 ((is.holds last.0).0 last.1) of_rule.1 in
           record {
             number = of_rule.0;
             ends = ends;
@@ -111,21 +140,25 @@ module _ (rules : List Rule) (lawful : AreLawful rules) (ranges : List CategoryR
       unended_accept none =
           record {
             no_end = λ number ends.
-                let read = ends_read rules (FirstOf rules) (LastOf rules) (FrontLastOf rules) (FollowsIn rules) (laws rules lawful ranges rows of) w number ends in
+                let read = ends_read rules (FirstOf rules) (LastOf rules) (FrontLastOf rules) (FollowsIn rules) (laws rules lawful ranges rows of) w number
+                ends in
                 omega (arith, none, are.accept.ended read.0 ((is.holds read.0).1 read.1) ((of.last read.0).1 (number, read.2)));
             is_zero = none;
           }
 
       pub marks_at_end : AreMarksAtEnd rules w marks
       marks_at_end = record {
-        accept = ⊎_elim (λ small. ⊎_elim (λ none. inr (inr (unended_accept none))) (λ other. inr (inl (ended_accept (omega (arith, small, other))))) (cases_eq marks.accept 0)) (λ many. inl (completed_accept many)) (cases_lt marks.accept 2);
+        accept = ⊎_elim (λ small. ⊎_elim (λ none. inr (inr (unended_accept none))) (λ other. inr (inl (ended_accept (omega (arith, small, other)))))
+            (cases_eq marks.accept 0)) (λ many. inl (completed_accept many)) (cases_lt marks.accept 2);
         fronts = λ small k. (λ bit. mark_front k ((are.fronts small k).0 bit), λ front. (are.fronts small k).1 (front_mark k front));
         no_fronts = are.no_fronts;
         statuses = record {
           rising = are.tags.rising;
           exactly = λ tag. (
-            λ member. ⊎_elim (λ has. inl (mark_tag tag has)) (λ none. inr (none.0, λ other at. none.1 other (tag_mark other at))) ((are.tags.exactly tag).0 member),
-            λ tagged. (are.tags.exactly tag).1 (⊎_elim (λ at. inl (tag_mark tag at)) (λ none. inr (none.0, λ other has. none.1 other (mark_tag other has))) tagged),
+            λ member. ⊎_elim (λ has. inl (mark_tag tag has)) (λ none. inr (none.0, λ other at. none.1 other (tag_mark other at)))
+                ((are.tags.exactly tag).0 member),
+            λ tagged. (are.tags.exactly tag).1 (⊎_elim (λ at. inl (tag_mark tag at)) (λ none. inr (none.0, λ other has. none.1 other (mark_tag other has)))
+                tagged),
           );
         };
       }
@@ -134,12 +167,14 @@ module _ (rules : List Rule) (lawful : AreLawful rules) (ranges : List CategoryR
   unread_marks : (w : List ℕ) → ((p : ℕ) → ¬ ReadBy rules w p) → AreMarksAtEnd rules w no_marks
   unread_marks w none =
       let no_end : (number : ℕ) → EndsAt rules w 0 (length w) number → ⊥ =
-      λ number ends. let read = ends_read rules (FirstOf rules) (LastOf rules) (FrontLastOf rules) (FollowsIn rules) (laws rules lawful ranges rows of) w number ends in none read.0 read.1 in
+      λ number ends. let read = ends_read rules (FirstOf rules) (LastOf rules) (FrontLastOf rules) (FollowsIn rules) (laws rules lawful ranges rows of) w
+      number ends in none read.0 read.1 in
       record {
         accept = inr (inr (record { no_end = no_end; is_zero = refl }));
         fronts = λ small k. (
           λ bit. absurd (no_bit k bit),
-          λ front. let read = front_read rules (FirstOf rules) (LastOf rules) (FrontLastOf rules) (FollowsIn rules) (laws rules lawful ranges rows of) w front.number front.front in absurd (none read.0 read.1),
+          λ front. let read = front_read rules (FirstOf rules) (LastOf rules) (FrontLastOf rules) (FollowsIn rules) (laws rules lawful ranges rows of) w
+              front.number front.front in absurd (none read.0 read.1),
         );
         no_fronts = λ many. absurd (omega (arith, many));
         statuses = record {
@@ -157,7 +192,8 @@ module _ (rules : List Rule) (lawful : AreLawful rules) (ranges : List CategoryR
     row_marks w _ (Stop row at (Unread before none)) =
         subst (AreMarks rules w) (sym (ap (λ r. marks_of automaton r) at ∙ is.plain_stop)) (inr (before, unread_marks w none))
     row_marks w _ (Set row i at short set) =
-        subst (AreMarks rules w) (sym (ap (λ r. marks_of automaton r) at)) (inr (set.open_before, marks_at_end w (row_at sets i) set (marks_of automaton (i + 2)) (is.marks i short)))
+        subst (AreMarks rules w) (sym (ap (λ r. marks_of automaton r) at))
+        (inr (set.open_before, marks_at_end w (row_at sets i) set (marks_of automaton (i + 2)) (is.marks i short)))
 
     pub same_along : (row : ℕ) (way : List ℕ) → row_along (with_ranges automaton ranges) row way ≡ row_along automaton row way
     same_along row [] = refl

@@ -1,5 +1,6 @@
 -- The row that a word leads to is the set of the positions that can read its last code point.
-use Rattle.std.proofs.Common.{◌≡◌, ◌≢◌, ℕ, ◌+◌, ◌-◌, ◌<◌, ◌≤◌, List, [], ◌∷◌, ◌++◌, length, map, sym, refl, ap, ◌∙◌, subst, inl, inr, ⊎_elim, append_assoc, arith}
+use Rattle.std.proofs.Common.{◌≡◌, ◌≢◌, ℕ, ◌+◌, ◌-◌, ◌<◌, ◌≤◌, List, [], ◌∷◌, ◌++◌, length, map, sym, refl, ap, ◌∙◌, subst, inl, inr, ⊎_elim, append_assoc}
+use Rattle.std.proofs.Common.{arith}
 use Rattle.std.specs.Prelude.{◌↔◌}
 use Rattle.std.proofs.lemmas.Bool.{cases_eq}
 use Rattle.std.proofs.lemmas.List.{length_push, append-nil}
@@ -24,7 +25,13 @@ module _ (rules : List Rule) where
         e = ended.e;
         number = ended.number;
         before = omega (arith, ended.before, length_push w c);
-        ends = record { rule = ended.ends.rule; is_rule = ended.ends.is_rule; looks_ahead = ended.ends.looks_ahead; ends = ends_longer rules w c ended.e ended.number ended.ends.ends };
+        ends = record {
+          rule = ended.ends.rule;
+          is_rule = ended.ends.is_rule;
+          looks_ahead = ended.ends.looks_ahead;
+          ends =
+              ends_longer rules w c ended.e ended.number ended.ends.ends;
+        };
       }
 
   pub ended_now : (w : List ℕ) (c number : ℕ) → LookAheadEndsAt rules w 0 (length w) number → EndedBefore rules (w ++ c ∷ [])
@@ -36,11 +43,18 @@ module _ (rules : List Rule) where
         ends = record { rule = ends.rule; is_rule = ends.is_rule; looks_ahead = ends.looks_ahead; ends = ends_longer rules w c (length w) number ends.ends };
       }
 
-  pub not_ended : (w : List ℕ) (c : ℕ) → ¬ EndedBefore rules w → ((number : ℕ) → ¬ LookAheadEndsAt rules w 0 (length w) number) → ¬ EndedBefore rules (w ++ c ∷ [])
+  pub not_ended : (w : List ℕ) (c : ℕ) → ¬ EndedBefore rules w → ((number : ℕ) → ¬ LookAheadEndsAt rules w 0 (length w) number) →
+      ¬ EndedBefore rules (w ++ c ∷ [])
   not_ended w c before here = λ ended.
       let within : ended.e ≤ length w = omega (arith, ended.before, length_push w c) in
       let ends : LookAheadEndsAt rules w 0 ended.e ended.number =
-      record { rule = ended.ends.rule; is_rule = ended.ends.is_rule; looks_ahead = ended.ends.looks_ahead; ends = ends_shorter rules w c ended.e ended.number within ended.ends.ends } in
+      record {
+        rule = ended.ends.rule;
+        is_rule = ended.ends.is_rule;
+        looks_ahead = ended.ends.looks_ahead;
+        ends =
+            ends_shorter rules w c ended.e ended.number within ended.ends.ends;
+      } in
       ⊎_elim
       (λ at. here ended.number (subst (λ e. LookAheadEndsAt rules w 0 e ended.number) at ends))
       (λ other. before (record { e = ended.e; number = ended.number; before = omega (arith, within, other); ends = ends }))
@@ -88,7 +102,8 @@ module _ (rules : List Rule) (lawful : AreLawful rules) (ranges : List CategoryR
   )
 
   -- what comes by the category of a code point is what can read it next
-  comes_reads : (w candidates : List ℕ) (c p : ℕ) → AreCandidates w candidates → IsCodePoint c → ComesBy rows candidates (category_of ranges c) p → ReadBy rules (w ++ c ∷ []) p
+  comes_reads : (w candidates : List ℕ) (c p : ℕ) → AreCandidates w candidates → IsCodePoint c → ComesBy rows candidates (category_of ranges c) p →
+      ReadBy rules (w ++ c ∷ []) p
   comes_reads w candidates c p are code comes =
       next_reads rules (FirstOf rules) (LastOf rules) (FrontLastOf rules) (FollowsIn rules) laws w c p (
         (of.reads p c code).0 comes.0,
@@ -101,12 +116,20 @@ module _ (rules : List Rule) (lawful : AreLawful rules) (ranges : List CategoryR
               number = first.0;
               chained = first.1;
               first = first.2;
-              ends = record { number = last.0; q = chained.1.0; comes = (are chained.1.0).0 chained.1.1; reads = (of.reads chained.1.0 c code).0 chained.1.2; last = last.1 };
+              ends = record {
+                number = last.0;
+                q = chained.1.0;
+                comes = (are chained.1.0).0 chained.1.1;
+                reads =
+                    (of.reads chained.1.0 c code).0 chained.1.2;
+                last = last.1;
+              };
             }))
             comes.1,
       )
 
-  reads_comes : (w candidates : List ℕ) (c p : ℕ) → AreCandidates w candidates → IsCodePoint c → ReadBy rules (w ++ c ∷ []) p → ComesBy rows candidates (category_of ranges c) p
+  reads_comes : (w candidates : List ℕ) (c p : ℕ) → AreCandidates w candidates → IsCodePoint c → ReadBy rules (w ++ c ∷ []) p →
+      ComesBy rows candidates (category_of ranges c) p
   reads_comes w candidates c p are code read =
       let next = reads_next rules (FirstOf rules) (LastOf rules) (FrontLastOf rules) (FollowsIn rules) laws w c p read in (
         (of.reads p c code).1 next.0,
@@ -115,7 +138,13 @@ module _ (rules : List Rule) (lawful : AreLawful rules) (ranges : List CategoryR
             (λ chained.
             inr (
               (of.chained p).1 (chained.number, chained.chained, chained.first),
-              (chained.ends.q, (are chained.ends.q).1 chained.ends.comes, (of.reads chained.ends.q c code).1 chained.ends.reads, (of.last chained.ends.q).1 (chained.ends.number, chained.ends.last)),
+              (
+                chained.ends.q,
+                (are chained.ends.q).1 chained.ends.comes,
+                (of.reads chained.ends.q c code).1 chained.ends.reads,
+                (of.last chained.ends.q).1
+                    (chained.ends.number, chained.ends.last),
+              ),
             ))
             next.1,
       )
@@ -124,7 +153,8 @@ module _ (rules : List Rule) (lawful : AreLawful rules) (ranges : List CategoryR
   pub completes_ends : (w set : List ℕ) → IsSetOf w set → Completes rows set → (number : ℕ) × LookAheadEndsAt rules w 0 (length w) number
   completes_ends w set is completes =
       let last = (of.completed completes.0 completes.1).0 completes.3 in
-      let ends = read_ends rules (FirstOf rules) (LastOf rules) (FrontLastOf rules) (FollowsIn rules) laws w last.0 completes.0 ((is.holds completes.0).0 completes.2) last.2 in
+      let ends = read_ends rules (FirstOf rules) (LastOf rules) (FrontLastOf rules) (FollowsIn rules) laws w last.0 completes.0
+      ((is.holds completes.0).0 completes.2) last.2 in
       (last.0, record { rule = last.1.rule; is_rule = last.1.is_rule; looks_ahead = last.1.looks_ahead; ends = ends })
 
   pub ends_completes : (w set : List ℕ) (number : ℕ) → IsSetOf w set → LookAheadEndsAt rules w 0 (length w) number → Completes rows set
@@ -133,7 +163,17 @@ module _ (rules : List Rule) (lawful : AreLawful rules) (ranges : List CategoryR
         read.0,
         look_ahead_number rules number,
         (is.holds read.0).1 read.1,
-        (of.completed read.0 (look_ahead_number rules number)).1 (number, record { rule = ends.rule; is_rule = ends.is_rule; looks_ahead = ends.looks_ahead }, read.2, refl),
+        (of.completed read.0 (look_ahead_number rules number)).1 (
+          number,
+          record {
+            rule = ends.rule;
+            is_rule = ends.is_rule;
+            looks_ahead =
+                ends.looks_ahead;
+          },
+          read.2,
+          refl,
+        ),
       )
 
   pub none_ends : (w : List ℕ) (number : ℕ) → ((p : ℕ) → ¬ ReadBy rules w p) → ¬ LookAheadEndsAt rules w 0 (length w) number
@@ -156,7 +196,8 @@ module _ (rules : List Rule) (lawful : AreLawful rules) (ranges : List CategoryR
       Stop : (row : ℕ) → row ≡ 0 → IsDead w → IsRowOf w row
       Set : (row i : ℕ) → row ≡ i + 2 → i < length sets → IsSetOf w (row_at sets i) → IsRowOf w row
 
-    cell_row : (w candidates : List ℕ) (c cell : ℕ) → AreCandidates w candidates → IsCodePoint c → ¬ EndedBefore rules (w ++ c ∷ []) → IsCell rows sets candidates (category_of ranges c) cell → IsRowOf (w ++ c ∷ []) cell
+    cell_row : (w candidates : List ℕ) (c cell : ℕ) → AreCandidates w candidates → IsCodePoint c → ¬ EndedBefore rules (w ++ c ∷ []) →
+        IsCell rows sets candidates (category_of ranges c) cell → IsRowOf (w ++ c ∷ []) cell
     cell_row w candidates c cell are code not_before =
         ⊎_elim
         (λ none. Stop cell none.0 (Unread not_before (λ p read. none.1 p (reads_comes w candidates c p are code read))))
@@ -169,7 +210,8 @@ module _ (rules : List Rule) (lawful : AreLawful rules) (ranges : List CategoryR
 
     next_row : (w : List ℕ) (row c : ℕ) → w ≢ [] → IsCodePoint c → IsRowOf w row → IsRowOf (w ++ c ∷ []) (step automaton row (category_of ranges c))
     next_row w _ c some code (Stop row at dead) =
-        let cell : step automaton row (category_of ranges c) ≡ 0 = ap (λ r. step automaton r (category_of ranges c)) at ∙ is.stop (category_of ranges c) (of.within c) in
+        let cell : step automaton row (category_of ranges c) ≡ 0 = ap (λ r. step automaton r (category_of ranges c)) at
+        ∙ is.stop (category_of ranges c) (of.within c) in
         Stop _ cell (still dead)
       where
         reads_before : (p : ℕ) → ReadBy rules (w ++ c ∷ []) p → (q : ℕ) × ReadBy rules w q
@@ -183,7 +225,8 @@ module _ (rules : List Rule) (lawful : AreLawful rules) (ranges : List CategoryR
         still (Unread before none) =
             Unread (not_ended rules w c before (λ number. none_ends w number none)) (λ p read. let earlier = reads_before p read in none earlier.0 earlier.1)
     next_row w _ c some code (Set row i at short set) =
-        let from : step automaton row (category_of ranges c) ≡ step automaton (i + 2) (category_of ranges c) = ap (λ r. step automaton r (category_of ranges c)) at in
+        let from : step automaton row (category_of ranges c) ≡ step automaton (i + 2) (category_of ranges c) =
+        ap (λ r. step automaton r (category_of ranges c)) at in
         ⊎_elim
         (λ completes.
         let ends = completes_ends w (row_at sets i) set completes.0 in
@@ -192,7 +235,8 @@ module _ (rules : List Rule) (lawful : AreLawful rules) (ranges : List CategoryR
         let candidates : List ℕ = goes.1.0 in
         let not_before = not_ended rules w c set.open_before (λ number ends. goes.0 (ends_completes w (row_at sets i) number set ends)) in
         subst (IsRowOf (w ++ c ∷ [])) (sym from)
-        (cell_row w candidates c (step automaton (i + 2) (category_of ranges c)) (later_candidates w (row_at sets i) candidates some set goes.1.1) code not_before (goes.1.2 (category_of ranges c) (of.within c))))
+        (cell_row w candidates c (step automaton (i + 2) (category_of ranges c)) (later_candidates w (row_at sets i) candidates some set goes.1.1) code
+        not_before (goes.1.2 (category_of ranges c) (of.within c))))
         (is.each i short)
 
     row_on : (u w : List ℕ) (row : ℕ) → u ≢ [] → IsWord w → IsRowOf u row → IsRowOf (u ++ w) (row_along automaton row (map (category_of ranges) w))
@@ -206,7 +250,8 @@ module _ (rules : List Rule) (lawful : AreLawful rules) (ranges : List CategoryR
     row_of_word [] some word = absurd (some refl)
     row_of_word (c ∷ w) some word =
         row_on (c ∷ []) w (step automaton 1 (category_of ranges c)) (λ none. omega (arith, ap length none)) word.1
-        (cell_row [] rows.first c (step automaton 1 (category_of ranges c)) first_candidates word.0 (one_open c) (is.start (category_of ranges c) (of.within c)))
+        (cell_row [] rows.first c (step automaton 1 (category_of ranges c)) first_candidates word.0 (one_open c)
+        (is.start (category_of ranges c) (of.within c)))
 
   -- a set that is reached and holds a position is that of some word
   pub record HasWord (set : List ℕ) : Type 0 where
@@ -229,7 +274,8 @@ module _ (rules : List Rule) (lawful : AreLawful rules) (ranges : List CategoryR
   comes_from : (candidates : List ℕ) (category p : ℕ) → ComesBy rows candidates category p → (q : ℕ) × Holds candidates q
   comes_from candidates category p comes = ⊎_elim (λ here. (p, here)) (λ chained. (chained.1.0, chained.1.1)) comes.1
 
-  set_of_step : (w candidates set : List ℕ) (c : ℕ) → AreCandidates w candidates → IsCodePoint c → IsStep rows candidates (category_of ranges c) set → ¬ EndedBefore rules (w ++ c ∷ []) → IsSetOf (w ++ c ∷ []) set
+  set_of_step : (w candidates set : List ℕ) (c : ℕ) → AreCandidates w candidates → IsCodePoint c → IsStep rows candidates (category_of ranges c) set →
+      ¬ EndedBefore rules (w ++ c ∷ []) → IsSetOf (w ++ c ∷ []) set
   set_of_step w candidates set c are code next not_before =
       record {
         open_before = not_before;
@@ -258,6 +304,7 @@ module _ (rules : List Rule) (lawful : AreLawful rules) (ranges : List CategoryR
         w = before.w ++ c ∷ [];
         is_word = push_word before.w c before.is_word used.1;
         some = some_push before.w c;
-        set_of = set_of_step before.w candidates set c (later_candidates before.w earlier candidates before.some before.set_of followers) used.1 (subst (λ k. IsStep rows candidates k set) (sym used.2) next)
+        set_of = set_of_step before.w candidates set c (later_candidates before.w earlier candidates before.some before.set_of followers) used.1
+            (subst (λ k. IsStep rows candidates k set) (sym used.2) next)
             (not_ended rules before.w c before.set_of.open_before (λ number ends. unfinished (ends_completes before.w earlier number before.set_of ends)));
       }

@@ -43,7 +43,8 @@ Completes rows set = (position : ℕ) × (mark : ℕ) × Holds set position × M
 -- The set is reached along some categories: from the first positions, or from a set at which no look-ahead rule is completed.
 pub data IsReached (rows : PositionRows) : List ℕ → Type 0 where
   FromFirst : (category : ℕ) (set : List ℕ) → category < rows.categories → IsStep rows rows.first category set → IsReached rows set
-  FromSet : (earlier candidates : List ℕ) (category : ℕ) (set : List ℕ) → IsReached rows earlier → ¬ Completes rows earlier → AreFollowers rows earlier candidates →
+  FromSet : (earlier candidates : List ℕ) (category : ℕ) (set : List ℕ) → IsReached rows earlier → ¬ Completes rows earlier →
+      AreFollowers rows earlier candidates →
       category < rows.categories → IsStep rows candidates category set → IsReached rows set
 
 -- the set holds a position

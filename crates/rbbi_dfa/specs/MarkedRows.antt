@@ -1,5 +1,6 @@
 -- Which row of bits, and which list of marks, is read off the marks of positions.
-use Rattle.std.specs.Prelude.{◌≡◌, ℕ, ◌*◌, ◌+◌, ◌<◌, ◌≤◌, Bool, false, ◌/◌, ◌&&◌, IsTrue, Option, Some, None, if◌then◌else◌, ◌↔◌, List, slice_index, slice_index_or, length}
+use Rattle.std.specs.Prelude.{◌≡◌, ℕ, ◌*◌, ◌+◌, ◌<◌, ◌≤◌, Bool, false, ◌/◌, ◌&&◌, IsTrue, Option, Some, None, if◌then◌else◌, ◌↔◌, List, slice_index}
+use Rattle.std.specs.Prelude.{slice_index_or, length}
 use Rattle.rbbi_positions.specs.PositionMarks.{RuleMark, PositionMarks, marked_follows, marked_reads, ArePositions}
 use Rattle.rbbi_model.specs.Rules.{Rule, largest_tag, look_aheads, AreLawful}
 use Rattle.rbbi_model.specs.Tables.{CategoryRange}

@@ -19,7 +19,8 @@ pub record AreNumbered (used : List Bool) (sorted : List (List ℕ)) (count : �
   pub many : length numbers ≡ count
   pub rising : AreRising lists
   pub within : (place : ℕ) → place < count → slice_index_or used place false ≡ true → slice_index numbers place < length lists
-  pub same : (place : ℕ) → place < count → slice_index_or used place false ≡ true → slice_index_or lists (slice_index numbers place) [] ≡ slice_index_or sorted place []
+  pub same : (place : ℕ) → place < count → slice_index_or used place false ≡ true → slice_index_or lists (slice_index numbers place) [] ≡ slice_index_or
+      sorted place []
   pub only : (list : ℕ) → list < length lists → (place : ℕ) × (place < count) × (slice_index_or used place false ≡ true) × (slice_index numbers place ≡ list)
 
 -- so many cells of the merged table, class after class

@@ -65,5 +65,6 @@ pub record IsOfRules (rules : List Rule) (ranges : List CategoryRange) (rows : P
   pub unread : (position : ℕ) → ¬ Holds (row_at rows.reads 0) position
   pub completed : (position mark : ℕ) → Marked rows.completed position mark ↔
       ((number : ℕ) × LookAhead rules number × LastOf rules number position × (look_ahead_number rules number ≡ mark))
-  pub fronts : (position mark : ℕ) → Marked rows.fronts position mark ↔ ((number : ℕ) × FrontLastOf rules number position × (look_ahead_number rules number ≡ mark))
+  pub fronts : (position mark : ℕ) → Marked rows.fronts position mark ↔ ((number : ℕ) × FrontLastOf rules number position ×
+      (look_ahead_number rules number ≡ mark))
   pub tags : (position mark : ℕ) → Marked rows.tags position mark ↔ ((number : ℕ) × LastOf rules number position × Tagged rules number mark)

@@ -1,5 +1,5 @@
-//! From positions to a determinised automaton: each row is the set of the positions by which the last
-//! character of a word can be read (subset construction; Rabin and Scott 1959).
+//! From positions to a determinised automaton: each row is the set of the positions by which the
+//! last character of a word can be read (subset construction; Rabin and Scott 1959).
 ghost use Rattle.std.specs.Prelude.{◌≡◌, ◌≤◌, ℕ, List, [], length, IfOk, OnOk};
 ghost use Rattle.rbbi_dfa.specs.Determinizing.{AreReachedSets, AreReachedCandidates, Begin};
 ghost use Rattle.rbbi_dfa.specs.Determinizing.{AddsCells, AddsZeros, AreCellsUpTo, AreMarked};
@@ -30,8 +30,8 @@ use rbbi_positions::Positions;
 use rows_of::rows_of;
 use std::alloc::{AllocError, Global};
 
-/// Adds the cells of a row from whose positions these candidates may come next, and the sets that are
-/// new. `next` is scratch space.
+/// Adds the cells of a row from whose positions these candidates may come next, and the sets that
+/// are new. `next` is scratch space.
 fn lead_on(
     alloc: Global,
     rows: &Rows,
@@ -162,8 +162,8 @@ pub(crate) fn determinized(alloc: Global, rows: &Rows) -> Result<Automaton, Dete
 /// The determinised automaton of the rules that the positions are those of, for the categories that
 /// they read. Clauses hold for any such list of rules.
 ///
-/// Refuses `TooManySets` exactly where the rules have more than 16,384 distinct leaf sets that aren't
-/// empty.
+/// Refuses `TooManySets` exactly where the rules have more than 16,384 distinct leaf sets that
+/// aren't empty.
 pub(crate) fn automaton_of(
     alloc: Global,
     positions: &Positions,

@@ -7,8 +7,8 @@ use crate::error::BuildErr;
 use crate::minimize::{merge, minimize, rank_lists};
 use std::alloc::Global;
 
-/// The least automaton with the same marks along all categories, with at most 4,095 rows. Its status
-/// lists are in order, and each but the first is some row's.
+/// The least automaton with the same marks along all categories, with at most 4,095 rows. Its
+/// status lists are in order, and each but the first is some row's.
 ///
 /// Refuses `TooManyRows` exactly where more rows are needed, rows 0 and 1 counted.
 pub(crate) fn least(alloc: Global, automaton: &Automaton) -> Result<Automaton, BuildErr>

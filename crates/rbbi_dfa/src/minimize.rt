@@ -1,5 +1,6 @@
 //! From an automaton to the classes of rows that can't be told apart.
-ghost use Rattle.std.specs.Prelude.{◌≡◌, ◌≢◌, ℕ, ◌+◌, ◌<◌, List, length, slice_index, IfOk, OnOk, MatchOption};
+ghost use Rattle.std.specs.Prelude.{◌≡◌, ◌≢◌, ℕ, ◌+◌, ◌<◌, List, length, slice_index, IfOk, OnOk};
+ghost use Rattle.std.specs.Prelude.{MatchOption};
 ghost use Rattle.rbbi_model.specs.Tables.{step};
 ghost use Rattle.rbbi_dfa.specs.Automata.{IsDetermined};
 ghost use Rattle.rbbi_dfa.specs.Partitions.{IsPartition, IsMinimized, NeedsRows};
@@ -24,8 +25,8 @@ use refine::{refine, side_of};
 use round::disagreement;
 use std::alloc::{AllocError, Global};
 
-/// The partition whose classes are the rows of the least table, and None exactly where these are too
-/// many. The places are those of the status lists in order.
+/// The partition whose classes are the rows of the least table, and None exactly where these are
+/// too many. The places are those of the status lists in order.
 pub(crate) fn minimize(
     alloc: Global,
     automaton: &Automaton,
@@ -50,8 +51,8 @@ pub(crate) fn minimize(
     Ok(None)
 }
 
-/// Splits the class of a row that leads by the category into another class than the first row of its
-/// class does.
+/// Splits the class of a row that leads by the category into another class than the first row of
+/// its class does.
 fn split_off(
     alloc: Global,
     automaton: &Automaton,
@@ -60,7 +61,8 @@ fn split_off(
     category: u16,
 ) -> Result<(), AllocError>
     requires determined { IsDetermined automaton.now }
-    requires partition { IsPartition automaton.now partition.old.classes.items partition.old.firsts.items }
+    requires partition { IsPartition automaton.now partition.old.classes.items
+        partition.old.firsts.items }
     requires room { length partition.old.firsts.items < 4096 }
     requires row { row < length automaton.now.rows }
     requires category { category < automaton.now.categories }
@@ -68,8 +70,10 @@ fn split_off(
         ≢ slice_index partition.old.classes.items (step automaton.now
         (slice_index partition.old.firsts.items (slice_index partition.old.classes.items row))
         category) }
-    ensures partition { IsPartition automaton.now partition.new.classes.items partition.new.firsts.items }
-    ensures grows { OnOk result (length partition.new.firsts.items ≡ length partition.old.firsts.items + 1) }
+    ensures partition { IsPartition automaton.now partition.new.classes.items
+        partition.new.firsts.items }
+    ensures grows { OnOk result (length partition.new.firsts.items ≡ length
+        partition.old.firsts.items + 1) }
 {
     let class = partition.classes[row as usize];
     let target = partition.classes[automaton.next(row, category) as usize];

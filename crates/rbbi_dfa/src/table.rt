@@ -46,7 +46,8 @@ fn from_valid(alloc: Global, parts: &Parts) -> Result<Table, TableErr>
     Table::from_parts(alloc, parts)
 }
 
-/// The parts of a table: those of the least automaton, these ranges, and the bits of all safe pairs.
+/// The parts of a table: those of the least automaton, these ranges, and the bits of all safe
+/// pairs.
 fn parts_of(alloc: Global, least: Automaton, ranges: RangeList) -> Result<Parts, AllocError>
     requires cells { length least.cells ≡ length least.rows * least.categories }
     requires rows { AreValidRows least }

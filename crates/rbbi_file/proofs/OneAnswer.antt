@@ -94,6 +94,7 @@ one_answer_lem bytes (Err (Part error)) (Ok t') reads reads' known known' = absu
 one_answer_lem bytes (Err (Part error)) (Err BadMagic) reads reads' known known' = absurd (reads' (bad_magic bytes error reads))
 one_answer_lem bytes (Err (Part error)) (Err (Short at')) reads reads' known known' = absurd (omega (arith, bad_end bytes error reads, reads'.1))
 one_answer_lem bytes (Err (Part error)) (Err (Trailing at')) reads reads' known known' = absurd (omega (arith, bad_end bytes error reads, reads'.1))
-one_answer_lem bytes (Err (Part error)) (Err (Part error')) reads reads' known known' = ap (λ (e : TableErr). Err (Part e)) (same_fault bytes error error' reads reads')
+one_answer_lem bytes (Err (Part error)) (Err (Part error')) reads reads' known known' =
+    ap (λ (e : TableErr). Err (Part e)) (same_fault bytes error error' reads reads')
 one_answer_lem bytes (Err (Part error)) (Err Memory) reads reads' known known' = absurd (known' refl)
 one_answer_lem bytes (Err Memory) other reads reads' known known' = absurd (known refl)

@@ -2,7 +2,8 @@
 ghost use Rattle.std.specs.Prelude.{◌≡◌, ◌^◌, ◌<◌, ◌≤◌, ◌++◌, length, IfOk, MatchOption};
 ghost use Rattle.rbbi_model.specs.TableFile.{u16 as two_bytes, u32 as four_bytes};
 ghost use Rattle.rbbi_table.specs.Parts.{table_of};
-ghost use Rattle.rbbi_file.specs.Lengths.{u16_at as number_in_two, u32_at as number_in_four, HasMagic, lists_end, parts_end};
+ghost use Rattle.rbbi_file.specs.Lengths.{u16_at as number_in_two, u32_at as number_in_four};
+ghost use Rattle.rbbi_file.specs.Lengths.{HasMagic, lists_end, parts_end};
 ghost use Rattle.rbbi_file.specs.Fitting.{Spell};
 ghost use Rattle.rbbi_file.specs.Reading.{Stand};
 ghost use Rattle.rbbi_file.specs.Answers.{ReadsTable, ReadsEachSpelling};

@@ -1,7 +1,8 @@
 //! A table as bytes.
 ghost use Rattle.std.specs.Prelude.{◌≡◌, ◌*◌, ◌≤◌, ◌++◌, length, IfOk, OnOk, flat_map};
 ghost use Rattle.std.specs.List.{AllByRecursion};
-ghost use Rattle.rbbi_model.specs.TableFile.{spelling, range_bytes, list_bytes, head_bytes, row_bytes};
+ghost use Rattle.rbbi_model.specs.TableFile.{spelling, range_bytes, list_bytes, head_bytes};
+ghost use Rattle.rbbi_model.specs.TableFile.{row_bytes};
 ghost use Rattle.rbbi_file.specs.Fitting.{FitsList};
 
 use crate::MAGIC;

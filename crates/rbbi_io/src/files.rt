@@ -1,5 +1,6 @@
 //! Files by their names, read and written whole.
-ghost use Rattle.std.specs.Prelude.{◌≡◌, ◌≤◌, ℕ, List, Option, length, IfOk, IfSome, OnSome, IsErrOf};
+ghost use Rattle.std.specs.Prelude.{◌≡◌, ◌≤◌, ℕ, List, Option, length, IfOk, IfSome, OnSome};
+ghost use Rattle.std.specs.Prelude.{IsErrOf};
 ghost use Rattle.rbbi_io.specs.Counts.{greatest_count, Rose, EachGoesOn, EachStays, OthersStay};
 ghost use Rattle.rbbi_io.specs.Answers.{AnswersRead, LeavesWritten, WhereTold};
 
@@ -7,8 +8,9 @@ use crate::{ReadErr, WriteErr};
 use rbbi_text::Raw;
 use std::alloc::Global;
 
-/// Files by their names. Contracts see what each name holds, where the files tell that, and for each
-/// name how many reads and how many writes of it failed. Names and contents are lists of bytes.
+/// Files by their names. Contracts see what each name holds, where the files tell that, and for
+/// each name how many reads and how many writes of it failed. Names and contents are lists of
+/// bytes.
 ///
 /// A count never falls and stops at 18,446,744,073,709,551,615. A count that stands there counts as
 /// risen.
@@ -28,7 +30,8 @@ pub trait Files {
     /// answer `Failed` refuses `TooLong` exactly where the name holds more than `limit` bytes.
     fn read(&mut self, alloc: Global, name: &str, limit: u64) -> Result<Raw, ReadErr>
         ensures within { IfOk result (λ bytes. length bytes ≤ limit) }
-        ensures answer { IfSome (contents self.old) (λ held. AnswersRead (held name.now) limit result) }
+        ensures answer { IfSome (contents self.old)
+            (λ held. AnswersRead (held name.now) limit result) }
         ensures failed { IsErrOf result ReadErr.Failed
             → Rose (failed_reads self.old name.now) (failed_reads self.new name.now) }
 
@@ -57,5 +60,6 @@ pub trait Files {
     ghost reads_fit: { (files : Self) (name : List ℕ) → failed_reads files name ≤ greatest_count };
 
     /// No count of failed writes is past the greatest number.
-    ghost writes_fit: { (files : Self) (name : List ℕ) → failed_writes files name ≤ greatest_count };
+    ghost writes_fit: { (files : Self) (name : List ℕ) →
+        failed_writes files name ≤ greatest_count };
 }

@@ -1,8 +1,11 @@
 //! Files in memory, with calls that fail when they are told to.
-ghost use Rattle.std.specs.Prelude.{◌≡◌, ◌≤◌, ◌↔◌, ◌++◌, [], ◌∷◌, length, IsTrue, OnOk, OnErr, IsErrOf, MatchOption, option_copied};
+ghost use Rattle.std.specs.Prelude.{◌≡◌, ◌≤◌, ◌↔◌, ◌++◌, [], ◌∷◌, length, IsTrue, OnOk, OnErr};
+ghost use Rattle.std.specs.Prelude.{IsErrOf, MatchOption, option_copied};
 ghost use Rattle.rbbi_io.specs.Counts.{Rose, OthersStay};
 ghost use Rattle.rbbi_io.specs.Answers.{LeavesWritten};
-ghost use Rattle.rbbi_io.specs.Memory.{reads_failed, writes_failed, held_by, file_of, with_file, called, IsAbsent, IsIndexOf, IsToFail, ReadsMemory, WritesMemory};
+ghost use Rattle.rbbi_io.specs.Memory.{reads_failed, writes_failed, held_by, file_of, with_file};
+ghost use Rattle.rbbi_io.specs.Memory.{called, IsAbsent, IsIndexOf, IsToFail, ReadsMemory};
+ghost use Rattle.rbbi_io.specs.Memory.{WritesMemory};
 
 use crate::{Files, ReadErr, WriteErr};
 use rbbi_text::Raw;
@@ -73,8 +76,8 @@ impl Model for FailedCall {
 /// Files in memory. They tell what they hold.
 ///
 /// Reads and writes are counted together, from 1. A call whose number was given to `fail_at` fails,
-/// and so does a read of a name that is not there; the name and kind of each failed call are kept. A
-/// failing call that finds no room for them answers `Memory`.
+/// and so does a read of a name that is not there; the name and kind of each failed call are kept.
+/// A failing call that finds no room for them answers `Memory`.
 #[derive(Debug, Drop)]
 pub struct MemFiles {
     alloc: Global,
@@ -152,7 +155,8 @@ impl MemFiles {
 
     /// Lets the call with this number fail, from 1.
     pub fn fail_at(&mut self, n: u64) -> Result<(), AllocError>
-        ensures ok { OnOk result (self.new ≡ record self.old { failing = self.old.failing ++ n ∷ [] }) }
+        ensures ok { OnOk result (self.new ≡ record self.old
+            { failing = self.old.failing ++ n ∷ [] }) }
         ensures err { OnErr result (self.new ≡ self.old) }
     {
         self.failing.push(n)?;

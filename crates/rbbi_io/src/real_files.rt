@@ -12,8 +12,8 @@ use std::marker::Model;
 /// How many bytes are asked for at once, at most.
 const BLOCK: usize = 262_144;
 
-/// The files of the system. They do not tell what they hold, and keep one count for the failed reads
-/// of all names and one for the failed writes. Contracts see these two counts.
+/// The files of the system. They do not tell what they hold, and keep one count for the failed
+/// reads of all names and one for the failed writes. Contracts see these two counts.
 #[derive(Drop)]
 pub struct RealFiles<'a, R> {
     rt: &'a R,

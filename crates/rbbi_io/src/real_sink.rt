@@ -5,8 +5,8 @@ use crate::{Sink, WriteErr};
 use std::io::{ErrorKind, Write};
 use std::marker::Model;
 
-/// A writer as a sink, as the standard output. It does not tell what it took. Contracts see its count
-/// of faults.
+/// A writer as a sink, as the standard output. It does not tell what it took. Contracts see its
+/// count of faults.
 #[derive(Drop)]
 pub struct RealSink<W> {
     out: W,

@@ -39,5 +39,6 @@ pub fn places_rise()
 
 /// A stretch ends at the first place, from where it begins on, at which it doesn't go on.
 pub fn stretches_are_longest()
-    ensures { (stretch : Stretch) (x : List ℕ) (i : ℕ) → IsLongestStretch stretch x i (stretch_end stretch x i) }
+    ensures { (stretch : Stretch) (x : List ℕ) (i : ℕ) →
+        IsLongestStretch stretch x i (stretch_end stretch x i) }
 {}

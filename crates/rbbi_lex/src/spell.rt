@@ -1,6 +1,7 @@
 //! What a case of the tables spells.
 ghost use Rattle.std.specs.Prelude.{◌≡◌, ◌+◌, ◌<◌, length, IfOk};
-ghost use Rattle.rbbi_lex.specs.declared.case.Case.TheVariants.{Sign, SetSign, SetStart, QuotePair, BareCharacter};
+ghost use Rattle.rbbi_lex.specs.declared.case.Case.TheVariants.{Sign, SetSign, SetStart, QuotePair};
+ghost use Rattle.rbbi_lex.specs.declared.case.Case.TheVariants.{BareCharacter};
 ghost use Rattle.rbbi_lex.specs.Points.{CaseAt};
 ghost use Rattle.rbbi_lex.specs.Spellings.{SpellsBare};
 ghost use Rattle.rbbi_lex.specs.Steps.{IsSpelling};

@@ -1,5 +1,6 @@
 //! Words that a text spells.
-ghost use Rattle.std.specs.Prelude.{◌≡◌, ◌++◌, [], ◌∷◌, ◌≤◌, length, slice_range, string_bytes, chars, IfOk, OnOk};
+ghost use Rattle.std.specs.Prelude.{◌≡◌, ◌++◌, [], ◌∷◌, ◌≤◌, length, slice_range, string_bytes};
+ghost use Rattle.std.specs.Prelude.{chars, IfOk, OnOk};
 
 use rbbi_text::Word;
 use std::alloc::{AllocError, Global};

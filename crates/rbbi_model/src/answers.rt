@@ -32,7 +32,8 @@ pub fn one_table_reply_for_each_command()
 
 /// The replies to a script over the boundaries by rules are determined.
 pub fn replies_are_unique()
-    ensures { (rules : List Rule) (x : List ℕ) (commands : List Command) (these those : List Reply) →
+    ensures { (rules : List Rule) (x : List ℕ) (commands : List Command) (these those : List Reply)
+        →
         AreReplies rules x commands these → AreReplies rules x commands those → these ≡ those }
 {}
 

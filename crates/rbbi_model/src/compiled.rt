@@ -7,7 +7,8 @@ ghost use Rattle.rbbi_model.specs.ValidTables.{IsValidTable};
 ghost use Rattle.rbbi_model.specs.Marks.{Marks, AreMarks, HasSameMarks};
 ghost use Rattle.rbbi_model.specs.Compiled.{GivesBoundaries};
 
-/// A valid table whose rows are marked as the rules say gives the boundaries by the rules, in every text.
+/// A valid table whose rows are marked as the rules say gives the boundaries by the rules, in every
+/// text.
 pub fn same_marks_give_the_boundaries()
     ensures { (table : Table) (rules : List Rule) → IsValidTable table → HasSameMarks table rules →
         GivesBoundaries table rules }

@@ -1,5 +1,5 @@
-//! The definitions that the crates of `rbbi` share: what break rules mean, apart from any engine, and
-//! what a table is, what a search in it finds, and what is kept and read between questions.
+//! The definitions that the crates of `rbbi` share: what break rules mean, apart from any engine,
+//! and what a table is, what a search in it finds, and what is kept and read between questions.
 //!
 //! They stand in `specs/`, one idea a file. The functions here carry no code: each states a law of
 //! those definitions as its contract.

@@ -6,7 +6,8 @@ use Rattle.rbbi_model.specs.Rules.{leaf_count, IsLawfulTree}
 use Rattle.rbbi_model.specs.LeafSets.{SpellsPositions}
 use Rattle.rbbi_positions.specs.Trees.{spells_empty, begins, ends, leads, goes}
 use Rattle.rbbi_positions.proofs.Empties.{empties_spell}
-use Rattle.rbbi_positions.proofs.Nodes.{Begins, Ends, Neighbours, some_spelled, both_begins, both_ends, both_neighbours, repeat_begins, repeat_ends, quest_neighbours, loop_neighbours, star_loops, plus_loops, either_begins, either_ends, either_neighbours}
+use Rattle.rbbi_positions.proofs.Nodes.{Begins, Ends, Neighbours, some_spelled, both_begins, both_ends, both_neighbours, repeat_begins, repeat_ends}
+use Rattle.rbbi_positions.proofs.Nodes.{quest_neighbours, loop_neighbours, star_loops, plus_loops, either_begins, either_ends, either_neighbours}
 
 pub or_parts : (a b : Bool) → (a || b) ≡ true → (a ≡ true) ⊎ (b ≡ true)
 or_parts true b e = inl refl

@@ -65,8 +65,10 @@ repeat_exchange repetition Part part before after sooner later x (pieces, allowe
     let behind' = all_second Part b.sooner ((b.front ++ x ∷ b.back) ∷ b.later) these in
     let new : List ℕ = a.front ++ x ∷ b.back in (
       a.sooner ++ new ∷ b.later,
-      allowed_middle repetition a.sooner a.later b.sooner b.later (a.front ++ x ∷ a.back) (b.front ++ x ∷ b.back) new (subst (Allows repetition) a.pieces_are allowed) (subst (Allows repetition) b.pieces_are allowed'),
-      all-append Part a.sooner (new ∷ b.later) (all_first Part a.sooner ((a.front ++ x ∷ a.back) ∷ a.later) those) (part a.front a.back b.front b.back x behind.0 behind'.0, behind'.1),
+      allowed_middle repetition a.sooner a.later b.sooner b.later (a.front ++ x ∷ a.back) (b.front ++ x ∷ b.back) new
+          (subst (Allows repetition) a.pieces_are allowed) (subst (Allows repetition) b.pieces_are allowed'),
+      all-append Part a.sooner (new ∷ b.later) (all_first Part a.sooner ((a.front ++ x ∷ a.back) ∷ a.later) those)
+          (part a.front a.back b.front b.back x behind.0 behind'.0, behind'.1),
       joins a.sooner b.later a.front b.back before later x a.before_is b.after_is,
     )
   where
@@ -80,7 +82,8 @@ repeat_exchange repetition Part part before after sooner later x (pieces, allowe
 -- the parts of a tree side by side have no position in common
 pub parts_apart : (front rest : Tree) (first : ℕ) → Apart (SpellsPositions front first) (SpellsPositions rest (first + leaf_count front))
 parts_apart front rest first before after sooner later x h g =
-    apart first (leaf_count front) (leaf_count rest) x (middle_in_span front first before after x h) (middle_in_span rest (first + leaf_count front) sooner later x g)
+    apart first (leaf_count front) (leaf_count rest) x (middle_in_span front first before after x h)
+    (middle_in_span rest (first + leaf_count front) sooner later x g)
 
 pub tree_exchange : (tree : Tree) (first : ℕ) → Exchanges (SpellsPositions tree first)
 tree_exchange (Leaf set) first [] after sooner later x h g = leaf_exchange first after sooner later x h g
@@ -98,7 +101,8 @@ tree_exchange (Then front rest) first before after sooner later x h g =
     both_exchange (SpellsPositions front first) (SpellsPositions rest (first + leaf_count front)) (parts_apart front rest first)
     (tree_exchange front first) (tree_exchange rest (first + leaf_count front)) before after sooner later x h g
 tree_exchange (Either front rest) first before after sooner later x (inl h) (inl g) = inl (tree_exchange front first before after sooner later x h g)
-tree_exchange (Either front rest) first before after sooner later x (inr h) (inr g) = inr (tree_exchange rest (first + leaf_count front) before after sooner later x h g)
+tree_exchange (Either front rest) first before after sooner later x (inr h) (inr g) =
+    inr (tree_exchange rest (first + leaf_count front) before after sooner later x h g)
 tree_exchange (Either front rest) first before after sooner later x (inl h) (inr g) = absurd (parts_apart front rest first before after sooner later x h g)
 tree_exchange (Either front rest) first before after sooner later x (inr h) (inl g) = absurd (parts_apart front rest first sooner later before after x g h)
 tree_exchange (Repeat repetition part) first before after sooner later x h g =

@@ -1,5 +1,6 @@
 -- What is computed of rules is what the lists that they spell say.
-use Rattle.std.proofs.Common.{◌≡◌, ℕ, zero, suc, ◌+◌, Bool, true, false, ◌&&◌, ◌||◌, ◌↔◌, Option, None, Some, List, [], ◌∷◌, take, refl, ap, sym, ◌∙◌, inl, inr, arith, rules}
+use Rattle.std.proofs.Common.{◌≡◌, ℕ, zero, suc, ◌+◌, Bool, true, false, ◌&&◌, ◌||◌, ◌↔◌, Option, None, Some, List, [], ◌∷◌, take, refl, ap, sym, ◌∙◌, inl}
+use Rattle.std.proofs.Common.{inr, arith, rules}
 use Rattle.std.specs.Prelude.{slice_get, sum_by, IsSome, IfSome}
 use Rattle.std.specs.List.{AllByRecursion}
 use Rattle.std.specs.Option.{option_map_or}

@@ -1,5 +1,6 @@
 -- First, last and following positions of a node from those of its parts.
-use Rattle.std.proofs.Common.{◌≡◌, ◌≢◌, ℕ, ◌+◌, ◌≤◌, ◌⊎◌, ◌↔◌, List, [], ◌∷◌, ◌++◌, length, refl, ap, sym, ◌∙◌, subst, inl, inr, append_assoc, arith, length-append}
+use Rattle.std.proofs.Common.{◌≡◌, ◌≢◌, ℕ, ◌+◌, ◌≤◌, ◌⊎◌, ◌↔◌, List, [], ◌∷◌, ◌++◌, length, refl, ap, sym, ◌∙◌, subst, inl, inr, append_assoc, arith}
+use Rattle.std.proofs.Common.{length-append}
 use Rattle.std.specs.List.{AllByRecursion}
 use Rattle.std.proofs.lemmas.List.{append-nil}
 use Rattle.rbbi_model.specs.Spelling.{Repetition, Star, Plus, Quest, Tree, Leaf, Empty, Never, Then, Either, Repeat, Allows, joined}
@@ -89,10 +90,12 @@ module _ (Front Rest : Lists) (some_front : Some Front) (some_rest : Some Rest) 
       back (inl (others, r)) = (let (u, f) = some_front in (u ++ others, (u, others ++ position ∷ [], f, r, append_assoc u others (position ∷ []))))
       back (inr (r, (others, f))) = (others, (others ++ position ∷ [], [], f, r, sym (append-nil (others ++ position ∷ []))))
 
-  pub both_neighbours : (position next : ℕ) → Neighbours (Both Front Rest) position next ↔ (Neighbours Front position next ⊎ (Neighbours Rest position next ⊎ (Ends Front position × Begins Rest next)))
+  pub both_neighbours : (position next : ℕ) → Neighbours (Both Front Rest) position next ↔
+      (Neighbours Front position next ⊎ (Neighbours Rest position next ⊎ (Ends Front position × Begins Rest next)))
   both_neighbours position next = (there, back)
     where
-      there : Neighbours (Both Front Rest) position next → Neighbours Front position next ⊎ (Neighbours Rest position next ⊎ (Ends Front position × Begins Rest next))
+      there : Neighbours (Both Front Rest) position next →
+          Neighbours Front position next ⊎ (Neighbours Rest position next ⊎ (Ends Front position × Begins Rest next))
       there (before, after, (u, v, f, r, e)) =
           elim (side_of u v before (next ∷ after) position e) [
             | inl h ↦ across before after h.between v (subst Front h.front_is f) r h.after_is
@@ -106,7 +109,8 @@ module _ (Front Rest : Lists) (some_front : Some Front) (some_rest : Some Rest) 
               let same : x ≡ next = cc in
               inl (before, between, subst (λ (y : ℕ). Front (before ++ position ∷ y ∷ between)) same f)
 
-      back : Neighbours Front position next ⊎ (Neighbours Rest position next ⊎ (Ends Front position × Begins Rest next)) → Neighbours (Both Front Rest) position next
+      back : Neighbours Front position next ⊎ (Neighbours Rest position next ⊎ (Ends Front position × Begins Rest next)) →
+          Neighbours (Both Front Rest) position next
       back (inl (before, after, f)) =
           (let (v, r) = some_rest in (before, after ++ v, (before ++ position ∷ next ∷ after, v, f, r, sym (append_assoc before (position ∷ next ∷ after) v))))
       back (inr (inl (before, after, r))) =
@@ -147,7 +151,8 @@ repeat_begins repetition Part position = (there, λ (others, h). (others, one_pi
     there (others, (pieces, allowed, each, e)) =
         let at = piece_of pieces [] others position e in
         let none = no_parts (joined at.sooner) at.front at.before_is in
-        let inner : Part (at.front ++ position ∷ at.back) = (all_second Part at.sooner ((at.front ++ position ∷ at.back) ∷ at.later) (subst (AllByRecursion Part) at.pieces_are each)).0 in
+        let inner : Part (at.front ++ position ∷ at.back) =
+        (all_second Part at.sooner ((at.front ++ position ∷ at.back) ∷ at.later) (subst (AllByRecursion Part) at.pieces_are each)).0 in
         (at.back, subst (λ (l : List ℕ). Part (l ++ position ∷ at.back)) none.1 inner)
 
 pub repeat_ends : (repetition : Repetition) (Part : Lists) (position : ℕ) → Ends (Repeated repetition Part) position ↔ Ends Part position
@@ -157,23 +162,29 @@ repeat_ends repetition Part position = (there, λ (others, h). (others, one_piec
     there (others, (pieces, allowed, each, e)) =
         let at = piece_of pieces others [] position e in
         let none = no_parts at.back (joined at.later) at.after_is in
-        let inner : Part (at.front ++ position ∷ at.back) = (all_second Part at.sooner ((at.front ++ position ∷ at.back) ∷ at.later) (subst (AllByRecursion Part) at.pieces_are each)).0 in
+        let inner : Part (at.front ++ position ∷ at.back) =
+        (all_second Part at.sooner ((at.front ++ position ∷ at.back) ∷ at.later) (subst (AllByRecursion Part) at.pieces_are each)).0 in
         (at.front, subst (λ (l : List ℕ). Part (at.front ++ position ∷ l)) none.0 inner)
 
 -- where a position and the next stand in joined pieces
-neighbours_there : (Part : Lists) (position next : ℕ) (before after : List ℕ) (pieces : List (List ℕ)) → AllByRecursion Part pieces → before ++ position ∷ next ∷ after ≡ joined pieces →
+neighbours_there : (Part : Lists) (position next : ℕ) (before after : List ℕ) (pieces : List (List ℕ)) → AllByRecursion Part pieces →
+    before ++ position ∷ next ∷ after ≡ joined pieces →
     Neighbours Part position next ⊎ (Ends Part position × Begins Part next × (2 ≤ length pieces))
 neighbours_there Part position next before after pieces each e =
     let at = piece_of pieces before (next ∷ after) position e in
     let behind = all_second Part at.sooner ((at.front ++ position ∷ at.back) ∷ at.later) (subst (AllByRecursion Part) at.pieces_are each) in
-    across at.front at.back at.later at.sooner behind.0 behind.1 at.after_is (ap length at.pieces_are ∙ length-append at.sooner ((at.front ++ position ∷ at.back) ∷ at.later))
+    across at.front at.back at.later at.sooner behind.0 behind.1 at.after_is (ap length at.pieces_are
+    ∙ length-append at.sooner ((at.front ++ position ∷ at.back) ∷ at.later))
   where
-    across : (front back : List ℕ) (later sooner : List (List ℕ)) → Part (front ++ position ∷ back) → AllByRecursion Part later → next ∷ after ≡ back ++ joined later →
-        length pieces ≡ length sooner + length ((front ++ position ∷ back) ∷ later) → Neighbours Part position next ⊎ (Ends Part position × Begins Part next × (2 ≤ length pieces))
+    across : (front back : List ℕ) (later sooner : List (List ℕ)) → Part (front ++ position ∷ back) → AllByRecursion Part later →
+        next ∷ after ≡ back ++ joined later →
+        length pieces ≡ length sooner + length ((front ++ position ∷ back) ∷ later) →
+        Neighbours Part position next ⊎ (Ends Part position × Begins Part next × (2 ≤ length pieces))
     across front [] later sooner here rest e' long =
         let at = piece_of later [] after next e' in
         let none = no_parts (joined at.sooner) at.front at.before_is in
-        let inner : Part (at.front ++ next ∷ at.back) = (all_second Part at.sooner ((at.front ++ next ∷ at.back) ∷ at.later) (subst (AllByRecursion Part) at.pieces_are rest)).0 in
+        let inner : Part (at.front ++ next ∷ at.back) =
+        (all_second Part at.sooner ((at.front ++ next ∷ at.back) ∷ at.later) (subst (AllByRecursion Part) at.pieces_are rest)).0 in
         inr (
           (front, here),
           (at.back, subst (λ (l : List ℕ). Part (l ++ next ∷ at.back)) none.1 inner),
@@ -240,7 +251,8 @@ either_ends Front Rest position = (
   λ h. elim h [ inl (others, f) ↦ (others, inl f) | inr (others, r) ↦ (others, inr r) ],
 )
 
-pub either_neighbours : (Front Rest : Lists) (position next : ℕ) → Neighbours (EitherOf Front Rest) position next ↔ (Neighbours Front position next ⊎ Neighbours Rest position next)
+pub either_neighbours : (Front Rest : Lists) (position next : ℕ) → Neighbours (EitherOf Front Rest) position next ↔
+    (Neighbours Front position next ⊎ Neighbours Rest position next)
 either_neighbours Front Rest position next = (
   λ (before, after, h). elim h [ inl f ↦ inl (before, after, f) | inr r ↦ inr (before, after, r) ],
   λ h. elim h [ inl (before, after, f) ↦ (before, after, inl f) | inr (before, after, r) ↦ (before, after, inr r) ],

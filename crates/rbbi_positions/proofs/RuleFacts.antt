@@ -1,5 +1,6 @@
 -- Rules one after another: their leaves, and what some rule of the first ones passes.
-use Rattle.std.proofs.Common.{◌≡◌, ℕ, zero, suc, ◌+◌, ◌-◌, ◌<◌, ◌≤◌, Bool, ◌||◌, Option, None, Some, List, [], ◌∷◌, ◌++◌, length, take, replicate, get_or, ⊎_elim, append_assoc, refl, ap, sym, ◌∙◌, subst, arith, length-append}
+use Rattle.std.proofs.Common.{◌≡◌, ℕ, zero, suc, ◌+◌, ◌-◌, ◌<◌, ◌≤◌, Bool, ◌||◌, Option, None, Some, List, [], ◌∷◌, ◌++◌, length, take, replicate, get_or}
+use Rattle.std.proofs.Common.{⊎_elim, append_assoc, refl, ap, sym, ◌∙◌, subst, arith, length-append}
 use Rattle.std.specs.Prelude.{map, flat_map, sum_by, slice_get}
 use Rattle.std.specs.Option.{option_map, option_map_or}
 use Rattle.std.proofs.lemmas.List.{take_all, length-map, append-nil, get_or_append_left, get_or-append_right, get_or-replicate, length-replicate}

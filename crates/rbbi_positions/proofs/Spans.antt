@@ -32,16 +32,24 @@ in_span Never first positions h = absurd h
 in_span (Then front rest) first positions (u, v, left, right, e) =
     let P : List ℕ → Type 0 = AllByRecursion (InSpan first (leaf_count front + leaf_count rest)) in
     subst P (sym e) (all-append (InSpan first (leaf_count front + leaf_count rest)) u v
-    (all_weaken (InSpan first (leaf_count front)) (InSpan first (leaf_count front + leaf_count rest)) u (sooner_span first (leaf_count front) (leaf_count rest)) (in_span front first u left))
-    (all_weaken (InSpan (first + leaf_count front) (leaf_count rest)) (InSpan first (leaf_count front + leaf_count rest)) v (later_span first (leaf_count front) (leaf_count rest)) (in_span rest (first + leaf_count front) v right)))
-in_span (Either front rest) first positions (inl h) = all_weaken (InSpan first (leaf_count front)) (InSpan first (leaf_count front + leaf_count rest)) positions (sooner_span first (leaf_count front) (leaf_count rest)) (in_span front first positions h)
-in_span (Either front rest) first positions (inr h) = all_weaken (InSpan (first + leaf_count front) (leaf_count rest)) (InSpan first (leaf_count front + leaf_count rest)) positions (later_span first (leaf_count front) (leaf_count rest)) (in_span rest (first + leaf_count front) positions h)
+    (all_weaken (InSpan first (leaf_count front)) (InSpan first (leaf_count front + leaf_count rest)) u
+    (sooner_span first (leaf_count front) (leaf_count rest)) (in_span front first u left))
+    (all_weaken (InSpan (first + leaf_count front) (leaf_count rest)) (InSpan first (leaf_count front + leaf_count rest)) v
+    (later_span first (leaf_count front) (leaf_count rest)) (in_span rest (first + leaf_count front) v right)))
+in_span (Either front rest) first positions (inl h) =
+    all_weaken (InSpan first (leaf_count front)) (InSpan first (leaf_count front + leaf_count rest)) positions
+    (sooner_span first (leaf_count front) (leaf_count rest)) (in_span front first positions h)
+in_span (Either front rest) first positions (inr h) =
+    all_weaken (InSpan (first + leaf_count front) (leaf_count rest)) (InSpan first (leaf_count front + leaf_count rest)) positions
+    (later_span first (leaf_count front) (leaf_count rest)) (in_span rest (first + leaf_count front) positions h)
 in_span (Repeat repetition part) first positions (pieces, allowed, each, e) =
     let P : List ℕ → Type 0 = AllByRecursion (InSpan first (leaf_count part)) in
-    subst P (sym e) (joined_within (InSpan first (leaf_count part)) pieces (all_weaken (SpellsPositions part first) (AllByRecursion (InSpan first (leaf_count part))) pieces (in_span part first) each))
+    subst P (sym e) (joined_within (InSpan first (leaf_count part)) pieces
+    (all_weaken (SpellsPositions part first) (AllByRecursion (InSpan first (leaf_count part))) pieces (in_span part first) each))
 
 -- a position in the middle of a spelled list
-pub middle_in_span : (tree : Tree) (first : ℕ) (before after : List ℕ) (x : ℕ) → SpellsPositions tree first (before ++ x ∷ after) → InSpan first (leaf_count tree) x
+pub middle_in_span : (tree : Tree) (first : ℕ) (before after : List ℕ) (x : ℕ) → SpellsPositions tree first (before ++ x ∷ after) →
+    InSpan first (leaf_count tree) x
 middle_in_span tree first before after x h = (all_second (InSpan first (leaf_count tree)) before (x ∷ after) (in_span tree first (before ++ x ∷ after) h)).0
 
 -- two neighbouring spans have nothing in common

@@ -20,9 +20,11 @@ heads x y xs ys e = cc
 tails : {X : Type 0} (x y : X) (xs ys : List X) → x ∷ xs ≡ y ∷ ys → xs ≡ ys
 tails x y xs ys e = cc
 
-pub side_of : {X : Type 0} (front back before after : List X) (x : X) → before ++ x ∷ after ≡ front ++ back → InFirst front back before after x ⊎ InSecond front back before after x
+pub side_of : {X : Type 0} (front back before after : List X) (x : X) → before ++ x ∷ after ≡ front ++ back →
+    InFirst front back before after x ⊎ InSecond front back before after x
 side_of [] back before after x e = inr (record { between = before; back_is = sym e; before_is = refl })
-side_of (y ∷ front) back [] after x e = inl (record { between = front; front_is = ap (λ z. z ∷ front) (sym (heads x y after (front ++ back) e)); after_is = tails x y after (front ++ back) e })
+side_of (y ∷ front) back [] after x e =
+    inl (record { between = front; front_is = ap (λ z. z ∷ front) (sym (heads x y after (front ++ back) e)); after_is = tails x y after (front ++ back) e })
 side_of (y ∷ front) back (z ∷ before) after x e =
     let same : y ≡ z = sym (heads z y (before ++ x ∷ after) (front ++ back) e) in
     elim (side_of front back before after x (tails z y (before ++ x ∷ after) (front ++ back) e)) [
@@ -45,7 +47,16 @@ piece_of [] [] after x e = absurd (cc)
 piece_of [] (y ∷ before) after x e = absurd (cc)
 piece_of (piece ∷ pieces) before after x e =
     elim (side_of piece (joined pieces) before after x e) [
-      | inl h ↦ record { sooner = []; front = before; back = h.between; later = pieces; pieces_are = ap (λ p. p ∷ pieces) h.front_is; before_is = refl; after_is = h.after_is }
+      | inl h ↦ record {
+        sooner = [];
+        front = before;
+        back = h.between;
+        later = pieces;
+        pieces_are = ap (λ p. p ∷ pieces) h.front_is;
+        before_is =
+            refl;
+        after_is = h.after_is;
+      }
       | inr h ↦
           let rest = piece_of pieces h.between after x (sym h.back_is) in
           record {

@@ -5,7 +5,8 @@ use Rattle.std.specs.Prelude.{slice_get}
 use Rattle.rbbi_model.specs.Rules.{Rule}
 use Rattle.rbbi_model.specs.LeafSets.{SpellsPositions, RuleSpellsPositions, first_position}
 use Rattle.rbbi_positions.specs.FollowPositions.{IsSpelled, IsFrontSpelled}
-use Rattle.rbbi_positions.specs.Walks.{EachFollows, IsWalk, IsPrefix, SpelledAreOfTheRule, SpelledAreExchanged, FrontsAreExchanged, PrefixesAreWalks, SpelledAreWalks, FrontWalksAreSpelled}
+use Rattle.rbbi_positions.specs.Walks.{EachFollows, IsWalk, IsPrefix, SpelledAreOfTheRule, SpelledAreExchanged, FrontsAreExchanged, PrefixesAreWalks}
+use Rattle.rbbi_positions.specs.Walks.{SpelledAreWalks, FrontWalksAreSpelled}
 use Rattle.rbbi_positions.proofs.Exchanges.{spelled_exchange, front_exchange}
 use Rattle.rbbi_positions.proofs.RuleSpans.{one_rule, rule_middle, front_middle}
 
@@ -55,7 +56,8 @@ pub respelled : (rules : List Rule) (number : ℕ) (these those : List ℕ) → 
 respelled rules number these those e h = subst (IsSpelled rules number) e h
 
 -- a beginning goes on along a walk
-goes_on : (rules : List Rule) (before : List ℕ) (x : ℕ) (positions : List ℕ) → IsPrefix rules (before ++ x ∷ []) → EachFollows rules (x ∷ positions) → IsPrefix rules (before ++ x ∷ positions)
+goes_on : (rules : List Rule) (before : List ℕ) (x : ℕ) (positions : List ℕ) → IsPrefix rules (before ++ x ∷ []) → EachFollows rules (x ∷ positions) →
+    IsPrefix rules (before ++ x ∷ positions)
 goes_on rules before x [] h g = h
 goes_on rules before x (y ∷ positions) h (follows, each) =
     let begun = respelled rules h.number ((before ++ x ∷ []) ++ h.others) (before ++ x ∷ h.others) (append_assoc before (x ∷ []) h.others) h.spelled in
@@ -74,13 +76,15 @@ walk_begins rules (x ∷ positions) (first, each) =
     (λ e. absurd (cc), goes_on rules [] x positions (record { number = first.number; others = first.others; spelled = first.spelled }) each)
 
 -- in a list that is spelled each position follows the one before it
-each_follows : (rules : List Rule) (number : ℕ) (before positions others : List ℕ) → IsSpelled rules number (before ++ (positions ++ others)) → EachFollows rules positions
+each_follows : (rules : List Rule) (number : ℕ) (before positions others : List ℕ) → IsSpelled rules number (before ++ (positions ++ others)) →
+    EachFollows rules positions
 each_follows rules number before [] others h = tt
 each_follows rules number before (x ∷ []) others h = tt
 each_follows rules number before (x ∷ y ∷ positions) others h = (
   record { number = number; before = before; after = positions ++ others; spelled = h },
   each_follows rules number (before ++ x ∷ []) (y ∷ positions) others
-      (respelled rules number (before ++ x ∷ y ∷ (positions ++ others)) ((before ++ x ∷ []) ++ y ∷ (positions ++ others)) (sym (append_assoc before (x ∷ []) (y ∷ (positions ++ others)))) h),
+      (respelled rules number (before ++ x ∷ y ∷ (positions ++ others)) ((before ++ x ∷ []) ++ y ∷ (positions ++ others))
+      (sym (append_assoc before (x ∷ []) (y ∷ (positions ++ others)))) h),
 )
 
 prefix_walks : (rules : List Rule) (positions : List ℕ) → positions ≢ [] → IsPrefix rules positions → IsWalk rules positions
@@ -92,10 +96,15 @@ pub prefixes_are_walks : PrefixesAreWalks
 prefixes_are_walks rules positions = (walk_begins rules positions, λ (some, h). prefix_walks rules positions some h)
 
 -- a walk is begun by a list that is spelled up to its last position
-begun : (rules : List Rule) (others : List ℕ) (position : ℕ) → IsWalk rules (others ++ position ∷ []) → (number : ℕ) × (after : List ℕ) × IsSpelled rules number (others ++ position ∷ after)
+begun : (rules : List Rule) (others : List ℕ) (position : ℕ) → IsWalk rules (others ++ position ∷ []) → (number : ℕ) ×
+    (after : List ℕ) × IsSpelled rules number (others ++ position ∷ after)
 begun rules others position walk =
-    let h = (walk_begins rules (others ++ position ∷ []) walk).1 in
-    (h.number, h.others, respelled rules h.number ((others ++ position ∷ []) ++ h.others) (others ++ position ∷ h.others) (append_assoc others (position ∷ []) h.others) h.spelled)
+    let h = (walk_begins rules (others ++ position ∷ []) walk).1 in (
+      h.number,
+      h.others,
+      respelled rules h.number ((others ++ position ∷ []) ++ h.others) (others ++ position ∷ h.others)
+          (append_assoc others (position ∷ []) h.others) h.spelled,
+    )
 
 not_empty : (others : List ℕ) (position : ℕ) → others ++ position ∷ [] ≢ []
 not_empty [] position e = absurd (cc)
@@ -105,7 +114,12 @@ pub spelled_are_walks : SpelledAreWalks
 spelled_are_walks rules others position = (
   λ (number, h). (
     prefix_walks rules (others ++ position ∷ []) (not_empty others position)
-        (record { number = number; others = []; spelled = respelled rules number (others ++ position ∷ []) ((others ++ position ∷ []) ++ []) (sym (append-nil (others ++ position ∷ []))) h }),
+        (record {
+          number = number;
+          others = [];
+          spelled =
+              respelled rules number (others ++ position ∷ []) ((others ++ position ∷ []) ++ []) (sym (append-nil (others ++ position ∷ []))) h;
+        }),
     record { number = number; others = others; spelled = h },
   ),
   λ (walk, last).

@@ -1,5 +1,6 @@
 -- What contracts see of positions, and what its marks mean.
-use Rattle.std.specs.Prelude.{◌≡◌, ℕ, ◌+◌, ◌*◌, ◌/◌, ◌%◌, ◌^◌, ◌<◌, ◌≤◌, Bool, false, ◌↔◌, Option, Some, List, length, take, IsTrue, slice_index, slice_index_or, slice_get, sum_by}
+use Rattle.std.specs.Prelude.{◌≡◌, ℕ, ◌+◌, ◌*◌, ◌/◌, ◌%◌, ◌^◌, ◌<◌, ◌≤◌, Bool, false, ◌↔◌, Option, Some, List, length, take, IsTrue, slice_index}
+use Rattle.std.specs.Prelude.{slice_index_or, slice_get, sum_by}
 use Rattle.std.specs.Option.{option_map}
 use Rattle.rbbi_model.specs.Words.{IsCodePoint}
 use Rattle.rbbi_model.specs.Rules.{Rule, leaves_of, look_aheads}

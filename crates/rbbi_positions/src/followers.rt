@@ -1,5 +1,5 @@
-//! The positions that follow one another in lists which a tree spells. What may follow behind a tree
-//! is handed down, so that each row is written once.
+//! The positions that follow one another in lists which a tree spells. What may follow behind a
+//! tree is handed down, so that each row is written once.
 ghost use Rattle.std.specs.Prelude.{◌≡◌, ◌+◌, ◌*◌, ◌<◌, ◌≤◌, ◌||◌, ℕ, List, length, OnOk, IfOk};
 ghost use Rattle.rbbi_model.specs.Ranges.{Range};
 ghost use Rattle.rbbi_model.specs.Rules.{leaf_count};

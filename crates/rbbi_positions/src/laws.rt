@@ -1,5 +1,7 @@
 //! Laws of the positions that the rules spell.
-ghost use Rattle.rbbi_positions.specs.Walks.{SpelledAreOfTheRule, SpelledAreExchanged, FrontsAreExchanged, PrefixesAreWalks, SpelledAreWalks, FrontWalksAreSpelled};
+ghost use Rattle.rbbi_positions.specs.Walks.{SpelledAreOfTheRule, SpelledAreExchanged};
+ghost use Rattle.rbbi_positions.specs.Walks.{FrontsAreExchanged, PrefixesAreWalks, SpelledAreWalks};
+ghost use Rattle.rbbi_positions.specs.Walks.{FrontWalksAreSpelled};
 
 /// The positions of a list that a rule spells are those of its leaves.
 pub fn spelled_are_of_the_rule()

@@ -1,5 +1,6 @@
 //! Positions and their marks.
-ghost use Rattle.std.specs.Prelude.{◌≡◌, ◌<◌, ◌≤◌, ◌+◌, ◌*◌, false, Some, length, slice_get, slice_index, slice_index_or, slice_range};
+ghost use Rattle.std.specs.Prelude.{◌≡◌, ◌<◌, ◌≤◌, ◌+◌, ◌*◌, false, Some, length, slice_get};
+ghost use Rattle.std.specs.Prelude.{slice_index, slice_index_or, slice_range};
 ghost use Rattle.std.specs.Option.{option_map};
 ghost use Rattle.rbbi_positions.specs.PositionMarks.{marked_follows, marked_reads};
 
@@ -7,10 +8,10 @@ use crate::bits::is_set;
 use crate::rule_mark::Mark;
 use std::marker::Model;
 
-/// The leaves of all rules, numbered from 0 in the order of the file, a rule's front before its rest,
-/// with the marks of McNaughton and Yamada (1960) and Glushkov (1961): which of them are first, last,
-/// or last of a front, and which may follow which. Contracts see the marks as a `PositionMarks`;
-/// `ArePositions` says what they mean.
+/// The leaves of all rules, numbered from 0 in the order of the file, a rule's front before its
+/// rest, with the marks of McNaughton and Yamada (1960) and Glushkov (1961): which of them are
+/// first, last, or last of a front, and which may follow which. Contracts see the marks as a
+/// `PositionMarks`; `ArePositions` says what they mean.
 ///
 /// Followers and readers are rows of bits, so that the union of many rows is quick.
 #[derive(Debug, Drop)]
@@ -110,7 +111,8 @@ impl Positions {
     /// Whether a match may be extended with the rule from its last character on.
     pub fn chained_into(&self, rule: u32) -> bool
         requires { rule < length self.now.rules }
-        ensures { option_map (λ mark. mark.chained_into) (slice_get self.now.rules rule) ≡ Some result }
+        ensures { option_map (λ mark. mark.chained_into)
+            (slice_get self.now.rules rule) ≡ Some result }
     {
         let found = self.rules[rule as usize];
         found.chained_into

@@ -1,5 +1,6 @@
 //! The positions that read each category.
-ghost use Rattle.std.specs.Prelude.{◌≡◌, ◌+◌, ◌*◌, ◌<◌, ◌≤◌, ℕ, IsTrue, ◌↔◌, IfOk, length, slice_index, vec_len};
+ghost use Rattle.std.specs.Prelude.{◌≡◌, ◌+◌, ◌*◌, ◌<◌, ◌≤◌, ℕ, IsTrue, ◌↔◌, IfOk, length};
+ghost use Rattle.std.specs.Prelude.{slice_index, vec_len};
 ghost use Rattle.std.specs.List.{AllByRecursion};
 ghost use Rattle.rbbi_model.specs.Ranges.{Has};
 ghost use Rattle.rbbi_model.specs.ValidTables.{AreValidRanges};

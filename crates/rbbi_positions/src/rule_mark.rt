@@ -14,7 +14,17 @@ impl Model for Mark {
 
     ghost Value = { RuleMark };
 
-    ghost view = { λ mark. record { chained_into = mark.chained_into; tag = mark.tag; slash = mark.slash } };
+    ghost view = { λ mark. record {
+      chained_into = mark.chained_into;
+      tag = mark.tag;
+      slash =
+          mark.slash;
+    } };
 
-    ghost inverse = { λ mark. record { chained_into = mark.chained_into; tag = mark.tag; slash = mark.slash } };
+    ghost inverse = { λ mark. record {
+      chained_into = mark.chained_into;
+      tag = mark.tag;
+      slash =
+          mark.slash;
+    } };
 }

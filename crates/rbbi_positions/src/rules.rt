@@ -1,11 +1,13 @@
 //! The marks of the positions of all rules.
-ghost use Rattle.std.specs.Prelude.{◌≡◌, ◌+◌, ◌*◌, ◌<◌, ◌≤◌, ◌||◌, ℕ, List, false, IfOk, OnOk, ◌++◌, replicate, length, slice_index_or, sum_by};
+ghost use Rattle.std.specs.Prelude.{◌≡◌, ◌+◌, ◌*◌, ◌<◌, ◌≤◌, ◌||◌, ℕ, List, false, IfOk, OnOk};
+ghost use Rattle.std.specs.Prelude.{◌++◌, replicate, length, slice_index_or, sum_by};
 ghost use Rattle.rbbi_model.specs.Ranges.{Range};
 ghost use Rattle.rbbi_model.specs.Rules.{leaves_of, AreLawful};
 ghost use Rattle.rbbi_resolve.specs.RuleLists.{rule_of, rules_of};
 ghost use Rattle.rbbi_positions.specs.PositionMarks.{in_row};
 ghost use Rattle.rbbi_positions.specs.Rows.{row_bit};
-ghost use Rattle.rbbi_positions.specs.RuleTests.{some_rule, rule_begins, front_ends, rule_ends, rule_goes, AreOwners};
+ghost use Rattle.rbbi_positions.specs.RuleTests.{some_rule, rule_begins, front_ends, rule_ends};
+ghost use Rattle.rbbi_positions.specs.RuleTests.{rule_goes, AreOwners};
 
 use crate::count::count;
 use crate::firsts::add_firsts;
@@ -100,8 +102,8 @@ pub(crate) fn lasts_of(alloc: Global, rules: &Rules, leaves: usize) -> Result<Ve
     Ok(flags)
 }
 
-/// Adds to the rows of the rule's positions those that follow them; in the row `none` no bit is set.
-/// A rest isn't empty, so what may follow its front are its first positions.
+/// Adds to the rows of the rule's positions those that follow them; in the row `none` no bit is
+/// set. A rest isn't empty, so what may follow its front are its first positions.
 fn add_rule_followers(
     alloc: Global,
     rule: &Rule,

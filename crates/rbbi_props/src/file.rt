@@ -1,5 +1,6 @@
 //! A property file.
-ghost use Rattle.std.specs.Prelude.{◌≡◌, ◌≤◌, ◌<◌, ◌∷◌, [], ◌++◌, false, length, None, IfOk, IfErr, OnOk, IsUtf8, filter_map};
+ghost use Rattle.std.specs.Prelude.{◌≡◌, ◌≤◌, ◌<◌, ◌∷◌, [], ◌++◌, false, length, None, IfOk, IfErr};
+ghost use Rattle.std.specs.Prelude.{OnOk, IsUtf8, filter_map};
 ghost use Rattle.std.specs.List.{position};
 ghost use Rattle.std.specs.Str.Lines.{lines};
 ghost use Rattle.rbbi_text.specs.Bytes.{most_bytes};

@@ -1,5 +1,6 @@
 -- Boundaries that were listed one by one.
-use Rattle.std.proofs.Common.{◌≡◌, ℕ, ◌+◌, ◌-◌, ◌<◌, ◌≤◌, Bool, true, false, ltb, List, [], ◌∷◌, ◌++◌, Option, Some, None, length, sym, refl, ap, ◌∙◌, subst, append_assoc, append-nil, arith}
+use Rattle.std.proofs.Common.{◌≡◌, ℕ, ◌+◌, ◌-◌, ◌<◌, ◌≤◌, Bool, true, false, ltb, List, [], ◌∷◌, ◌++◌, Option, Some, None, length, sym, refl, ap, ◌∙◌, subst}
+use Rattle.std.proofs.Common.{append_assoc, append-nil, arith}
 use Rattle.std.specs.Prelude.{unwrap_or}
 use Rattle.std.specs.List.{flat_map, AllByRecursion}
 use Rattle.std.proofs.lemmas.Bool.{cond-false, le-ltb, lt-ltb}
@@ -53,9 +54,11 @@ next_place low [] later = refl
 next_place low (c ∷ rest) later = first_takes (λ p. ltb low p) c rest (lt-ltb low c.at later.0)
 
 -- the first boundary past one of them is the next of the list
-first_is_next : (front : List Boundary) (b : Boundary) (rest : List Boundary) → IsRising (places (front ++ b ∷ rest)) → first_after (front ++ b ∷ rest) b.at ≡ place_of rest
+first_is_next : (front : List Boundary) (b : Boundary) (rest : List Boundary) → IsRising (places (front ++ b ∷ rest)) →
+    first_after (front ++ b ∷ rest) b.at ≡ place_of rest
 first_is_next front b rest rising =
-    first_skips (λ p. ltb b.at p) front (b ∷ rest) (all_through (λ c. c.at < b.at) (λ c. ltb b.at c.at ≡ false) (λ c less. le-ltb b.at c.at (omega arith)) front (rises_before front b rest rising))
+    first_skips (λ p. ltb b.at p) front (b ∷ rest) (all_through (λ c. c.at < b.at) (λ c. ltb b.at c.at ≡ false) (λ c less. le-ltb b.at c.at (omega arith))
+    front (rises_before front b rest rising))
     ∙ cond-false (ltb b.at b.at) (Some b.at) (first_after rest b.at) (le-ltb b.at b.at (omega arith))
     ∙ next_place b.at rest (rises_after b rest (rising_right front (b ∷ rest) rising))
 
@@ -93,7 +96,8 @@ record IsStep (old now : Session) (at : ℕ) (front : List Boundary) (b : Bounda
   here : b.at ≡ at
   cursor : now.state.cursor ≡ at
 
-module _ (old now : Session) (at : ℕ) (list : List ℕ) (replied : AllOf list ≡ (answer_of now Statuses).reply) (front : List Boundary) (b : Boundary) (rest : List Boundary) (step : IsStep old now at front b rest) where
+module _ (old now : Session) (at : ℕ) (list : List ℕ) (replied : AllOf list ≡ (answer_of now Statuses).reply) (front : List Boundary) (b : Boundary)
+    (rest : List Boundary) (step : IsStep old now at front b rest) where
   statuses_are : list ≡ b.statuses
   statuses_are =
       let is : list ≡ statuses_at (boundaries_of now) now.state.cursor = cc (replied) in
@@ -103,7 +107,8 @@ module _ (old now : Session) (at : ℕ) (list : List ℕ) (replied : AllOf list 
       ∙ statuses_here front b rest (rises_before front b rest step.rising)
 
   line_is : boundary_line (record { at = at; statuses = list }) ≡ boundary_line b
-  line_is = ap (λ p. boundary_line (record { at = p; statuses = list })) (sym step.here) ∙ ap (λ l. boundary_line (record { at = b.at; statuses = l })) statuses_are
+  line_is = ap (λ p. boundary_line (record { at = p; statuses = list })) (sym step.here)
+      ∙ ap (λ l. boundary_line (record { at = b.at; statuses = l })) statuses_are
 
   next_is : (place : Option ℕ) (new : Session) → Answers now Next (place_reply place) new → place ≡ place_of rest
   next_is place new answers =
@@ -112,7 +117,8 @@ module _ (old now : Session) (at : ℕ) (list : List ℕ) (replied : AllOf list 
       ∙ ap (λ bs. first_after bs b.at) step.whole
       ∙ first_is_next front b rest step.rising
 
-stands_next : (cursor other : ℕ) (rest : List Boundary) (place : Option ℕ) → place ≡ place_of rest → cursor ≡ unwrap_or place other → StandsBefore cursor place rest
+stands_next : (cursor other : ℕ) (rest : List Boundary) (place : Option ℕ) → place ≡ place_of rest → cursor ≡ unwrap_or place other →
+    StandsBefore cursor place rest
 stands_next cursor other [] None is stands = refl
 stands_next cursor other [] (Some p) is stands = cc
 stands_next cursor other (b ∷ rest) None is stands = cc
@@ -128,8 +134,10 @@ pub record IsFurther (old new : Session) (at : ℕ) (place : Option ℕ) (before
   pub less : left_of (length old.state.text) place < length old.state.text + 1 - at
 
 module _ (old now : Session) (at : ℕ) (list : List ℕ) (replied : AllOf list ≡ (answer_of now Statuses).reply) (before reply : List ℕ) where
-  further : (front rest : List Boundary) → boundaries_of old ≡ front ++ rest → reply ≡ before ++ boundary_lines front → now.state.text ≡ old.state.text → now.table ≡ old.table → StandsBefore now.state.cursor (Some at) rest →
-      (place : Option ℕ) (new : Session) (after : List ℕ) → after ≡ reply ++ boundary_line (record { at = at; statuses = list }) → Answers now Next (place_reply place) new → IsFurther old new at place before after
+  further : (front rest : List Boundary) → boundaries_of old ≡ front ++ rest → reply ≡ before ++ boundary_lines front → now.state.text ≡ old.state.text →
+      now.table ≡ old.table → StandsBefore now.state.cursor (Some at) rest →
+      (place : Option ℕ) (new : Session) (after : List ℕ) → after ≡ reply ++ boundary_line (record { at = at; statuses = list }) →
+      Answers now Next (place_reply place) new → IsFurther old new at place before after
   further front [] whole appended text table stands place new after more answers = absurd stands
   further front (b ∷ rest) whole appended text table stands place new after more answers =
       let rising : IsRising (places (front ++ b ∷ rest)) = subst (λ bs. IsRising (places bs)) whole (table_covers old.table old.state.text).rise in
@@ -140,9 +148,11 @@ module _ (old now : Session) (at : ℕ) (list : List ℕ) (replied : AllOf list 
         cursor = stands.1;
       } in
       let within : AllByRecursion (λ c. c.at ≤ length old.state.text) (b ∷ rest) =
-      later_within front (b ∷ rest) (length old.state.text) (subst (λ bs. AllByRecursion (λ c. c.at ≤ length old.state.text) bs) whole (none_past old.table old.state.text)) in
+      later_within front (b ∷ rest) (length old.state.text)
+      (subst (λ bs. AllByRecursion (λ c. c.at ≤ length old.state.text) bs) whole (none_past old.table old.state.text)) in
       let place_next : place ≡ place_of rest = next_is old now at list replied front b rest step place new answers in
-      let found : place ≡ first_after (boundaries_of now) now.state.cursor = place_is place (first_after (boundaries_of now) now.state.cursor) now.state.cursor answers.replied in
+      let found : place ≡ first_after (boundaries_of now) now.state.cursor =
+      place_is place (first_after (boundaries_of now) now.state.cursor) now.state.cursor answers.replied in
       let low : b.at ≤ length old.state.text = within.0 in
       record {
         listed = record {
@@ -159,15 +169,18 @@ module _ (old now : Session) (at : ℕ) (list : List ℕ) (replied : AllOf list 
           text_is = ap (λ s. s.text) answers.moved.state_is ∙ text;
           table_is = answers.moved.table_is ∙ table;
           stands = stands_next new.state.cursor now.state.cursor rest place place_next
-              (ap (λ s. s.cursor) answers.moved.state_is ∙ moved_cursor (first_after (boundaries_of now) now.state.cursor) now.state.cursor ∙ ap (λ p. unwrap_or p now.state.cursor) (sym found));
+              (ap (λ s. s.cursor) answers.moved.state_is ∙ moved_cursor (first_after (boundaries_of now) now.state.cursor) now.state.cursor
+              ∙ ap (λ p. unwrap_or p now.state.cursor) (sym found));
         };
         less = subst (λ p. left_of (length old.state.text) p < length old.state.text + 1 - at) (sym place_next)
             (subst (λ p. left_of (length old.state.text) (place_of rest) < length old.state.text + 1 - p) stands.0
             (falls (length old.state.text) b.at rest low (rises_after b rest (rising_right front (b ∷ rest) rising))));
       }
 
-  broken : (front rest : List Boundary) → boundaries_of old ≡ front ++ rest → reply ≡ before ++ boundary_lines front → now.state.text ≡ old.state.text → now.table ≡ old.table → StandsBefore now.state.cursor (Some at) rest →
-      (after : List ℕ) → AppendsFront reply (boundary_line (record { at = at; statuses = list })) after → AppendsFront before (boundary_lines (boundaries_of old)) after
+  broken : (front rest : List Boundary) → boundaries_of old ≡ front ++ rest → reply ≡ before ++ boundary_lines front → now.state.text ≡ old.state.text →
+      now.table ≡ old.table → StandsBefore now.state.cursor (Some at) rest →
+      (after : List ℕ) → AppendsFront reply (boundary_line (record { at = at; statuses = list })) after →
+      AppendsFront before (boundary_lines (boundaries_of old)) after
   broken front [] whole appended text table stands after more = absurd stands
   broken front (b ∷ rest) whole appended text table stands after more =
       let step : IsStep old now at front b rest = record {
@@ -181,10 +194,13 @@ module _ (old now : Session) (at : ℕ) (list : List ℕ) (replied : AllOf list 
       (front_first reply (boundary_line b) (boundary_lines rest) (boundary_line b ++ boundary_lines rest) after refl
       (subst (λ l. AppendsFront reply l after) (line_is old now at list replied front b rest step) more))
 
-  pub listed_further : AreListed old now (Some at) before reply → (place : Option ℕ) (new : Session) (after : List ℕ) → after ≡ reply ++ boundary_line (record { at = at; statuses = list }) → Answers now Next (place_reply place) new → IsFurther old new at place before after
-  listed_further are place new after more answers = further are.front are.rest are.whole are.appended are.text_is are.table_is are.stands place new after more answers
+  pub listed_further : AreListed old now (Some at) before reply → (place : Option ℕ) (new : Session) (after : List ℕ) →
+      after ≡ reply ++ boundary_line (record { at = at; statuses = list }) → Answers now Next (place_reply place) new → IsFurther old new at place before after
+  listed_further are place new after more answers =
+      further are.front are.rest are.whole are.appended are.text_is are.table_is are.stands place new after more answers
 
-  pub listed_broken : AreListed old now (Some at) before reply → (after : List ℕ) → AppendsFront reply (boundary_line (record { at = at; statuses = list })) after → AppendsFront before (boundary_lines (boundaries_of old)) after
+  pub listed_broken : AreListed old now (Some at) before reply → (after : List ℕ) → AppendsFront reply (boundary_line (record { at = at; statuses = list }))
+      after → AppendsFront before (boundary_lines (boundaries_of old)) after
   listed_broken are after more = broken are.front are.rest are.whole are.appended are.text_is are.table_is are.stands after more
 
 -- all were listed
@@ -196,10 +212,12 @@ listed_all old now before after are =
     ∙ ap (λ bs. before ++ boundary_lines bs) (sym are.whole)
 
 -- asked whether the boundary is one at which the cursor stood, the session goes back to it
-pub goes_back : (old now new : Session) (cursor : ℕ) (reply : Reply) → now.state.text ≡ old.state.text → now.table ≡ old.table → cursor ≡ old.state.cursor → IsPlaceOf (boundaries_of old) cursor → Answers now (IsBoundary cursor) reply new → new.state ≡ old.state
+pub goes_back : (old now new : Session) (cursor : ℕ) (reply : Reply) → now.state.text ≡ old.state.text → now.table ≡ old.table → cursor ≡ old.state.cursor →
+    IsPlaceOf (boundaries_of old) cursor → Answers now (IsBoundary cursor) reply new → new.state ≡ old.state
 goes_back old now new cursor reply text table same here answers =
     let bs : List Boundary = boundaries_of old in
     let from : first_from (boundaries_of old) cursor ≡ Some cursor = from_a_place bs cursor (table_covers old.table old.state.text).rise here in
     let back : unwrap_or (first_from (boundaries_of now) cursor) (end_of (boundaries_of now)) ≡ old.state.cursor =
-    ap (λ bs. unwrap_or (first_from bs cursor) (end_of bs)) (same_boundaries old now text table) ∙ ap (λ p. unwrap_or p (end_of (boundaries_of old))) from ∙ same in
+    ap (λ bs. unwrap_or (first_from bs cursor) (end_of bs)) (same_boundaries old now text table) ∙ ap (λ p. unwrap_or p (end_of (boundaries_of old))) from
+    ∙ same in
     answers.moved.state_is ∙ ap (λ p. record { text = now.state.text; cursor = p }) back ∙ ap (λ x. record { text = x; cursor = old.state.cursor }) text

@@ -1,5 +1,6 @@
 -- Commands that were performed, by what the session answered and what was appended.
-use Rattle.std.proofs.Common.{◌≡◌, ℕ, List, [], ◌∷◌, ◌++◌, Some, Result, Ok, Err, length, map, take, drop, get_or, suc, ◌+◌, ◌<◌, sym, refl, ap, ◌∙◌, inl, append_assoc, append-nil, drop-cons}
+use Rattle.std.proofs.Common.{◌≡◌, ℕ, List, [], ◌∷◌, ◌++◌, Some, Result, Ok, Err, length, map, take, drop, get_or, suc, ◌+◌, ◌<◌, sym, refl, ap, ◌∙◌, inl}
+use Rattle.std.proofs.Common.{append_assoc, append-nil, drop-cons}
 use Rattle.std.specs.Prelude.{slice_get}
 use Rattle.std.proofs.lemmas.List.{map-append, take-append-drop, take_more}
 use Rattle.std.proofs.lemmas.Option.{get_or_from_slice_get}
@@ -33,36 +34,43 @@ turn_at table state command = turn (table_boundaries table state.text) state com
 abbrev lines_at : Table → State → List Command → List ℕ
 lines_at table state commands = all_reply_lines (replies_by edit (table_boundaries table) state commands)
 
-same_turn : (table other : Table) (state here : State) (command : Command) → table ≡ other → state ≡ here → turn_at table state command ≡ turn_at other here command
+same_turn : (table other : Table) (state here : State) (command : Command) → table ≡ other → state ≡ here →
+    turn_at table state command ≡ turn_at other here command
 same_turn table other state here command e e' = ap (λ t. turn_at t state command) e ∙ ap (λ s. turn_at other s command) e'
 
 -- the state after the commands and one more
-after_more : (table : Table) (state : State) (commands : List Command) (command : Command) → state_after table state (commands ++ command ∷ []) ≡ (turn_at table (state_after table state commands) command).state
+after_more : (table : Table) (state : State) (commands : List Command) (command : Command) →
+    state_after table state (commands ++ command ∷ []) ≡ (turn_at table (state_after table state commands) command).state
 after_more table state [] command = refl
 after_more table state (first ∷ commands) command = after_more table (turn_at table state first).state commands command
 
 -- the replies to the commands and those behind them
 replies_parts : (table : Table) (state : State) (commands others : List Command) →
-    replies_by edit (table_boundaries table) state (commands ++ others) ≡ replies_by edit (table_boundaries table) state commands ++ replies_by edit (table_boundaries table) (state_after table state commands) others
+    replies_by edit (table_boundaries table) state (commands ++ others) ≡ replies_by edit (table_boundaries table) state commands ++ replies_by edit
+    (table_boundaries table) (state_after table state commands) others
 replies_parts table state [] others = refl
 replies_parts table state (command ∷ commands) others =
     ap (λ rs. (turn_at table state command).reply ∷ rs) (replies_parts table (turn_at table state command).state commands others)
 
-lines_parts : (table : Table) (state : State) (commands others : List Command) → lines_at table state (commands ++ others) ≡ lines_at table state commands ++ lines_at table (state_after table state commands) others
+lines_parts : (table : Table) (state : State) (commands others : List Command) → lines_at table state (commands ++ others) ≡ lines_at table state commands ++
+    lines_at table (state_after table state commands) others
 lines_parts table state commands others =
     ap all_reply_lines (replies_parts table state commands others)
-    ∙ flat_map-append reply_lines (replies_by edit (table_boundaries table) state commands) (replies_by edit (table_boundaries table) (state_after table state commands) others)
+    ∙ flat_map-append reply_lines (replies_by edit (table_boundaries table) state commands)
+    (replies_by edit (table_boundaries table) (state_after table state commands) others)
 
 pub none_played : (session : Session) (before : List ℕ) → ArePlayed session [] before session before
 none_played session before = record { appended = sym (append-nil before); state_is = refl; table_is = refl }
 
 -- one more command was performed
-pub one_more_played : (old : Session) (commands : List Command) (before : List ℕ) (session : Session) (middle : List ℕ) (command : Command) (new : Session) (after : List ℕ) →
+pub one_more_played : (old : Session) (commands : List Command) (before : List ℕ) (session : Session) (middle : List ℕ) (command : Command) (new : Session)
+    (after : List ℕ) →
     ArePlayed old commands before session middle → IsPerformed session command middle new after → ArePlayed old (commands ++ command ∷ []) before new after
 one_more_played old commands before session middle command new after are is =
     let here : State = state_after old.table old.state commands in
     let earlier : List ℕ = lines_at old.table old.state commands in
-    let same : turn_of session command ≡ turn_at old.table (state_after old.table old.state commands) command = same_turn session.table old.table session.state here command are.table_is are.state_is in
+    let same : turn_of session command ≡ turn_at old.table (state_after old.table old.state commands) command =
+    same_turn session.table old.table session.state here command are.table_is are.state_is in
     record {
       appended =
           is.appended
@@ -76,13 +84,16 @@ one_more_played old commands before session middle command new after are is =
     }
 
 -- memory ran out in the reply to a command
-pub broken_off : (old : Session) (commands : List Command) (before : List ℕ) (session : Session) (middle : List ℕ) (command : Command) (others : List Command) (new : Session) (after : List ℕ) →
-    ArePlayed old commands before session middle → IsBrokenOff session command middle new after → AppendsFront before (all_reply_lines (replies_of old (commands ++ command ∷ others))) after
+pub broken_off : (old : Session) (commands : List Command) (before : List ℕ) (session : Session) (middle : List ℕ) (command : Command)
+    (others : List Command) (new : Session) (after : List ℕ) →
+    ArePlayed old commands before session middle → IsBrokenOff session command middle new after →
+    AppendsFront before (all_reply_lines (replies_of old (commands ++ command ∷ others))) after
 broken_off old commands before session middle command others new after are is =
     let here : State = state_after old.table old.state commands in
     let earlier : List ℕ = lines_at old.table old.state commands in
     let later : List ℕ = lines_at old.table (turn_at old.table here command).state others in
-    let same : turn_of session command ≡ turn_at old.table (state_after old.table old.state commands) command = same_turn session.table old.table session.state here command are.table_is are.state_is in
+    let same : turn_of session command ≡ turn_at old.table (state_after old.table old.state commands) command =
+    same_turn session.table old.table session.state here command are.table_is are.state_is in
     let front : List ℕ = is.appended.front in
     let back : List ℕ = is.appended.back in
     record {
@@ -98,7 +109,8 @@ broken_off old commands before session middle command others new after are is =
     }
 
 -- the items before one, the one, and those behind it
-pub mapped_parts : {A B : Type 0} (f : A → B) (xs : List A) (i : ℕ) (x : A) → i < length xs → slice_get xs i ≡ Some x → map f (take i xs) ++ f x ∷ map f (drop (suc i) xs) ≡ map f xs
+pub mapped_parts : {A B : Type 0} (f : A → B) (xs : List A) (i : ℕ) (x : A) → i < length xs → slice_get xs i ≡ Some x →
+    map f (take i xs) ++ f x ∷ map f (drop (suc i) xs) ≡ map f xs
 mapped_parts f xs i x within is =
     ap (λ y. map f (take i xs) ++ f y ∷ map f (drop (suc i) xs)) (sym (get_or_from_slice_get xs i x x is))
     ∙ sym (map-append f (take i xs) (get_or xs i x ∷ drop (suc i) xs))
@@ -106,7 +118,8 @@ mapped_parts f xs i x within is =
     ∙ ap (map f) (take-append-drop i xs)
 
 -- the items up to one, and the one
-pub mapped_more : {A B : Type 0} (f : A → B) (xs : List A) (i : ℕ) (x : A) → i < length xs → slice_get xs i ≡ Some x → map f (take i xs) ++ f x ∷ [] ≡ map f (take (i + 1) xs)
+pub mapped_more : {A B : Type 0} (f : A → B) (xs : List A) (i : ℕ) (x : A) → i < length xs → slice_get xs i ≡ Some x →
+    map f (take i xs) ++ f x ∷ [] ≡ map f (take (i + 1) xs)
 mapped_more f xs i x within is =
     ap (λ y. map f (take i xs) ++ f y ∷ []) (sym (get_or_from_slice_get xs i x x is))
     ∙ sym (map-append f (take i xs) (get_or xs i x ∷ []))

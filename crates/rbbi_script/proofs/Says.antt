@@ -1,5 +1,6 @@
 -- Fronts of lines that were appended.
-use Rattle.std.proofs.Common.{◌≡◌, ℕ, suc, ◌<◌, length, take, drop, get_or, List, [], ◌∷◌, ◌++◌, Result, Ok, Err, ap, sym, ◌∙◌, append_assoc, append-nil, drop-cons, ◌+◌, arith}
+use Rattle.std.proofs.Common.{◌≡◌, ℕ, suc, ◌<◌, length, take, drop, get_or, List, [], ◌∷◌, ◌++◌, Result, Ok, Err, ap, sym, ◌∙◌, append_assoc, append-nil}
+use Rattle.std.proofs.Common.{drop-cons, ◌+◌, arith}
 use Rattle.std.specs.Prelude.{decimal}
 use Rattle.std.specs.List.{flat_map}
 use Rattle.std.proofs.lemmas.List.{take-append-drop, take_more}
@@ -17,7 +18,8 @@ front_first old first second line new e h = record {
 }
 
 -- a later part was not appended whole
-pub front_later : (old first second line middle new : List ℕ) → middle ≡ old ++ first → line ≡ first ++ second → AppendsFront middle second new → AppendsFront old line new
+pub front_later : (old first second line middle new : List ℕ) → middle ≡ old ++ first → line ≡ first ++ second → AppendsFront middle second new →
+    AppendsFront old line new
 front_later old first second line middle new m e h = record {
   front = first ++ h.front;
   back = h.back;
@@ -26,7 +28,8 @@ front_later old first second line middle new m e h = record {
 }
 
 -- a second call after one that appended all
-pub appends_then : {T E : Type 0} (old first second line middle new : List ℕ) (r : Result T E) → middle ≡ old ++ first → line ≡ first ++ second → Appends middle second r new → Appends old line r new
+pub appends_then : {T E : Type 0} (old first second line middle new : List ℕ) (r : Result T E) → middle ≡ old ++ first → line ≡ first ++ second →
+    Appends middle second r new → Appends old line r new
 appends_then old first second line middle new (Ok done) m e h =
     h ∙ ap (λ x. x ++ second) m ∙ append_assoc old first second ∙ ap (λ x. old ++ x) (sym e)
 appends_then old first second line middle new (Err error) m e h = front_later old first second line middle new m e h
@@ -41,17 +44,21 @@ joined_first [] l = absurd (omega arith)
 joined_first (status ∷ statuses) l = joined_is status statuses
 
 -- one status more
-pub others_more : (statuses : List ℕ) (i d : ℕ) → i < length statuses → flat_map next_status (take (i + 1) statuses) ≡ flat_map next_status (take i statuses) ++ next_status (get_or statuses i d)
+pub others_more : (statuses : List ℕ) (i d : ℕ) → i < length statuses → flat_map next_status (take (i + 1) statuses) ≡ flat_map next_status
+    (take i statuses) ++ next_status (get_or statuses i d)
 others_more statuses i d l =
     ap (flat_map next_status) (take_more statuses i d l)
     ∙ flat_map-append next_status (take i statuses) (get_or statuses i d ∷ [])
     ∙ ap (λ x. flat_map next_status (take i statuses) ++ x) (append-nil (next_status (get_or statuses i d)))
 
 -- what is written of the numbers before one, of the one, and of those behind it
-pub flat_parts : (f : ℕ → List ℕ) (ns : List ℕ) (i d : ℕ) → i < length ns → flat_map f ns ≡ flat_map f (take i ns) ++ (f (get_or ns i d) ++ flat_map f (drop (suc i) ns))
+pub flat_parts : (f : ℕ → List ℕ) (ns : List ℕ) (i d : ℕ) → i < length ns → flat_map f ns ≡ flat_map f (take i ns) ++
+    (f (get_or ns i d) ++ flat_map f (drop (suc i) ns))
 flat_parts f ns i d l =
-    ap (flat_map f) (sym (take-append-drop i ns) ∙ ap (λ x. take i ns ++ x) (drop-cons ns i d l)) ∙ flat_map-append f (take i ns) (get_or ns i d ∷ drop (suc i) ns)
+    ap (flat_map f) (sym (take-append-drop i ns) ∙ ap (λ x. take i ns ++ x) (drop-cons ns i d l))
+    ∙ flat_map-append f (take i ns) (get_or ns i d ∷ drop (suc i) ns)
 
 -- the statuses before one, the one, and those behind it
-pub others_parts : (statuses : List ℕ) (i d : ℕ) → i < length statuses → flat_map next_status statuses ≡ flat_map next_status (take i statuses) ++ (next_status (get_or statuses i d) ++ flat_map next_status (drop (suc i) statuses))
+pub others_parts : (statuses : List ℕ) (i d : ℕ) → i < length statuses → flat_map next_status statuses ≡ flat_map next_status (take i statuses) ++
+    (next_status (get_or statuses i d) ++ flat_map next_status (drop (suc i) statuses))
 others_parts statuses i d l = flat_parts next_status statuses i d l

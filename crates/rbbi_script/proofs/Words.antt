@@ -1,9 +1,12 @@
 -- The characters that the text of an edit writes, piece by piece.
-use Rattle.std.proofs.Common.{◌≡◌, ◌≢◌, ℕ, Bool, true, false, ◌&&◌, lit<, ◌+◌, ◌<◌, ◌≤◌, List, [], ◌∷◌, ◌++◌, length, get_or, Option, Some, None, refl, ap, sym, subst, ◌∙◌, inl, inr, append_assoc, append-nil, length-append, drop, if◌then◌else◌, ◌==◌, arith}
+use Rattle.std.proofs.Common.{◌≡◌, ◌≢◌, ℕ, Bool, true, false, ◌&&◌, lit<, ◌+◌, ◌<◌, ◌≤◌, List, [], ◌∷◌, ◌++◌, length, get_or, Option, Some, None, refl, ap}
+use Rattle.std.proofs.Common.{sym, subst, ◌∙◌, inl, inr, append_assoc, append-nil, length-append, drop, if◌then◌else◌, ◌==◌, arith}
 use Rattle.std.specs.Prelude.{encode_utf8, encode_utf8_all, IsUtf8, chars, codes}
 use Rattle.std.specs.Char.{InScalarRange, OutOfScalarRange, IsScalar, is_ascii_hexdigit}
 use Rattle.std.specs.List.{AllByRecursion, list_all}
-use Rattle.std.proofs.lemmas.Str.{encode_same, encode_ascii, encodes-chars, byte_from_char, length-encode, len_utf8_bounds, chars-append, chars_past_char, chars-nil, IsUtf8-encode, IsUtf8-take, IsUtf8-drop, IsUtf8-past_char, IsCharBoundary-before_ascii, IsCharBoundary-after_ascii}
+use Rattle.std.proofs.lemmas.Str.{encode_same, encode_ascii, encodes-chars, byte_from_char, length-encode, len_utf8_bounds, chars-append, chars_past_char}
+use Rattle.std.proofs.lemmas.Str.{chars-nil, IsUtf8-encode, IsUtf8-take, IsUtf8-drop, IsUtf8-past_char, IsCharBoundary-before_ascii}
+use Rattle.std.proofs.lemmas.Str.{IsCharBoundary-after_ascii}
 use Rattle.std.proofs.lemmas.List.{get_or-append-add}
 use Rattle.std.proofs.Math.Seq.{get_or-append_seam, take-append_seam, drop-append-add}
 use Rattle.std.proofs.lemmas.Bool.Decides.{nat_tests}
@@ -87,7 +90,8 @@ pub backslash : IsEscape (codes "\\") 92
 backslash = inr (inr (inr (inl (refl, refl))))
 
 -- where none of them begins the text, no escape does
-pub no_escape : (text : List ℕ) → ((r : List ℕ) → text ≢ codes "n" ++ r) → ((r : List ℕ) → text ≢ codes "r" ++ r) → ((r : List ℕ) → text ≢ codes "t" ++ r) → ((r : List ℕ) → text ≢ codes "\\" ++ r) →
+pub no_escape : (text : List ℕ) → ((r : List ℕ) → text ≢ codes "n" ++ r) → ((r : List ℕ) → text ≢ codes "r" ++ r) → ((r : List ℕ) → text ≢ codes "t" ++ r) →
+    ((r : List ℕ) → text ≢ codes "\\" ++ r) →
     IsNoNumberEscape text → IsNoEscape text
 no_escape text n r t b number s c rest (inl h) e = n rest (at_letter 110 s rest text h.0 e)
 no_escape text n r t b number s c rest (inr (inl h)) e = r rest (at_letter 114 s rest text h.0 e)
@@ -96,7 +100,8 @@ no_escape text n r t b number s c rest (inr (inr (inr (inl h)))) e = b rest (at_
 no_escape text n r t b number s c rest (inr (inr (inr (inr h)))) e = number s c rest h e
 
 -- the escape of a number is the only one that begins the text
-pub only_number : (text before after : List ℕ) (c : ℕ) → text ≡ codes "u{" ++ (before ++ 125 ∷ after) → HasNone 125 before → hexadecimal 1 6 0x10FFFF before ≡ Some c → ¬ IsSurrogate c → IsOnlyEscape text c after
+pub only_number : (text before after : List ℕ) (c : ℕ) →
+    text ≡ codes "u{" ++ (before ++ 125 ∷ after) → HasNone 125 before → hexadecimal 1 6 0x10FFFF before ≡ Some c → ¬ IsSurrogate c → IsOnlyEscape text c after
 only_number text before after c e none number character = record {
   spelling = codes "u{" ++ (before ++ codes "}");
   is = inr (inr (inr (inr (record { digits = before; number = number; character = character; spelled = refl }))));
@@ -127,18 +132,21 @@ no_number-open text digits e none s c rest h f =
     none (length h.digits) (let long = ap length same in let l = length-append h.digits (125 ∷ rest) in omega arith)
     (ap (λ t. get_or t (length h.digits) 0) same ∙ get_or-append_seam h.digits 125 rest 0)
 
-same_digits : (text before after : List ℕ) (e : text ≡ codes "u{" ++ (before ++ 125 ∷ after)) → HasNone 125 before → (s : List ℕ) (c : ℕ) (rest : List ℕ) (h : IsNumberEscape s c) → text ≡ s ++ rest → before ≡ h.digits
+same_digits : (text before after : List ℕ) (e : text ≡ codes "u{" ++ (before ++ 125 ∷ after)) → HasNone 125 before →
+    (s : List ℕ) (c : ℕ) (rest : List ℕ) (h : IsNumberEscape s c) → text ≡ s ++ rest → before ≡ h.digits
 same_digits text before after e none s c rest h f =
     (same_cut 125 before after h.digits rest none (no_brace h.digits c h.number) (ap (drop 2) (sym e ∙ at_number s rest text c h f))).0
 
 -- one with no number in its braces
-pub no_number-bad : (text before after : List ℕ) → text ≡ codes "u{" ++ (before ++ 125 ∷ after) → HasNone 125 before → hexadecimal 1 6 0x10FFFF before ≡ None → IsNoNumberEscape text
+pub no_number-bad : (text before after : List ℕ) →
+    text ≡ codes "u{" ++ (before ++ 125 ∷ after) → HasNone 125 before → hexadecimal 1 6 0x10FFFF before ≡ None → IsNoNumberEscape text
 no_number-bad text before after e none bad s c rest h f =
     let clash : None ≡ Some c = sym bad ∙ ap (hexadecimal 1 6 0x10FFFF) (same_digits text before after e none s c rest h f) ∙ h.number in
     absurd (cc)
 
 -- one with the number of no character in its braces
-pub no_number-surrogate : (text before after : List ℕ) (n : ℕ) → text ≡ codes "u{" ++ (before ++ 125 ∷ after) → HasNone 125 before → hexadecimal 1 6 0x10FFFF before ≡ Some n → IsSurrogate n → IsNoNumberEscape text
+pub no_number-surrogate : (text before after : List ℕ) (n : ℕ) →
+    text ≡ codes "u{" ++ (before ++ 125 ∷ after) → HasNone 125 before → hexadecimal 1 6 0x10FFFF before ≡ Some n → IsSurrogate n → IsNoNumberEscape text
 no_number-surrogate text before after n e none number surrogate s c rest h f =
     let same = some_same n c (sym number ∙ ap (hexadecimal 1 6 0x10FFFF) (same_digits text before after e none s c rest h f) ∙ h.number) in
     h.character (subst IsSurrogate same surrogate)
@@ -175,7 +183,8 @@ empty_is_no_character c rest e =
 -- what a text with plain characters in front writes
 plain_spells : (cs rest word : List ℕ) → ArePlain cs → Spells (encode_utf8_all cs ++ rest) word → (more : List ℕ) × (word ≡ cs ++ more) × Spells rest more
 plain_spells [] rest word plain h = (word, refl, h)
-plain_spells (c ∷ cs) rest [] plain h = absurd (empty_is_no_character c (encode_utf8_all cs ++ rest) (sym h ∙ append_assoc (encode_utf8 c) (encode_utf8_all cs) rest))
+plain_spells (c ∷ cs) rest [] plain h =
+    absurd (empty_is_no_character c (encode_utf8_all cs ++ rest) (sym h ∙ append_assoc (encode_utf8 c) (encode_utf8_all cs) rest))
 plain_spells (c ∷ cs) rest (d ∷ word) plain (after, inl p, h) =
     let same = encode_same c d (encode_utf8_all cs ++ rest) after (sym (append_assoc (encode_utf8 c) (encode_utf8_all cs) rest) ∙ p.spelled) in
     let more = plain_spells cs rest word plain.1 (subst (λ t. Spells t word) (sym same.1) h) in
@@ -186,7 +195,8 @@ plain_spells (c ∷ cs) rest (d ∷ word) plain (after, inr p, h) =
     absurd (plain.0 same.0)
 
 -- behind a backslash stands an escape
-escaped_spells : (after word : List ℕ) → Spells (92 ∷ after) word → (c : ℕ) (rest : List ℕ) → IsOnlyEscape after c rest → (more : List ℕ) × (word ≡ c ∷ more) × Spells rest more
+escaped_spells : (after word : List ℕ) → Spells (92 ∷ after) word → (c : ℕ) (rest : List ℕ) → IsOnlyEscape after c rest → (more : List ℕ) ×
+    (word ≡ c ∷ more) × Spells rest more
 escaped_spells after [] h c rest only = absurd (let e : 92 ∷ after ≡ [] = h in cc)
 escaped_spells after (d ∷ word) (others, inl p, h) c rest only =
     absurd (p.no_backslash (sym (encode_same 92 d after others (ap (λ x. x ++ after) (encode_ascii 92 (omega arith)) ∙ p.spelled)).0))
@@ -218,13 +228,15 @@ utf8_parts plain utf8 none =
     (whole, plain_characters (chars plain) (subst (HasNone 92) (sym whole) none))
 
 -- plain characters and an escape more
-pub IsWriting-more : (text word rest plain after : List ℕ) (c : ℕ) (left : List ℕ) → IsWriting text word rest → rest ≡ plain ++ 92 ∷ after → HasNone 92 plain → IsUtf8 plain → IsOnlyEscape after c left →
+pub IsWriting-more : (text word rest plain after : List ℕ) (c : ℕ) (left : List ℕ) → IsWriting text word rest → rest ≡ plain ++ 92 ∷ after →
+    HasNone 92 plain → IsUtf8 plain → IsOnlyEscape after c left →
     IsWriting text (word ++ chars plain ++ c ∷ []) left
 IsWriting-more text word rest plain after c left h e none utf8 escape =
     let parts = utf8_parts plain utf8 none in
     let whole : rest ≡ encode_utf8_all (chars plain) ++ 92 ∷ after = e ∙ ap (λ p. p ++ 92 ∷ after) (sym parts.0) in
     let joined : (more : List ℕ) → word ++ (chars plain ++ c ∷ more) ≡ word ++ chars plain ++ c ∷ [] ++ more =
-    λ (more : List ℕ). sym (ap (λ w. w ++ more) refl ∙ append_assoc (word ++ chars plain) (c ∷ []) more ∙ append_assoc word (chars plain) (c ∷ more)) in record {
+    λ (more : List ℕ). sym (ap (λ w. w ++ more) refl ∙ append_assoc (word ++ chars plain) (c ∷ []) more ∙ append_assoc word (chars plain) (c ∷ more)) in
+    record {
       forth = λ more spells.
           subst (Spells text) (joined more)
           (h.forth (chars plain ++ c ∷ more)
@@ -242,11 +254,13 @@ IsWriting-more text word rest plain after c left h e none utf8 escape =
     }
 
 -- a backslash that begins no escape
-pub IsWriting-bad : (text word rest plain after : List ℕ) → IsWriting text word rest → rest ≡ plain ++ 92 ∷ after → HasNone 92 plain → IsUtf8 plain → IsNoEscape after → (whole : List ℕ) → ¬ Spells text whole
+pub IsWriting-bad : (text word rest plain after : List ℕ) → IsWriting text word rest → rest ≡ plain ++ 92 ∷ after → HasNone 92 plain → IsUtf8 plain →
+    IsNoEscape after → (whole : List ℕ) → ¬ Spells text whole
 IsWriting-bad text word rest plain after h e none utf8 escape whole spells =
     let parts = utf8_parts plain utf8 none in
     let first = h.back whole spells in
-    let second = plain_spells (chars plain) (92 ∷ after) first.0 parts.1 (subst (λ t. Spells t first.0) (e ∙ ap (λ p. p ++ 92 ∷ after) (sym parts.0)) first.2) in
+    let second = plain_spells (chars plain) (92 ∷ after) first.0 parts.1
+    (subst (λ t. Spells t first.0) (e ∙ ap (λ p. p ++ 92 ∷ after) (sym parts.0)) first.2) in
     no_escape_spells after second.0 second.2 escape
 
 -- nothing but plain characters is left
@@ -254,7 +268,9 @@ pub IsWriting-end : (text word rest : List ℕ) → IsWriting text word rest →
 IsWriting-end text word rest h none utf8 =
     let parts = utf8_parts rest utf8 none in
     let whole : rest ≡ encode_utf8_all (chars rest) ++ [] = sym parts.0 ∙ sym (append-nil (encode_utf8_all (chars rest))) in record {
-      spells = h.forth (chars rest) (subst (λ t. Spells t (chars rest)) (sym whole) (subst (Spells (encode_utf8_all (chars rest) ++ [])) (append-nil (chars rest)) (spells_plain (chars rest) [] [] parts.1 refl)));
+      spells = h.forth (chars rest)
+          (subst (λ t. Spells t (chars rest)) (sym whole)
+          (subst (Spells (encode_utf8_all (chars rest) ++ [])) (append-nil (chars rest)) (spells_plain (chars rest) [] [] parts.1 refl)));
       only = λ other spells.
           let first = h.back other spells in
           let second = plain_spells (chars rest) [] first.0 parts.1 (subst (λ t. Spells t first.0) whole first.2) in
@@ -288,7 +304,8 @@ utf8_after before after utf8 =
     let at : get_or (before ++ 92 ∷ after) (length before) 0 ≡ 92 = get_or-append_seam before 92 after 0 in
     let long = length-append before (92 ∷ after) in
     subst IsUtf8 (drop-append-add before (92 ∷ after) 1)
-    (IsUtf8-drop (before ++ 92 ∷ after) (length before + 1) utf8 (IsCharBoundary-after_ascii (before ++ 92 ∷ after) (length before) utf8 (omega arith) (omega arith)))
+    (IsUtf8-drop (before ++ 92 ∷ after) (length before + 1) utf8 (IsCharBoundary-after_ascii (before ++ 92 ∷ after) (length before) utf8 (omega arith)
+    (omega arith)))
 
 -- bytes of ASCII
 abbrev AreAscii : List ℕ → Type 0
@@ -308,7 +325,11 @@ hexdigit_is_ascii b h = grind (arith, nat_tests)
 
 ascii_digits : (digits : List ℕ) → list_all is_ascii_hexdigit digits ≡ true → AreAscii digits
 ascii_digits [] h = tt
-ascii_digits (d ∷ digits) h = (hexdigit_is_ascii d (AllPass-from_list_all is_ascii_hexdigit (d ∷ digits) h 0 0 (omega arith)), ascii_digits digits (and_true_right (is_ascii_hexdigit d) (list_all is_ascii_hexdigit digits) h))
+ascii_digits (d ∷ digits) h = (
+  hexdigit_is_ascii d (AllPass-from_list_all is_ascii_hexdigit (d ∷ digits) h 0 0 (omega arith)),
+  ascii_digits digits
+      (and_true_right (is_ascii_hexdigit d) (list_all is_ascii_hexdigit digits) h),
+)
   where
     and_true_right : (a b : Bool) → (a && b) ≡ true → b ≡ true
     and_true_right true b e = e

@@ -29,7 +29,8 @@ pub record IsNumberEscape (spelling : List ℕ) (c : ℕ) : Type 0 where
 -- what follows a backslash, and the character that both stand for: `n`, `r`, `t`, `\` or `u{H..}`
 abbrev pub IsEscape : List ℕ → ℕ → Type 0
 IsEscape spelling c =
-    (spelling ≡ codes "n") × (c ≡ 10) ⊎ ((spelling ≡ codes "r") × (c ≡ 13) ⊎ ((spelling ≡ codes "t") × (c ≡ 9) ⊎ ((spelling ≡ codes "\\") × (c ≡ 92) ⊎ IsNumberEscape spelling c)))
+    (spelling ≡ codes "n") ×
+    (c ≡ 10) ⊎ ((spelling ≡ codes "r") × (c ≡ 13) ⊎ ((spelling ≡ codes "t") × (c ≡ 9) ⊎ ((spelling ≡ codes "\\") × (c ≡ 92) ⊎ IsNumberEscape spelling c)))
 
 -- the text begins with the character itself, which is no backslash
 pub record IsPlain (text : List ℕ) (c : ℕ) (rest : List ℕ) : Type 0 where

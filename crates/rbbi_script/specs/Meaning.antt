@@ -3,7 +3,8 @@ use Rattle.rbbi_model.specs.Scripts.{Ask, ShowText}
 use Rattle.rbbi_model.specs.Scripts as model
 use Rattle.rbbi_model.specs.Answers as question
 use Rattle.rbbi_script.specs.declared.command.Command.{Command}
-use Rattle.rbbi_script.specs.declared.command.Command.TheVariants.{First, Last, Next, Previous, Current, Status, Statuses, Following, Preceding, Is, Replace, Breaks, Text}
+use Rattle.rbbi_script.specs.declared.command.Command.TheVariants.{First, Last, Next, Previous, Current, Status, Statuses, Following, Preceding, Is, Replace}
+use Rattle.rbbi_script.specs.declared.command.Command.TheVariants.{Breaks, Text}
 
 -- what a command means
 abbrev pub meaning : Command → model.Command

@@ -1,5 +1,6 @@
 //! A command of a script, and the list of a script's commands.
-ghost use Rattle.std.specs.Prelude.{◌≡◌, ◌<◌, List, [], ◌∷◌, ◌++◌, length, slice_get, Some, OnOk, OnErr};
+ghost use Rattle.std.specs.Prelude.{◌≡◌, ◌<◌, List, [], ◌∷◌, ◌++◌, length, slice_get, Some, OnOk};
+ghost use Rattle.std.specs.Prelude.{OnErr};
 
 use rbbi_text::Word;
 use std::alloc::{AllocError, Global};

@@ -1,5 +1,6 @@
 //! The text of an edit.
-ghost use Rattle.std.specs.Prelude.{◌≡◌, ◌∷◌, [], ◌++◌, IfOk, OnOk, MatchOption, chars, string_bytes};
+ghost use Rattle.std.specs.Prelude.{◌≡◌, ◌∷◌, [], ◌++◌, IfOk, OnOk, MatchOption, chars};
+ghost use Rattle.std.specs.Prelude.{string_bytes};
 ghost use Rattle.rbbi_script.specs.Readings.{IsNoEscape, IsNoNumberEscape, IsOnlyEscape, IsWordOf};
 
 use crate::pieces::{after, cut_at};

@@ -46,7 +46,8 @@ fn say_each<T: EditText, L: Ledger>(
     Ok(())
 }
 
-/// Appends the characters of a text, with `\n`, `\r`, `\t` and `\\` for LF, CR, tab and `\`, and LF.
+/// Appends the characters of a text, with `\n`, `\r`, `\t` and `\\` for LF, CR, tab and `\`, and
+/// LF.
 pub(crate) fn say_text<T: Chars, L: Ledger>(
     text: &T,
     reply: &mut Vec<u8>,

@@ -16,13 +16,13 @@ use std::sync::ledger::Ledger;
 
 /// Performs a command, and appends the lines of its reply.
 ///
-/// The reply to a question is one line: the place or `done`, `yes` or `no`, the greatest status, or all
-/// statuses with commas between. `breaks` replies a line for each boundary, and leaves the cursor.
-/// `text` replies the characters with `\n`, `\r`, `\t` and `\\` for LF, CR, tab and `\`. An edit
-/// replies `ok` and the new length, or `outside` or `toolong`.
+/// The reply to a question is one line: the place or `done`, `yes` or `no`, the greatest status, or
+/// all statuses with commas between. `breaks` replies a line for each boundary, and leaves the
+/// cursor. `text` replies the characters with `\n`, `\r`, `\t` and `\\` for LF, CR, tab and `\`. An
+/// edit replies `ok` and the new length, or `outside` or `toolong`.
 ///
-/// After the refusal a front of the reply was appended. Text and cursor are as after the command, or,
-/// where an edit was refused for memory, as before it.
+/// After the refusal a front of the reply was appended. Text and cursor are as after the command,
+/// or, where an edit was refused for memory, as before it.
 pub fn perform<T: EditText, L: Ledger>(
     session: &mut Session<'_, T>,
     command: &Command,
@@ -49,8 +49,8 @@ pub fn perform<T: EditText, L: Ledger>(
     }
 }
 
-/// Performs all commands in order, and appends the lines of their replies. After the refusal a front of
-/// the lines was appended.
+/// Performs all commands in order, and appends the lines of their replies. After the refusal a
+/// front of the lines was appended.
 pub fn play<T: EditText, L: Ledger>(
     session: &mut Session<'_, T>,
     commands: &Commands,

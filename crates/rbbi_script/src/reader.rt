@@ -14,20 +14,20 @@ use std::alloc::Global;
 
 /// The commands of a script.
 ///
-/// The bytes are at most 100,663,296. One U+FEFF at their start isn't part of the script. A line ends
-/// at LF, and one CR before it isn't part of the line. An empty line and one that begins with `#` are
-/// skipped. Every other line is one of these, with exactly one space where one is shown:
+/// The bytes are at most 100,663,296. One U+FEFF at their start isn't part of the script. A line
+/// ends at LF, and one CR before it isn't part of the line. An empty line and one that begins with
+/// `#` are skipped. Every other line is one of these, with exactly one space where one is shown:
 ///
 /// - `first`, `last`, `next`, `previous`, `current`, `status`, `statuses`, `breaks`, `text`;
 /// - `following N`, `preceding N`, `is N`;
 /// - `insert AT TEXT`, `delete AT REMOVE`, `replace AT REMOVE TEXT`.
 ///
 /// A number has one digit or more and is at most 4,294,967,295. TEXT is all that follows the space,
-/// and may be empty. In it `\n`, `\r`, `\t`, `\\` and `\u{H..}`, of one to six hexadecimal digits of a
-/// character, are escapes, and any other `\` makes the line bad.
+/// and may be empty. In it `\n`, `\r`, `\t`, `\\` and `\u{H..}`, of one to six hexadecimal digits
+/// of a character, are escapes, and any other `\` makes the line bad.
 ///
-/// Refuses `NotUtf8` with the first byte past the longest valid front, `BadLine` with the first line
-/// that is neither skipped nor of these forms, and `Memory`.
+/// Refuses `NotUtf8` with the first byte past the longest valid front, `BadLine` with the first
+/// line that is neither skipped nor of these forms, and `Memory`.
 pub fn read_script(alloc: Global, bytes: &[u8]) -> Result<Commands, ScriptErr>
     requires { length bytes.now ≤ most_bytes }
     ensures { ReadsScript bytes.now result }

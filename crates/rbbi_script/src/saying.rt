@@ -53,9 +53,9 @@ fn put_number_line(number: u32, reply: &mut Vec<u8>) -> Result<(), AllocError>
     put(b"\n", reply)
 }
 
-/// Appends the line of a reply to a script: the place or number in decimal, `done`, `yes`, `no`, `ok`
-/// and the new length, `outside`, `inside` or `toolong`, and LF. After the refusal a front of the line
-/// was appended.
+/// Appends the line of a reply to a script: the place or number in decimal, `done`, `yes`, `no`,
+/// `ok` and the new length, `outside`, `inside` or `toolong`, and LF. After the refusal a front of
+/// the line was appended.
 pub fn say(said: Said, reply: &mut Vec<u8>) -> Result<(), AllocError>
     ensures { Appends reply.old.items (reply_lines (reply_of said)) result reply.new.items }
 {
@@ -104,8 +104,8 @@ fn put_list(list: &[u32], reply: &mut Vec<u8>) -> Result<(), AllocError>
     put_others(&list[1..], reply)
 }
 
-/// Appends the line of a list of statuses: the numbers in decimal with commas between, and LF. After
-/// the refusal a front of the line was appended.
+/// Appends the line of a list of statuses: the numbers in decimal with commas between, and LF.
+/// After the refusal a front of the line was appended.
 pub fn say_list(list: &[u32], reply: &mut Vec<u8>) -> Result<(), AllocError>
     ensures { Appends reply.old.items (joined_statuses list.now ++ 10 ∷ []) result reply.new.items }
 {
@@ -113,8 +113,8 @@ pub fn say_list(list: &[u32], reply: &mut Vec<u8>) -> Result<(), AllocError>
     put(b"\n", reply)
 }
 
-/// Appends the line of a boundary: its place, a space, its statuses with commas between, and LF. After
-/// the refusal a front of the line was appended.
+/// Appends the line of a boundary: its place, a space, its statuses with commas between, and LF.
+/// After the refusal a front of the line was appended.
 pub fn say_bound(at: u32, list: &[u32], reply: &mut Vec<u8>) -> Result<(), AllocError>
     ensures { Appends reply.old.items
         (boundary_line (record { at = at; statuses = list.now })) result reply.new.items }

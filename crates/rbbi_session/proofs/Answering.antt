@@ -1,5 +1,6 @@
 -- Answers of a session, by what it found and where it has gone.
-use Rattle.std.proofs.Common.{◌≡◌, ℕ, ◌+◌, ◌-◌, ◌<◌, ◌≤◌, Bool, true, false, cond, ltb, leb, eqb, max, List, [], ◌∷◌, ◌++◌, Some, None, length, take, get_or, sym, refl, ap, ◌∙◌, subst, ⊎_elim, arith}
+use Rattle.std.proofs.Common.{◌≡◌, ℕ, ◌+◌, ◌-◌, ◌<◌, ◌≤◌, Bool, true, false, cond, ltb, leb, eqb, max, List, [], ◌∷◌, ◌++◌, Some, None, length, take, get_or}
+use Rattle.std.proofs.Common.{sym, refl, ap, ◌∙◌, subst, ⊎_elim, arith}
 use Rattle.std.specs.Prelude.{unwrap_or, is_some}
 use Rattle.std.specs.List.{AllByRecursion}
 use Rattle.std.proofs.lemmas.Bool.{cases_Bool, cond-true, cond-false, ltb-true, le-ltb, lt-leb, ne_eqb}
@@ -9,7 +10,8 @@ use Rattle.rbbi_model.specs.Boundaries.{Boundary}
 use Rattle.rbbi_model.specs.Cover.{end_of, IsPlaceOf}
 use Rattle.rbbi_model.specs.Tables.{Table}
 use Rattle.rbbi_model.specs.Searches.{table_boundaries}
-use Rattle.rbbi_model.specs.Answers.{Last, Next, Previous, First, Following, Preceding, IsBoundary, Place, Done, Yes, No, first_place, first_after, last_before, first_from, is_place_of, moved}
+use Rattle.rbbi_model.specs.Answers.{Last, Next, Previous, First, Following, Preceding, IsBoundary, Place, Done, Yes, No, first_place, first_after}
+use Rattle.rbbi_model.specs.Answers.{last_before, first_from, is_place_of, moved}
 use Rattle.rbbi_model.proofs.Found.{some_same, none_some}
 use Rattle.rbbi_model.proofs.Covering.{table_covers}
 use Rattle.rbbi_session.specs.Sessions.{Session, boundaries_of, MovesTo, Answers, test_reply}
@@ -42,7 +44,8 @@ module _ (table : Table) (x : List ℕ) where
   -- no boundary lies behind the text
   pub none_past : AllByRecursion (λ b. b.at ≤ length x) (table_boundaries table x)
   none_past =
-      subst (λ n. AllByRecursion (λ b. b.at ≤ n) (table_boundaries table x)) (table_covers table x).reach (none_past_end (table_boundaries table x) (table_covers table x).rise)
+      subst (λ n. AllByRecursion (λ b. b.at ≤ n) (table_boundaries table x)) (table_covers table x).reach
+      (none_past_end (table_boundaries table x) (table_covers table x).rise)
 
   none_after : (o : ℕ) → length x ≤ o → first_after (table_boundaries table x) o ≡ None
   none_after o end =
@@ -72,7 +75,8 @@ module _ (table : Table) (x : List ℕ) where
       same ∙ sym (table_covers table x).reach
 
 -- the last boundary
-pub answers_last : (old new : Session) (r : ℕ) → 0 < length old.state.text → first_after (boundaries_of old) (length old.state.text - 1) ≡ Some r → MovesTo old r new → Answers old Last (Place r) new
+pub answers_last : (old new : Session) (r : ℕ) → 0 < length old.state.text → first_after (boundaries_of old) (length old.state.text - 1) ≡ Some r →
+    MovesTo old r new → Answers old Last (Place r) new
 answers_last old new r some first moves =
     let is : r ≡ end_of (boundaries_of old) = end_is_last old.table old.state.text r some first in
     record { replied = ap Place is; moved = subst (λ p. MovesTo old p new) is moves }
@@ -121,7 +125,8 @@ answers_behind old new o r end last = record {
 }
 
 -- the first boundary past the place before it tells whether a place is one
-pub answers_whether : (old new : Session) (o r : ℕ) → 1 ≤ o → first_after (boundaries_of old) (o - 1) ≡ Some r → MovesTo old r new → Answers old (IsBoundary o) (test_reply (eqb r o)) new
+pub answers_whether : (old new : Session) (o r : ℕ) → 1 ≤ o → first_after (boundaries_of old) (o - 1) ≡ Some r → MovesTo old r new →
+    Answers old (IsBoundary o) (test_reply (eqb r o)) new
 answers_whether old new o r some first moves =
     let bs : List Boundary = boundaries_of old in
     let from : first_from (boundaries_of old) o ≡ Some r = from_is_after bs o some ∙ first in

@@ -23,7 +23,8 @@ module _ (old new : Session) (before after : ℕ) where
   asks_end some asked =
       let n : ℕ = length old.state.text in
       let fails = ne_eqb n 0 (λ none. omega (arith, some, none)) in
-      asked_as old new before after (Past (n - 1)) (sent_for_end old.state.text) (forward_cost old.table old.state.text (n - 1)) (last_cost old.table old.state.text)
+      asked_as old new before after (Past (n - 1)) (sent_for_end old.state.text) (forward_cost old.table old.state.text (n - 1))
+      (last_cost old.table old.state.text)
       (sym (cond-false (eqb n 0) Nothing (Past (n - 1)) fails)) (sym (cond-false (eqb n 0) 0 (forward_cost old.table old.state.text (n - 1)) fails)) asked
 
   pub asks_next : old.state.cursor < length old.state.text →
@@ -46,7 +47,8 @@ module _ (old new : Session) (before after : ℕ) where
       back_is : (o : ℕ) → 0 < o → o ≤ length old.state.text → preceding_cost old.table old.state.text o ≡ back_cost old.table old.state.text o
       back_is zero some within = absurd (omega arith)
       back_is (suc p) some within =
-          cond-true (ltb p (length old.state.text)) (back_cost old.table old.state.text (suc p)) (last_cost old.table old.state.text) (lt-ltb p (length old.state.text) (omega arith))
+          cond-true (ltb p (length old.state.text)) (back_cost old.table old.state.text (suc p)) (last_cost old.table old.state.text)
+          (lt-ltb p (length old.state.text) (omega arith))
 
   pub asks_following : (o : ℕ) → o < length old.state.text → IsAsked old (Past o) (forward_cost old.table old.state.text o) new before after →
       Asks old (Following o) new before after

@@ -11,7 +11,8 @@ all_through P Q implies [] each = tt
 all_through P Q implies (b ∷ bs) each = (implies b each.0, all_through P Q implies bs each.1)
 
 -- where the test fails at the first boundaries, it holds first behind them
-pub first_skips : (test : ℕ → Bool) (done rest : List Boundary) → AllByRecursion (λ b. test b.at ≡ false) done → first_place test (done ++ rest) ≡ first_place test rest
+pub first_skips : (test : ℕ → Bool) (done rest : List Boundary) → AllByRecursion (λ b. test b.at ≡ false) done →
+    first_place test (done ++ rest) ≡ first_place test rest
 first_skips test [] rest fails = refl
 first_skips test (b ∷ done) rest fails =
     cond-false (test b.at) (Some b.at) (first_place test (done ++ rest)) fails.0 ∙ first_skips test done rest fails.1
@@ -35,7 +36,8 @@ last_skips test before (b ∷ rest) fails =
     ap (λ o. last_place test o rest) (cond-false (test b.at) (Some b.at) before fails.0) ∙ last_skips test before rest fails.1
 
 -- where the test fails behind a boundary at which it holds, it holds last there
-pub last_takes : (test : ℕ → Bool) (before : Option ℕ) (done : List Boundary) (here : Boundary) (rest : List Boundary) → test here.at ≡ true → AllByRecursion (λ b. test b.at ≡ false) rest → last_place test before (done ++ here ∷ rest) ≡ Some here.at
+pub last_takes : (test : ℕ → Bool) (before : Option ℕ) (done : List Boundary) (here : Boundary) (rest : List Boundary) → test here.at ≡ true →
+    AllByRecursion (λ b. test b.at ≡ false) rest → last_place test before (done ++ here ∷ rest) ≡ Some here.at
 last_takes test before [] here rest holds fails =
     ap (λ o. last_place test o rest) (cond-true (test here.at) (Some here.at) before holds) ∙ last_skips test (Some here.at) rest fails
 last_takes test before (b ∷ done) here rest holds fails = last_takes test (cond (test b.at) (Some b.at) before) done here rest holds fails
@@ -44,7 +46,8 @@ pub last_none : (test : ℕ → Bool) (bs : List Boundary) → AllByRecursion (�
 last_none test bs fails = last_skips test None bs fails
 
 -- the statuses of a boundary behind others that lie before it
-pub statuses_here : (done : List Boundary) (here : Boundary) (rest : List Boundary) → AllByRecursion (λ b. b.at < here.at) done → statuses_at (done ++ here ∷ rest) here.at ≡ here.statuses
+pub statuses_here : (done : List Boundary) (here : Boundary) (rest : List Boundary) → AllByRecursion (λ b. b.at < here.at) done →
+    statuses_at (done ++ here ∷ rest) here.at ≡ here.statuses
 statuses_here [] here rest before = cond-true (eqb here.at here.at) here.statuses (statuses_at rest here.at) (eq-eqb here.at here.at refl)
 statuses_here (b ∷ done) here rest before =
     let less : b.at < here.at = before.0 in

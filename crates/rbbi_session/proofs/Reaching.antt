@@ -50,7 +50,8 @@ module _ (table : Table) (valid : IsValidTable table) where
   found_within x s =
       let z : ℕ = search_end table x s in
       let last : ℕ = row_at table x s z in
-      cond_both (completes table last) (record { at = cut_place table x s z (accept_of table last - 2); list = list_of table last }) (found_longest table x s (longest_place table x s z)) (λ f. f.list < length table.lists)
+      cond_both (completes table last) (record { at = cut_place table x s z (accept_of table last - 2); list = list_of table last })
+      (found_longest table x s (longest_place table x s z)) (λ f. f.list < length table.lists)
       (λ _. list_within last)
       (λ _. longest_within x s (longest_place table x s z))
 
@@ -64,7 +65,8 @@ module _ (table : Table) (valid : IsValidTable table) where
   found_some x zero here = tt
   found_some x (suc most) here =
       let next : Boundary = next_boundary table x here.at in
-      cond_both (ltb here.at (length x)) (next ∷ follow_by (next_boundary table x) (length x) most next) [] (λ bs. AllByRecursion (λ b. 1 ≤ length b.statuses) bs)
+      cond_both (ltb here.at (length x)) (next ∷ follow_by (next_boundary table x) (length x) most next) []
+      (λ bs. AllByRecursion (λ b. 1 ≤ length b.statuses) bs)
       (λ _. (some_statuses table.lists (found table x here.at).list valid.lists.each (found_within x here.at), found_some x most next))
       (λ _. tt)
 
@@ -72,7 +74,8 @@ module _ (table : Table) (valid : IsValidTable table) where
   all_some : (x : List ℕ) → AllByRecursion (λ b. 1 ≤ length b.statuses) (table_boundaries table x)
   all_some x = (lit≤ tt, found_some x (length x) start)
 
-some_of : (before : List Boundary) (b : Boundary) (after : List Boundary) → AllByRecursion (λ c. 1 ≤ length c.statuses) (before ++ b ∷ after) → 1 ≤ length b.statuses
+some_of : (before : List Boundary) (b : Boundary) (after : List Boundary) → AllByRecursion (λ c. 1 ≤ length c.statuses) (before ++ b ∷ after) →
+    1 ≤ length b.statuses
 some_of [] b after each = each.0
 some_of (c ∷ before) b after each = some_of before b after each.1
 
@@ -86,7 +89,8 @@ reached_entry table valid x entry is =
       after = is.after;
       whole = is.whole;
       within =
-          ⊎_elim (λ within. within) (λ past. absurd (omega (arith, some, ap length (get_or_past table.lists entry.status [] past)))) (cases_lt entry.status (length table.lists));
+          ⊎_elim (λ within. within) (λ past. absurd (omega (arith, some, ap length (get_or_past table.lists entry.status [] past))))
+          (cases_lt entry.status (length table.lists));
     }
 
 place_behind : (done : List Boundary) (here : Boundary) (rest : List Boundary) → IsPlaceOf (done ++ here ∷ rest) here.at

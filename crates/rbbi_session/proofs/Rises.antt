@@ -12,7 +12,8 @@ use Rattle.rbbi_model.proofs.Found.{some_same, none_some}
 use Rattle.rbbi_session.proofs.Places.{all_through, first_none, first_same}
 
 -- what stands before a boundary lies before it
-pub rises_before : (done : List Boundary) (here : Boundary) (rest : List Boundary) → IsRising (places (done ++ here ∷ rest)) → AllByRecursion (λ b. b.at < here.at) done
+pub rises_before : (done : List Boundary) (here : Boundary) (rest : List Boundary) → IsRising (places (done ++ here ∷ rest)) →
+    AllByRecursion (λ b. b.at < here.at) done
 rises_before [] here rest rising = tt
 rises_before (b ∷ []) here rest rising = (rising.0, tt)
 rises_before (b ∷ c ∷ done) here rest rising =
@@ -60,7 +61,8 @@ place_is_told (b ∷ bs) o r rising is =
     (λ there.
     let differ : b.at ≡ o → ⊥ = eqb-false b.at o there in
     ap is_some (cond-false (eqb b.at o) (Some b.at) (first_place (λ at. eqb at o) bs) there)
-    ∙ ap is_some (first_none (λ at. eqb at o) bs (all_through (λ c. b.at < c.at) (λ c. eqb c.at o ≡ false) (λ c less. ne_eqb c.at o (λ equal. omega arith)) bs (rises_after b bs rising)))
+    ∙ ap is_some (first_none (λ at. eqb at o) bs (all_through (λ c. b.at < c.at) (λ c. eqb c.at o ≡ false) (λ c less. ne_eqb c.at o (λ equal. omega arith))
+    bs (rises_after b bs rising)))
     ∙ sym there
     ∙ ap (λ n. eqb n o) same)
     (cases_Bool (eqb b.at o)))

@@ -1,7 +1,7 @@
 //! Sessions: questions about the boundaries of a text, and edits of it.
 //!
-//! A [`Session`] has a table, a text and a cursor that stands at a boundary. It answers each question
-//! as one scan of the whole text, as it stands at that moment, gives it.
+//! A [`Session`] has a table, a text and a cursor that stands at a boundary. It answers each
+//! question as one scan of the whole text, as it stands at that moment, gives it.
 #![tactic(auto)]
 
 mod boundary;

@@ -43,7 +43,7 @@ impl<'a, T: EditText> Model for Session<'a, T> {
     ghost view = { λ session. record {
       table = session.table.now;
       state = record { text = T.characters session.text; cursor = session.here.at };
-        runs = session.cache.runs;
+      runs = session.cache.runs;
     } };
 
     ghost invariant = { λ session. IsKept session.table.now (T.characters session.text)
@@ -87,8 +87,8 @@ impl<'a, T: EditText> Session<'a, T> {
         self.go_past(len - 1, steps)
     }
 
-    /// Goes to the first boundary past the cursor. None where the cursor is at the text's end; then it
-    /// stays.
+    /// Goes to the first boundary past the cursor. None where the cursor is at the text's end; then
+    /// it stays.
     pub fn next<L: Ledger>(&mut self, steps: &mut Steps<L>) -> Option<u32>
         ensures answers { Answers self.old question.Next (place_reply result) self.new }
         ensures reads { Asks self.old question.Next self.new steps.old steps.new }
@@ -186,8 +186,8 @@ impl<'a, T: EditText> Session<'a, T> {
         &self.text
     }
 
-    /// Puts the characters of `insert` in place of `remove` characters from `at` on, and the cursor at
-    /// 0.
+    /// Puts the characters of `insert` in place of `remove` characters from `at` on, and the cursor
+    /// at 0.
     ///
     /// Refuses `Outside` where the text has fewer than `at + remove` characters, and otherwise
     /// `TooLong` where it would have more than 16,777,216 characters. After a refusal, also for
@@ -218,7 +218,8 @@ impl<'a, T: EditText> Session<'a, T> {
         requires { i < length self.old.state.text }
         ensures first { first_after (boundaries_of self.old) i ≡ Some result }
         ensures moved { MovesTo self.old result self.new }
-        ensures reads { IsAsked self.old (Past i) (forward_cost self.old.table self.old.state.text i)
+        ensures reads { IsAsked self.old (Past i)
+            (forward_cost self.old.table self.old.state.text i)
             self.new steps.old steps.new }
     {
         self.table.valid();

@@ -1,5 +1,6 @@
 //! The category of a code point, looked up in two steps.
-ghost use Rattle.std.specs.Prelude.{◌≡◌, ℕ, ◌↔◌, ◌+◌, ◌*◌, ◌^◌, ◌<◌, ◌≤◌, length, take, slice_index, slice_range, IfOk, IfSome, OnOk, IsTrue};
+ghost use Rattle.std.specs.Prelude.{◌≡◌, ℕ, ◌↔◌, ◌+◌, ◌*◌, ◌^◌, ◌<◌, ◌≤◌, length, take};
+ghost use Rattle.std.specs.Prelude.{slice_index, slice_range, IfOk, IfSome, OnOk, IsTrue};
 ghost use Rattle.rbbi_model.specs.Tables.{category_of};
 ghost use Rattle.rbbi_model.specs.ValidTables.{StartsAtZero, AreApart};
 ghost use Rattle.rbbi_table.specs.Kept.{start_of, IsUpTo, Holds, AreBlocks, in_block};

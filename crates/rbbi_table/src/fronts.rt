@@ -1,5 +1,6 @@
 //! Whether each look-ahead rule's front ends before the rule is completed.
-ghost use Rattle.std.specs.Prelude.{◌≡◌, ℕ, ◌↔◌, ◌+◌, ◌*◌, ◌^◌, ◌<◌, ◌≤◌, [], length, slice_index_or, IfOk, IsTrue};
+ghost use Rattle.std.specs.Prelude.{◌≡◌, ℕ, ◌↔◌, ◌+◌, ◌*◌, ◌^◌, ◌<◌, ◌≤◌, [], length};
+ghost use Rattle.std.specs.Prelude.{slice_index_or, IfOk, IsTrue};
 ghost use Rattle.rbbi_model.specs.Tables.{empty_head};
 ghost use Rattle.rbbi_model.specs.ValidTables.{AreFronted, AreValidRows, IsPlain};
 ghost use Rattle.rbbi_table.specs.Parts.{table_of, rows_of, AreSteps};
@@ -50,8 +51,8 @@ fn is_fronted(
     Ok(true)
 }
 
-/// Whether on every way from row 1 into a row at which a look-ahead rule is completed, its front ends
-/// at an earlier row. It goes over the rows once for each look-ahead rule, and not over ways.
+/// Whether on every way from row 1 into a row at which a look-ahead rule is completed, its front
+/// ends at an earlier row. It goes over the rows once for each look-ahead rule, and not over ways.
 pub(crate) fn are_fronted(alloc: Global, parts: &Parts) -> Result<bool, AllocError>
     requires cells { length parts.now.cells ≡ length parts.now.rows * parts.now.categories }
     requires rows { AreValidRows (table_of parts.now) }

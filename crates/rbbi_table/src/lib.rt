@@ -1,7 +1,7 @@
 //! Tables: what a compiled list of break rules is when it runs, and one search in it.
 //!
-//! A [`Table`] is made of its [`Parts`] and is always valid. [`Table::next`] finds the next boundary
-//! and reads each character once.
+//! A [`Table`] is made of its [`Parts`] and is always valid. [`Table::next`] finds the next
+//! boundary and reads each character once.
 #![tactic(auto)]
 
 mod bits;

@@ -1,5 +1,6 @@
 //! Scratch space of a search.
-ghost use Rattle.std.specs.Prelude.{◌≡◌, ℕ, ◌^◌, ◌<◌, ◌≤◌, length, slice_index, if◌then◌else◌, IfOk};
+ghost use Rattle.std.specs.Prelude.{◌≡◌, ℕ, ◌^◌, ◌<◌, ◌≤◌, length, slice_index, if◌then◌else◌};
+ghost use Rattle.std.specs.Prelude.{IfOk};
 ghost use Rattle.rbbi_model.specs.Places.{has_bit};
 
 use crate::Table;

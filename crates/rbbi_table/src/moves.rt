@@ -1,5 +1,6 @@
 //! The rows in one flat list, as the loop of a search reads them.
-ghost use Rattle.std.specs.Prelude.{◌≡◌, ℕ, ◌+◌, ◌*◌, ◌^◌, ◌<◌, [], ◌++◌, length, slice_index, slice_index_or, IfOk, OnOk};
+ghost use Rattle.std.specs.Prelude.{◌≡◌, ℕ, ◌+◌, ◌*◌, ◌^◌, ◌<◌, [], ◌++◌, length, slice_index};
+ghost use Rattle.std.specs.Prelude.{slice_index_or, IfOk, OnOk};
 ghost use Rattle.rbbi_model.specs.Tables.{empty_head};
 ghost use Rattle.rbbi_table.specs.Parts.{rows_of, AreSteps};
 ghost use Rattle.rbbi_table.specs.Kept.{move_flags, row_moves, AreMoves};
@@ -7,7 +8,8 @@ ghost use Rattle.rbbi_table.specs.Kept.{move_flags, row_moves, AreMoves};
 use crate::RowHead;
 use std::alloc::{AllocError, Global};
 
-/// How many numbers stand behind the moves of a row: its front mask, its list and its accept number.
+/// How many numbers stand behind the moves of a row: its front mask, its list and its accept
+/// number.
 pub(crate) const HEAD: usize = 3;
 
 /// The place of the front mask behind a row's moves.
@@ -19,12 +21,14 @@ pub(crate) const LIST: usize = 1;
 /// The place of the accept number behind a row's moves.
 pub(crate) const ACCEPT: usize = 2;
 
-/// The move to a row: eight times the place at which the row begins in the flat list, and 1 where some
-/// rule ends there and no look-ahead rule, 2 where a front ends there, 4 where a search ends there.
+/// The move to a row: eight times the place at which the row begins in the flat list, and 1 where
+/// some rule ends there and no look-ahead rule, 2 where a front ends there, 4 where a search ends
+/// there.
 fn move_to(rows: &[RowHead], next: u16, stride: usize) -> u32
     requires next { next < length rows.now }
     requires small { length rows.now * stride < 2 ^ 24 }
-    ensures { result ≡ next * stride * 8 + move_flags (slice_index_or rows.now next empty_head) next }
+    ensures { result ≡ next * stride * 8 + move_flags
+        (slice_index_or rows.now next empty_head) next }
 {
     let head = &rows[next as usize];
     let place = u32::from(next) * stride as u32;
@@ -57,7 +61,8 @@ fn push_row(
 }
 
 /// For each row its moves, one for each category, and then its front mask, its list and its accept
-/// number. So the loop of a search reads one number a character, and a row's place needs no product.
+/// number. So the loop of a search reads one number a character, and a row's place needs no
+/// product.
 pub(crate) fn moves_of(
     alloc: Global,
     categories: u16,

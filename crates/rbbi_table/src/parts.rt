@@ -45,7 +45,12 @@ impl Model for RowHead {
 
     ghost view = { λ head. record { accept = head.accept; fronts = head.fronts; list = head.list } };
 
-    ghost inverse = { λ head. record { accept = head.accept; fronts = head.fronts; list = head.list } };
+    ghost inverse = { λ head. record {
+      accept = head.accept;
+      fronts = head.fronts;
+      list =
+          head.list;
+    } };
 }
 
 /// The parts of a table, as a table file holds them. Contracts speak of the table that they are by
@@ -64,8 +69,8 @@ pub struct Parts {
     pub rows: RowList,
     /// The next rows, row after row, one for each category.
     pub cells: CellList,
-    /// A bit for each pair of categories: the pair of `first` and `second` has the bit with the number
-    /// `first * categories + second`, eight a byte, the one of least value first.
+    /// A bit for each pair of categories: the pair of `first` and `second` has the bit with the
+    /// number `first * categories + second`, eight a byte, the one of least value first.
     pub safe: ByteList,
 }
 

@@ -1,5 +1,6 @@
 //! Whether the rows are valid.
-ghost use Rattle.std.specs.Prelude.{◌≡◌, ℕ, ◌↔◌, ◌+◌, ◌*◌, ◌^◌, ◌<◌, ◌≤◌, ◌⊎◌, length, slice_index, slice_index_or, EachIndex, IsTrue};
+ghost use Rattle.std.specs.Prelude.{◌≡◌, ℕ, ◌↔◌, ◌+◌, ◌*◌, ◌^◌, ◌<◌, ◌≤◌, ◌⊎◌, length, slice_index};
+ghost use Rattle.std.specs.Prelude.{slice_index_or, EachIndex, IsTrue};
 ghost use Rattle.rbbi_model.specs.ValidTables.{AreValidRows, IsPlain};
 ghost use Rattle.rbbi_model.specs.Tables.{empty_head};
 ghost use Rattle.rbbi_table.specs.Rows.{IsValidHead, IsValidEntry};
@@ -48,8 +49,8 @@ fn is_valid_head(head: &RowHead, slashes: u16, lists: usize) -> bool
     has_fronts_below(head.fronts, slashes)
 }
 
-/// Whether a row is valid: its head is, its next rows are rows, and where a search ends at it, it leads
-/// to row 0 only.
+/// Whether a row is valid: its head is, its next rows are rows, and where a search ends at it, it
+/// leads to row 0 only.
 fn is_valid_row(rows: &[RowHead], row: usize, steps: &[u16], slashes: u16, lists: usize) -> bool
     requires row { row < length rows.now }
     requires rows { length rows.now ≤ 4095 }
@@ -63,8 +64,8 @@ fn is_valid_row(rows: &[RowHead], row: usize, steps: &[u16], slashes: u16, lists
     is_valid_head(&head, slashes, lists) && are_below(steps, bound)
 }
 
-/// Whether there are enough and few enough rows and not too many look-ahead rules, each row is valid,
-/// nothing ends at rows 0 and 1, and row 0 leads to itself only.
+/// Whether there are enough and few enough rows and not too many look-ahead rules, each row is
+/// valid, nothing ends at rows 0 and 1, and row 0 leads to itself only.
 pub(crate) fn are_valid_rows(parts: &Parts) -> bool
     requires { length parts.now.cells ≡ length parts.now.rows * parts.now.categories }
     ensures { IsTrue result ↔ AreValidRows (table_of parts.now) }

@@ -1,5 +1,6 @@
 //! The safe pairs of categories: after both, it no longer matters where a search was.
-ghost use Rattle.std.specs.Prelude.{◌≡◌, ℕ, ◌↔◌, ◌+◌, ◌*◌, ◌^◌, ◌<◌, ◌≤◌, [], length, slice_index, IfOk, OnOk, IsTrue};
+ghost use Rattle.std.specs.Prelude.{◌≡◌, ℕ, ◌↔◌, ◌+◌, ◌*◌, ◌^◌, ◌<◌, ◌≤◌, [], length, slice_index};
+ghost use Rattle.std.specs.Prelude.{IfOk, OnOk, IsTrue};
 ghost use Rattle.rbbi_table.specs.Parts.{rows_of, AreSteps};
 ghost use Rattle.rbbi_table.specs.Targets.{AreTargets, LeadToOne, ArePairsOf};
 
@@ -8,8 +9,8 @@ use crate::gather::add_target;
 use crate::{ByteList, RowHead};
 use std::alloc::{AllocError, Global};
 
-/// Gathers the distinct rows that open rows lead to by one category. An open row is neither row 0 nor
-/// one at which a look-ahead rule is completed.
+/// Gathers the distinct rows that open rows lead to by one category. An open row is neither row 0
+/// nor one at which a look-ahead rule is completed.
 fn gather_targets(
     alloc: Global,
     rows: &[RowHead],
@@ -55,11 +56,11 @@ fn lead_to_one(cells: &[u16], width: usize, category: usize, targets: &[u16]) ->
 }
 
 /// The bytes of the safe pairs of these rows: the pair of `first` and `second` has the bit with the
-/// number `first * categories + second`, eight a byte, the one of least value first, and the bits that
-/// fill the last byte are 0.
+/// number `first * categories + second`, eight a byte, the one of least value first, and the bits
+/// that fill the last byte are 0.
 ///
-/// For each first category it gathers the distinct rows that open rows lead to, so that its time grows
-/// with these and not with ways through the table.
+/// For each first category it gathers the distinct rows that open rows lead to, so that its time
+/// grows with these and not with ways through the table.
 pub fn safe_pairs(
     alloc: Global,
     categories: u16,

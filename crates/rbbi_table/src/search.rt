@@ -106,10 +106,10 @@ impl Table {
     /// looked.
     ///
     /// A search reads characters until it is in row 0, a look-ahead rule is completed, or the text
-    /// ends. Where a look-ahead rule is completed, the boundary is the last place before at which its
-    /// front ended. Otherwise it is the last place at which a rule ended, or comes after one character
-    /// (ICU User Guide, "Break Rules"). Each character from `s` to the look end is read once, and no
-    /// memory is taken.
+    /// ends. Where a look-ahead rule is completed, the boundary is the last place before at which
+    /// its front ended. Otherwise it is the last place at which a rule ended, or comes after one
+    /// character (ICU User Guide, "Break Rules"). Each character from `s` to the look end is read
+    /// once, and no memory is taken.
     pub fn next<T: Chars, L: Ledger>(
         &self,
         text: &T,
@@ -123,7 +123,8 @@ impl Table {
         ensures status { result.status ≡ (found self.now (T.characters text.now) s).list }
         ensures look { result.look ≡ look_end self.now (T.characters text.now) s }
         ensures read { steps.new ≡ steps.old
-            + (min (look_end self.now (T.characters text.now) s) (length (T.characters text.now)) - s) }
+            + (min (look_end self.now (T.characters text.now) s)
+            (length (T.characters text.now)) - s) }
         ensures fit { marks.new ≡ marks.old }
     {
         search(

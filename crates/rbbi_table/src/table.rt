@@ -1,5 +1,6 @@
 //! A valid table and its parts.
-ghost use Rattle.std.specs.Prelude.{◌≡◌, ℕ, ◌+◌, ◌-◌, ◌*◌, ◌<◌, length, slice_get, slice_index_or, Some, IsTrue, ◌↔◌};
+ghost use Rattle.std.specs.Prelude.{◌≡◌, ℕ, ◌+◌, ◌-◌, ◌*◌, ◌<◌, length, slice_get, slice_index_or};
+ghost use Rattle.std.specs.Prelude.{Some, IsTrue, ◌↔◌};
 ghost use Rattle.rbbi_model.specs.Tables.{category_of, statuses_of, head_of, step};
 ghost use Rattle.rbbi_model.specs.SafePairs.{IsSafePair, is_safe};
 ghost use Rattle.rbbi_model.specs.ValidTables.{IsValidTable};
@@ -41,15 +42,16 @@ impl Model for Table {
 
     ghost view = { λ table. table_of table.parts };
 
-    ghost invariant = { λ table. IsKept (table_of table.parts) table.blocks.numbers.items table.blocks.categories.items table.moves.items };
+    ghost invariant = { λ table. IsKept (table_of table.parts) table.blocks.numbers.items
+        table.blocks.categories.items table.moves.items };
 }
 
 impl Table {
     /// The table of these parts.
     ///
     /// Refuses `BadRanges`, `BadLists`, `BadRows`, `BadFronts` or `BadSafe` where that part is the
-    /// first that isn't valid. The checks of fronts and safe pairs go over rows and categories, never
-    /// over ways through the table.
+    /// first that isn't valid. The checks of fronts and safe pairs go over rows and categories,
+    /// never over ways through the table.
     pub fn from_parts(alloc: Global, parts: &Parts) -> Result<Table, TableErr>
         requires { HasFittingParts (table_of parts.now) }
         ensures { MakesTable (table_of parts.now) result }
@@ -184,8 +186,8 @@ impl Table {
             .get(r as usize * self.parts.categories as usize + cat as usize)
     }
 
-    /// The category of a character, in two steps: its block of 256 code points, then its place in the
-    /// block.
+    /// The category of a character, in two steps: its block of 256 code points, then its place in
+    /// the block.
     pub fn category(&self, c: char) -> u16
         ensures value { result ≡ category_of self.now.ranges c }
         ensures within { result < self.now.categories }

@@ -1,6 +1,7 @@
 //! The refusals of the calls that make or change a text.
 ghost use Rattle.std.specs.Prelude.{◌≡◌, None};
-ghost use Rattle.rbbi_text.specs.Errors.{text_err_label, raw_err_label, raw_err_place, edit_err_label};
+ghost use Rattle.rbbi_text.specs.Errors.{text_err_label, raw_err_label, raw_err_place};
+ghost use Rattle.rbbi_text.specs.Errors.{edit_err_label};
 ghost use Rattle.rbbi_text.specs.declared.error.TextErr.TheVariants as text;
 ghost use Rattle.rbbi_text.specs.declared.error.RawErr.TheVariants as raw;
 ghost use Rattle.rbbi_text.specs.declared.error.EditErr.TheVariants as edit;

@@ -46,7 +46,8 @@ enum Head {
         place: u32,
         no_chain_in: bool,
     },
-    /// Perhaps a `^`, the place of the rule's first token, its front, and the place of the `/` behind it.
+    /// Perhaps a `^`, the place of the rule's first token, its front, and the place of the `/`
+    /// behind it.
     Rest {
         place: u32,
         no_chain_in: bool,

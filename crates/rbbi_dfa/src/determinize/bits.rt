@@ -1,5 +1,6 @@
 //! Sets of positions as rows of bits, 64 to a word, the least bit first.
-ghost use Rattle.std.specs.Prelude.{◌≡◌, ◌<◌, ◌^◌, ◌*◌, ◌⊎◌, ◌↔◌, ℕ, length, slice_index, IsTrue, false};
+ghost use Rattle.std.specs.Prelude.{◌≡◌, ◌<◌, ◌^◌, ◌*◌, ◌⊎◌, ◌↔◌, ℕ, length, slice_index, IsTrue};
+ghost use Rattle.std.specs.Prelude.{false};
 ghost use Rattle.std.specs.Int.{bit_at};
 ghost use Rattle.rbbi_dfa.specs.BitRows.{Holds, IsSpan};
 

@@ -10,7 +10,8 @@ use crate::determinize::position_rows::Rows;
 use crate::determinize::spanned::SpannedRow;
 use std::alloc::{AllocError, Global};
 
-/// For each word of a set the value that it had last, and the positions that may follow those of it.
+/// For each word of a set the value that it had last, and the positions that may follow those of
+/// it.
 #[derive(Drop)]
 pub(crate) struct LastWords {
     words: Vec<u64>,

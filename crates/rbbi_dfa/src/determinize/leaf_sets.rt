@@ -25,14 +25,15 @@ fn bucket(set: &[u64]) -> usize
     (hash >> 49) as usize
 }
 
-/// Numbered sets, each of which is there once. Contracts see the list of their rows. Sets in one bucket
-/// are linked, the newest first, and whole rows are compared.
+/// Numbered sets, each of which is there once. Contracts see the list of their rows. Sets in one
+/// bucket are linked, the newest first, and whole rows are compared.
 #[derive(Drop)]
 pub(crate) struct LeafSets {
     sets: Vec<Vec<u64>>,
     /// For each bucket the number of its newest set plus 1, and 0 where it has none.
     newest: Vec<u16>,
-    /// For each set the number plus 1 of the newest older one in its bucket, and 0 where there is none.
+    /// For each set the number plus 1 of the newest older one in its bucket, and 0 where there is
+    /// none.
     older: Vec<u16>,
 }
 

@@ -2,8 +2,8 @@
 use crate::determinize::spanned::SpannedRow;
 use std::marker::Model;
 
-/// What is marked where the position reads the last code point: the number of a look-ahead rule among
-/// such rules, or a status number. Contracts see the record of `specs`.
+/// What is marked where the position reads the last code point: the number of a look-ahead rule
+/// among such rules, or a status number. Contracts see the record of `specs`.
 #[derive(Clone, Copy, Debug, PartialEq, Eq)]
 pub(crate) struct Mark {
     pub position: u32,
@@ -26,8 +26,8 @@ impl Model for Mark {
     } };
 }
 
-/// The positions of rules, as rows of bits. A row of the follow positions of each position takes most of
-/// the memory: 8 MiB at 8,192 positions.
+/// The positions of rules, as rows of bits. A row of the follow positions of each position takes
+/// most of the memory: 8 MiB at 8,192 positions.
 #[derive(Drop)]
 pub(crate) struct Rows {
     /// How many categories there are, category 0 counted.

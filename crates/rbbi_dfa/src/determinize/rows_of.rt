@@ -1,5 +1,6 @@
 //! The rows and lists of positions, read off their marks.
-ghost use Rattle.std.specs.Prelude.{◌≡◌, ◌<◌, ◌≤◌, ◌*◌, ◌+◌, ◌/◌, ◌⊎◌, ◌↔◌, ℕ, length, IfOk, IsTrue};
+ghost use Rattle.std.specs.Prelude.{◌≡◌, ◌<◌, ◌≤◌, ◌*◌, ◌+◌, ◌/◌, ◌⊎◌, ◌↔◌, ℕ, length, IfOk};
+ghost use Rattle.std.specs.Prelude.{IsTrue};
 ghost use Rattle.rbbi_dfa.specs.BitRows.{Holds};
 ghost use Rattle.rbbi_dfa.specs.MarkedRows.{is_in_row, mark_in, IsKindOf, HasOwner, AreMarkedIn};
 ghost use Rattle.rbbi_dfa.specs.MarkedRows.{AreRowsBy, AreReadable, AreRowsOf};
@@ -60,7 +61,8 @@ fn is_in(positions: &Positions, kind: RowKind, position: u32) -> bool
 /// The row of the positions of this kind.
 fn row_of(alloc: Global, positions: &Positions, kind: RowKind) -> Result<Vec<u64>, AllocError>
     requires kind { IsKindOf positions.now kind }
-    requires owners { (position : ℕ) → position < positions.now.leaves → HasOwner positions.now position }
+    requires owners { (position : ℕ) → position < positions.now.leaves →
+        HasOwner positions.now position }
     ensures wide { IfOk result (λ row. length row.items ≡ (positions.now.leaves + 63) / 64) }
     ensures holds { IfOk result (λ row. (position : ℕ) → Holds row.items position
         ↔ ((position < positions.now.leaves) × IsTrue (is_in_row positions.now kind position))) }

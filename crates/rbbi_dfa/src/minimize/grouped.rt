@@ -1,5 +1,6 @@
 //! The first partition: rows with the same marks are of one class.
-ghost use Rattle.std.specs.Prelude.{◌≡◌, ◌≢◌, ℕ, ◌<◌, ◌≤◌, ◌↔◌, List, IsTrue, IfOk, MatchOption, length, slice_index};
+ghost use Rattle.std.specs.Prelude.{◌≡◌, ◌≢◌, ℕ, ◌<◌, ◌≤◌, ◌↔◌, List, IsTrue, IfOk, MatchOption};
+ghost use Rattle.std.specs.Prelude.{length, slice_index};
 ghost use Rattle.rbbi_model.specs.Marks.{marks_of};
 ghost use Rattle.rbbi_dfa.specs.Automata.{IsDetermined};
 ghost use Rattle.rbbi_dfa.specs.Partitions.{IsPartition};
@@ -33,7 +34,8 @@ fn class_with_marks(
 ) -> Option<u16>
     requires determined { IsDetermined automaton.now }
     requires places { (sorted : List (List ℕ)) × AreRanked automaton.now.lists sorted places.now }
-    requires firsts { (class : ℕ) → class < length firsts.now → slice_index firsts.now class < length automaton.now.rows }
+    requires firsts { (class : ℕ) → class < length firsts.now →
+        slice_index firsts.now class < length automaton.now.rows }
     requires few { length firsts.now ≤ 65535 }
     requires row { row < length automaton.now.rows }
     ensures { MatchOption result
@@ -58,8 +60,10 @@ impl Partition {
         places: &[usize],
     ) -> Result<Partition, AllocError>
         requires determined { IsDetermined automaton.now }
-        requires places { (sorted : List (List ℕ)) × AreRanked automaton.now.lists sorted places.now }
-        ensures { IfOk result (λ partition. IsPartition automaton.now partition.classes.items partition.firsts.items) }
+        requires places { (sorted : List (List ℕ)) ×
+            AreRanked automaton.now.lists sorted places.now }
+        ensures { IfOk result (λ partition. IsPartition automaton.now partition.classes.items
+            partition.firsts.items) }
     {
         let mut classes = vec![in alloc; 0u16]?;
         let mut firsts = vec![in alloc; 0u16]?;

@@ -5,7 +5,8 @@ use crate::automaton::Automaton;
 use std::alloc::{AllocError, Global};
 
 /// The rows that lead to a row, for each category, sorted by counting. It says where to look for
-/// classes to split, and no more: nothing is proved of it, and a split looks at the cells themselves.
+/// classes to split, and no more: nothing is proved of it, and a split looks at the cells
+/// themselves.
 #[derive(Drop)]
 pub(crate) struct Inverse {
     rows: usize,

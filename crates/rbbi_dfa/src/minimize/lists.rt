@@ -18,7 +18,8 @@ pub(crate) fn places_of_classes(
 ) -> Result<Vec<usize>, AllocError>
     requires determined { IsDetermined automaton.now }
     requires places { length places.now ≡ length automaton.now.lists }
-    requires firsts { (class : ℕ) → class < length firsts.now → slice_index firsts.now class < length automaton.now.rows }
+    requires firsts { (class : ℕ) → class < length firsts.now →
+        slice_index firsts.now class < length automaton.now.rows }
     ensures { IfOk result (λ found. ArePlacesOf automaton.now places.now firsts.now found.items) }
 {
     let mut found = Vec::with_capacity(alloc, firsts.len())?;
@@ -35,7 +36,8 @@ pub(crate) fn used_places(
     count: usize,
     class_places: &[usize],
 ) -> Result<Vec<bool>, AllocError>
-    requires { (class : ℕ) → class < length class_places.now → slice_index class_places.now class < count }
+    requires { (class : ℕ) → class < length class_places.now →
+        slice_index class_places.now class < count }
     ensures used { IfOk result (λ used. AreUsed class_places.now used.items) }
     ensures many { IfOk result (λ used. length used.items ≡ count) }
 {

@@ -18,8 +18,10 @@ fn merged_cells(
     partition: &Partition,
 ) -> Result<Vec<u16>, AllocError>
     requires determined { IsDetermined automaton.now }
-    requires minimized { IsMinimized automaton.now partition.now.classes.items partition.now.firsts.items }
-    ensures { IfOk result (λ cells. HaveCells automaton.now partition.now.classes.items partition.now.firsts.items
+    requires minimized { IsMinimized automaton.now partition.now.classes.items
+        partition.now.firsts.items }
+    ensures { IfOk result (λ cells. HaveCells automaton.now partition.now.classes.items
+        partition.now.firsts.items
         (length partition.now.firsts.items * automaton.now.categories) cells.items) }
 {
     let width = automaton.categories as usize;
@@ -40,12 +42,15 @@ fn merged_heads(
     class_places: &[usize],
     numbers: &[usize],
 ) -> Result<Vec<Head>, AllocError>
-    requires minimized { IsMinimized automaton.now partition.now.classes.items partition.now.firsts.items }
+    requires minimized { IsMinimized automaton.now partition.now.classes.items
+        partition.now.firsts.items }
     requires places { length class_places.now ≡ length partition.now.firsts.items }
-    requires within { (class : ℕ) → class < length class_places.now → slice_index class_places.now class < length numbers.now }
+    requires within { (class : ℕ) → class < length class_places.now →
+        slice_index class_places.now class < length numbers.now }
     requires small { (class : ℕ) → class < length class_places.now →
         slice_index numbers.now (slice_index class_places.now class) ≤ 65535 }
-    ensures { IfOk result (λ heads. HaveHeads automaton.now partition.now.firsts.items class_places.now numbers.now
+    ensures { IfOk result (λ heads. HaveHeads automaton.now partition.now.firsts.items
+        class_places.now numbers.now
         (length partition.now.firsts.items) heads.items) }
 {
     let mut heads = Vec::with_capacity(alloc, partition.firsts.len())?;
@@ -60,8 +65,9 @@ fn merged_heads(
     Ok(heads)
 }
 
-/// Merges the rows of each class into one: the row of a class has the marks of its first row, and leads
-/// to the classes into which that row leads. The status lists are in order, and each is some row's.
+/// Merges the rows of each class into one: the row of a class has the marks of its first row, and
+/// leads to the classes into which that row leads. The status lists are in order, and each is some
+/// row's.
 pub(crate) fn merge(
     alloc: Global,
     automaton: &Automaton,
@@ -71,7 +77,8 @@ pub(crate) fn merge(
     requires determined { IsDetermined automaton.now }
     requires ranks { AreRanked automaton.now.lists
         (map (λ statuses. statuses.now) ranks.now.sorted.items) ranks.now.places.items }
-    requires minimized { IsMinimized automaton.now partition.now.classes.items partition.now.firsts.items }
+    requires minimized { IsMinimized automaton.now partition.now.classes.items
+        partition.now.firsts.items }
     ensures { IfOk result (λ merged.
         IsMerged automaton.now partition.now.classes.items partition.now.firsts.items merged) }
 {

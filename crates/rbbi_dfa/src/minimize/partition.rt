@@ -1,5 +1,6 @@
 //! A partition of an automaton's rows, and how a class of it is split.
-ghost use Rattle.std.specs.Prelude.{◌≡◌, ◌≢◌, ℕ, ◌+◌, ◌<◌, ◌≤◌, Bool, length, slice_index, OnOk, IsTrue, ◌↔◌};
+ghost use Rattle.std.specs.Prelude.{◌≡◌, ◌≢◌, ℕ, ◌+◌, ◌<◌, ◌≤◌, Bool, length, slice_index, OnOk};
+ghost use Rattle.std.specs.Prelude.{IsTrue, ◌↔◌};
 ghost use Rattle.rbbi_dfa.specs.Automata.{IsDetermined};
 ghost use Rattle.rbbi_dfa.specs.Partitions.{IsPartition, AreSides, Leaves, leads_inside};
 
@@ -9,8 +10,8 @@ use std::alloc::{AllocError, Global};
 /// The most rows that a table may have.
 pub(crate) const MOST_ROWS: usize = 4095;
 
-/// A partition of an automaton's rows into classes that are told apart: rows of different classes have
-/// different marks along some categories. Rows of one class need not be alike yet.
+/// A partition of an automaton's rows into classes that are told apart: rows of different classes
+/// have different marks along some categories. Rows of one class need not be alike yet.
 #[derive(Drop)]
 pub(crate) struct Partition {
     /// The class of each row.
@@ -20,9 +21,9 @@ pub(crate) struct Partition {
 }
 
 impl Partition {
-    /// Splits a class in two: some of its rows lead by the category to rows that are inside, and some to
-    /// rows that are not. Those that do as the first row does stay, and the others make a new class, the
-    /// last. Gives how many left, which may be none; then nothing changes.
+    /// Splits a class in two: some of its rows lead by the category to rows that are inside, and
+    /// some to rows that are not. Those that do as the first row does stay, and the others make a
+    /// new class, the last. Gives how many left, which may be none; then nothing changes.
     ///
     /// Rows of one class are all inside or all outside, so the split is sound whatever was chosen.
     pub fn split(
@@ -46,7 +47,8 @@ impl Partition {
         ensures splits { (row : ℕ) → row < length automaton.now.rows →
             slice_index self.old.classes.items row ≡ class →
             leads_inside automaton.now inside.now category row
-            ≢ leads_inside automaton.now inside.now category (slice_index self.old.firsts.items class) →
+            ≢ leads_inside automaton.now inside.now category
+            (slice_index self.old.firsts.items class) →
             OnOk result (length self.new.firsts.items ≡ length self.old.firsts.items + 1) }
     {
         let first = self.firsts[class as usize];
@@ -77,7 +79,8 @@ impl Partition {
     }
 }
 
-/// How a class is cut: rows that lead by the category to rows inside stay, or those that lead outside.
+/// How a class is cut: rows that lead by the category to rows inside stay, or those that lead
+/// outside.
 #[derive(Clone, Copy)]
 struct Cut {
     class: u16,
@@ -93,7 +96,8 @@ impl Cut {
         requires inside { length inside.now ≡ length automaton.now.rows }
         requires category { self.category < automaton.now.categories }
         requires row { row < length automaton.now.rows }
-        ensures { IsTrue result ↔ Leaves automaton.now classes.now inside.now self.class self.category self.stays row }
+        ensures { IsTrue result ↔ Leaves automaton.now classes.now inside.now self.class
+            self.category self.stays row }
     {
         classes[row as usize] == self.class
             && inside[automaton.next(row, self.category) as usize] != self.stays

@@ -42,7 +42,8 @@ fn place_of(sorted: &[&[u32]], statuses: &[u32]) -> usize
     requires sorted { AreRising (map (λ statuses. statuses.now) sorted.now) }
     requires held { Contains (map (λ statuses. statuses.now) sorted.now) statuses.now }
     ensures place { result < length sorted.now }
-    ensures list { slice_index_or (map (λ statuses. statuses.now) sorted.now) result [] ≡ statuses.now }
+    ensures list { slice_index_or (map (λ statuses. statuses.now) sorted.now) result [] ≡
+        statuses.now }
 {
     match sorted.binary_search(&statuses) {
         Ok(place) => place,

@@ -1,5 +1,5 @@
-//! Partition refinement in time n log n, after Hopcroft (1971), "An n log n algorithm for minimizing
-//! states in a finite automaton".
+//! Partition refinement in time n log n, after Hopcroft (1971), "An n log n algorithm for
+//! minimizing states in a finite automaton".
 ghost use Rattle.std.specs.Prelude.{◌≡◌, ◌+◌, ◌<◌, ◌≤◌, ◌==◌, length, map, IfOk};
 ghost use Rattle.rbbi_dfa.specs.Automata.{IsDetermined};
 ghost use Rattle.rbbi_dfa.specs.Partitions.{IsPartition, AreSides};
@@ -11,20 +11,22 @@ use crate::minimize::tally::Tally;
 use crate::minimize::work::Work;
 use std::alloc::{AllocError, Global};
 
-/// Splits classes until no class leads by a category both into some class and not, or until there are
-/// more classes than a table may have rows.
+/// Splits classes until no class leads by a category both into some class and not, or until there
+/// are more classes than a table may have rows.
 ///
-/// Each split is sound, whatever the order of work. That no more are needed is not proved here: a last
-/// round finds what is left.
+/// Each split is sound, whatever the order of work. That no more are needed is not proved here: a
+/// last round finds what is left.
 pub(crate) fn refine(
     alloc: Global,
     automaton: &Automaton,
     partition: &mut Partition,
 ) -> Result<(), AllocError>
     requires determined { IsDetermined automaton.now }
-    requires partition { IsPartition automaton.now partition.old.classes.items partition.old.firsts.items }
+    requires partition { IsPartition automaton.now partition.old.classes.items
+        partition.old.firsts.items }
     requires room { length partition.old.firsts.items ≤ MOST_ROWS }
-    ensures partition { IsPartition automaton.now partition.new.classes.items partition.new.firsts.items }
+    ensures partition { IsPartition automaton.now partition.new.classes.items
+        partition.new.firsts.items }
     ensures room { length partition.new.firsts.items ≤ MOST_ROWS + 1 }
 {
     let inverse = Inverse::new(alloc, automaton)?;
@@ -59,9 +61,11 @@ fn split_by(
     splitter: u16,
 ) -> Result<(), AllocError>
     requires determined { IsDetermined automaton.now }
-    requires partition { IsPartition automaton.now partition.old.classes.items partition.old.firsts.items }
+    requires partition { IsPartition automaton.now partition.old.classes.items
+        partition.old.firsts.items }
     requires room { length partition.old.firsts.items ≤ MOST_ROWS + 1 }
-    ensures partition { IsPartition automaton.now partition.new.classes.items partition.new.firsts.items }
+    ensures partition { IsPartition automaton.now partition.new.classes.items
+        partition.new.firsts.items }
     ensures room { length partition.new.firsts.items ≤ MOST_ROWS + 1 }
 {
     let inside = side_of(alloc, &partition.classes, splitter)?;
@@ -84,12 +88,14 @@ fn split_touched(
     inside: &[bool],
 ) -> Result<(), AllocError>
     requires determined { IsDetermined automaton.now }
-    requires partition { IsPartition automaton.now partition.old.classes.items partition.old.firsts.items }
+    requires partition { IsPartition automaton.now partition.old.classes.items
+        partition.old.firsts.items }
     requires room { length partition.old.firsts.items ≤ MOST_ROWS + 1 }
     requires category { category < automaton.now.categories }
     requires sides { AreSides partition.old.classes.items inside.now }
     requires inside { length inside.now ≡ length automaton.now.rows }
-    ensures partition { IsPartition automaton.now partition.new.classes.items partition.new.firsts.items }
+    ensures partition { IsPartition automaton.now partition.new.classes.items
+        partition.new.firsts.items }
     ensures sides { AreSides partition.new.classes.items inside.now }
     ensures room { length partition.new.firsts.items ≤ MOST_ROWS + 1 }
 {

@@ -7,11 +7,12 @@ ghost use Rattle.rbbi_dfa.specs.Partitions.{IsPartition, IsStable};
 use crate::automaton::Automaton;
 use crate::minimize::Partition;
 
-/// A row and a category by which it leads into another class than the first row of its class does, and
-/// None exactly where there are none.
+/// A row and a category by which it leads into another class than the first row of its class does,
+/// and None exactly where there are none.
 pub(crate) fn disagreement(automaton: &Automaton, partition: &Partition) -> Option<(u16, u16)>
     requires determined { IsDetermined automaton.now }
-    requires partition { IsPartition automaton.now partition.now.classes.items partition.now.firsts.items }
+    requires partition { IsPartition automaton.now partition.now.classes.items
+        partition.now.firsts.items }
     ensures { MatchOption result
         (IsStable automaton.now partition.now.classes.items partition.now.firsts.items)
         (λ found. (found.0 < length automaton.now.rows)

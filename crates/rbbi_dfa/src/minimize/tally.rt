@@ -5,8 +5,8 @@ use crate::minimize::inverse::Inverse;
 use crate::minimize::partition::MOST_ROWS;
 use std::alloc::{AllocError, Global};
 
-/// How many rows of each class lead into a splitter by a category. It says which classes to look at,
-/// and no more: nothing is proved of the counts.
+/// How many rows of each class lead into a splitter by a category. It says which classes to look
+/// at, and no more: nothing is proved of the counts.
 #[derive(Drop)]
 pub(crate) struct Tally {
     /// For each class, how many rows were counted.

@@ -3,8 +3,8 @@ ghost use Rattle.std.specs.Prelude.{◌≤◌};
 
 use std::alloc::{AllocError, Global};
 
-/// The classes by which others may still have to be split, and the sizes of classes. It says in which
-/// order to work, and no more: nothing is proved of it.
+/// The classes by which others may still have to be split, and the sizes of classes. It says in
+/// which order to work, and no more: nothing is proved of it.
 #[derive(Drop)]
 pub(crate) struct Work {
     /// The classes to split by, the next one last.

@@ -10,7 +10,8 @@ pub loop-k-preserved : goal.loop-k-preserved
 loop-k-preserved c =
     let Ok : Option Shown → Type 0 = λ best. MatchOption best ⊤ (λ shown. HasAt c.args.runs.now shown.run (GoesOnFrom c.args.i shown.entry)) in
     elim c.match-last_up_to.branch [
-      | in-Some+then-is_nearer w ↦ subst Ok (sym w.best-is) (has_at (GoesOnFrom c.args.i w.in-Some.entry) c.args.runs.now c.loop-k.k c.index-runs-k.result c.loop-k-test.true c.index-runs-k.is w.in-Some.ensures)
+      | in-Some+then-is_nearer w ↦ subst Ok (sym w.best-is)
+          (has_at (GoesOnFrom c.args.i w.in-Some.entry) c.args.runs.now c.loop-k.k c.index-runs-k.result c.loop-k-test.true c.index-runs-k.is w.in-Some.ensures)
       | in-Some+else-is_nearer w ↦ subst Ok (sym w.best-is) c.loop-k.invariant
       | in_default w ↦ subst Ok (sym w.best-is) c.loop-k.invariant
     ]

@@ -12,7 +12,8 @@ loop-point-init c =
 
 pub returns-in_default-pair_of : goal.returns-in_default-pair_of
 returns-in_default-pair_of c =
-    IsMarking-bad c.args.words.now (chars (string_bytes c.loop-point.text)) c.loop-point.marks.items c.loop-point.rest.now c.in-Some.point.word.now c.in-Some.point.rest.now c.loop-point.invariant c.in-Some.ensures
+    IsMarking-bad c.args.words.now (chars (string_bytes c.loop-point.text)) c.loop-point.marks.items c.loop-point.rest.now c.in-Some.point.word.now
+    c.in-Some.point.rest.now c.loop-point.invariant c.in-Some.ensures
     c.in_default-pair_of.ensures
 
 pub loop-point-preserved : goal.loop-point-preserved
@@ -22,9 +23,11 @@ loop-point-preserved c =
     let text = chars (string_bytes c.loop-point.text) ++ c.in-Some-pair_of.pair.character ∷ [] in
     subst (λ t. IsMarking words t c.push.new.self.items left) (sym c.in_ok-push_character.ensures)
     (subst (λ m. IsMarking words text m left) (sym c.in_ok-push.ensures.items)
-    (IsMarking-more words (chars (string_bytes c.loop-point.text)) c.loop-point.marks.items c.loop-point.rest.now c.in-Some.point.word.now c.in-Some.point.rest.now c.in-Some-pair_of.pair.character
+    (IsMarking-more words (chars (string_bytes c.loop-point.text)) c.loop-point.marks.items c.loop-point.rest.now c.in-Some.point.word.now
+    c.in-Some.point.rest.now c.in-Some-pair_of.pair.character
     c.in-Some-pair_of.pair.mark left c.loop-point.invariant c.in-Some.ensures c.in-Some-pair_of.ensures))
 
 pub returns : goal.returns
 returns c =
-    IsMarking-end c.args.words.now (chars (string_bytes c.loop-point.text)) c.loop-point.marks.items c.loop-point.rest.now c.loop-point.invariant c.in_default.ensures
+    IsMarking-end c.args.words.now (chars (string_bytes c.loop-point.text)) c.loop-point.marks.items c.loop-point.rest.now c.loop-point.invariant
+    c.in_default.ensures

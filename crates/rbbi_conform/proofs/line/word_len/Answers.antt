@@ -5,7 +5,8 @@ use Rattle.rbbi_conform.proofs.line.word_len.Goals as goal
 
 pub returns-then-is_blank-clause-place : goal.returns-then-is_blank-clause-place
 returns-then-is_blank-clause-place c =
-    sym (position_or_len_is is_blank c.args.text.now c.loop-place.place 0 (omega arith) c.loop-place.invariant (λ l. sym c.is_blank.ensures ∙ c.if-is_blank.true))
+    sym (position_or_len_is is_blank c.args.text.now c.loop-place.place 0 (omega arith) c.loop-place.invariant (λ l. sym c.is_blank.ensures
+    ∙ c.if-is_blank.true))
 
 pub returns-clause-place : goal.returns-clause-place
 returns-clause-place c =

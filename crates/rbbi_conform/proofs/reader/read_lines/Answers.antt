@@ -14,30 +14,39 @@ loop-line-init c = (refl, c.new-tests.ensures)
 
 pub overflow_add-number : goal.overflow_add-number
 overflow_add-number c =
-    let road = YieldsList-from_lines c.args.text.now (ap (λ s. s.rest.now) c.into_iter-line-iterator.ensures.into_iter_gives ∙ c.lines-line-items.ensures.rest) in
+    let road = YieldsList-from_lines c.args.text.now (ap (λ s. s.rest.now) c.into_iter-line-iterator.ensures.into_iter_gives
+    ∙ c.lines-line-items.ensures.rest) in
     let turn = YieldsList-turn road c.loop-line.yielded _ c.loop-line.yielded_by _ _ c.in-Some.line c.in-Some.is c.next.ensures.steps in
     omega (arith, turn.0, length-lines c.args.text.now, c.loop-line.invariant.0)
 
 pub loop-line-preserved : goal.loop-line-preserved
 loop-line-preserved c =
-    let road = YieldsList-from_lines c.args.text.now (ap (λ s. s.rest.now) c.into_iter-line-iterator.ensures.into_iter_gives ∙ c.lines-line-items.ensures.rest) in
+    let road = YieldsList-from_lines c.args.text.now (ap (λ s. s.rest.now) c.into_iter-line-iterator.ensures.into_iter_gives
+    ∙ c.lines-line-items.ensures.rest) in
     let turn = YieldsList-turn road c.loop-line.yielded _ c.loop-line.yielded_by _ _ c.in-Some.line c.in-Some.is c.next.ensures.steps in (
       omega (arith, c.loop-line.invariant.0, length-append c.loop-line.yielded (c.in-Some.line ∷ [])),
-      next_line (lines c.args.text.now) c.loop-line.number (length c.loop-line.yielded) c.in-Some.line.now c.loop-line.tests c.in_ok-read_line.ensures.0 c.read_line.new.tests c.loop-line.invariant.1 c.loop-line.invariant.0
-          turn.0 (turn.1 ∙ get_or_default _ _ _ _ turn.0) (subst (λ l. LineWrites l (c.loop-line.number + 1) c.in_ok-read_line.ensures.0) c.as_bytes.ensures.value c.in_ok-read_line.ensures.1) c.in_ok-read_line.ensures.2,
+      next_line (lines c.args.text.now) c.loop-line.number (length c.loop-line.yielded) c.in-Some.line.now c.loop-line.tests c.in_ok-read_line.ensures.0
+          c.read_line.new.tests c.loop-line.invariant.1 c.loop-line.invariant.0
+          turn.0 (turn.1 ∙ get_or_default _ _ _ _ turn.0)
+          (subst (λ l. LineWrites l (c.loop-line.number + 1) c.in_ok-read_line.ensures.0) c.as_bytes.ensures.value c.in_ok-read_line.ensures.1)
+          c.in_ok-read_line.ensures.2,
     )
 
 pub returns-in_err-read_line : goal.returns-in_err-read_line
 returns-in_err-read_line c =
-    let road = YieldsList-from_lines c.args.text.now (ap (λ s. s.rest.now) c.into_iter-line-iterator.ensures.into_iter_gives ∙ c.lines-line-items.ensures.rest) in
+    let road = YieldsList-from_lines c.args.text.now (ap (λ s. s.rest.now) c.into_iter-line-iterator.ensures.into_iter_gives
+    ∙ c.lines-line-items.ensures.rest) in
     let turn = YieldsList-turn road c.loop-line.yielded _ c.loop-line.yielded_by _ _ c.in-Some.line c.in-Some.is c.next.ensures.steps in
     let told = err_from_is_err_and c.from_residual.result c.from_residual.ensures.1 in
     rw (told.1, told.2)
-    (refused_line (lines c.args.text.now) c.loop-line.number (length c.loop-line.yielded) c.in-Some.line.now c.loop-line.tests c.in_err-read_line.field-0.0 c.loop-line.invariant.1 c.loop-line.invariant.0
-    turn.0 (turn.1 ∙ get_or_default _ _ _ _ turn.0) (subst (λ l. RefusesLine l (c.loop-line.number + 1) c.in_err-read_line.field-0.0) c.as_bytes.ensures.value c.in_err-read_line.ensures))
+    (refused_line (lines c.args.text.now) c.loop-line.number (length c.loop-line.yielded) c.in-Some.line.now c.loop-line.tests c.in_err-read_line.field-0.0
+    c.loop-line.invariant.1 c.loop-line.invariant.0
+    turn.0 (turn.1 ∙ get_or_default _ _ _ _ turn.0)
+    (subst (λ l. RefusesLine l (c.loop-line.number + 1) c.in_err-read_line.field-0.0) c.as_bytes.ensures.value c.in_err-read_line.ensures))
 
 pub returns : goal.returns
 returns c =
-    let road = YieldsList-from_lines c.args.text.now (ap (λ s. s.rest.now) c.into_iter-line-iterator.ensures.into_iter_gives ∙ c.lines-line-items.ensures.rest) in
+    let road = YieldsList-from_lines c.args.text.now (ap (λ s. s.rest.now) c.into_iter-line-iterator.ensures.into_iter_gives
+    ∙ c.lines-line-items.ensures.rest) in
     let end = YieldsList-end road c.loop-line.yielded _ c.loop-line.yielded_by _ _ c.in-None.is c.next.ensures.steps in
     all_lines (lines c.args.text.now) c.loop-line.number c.loop-line.tests c.loop-line.invariant.1 (omega (arith, end.1, c.loop-line.invariant.0))

@@ -40,7 +40,8 @@ returns c = λ rules h.
     AreOf-from_compilable rules marks cats c.count.result c.look_aheads-slashes.result h c.count.ensures c.look_aheads-slashes.ensures in
     let is : automaton.categories ≡ c.count.result = c.in_ok-automaton.ensures.categories in
     let same : c.in_ok-ranges.ranges ≡ cats.ranges = c.in_ok-ranges.ensures ∙ c.ranges-2.ensures in
-    BuildsTable-from_gives rules cats.ranges automaton (c.in_ok-automaton.ensures.determined rules cats.ranges of) (c.in_ok-automaton.ensures.marks rules cats.ranges of)
+    BuildsTable-from_gives rules cats.ranges automaton (c.in_ok-automaton.ensures.determined rules cats.ranges of)
+    (c.in_ok-automaton.ensures.marks rules cats.ranges of)
     (subst (λ (n : ℕ). AreValidRanges n cats.ranges) (sym is) of.valid)
     (subst (λ (n : ℕ). AreClasses rules n cats.ranges) (sym is) of.classes)
     (c.in_ok-automaton.ensures.few rules cats.ranges of) (c.marks_are_unique.ensures rules)

@@ -9,6 +9,8 @@ returns-clause-exact c =
     let sets = c.lead_all.new.sets in (
       sets,
       omega (arith, c.sets.invariant.few, ap length c.sets.view_is),
-      is_determinized c.args.rows.now sets c.rows.inside.categories c.rows.inside.slashes c.in_ok-heads.heads.items (items_of c.in_ok-heads.lists.items) c.in_ok-cells.cells.items
-          (ap (λ (r : PositionRows). r.categories) c.rows.view_is) (ap (λ (r : PositionRows). r.slashes) c.rows.view_is) c.in_ok-cells.ensures.reached c.in_ok-cells.ensures.cells c.in_ok-heads.ensures,
+      is_determinized c.args.rows.now sets c.rows.inside.categories c.rows.inside.slashes c.in_ok-heads.heads.items (items_of c.in_ok-heads.lists.items)
+          c.in_ok-cells.cells.items
+          (ap (λ (r : PositionRows). r.categories) c.rows.view_is) (ap (λ (r : PositionRows). r.slashes) c.rows.view_is) c.in_ok-cells.ensures.reached
+          c.in_ok-cells.ensures.cells c.in_ok-heads.ensures,
     )

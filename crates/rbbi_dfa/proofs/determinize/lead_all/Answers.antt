@@ -51,7 +51,8 @@ loop-i-preserved c =
     elim c.if-completes.branch [
       | then-completes+in_ok-lead_nowhere-2 w ↦
           let completes = subst (Completes rows) c.get-set.ensures (c.completes.ensures.some w.if-completes.true) in
-          let led = cells_stop rows sets cells w.lead_nowhere-then-completes.new.cells.items i here.led w.in_ok-lead_nowhere-2.ensures completes (begin_refl rows sets) in
+          let led = cells_stop rows sets cells w.lead_nowhere-then-completes.new.cells.items i here.led w.in_ok-lead_nowhere-2.ensures completes
+          (begin_refl rows sets) in
           record {
             led = subst (λ s. IsLed rows s c.if-completes.cells.items c.if-completes.candidates c.if-completes.next (i + 1)) (sym w.sets-is)
                 (record {
@@ -67,7 +68,8 @@ loop-i-preserved c =
           let new = w.lead_on-else-completes.new.sets in
           let unfinished = subst (λ l. ¬ Completes rows l) c.get-set.ensures (c.completes.ensures.none w.if-completes.false) in
           let followers = subst (λ l. AreFollowers rows l w.follow.new.candidates) c.get-set.ensures w.in_ok-follow.ensures.followers in
-          let led = cells_go rows sets new w.follow.new.candidates cells w.lead_on-else-completes.new.cells.items i short here.led w.in_ok-lead_on-2.ensures.kept w.in_ok-lead_on-2.ensures.cells unfinished followers in
+          let led = cells_go rows sets new w.follow.new.candidates cells w.lead_on-else-completes.new.cells.items i short here.led
+          w.in_ok-lead_on-2.ensures.kept w.in_ok-lead_on-2.ensures.cells unfinished followers in
           record {
             led = subst (λ s. IsLed rows s c.if-completes.cells.items c.if-completes.candidates c.if-completes.next (i + 1)) (sym w.sets-is)
                 (record {

@@ -14,5 +14,6 @@ loop-category-preserved c =
 
 pub returns : goal.returns
 returns c =
-    let same : c.loop-category._category ≡ c.args.rows.now.categories = omega (arith, c.loop-category-test.false, ap (λ (r : PositionRows). r.categories) c.rows.view_is) in
+    let same : c.loop-category._category ≡ c.args.rows.now.categories =
+    omega (arith, c.loop-category-test.false, ap (λ (r : PositionRows). r.categories) c.rows.view_is) in
     subst (AddsZeros c.args.cells.now.items c.loop-category.cells.items) same c.loop-category.invariant

@@ -17,7 +17,9 @@ returns-in_err-number_of-clause-refused c = λ refused.
     let gave = p.2 in
     let full = c.in_err-number_of.ensures.refused (cc) in
     let some = some_next c.args.rows.now c.args.candidates.now next c.loop-category.category c.step.ensures.step (c.is_read.ensures.some c.if-is_read.true) in
-    one_too_many c.args.rows.now c.number_of.new.self next (kept_or_added c.args.rows.now c.loop-category.sets c.number_of.new.self next c.loop-category.invariant.reached c.in_err-number_of.ensures.sets c.step.ensures.row reached some).0 full.0 full.1 c.step.ensures.row reached some
+    one_too_many c.args.rows.now c.number_of.new.self next
+    (kept_or_added c.args.rows.now c.loop-category.sets c.number_of.new.self next c.loop-category.invariant.reached c.in_err-number_of.ensures.sets
+    c.step.ensures.row reached some).0 full.0 full.1 c.step.ensures.row reached some
 
 pub overflow_add-cell : goal.overflow_add-cell
 overflow_add-cell c = omega (arith, c.in_ok-number_of.ensures.few)
@@ -49,12 +51,14 @@ loop-category-preserved c =
           let reached = reached_next rows candidates next category c.requires.candidates within w.step.ensures.step in
           let some = some_next rows candidates next category w.step.ensures.step (c.is_read.ensures.some w.if-is_read.true) in
           let more = kept_or_added rows here new next c.loop-category.invariant.reached w.in_ok-number_of.ensures.sets w.step.ensures.row reached some in
-          let cell = set_cell rows new candidates next category w.in_ok-number_of.field-0 c.if-is_read.cell w.cell-is w.in_ok-number_of.ensures.number.0 w.in_ok-number_of.ensures.number.1 w.step.ensures.step in
+          let cell = set_cell rows new candidates next category w.in_ok-number_of.field-0 c.if-is_read.cell w.cell-is w.in_ok-number_of.ensures.number.0
+          w.in_ok-number_of.ensures.number.1 w.step.ensures.step in
           subst (λ s. IsLeading rows before s candidates old c.push.new.self.items c.if-is_read.next (category + 1)) (sym w.sets-is)
           (record {
             reached = more.0;
             kept = begin_trans rows before here new c.loop-category.invariant.kept more.1;
-            adds = subst (λ l. AddsCells rows new candidates old l (category + 1)) (sym pushed) (cells_more rows here new candidates old cells category c.if-is_read.cell c.loop-category.invariant.adds more.1 cell);
+            adds = subst (λ l. AddsCells rows new candidates old l (category + 1)) (sym pushed)
+                (cells_more rows here new candidates old cells category c.if-is_read.cell c.loop-category.invariant.adds more.1 cell);
             wide = wide;
           })
       | else-is_read w ↦
@@ -63,7 +67,8 @@ loop-category-preserved c =
           (record {
             reached = c.loop-category.invariant.reached;
             kept = c.loop-category.invariant.kept;
-            adds = subst (λ l. AddsCells rows here candidates old l (category + 1)) (sym pushed) (cells_more rows here here candidates old cells category c.if-is_read.cell c.loop-category.invariant.adds (begin_refl rows here) cell);
+            adds = subst (λ l. AddsCells rows here candidates old l (category + 1)) (sym pushed)
+                (cells_more rows here here candidates old cells category c.if-is_read.cell c.loop-category.invariant.adds (begin_refl rows here) cell);
             wide = wide;
           })
     ]

@@ -25,7 +25,8 @@ loop-i-preserved c =
     (elim c.if-accept-lt2.branch [
       | then-accept-lt2 w ↦
           marked_more rows sets heads lists i head statuses refl accept
-          (λ small. subst (AreFrontsOf rows (row_at sets i)) (sym w.fronts-is) (subst (λ l. AreFrontsOf rows l w.fronts-fronts.result) set_is w.fronts-fronts.ensures.bits))
+          (λ small. subst (AreFrontsOf rows (row_at sets i)) (sym w.fronts-is)
+          (subst (λ l. AreFrontsOf rows l w.fronts-fronts.result) set_is w.fronts-fronts.ensures.bits))
           (λ many. absurd (omega (arith, many, w.if-accept-lt2.true)))
           (subst (λ n. n < 2 ^ rows.slashes) (sym w.fronts-is) w.fronts-fronts.ensures.small) tags c.loop-i.invariant
       | else-accept-lt2 w ↦

@@ -19,14 +19,21 @@ returns-clause-grows c =
     let next_row : step automaton row category < length classes.items =
     omega (arith, c.next.ensures.exact, c.next.ensures.row, partition.rows) in
     let target_read : c.index-target.result.now ≡ slice_index classes.items c.next.result =
-    get_or_read_under classes.items c.next.result classes.len _ 0 c.index-target.ensures (omega (arith, c.next.ensures.row, partition.rows, classes.ok.0)) classes.ok.0 in
+    get_or_read_under classes.items c.next.result classes.len _ 0 c.index-target.ensures (omega (arith, c.next.ensures.row, partition.rows, classes.ok.0))
+    classes.ok.0 in
     let target_is = target_read ∙ ap (λ k. slice_index classes.items k) c.next.ensures.exact in
     let first = slice_index firsts.items (slice_index classes.items row) in
     let first_row : slice_index firsts.items (slice_index classes.items row) < length automaton.rows =
     omega (arith, partition.first_row (slice_index classes.items row) (partition.within row row_class), partition.rows) in
     let first_next : step automaton (slice_index firsts.items (slice_index classes.items row)) category < length classes.items =
-    omega (arith, (c.requires.determined.each (slice_index firsts.items (slice_index classes.items row)) first_row).next category c.requires.category, partition.rows) in
-    let inside_is = c.deref-2.ensures.value ∙ c.in_ok-inside.ensures.exact ∙ ap (λ (xs : List ℕ). map (λ of. nat_eq of c.index-target.result.now) xs) c.deref.ensures.value in
-    let differ = sides_differ automaton classes.items _ c.index-target.result.now row (slice_index firsts.items (slice_index classes.items row)) category inside_is target_is next_row first_next c.requires.differs in
+    omega (
+      arith,
+      (c.requires.determined.each (slice_index firsts.items (slice_index classes.items row)) first_row).next category c.requires.category,
+      partition.rows,
+    ) in
+    let inside_is = c.deref-2.ensures.value ∙ c.in_ok-inside.ensures.exact
+    ∙ ap (λ (xs : List ℕ). map (λ of. nat_eq of c.index-target.result.now) xs) c.deref.ensures.value in
+    let differ = sides_differ automaton classes.items _ c.index-target.result.now row (slice_index firsts.items (slice_index classes.items row)) category
+    inside_is target_is next_row first_next c.requires.differs in
     c.in_ok-split.ensures.splits row c.requires.row (sym class_is)
     (λ e. differ (e ∙ ap (λ k. leads_inside automaton c.deref-2.result.now category (slice_index firsts.items k)) class_is))

@@ -7,7 +7,9 @@ use Rattle.rbbi_positions.specs.Trees.{spells_empty}
 use Rattle.rbbi_positions.proofs.empty.+is_empty.Given as goal
 
 abbrev pub invariant-loop-part : goal.invariant-loop-part
-invariant-loop-part l = (sets : List (List Range)) → spells_empty (tree_of sets l.tree) ≡ spells_empty (sequence_of (map (tree_of sets) (drop l.part-index l.part-items)))
+invariant-loop-part l =
+    (sets : List (List Range)) → spells_empty (tree_of sets l.tree) ≡ spells_empty (sequence_of (map (tree_of sets) (drop l.part-index l.part-items)))
 
 abbrev pub invariant-loop-part-2 : goal.invariant-loop-part-2
-invariant-loop-part-2 l = (sets : List (List Range)) → spells_empty (tree_of sets l.tree) ≡ spells_empty (choice_of (map (tree_of sets) (drop l.part-index l.part-items)))
+invariant-loop-part-2 l =
+    (sets : List (List Range)) → spells_empty (tree_of sets l.tree) ≡ spells_empty (choice_of (map (tree_of sets) (drop l.part-index l.part-items)))

@@ -55,7 +55,8 @@ count-start-requires t c =
       c.requires.short,
       c.loop-i.invariant.fits sets,
       count_up_to (tree_of sets) c.in-Seq.parts.items.items
-          c.loop-i.i c.index-part.result.now c.loop-i-test.true (omega (arith, c.loop-i.auto.i, c.len-i.ensures, c.in-Seq.parts.items.ok.0)) c.index-part.ensures,
+          c.loop-i.i c.index-part.result.now c.loop-i-test.true (omega (arith, c.loop-i.auto.i, c.len-i.ensures, c.in-Seq.parts.items.ok.0))
+          c.index-part.ensures,
     )
 
 pub overflow_sub-start : goal.overflow_sub-start
@@ -80,7 +81,8 @@ add_followers-requires t c =
       c.loop-i.invariant.at sets,
       c.loop-i.invariant.fits sets,
       count_up_to (tree_of sets) c.in-Seq.parts.items.items
-          c.loop-i.i c.index-part.result.now c.loop-i-test.true (omega (arith, c.loop-i.auto.i, c.len-i.ensures, c.in-Seq.parts.items.ok.0)) c.index-part.ensures,
+          c.loop-i.i c.index-part.result.now c.loop-i-test.true (omega (arith, c.loop-i.auto.i, c.len-i.ensures, c.in-Seq.parts.items.ok.0))
+          c.index-part.ensures,
     ) in
     here in (
       search (rules, the_lemmas),

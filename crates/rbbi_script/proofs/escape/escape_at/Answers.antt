@@ -16,7 +16,8 @@ returns-in-Some-after-2 c = letter 116 9 c.args.text.now c.in-Some-after-2.rest.
 pub returns-in-Some-after-3 : goal.returns-in-Some-after-3
 returns-in-Some-after-3 c = letter 92 92 c.args.text.now c.in-Some-after-3.rest.now (λ k. omega arith) backslash c.in-Some-after-3.ensures
 
-numbers_alone : (text : List ℕ) (found : Option Escape) → (IsNoNumberEscape text → IsNoEscape text) → MatchOption found (IsNoNumberEscape text) (λ e. IsOnlyEscape text e.character e.rest.now) →
+numbers_alone : (text : List ℕ) (found : Option Escape) → (IsNoNumberEscape text → IsNoEscape text) → MatchOption found (IsNoNumberEscape text)
+    (λ e. IsOnlyEscape text e.character e.rest.now) →
     MatchOption found (IsNoEscape text) (λ e. IsOnlyEscape text e.character e.rest.now)
 numbers_alone text None none h = none h
 numbers_alone text (Some e) none h = h

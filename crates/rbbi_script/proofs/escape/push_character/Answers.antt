@@ -6,10 +6,12 @@ use Rattle.std.specs.declared.alloc.AllocError.{AllocError}
 use Rattle.rbbi_script.proofs.Words.{chars-push}
 use Rattle.rbbi_script.proofs.escape.push_character.Goals as goal
 
-pushed : (r : Result (Unit {0}) AllocError) (bs new : List ℕ) (c : ℕ) → new ≡ cond (is_ok r) (bs ++ encode_utf8 c) bs → IsUtf8 bs → IsScalar c → OnOk r (chars new ≡ chars bs ++ c ∷ [])
+pushed : (r : Result (Unit {0}) AllocError) (bs new : List ℕ) (c : ℕ) → new ≡ cond (is_ok r) (bs ++ encode_utf8 c) bs → IsUtf8 bs → IsScalar c →
+    OnOk r (chars new ≡ chars bs ++ c ∷ [])
 pushed (Ok u) bs new c e utf8 scalar = ap chars e ∙ chars-push bs c utf8 scalar
 pushed (Err u) bs new c e utf8 scalar = tt
 
 pub returns : goal.returns
 returns c =
-    pushed c.push.result (string_bytes c.args.word.now) (string_bytes c.push.new.self) c.args.c c.push.ensures.bytes (IsUtf8-string_bytes c.args.word.now) c.ranges.c.0
+    pushed c.push.result (string_bytes c.args.word.now) (string_bytes c.push.new.self) c.args.c c.push.ensures.bytes (IsUtf8-string_bytes c.args.word.now)
+    c.ranges.c.0

@@ -17,7 +17,8 @@ cut_at-requires-text-text c κs = c.loop-cut.invariant.1
 pub returns-in_default-escape_at : goal.returns-in_default-escape_at
 returns-in_default-escape_at c =
     let utf8 = subst IsUtf8 c.in-Some.ensures.parts c.loop-cut.invariant.1 in
-    IsWriting-bad c.args.text.now (chars (string_bytes c.loop-cut.word)) c.loop-cut.rest.now c.in-Some.cut.before.now c.in-Some.cut.after.now c.loop-cut.invariant.0 c.in-Some.ensures.parts c.in-Some.ensures.first
+    IsWriting-bad c.args.text.now (chars (string_bytes c.loop-cut.word)) c.loop-cut.rest.now c.in-Some.cut.before.now c.in-Some.cut.after.now
+    c.loop-cut.invariant.0 c.in-Some.ensures.parts c.in-Some.ensures.first
     (utf8_before c.in-Some.cut.before.now c.in-Some.cut.after.now utf8) c.in_default-escape_at.ensures
 
 pub loop-cut-preserved : goal.loop-cut-preserved
@@ -28,9 +29,11 @@ loop-cut-preserved c =
     let utf8 = subst IsUtf8 c.in-Some.ensures.parts c.loop-cut.invariant.1 in
     let pushed : chars (string_bytes c.push_character.new.word) ≡ chars word ++ chars before ++ c.in-Some-escape_at.escape.character ∷ [] =
     c.in_ok-push_character.ensures
-    ∙ ap (λ w. w ++ c.in-Some-escape_at.escape.character ∷ []) (ap chars c.in_ok-push_str.ensures.bytes ∙ chars-append word before (IsUtf8-string_bytes c.loop-cut.word)) in (
+    ∙ ap (λ w. w ++ c.in-Some-escape_at.escape.character ∷ []) (ap chars c.in_ok-push_str.ensures.bytes
+    ∙ chars-append word before (IsUtf8-string_bytes c.loop-cut.word)) in (
       subst (λ w. IsWriting c.args.text.now w c.in-Some-escape_at.escape.rest.now) (sym pushed)
-          (IsWriting-more c.args.text.now (chars word) c.loop-cut.rest.now before after c.in-Some-escape_at.escape.character c.in-Some-escape_at.escape.rest.now c.loop-cut.invariant.0 c.in-Some.ensures.parts
+          (IsWriting-more c.args.text.now (chars word) c.loop-cut.rest.now before after c.in-Some-escape_at.escape.character
+          c.in-Some-escape_at.escape.rest.now c.loop-cut.invariant.0 c.in-Some.ensures.parts
           c.in-Some.ensures.first (utf8_before before after utf8) c.in-Some-escape_at.ensures),
       utf8_left before after c.in-Some-escape_at.escape.character c.in-Some-escape_at.escape.rest.now utf8 c.in-Some-escape_at.ensures,
     )

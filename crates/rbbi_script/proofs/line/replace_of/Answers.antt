@@ -12,5 +12,6 @@ returns-in_default-first_field c =
 
 pub returns-in_default-2 : goal.returns-in_default-2
 returns-in_default-2 c =
-    replace_no_text c.args.fields.now c.in-Some.at.number c.in-Some.at.rest.now c.in-Some-first_field.remove.number c.in-Some-first_field.remove.rest.now c.in-Some.ensures c.in-Some-first_field.ensures
+    replace_no_text c.args.fields.now c.in-Some.at.number c.in-Some.at.rest.now c.in-Some-first_field.remove.number c.in-Some-first_field.remove.rest.now
+    c.in-Some.ensures c.in-Some-first_field.ensures
     (subst (IsWordOf c.in-Some-first_field.remove.rest.now) c.in_default-2.is c.in_ok-text.ensures)

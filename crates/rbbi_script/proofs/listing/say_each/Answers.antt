@@ -7,20 +7,24 @@ pub returns-in_err-say_bound-clause-lines : goal.returns-in_err-say_bound-clause
 returns-in_err-say_bound-clause-lines g c =
     let told = err_from_is_err_and c.from_residual.result c.from_residual.ensures.1 in
     rw told.1
-    (listed_broken c.args.session.now c.loop-place.session c.in-Some.at c.status_list.result.now c.status_list.ensures c.args.reply.now.items c.loop-place.reply.items
+    (listed_broken c.args.session.now c.loop-place.session c.in-Some.at c.status_list.result.now c.status_list.ensures c.args.reply.now.items
+    c.loop-place.reply.items
     (subst (λ p. AreListed c.args.session.now c.loop-place.session p c.args.reply.now.items c.loop-place.reply.items) c.in-Some.is c.loop-place.invariant)
     c.say_bound.new.reply.items c.in_err-say_bound.ensures)
 
 pub loop-place-smaller : goal.loop-place-smaller
 loop-place-smaller g c =
-    let further = listed_further c.args.session.now c.loop-place.session c.in-Some.at c.status_list.result.now c.status_list.ensures c.args.reply.now.items c.loop-place.reply.items
+    let further = listed_further c.args.session.now c.loop-place.session c.in-Some.at c.status_list.result.now c.status_list.ensures c.args.reply.now.items
+    c.loop-place.reply.items
     (subst (λ p. AreListed c.args.session.now c.loop-place.session p c.args.reply.now.items c.loop-place.reply.items) c.in-Some.is c.loop-place.invariant)
     c.next-place.result c.next-place.new.self c.say_bound.new.reply.items c.in_ok-say_bound.ensures c.next-place.ensures in
-    subst (λ p. left_of (length c.args.session.now.state.text) c.next-place.result < left_of (length c.args.session.now.state.text) p) (sym c.in-Some.is) further.less
+    subst (λ p. left_of (length c.args.session.now.state.text) c.next-place.result < left_of (length c.args.session.now.state.text) p)
+    (sym c.in-Some.is) further.less
 
 pub loop-place-preserved : goal.loop-place-preserved
 loop-place-preserved g c =
-    let further = listed_further c.args.session.now c.loop-place.session c.in-Some.at c.status_list.result.now c.status_list.ensures c.args.reply.now.items c.loop-place.reply.items
+    let further = listed_further c.args.session.now c.loop-place.session c.in-Some.at c.status_list.result.now c.status_list.ensures c.args.reply.now.items
+    c.loop-place.reply.items
     (subst (λ p. AreListed c.args.session.now c.loop-place.session p c.args.reply.now.items c.loop-place.reply.items) c.in-Some.is c.loop-place.invariant)
     c.next-place.result c.next-place.new.self c.say_bound.new.reply.items c.in_ok-say_bound.ensures c.next-place.ensures in
     further.listed

@@ -27,5 +27,6 @@ pub returns : goal.returns
 returns g c =
     let x : List ℕ = g.T.Chars.characters c.args.text.now in
     appends_then c.args.reply.now.items (flat_map escaped x) (10 ∷ []) _ c.loop-i.reply.items _ c.put.result
-    (c.loop-i.invariant ∙ ap (λ l. c.args.reply.now.items ++ flat_map escaped l) (take_all c.loop-i.i x (omega (arith, c.loop-i-test.false, c.len-i-end.ensures.exact))))
+    (c.loop-i.invariant ∙ ap (λ l. c.args.reply.now.items ++ flat_map escaped l)
+    (take_all c.loop-i.i x (omega (arith, c.loop-i-test.false, c.len-i-end.ensures.exact))))
     refl c.put.ensures

@@ -20,7 +20,8 @@ returns-in_err-perform g c =
     rw told.1 (
       subst (λ cs. AppendsFront c.args.replies.now.items (all_reply_lines (replies_of c.args.session.now cs)) c.perform.new.reply.items)
           (mapped_parts meaning commands i c.get.result.now within c.get.ensures)
-          (broken_off old (map meaning (take i commands)) c.args.replies.now.items c.loop-i.session c.loop-i.replies.items (meaning c.get.result.now) (map meaning (drop (suc i) commands)) c.perform.new.session c.perform.new.reply.items
+          (broken_off old (map meaning (take i commands)) c.args.replies.now.items c.loop-i.session c.loop-i.replies.items (meaning c.get.result.now)
+          (map meaning (drop (suc i) commands)) c.perform.new.session c.perform.new.reply.items
           c.loop-i.invariant c.in_err-perform.ensures),
       c.in_err-perform.ensures.table_is ∙ c.loop-i.invariant.table_is,
     )
@@ -33,5 +34,6 @@ loop-i-preserved g c =
     let within : c.loop-i.i < length c.args.commands.now = omega (arith, c.loop-i-test.true, c.len-i-end.ensures) in
     subst (λ cs. ArePlayed c.args.session.now cs c.args.replies.now.items c.perform.new.session c.perform.new.reply.items)
     (mapped_more meaning commands i c.get.result.now within c.get.ensures)
-    (one_more_played old (map meaning (take i commands)) c.args.replies.now.items c.loop-i.session c.loop-i.replies.items (meaning c.get.result.now) c.perform.new.session c.perform.new.reply.items
+    (one_more_played old (map meaning (take i commands)) c.args.replies.now.items c.loop-i.session c.loop-i.replies.items (meaning c.get.result.now)
+    c.perform.new.session c.perform.new.reply.items
     c.loop-i.invariant c.in_ok-perform.ensures)

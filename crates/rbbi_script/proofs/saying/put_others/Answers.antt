@@ -11,5 +11,7 @@ returns-in_err-put_next c =
     let statuses = c.args.statuses.now in
     let i = c.loop-status.status-index in
     rw told.1
-    (front_later c.args.reply.now.items (flat_map next_status (take i statuses)) _ _ c.loop-status.reply.items _ c.loop-status.invariant (others_parts statuses i 0 c.loop-status-test.true)
-    (front_first c.loop-status.reply.items (next_status (get_or statuses i 0)) (flat_map next_status (drop (suc i) statuses)) _ _ refl c.in_err-put_next.ensures))
+    (front_later c.args.reply.now.items (flat_map next_status (take i statuses)) _ _ c.loop-status.reply.items _ c.loop-status.invariant
+    (others_parts statuses i 0 c.loop-status-test.true)
+    (front_first c.loop-status.reply.items (next_status (get_or statuses i 0)) (flat_map next_status (drop (suc i) statuses)) _ _ refl
+    c.in_err-put_next.ensures))

@@ -16,7 +16,8 @@ pub returns-in_err-put : goal.returns-in_err-put
 returns-in_err-put c =
     let told = err_from_is_err_and c.from_residual-in_err-put.result c.from_residual-in_err-put.ensures.1 in
     rw told.1
-    (front_later c.args.reply.now.items (decimal c.args.at) (32 ∷ (joined_statuses c.args.list.now ++ 10 ∷ [])) _ c.put_number.new.reply.items _ c.in_ok-put_number.ensures
+    (front_later c.args.reply.now.items (decimal c.args.at) (32 ∷ (joined_statuses c.args.list.now ++ 10 ∷ [])) _ c.put_number.new.reply.items _
+    c.in_ok-put_number.ensures
     (append_assoc (decimal c.args.at) (32 ∷ joined_statuses c.args.list.now) (10 ∷ []))
     (front_first c.put_number.new.reply.items (32 ∷ []) (joined_statuses c.args.list.now ++ 10 ∷ []) _ _ refl c.in_err-put.ensures))
 

@@ -7,7 +7,8 @@ use Rattle.rbbi_cache.proofs.Showing.{none_past, none_shown, shown_next}
 use Rattle.rbbi_cache.proofs.run.Run.shown_after.Goals as goal
 
 -- the entry read from the list of the run's entries
-shown_at : (run : Run) (i k : ℕ) (entries : List Entry) (e : Entry) → entries ≡ run.entries → e ≡ get_or entries k e → IsShownAfter run i (get_or run.entries k e) → IsShownAfter run i e
+shown_at : (run : Run) (i k : ℕ) (entries : List Entry) (e : Entry) → entries ≡ run.entries → e ≡ get_or entries k e →
+    IsShownAfter run i (get_or run.entries k e) → IsShownAfter run i e
 shown_at run i k entries e same is shown = subst (IsShownAfter run i) (sym (is ∙ ap (λ l. get_or l k e) same)) shown
 
 pub returns-then-k-entries : goal.returns-then-k-entries
@@ -20,7 +21,8 @@ pub returns-then-k-gt0 : goal.returns-then-k-gt0
 returns-then-k-gt0 c =
     let within = c.count_up_to-k.ensures.within in
     let short : c.count_up_to-k.result < length c.args.self.now.entries = omega (arith, ap length c.entries-entries.ensures) in
-    shown_at c.args.self.now c.args.i c.count_up_to-k.result c.entries-entries.result.now c.index-entries-k.result c.entries-entries.ensures c.index-entries-k.is
+    shown_at c.args.self.now c.args.i c.count_up_to-k.result c.entries-entries.result.now c.index-entries-k.result c.entries-entries.ensures
+    c.index-entries-k.is
     (shown_next c.args.self.now c.args.i c.count_up_to-k.result c.index-entries-k.result
     (subst (λ l. AreUpTo l c.args.i c.count_up_to-k.result) c.entries-entries.ensures c.count_up_to-k.ensures) short (inl c.if-k-gt0.true))
 
@@ -31,11 +33,14 @@ returns-then-leads_to c =
     let short : 0 < length c.args.self.now.entries = omega (arith, ap length c.entries-entries.ensures) in
     shown_at c.args.self.now c.args.i 0 c.entries-entries.result.now c.index-entries-0.result c.entries-entries.ensures c.index-entries-0.is
     (shown_next c.args.self.now c.args.i 0 c.index-entries-0.result
-    (subst (λ n. AreUpTo c.args.self.now.entries c.args.i n) zero (subst (λ l. AreUpTo l c.args.i c.count_up_to-k.result) c.entries-entries.ensures c.count_up_to-k.ensures)) short (inr (c.leads_to.ensures.0 c.if-leads_to.true)))
+    (subst (λ n. AreUpTo c.args.self.now.entries c.args.i n) zero
+    (subst (λ l. AreUpTo l c.args.i c.count_up_to-k.result) c.entries-entries.ensures c.count_up_to-k.ensures)) short
+    (inr (c.leads_to.ensures.0 c.if-leads_to.true)))
 
 pub returns : goal.returns
 returns c =
     let zero : c.count_up_to-k.result ≡ 0 = omega arith in
     none_shown c.args.self.now c.args.i c.count_up_to-k.result (record { at = 0; status = 0; reach = 0 })
     (subst (λ l. AreUpTo l c.args.i c.count_up_to-k.result) c.entries-entries.ensures c.count_up_to-k.ensures) zero
-    (λ leads. ⊎_elim (λ far. far) (λ near. absurd (false≢true (sym c.if-leads_to.false ∙ c.leads_to.ensures.1 (leads, near)))) (cases_lt (c.args.i + 1) (low c.args.self.now.anchor)))
+    (λ leads. ⊎_elim (λ far. far) (λ near. absurd (false≢true (sym c.if-leads_to.false ∙ c.leads_to.ensures.1 (leads, near))))
+    (cases_lt (c.args.i + 1) (low c.args.self.now.anchor)))

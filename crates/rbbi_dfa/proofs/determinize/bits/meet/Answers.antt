@@ -4,7 +4,9 @@ use Rattle.rbbi_dfa.proofs.Bits.{words_meet, words_apart}
 use Rattle.rbbi_dfa.proofs.determinize.bits.meet.Goals as goal
 
 pub returns-then-these-i-ne0-clause-some : goal.returns-then-these-i-ne0-clause-some
-returns-then-these-i-ne0-clause-some c = λ _. words_meet c.args.these.now c.args.those.now c.loop-i.i c.if-these-i-ne0.true (omega (arith, c.type_inv.these c.loop-i.i, and_le_l (get_or c.args.these.now c.loop-i.i 0) (get_or c.args.those.now c.loop-i.i 0)))
+returns-then-these-i-ne0-clause-some c =
+    λ _. words_meet c.args.these.now c.args.those.now c.loop-i.i c.if-these-i-ne0.true
+    (omega (arith, c.type_inv.these c.loop-i.i, and_le_l (get_or c.args.these.now c.loop-i.i 0) (get_or c.args.those.now c.loop-i.i 0)))
 
 pub returns-clause-none : goal.returns-clause-none
 returns-clause-none c = λ _. words_apart c.args.these.now c.args.those.now c.requires (λ k short. c.loop-i.invariant k (omega arith))

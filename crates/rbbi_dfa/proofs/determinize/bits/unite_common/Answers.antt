@@ -5,4 +5,5 @@ use Rattle.rbbi_dfa.proofs.determinize.bits.unite_common.Goals as goal
 pub returns : goal.returns
 returns c =
     holds_or_and c.loop-i.row c.args.row.now c.args.these.now c.args.those.now
-    (or_and_each c.loop-i.row c.args.row.now c.args.these.now c.args.those.now c.loop-i.i (omega arith) (omega arith) (omega arith) (omega arith) c.loop-i.invariant.0)
+    (or_and_each c.loop-i.row c.args.row.now c.args.these.now c.args.those.now c.loop-i.i (omega arith) (omega arith) (omega arith)
+    (omega arith) c.loop-i.invariant.0)

@@ -6,7 +6,9 @@ use Rattle.rbbi_dfa.specs.LastWords.{AddsFollowers}
 use Rattle.rbbi_dfa.proofs.RowLists.{found_row}
 use Rattle.rbbi_dfa.proofs.WordFollowers.{adds_none, adds_with, adds_without, adds_past}
 use Rattle.rbbi_dfa.proofs.determinize.last_words.follow_word.Goals as goal
-use Rattle.rbbi_dfa.proofs.determinize.last_words.follow_word.Goals.{then-position-len+then-is_set, else-position-len, else-position-len-via-then-position-len+else-is_set, else-position-len-via-else-position-len}
+use Rattle.rbbi_dfa.proofs.determinize.last_words.follow_word.Goals.{then-position-len+then-is_set, else-position-len}
+use Rattle.rbbi_dfa.proofs.determinize.last_words.follow_word.Goals.{else-position-len-via-then-position-len+else-is_set}
+use Rattle.rbbi_dfa.proofs.determinize.last_words.follow_word.Goals.{else-position-len-via-else-position-len}
 
 pub loop-bit-init : goal.loop-bit-init
 loop-bit-init c = adds_none c.args.rows.now.follow c.args.i c.args.word c.args.next.now
@@ -45,7 +47,9 @@ loop-bit-preserved c =
       | else-position-len w ↦
           subst (AddsFollowers follow i word (bit + 1) old) (sym w.next-is)
           (elim w.else-position-len.branch [
-            | else-position-len-via-then-position-len+else-is_set w' ↦ adds_without follow i word bit old c.loop-bit.next here (λ one. false≢true (sym w'.if-is_set.false ∙ w'.is_set.ensures.1 one))
-            | else-position-len-via-else-position-len w' ↦ adds_past follow i word bit old c.loop-bit.next here (omega (arith, w'.if-position-len.false, c.len.ensures, c.rows.inside.follow.ok.0, ap length same))
+            | else-position-len-via-then-position-len+else-is_set w' ↦ adds_without follow i word bit old c.loop-bit.next here
+                (λ one. false≢true (sym w'.if-is_set.false ∙ w'.is_set.ensures.1 one))
+            | else-position-len-via-else-position-len w' ↦ adds_past follow i word bit old c.loop-bit.next here
+                (omega (arith, w'.if-position-len.false, c.len.ensures, c.rows.inside.follow.ok.0, ap length same))
           ])
     ]

@@ -8,4 +8,5 @@ returns-clause-value c = sym (bucket_is c.args.set.now c.loop-word.word-index c.
 
 pub loop-word-preserved : goal.loop-word-preserved
 loop-word-preserved c =
-    ap (λ h. mixed h (get_or c.args.set.now c.loop-word.word-index 0)) c.loop-word.invariant ∙ sym (hash_more c.args.set.now c.loop-word.word-index (omega arith))
+    ap (λ h. mixed h (get_or c.args.set.now c.loop-word.word-index 0)) c.loop-word.invariant
+    ∙ sym (hash_more c.args.set.now c.loop-word.word-index (omega arith))

@@ -27,7 +27,9 @@ loop-mark-preserved c =
           (⊎_elim
           (λ stays.
           subst (AreTagsUpTo marks set (i + 1)) (sym stays.0)
-          (tags_stays marks set old i position mark read (λ holds. last_is marks set old i stays.1.0 position mark read (omega arith) sorted c.loop-mark.invariant stays.1.1 stays.1.2) c.loop-mark.invariant))
+          (tags_stays marks set old i position mark read
+          (λ holds. last_is marks set old i stays.1.0 position mark read (omega arith) sorted c.loop-mark.invariant stays.1.1 stays.1.2)
+          c.loop-mark.invariant))
           (λ takes.
           subst (AreTagsUpTo marks set (i + 1)) (sym takes.0)
           (tags_takes marks set old i position mark read (c.has.ensures.0 w.if-has.true) takes.1 c.loop-mark.invariant))
@@ -54,5 +56,6 @@ returns c =
           (tags_none rows set i all within old none are w.push.new.self.items (w.in_ok-push.ensures.items ∙ ap (λ l. l ++ 0 ∷ []) none))
       | else-is_empty w ↦
           subst (λ v. AreTagsOf rows set v.items) (sym w.statuses-is)
-          (tags_all rows set i all within old (λ none. false≢true (sym w.if-is_empty.false ∙ c.is_empty.ensures ∙ eq-eqb _ _ (omega (arith, c.loop-mark.statuses.ok.0, ap length none)))) are)
+          (tags_all rows set i all within old
+          (λ none. false≢true (sym w.if-is_empty.false ∙ c.is_empty.ensures ∙ eq-eqb _ _ (omega (arith, c.loop-mark.statuses.ok.0, ap length none)))) are)
     ]

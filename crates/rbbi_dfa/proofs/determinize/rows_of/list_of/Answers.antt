@@ -24,5 +24,6 @@ loop-position-preserved c =
 
 pub returns : goal.returns
 returns c =
-    let same : c.loop-position.position ≡ c.args.positions.now.leaves = omega (arith, c.loop-position-test.false, c.leaves-position-end.ensures, c.loop-position.auto.position-end) in
+    let same : c.loop-position.position ≡ c.args.positions.now.leaves =
+    omega (arith, c.loop-position-test.false, c.leaves-position-end.ensures, c.loop-position.auto.position-end) in
     subst (AreMarkedUpTo c.args.positions.now c.args.kind c.loop-position.list.items) same c.loop-position.invariant

@@ -20,7 +20,8 @@ invariant_of-result c =
       follow = λ i short. omega (arith, wide, (c.in_ok-follow.ensures.each i (omega (arith, short, c.in_ok-follow.ensures.many))).0);
       many_reads = c.in_ok-reads.ensures.many;
       reads = λ i short. omega (arith, wide, (c.in_ok-reads.ensures.each i (omega (arith, short, c.in_ok-reads.ensures.many))).0);
-      completed = marked_all marks Completed c.in_ok-completed.completed.items (λ n. n < c.args.slashes) c.in_ok-completed.ensures c.requires.readable.small.completed;
+      completed = marked_all marks Completed c.in_ok-completed.completed.items (λ n. n < c.args.slashes) c.in_ok-completed.ensures
+          c.requires.readable.small.completed;
       fronts = marked_all marks Fronts c.in_ok-fronts.fronts.items (λ n. n < c.args.slashes) c.in_ok-fronts.ensures c.requires.readable.small.fronts;
       small_tags = marked_all marks Tags c.sorted-tags.result.items (λ n. n ≤ largest_tag) tags c.requires.readable.small.tags;
       tags = c.sorted-tags.ensures.order;

@@ -9,5 +9,6 @@ returns-then-has-clause-some c = λ _.
       c.mark.inside.position,
       c.mark.inside.mark,
       c.has.ensures.0 c.if-has.true,
-      mark_found c.args.rows.now.completed c.deref-mark-items.result.now c.loop-mark.mark-index c.mark.inside.position c.mark.inside.mark c.mark-item.result marks (omega arith) c.mark-item.is c.mark.view_is,
+      mark_found c.args.rows.now.completed c.deref-mark-items.result.now c.loop-mark.mark-index c.mark.inside.position c.mark.inside.mark c.mark-item.result
+          marks (omega arith) c.mark-item.is c.mark.view_is,
     )

@@ -9,7 +9,8 @@ meet_within-requires-clause-long c =
     let many = items_many c.rows.inside.reads.items in
     let short = c.rows.invariant.many_reads in
     let categories = ap (λ (r : PositionRows). r.categories) c.rows.view_is in
-    let at = items_at c.rows.inside.reads.items c.args.category c.index.result.now (omega (arith, many, short, categories, c.requires.category)) c.index.ensures in
+    let at = items_at c.rows.inside.reads.items c.args.category c.index.result.now (omega (arith, many, short, categories, c.requires.category))
+    c.index.ensures in
     let wide = c.rows.invariant.reads c.args.category (omega (arith, many, short, categories, c.requires.category)) in
     omega (arith, wide, ap length at, ap length c.as_slice.ensures.value, ap (λ (r : PositionRows). r.width) c.rows.view_is, c.requires.candidates)
 
@@ -18,7 +19,8 @@ returns-clause-some c = λ yes.
     let many = items_many c.rows.inside.reads.items in
     let short = c.rows.invariant.many_reads in
     let categories = ap (λ (r : PositionRows). r.categories) c.rows.view_is in
-    let at = items_at c.rows.inside.reads.items c.args.category c.index.result.now (omega (arith, many, short, categories, c.requires.category)) c.index.ensures in
+    let at = items_at c.rows.inside.reads.items c.args.category c.index.result.now (omega (arith, many, short, categories, c.requires.category))
+    c.index.ensures in
     let reads_is = ap (λ (r : PositionRows). row_at r.reads c.args.category) (sym c.rows.view_is) ∙ at ∙ sym c.as_slice.ensures.value in
     let read = c.meet_within.ensures.some yes in
     (read.0, read.1, subst (λ (row : List ℕ). Holds row read.0) (sym reads_is) read.2)
@@ -28,6 +30,7 @@ returns-clause-none c = λ no position candidate reads.
     let many = items_many c.rows.inside.reads.items in
     let short = c.rows.invariant.many_reads in
     let categories = ap (λ (r : PositionRows). r.categories) c.rows.view_is in
-    let at = items_at c.rows.inside.reads.items c.args.category c.index.result.now (omega (arith, many, short, categories, c.requires.category)) c.index.ensures in
+    let at = items_at c.rows.inside.reads.items c.args.category c.index.result.now (omega (arith, many, short, categories, c.requires.category))
+    c.index.ensures in
     let reads_is = ap (λ (r : PositionRows). row_at r.reads c.args.category) (sym c.rows.view_is) ∙ at ∙ sym c.as_slice.ensures.value in
     c.meet_within.ensures.none no position candidate (subst (λ (row : List ℕ). Holds row position) reads_is reads)

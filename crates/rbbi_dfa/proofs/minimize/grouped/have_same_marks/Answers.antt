@@ -16,7 +16,8 @@ returns-then-these-those-2 c =
     sym (ap (λ (head : RowHead). head.accept) these) ∙ c.if-these-those-2.true.0 ∙ ap (λ (head : RowHead). head.accept) those in
     let fronts : fronts_of automaton c.args.this ≡ fronts_of automaton c.args.that =
     sym (ap (λ (head : RowHead). head.fronts) these) ∙ c.if-these-those-2.true.1 ∙ ap (λ (head : RowHead). head.fronts) those in
-    let same = same_marks automaton c.requires.places.0 places c.args.this c.args.that c.requires.determined c.requires.places.1 c.requires.this c.requires.that accept fronts in
+    let same = same_marks automaton c.requires.places.0 places c.args.this c.args.that c.requires.determined c.requires.places.1 c.requires.this
+    c.requires.that accept fronts in
     let equal = Decides-eqb (slice_index places c.these.inside.list) (slice_index places c.those.inside.list) in (
       λ e. same.0 (ap (λ i. slice_index places i) (sym these_list) ∙ equal.0 e ∙ ap (λ i. slice_index places i) those_list),
       λ e. equal.1 (ap (λ i. slice_index places i) these_list ∙ same.1 e ∙ ap (λ i. slice_index places i) (sym those_list)),

@@ -5,4 +5,5 @@ use Rattle.rbbi_dfa.proofs.minimize.lists.number_lists.Given as goal
 
 abbrev pub invariant-loop-place : goal.invariant-loop-place
 invariant-loop-place l =
-    AreNumbered l.used (map (λ (statuses : Bor (List ℕ)). statuses.now) l.sorted) l.place l.numbers.items (map (λ (statuses : Vec ℕ Global). statuses.items) l.lists.items)
+    AreNumbered l.used (map (λ (statuses : Bor (List ℕ)). statuses.now) l.sorted) l.place l.numbers.items
+    (map (λ (statuses : Vec ℕ Global). statuses.items) l.lists.items)

@@ -10,15 +10,20 @@ merged_heads-requires-clause-small c =
     let ranks = c.args.ranks.now in
     let partition = c.args.partition.now in
     let sorted = map (λ (statuses : Bor (List ℕ)). statuses.now) ranks.sorted.items in
-    let of_classes = places_as automaton ranks.places.items c.deref.result.now partition.firsts.items c.deref-2.result.now c.in_ok-class_places.class_places.items c.deref.ensures.value c.deref-2.ensures.value c.in_ok-class_places.ensures in
+    let of_classes = places_as automaton ranks.places.items c.deref.result.now partition.firsts.items c.deref-2.result.now
+    c.in_ok-class_places.class_places.items c.deref.ensures.value c.deref-2.ensures.value c.in_ok-class_places.ensures in
     let used = used_as c.in_ok-class_places.class_places.items c.deref-3.result.now c.in_ok-used.used.items c.deref-3.ensures.value c.in_ok-used.ensures.used in
     let lent = ap (λ (xs : List (Bor (List ℕ))). map (λ (statuses : Bor (List ℕ)). statuses.now) xs) c.deref-4.ensures.value in
-    let many = ap (λ (xs : List (Bor (List ℕ))). length xs) c.deref-4.ensures.value ∙ sym (length-map ranks.sorted.items (λ (statuses : Bor (List ℕ)). statuses.now)) in
-    let numbered = numbered_as c.in_ok-used.used.items c.deref-5.result.now (map (λ (statuses : Bor (List ℕ)). statuses.now) ranks.sorted.items) _ _ c.in_ok-numbers.numbers.items _ c.deref-5.ensures.value lent many c.in_ok-numbers.ensures in
-    let few = lists_few automaton partition.classes.items partition.firsts.items _ ranks.places.items _ c.in_ok-used.used.items _ _ c.requires.determined c.requires.minimized.partition c.requires.ranks of_classes used numbered in
+    let many = ap (λ (xs : List (Bor (List ℕ))). length xs) c.deref-4.ensures.value
+    ∙ sym (length-map ranks.sorted.items (λ (statuses : Bor (List ℕ)). statuses.now)) in
+    let numbered = numbered_as c.in_ok-used.used.items c.deref-5.result.now (map (λ (statuses : Bor (List ℕ)). statuses.now) ranks.sorted.items) _ _
+    c.in_ok-numbers.numbers.items _ c.deref-5.ensures.value lent many c.in_ok-numbers.ensures in
+    let few = lists_few automaton partition.classes.items partition.firsts.items _ ranks.places.items _ c.in_ok-used.used.items _ _ c.requires.determined
+    c.requires.minimized.partition c.requires.ranks of_classes used numbered in
     λ class h.
     let class_first : class < length partition.firsts.items = omega (arith, ap (λ (xs : List ℕ). length xs) c.deref-6.ensures.value, of_classes.many) in
-    let within = number_within automaton partition.classes.items partition.firsts.items _ ranks.places.items _ c.in_ok-used.used.items _ _ c.requires.determined c.requires.minimized.partition c.requires.ranks of_classes used numbered class class_first in
+    let within = number_within automaton partition.classes.items partition.firsts.items _ ranks.places.items _ c.in_ok-used.used.items _ _
+    c.requires.determined c.requires.minimized.partition c.requires.ranks of_classes used numbered class class_first in
     subst (λ (xs : List ℕ). slice_index xs (slice_index c.deref-6.result.now class) ≤ 65535) (sym c.deref-7.ensures.value)
     (subst (λ (xs : List ℕ). slice_index c.in_ok-numbers.numbers.items (slice_index xs class) ≤ 65535) (sym c.deref-6.ensures.value)
     (omega (arith, within, few, c.requires.minimized.few)))
@@ -28,11 +33,17 @@ returns c =
     let automaton = c.args.automaton.now in
     let ranks = c.args.ranks.now in
     let partition = c.args.partition.now in
-    let of_classes = places_as automaton ranks.places.items c.deref.result.now partition.firsts.items c.deref-2.result.now c.in_ok-class_places.class_places.items c.deref.ensures.value c.deref-2.ensures.value c.in_ok-class_places.ensures in
+    let of_classes = places_as automaton ranks.places.items c.deref.result.now partition.firsts.items c.deref-2.result.now
+    c.in_ok-class_places.class_places.items c.deref.ensures.value c.deref-2.ensures.value c.in_ok-class_places.ensures in
     let used = used_as c.in_ok-class_places.class_places.items c.deref-3.result.now c.in_ok-used.used.items c.deref-3.ensures.value c.in_ok-used.ensures.used in
     let lent = ap (λ (xs : List (Bor (List ℕ))). map (λ (statuses : Bor (List ℕ)). statuses.now) xs) c.deref-4.ensures.value in
-    let many = ap (λ (xs : List (Bor (List ℕ))). length xs) c.deref-4.ensures.value ∙ sym (length-map ranks.sorted.items (λ (statuses : Bor (List ℕ)). statuses.now)) in
-    let numbered = numbered_as c.in_ok-used.used.items c.deref-5.result.now (map (λ (statuses : Bor (List ℕ)). statuses.now) ranks.sorted.items) _ _ c.in_ok-numbers.numbers.items _ c.deref-5.ensures.value lent many c.in_ok-numbers.ensures in
-    let heads = heads_as automaton partition.firsts.items c.in_ok-class_places.class_places.items c.deref-6.result.now c.in_ok-numbers.numbers.items c.deref-7.result.now c.in_ok-heads.heads.items c.deref-6.ensures.value c.deref-7.ensures.value c.in_ok-heads.ensures in
-    IsMerged-from_parts automaton partition.classes.items partition.firsts.items _ ranks.places.items _ c.in_ok-used.used.items _ _ c.requires.determined c.requires.minimized.partition c.requires.ranks of_classes used numbered
-    _ _ _ _ (ap (λ (table : Table). table.categories) c.automaton.view_is) (ap (λ (table : Table). table.slashes) c.automaton.view_is) heads c.in_ok-cells.ensures
+    let many = ap (λ (xs : List (Bor (List ℕ))). length xs) c.deref-4.ensures.value
+    ∙ sym (length-map ranks.sorted.items (λ (statuses : Bor (List ℕ)). statuses.now)) in
+    let numbered = numbered_as c.in_ok-used.used.items c.deref-5.result.now (map (λ (statuses : Bor (List ℕ)). statuses.now) ranks.sorted.items) _ _
+    c.in_ok-numbers.numbers.items _ c.deref-5.ensures.value lent many c.in_ok-numbers.ensures in
+    let heads = heads_as automaton partition.firsts.items c.in_ok-class_places.class_places.items c.deref-6.result.now c.in_ok-numbers.numbers.items
+    c.deref-7.result.now c.in_ok-heads.heads.items c.deref-6.ensures.value c.deref-7.ensures.value c.in_ok-heads.ensures in
+    IsMerged-from_parts automaton partition.classes.items partition.firsts.items _ ranks.places.items _ c.in_ok-used.used.items _ _ c.requires.determined
+    c.requires.minimized.partition c.requires.ranks of_classes used numbered
+    _ _ _ _ (ap (λ (table : Table). table.categories) c.automaton.view_is) (ap (λ (table : Table). table.slashes) c.automaton.view_is) heads
+    c.in_ok-cells.ensures

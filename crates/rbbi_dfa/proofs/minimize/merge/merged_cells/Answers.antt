@@ -18,7 +18,8 @@ loop-place-preserved c =
     let first_is : c.index-first.result.now ≡ slice_index firsts.items (place / width) =
     get_or_read_under firsts.items (place / width) firsts.len _ 0 c.index-first.ensures first_place firsts.ok.0 in
     let class_is : c.index.result.now ≡ slice_index classes.items c.next-next.result =
-    get_or_read_under classes.items c.next-next.result classes.len _ 0 c.index.ensures (omega (arith, c.next-next.ensures.row, c.requires.minimized.partition.rows, classes.ok.0)) classes.ok.0 in
+    get_or_read_under classes.items c.next-next.result classes.len _ 0 c.index.ensures
+    (omega (arith, c.next-next.ensures.row, c.requires.minimized.partition.rows, classes.ok.0)) classes.ok.0 in
     HaveCells-more _ _ _ _ _ place _ c.loop-place.invariant
     (class_is
     ∙ ap (λ row. slice_index classes.items row) c.next-next.ensures.exact

@@ -8,8 +8,10 @@ returns-in-Ok-clause-list c =
 
 pub returns-in-Err-clause-place : goal.returns-in-Err-clause-place
 returns-in-Err-clause-place c =
-    absurd (found_some (λ (statuses : Bor (List ℕ)). statuses.now) c.args.sorted.now c.args.statuses _ c.requires.sorted c.requires.held c.in-Err.ensures.position)
+    absurd (found_some (λ (statuses : Bor (List ℕ)). statuses.now) c.args.sorted.now c.args.statuses _ c.requires.sorted c.requires.held
+    c.in-Err.ensures.position)
 
 pub returns-in-Err-clause-list : goal.returns-in-Err-clause-list
 returns-in-Err-clause-list c =
-    absurd (found_some (λ (statuses : Bor (List ℕ)). statuses.now) c.args.sorted.now c.args.statuses _ c.requires.sorted c.requires.held c.in-Err.ensures.position)
+    absurd (found_some (λ (statuses : Bor (List ℕ)). statuses.now) c.args.sorted.now c.args.statuses _ c.requires.sorted c.requires.held
+    c.in-Err.ensures.position)

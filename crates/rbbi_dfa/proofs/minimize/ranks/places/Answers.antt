@@ -5,7 +5,8 @@ use Rattle.rbbi_dfa.proofs.Ranking.{ArePlaced-none, ArePlaced-more, AreRanks-fro
 use Rattle.rbbi_dfa.proofs.minimize.ranks.places.Goals as goal
 
 -- what is read of the vector with this number
-read_list : (lists : List (Vec ℕ Global)) (i : ℕ) (item : Vec ℕ Global) (statuses : List ℕ) → i < length lists → item ≡ slice_index_or lists i item → statuses ≡ item.items → statuses ≡ slice_index_or (map (λ (statuses : Vec ℕ Global). statuses.items) lists) i []
+read_list : (lists : List (Vec ℕ Global)) (i : ℕ) (item : Vec ℕ Global) (statuses : List ℕ) → i < length lists → item ≡ slice_index_or lists i item →
+    statuses ≡ item.items → statuses ≡ slice_index_or (map (λ (statuses : Vec ℕ Global). statuses.items) lists) i []
 read_list lists i item statuses h e f =
     f ∙ ap (λ (v : Vec ℕ Global). v.items) e ∙ sym (get_or-map (λ (statuses : Vec ℕ Global). statuses.items) lists i item [] h)
 
@@ -22,10 +23,14 @@ place_of-requires-clause-held c =
 pub loop-list-preserved : goal.loop-list-preserved
 loop-list-preserved c =
     let lists = c.args.lists.now in
-    ArePlaced-more _ _ _ _ c.loop-list.list-index c.place_of.result c.loop-list.invariant
-    (omega (arith, c.place_of.ensures.place, length-map c.args.sorted.now (λ (statuses : Bor (List ℕ)). statuses.now)), c.place_of.ensures.list ∙ read_list lists c.loop-list.list-index c.list-item.result _ c.loop-list-test.true c.list-item.is c.as_slice.ensures.value)
+    ArePlaced-more _ _ _ _ c.loop-list.list-index c.place_of.result c.loop-list.invariant (
+      omega (arith, c.place_of.ensures.place, length-map c.args.sorted.now (λ (statuses : Bor (List ℕ)). statuses.now)),
+      c.place_of.ensures.list
+          ∙ read_list lists c.loop-list.list-index c.list-item.result _ c.loop-list-test.true c.list-item.is c.as_slice.ensures.value,
+    )
     c.in_ok-push.ensures.items
 
 pub returns : goal.returns
 returns c =
-    AreRanks-from_placed _ _ _ c.loop-list.list-index (omega (arith, length-map c.args.lists.now (λ (statuses : Vec ℕ Global). statuses.items))) c.loop-list.invariant
+    AreRanks-from_placed _ _ _ c.loop-list.list-index (omega (arith, length-map c.args.lists.now (λ (statuses : Vec ℕ Global). statuses.items)))
+    c.loop-list.invariant

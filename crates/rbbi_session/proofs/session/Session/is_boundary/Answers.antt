@@ -9,7 +9,9 @@ returns-then-o-len-clause-answers g c =
     answers_behind c.args.self.now c.last.new.self c.args.o c.last.result (omega (arith, same, c.if-o-len.true)) c.last.ensures.answers
 
 pub returns-clause-answers : goal.returns-clause-answers
-returns-clause-answers g c = answers_whether c.args.self.now c.go_past.new.self c.args.o c.go_past.result (omega (arith, c.if-o-eq0.false)) c.go_past.ensures.first c.go_past.ensures.moved
+returns-clause-answers g c =
+    answers_whether c.args.self.now c.go_past.new.self c.args.o c.go_past.result (omega (arith, c.if-o-eq0.false)) c.go_past.ensures.first
+    c.go_past.ensures.moved
 
 pub returns-clause-reads : goal.returns-clause-reads
 returns-clause-reads g c =

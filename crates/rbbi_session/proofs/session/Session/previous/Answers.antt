@@ -23,5 +23,6 @@ returns-clause-reads g c =
     (place_within (table_boundaries table x) c.self.inside.here.at (length x) (none_past table x)
     (is_a_place table x c.self.inside.here.at c.self.inside.here.status c.self.invariant.reached)) in
     asks_previous c.args.self.now c.go_before-2.new.self c.args.steps.now c.go_before-2.new.steps (omega (arith, at, c.if-self-eq0.false)) within
-    (subst (λ p. IsAsked c.args.self.now (Back p) (preceding_cost c.args.self.now.table c.args.self.now.state.text p) c.go_before-2.new.self c.args.steps.now c.go_before-2.new.steps)
+    (subst (λ p. IsAsked c.args.self.now (Back p) (preceding_cost c.args.self.now.table c.args.self.now.state.text p) c.go_before-2.new.self c.args.steps.now
+    c.go_before-2.new.steps)
     asked c.go_before-2.ensures.reads)

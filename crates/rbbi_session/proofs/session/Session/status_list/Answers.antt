@@ -8,5 +8,6 @@ pub returns : goal.returns
 returns g c =
     ap AllOf
     (c.status_list.ensures
-    ∙ sym (statuses_are c.self.inside.table.now (g.T.Chars.characters c.self.inside.text) c.self.inside.here.at c.self.inside.here.status c.self.invariant.reached)
+    ∙ sym (statuses_are c.self.inside.table.now (g.T.Chars.characters c.self.inside.text) c.self.inside.here.at c.self.inside.here.status
+    c.self.invariant.reached)
     ∙ ap (λ s. statuses_at (boundaries_of s) s.state.cursor) c.self.view_is)

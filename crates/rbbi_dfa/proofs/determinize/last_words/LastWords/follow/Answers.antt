@@ -15,7 +15,8 @@ loop-i-preserved c =
     let short : c.loop-i.i < c.args.rows.now.width = omega (arith, c.loop-i-test.true, c.requires.set) in
     let is = found_row c.update.new.self.unions.items i c.index.result.now (omega (arith, short, kept.many)) c.index.ensures in
     record {
-      followers = followers_word rows.follow c.args.set.now c.loop-i.candidates c.add_to.new.set c.index.result.now i word c.loop-i.invariant.followers c.in_ok-update.ensures.word
+      followers = followers_word rows.follow c.args.set.now c.loop-i.candidates c.add_to.new.set c.index.result.now i word c.loop-i.invariant.followers
+          c.in_ok-update.ensures.word
           (λ p. subst (λ (union : List ℕ). Holds union p ↔ FollowsWord rows.follow i word p) is (kept.each i short p)) c.add_to.ensures;
       kept = kept;
     }

@@ -13,4 +13,5 @@ invariant_of-result c =
     let all = c.in_ok-newest.ensures.items_if_clones_equal (λ y h. h) in
     let all' = c.in_ok-older.ensures.items_if_clones_equal (λ y h. h) in
     subst (λ l. IsIndexed l newest older) (sym (ap items_of c.new.ensures.items))
-    (none_indexed newest older (ap length all ∙ length-replicate 32768 zero) (ap length all' ∙ length-replicate 16384 zero) (λ i. ap (λ l. get_or l i 0) all ∙ zeros 32768 i zero refl))
+    (none_indexed newest older (ap length all ∙ length-replicate 32768 zero) (ap length all' ∙ length-replicate 16384 zero) (λ i. ap (λ l. get_or l i 0) all
+    ∙ zeros 32768 i zero refl))

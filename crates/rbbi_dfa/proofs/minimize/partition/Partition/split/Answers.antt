@@ -20,9 +20,11 @@ loop-row-preserved c =
     let classes = c.args.self.now.classes in
     let read : c.index.result.now ≡ slice_index classes.items c.loop-row.row =
     get_or_read_under classes.items c.loop-row.row classes.len _ 0 c.index.ensures (omega (arith, c.requires.partition.rows, classes.ok.0)) (classes.ok.0) in
-    IsSplitUpTo-keeps _ _ _ _ _ _ _ _ _ _ _ _ _ _ _ c.deref.ensures.value c.takes.ensures c.if-takes.false c.loop-row.invariant read c.in_ok-push-2.ensures.items
+    IsSplitUpTo-keeps _ _ _ _ _ _ _ _ _ _ _ _ _ _ _ c.deref.ensures.value c.takes.ensures c.if-takes.false c.loop-row.invariant read
+    c.in_ok-push-2.ensures.items
 
-after_split : (c : goal.After-drop-self) → IsPartition c.args.automaton.now c.loop-row.classes.items c.push-then-left-gt0.new.self.items × AreSides c.loop-row.classes.items c.args.inside.now
+after_split : (c : goal.After-drop-self) → IsPartition c.args.automaton.now c.loop-row.classes.items c.push-then-left-gt0.new.self.items ×
+    AreSides c.loop-row.classes.items c.args.inside.now
 after_split c =
     let firsts = c.args.self.now.firsts in
     let first_is : c.index-first.result.now ≡ slice_index firsts.items c.args.class =
@@ -44,4 +46,5 @@ returns-else-left-gt0-clause-splits c = λ row h of_class differ.
     let first_is : c.index-first.result.now ≡ slice_index firsts.items c.args.class =
     get_or_read_under firsts.items c.args.class firsts.len _ 0 c.index-first.ensures (omega (arith, c.requires.class, firsts.ok.0)) (firsts.ok.0) in
     absurd (none_leave c.args.automaton.now c.args.self.now.classes.items firsts.items c.args.inside.now c.args.class c.args.category _ _ _ _ _ _ _
-    first_is (ap (λ k. slice_index_or c.args.inside.now k false) c.next.ensures.exact) c.loop-row.invariant (omega arith) row (omega (arith, c.rows-row-end.ensures)) of_class differ)
+    first_is (ap (λ k. slice_index_or c.args.inside.now k false) c.next.ensures.exact) c.loop-row.invariant (omega arith) row
+    (omega (arith, c.rows-row-end.ensures)) of_class differ)
