@@ -12,3 +12,5 @@ pub mod Kept
 pub mod ItemTrees
 pub mod OneMeaning
 pub mod Earliest
+pub mod Counted
+pub mod Lone

@@ -9,9 +9,12 @@ pub mod Emptiness
 pub mod Faults
 pub mod Files
 pub mod Counts
+pub mod Countings
 pub mod Refusals
 pub mod Summaries
 pub mod Scopes
+pub mod Definitions
+pub mod Switchings
 pub mod Outcomes
 pub mod Questions
 pub mod SetsSoFar

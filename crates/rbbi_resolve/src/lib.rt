@@ -3,6 +3,8 @@
 #![tactic(auto)]
 
 mod check;
+mod counts;
+mod definition;
 mod error;
 mod fault;
 mod joining;
@@ -14,6 +16,7 @@ mod scope;
 mod set_value;
 mod so_far;
 mod summary;
+mod switches;
 mod variables;
 
 pub use error::ResolveErr;
