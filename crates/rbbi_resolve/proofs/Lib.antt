@@ -14,3 +14,4 @@ pub mod OneMeaning
 pub mod Earliest
 pub mod Counted
 pub mod Lone
+pub mod Steps

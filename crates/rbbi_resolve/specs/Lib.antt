@@ -15,6 +15,8 @@ pub mod Summaries
 pub mod Scopes
 pub mod Definitions
 pub mod Switchings
+pub mod RuleSums
+pub mod Readings
 pub mod Outcomes
 pub mod Questions
 pub mod SetsSoFar

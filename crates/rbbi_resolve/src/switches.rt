@@ -1,11 +1,10 @@
 //! What the controls of a rule file switch on and off.
-ghost use Rattle.std.specs.Prelude.{◌≡◌};
+ghost use Rattle.std.specs.Prelude.{◌≡◌, ◌&&◌, not, List};
 ghost use Rattle.rbbi_resolve.specs.Contexts as contexts;
 ghost use Rattle.rbbi_resolve.specs.Files as files;
 ghost use Rattle.rbbi_resolve.specs.Files.{after_control};
 ghost use Rattle.rbbi_resolve.specs.Switchings.{AreSwitches};
 ghost use Rattle.rbbi_props.specs.Rows.{File};
-ghost use Rattle.std.specs.Prelude.{List};
 
 /// What the controls so far have switched on.
 #[derive(Clone, Copy)]
@@ -74,8 +73,15 @@ pub(crate) fn is_unsupported(name: &str) -> bool
     name == "LBCMNoChain" || name == "unquoted_literals"
 }
 
+/// Whether a control is neither supported nor known to be not.
+pub(crate) fn is_unknown(name: &str) -> bool
+    ensures { result ≡ (not (files.is_supported name.now) && not (files.is_unsupported name.now)) }
+{
+    !is_supported(name) && !is_unsupported(name)
+}
+
 /// Whether a control is known and supported.
-pub(crate) fn is_supported(name: &str) -> bool
+fn is_supported(name: &str) -> bool
     ensures { result ≡ files.is_supported name.now }
 {
     name == "chain"
