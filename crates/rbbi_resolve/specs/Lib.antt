@@ -17,6 +17,8 @@ pub mod Definitions
 pub mod Switchings
 pub mod RuleSums
 pub mod Readings
+pub mod Soundness
+pub mod OwnLeaves
 pub mod Outcomes
 pub mod Questions
 pub mod SetsSoFar

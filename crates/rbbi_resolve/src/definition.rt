@@ -7,7 +7,7 @@ ghost use Rattle.rbbi_resolve.specs.Expressions.{variable_for, set_of_atom, set_
 ghost use Rattle.rbbi_resolve.specs.Parts.{parts_of_expr, parts_of_item};
 ghost use Rattle.rbbi_resolve.specs.Faults.{noted_parts};
 ghost use Rattle.rbbi_resolve.specs.Contexts as contexts;
-ghost use Rattle.rbbi_resolve.specs.Scopes.{IsScope, IsKindOf, context_of};
+ghost use Rattle.rbbi_resolve.specs.Scopes.{IsScope, KnowsQuotes, IsKindOf, context_of};
 ghost use Rattle.rbbi_resolve.specs.Definitions.{AreSetOf, noted_if_set};
 
 use crate::check::{check_expr, check_property, check_set};
@@ -27,7 +27,8 @@ pub(crate) fn check_definition(
     least: &mut Option<Fault>,
     expr: &Expr,
 ) -> Result<Kind, AllocError>
-    requires { IsScope properties.old scope.now }
+    requires scope { IsScope properties.old scope.now }
+    requires quotes { KnowsQuotes properties.old scope.now }
     ensures noted { OnOk result (least.new ≡ noted_parts (context_of properties.old scope.now) least.old
         (parts_of_expr (expr_tree expr.now))) }
     ensures kind { IfOk result (λ kind. IsKindOf properties.old kind

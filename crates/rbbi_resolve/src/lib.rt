@@ -10,6 +10,7 @@ mod fault;
 mod file;
 mod joining;
 mod laws;
+mod leaves;
 mod outcome;
 mod properties;
 mod rule;

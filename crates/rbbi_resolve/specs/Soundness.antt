@@ -1,0 +1,35 @@
+-- What holds of the variables of a file without faults.
+use Rattle.std.specs.Prelude.{◌≡◌, ℕ, Option, Some, None, List}
+use Rattle.rbbi_resolve.specs.Meanings.{Meaning, Leaf, Empty, Never, Then, Either, Repeat}
+use Rattle.rbbi_resolve.specs.Contexts.{Variable, Set, Expression, Context, assigned_to}
+
+-- each sequence and each choice in it has a part
+abbrev pub IsFull : Meaning → Type 0
+IsFull (Leaf set) = Unit {0}
+IsFull Empty = ⊥
+IsFull Never = ⊥
+IsFull (Then first rest) = IsFull first × IsFull rest
+IsFull (Either first rest) = IsFull first × IsFull rest
+IsFull (Repeat repetition part) = IsFull part
+
+-- a set variable has a value, and any other has parts
+abbrev pub IsSound : Option Variable → Type 0
+IsSound None = Unit {0}
+IsSound (Some (Set None)) = ⊥
+IsSound (Some (Set (Some value))) = Unit {0}
+IsSound (Some (Expression meaning height)) = IsFull meaning
+
+-- a set variable has a value
+abbrev pub HasSetValue : Option Variable → Type 0
+HasSetValue None = Unit {0}
+HasSetValue (Some (Set None)) = ⊥
+HasSetValue (Some (Set (Some value))) = Unit {0}
+HasSetValue (Some (Expression meaning height)) = Unit {0}
+
+-- each set variable has a value
+abbrev pub HasSetValues : Context → Type 0
+HasSetValues context = (name : List ℕ) → HasSetValue (assigned_to context.variables name)
+
+-- each variable is sound
+abbrev pub AreSound : Context → Type 0
+AreSound context = (name : List ℕ) → IsSound (assigned_to context.variables name)
