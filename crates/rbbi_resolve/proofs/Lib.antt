@@ -15,3 +15,6 @@ pub mod Earliest
 pub mod Counted
 pub mod Lone
 pub mod Steps
+pub mod Sound
+pub mod SoundFiles
+pub mod Adding

@@ -19,6 +19,7 @@ pub mod RuleSums
 pub mod Readings
 pub mod Soundness
 pub mod OwnLeaves
+pub mod Builders
 pub mod Outcomes
 pub mod Questions
 pub mod SetsSoFar

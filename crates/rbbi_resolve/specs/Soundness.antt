@@ -19,17 +19,6 @@ IsSound (Some (Set None)) = ⊥
 IsSound (Some (Set (Some value))) = Unit {0}
 IsSound (Some (Expression meaning height)) = IsFull meaning
 
--- a set variable has a value
-abbrev pub HasSetValue : Option Variable → Type 0
-HasSetValue None = Unit {0}
-HasSetValue (Some (Set None)) = ⊥
-HasSetValue (Some (Set (Some value))) = Unit {0}
-HasSetValue (Some (Expression meaning height)) = Unit {0}
-
--- each set variable has a value
-abbrev pub HasSetValues : Context → Type 0
-HasSetValues context = (name : List ℕ) → HasSetValue (assigned_to context.variables name)
-
 -- each variable is sound
-abbrev pub AreSound : Context → Type 0
-AreSound context = (name : List ℕ) → IsSound (assigned_to context.variables name)
+pub record AreSound (context : Context) : Type 0 where
+  pub each : (name : List ℕ) → IsSound (assigned_to context.variables name)

@@ -9,7 +9,7 @@ ghost use Rattle.rbbi_resolve.specs.SetValues.{IsValue, HasMembers};
 ghost use Rattle.rbbi_resolve.specs.Parts.{parts_of_expr, parts_of_seq, parts_of_item};
 ghost use Rattle.rbbi_resolve.specs.Faults.{faults_of_parts, is_empty_value};
 ghost use Rattle.rbbi_resolve.specs.Scopes.{IsScope, context_of};
-ghost use Rattle.rbbi_resolve.specs.Soundness.{HasSetValues};
+ghost use Rattle.rbbi_resolve.specs.Soundness.{AreSound};
 ghost use Rattle.rbbi_resolve.specs.OwnLeaves.{AddsLeaves, leaves_of_expr, leaves_of_seq, leaves_of_item};
 
 use crate::fault::Fault;
@@ -21,7 +21,7 @@ use rbbi_text::Word;
 use rbbi_tree::{Atom, Expr, Item, Seq};
 use std::alloc::{AllocError, Global};
 
-/// Adds the sets of the leaves of an expression without faults, but of those that come from
+/// Adds the sets of the leaves of an expression without faults, but for those that come from
 /// variables.
 #[cycle(leaves)]
 pub(crate) fn add_leaves(
@@ -31,11 +31,10 @@ pub(crate) fn add_leaves(
     sets: &mut Vec<CodeSet>,
     expr: &Expr,
 ) -> Result<(), AllocError>
-    requires scope { IsScope properties.old scope.now }
-    requires sound { HasSetValues (context_of properties.old scope.now) }
-    requires faultless { faults_of_parts (context_of properties.old scope.now)
-        (parts_of_expr (expr_tree expr.now)) ≡ [] }
-    ensures added { OnOk result (AddsLeaves properties.old
+    requires { IsScope properties.old scope.now }
+    ensures added { OnOk result (AreSound (context_of properties.old scope.now)
+        → faults_of_parts (context_of properties.old scope.now) (parts_of_expr (expr_tree expr.now)) ≡ []
+        → AddsLeaves properties.old
         (leaves_of_expr (context_of properties.old scope.now) (expr_tree expr.now)) sets.old.items sets.new.items) }
     ensures same { properties.new ≡ properties.old }
 {
@@ -54,11 +53,10 @@ fn add_leaves_of_seq(
     sets: &mut Vec<CodeSet>,
     seq: &Seq,
 ) -> Result<(), AllocError>
-    requires scope { IsScope properties.old scope.now }
-    requires sound { HasSetValues (context_of properties.old scope.now) }
-    requires faultless { faults_of_parts (context_of properties.old scope.now)
-        (parts_of_seq (seq_tree seq.now)) ≡ [] }
-    ensures added { OnOk result (AddsLeaves properties.old
+    requires { IsScope properties.old scope.now }
+    ensures added { OnOk result (AreSound (context_of properties.old scope.now)
+        → faults_of_parts (context_of properties.old scope.now) (parts_of_seq (seq_tree seq.now)) ≡ []
+        → AddsLeaves properties.old
         (leaves_of_seq (context_of properties.old scope.now) (seq_tree seq.now)) sets.old.items sets.new.items) }
     ensures same { properties.new ≡ properties.old }
 {
@@ -77,11 +75,10 @@ fn add_leaves_of_item(
     sets: &mut Vec<CodeSet>,
     item: &Item,
 ) -> Result<(), AllocError>
-    requires scope { IsScope properties.old scope.now }
-    requires sound { HasSetValues (context_of properties.old scope.now) }
-    requires faultless { faults_of_parts (context_of properties.old scope.now)
-        (parts_of_item (item_tree item.now)) ≡ [] }
-    ensures added { OnOk result (AddsLeaves properties.old
+    requires { IsScope properties.old scope.now }
+    ensures added { OnOk result (AreSound (context_of properties.old scope.now)
+        → faults_of_parts (context_of properties.old scope.now) (parts_of_item (item_tree item.now)) ≡ []
+        → AddsLeaves properties.old
         (leaves_of_item (context_of properties.old scope.now) (item_tree item.now)) sets.old.items sets.new.items) }
     ensures same { properties.new ≡ properties.old }
 {
@@ -96,14 +93,19 @@ fn add_leaves_of_item(
             value,
         } => {
             let set = properties.set_of(alloc, *negated, name, value)?;
-            add_value(alloc, sets, &set)
+            add_value(alloc, sets, &set)?;
+            Ok(())
         }
         Atom::Set(set) => {
             let mut least: Option<Fault> = None;
             let value = value_of_set(alloc, scope, properties, &mut least, set)?;
-            add_value(alloc, sets, &value)
+            add_value(alloc, sets, &value)?;
+            Ok(())
         }
-        Atom::Group(inner) => add_leaves(alloc, scope, properties, sets, inner),
+        Atom::Group(inner) => {
+            add_leaves(alloc, scope, properties, sets, inner)?;
+            Ok(())
+        }
     }
 }
 
@@ -124,7 +126,8 @@ fn add_character(alloc: Global, sets: &mut Vec<CodeSet>, c: char) -> Result<(), 
 {
     let code = c as u32;
     let set = CodeSet::range(alloc, code, code)?;
-    add_set(alloc, sets, &set)
+    add_set(alloc, sets, &set)?;
+    Ok(())
 }
 
 /// Adds the sets of the characters of a word.
@@ -145,7 +148,8 @@ fn add_any(alloc: Global, sets: &mut Vec<CodeSet>) -> Result<(), AllocError>
 {
     let nothing = CodeSet::empty(alloc);
     let all = nothing.complement(alloc)?;
-    add_set(alloc, sets, &all)
+    add_set(alloc, sets, &all)?;
+    Ok(())
 }
 
 /// Adds the characters of a set that has a value and holds a character.
@@ -154,7 +158,10 @@ fn add_value(alloc: Global, sets: &mut Vec<CodeSet>, value: &Option<CodeSet>) ->
         → is_empty_value files (Some tree) ≡ false → AddsLeaves files (tree ∷ []) sets.old.items sets.new.items) }
 {
     match value {
-        Some(set) => add_set(alloc, sets, set),
+        Some(set) => {
+            add_set(alloc, sets, set)?;
+            Ok(())
+        }
         None => Ok(()),
     }
 }

@@ -20,6 +20,7 @@ mod set_value;
 mod so_far;
 mod summary;
 mod switches;
+mod tree;
 mod variables;
 
 pub use error::ResolveErr;
