@@ -18,3 +18,4 @@ pub mod Steps
 pub mod Sound
 pub mod SoundFiles
 pub mod Adding
+pub mod TreeValues

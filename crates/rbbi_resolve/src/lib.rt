@@ -2,6 +2,7 @@
 //! least fault.
 #![tactic(auto)]
 
+mod build;
 mod check;
 mod counts;
 mod definition;

@@ -26,9 +26,7 @@ pub(crate) fn no_tree(alloc: Global) -> Tree
     ensures tree { (sets : List (List Range)) → tree_of sets result ≡ spelling.Never }
     ensures numbers { numbers_of result ≡ [] }
 {
-    Tree::Alt(Trees {
-        items: Vec::new(alloc),
-    })
+    in_choice(Vec::new(alloc))
 }
 
 /// The parts, one after another. One part stands for itself.
