@@ -19,3 +19,6 @@ pub mod Sound
 pub mod SoundFiles
 pub mod Adding
 pub mod TreeValues
+pub mod Weights
+pub mod Building
+pub mod Meant

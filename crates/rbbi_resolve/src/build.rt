@@ -1,5 +1,5 @@
 //! The trees of expressions, with the sets of their leaves.
-ghost use Rattle.std.specs.Prelude.{◌≡◌, ◌+◌, ◌<◌, ◌≤◌, ℕ, List, [], IfOk, OnOk, length, map};
+ghost use Rattle.std.specs.Prelude.{◌≡◌, ◌+◌, ◌<◌, ◌≤◌, ℕ, List, [], IfOk, IfSome, IfNone, OnOk, length, map};
 ghost use Rattle.rbbi_model.specs.Ranges.{Range};
 ghost use Rattle.rbbi_model.specs.SetTrees as model;
 ghost use Rattle.rbbi_props.specs.Rows.{File};
@@ -19,7 +19,7 @@ use crate::scope::Scope;
 use crate::tree::{in_choice, in_sequence, next_leaf, no_tree, repeated_tree};
 use rbbi_sets::CodeSet;
 use rbbi_text::Word;
-use rbbi_tree::{Atom, Expr, Item, Seq, Statement};
+use rbbi_tree::{Atom, Expr, Item, Seq, Statement, Statements};
 use std::alloc::{AllocError, Global};
 
 /// The most sets that have a number.
@@ -130,16 +130,13 @@ impl<'a> Builder<'a> {
             (meaning_of_expr (context_of self.old.properties scope.now) expr) tree) }
         ensures same { self.new.properties ≡ self.old.properties }
     {
-        let statements = scope.statements;
-        match statements.get(scope.limit) {
-            Statement::Assign { expr, .. } => {
+        match assigned(scope.statements, scope.limit) {
+            Some(expr) => {
                 let mut next = self.base(alloc, scope, expr)?;
                 let tree = self.tree_of_expr(alloc, scope, &mut next, expr)?;
                 Ok(tree)
             }
-            Statement::Nothing | Statement::Control { .. } | Statement::Rule { .. } => {
-                Ok(no_tree(alloc))
-            }
+            None => Ok(no_tree(alloc)),
         }
     }
 
@@ -253,7 +250,10 @@ impl<'a> Builder<'a> {
         ensures same { self.new.properties ≡ self.old.properties }
     {
         match atom {
-            Atom::Char { .. } | Atom::Any | Atom::Prop { .. } | Atom::Set(_) => Ok(next_leaf(next)),
+            Atom::Char { .. } => Ok(next_leaf(next)),
+            Atom::Any => Ok(next_leaf(next)),
+            Atom::Prop { .. } => Ok(next_leaf(next)),
+            Atom::Set(_) => Ok(next_leaf(next)),
             Atom::Quoted(word) => {
                 let tree = tree_of_word(alloc, next, word)?;
                 Ok(tree)
@@ -292,4 +292,16 @@ fn tree_of_word(alloc: Global, next: &mut usize, word: &Word) -> Result<Tree, Al
         items.push(next_leaf(next))?;
     }
     Ok(in_sequence(items))
+}
+
+/// The expression that a statement assigns, where it is an assignment.
+fn assigned(statements: &Statements, number: usize) -> Option<&Expr>
+    requires { number < length statements.now }
+    ensures some { IfSome result (λ expr. IsAssigned (statement_trees statements.now) number (expr_tree expr.now)) }
+    ensures none { IfNone result ((expr : ExprTree) → IsAssigned (statement_trees statements.now) number expr → ⊥) }
+{
+    match statements.get(number) {
+        Statement::Assign { expr, .. } => Some(expr),
+        _ => None,
+    }
 }
