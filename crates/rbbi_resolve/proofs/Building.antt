@@ -16,6 +16,7 @@ use Rattle.rbbi_resolve.specs.Meanings.{Meaning, Leaf, Empty, Never, Then, Eithe
 use Rattle.rbbi_resolve.specs.Expressions.{repeated}
 use Rattle.rbbi_resolve.specs.RuleTrees as trees
 use Rattle.rbbi_resolve.specs.RuleTrees.{tree_of, numbers_of, set_at}
+use Rattle.rbbi_resolve.specs.RuleLists.{IsLeafSet}
 use Rattle.rbbi_resolve.specs.OwnLeaves.{IsSetOfLeaf, AddsLeaves, leaves_of_expr}
 use Rattle.rbbi_resolve.specs.Files.{context_at}
 use Rattle.rbbi_resolve.specs.Builders.{StandFrom, HasLeafSets, IsPart, IsBuilt, IsBuilder, GoesOn}
@@ -71,6 +72,16 @@ zip_push P [] [] x y z p = (p, tt)
 zip_push P [] (b ∷ ys) x y z p = absurd z
 zip_push P (a ∷ xs) [] x y z p = absurd z
 zip_push P (a ∷ xs) (b ∷ ys) x y z p = (z.0, zip_push P xs ys x y z.1 p)
+
+all_sets : (a b : List (List Range)) → AllByRecursion IsLeafSet a → AllByRecursion IsLeafSet b → AllByRecursion IsLeafSet (a ++ b)
+all_sets [] b x y = y
+all_sets (s ∷ a) b x y = (x.0, all_sets a b x.1 y)
+
+pub sets_formed : (files : List File) (leaves : List model.SetTree) (sets : List (List Range)) → AllZip (IsSetOfLeaf files) leaves sets → AllByRecursion IsLeafSet sets
+sets_formed files [] [] z = tt
+sets_formed files [] (s ∷ sets) z = absurd z
+sets_formed files (l ∷ leaves) [] z = absurd z
+sets_formed files (l ∷ leaves) (s ∷ sets) z = (z.0.form, sets_formed files leaves sets z.1)
 
 get_at : (before : List (List Range)) (x : List Range) (after : List (List Range)) (n : ℕ) → length before ≡ n → slice_get (before ++ (x ∷ after)) n ≡ Some x
 get_at [] x after zero e = refl
@@ -260,10 +271,11 @@ module _ (files : List File) where
   other_built old sets n m t b = record { part = b.part; own = λ k low high. absurd (omega arith); fresh = b.fresh }
 
   -- the bases stay right when sets are added
-  pub builder_more : (statements : List StatementTree) (sets sets' more : List (List Range)) (bases : List (Option ℕ)) → sets' ≡ sets ++ more → length sets' ≤ 4294967295 → IsBuilder files statements sets bases → IsBuilder files statements sets' bases
-  builder_more statements sets sets' more bases is few b =
+  pub builder_more : (statements : List StatementTree) (sets sets' more : List (List Range)) (bases : List (Option ℕ)) → sets' ≡ sets ++ more → length sets' ≤ 4294967295 → AllByRecursion IsLeafSet more → IsBuilder files statements sets bases → IsBuilder files statements sets' bases
+  builder_more statements sets sets' more bases is few formed b =
       record {
         few = few;
+        formed = subst (AllByRecursion IsLeafSet) (sym is) (all_sets sets more b.formed formed);
         long = b.long;
         based = λ number base expr at assigned. subst (λ ss. StandFrom files ss base (leaves_of_expr (context_at files statements number) expr)) (sym is) (stand_more sets more base (leaves_of_expr (context_at files statements number) expr) (b.based number base expr at assigned));
       }

@@ -20,12 +20,12 @@ nothing_behind (Some p) = refl
 pub passed_at_end : (amount : RuleMeaning → ℕ) (most : ℕ) (count : Count) (all : List RuleMeaning) → IsCount amount most count [] all → passing amount most 0 all ≡ count.passed
 passed_at_end amount most count all is = sym is.place ∙ nothing_behind count.passed
 
-passing_one : (most sum k : ℕ) (rules : List RuleMeaning) → sum + k ≡ most → passing one most sum rules ≡ option_map (λ rule. rule.place) (slice_get rules k)
+pub passing_one : (most sum k : ℕ) (rules : List RuleMeaning) → sum + k ≡ most → passing one most sum rules ≡ option_map (λ rule. rule.place) (slice_get rules k)
 passing_one most sum k [] e = refl
 passing_one most sum zero (r ∷ rules) e = let t : nat_lt most (sum + 1) ≡ true = grind (arith, nat_tests) in rw t refl
 passing_one most sum (suc k) (r ∷ rules) e = let t : nat_lt most (sum + 1) ≡ false = grind (arith, nat_tests) in rw t (passing_one most (sum + 1) k rules (omega arith))
 
-passing_leaves : (sum : ℕ) (rules : List RuleMeaning) → passing leaves_of 8192 sum rules ≡ too_many_leaves_at sum rules
+pub passing_leaves : (sum : ℕ) (rules : List RuleMeaning) → passing leaves_of 8192 sum rules ≡ too_many_leaves_at sum rules
 passing_leaves sum [] = refl
 passing_leaves sum (r ∷ rules) =
     elim (nat_lt 8192 (sum + leaves_of r)) as (λ b. (if b then Some r.place else passing leaves_of 8192 (sum + leaves_of r) rules) ≡ (if b then Some r.place else too_many_leaves_at (sum + leaves_of r) rules))
@@ -41,7 +41,7 @@ slash_step most sum k r rules false is rest e = let t : nat_lt most (sum + 0) �
 slash_step most sum zero r rules true is rest e = let t : nat_lt most (sum + 1) ≡ true = grind (arith, nat_tests) in rw (is, t) refl
 slash_step most sum (suc k) r rules true is rest e = let t : nat_lt most (sum + 1) ≡ false = grind (arith, nat_tests) in rw (is, t) (rest (sum + 1) k (omega arith))
 
-passing_slashes : (most : ℕ) (rules : List RuleMeaning) → PassesAsSlashes most rules
+pub passing_slashes : (most : ℕ) (rules : List RuleMeaning) → PassesAsSlashes most rules
 passing_slashes most [] = λ sum k e. refl
 passing_slashes most (r ∷ rules) = λ sum k e. slash_step most sum k r rules (is_some r.rest) refl (passing_slashes most rules) e
 

@@ -22,3 +22,6 @@ pub mod TreeValues
 pub mod Weights
 pub mod Building
 pub mod Meant
+pub mod Lawful
+pub mod RulesBuilt
+pub mod FaultKinds

@@ -33,7 +33,7 @@ pub second_empty : {A : Type 0} (a b : List A) → a ++ b ≡ [] → b ≡ []
 second_empty [] b e = e
 second_empty (x ∷ a) b e = absurd cc
 
-not_where : (b : Bool) (place number : ℕ) → faults_where b place number ≡ [] → b ≡ false
+pub not_where : (b : Bool) (place number : ℕ) → faults_where b place number ≡ [] → b ≡ false
 not_where false place number e = refl
 not_where true place number e = absurd cc
 

@@ -29,7 +29,7 @@ sound_assigned : (k : Context) (a : Assigned) → AreSound k → IsSound (Some a
 sound_assigned k a sound own true = sound
 sound_assigned k a sound own false = record { each = λ name. sound_joined k a name sound own (bytes_eq a.name name) }
 
-sound_after : (ignored : Bool) (k : Context) (s : StatementTree) → AreSound k → IsWellMade s → faults_of_statement ignored k s ≡ [] → AreSound (context_after k s)
+pub sound_after : (ignored : Bool) (k : Context) (s : StatementTree) → AreSound k → IsWellMade s → faults_of_statement ignored k s ≡ [] → AreSound (context_after k s)
 sound_after ignored k nothing sound well e = sound
 sound_after ignored k (control word place) sound well e = record { each = λ name. subst (λ vs. IsSound (assigned_to vs name)) (sym (control_variables k (encode_utf8_all word))) (sound.each name) }
 sound_after ignored k (assign word place x) sound well e =

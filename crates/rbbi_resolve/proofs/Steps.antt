@@ -42,11 +42,11 @@ context_next files statements number s at =
     ap (fold context_after (start files)) (take_more statements number s (slice_get_within statements number s at) ∙ ap (λ x. take number statements ++ x ∷ []) (get_or_from_slice_get statements number s s at))
     ∙ fold-append context_after (start files) (take number statements) (s ∷ [])
 
-faults_next : (ignored : Bool) (k : Context) (s : StatementTree) (rest : List StatementTree) → faults_from ignored k (s ∷ rest) ≡ faults_of_statement ignored k s ++ faults_from ignored (context_after k s) rest
+pub faults_next : (ignored : Bool) (k : Context) (s : StatementTree) (rest : List StatementTree) → faults_from ignored k (s ∷ rest) ≡ faults_of_statement ignored k s ++ faults_from ignored (context_after k s) rest
 unfolding faults_from
 faults_next ignored k s rest = refl
 
-rules_next : (k : Context) (s : StatementTree) (rest : List StatementTree) → rules_from k (s ∷ rest) ≡ rule_in k s ++ rules_from (context_after k s) rest
+pub rules_next : (k : Context) (s : StatementTree) (rest : List StatementTree) → rules_from k (s ∷ rest) ≡ rule_in k s ++ rules_from (context_after k s) rest
 unfolding rules_from
 rules_next k s rest = refl
 

@@ -1,5 +1,5 @@
 -- The trees that the code builds, and the sets of their leaves.
-use Rattle.std.specs.Prelude.{◌≡◌, ℕ, ◌+◌, ◌<◌, ◌≤◌, Option, Some, List, [], ◌∷◌, ◌++◌, length, slice_get, Contains}
+use Rattle.std.specs.Prelude.{◌≡◌, ℕ, ◌+◌, ◌<◌, ◌≤◌, Bool, Option, Some, List, [], ◌∷◌, ◌++◌, length, slice_get, Contains}
 use Rattle.std.specs.List.{AllByRecursion, AllZip}
 use Rattle.rbbi_model.specs.Ranges.{Range}
 use Rattle.rbbi_model.specs.SetTrees as model
@@ -13,7 +13,7 @@ use Rattle.rbbi_resolve.specs.Meanings.{Meaning, Stands}
 use Rattle.rbbi_resolve.specs.Contexts.{Context}
 use Rattle.rbbi_resolve.specs.Parts.{parts_of_expr}
 use Rattle.rbbi_resolve.specs.Faults.{faults_of_parts}
-use Rattle.rbbi_resolve.specs.Files.{context_at}
+use Rattle.rbbi_resolve.specs.Files.{context_at, faults_of}
 use Rattle.rbbi_resolve.specs.Scopes.{AreVariables}
 use Rattle.rbbi_resolve.specs.Soundness.{AreSound}
 use Rattle.rbbi_resolve.specs.RuleLists.{IsLeafSet}
@@ -59,6 +59,7 @@ pub record IsAssigned (statements : List StatementTree) (number : ℕ) (expr : E
 -- the number of the first set of a statement's own leaves is right, where there is one
 pub record IsBuilder (files : List File) (statements : List StatementTree) (sets : List (List Range)) (bases : List (Option ℕ)) : Type 0 where
   pub few : length sets ≤ 4294967295
+  pub formed : AllByRecursion IsLeafSet sets
   pub long : length bases ≡ length statements
   pub based : (number base : ℕ) (expr : ExprTree) → slice_get bases number ≡ Some (Some base) → IsAssigned statements number expr →
       StandFrom files sets base (leaves_of_expr (context_at files statements number) expr)
@@ -74,6 +75,8 @@ pub record IsReady (files : List File) (scope : Scope) : Type 0 where
   pub end : ℕ
   pub variables : AreVariables files (statement_trees scope.statements.now) scope.variables.now end
   pub low : scope.limit ≤ end
+  pub ignored : Bool
+  pub none : faults_of files ignored (statement_trees scope.statements.now) ≡ []
   pub sound : (number : ℕ) → AreSound (context_at files (statement_trees scope.statements.now) number)
   pub faultless : (number : ℕ) (expr : ExprTree) → IsAssigned (statement_trees scope.statements.now) number expr →
       faults_of_parts (context_at files (statement_trees scope.statements.now) number) (parts_of_expr expr) ≡ []

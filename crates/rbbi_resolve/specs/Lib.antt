@@ -20,6 +20,7 @@ pub mod Readings
 pub mod Soundness
 pub mod OwnLeaves
 pub mod Builders
+pub mod RulesSoFar
 pub mod Outcomes
 pub mod Questions
 pub mod SetsSoFar

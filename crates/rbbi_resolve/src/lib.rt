@@ -2,6 +2,7 @@
 //! least fault.
 #![tactic(auto)]
 
+mod active;
 mod build;
 mod check;
 mod counts;

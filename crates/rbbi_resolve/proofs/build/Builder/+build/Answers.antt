@@ -75,7 +75,7 @@ tree_of_atom-definition-requires t c =
     let smaller : weight T (v.statement + 1) < weight T scope.limit + (size_of_atom (atom_tree c.args.atom.now) + 1) = omega arith in
     let r = c.requires.ready in
     let ready : IsReady files (record { statements = scope.statements; variables = scope.variables; limit = v.statement; quoted_only = scope.quoted_only }) =
-    record { end = r.end; variables = r.variables; low = omega (arith, r.low, below); sound = r.sound; faultless = r.faultless } in
+    record { end = r.end; variables = r.variables; low = omega (arith, r.low, below); ignored = r.ignored; none = r.none; sound = r.sound; faultless = r.faultless } in
     let builder = c.requires.builder in
     let inside : v.statement < length scope.statements.now = n.inside in
     search rules

@@ -3,7 +3,7 @@ use Rattle.rbbi_tree.specs.Values.{statement_trees, expr_tree}
 use Rattle.rbbi_resolve.specs.Scopes.{context_of}
 use Rattle.rbbi_resolve.specs.OwnLeaves.{AddsLeaves, leaves_of_expr}
 use Rattle.rbbi_resolve.specs.Builders.{StandFrom}
-use Rattle.rbbi_resolve.proofs.Building.{builder_more, stand_added, added_length}
+use Rattle.rbbi_resolve.proofs.Building.{builder_more, sets_formed, stand_added, added_length}
 use Rattle.rbbi_resolve.proofs.build.Builder.add_own.Goals as goal
 
 pub returns-clause-on : goal.returns-clause-on
@@ -11,7 +11,7 @@ returns-clause-on c =
     let files = c.args.self.now.properties in
     let added : AddsLeaves files (leaves_of_expr (context_of files c.args.scope.now) (expr_tree c.args.expr.now)) c.args.self.now.sets.items c.add_leaves.new.sets.items = c.in_ok-add_leaves.ensures.added (c.requires.ready.sound c.args.scope.now.limit) c.requires.faultless in
     let few : length c.add_leaves.new.sets.items ≤ 4294967295 = omega (arith, c.add_leaves.new.sets.ok.0) in
-    record { more = added.more; is = added.is; builder = builder_more files (statement_trees c.args.scope.now.statements.now) c.args.self.now.sets.items c.add_leaves.new.sets.items added.more c.args.self.now.bases.items added.is few c.requires.builder }
+    record { more = added.more; is = added.is; builder = builder_more files (statement_trees c.args.scope.now.statements.now) c.args.self.now.sets.items c.add_leaves.new.sets.items added.more c.args.self.now.bases.items added.is few (sets_formed files _ added.more added.each) c.requires.builder }
 
 pub returns-clause-all : goal.returns-clause-all
 returns-clause-all c =

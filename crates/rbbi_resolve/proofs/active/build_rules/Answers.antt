@@ -1,0 +1,30 @@
+use Rattle.std.proofs.Common.{rules, ◌≡◌, ◌+◌, ◌<◌, ◌&&◌, not, ℕ, [], None, IfOk, OnOk, length, option_map, ◌-◌, ◌*◌, ◌≤◌, ◌/◌, ◌%◌, Bool, true, false, nat_eq, nat_lt, List, ◌∷◌, ◌++◌, slice_index_or, slice_set, bit_and, bit_or, Fits, w8, w32, w64, Bor, MutBor}
+use Rattle.rbbi_model.specs.Rules.{AreLawful}
+use Rattle.rbbi_tree.specs.Values.{statement_trees, expr_tree, rest_tree}
+use Rattle.rbbi_tree.specs.WellMade.{AreWellMade}
+use Rattle.rbbi_resolve.specs.Expressions.{meaning_of_expr}
+use Rattle.rbbi_resolve.specs.Files.{faults_of, faults_of_rest, active_rules}
+use Rattle.rbbi_resolve.specs.Counts.{counted}
+use Rattle.rbbi_resolve.specs.Scopes.{context_of}
+use Rattle.rbbi_resolve.specs.Builders.{IsBuilder, IsReady, GoesOn}
+use Rattle.rbbi_resolve.specs.RulesSoFar.{IsRestBuilt, AreRulesTo, AreAllRules}
+use Rattle.rbbi_resolve.specs.RuleLists.{rules_of}
+use Rattle.rbbi_resolve.specs.Readings.{IsReading}
+use Rattle.rbbi_resolve.specs.Outcomes.{Means}
+use Rattle.rbbi_resolve.proofs.active.build_rules.Goals as goal
+
+-- src/active.rt:154:17
+pub rules_with_trees-requires-clause-ready : goal.rules_with_trees-requires-clause-ready
+rules_with_trees-requires-clause-ready c = ?
+
+-- src/active.rt:156:8
+pub new-requires : goal.new-requires
+new-requires c = ?
+
+-- src/active.rt:129:1
+pub returns-clause-means : goal.returns-clause-means
+returns-clause-means c = ?
+
+-- src/active.rt:129:1
+pub returns-clause-lawful : goal.returns-clause-lawful
+returns-clause-lawful c = ?
