@@ -120,7 +120,7 @@ adding_expr context files start whole all now sets sets' now' items i p inside i
     record {
       same = next ∙ here.same;
       adds = λ sound e after x.
-      here.adds sound e after (more_leaves files (leaves_of_seq k (seq_tree p)) (leaves_of_expr k rest) sets sets' after (step' sound (faultless_first k (parts_of_seq (seq_tree p)) (parts_of_expr rest) (here.faultless e))) x);
+          here.adds sound e after (more_leaves files (leaves_of_seq k (seq_tree p)) (leaves_of_expr k rest) sets sets' after (step' sound (faultless_first k (parts_of_seq (seq_tree p)) (parts_of_expr rest) (here.faultless e))) x);
       faultless = λ e. faultless_second k (parts_of_seq (seq_tree p)) (parts_of_expr rest) (here.faultless e);
     }
 
@@ -139,7 +139,7 @@ adding_seq context files start whole all now sets sets' now' items i p inside is
     record {
       same = next ∙ here.same;
       adds = λ sound e after x.
-      here.adds sound e after (more_leaves files (leaves_of_item k (item_tree p)) (leaves_of_seq k rest) sets sets' after (step' sound (faultless_first k (parts_of_item (item_tree p)) (parts_of_seq rest) (here.faultless e))) x);
+          here.adds sound e after (more_leaves files (leaves_of_item k (item_tree p)) (leaves_of_seq k rest) sets sets' after (step' sound (faultless_first k (parts_of_item (item_tree p)) (parts_of_seq rest) (here.faultless e))) x);
       faultless = λ e. faultless_second k (parts_of_item (item_tree p)) (parts_of_seq rest) (here.faultless e);
     }
 

@@ -91,8 +91,8 @@ tall_capped height shown is =
     elim (cases_lt shown 257) [
       | inl lt ↦ ap (λ n. nat_lt 256 n) (sym (is.below lt))
       | inr ge ↦
-            let cap = is.past (omega (arith, is.within)) in
-            let a : nat_lt 256 shown ≡ true = grind (arith, nat_tests) in
-            let b : nat_lt 256 height ≡ true = grind (arith, nat_tests) in
-            a ∙ sym b
+          let cap = is.past (omega (arith, is.within)) in
+          let a : nat_lt 256 shown ≡ true = grind (arith, nat_tests) in
+          let b : nat_lt 256 height ≡ true = grind (arith, nat_tests) in
+          a ∙ sym b
     ]

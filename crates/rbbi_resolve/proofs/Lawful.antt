@@ -114,7 +114,7 @@ all_rules (m ∷ a) b x y = (x.0, all_rules a b x.1 y)
 
 rest_sound : (k : Context) → AreSound k → (front : ExprTree) (slash : Option ℕ) (rest : Option ExprTree) → IsWellMadeRest slash rest → faults_of_rest k rest ++ faults_at_slash k front slash rest ≡ [] →
     IfSome (option_map (meaning_of_expr k) rest) (λ x. IsFull x × (spells_empty x ≡ false)) × (IsSome (option_map (meaning_of_expr k) rest) → spells_empty (meaning_of_expr k front) ≡ false)
-rest_sound k sound front None None well e = (tt, λ s. absurd s)
+rest_sound k sound front None None well e = (tt, λ s. absurd cc)
 rest_sound k sound front None (Some rest) well e = absurd well
 rest_sound k sound front (Some slash) None well e = absurd well
 rest_sound k sound front (Some slash) (Some rest) well e =
@@ -157,7 +157,7 @@ rest_lawful : (files : List File) (m : Option Meaning) (t : Option spelling.Tree
 rest_lawful files None None b f h = (tt, tt, λ s. s)
 rest_lawful files None (Some t) b f h = absurd b
 rest_lawful files (Some m) None b f h = absurd b
-rest_lawful files (Some m) (Some t) b f h = (lawful_tree files m t f.0 b h, not_empty files m t b f.1, λ s. tt)
+rest_lawful files (Some m) (Some t) b f h = (lawful_tree files m t f.0 b h, not_empty files m t b f.1, λ s. refl)
 
 rule_lawful : (files : List File) (m : RuleMeaning) (r : model.Rule) → IsRuleOf files m r → IsSoundRule m → HasRuleSets r → IsLawfulRule r
 rule_lawful files m r is sound has =
@@ -226,10 +226,10 @@ not_passed amount most sum (m ∷ ms) low e =
     elim (nat_lt most (sum + amount m)) as (λ b. nat_lt most (sum + amount m) ≡ b → (if b then Some m.place else passing amount most (sum + amount m) ms) ≡ None → sum + sum_by amount (m ∷ ms) ≤ most) [
       | true ↦ λ t f. absurd cc
       | false ↦ λ t f.
-            let low' : sum + amount m ≤ most = grind (arith, nat_tests) in
-            let r = not_passed amount most (sum + amount m) ms low' f in
-            let d = sum_by-cons amount m ms in
-            omega arith
+          let low' : sum + amount m ≤ most = grind (arith, nat_tests) in
+          let r = not_passed amount most (sum + amount m) ms low' f in
+          let d = sum_by-cons amount m ms in
+          omega arith
     ] refl e
 
 or_none : (a b : Option Fault) → option_or a b ≡ None → (a ≡ None) × (b ≡ None)

@@ -25,3 +25,4 @@ pub mod Meant
 pub mod Lawful
 pub mod RulesBuilt
 pub mod FaultKinds
+pub mod Ending

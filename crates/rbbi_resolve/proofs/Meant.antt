@@ -66,9 +66,9 @@ seen_is limit None v e = absurd cc
 seen_is limit (Some w) v e =
     elim (nat_lt w.statement limit) as (λ b. nat_lt w.statement limit ≡ b → Some v ≡ (if b then Some w else None) → (Some w ≡ Some v) × (v.statement < limit)) [
       | true ↦ λ t f.
-            let same : w ≡ v = cc in
-            let low : w.statement < limit = grind (arith, nat_tests) in
-            (ap Some same, subst (λ (x : Variable). x.statement < limit) same low)
+          let same : w ≡ v = cc in
+          let low : w.statement < limit = grind (arith, nat_tests) in
+          (ap Some same, subst (λ (x : Variable). x.statement < limit) same low)
       | false ↦ λ t f. absurd cc
     ] refl e
 

@@ -137,11 +137,10 @@ module _ (files : List File) where
   rules_filled sets [] [] z = tt
   rules_filled sets [] (r ∷ rs) z = absurd z
   rules_filled sets (m ∷ ms) [] z = absurd z
-  rules_filled sets (m ∷ ms) (r ∷ rs) z =
-      (
-        record { front = subst (λ ss. HasLeafSets (tree_of ss r.front)) (append-nil sets) (z.0.front.filled []); rest = rest_filled sets m.rest r.rest z.0.rest },
-        rules_filled sets ms rs z.1,
-      )
+  rules_filled sets (m ∷ ms) (r ∷ rs) z = (
+    record { front = subst (λ ss. HasLeafSets (tree_of ss r.front)) (append-nil sets) (z.0.front.filled []); rest = rest_filled sets m.rest r.rest z.0.rest },
+    rules_filled sets ms rs z.1,
+  )
 
   rest_numbered : (sets : List (List Range)) (m : Option Meaning) (t : Option Tree) → IsRest files sets m t → AllByRecursion (λ n. n < length sets) (option_map_or numbers_of t [])
   rest_numbered sets None None r = tt

@@ -72,15 +72,15 @@ named_before files statements end limit name None low is = subst (λ x. Matches 
 named_before files statements end limit name (Some v) low is =
     elim (cases_lt v.statement limit) [
       | inl lt ↦
-            let test : nat_lt v.statement limit ≡ true = grind (arith, nat_tests) in
-            let seen : visible limit (Some v) ≡ Some v = ap (λ b. if b then Some v else None) test in
-            subst (λ a. Matches files a (assigned_to (context_at files statements limit).variables name)) (sym seen)
-            (subst (λ x. Matches files (Some v) x) (sym (is.behind limit lt low)) is.kind)
+          let test : nat_lt v.statement limit ≡ true = grind (arith, nat_tests) in
+          let seen : visible limit (Some v) ≡ Some v = ap (λ b. if b then Some v else None) test in
+          subst (λ a. Matches files a (assigned_to (context_at files statements limit).variables name)) (sym seen)
+          (subst (λ x. Matches files (Some v) x) (sym (is.behind limit lt low)) is.kind)
       | inr ge ↦
-            let test : nat_lt v.statement limit ≡ false = grind (arith, nat_tests) in
-            let unseen : visible limit (Some v) ≡ None = ap (λ b. if b then Some v else None) test in
-            subst (λ a. Matches files a (assigned_to (context_at files statements limit).variables name)) (sym unseen)
-            (subst (λ x. Matches files None x) (sym (is.before limit ge)) tt)
+          let test : nat_lt v.statement limit ≡ false = grind (arith, nat_tests) in
+          let unseen : visible limit (Some v) ≡ None = ap (λ b. if b then Some v else None) test in
+          subst (λ a. Matches files a (assigned_to (context_at files statements limit).variables name)) (sym unseen)
+          (subst (λ x. Matches files None x) (sym (is.before limit ge)) tt)
     ]
 
 -- the variables describe what stands before a limit
@@ -122,7 +122,7 @@ stay_variables files statements variables n same are =
     record { each = λ name. stays_named files statements n name (get_by_text variables name) (ap (λ vs. assigned_to vs name) same) (are.each name) }
 
 -- the variable that a statement makes
-abbrev made : List ℕ → contexts.Variable → contexts.Assigned
+abbrev pub made : List ℕ → contexts.Variable → contexts.Assigned
 made word variable = record { name = encode_utf8_all word; variable = variable }
 
 module _ (files : List File) (statements : List StatementTree) (variables variables' : Variables) (n : ℕ) (word : List ℕ) (place : ℕ) (expr : ExprTree) (kind : Kind)
@@ -132,7 +132,6 @@ module _ (files : List File) (statements : List StatementTree) (variables variab
     (kind_is : IsKindOf files kind (variable_for (context_at files statements n) expr))
     (put : (cs : List ℕ) → get_by_text variables' cs ≡ update bytes_eq (get_by_text variables) (encode_utf8_all word) (Some (record { statement = n; kind = kind })) cs)
     (are : AreVariables files statements variables n) where
-
   here : (name : List ℕ) → encode_utf8_all word ≡ name → bytes_eq (encode_utf8_all word) name ≡ true → IsDefinedBy files statements (n + 1) name (record { statement = n; kind = kind })
   here name same is =
       let none : get_by_text variables name ≡ None = ap (get_by_text variables) (sym same) ∙ unknown in

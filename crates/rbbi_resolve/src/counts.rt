@@ -95,7 +95,8 @@ impl Counts {
         self.rules.add(1, MOST_RULES, place);
         self.leaves.add(whole.leaves, MOST_LEAVES, place);
         self.slashes.add(one_where(has_rest), MOST_SLASHES, place);
-        self.tall.add(one_where(whole.height > MOST_HEIGHT), 0, place);
+        self.tall
+            .add(one_where(whole.height > MOST_HEIGHT), 0, place);
     }
 
     /// The first fault, by number, of these counts. The text has this length.

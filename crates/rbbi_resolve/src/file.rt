@@ -54,7 +54,16 @@ impl<'a> Reading<'a> {
                 slash,
                 rest,
                 tag,
-            } => self.read_rule(alloc, number, *place, *no_chain_in, front, *slash, rest, *tag),
+            } => self.read_rule(
+                alloc,
+                number,
+                *place,
+                *no_chain_in,
+                front,
+                *slash,
+                rest,
+                *tag,
+            ),
         }
     }
 

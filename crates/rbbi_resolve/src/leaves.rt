@@ -153,7 +153,11 @@ fn add_any(alloc: Global, sets: &mut Vec<CodeSet>) -> Result<(), AllocError>
 }
 
 /// Adds the characters of a set that has a value and holds a character.
-fn add_value(alloc: Global, sets: &mut Vec<CodeSet>, value: &Option<CodeSet>) -> Result<(), AllocError>
+fn add_value(
+    alloc: Global,
+    sets: &mut Vec<CodeSet>,
+    value: &Option<CodeSet>,
+) -> Result<(), AllocError>
     ensures { OnOk result ((files : List File) (tree : model.SetTree) → IsValue files (Some tree) value.now
         → is_empty_value files (Some tree) ≡ false → AddsLeaves files (tree ∷ []) sets.old.items sets.new.items) }
 {

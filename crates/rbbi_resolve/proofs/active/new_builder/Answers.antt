@@ -1,26 +1,31 @@
-use Rattle.std.proofs.Common.{rules, ◌≡◌, ◌+◌, ◌<◌, ◌&&◌, not, ℕ, [], None, IfOk, OnOk, length, option_map, ◌-◌, ◌*◌, ◌≤◌, ◌/◌, ◌%◌, Bool, true, false, nat_eq, nat_lt, List, ◌∷◌, ◌++◌, slice_index_or, slice_set, bit_and, bit_or, Fits, w8, w32, w64, Bor, MutBor}
-use Rattle.rbbi_model.specs.Rules.{AreLawful}
-use Rattle.rbbi_tree.specs.Values.{statement_trees, expr_tree, rest_tree}
-use Rattle.rbbi_tree.specs.WellMade.{AreWellMade}
-use Rattle.rbbi_resolve.specs.Expressions.{meaning_of_expr}
-use Rattle.rbbi_resolve.specs.Files.{faults_of, faults_of_rest, active_rules}
-use Rattle.rbbi_resolve.specs.Counts.{counted}
-use Rattle.rbbi_resolve.specs.Scopes.{context_of}
-use Rattle.rbbi_resolve.specs.Builders.{IsBuilder, IsReady, GoesOn}
-use Rattle.rbbi_resolve.specs.RulesSoFar.{IsRestBuilt, AreRulesTo, AreAllRules}
-use Rattle.rbbi_resolve.specs.RuleLists.{rules_of}
-use Rattle.rbbi_resolve.specs.Readings.{IsReading}
-use Rattle.rbbi_resolve.specs.Outcomes.{Means}
+use Rattle.std.proofs.Common.{◌≡◌, ◌≤◌, ◌+◌, Some, None, [], ◌∷◌, ◌++◌, length, slice_get, sym, refl, ap, ◌∙◌, subst, arith}
+use Rattle.std.specs.List.{AllByRecursion}
+use Rattle.std.proofs.lemmas.List.{length-map, length-append}
+use Rattle.rbbi_tree.specs.Values.{statement_trees}
+use Rattle.rbbi_resolve.specs.RuleLists.{IsLeafSet}
+use Rattle.rbbi_resolve.proofs.Ending.{no_base}
 use Rattle.rbbi_resolve.proofs.active.new_builder.Goals as goal
 
--- src/active.rt:171:5
 pub loop-init : goal.loop-init
-loop-init c = ?
+loop-init c = (ap length c.new-bases.ensures.items, λ k b e. let none = ap (λ xs. slice_get xs k) (sym c.new-bases.ensures.items) ∙ e in cc)
 
--- src/active.rt:171:5
 pub loop-preserved : goal.loop-preserved
-loop-preserved c = ?
+loop-preserved c =
+    let long = length-append c.loop.bases.items (None ∷ []) in
+    let items = ap length c.in_ok-push.ensures.items in
+    let before = c.loop.invariant.0 in (
+      omega arith,
+      λ k b e. no_base c.loop.bases.items c.loop.invariant.1 k b (ap (λ xs. slice_get xs k) (sym c.in_ok-push.ensures.items) ∙ e),
+    )
 
--- src/active.rt:160:1
 pub returns-clause-builder : goal.returns-clause-builder
-returns-clause-builder c = ?
+returns-clause-builder c =
+    let none = ap length c.new.ensures.items in
+    let long : length (statement_trees c.args.statements.now) ≡ length c.args.statements.now = simp length-map in
+    let before = c.loop.invariant.0 in
+    record {
+      few = omega arith;
+      formed = subst (AllByRecursion IsLeafSet) (sym c.new.ensures.items) tt;
+      long = omega (arith, c.len-end.ensures);
+      based = λ number base expr at is. absurd (c.loop.invariant.1 number base at);
+    }

@@ -1,34 +1,51 @@
-use Rattle.std.proofs.Common.{rules, ◌≡◌, ◌+◌, ◌<◌, ◌&&◌, not, ℕ, [], None, IfOk, OnOk, length, option_map, ◌-◌, ◌*◌, ◌≤◌, ◌/◌, ◌%◌, Bool, true, false, nat_eq, nat_lt, List, ◌∷◌, ◌++◌, slice_index_or, slice_set, bit_and, bit_or, Fits, w8, w32, w64, Bor, MutBor}
-use Rattle.rbbi_model.specs.Rules.{AreLawful}
-use Rattle.rbbi_tree.specs.Values.{statement_trees, expr_tree, rest_tree}
-use Rattle.rbbi_tree.specs.WellMade.{AreWellMade}
-use Rattle.rbbi_resolve.specs.Expressions.{meaning_of_expr}
-use Rattle.rbbi_resolve.specs.Files.{faults_of, faults_of_rest, active_rules}
-use Rattle.rbbi_resolve.specs.Counts.{counted}
-use Rattle.rbbi_resolve.specs.Scopes.{context_of}
-use Rattle.rbbi_resolve.specs.Builders.{IsBuilder, IsReady, GoesOn}
-use Rattle.rbbi_resolve.specs.RulesSoFar.{IsRestBuilt, AreRulesTo, AreAllRules}
-use Rattle.rbbi_resolve.specs.RuleLists.{rules_of}
-use Rattle.rbbi_resolve.specs.Readings.{IsReading}
-use Rattle.rbbi_resolve.specs.Outcomes.{Means}
+use Rattle.std.proofs.Common.{◌≡◌, ◌+◌, ◌≤◌, ◌<◌, [], length, sym, refl, ap, ◌∙◌, subst, arith}
+use Rattle.std.specs.List.{AllZip}
+use Rattle.std.proofs.lemmas.List.{length-map}
+use Rattle.rbbi_tree.specs.Values.{statement_trees}
+use Rattle.rbbi_resolve.specs.Builders.{IsReady}
+use Rattle.rbbi_resolve.specs.RulesSoFar.{IsRuleBuilt, AreRulesTo, AreAllRules}
+use Rattle.rbbi_resolve.proofs.RulesBuilt.{all_built}
+use Rattle.rbbi_resolve.proofs.Ending.{rules_at_start, switches_at_start}
 use Rattle.rbbi_resolve.proofs.active.rules_with_trees.Goals as goal
 
--- src/active.rt:116:5
 pub loop-number-init : goal.loop-number-init
-loop-number-init c = ?
+loop-number-init c =
+    let files = c.args.builder.now.properties in
+    let T = statement_trees c.args.scope.now.statements.now in
+    let none = ap length c.requires.empty in (
+      refl,
+      record {
+        builder = c.requires.builder;
+        switched = switches_at_start files T c.new-switches.result (c.new-switches.ensures files);
+        done = [];
+        every = rules_at_start files T;
+        each = subst (λ rs. AllZip (IsRuleBuilt files c.args.builder.now.sets.items) [] rs) (sym c.new-rules.ensures.items) tt;
+        used = λ n low. absurd (omega arith);
+      },
+    )
 
--- src/active.rt:123:9
 pub add_statement-requires-clause-ready : goal.add_statement-requires-clause-ready
-add_statement-requires-clause-ready c = ?
+add_statement-requires-clause-ready c =
+    let r = subst (λ f. IsReady f c.args.scope.now) (sym c.loop-number.invariant.0) c.requires.ready in
+    let low = r.low in
+    let test = c.loop-number-test.true in
+    record { end = r.end; variables = r.variables; low = omega arith; ignored = r.ignored; none = r.none; sound = r.sound; faultless = r.faultless }
 
--- src/active.rt:123:9
-pub add_statement-requires-clause-rules : goal.add_statement-requires-clause-rules
-add_statement-requires-clause-rules c = ?
-
--- src/active.rt:116:5
 pub loop-number-preserved : goal.loop-number-preserved
-loop-number-preserved c = ?
+loop-number-preserved c =
+    let n = c.add_statement.new in
+    let same = c.in_ok-add_statement.ensures.same in (
+      same ∙ c.loop-number.invariant.0,
+      subst (λ f. AreRulesTo f (statement_trees c.args.scope.now.statements.now) n.builder.sets.items n.builder.bases.items n.switches n.rules.items (c.loop-number.number + 1)) (sym same) c.in_ok-add_statement.ensures.added,
+    )
 
--- src/active.rt:101:1
 pub returns : goal.returns
-returns c = ?
+returns c =
+    let l = c.loop-number in
+    let T = statement_trees c.args.scope.now.statements.now in
+    let long : length T ≡ length c.args.scope.now.statements.now = simp length-map in
+    let all = c.requires.all in
+    let test = c.loop-number-test.false in
+    record {
+      built = subst (λ f. AreAllRules f T l.builder.sets.items l.rules.items) l.invariant.0 (all_built l.builder.properties T l.builder.sets.items l.builder.bases.items l.switches l.rules.items l.number (omega arith) l.invariant.1);
+    }

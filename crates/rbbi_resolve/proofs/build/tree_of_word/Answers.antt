@@ -26,14 +26,14 @@ loop-preserved c =
     let moved : c.next_leaf.new.next ≡ c.loop.next + 1 = c.next_leaf.ensures.moved in (
       omega (arith, c.loop.invariant.0, long, moved),
       λ files sets s.
-      let s' : StandFrom files sets c.args.next.now (map model.Character c.loop.yielded ++ model.Character d ∷ []) = subst (StandFrom files sets c.args.next.now) (map-append model.Character c.loop.yielded (d ∷ [])) s in
-      let before = c.loop.invariant.1 files sets (stand_first files sets c.args.next.now (map model.Character c.loop.yielded) (model.Character d ∷ []) s') in
-      let here : c.args.next.now + length (map model.Character c.loop.yielded) ≡ c.loop.next = ap (λ n. c.args.next.now + n) (simp length-map) ∙ sym c.loop.invariant.0 in
-      let last = subst (λ n. StandFrom files sets n (model.Character d ∷ [])) here (stand_rest files sets c.args.next.now (map model.Character c.loop.yielded) (model.Character d ∷ []) s') in
-      let leaf = subst (λ n. IsBuilt files (length sets) sets c.loop.next n (Leaf (model.Character d)) c.next_leaf.result) (sym moved) (leaf_built files sets c.loop.next (model.Character d) c.next_leaf.result last c.next_leaf.ensures.tree c.next_leaf.ensures.numbers) in
-      let pushed = push_same files (length sets) sets c.args.next.now c.loop.next c.next_leaf.new.next (map (λ e. Leaf (model.Character e)) c.loop.yielded) c.loop.items.items (Leaf (model.Character d)) c.next_leaf.result before leaf in
-      subst (λ ms. AreBuilt files (length sets) sets c.args.next.now c.next_leaf.new.next ms c.push.new.self.items) (sym (map-append (λ e. Leaf (model.Character e)) c.loop.yielded (d ∷ [])))
-      (subst (λ ts. AreBuilt files (length sets) sets c.args.next.now c.next_leaf.new.next (map (λ e. Leaf (model.Character e)) c.loop.yielded ++ Leaf (model.Character d) ∷ []) ts) (sym c.in_ok-push.ensures.items) pushed),
+          let s' : StandFrom files sets c.args.next.now (map model.Character c.loop.yielded ++ model.Character d ∷ []) = subst (StandFrom files sets c.args.next.now) (map-append model.Character c.loop.yielded (d ∷ [])) s in
+          let before = c.loop.invariant.1 files sets (stand_first files sets c.args.next.now (map model.Character c.loop.yielded) (model.Character d ∷ []) s') in
+          let here : c.args.next.now + length (map model.Character c.loop.yielded) ≡ c.loop.next = ap (λ n. c.args.next.now + n) (simp length-map) ∙ sym c.loop.invariant.0 in
+          let last = subst (λ n. StandFrom files sets n (model.Character d ∷ [])) here (stand_rest files sets c.args.next.now (map model.Character c.loop.yielded) (model.Character d ∷ []) s') in
+          let leaf = subst (λ n. IsBuilt files (length sets) sets c.loop.next n (Leaf (model.Character d)) c.next_leaf.result) (sym moved) (leaf_built files sets c.loop.next (model.Character d) c.next_leaf.result last c.next_leaf.ensures.tree c.next_leaf.ensures.numbers) in
+          let pushed = push_same files (length sets) sets c.args.next.now c.loop.next c.next_leaf.new.next (map (λ e. Leaf (model.Character e)) c.loop.yielded) c.loop.items.items (Leaf (model.Character d)) c.next_leaf.result before leaf in
+          subst (λ ms. AreBuilt files (length sets) sets c.args.next.now c.next_leaf.new.next ms c.push.new.self.items) (sym (map-append (λ e. Leaf (model.Character e)) c.loop.yielded (d ∷ [])))
+          (subst (λ ts. AreBuilt files (length sets) sets c.args.next.now c.next_leaf.new.next (map (λ e. Leaf (model.Character e)) c.loop.yielded ++ Leaf (model.Character d) ∷ []) ts) (sym c.in_ok-push.ensures.items) pushed),
     )
 
 pub returns-clause-moved : goal.returns-clause-moved

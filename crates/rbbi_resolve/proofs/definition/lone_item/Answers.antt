@@ -37,6 +37,6 @@ returns-in-Star c =
     record {
       lone = tt;
       none = λ k.
-      let of : Quant → Option (Option SetTree) = λ q. set_of_item k (placed c.index-item.result.now.place (atom_tree c.index-item.result.now.atom) q) in
-      ap (set_of_expr k) whole ∙ elim c.in-Star.is [ inl star ↦ ap of star | inr others ↦ elim others [ inl plus ↦ ap of plus | inr quest ↦ ap of quest ] ];
+          let of : Quant → Option (Option SetTree) = λ q. set_of_item k (placed c.index-item.result.now.place (atom_tree c.index-item.result.now.atom) q) in
+          ap (set_of_expr k) whole ∙ elim c.in-Star.is [ inl star ↦ ap of star | inr others ↦ elim others [ inl plus ↦ ap of plus | inr quest ↦ ap of quest ] ];
     }

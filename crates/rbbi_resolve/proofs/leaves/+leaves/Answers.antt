@@ -47,7 +47,6 @@ add_leaves_of_seq-returns-clause-added t c =
     subst (λ x. AddsLeaves c.args.properties.now (leaves_of_seq k x) c.args.sets.now.items c.loop-item.sets.items) (sym tree)
     (c.loop-item.invariant.adds sound (subst (λ x. faults_of_parts k (parts_of_seq x) ≡ []) tree e) c.loop-item.sets.items (subst (λ xs. AddsLeaves c.args.properties.now (leaves_of_seq k (seq_of (map item_tree xs))) c.loop-item.sets.items c.loop-item.sets.items) (sym none) (no_leaves c.args.properties.now c.loop-item.sets.items)))
 
-
 pub add_leaves_of_item-returns-in_ok-add_value-in-Prop-clause-added : goal.add_leaves_of_item-returns-in_ok-add_value-in-Prop-clause-added
 add_leaves_of_item-returns-in_ok-add_value-in-Prop-clause-added t c =
     let files = c.args.properties.now in
