@@ -15,7 +15,6 @@ use rbbi_text::Steps;
 use std::alloc::AllocError;
 use std::marker::Brand;
 use std::sync::ledger::{Blank, Ledger};
-use std::test::Fail;
 
 /// A run: its words, with spaces between them, the files that there are, and the exit status and
 /// the output that it must have.
@@ -67,13 +66,14 @@ fn run_words(
     Ok((status, out))
 }
 
-/// Each row has the exit status and the output that it must have.
-fn run_rows(rt: &HostRuntime, rows: &[Row]) -> Result<(), Fail> {
-    for (words, held, status, output) in rows {
+/// The number of the first row, from 0, that hasn't the exit status or the output that it must have.
+fn first_wrong(rt: &HostRuntime, rows: &[Row]) -> Result<Option<usize>, AllocError> {
+    for (i, (words, held, status, output)) in rows.iter().enumerate() {
         let mut files = files_of(rt, held)?;
         let (answered, out) = run_words(rt, words, &mut files)?;
-        assert_eq!(rt; answered, *status, "of {words} over {held:?}");
-        assert_eq!(rt; out.taken(), output.as_bytes(), "of {words} over {held:?}");
+        if answered != *status || out.taken() != output.as_bytes() {
+            return Ok(Some(i));
+        }
     }
-    Ok(())
+    Ok(None)
 }

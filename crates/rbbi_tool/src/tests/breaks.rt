@@ -1,7 +1,7 @@
 //! The command `breaks`.
 use super::check::WORDS;
 use super::compile::TABLE;
-use super::run_rows;
+use super::first_wrong;
 use std::test::Fail;
 
 /// The rules of a part of the default grapheme clusters, by a property file of their classes.
@@ -71,22 +71,29 @@ fn boundaries(rt: HostRuntime) -> Result<(), Fail> {
     ];
     for (rules, text, output) in rows {
         let files = [("r.txt", rules), ("t.txt", text)];
-        run_rows(&rt, &[("breaks r.txt t.txt", &files, 0, output)])?;
+        assert_eq!(rt;
+            first_wrong(&rt, &[("breaks r.txt t.txt", &files, 0, output)])?,
+            None
+        );
     }
     let files = [
         ("r.txt", GRAPHEMES),
         ("g.txt", CLASSES),
         ("t.txt", "\r\na\u{308}".as_bytes()),
     ];
-    run_rows(
-        &rt,
-        &[(
-            "breaks --prop GCB=g.txt r.txt t.txt",
-            &files,
-            0,
-            "0 0\n2 0\n4 0\n",
-        )],
-    )
+    assert_eq!(rt;
+        first_wrong(
+            &rt,
+            &[(
+                "breaks --prop GCB=g.txt r.txt t.txt",
+                &files,
+                0,
+                "0 0\n2 0\n4 0\n",
+            )],
+        )?,
+        None
+    );
+    Ok(())
 }
 
 #[test]
@@ -98,7 +105,7 @@ fn by_table(rt: HostRuntime) -> Result<(), Fail> {
     };
     let words = "breaks --table b.tbl t.txt";
     let text = ("t.txt", b"ab".as_slice());
-    run_rows(
+    assert_eq!(rt; first_wrong(
         &rt,
         &[
             (words, &[("b.tbl", &TABLE), text], 0, "0 0\n1 0\n2 0\n"),
@@ -152,5 +159,6 @@ fn by_table(rt: HostRuntime) -> Result<(), Fail> {
                 "t.txt: NotUtf8 1\n",
             ),
         ],
-    )
+    )?, None);
+    Ok(())
 }

@@ -1,5 +1,5 @@
 //! The command `check`.
-use super::run_rows;
+use super::first_wrong;
 use std::test::Fail;
 
 /// The rules of words: letters with one apostrophe between, digits with one point or comma between.
@@ -41,17 +41,24 @@ $i = $h $h; $j = $i $i; $k = $j $j; $l = $k $k; $m = $l $l; $n = $m $m; $n;",
         ),
     ];
     for (rules, output) in rows {
-        run_rows(&rt, &[("check r.txt", &[("r.txt", rules)], 0, output)])?;
+        assert_eq!(rt;
+            first_wrong(&rt, &[("check r.txt", &[("r.txt", rules)], 0, output)])?,
+            None
+        );
     }
-    run_rows(
-        &rt,
-        &[(
-            "check --ignore-dictionary r.txt",
-            &[("r.txt", b"$dictionary = [a]; .;")],
-            0,
-            "rules 1 slashes 0 leaves 1\n",
-        )],
-    )
+    assert_eq!(rt;
+        first_wrong(
+            &rt,
+            &[(
+                "check --ignore-dictionary r.txt",
+                &[("r.txt", b"$dictionary = [a]; .;")],
+                0,
+                "rules 1 slashes 0 leaves 1\n",
+            )],
+        )?,
+        None
+    );
+    Ok(())
 }
 
 #[test]
@@ -98,18 +105,25 @@ $o;",
     ];
     for (rules, fault) in rows {
         let line = format!(in rt.alloc(); "rules:{fault}\n")?;
-        run_rows(
-            &rt,
-            &[("check r.txt", &[("r.txt", rules)], 3, line.as_str())],
-        )?;
+        assert_eq!(rt;
+            first_wrong(
+                &rt,
+                &[("check r.txt", &[("r.txt", rules)], 3, line.as_str())],
+            )?,
+            None
+        );
     }
-    run_rows(
-        &rt,
-        &[(
-            "check r.txt",
-            &[("r.txt", b"\xFFa;")],
-            3,
-            "rules: NotUtf8 0\n",
-        )],
-    )
+    assert_eq!(rt;
+        first_wrong(
+            &rt,
+            &[(
+                "check r.txt",
+                &[("r.txt", b"\xFFa;")],
+                3,
+                "rules: NotUtf8 0\n",
+            )],
+        )?,
+        None
+    );
+    Ok(())
 }

@@ -1,5 +1,5 @@
 //! The command `compile`.
-use super::{files_of, run_rows, run_words};
+use super::{files_of, first_wrong, run_words};
 use std::test::Fail;
 
 /// The table file of the rules `a;`.
@@ -42,10 +42,13 @@ fn tables(rt: HostRuntime) -> Result<(), Fail> {
         (b"", 3, "rules:1:1: NoRules\n"),
     ];
     for (rules, status, output) in rows {
-        run_rows(
-            &rt,
-            &[("compile r.txt b.tbl", &[("r.txt", rules)], status, output)],
-        )?;
+        assert_eq!(rt;
+            first_wrong(
+                &rt,
+                &[("compile r.txt b.tbl", &[("r.txt", rules)], status, output)],
+            )?,
+            None
+        );
     }
     Ok(())
 }

@@ -1,7 +1,7 @@
 //! The command `conform`.
 use super::breaks::{CLASSES, GRAPHEMES};
 use super::compile::TABLE;
-use super::run_rows;
+use super::first_wrong;
 use std::test::Fail;
 
 #[test]
@@ -24,15 +24,18 @@ fn verdicts(rt: HostRuntime) -> Result<(), Fail> {
             ("g.txt", CLASSES),
             ("c.txt", test.as_bytes()),
         ];
-        run_rows(
-            &rt,
-            &[(
-                "conform --prop GCB=g.txt r.txt c.txt",
-                &files,
-                status,
-                output,
-            )],
-        )?;
+        assert_eq!(rt;
+            first_wrong(
+                &rt,
+                &[(
+                    "conform --prop GCB=g.txt r.txt c.txt",
+                    &files,
+                    status,
+                    output,
+                )],
+            )?,
+            None
+        );
     }
     Ok(())
 }
@@ -51,10 +54,13 @@ fn by_table(rt: HostRuntime) -> Result<(), Fail> {
     ];
     for (test, status, output) in rows {
         let files = [("b.tbl", TABLE.as_slice()), ("c.txt", test.as_bytes())];
-        run_rows(
-            &rt,
-            &[("conform --table b.tbl c.txt", &files, status, output)],
-        )?;
+        assert_eq!(rt;
+            first_wrong(
+                &rt,
+                &[("conform --table b.tbl c.txt", &files, status, output)],
+            )?,
+            None
+        );
     }
     Ok(())
 }

@@ -1,5 +1,5 @@
 //! Words of no form, and options.
-use super::{files_of, run_rows, run_words};
+use super::{files_of, first_wrong, run_words};
 use std::test::Fail;
 
 const USAGE: &str = "usage: rbbi COMMAND [OPTIONS] OPERANDS\n";
@@ -51,7 +51,7 @@ fn options(rt: HostRuntime) -> Result<(), Fail> {
         ("h.txt", b"0061;x\n61;x\n"),
     ];
     let done = "rules 1 slashes 0 leaves 2\n";
-    run_rows(
+    assert_eq!(rt; first_wrong(
         &rt,
         &[
             ("check --prop A=g.txt r.txt", &files, 0, done),
@@ -89,5 +89,6 @@ fn options(rt: HostRuntime) -> Result<(), Fail> {
                 "g.txt: NotUtf8 0\n",
             ),
         ],
-    )
+    )?, None);
+    Ok(())
 }

@@ -1,7 +1,7 @@
 //! The command `run`.
 use super::check::WORDS;
 use super::compile::TABLE;
-use super::run_rows;
+use super::first_wrong;
 use std::test::Fail;
 
 #[test]
@@ -35,7 +35,10 @@ statuses\ntext\ndelete 11 1",
     ];
     for (rules, text, script, output) in rows {
         let files = [("r.txt", rules), ("t.txt", text), ("s.txt", script)];
-        run_rows(&rt, &[("run r.txt t.txt s.txt", &files, 0, output)])?;
+        assert_eq!(rt;
+            first_wrong(&rt, &[("run r.txt t.txt s.txt", &files, 0, output)])?,
+            None
+        );
     }
     Ok(())
 }
@@ -45,7 +48,7 @@ fn by_table(rt: HostRuntime) -> Result<(), Fail> {
     let words = "run --table b.tbl t.txt s.txt";
     let table = ("b.tbl", TABLE.as_slice());
     let text = ("t.txt", b"ab".as_slice());
-    run_rows(
+    assert_eq!(rt; first_wrong(
         &rt,
         &[
             (
@@ -81,5 +84,6 @@ fn by_table(rt: HostRuntime) -> Result<(), Fail> {
                 "t.txt: NotUtf8 0\n",
             ),
         ],
-    )
+    )?, None);
+    Ok(())
 }
