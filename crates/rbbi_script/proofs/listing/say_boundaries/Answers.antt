@@ -12,6 +12,6 @@ returns g c =
     says_turn c.args.session.now c.is_boundary.new.self (Ask Breaks) (Listed (boundaries_of c.args.session.now)) c.args.reply.now.items
     c.say_each-said.new.reply.items c.say_each-said.result refl
     (goes_back c.args.session.now c.say_each-said.new.session c.is_boundary.new.self c.current-cursor.result (test_reply c.is_boundary.result)
-    c.say_each-said.ensures.text c.say_each-said.ensures.table cursor c.current-cursor.ensures.boundary c.is_boundary.ensures)
-    (c.is_boundary.ensures.moved.table_is ∙ c.say_each-said.ensures.table)
+    c.say_each-said.ensures.text c.say_each-said.ensures.table cursor c.current-cursor.ensures.boundary c.is_boundary.ensures.answers)
+    (c.is_boundary.ensures.answers.moved.table_is ∙ c.say_each-said.ensures.table)
     c.say_each-said.ensures.lines

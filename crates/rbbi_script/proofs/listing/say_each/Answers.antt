@@ -17,7 +17,7 @@ loop-place-smaller g c =
     let further = listed_further c.args.session.now c.loop-place.session c.in-Some.at c.status_list.result.now c.status_list.ensures c.args.reply.now.items
     c.loop-place.reply.items
     (subst (λ p. AreListed c.args.session.now c.loop-place.session p c.args.reply.now.items c.loop-place.reply.items) c.in-Some.is c.loop-place.invariant)
-    c.next-place.result c.next-place.new.self c.say_bound.new.reply.items c.in_ok-say_bound.ensures c.next-place.ensures in
+    c.next-place.result c.next-place.new.self c.say_bound.new.reply.items c.in_ok-say_bound.ensures c.next-place.ensures.answers in
     subst (λ p. left_of (length c.args.session.now.state.text) c.next-place.result < left_of (length c.args.session.now.state.text) p)
     (sym c.in-Some.is) further.less
 
@@ -26,5 +26,5 @@ loop-place-preserved g c =
     let further = listed_further c.args.session.now c.loop-place.session c.in-Some.at c.status_list.result.now c.status_list.ensures c.args.reply.now.items
     c.loop-place.reply.items
     (subst (λ p. AreListed c.args.session.now c.loop-place.session p c.args.reply.now.items c.loop-place.reply.items) c.in-Some.is c.loop-place.invariant)
-    c.next-place.result c.next-place.new.self c.say_bound.new.reply.items c.in_ok-say_bound.ensures c.next-place.ensures in
+    c.next-place.result c.next-place.new.self c.say_bound.new.reply.items c.in_ok-say_bound.ensures c.next-place.ensures.answers in
     further.listed
