@@ -22,6 +22,8 @@ mod set_value;
 mod so_far;
 mod summary;
 mod switches;
+#[cfg(test)]
+mod tests;
 mod tree;
 mod variables;
 
