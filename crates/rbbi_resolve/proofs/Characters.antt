@@ -113,3 +113,31 @@ same_emptiness files (Some tree) set holds tells is =
     ap not (same_tests holds (holds_character files tree)
     (λ e. character_in files tree set is (tells.0 e))
     (λ e. (tells_true holds).1 (tells.1 (character_of files tree set is e))))
+
+pub in_set_takes : (files : List File) (tree : model.SetTree) (c : ℕ) → model.InSet (HasProperty files) tree c → in_set files tree c ≡ true
+in_set_takes files tree c is = (tells_in_set files tree c).1 is
+
+-- a character in the set is held
+pub character_held : (files : List File) (tree : model.SetTree) (c : ℕ) → c ≤ 0x10FFFF → ¬ IsSurrogate c → in_set files tree c ≡ true → holds_character files tree ≡ true
+unfolding holds_character
+character_held files tree c low whole is =
+    any_below_takes (λ d. is_no_surrogate d && in_set files tree d) 0x110000 c (omega arith)
+    ((tells_and (is_no_surrogate c) (in_set files tree c) (¬ IsSurrogate c) (in_set files tree c ≡ true) (no_surrogate c) (λ e. e, λ e. e)).1 (whole, is))
+
+-- and a set that holds one has one
+pub held_character : (files : List File) (tree : model.SetTree) → holds_character files tree ≡ true → (c : ℕ) × model.InSet (HasProperty files) tree c × ¬ IsSurrogate c
+unfolding holds_character
+held_character files tree e =
+    let w = any_below_gives (λ c. is_no_surrogate c && in_set files tree c) 0x110000 e in
+    let both = (tells_and (is_no_surrogate w.0) (in_set files tree w.0) (¬ IsSurrogate w.0) (model.InSet (HasProperty files) tree w.0) (no_surrogate w.0) (tells_in_set files tree w.0)).0 w.2 in
+    (w.0, both.1, both.0)
+
+-- the test whether a code point is in the set and no surrogate
+pub in_leaf : List File → model.SetTree → ℕ → Bool
+in_leaf files tree c = is_no_surrogate c && in_set files tree c
+
+pub in_leaf_tells : (files : List File) (tree : model.SetTree) (c : ℕ) → (in_leaf files tree c ≡ true → model.InSet (HasProperty files) tree c × ¬ IsSurrogate c) × (model.InSet (HasProperty files) tree c × ¬ IsSurrogate c → in_leaf files tree c ≡ true)
+unfolding in_leaf
+in_leaf_tells files tree c =
+    let t = tells_and (is_no_surrogate c) (in_set files tree c) (¬ IsSurrogate c) (model.InSet (HasProperty files) tree c) (no_surrogate c) (tells_in_set files tree c) in
+    (λ e. let b = t.0 e in (b.1, b.0), λ b. t.1 (b.1, b.0))

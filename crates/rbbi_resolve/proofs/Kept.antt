@@ -20,7 +20,7 @@ choice_keeps : (context other : Context) (b : Bool) → other.files ≡ context.
 choice_keeps context other true same = refl
 choice_keeps context other false same = same
 
-statement_keeps : (context : Context) (statement : StatementTree) → (context_after context statement).files ≡ context.files
+pub statement_keeps : (context : Context) (statement : StatementTree) → (context_after context statement).files ≡ context.files
 statement_keeps context nothing = refl
 statement_keeps context (control word place) =
     let text = encode_utf8_all word in

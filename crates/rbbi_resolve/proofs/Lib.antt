@@ -26,3 +26,6 @@ pub mod Lawful
 pub mod RulesBuilt
 pub mod FaultKinds
 pub mod Ending
+pub mod Good
+pub mod RangesOf
+pub mod Existence

@@ -1,11 +1,16 @@
 -- Laws of faults and meanings.
-use Rattle.std.specs.Prelude.{◌≡◌, ℕ, Bool, Option, Some, None, List, []}
+use Rattle.std.specs.Prelude.{◌≡◌, ℕ, ◌⊎◌, Bool, Option, Some, None, List, []}
 use Rattle.rbbi_model.specs.Rules as model
+use Rattle.rbbi_model.specs.Rules.{AreLawful}
 use Rattle.rbbi_props.specs.Rows.{File}
 use Rattle.rbbi_tree.specs.Trees.{StatementTree}
+use Rattle.rbbi_tree.specs.WellMade.{AreWellMade}
+use Rattle.rbbi_resolve.specs.TextCharacters.{AreOfCharacters}
 use Rattle.rbbi_resolve.specs.declared.fault.Fault.{Fault}
 use Rattle.rbbi_resolve.specs.Faults.{noted}
-use Rattle.rbbi_resolve.specs.Refusals.{IsLeast}
+use Rattle.rbbi_resolve.specs.Refusals.{IsLeast, IsFaultOf}
+use Rattle.rbbi_resolve.specs.Files.{faults_of, active_rules}
+use Rattle.rbbi_resolve.specs.Counts.{counted}
 use Rattle.rbbi_resolve.specs.Outcomes.{Means}
 
 -- a file means one list of rules at most
@@ -18,3 +23,25 @@ HasOneMeaning =
 pub record NotesLeast (faults : List Fault) : Type 0 where
   pub least : (fault : Fault) → noted None faults ≡ Some fault → IsLeast faults fault
   pub none : noted None faults ≡ None → faults ≡ []
+
+-- The rules that a file means are lawful, where its statements are as the parser gives them: well made, and of characters.
+abbrev pub MeansLawfulRules : Type 0
+MeansLawfulRules =
+    (files : List File) (ignored : Bool) (statements : List StatementTree) (rules : List model.Rule) →
+    AreWellMade statements → AreOfCharacters statements → Means files ignored statements rules → AreLawful rules
+
+-- the file with its end is refused for a fault
+abbrev pub HasFault : List File → Bool → List StatementTree → ℕ → Type 0
+HasFault files ignored statements end = (fault : Fault) × IsFaultOf (faults_of files ignored statements) (counted end (active_rules files statements)) fault
+
+-- such a file means rules or has a fault
+abbrev pub HasMeaningOrFault : Type 0
+HasMeaningOrFault =
+    (files : List File) (ignored : Bool) (statements : List StatementTree) (end : ℕ) → AreWellMade statements → AreOfCharacters statements →
+    ((rules : List model.Rule) × Means files ignored statements rules) ⊎ HasFault files ignored statements end
+
+-- and not both
+abbrev pub HasNotBoth : Type 0
+HasNotBoth =
+    (files : List File) (ignored : Bool) (statements : List StatementTree) (end : ℕ) (rules : List model.Rule) →
+    Means files ignored statements rules → HasFault files ignored statements end → ⊥

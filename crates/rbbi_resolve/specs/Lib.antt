@@ -24,4 +24,5 @@ pub mod RulesSoFar
 pub mod Outcomes
 pub mod Questions
 pub mod SetsSoFar
+pub mod TextCharacters
 pub mod Laws

@@ -22,10 +22,15 @@ mod set_value;
 mod so_far;
 mod summary;
 mod switches;
+#[cfg(test)]
+mod tests;
 mod tree;
 mod variables;
 
 pub use error::ResolveErr;
-pub use laws::{at_most_one_meaning, the_earliest_is_noted};
+pub use laws::{
+    at_most_one_meaning, meaning_excludes_faults, meaning_is_lawful, meaning_or_fault,
+    the_earliest_is_noted,
+};
 pub use outcome::resolve;
 pub use rules::{Rule, Rules, SetList, Tree, Trees};
