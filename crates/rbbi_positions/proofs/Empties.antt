@@ -28,7 +28,7 @@ empty_choice part [] = or_false (spells_empty part)
 empty_choice part (next ∷ parts) = refl
 
 module _ {T : Type 0} (f : T → Tree) (parts : List T) (i : ℕ) (part : T) (below : i < length parts) (is : part ≡ get_or parts i part) where
-  next_part : map f (drop i parts) ≡ f part ∷ map f (drop (i + 1) parts)
+  pub next_part : map f (drop i parts) ≡ f part ∷ map f (drop (i + 1) parts)
   next_part =
       let e : suc i ≡ i + 1 = omega arith in
       ap (map f) (drop-cons parts i part below) ∙ ap (λ (p : T). f p ∷ map f (drop (suc i) parts)) (sym is) ∙ ap (λ (n : ℕ). f part ∷ map f (drop n parts)) e
@@ -54,7 +54,9 @@ empties_spell (Then front rest) first =
     let left = empties_spell front first in
     let right = empties_spell rest (first + leaf_count front) in (
       λ e. (let both = and_parts (spells_empty front) (spells_empty rest) e in ([], [], left.0 both.0, right.0 both.1, refl)),
-      λ (u, v, h, g, e). (let none = no_parts u v e in and_both (spells_empty front) (spells_empty rest) (left.1 (subst (SpellsPositions front first) none.0 h)) (right.1 (subst (SpellsPositions rest (first + leaf_count front)) none.1 g))),
+      λ (u, v, h, g, e). (let none = no_parts u v e in
+          and_both (spells_empty front) (spells_empty rest) (left.1 (subst (SpellsPositions front first) none.0 h))
+          (right.1 (subst (SpellsPositions rest (first + leaf_count front)) none.1 g))),
     )
   where
     and_parts : (a b : Bool) → (a && b) ≡ true → (a ≡ true) × (b ≡ true)
@@ -68,7 +70,11 @@ empties_spell (Either front rest) first =
     let left = empties_spell front first in
     let right = empties_spell rest (first + leaf_count front) in (
       λ e. (elim (or_parts (spells_empty front) (spells_empty rest) e) [ inl a ↦ inl (left.0 a) | inr b ↦ inr (right.0 b) ]),
-      λ h. elim h [ inl f ↦ or_first (spells_empty front) (spells_empty rest) (left.1 f) | inr r ↦ or_second (spells_empty front) (spells_empty rest) (right.1 r) ],
+      λ h. elim h [
+        | inl f ↦ or_first (spells_empty front) (spells_empty rest) (left.1 f)
+        | inr r ↦
+            or_second (spells_empty front) (spells_empty rest) (right.1 r)
+      ],
     )
   where
     or_parts : (a b : Bool) → (a || b) ≡ true → (a ≡ true) ⊎ (b ≡ true)

@@ -1,13 +1,54 @@
 -- The tree that a repetition stands for.
-use Rattle.std.proofs.Common.{◌≡◌, List, Box, Global, ap, sym, ◌∙◌}
+use Rattle.std.proofs.Common.{◌≡◌, ℕ, Bool, List, Box, Global, refl, ap, sym, ◌∙◌}
+use Rattle.std.specs.Prelude.{map}
 use Rattle.rbbi_model.specs.Ranges.{Range}
 use Rattle.rbbi_model.specs.Spelling as spelling
+use Rattle.rbbi_positions.specs.Trees.{begins, goes}
+use Rattle.rbbi_positions.specs.Rounds.{behind_of}
+use Rattle.rbbi_positions.proofs.Parts.{or_swap}
 use Rattle.rbbi_tree.specs.declared.syntax.Quant.{Quant}
+use Rattle.rbbi_tree.specs.declared.syntax.Quant.TheVariants.{Once, Star, Plus, Quest}
 use Rattle.rbbi_resolve.specs.declared.rules.Tree.{Tree}
-use Rattle.rbbi_resolve.specs.declared.rules.Tree.TheOpen.{Tree-F}
-use Rattle.rbbi_resolve.specs.declared.rules.Tree.TheVariants.{Rep, rolls-Rep}
+use Rattle.rbbi_resolve.specs.declared.rules.Tree.TheOpen.{Tree-F, Trees-F}
+use Rattle.rbbi_resolve.specs.declared.rules.Tree.TheVariants.{Leaf, Seq, Alt, Rep, rolls-Leaf, rolls-Seq, rolls-Alt, rolls-Rep}
 use Rattle.rbbi_resolve.specs.declared.rules.Tree.TheFolds.{fold-roll-Tree}
-use Rattle.rbbi_resolve.specs.RuleTrees.{repeated, tree_step, trees_step, tree_of}
+use Rattle.rbbi_resolve.specs.RuleTrees.{repeated, set_at, tree_step, trees_step, tree_of, trees_of_out}
 
-pub tree_of_repeat : (sets : List (List Range)) (quant : Quant) (part : Box Tree Global) → tree_of sets (Rep quant part) ≡ repeated quant (tree_of sets part.value)
-tree_of_repeat sets quant part = ap (tree_of sets) (sym (rolls-Rep quant part)) ∙ fold-roll-Tree spelling.Tree (List spelling.Tree) (tree_step sets) trees_step (Tree-F.Rep quant part)
+pub tree_of_repeat : (sets : List (List Range)) (quant : Quant) (part : Box Tree Global) →
+    tree_of sets (Rep quant part) ≡ repeated quant (tree_of sets part.value)
+tree_of_repeat sets quant part = ap (tree_of sets) (sym (rolls-Rep quant part))
+    ∙ fold-roll-Tree spelling.Tree (List spelling.Tree) (tree_step sets) trees_step (Tree-F.Rep quant part)
+
+-- what doesn't depend on how often a tree is repeated
+pub of_repeat : {A : Type 0} (measure : spelling.Tree → A) →
+    ((repetition : spelling.Repetition) (tree : spelling.Tree) → measure (spelling.Repeat repetition tree) ≡ measure tree) →
+    (sets : List (List Range)) (quant : Quant) (part : Box Tree Global) → measure (tree_of sets (Rep quant part)) ≡ measure (tree_of sets part.value)
+of_repeat measure same sets quant part = ap measure (tree_of_repeat sets quant part) ∙ each quant (tree_of sets part.value)
+  where
+    each : (quant : Quant) (tree : spelling.Tree) → measure (repeated quant tree) ≡ measure tree
+    each Once tree = refl
+    each Star tree = same spelling.Star tree
+    each Plus tree = same spelling.Plus tree
+    each Quest tree = same spelling.Quest tree
+
+pub tree_of_leaf : (sets : List (List Range)) (number : ℕ) → tree_of sets (Leaf number) ≡ spelling.Leaf (set_at sets number)
+tree_of_leaf sets number = ap (tree_of sets) (sym (rolls-Leaf number))
+    ∙ fold-roll-Tree spelling.Tree (List spelling.Tree) (tree_step sets) trees_step (Tree-F.Leaf number)
+
+pub tree_of_sequence : (sets : List (List Range)) (parts : Trees-F Tree (Unit {0})) →
+    tree_of sets (Seq parts) ≡ spelling.sequence_of (map (tree_of sets) parts.items.items)
+tree_of_sequence sets parts = ap (tree_of sets) (sym (rolls-Seq parts))
+    ∙ fold-roll-Tree spelling.Tree (List spelling.Tree) (tree_step sets) trees_step (Tree-F.Seq parts) ∙ ap spelling.sequence_of (trees_of_out sets parts)
+
+pub tree_of_choice : (sets : List (List Range)) (parts : Trees-F Tree (Unit {0})) →
+    tree_of sets (Alt parts) ≡ spelling.choice_of (map (tree_of sets) parts.items.items)
+tree_of_choice sets parts = ap (tree_of sets) (sym (rolls-Alt parts))
+    ∙ fold-roll-Tree spelling.Tree (List spelling.Tree) (tree_step sets) trees_step (Tree-F.Alt parts) ∙ ap spelling.choice_of (trees_of_out sets parts)
+
+-- what follows in a repeat is what does in the part, with the next round behind it
+pub goes_repeat : (quant : Quant) (part : spelling.Tree) (first position next : ℕ) (behind : Bool) →
+    goes (repeated quant part) first position next behind ≡ goes part first position next (behind_of quant part first next behind)
+goes_repeat Once part first position next behind = refl
+goes_repeat Star part first position next behind = ap (goes part first position next) (or_swap (begins part first next) behind)
+goes_repeat Plus part first position next behind = ap (goes part first position next) (or_swap (begins part first next) behind)
+goes_repeat Quest part first position next behind = refl

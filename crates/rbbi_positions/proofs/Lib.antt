@@ -6,3 +6,12 @@ pub mod WalkLaws
 pub mod Nodes
 pub mod Empties
 pub mod Folds
+pub mod BitRows
+pub mod Computed
+pub mod Parts
+pub mod RowWrites
+pub mod RuleFacts
+pub mod Codes
+pub mod MarkLists
+pub mod Marking
+pub mod Reading

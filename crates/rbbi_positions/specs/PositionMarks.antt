@@ -57,18 +57,24 @@ pub record IsMarkedAs (rules : List Rule) (number : ℕ) (rule : Rule) (mark : R
   pub tag : mark.tag ≡ rule.tag
   pub slash : mark.slash ≡ slash_of rules number rule
 
+-- each rule's marks are its own
+abbrev pub AreRuleMarks : List Rule → List RuleMark → Type 0
+AreRuleMarks rules marks = (number : ℕ) (rule : Rule) (mark : RuleMark) → IsRule rules number rule → slice_get marks number ≡ Some mark →
+    IsMarkedAs rules number rule mark
+
 -- The marks are those of the rules' positions and of the rules, for categories with these ranges.
 pub record ArePositions (rules : List Rule) (categories : ℕ) (ranges : List CategoryRange) (marks : PositionMarks) : Type 0 where
   pub leaves : marks.leaves ≡ sum_by leaves_of rules
   pub rule_count : length marks.rules ≡ length rules
   pub rows : length marks.readers ≡ categories * marks.words
-  pub rule_marks : (number : ℕ) (rule : Rule) (mark : RuleMark) → IsRule rules number rule → slice_get marks.rules number ≡ Some mark → IsMarkedAs rules number rule mark
+  pub rule_marks : AreRuleMarks rules marks.rules
   pub owner : (position : ℕ) → position < marks.leaves → IsOfRule rules position (slice_index marks.owners position)
   pub first : (position : ℕ) → position < marks.leaves → IsTrue (slice_index_or marks.firsts position false) ↔ IsFirst rules position
   pub last : (position : ℕ) → position < marks.leaves → IsTrue (slice_index_or marks.lasts position false) ↔ IsLast rules position
   pub front_last : (position : ℕ) → position < marks.leaves → IsTrue (slice_index_or marks.front_lasts position false) ↔ IsFrontLast rules position
   pub follows : (position next : ℕ) → position < marks.leaves → next < marks.leaves → IsTrue (marked_follows marks position next) ↔ Follows rules position next
-  pub reads : (position category : ℕ) → position < marks.leaves → category < categories → IsTrue (marked_reads marks position category) ↔ ReadsCategory rules ranges position category
+  pub reads : (position category : ℕ) → position < marks.leaves → category < categories →
+      IsTrue (marked_reads marks position category) ↔ ReadsCategory rules ranges position category
 
 -- each list has a member for each position, rule, or word of a row
 pub record IsWhole (marks : PositionMarks) : Type 0 where

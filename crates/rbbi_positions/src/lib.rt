@@ -3,9 +3,16 @@
 #![tactic(auto)]
 
 mod bits;
+mod count;
 mod empty;
+mod firsts;
+mod followers;
+mod lasts;
 mod laws;
 mod making;
+mod numbers;
+mod readers;
+mod rules;
 
 pub use laws::{
     front_walks_are_spelled, fronts_are_exchanged, prefixes_are_walks, spelled_are_exchanged,
@@ -14,6 +21,7 @@ pub use laws::{
 
 mod marks;
 mod rule_mark;
+mod rule_marks;
 
 pub use making::positions;
 pub use marks::Positions;

@@ -7,6 +7,11 @@ ghost use Rattle.rbbi_resolve.specs.RuleLists.{rules_of};
 ghost use Rattle.rbbi_positions.specs.PositionMarks.{ArePositions};
 
 use crate::Positions;
+use crate::bits::flags_of;
+use crate::numbers::all_numbers;
+use crate::readers::{codes_of, readers_of};
+use crate::rule_marks::marks_of;
+use crate::rules::{firsts_of, followers_of, front_lasts_of, lasts_of, owners_of};
 use rbbi_cats::Categories;
 use rbbi_resolve::Rules;
 use std::alloc::{AllocError, Global};
@@ -21,5 +26,27 @@ pub fn positions(alloc: Global, rules: &Rules, cats: &Categories) -> Result<Posi
     requires form { AreValidRanges cats.now.count cats.now.ranges }
     ensures { IfOk result (λ marks. ArePositions (rules_of rules.now) cats.now.count cats.now.ranges marks) }
 {
-    Err(AllocError)
+    let leaves = rules.leaves() as usize;
+    let words = (leaves + 63) / 64;
+    let numbers = all_numbers(alloc, rules)?;
+    let codes = codes_of(alloc, cats)?;
+    let marks = marks_of(alloc, rules)?;
+    let owners = owners_of(alloc, rules)?;
+    let row = firsts_of(alloc, rules, words)?;
+    let firsts = flags_of(alloc, &row, leaves)?;
+    let lasts = lasts_of(alloc, rules, leaves)?;
+    let front_lasts = front_lasts_of(alloc, rules, leaves)?;
+    let followers = followers_of(alloc, rules, leaves, words)?;
+    let readers = readers_of(alloc, rules.sets(), &numbers, &codes, words)?;
+    Ok(Positions {
+        leaves: rules.leaves(),
+        words,
+        rules: marks,
+        owners,
+        firsts,
+        lasts,
+        front_lasts,
+        followers,
+        readers,
+    })
 }

@@ -1,0 +1,206 @@
+use Rattle.std.proofs.Common.{rules, ◌≡◌, ◌≤◌, ◌-◌, ◌||◌, false, List, [], length, get_or, sym, ap, ◌∙◌, refl, arith}
+use Rattle.std.specs.Prelude.{map}
+use Rattle.rbbi_model.specs.Ranges.{Range}
+use Rattle.rbbi_model.specs.Spelling.{sequence_of}
+use Rattle.rbbi_model.specs.Rules.{leaf_count}
+use Rattle.rbbi_resolve.specs.RuleTrees.{tree_of}
+use Rattle.rbbi_resolve.specs.declared.rules.Tree.TheViews.{the_lemmas}
+use Rattle.rbbi_positions.specs.Trees.{ends}
+use Rattle.rbbi_positions.proofs.Folds.{of_repeat, tree_of_leaf, tree_of_sequence}
+use Rattle.rbbi_positions.proofs.Parts.{count_choice, count_up_to, ends_on, ends_end, choice_on, ends_of, choice_done, whole, none_left, flag_set, or_none}
+use Rattle.rbbi_positions.proofs.lasts.+add_lasts.Goals as goal
+
+pub bounds-flags-first : goal.bounds-flags-first
+bounds-flags-first t c =
+    omega (arith, c.requires.within [], ap (λ tree. leaf_count (tree_of [] tree)) c.in-Leaf.is, ap leaf_count (tree_of_leaf [] c.in-Leaf.field-0))
+
+pub overflow_add-start : goal.overflow_add-start
+overflow_add-start t c = omega (arith, c.requires.within [], c.requires.few, c.count.ensures [])
+
+pub loop-i-init : goal.loop-i-init
+loop-i-init t c =
+    let past : length c.in-Seq.parts.items.items ≤ c.len-i.result = omega (arith, c.len-i.ensures, c.in-Seq.parts.items.ok.0) in
+    let same = λ (sets : List (List Range)).
+    let opened : tree_of sets c.args.tree.now ≡ sequence_of (map (tree_of sets) c.in-Seq.parts.items.items) = ap (tree_of sets) c.in-Seq.is
+    ∙ tree_of_sequence sets c.in-Seq.parts in
+    opened ∙ whole (tree_of sets) c.in-Seq.parts.items.items c.len-i.result past in
+    record {
+      at = λ sets. omega (arith, c.count.ensures sets, ap leaf_count (same sets));
+      fits = λ sets. omega (arith, ap leaf_count (same sets));
+      flags = λ sets position. ap (λ tree. get_or c.args.flags.now position false || ends tree c.args.first position) (sym (same sets));
+    }
+
+pub count-start-requires : goal.count-start-requires
+count-start-requires t c =
+    λ sets. omega (
+      arith,
+      c.requires.within sets,
+      c.requires.few,
+      c.loop-i.invariant.fits sets,
+      count_up_to (tree_of sets) c.in-Seq.parts.items.items c.loop-i.i
+          c.index-part.result.now c.loop-i-test.true (omega (arith, c.loop-i.auto.i, c.len-i.ensures, c.in-Seq.parts.items.ok.0)) c.index-part.ensures,
+    )
+
+pub overflow_sub-start : goal.overflow_sub-start
+overflow_sub-start t c =
+    omega (
+      arith,
+      c.count-start.ensures [],
+      c.loop-i.invariant.at [],
+      count_up_to (tree_of []) c.in-Seq.parts.items.items c.loop-i.i c.index-part.result.now
+          c.loop-i-test.true (omega (arith, c.loop-i.auto.i, c.len-i.ensures, c.in-Seq.parts.items.ok.0)) c.index-part.ensures,
+    )
+
+pub add_lasts-requires : goal.add_lasts-requires
+add_lasts-requires t c = (
+  search (rules, the_lemmas),
+  (
+    omega (arith, c.requires.few),
+    λ sets. omega (
+      arith,
+      c.requires.within sets,
+      c.count-start.ensures sets,
+      c.loop-i.invariant.at sets,
+      c.loop-i.invariant.fits sets,
+      count_up_to
+          (tree_of sets) c.in-Seq.parts.items.items c.loop-i.i c.index-part.result.now c.loop-i-test.true
+          (omega (arith, c.loop-i.auto.i, c.len-i.ensures, c.in-Seq.parts.items.ok.0)) c.index-part.ensures,
+    ),
+  ),
+)
+
+pub returns-then-not-is_empty : goal.returns-then-not-is_empty
+returns-then-not-is_empty t c = λ sets position.
+    ends_end (tree_of sets) c.in-Seq.parts.items.items c.loop-i.i c.index-part.result.now c.loop-i-test.true
+    (omega (arith, c.loop-i.auto.i, c.len-i.ensures, c.in-Seq.parts.items.ok.0)) c.index-part.ensures
+    c.args.first (c.loop-i.start - c.count-start.result) position (get_or c.loop-i.flags position false) (get_or c.add_lasts.new.flags position false)
+    (omega (
+      arith,
+      c.count-start.ensures sets,
+      c.loop-i.invariant.at sets,
+      count_up_to (tree_of sets) c.in-Seq.parts.items.items c.loop-i.i
+          c.index-part.result.now c.loop-i-test.true (omega (arith, c.loop-i.auto.i, c.len-i.ensures, c.in-Seq.parts.items.ok.0)) c.index-part.ensures,
+    ))
+    (sym (c.is_empty.ensures sets) ∙ c.if-not-is_empty.true) (c.add_lasts.ensures sets position) ∙ c.loop-i.invariant.flags sets position
+
+pub loop-i-preserved : goal.loop-i-preserved
+loop-i-preserved t c = record {
+  at = λ sets. omega (
+    arith,
+    c.count-start.ensures sets,
+    c.loop-i.invariant.at sets,
+    count_up_to (tree_of sets) c.in-Seq.parts.items.items c.loop-i.i
+        c.index-part.result.now c.loop-i-test.true (omega (arith, c.loop-i.auto.i, c.len-i.ensures, c.in-Seq.parts.items.ok.0)) c.index-part.ensures,
+  );
+  fits = λ sets. omega (
+    arith,
+    c.loop-i.invariant.fits sets,
+    count_up_to (tree_of sets) c.in-Seq.parts.items.items c.loop-i.i c.index-part.result.now c.loop-i-test.true
+        (omega (arith, c.loop-i.auto.i, c.len-i.ensures, c.in-Seq.parts.items.ok.0)) c.index-part.ensures,
+  );
+  flags = λ sets position.
+      ends_on (tree_of sets) c.in-Seq.parts.items.items c.loop-i.i c.index-part.result.now c.loop-i-test.true
+      (omega (arith, c.loop-i.auto.i, c.len-i.ensures, c.in-Seq.parts.items.ok.0)) c.index-part.ensures
+      c.args.first (c.loop-i.start - c.count-start.result) position (get_or c.loop-i.flags position false) (get_or c.add_lasts.new.flags position false)
+      (omega (
+        arith,
+        c.count-start.ensures sets,
+        c.loop-i.invariant.at sets,
+        count_up_to (tree_of sets) c.in-Seq.parts.items.items c.loop-i.i
+            c.index-part.result.now c.loop-i-test.true (omega (arith, c.loop-i.auto.i, c.len-i.ensures, c.in-Seq.parts.items.ok.0)) c.index-part.ensures,
+      ))
+      (sym (c.is_empty.ensures sets) ∙ c.if-not-is_empty.false) (c.add_lasts.ensures sets position) ∙ c.loop-i.invariant.flags sets position;
+}
+
+pub add_lasts-requires-in-loop-part : goal.add_lasts-requires-in-loop-part
+add_lasts-requires-in-loop-part t c = (
+  search (rules, the_lemmas),
+  (
+    omega (arith, c.requires.few),
+    λ sets. omega (
+      arith,
+      c.requires.within sets,
+      c.loop-part.invariant.fits sets,
+      count_choice (tree_of sets) c.deref-part-items.result.now c.loop-part.part-index c.part-item.result c.loop-part-test.true c.part-item.is,
+    ),
+  ),
+)
+
+pub count-start-requires-in-loop-part : goal.count-start-requires-in-loop-part
+count-start-requires-in-loop-part t c = λ sets. omega (
+  arith,
+  c.requires.within sets,
+  c.requires.few,
+  c.loop-part.invariant.fits sets,
+  count_choice (tree_of sets) c.deref-part-items.result.now c.loop-part.part-index c.part-item.result c.loop-part-test.true c.part-item.is,
+)
+
+pub overflow_add-start-in-loop-part : goal.overflow_add-start-in-loop-part
+overflow_add-start-in-loop-part t c = omega (
+  arith,
+  c.requires.within [],
+  c.requires.few,
+  c.loop-part.invariant.fits [],
+  c.count-start-in-loop-part.ensures [],
+  count_choice (tree_of []) c.deref-part-items.result.now c.loop-part.part-index c.part-item.result c.loop-part-test.true c.part-item.is,
+)
+
+pub loop-part-preserved : goal.loop-part-preserved
+loop-part-preserved t c = record {
+  fits = λ sets. omega (
+    arith,
+    c.loop-part.invariant.fits sets,
+    c.count-start-in-loop-part.ensures sets,
+    count_choice (tree_of sets) c.deref-part-items.result.now c.loop-part.part-index c.part-item.result c.loop-part-test.true c.part-item.is,
+  );
+  flags = λ sets position.
+      choice_on (tree_of sets) c.deref-part-items.result.now c.loop-part.part-index c.part-item.result c.loop-part-test.true c.part-item.is
+      (λ tree first. ends tree first position) (ends_of position) c.loop-part.start c.count-start-in-loop-part.result
+      (get_or c.loop-part.flags position false) (get_or c.add_lasts-in-loop-part.new.flags position false) (c.count-start-in-loop-part.ensures sets)
+      (c.add_lasts-in-loop-part.ensures sets position)
+      ∙ c.loop-part.invariant.flags sets position;
+}
+
+pub add_lasts-requires-in-Rep : goal.add_lasts-requires-in-Rep
+add_lasts-requires-in-Rep t c = (
+  search (rules, the_lemmas),
+  (
+    omega (arith, c.requires.few),
+    λ sets. omega (
+      arith,
+      c.requires.within sets,
+      ap (λ tree. leaf_count (tree_of sets tree)) c.in-Rep.is,
+      of_repeat leaf_count (λ repetition tree. refl) sets c.in-Rep.field-0 c.in-Rep.part,
+      ap (λ tree. leaf_count (tree_of sets tree)) c.deref.ensures,
+    ),
+  ),
+)
+
+pub returns-in-Leaf : goal.returns-in-Leaf
+returns-in-Leaf t c = λ sets position.
+    flag_set c.args.flags.now c.args.first position
+    (omega (arith, c.requires.within [], ap (λ tree. leaf_count (tree_of [] tree)) c.in-Leaf.is, ap leaf_count (tree_of_leaf [] c.in-Leaf.field-0)))
+    ∙ ap (λ tree. get_or c.args.flags.now position false || ends tree c.args.first position) (sym (ap (tree_of sets) c.in-Leaf.is
+    ∙ tree_of_leaf sets c.in-Leaf.field-0))
+
+pub returns-after-loop-i : goal.returns-after-loop-i
+returns-after-loop-i t c = λ sets position.
+    sym (ap (λ x. get_or c.loop-i.flags position false || x)
+    (none_left (λ tree. ends tree c.args.first position) (tree_of sets) c.in-Seq.parts.items.items c.loop-i.i c.loop-i-test.false)
+    ∙ or_none (get_or c.loop-i.flags position false))
+    ∙ c.loop-i.invariant.flags sets position
+
+pub returns-after-loop-part : goal.returns-after-loop-part
+returns-after-loop-part t c = λ sets position.
+    sym (ap (λ x. get_or c.loop-part.flags position false || x)
+    (choice_done (λ tree. ends tree c.loop-part.start position) (tree_of sets) c.deref-part-items.result.now c.loop-part.part-index c.loop-part-test.false)
+    ∙ or_none (get_or c.loop-part.flags position false))
+    ∙ c.loop-part.invariant.flags sets position
+
+pub returns-in-Rep : goal.returns-in-Rep
+returns-in-Rep t c = λ sets position.
+    c.add_lasts-in-Rep.ensures sets position
+    ∙ ap (λ tree. get_or c.args.flags.now position false || ends (tree_of sets tree) c.args.first position) c.deref.ensures
+    ∙ ap (λ x. get_or c.args.flags.now position false || x)
+    (sym (ap (λ tree. ends (tree_of sets tree) c.args.first position) c.in-Rep.is
+    ∙ of_repeat (λ tree. ends tree c.args.first position) (λ repetition tree. refl) sets c.in-Rep.field-0 c.in-Rep.part))

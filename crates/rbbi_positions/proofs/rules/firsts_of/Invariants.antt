@@ -1,0 +1,13 @@
+use Rattle.std.proofs.Common.{◌≡◌, ℕ, length, take}
+use Rattle.rbbi_model.specs.LeafSets.{first_position}
+use Rattle.rbbi_resolve.specs.RuleLists.{rules_of}
+use Rattle.rbbi_positions.specs.Rows.{row_bit}
+use Rattle.rbbi_positions.specs.RuleTests.{some_rule, rule_begins}
+use Rattle.rbbi_positions.proofs.rules.firsts_of.Given as goal
+
+abbrev pub invariant-loop-number : goal.invariant-loop-number
+invariant-loop-number l = record {
+  many : length l.row.items ≡ l.words;
+  at : l.start ≡ first_position (rules_of l.rules) l.number;
+  bits : (position : ℕ) → row_bit l.row.items position ≡ some_rule (rule_begins position) (take l.number (rules_of l.rules)) 0;
+}

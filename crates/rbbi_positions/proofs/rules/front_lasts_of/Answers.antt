@@ -1,0 +1,60 @@
+use Rattle.std.proofs.Common.{◌≡◌, ◌||◌, false, [], length, drop, get_or, ap, ◌∙◌, arith}
+use Rattle.std.specs.Vec.{with_items}
+use Rattle.std.proofs.lemmas.List.{take_at}
+use Rattle.rbbi_resolve.specs.RuleTrees.{tree_of}
+use Rattle.rbbi_positions.specs.Trees.{ends}
+use Rattle.rbbi_positions.specs.RuleTests.{front_ends}
+use Rattle.rbbi_positions.proofs.RuleFacts.{first_next, first_within, some_next}
+use Rattle.rbbi_positions.proofs.rules.front_lasts_of.Goals as goal
+
+pub add_lasts-requires-clause-within : goal.add_lasts-requires-clause-within
+add_lasts-requires-clause-within c =
+    λ sets. omega (
+      arith,
+      c.requires.all,
+      c.loop-number.invariant.at,
+      c.loop-number.invariant.many,
+      ap length c.deref_mut.ensures.value,
+      first_within
+          c.args.rules.now c.loop-number.number c.get-rule.result.now c.get-rule.ensures sets,
+    )
+
+pub count_of_rule-start-requires : goal.count_of_rule-start-requires
+count_of_rule-start-requires c =
+    λ sets. omega (arith, first_within c.args.rules.now c.loop-number.number c.get-rule.result.now c.get-rule.ensures sets, c.requires.all, c.requires.few)
+
+pub overflow_add-start : goal.overflow_add-start
+overflow_add-start c =
+    omega (
+      arith,
+      c.loop-number.invariant.at,
+      c.count_of_rule-start.ensures [],
+      first_within c.args.rules.now c.loop-number.number c.get-rule.result.now
+          c.get-rule.ensures [],
+      c.requires.all,
+      c.requires.few,
+    )
+
+pub loop-number-preserved : goal.loop-number-preserved
+loop-number-preserved c =
+    let written : (with_items c.loop-number.flags c.add_lasts.new.flags).items ≡ c.add_lasts.new.flags =
+    take_at c.add_lasts.new.flags (drop (length c.add_lasts.new.flags) c.loop-number.flags.items) c.loop-number.flags.len
+    (omega (arith, c.loop-number.flags.ok.0, c.deref_mut.ensures.len, c.add_lasts.auto.flags)) in
+    record {
+      many = ap length written ∙ c.add_lasts.auto.flags ∙ ap length c.deref_mut.ensures.value ∙ c.loop-number.invariant.many;
+      at = omega (
+        arith,
+        c.loop-number.invariant.at,
+        c.count_of_rule-start.ensures [],
+        first_next c.args.rules.now c.loop-number.number c.get-rule.result.now
+            c.get-rule.ensures [],
+      );
+      flags = λ position.
+          ap (λ flags. get_or flags position false) written
+          ∙ some_next c.args.rules.now c.loop-number.number c.get-rule.result.now c.get-rule.ensures (front_ends position) c.loop-number.start
+          (get_or c.loop-number.flags.items position false) (get_or c.add_lasts.new.flags position false) c.loop-number.invariant.at
+          (c.loop-number.invariant.flags position)
+          (c.add_lasts.ensures c.args.rules.now.sets position
+          ∙ ap (λ flags. get_or flags position false || ends (tree_of c.args.rules.now.sets c.get-rule.result.now.front) c.loop-number.start position)
+          c.deref_mut.ensures.value);
+    }

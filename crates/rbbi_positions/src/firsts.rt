@@ -1,0 +1,57 @@
+//! The positions that lists which a tree spells begin with.
+ghost use Rattle.std.specs.Prelude.{◌≡◌, ◌+◌, ◌*◌, ◌≤◌, ◌||◌, ℕ, List, length};
+ghost use Rattle.rbbi_model.specs.Ranges.{Range};
+ghost use Rattle.rbbi_model.specs.Rules.{leaf_count};
+ghost use Rattle.rbbi_resolve.specs.RuleTrees.{tree_of};
+ghost use Rattle.rbbi_positions.specs.Rows.{row_bit};
+ghost use Rattle.rbbi_positions.specs.Trees.{begins, leads};
+
+use crate::bits::insert;
+use crate::count::count;
+use crate::empty::is_empty;
+use rbbi_resolve::Tree;
+
+/// Adds the first positions of a tree to a row.
+pub(crate) fn add_firsts(tree: &Tree, first: usize, row: &mut [u64])
+    requires short { length row.old ≤ 128 }
+    requires within { (sets : List (List Range)) →
+        first + leaf_count (tree_of sets tree.now) ≤ 64 * length row.old }
+    ensures { (sets : List (List Range)) (position : ℕ) → row_bit row.new position
+        ≡ (row_bit row.old position || begins (tree_of sets tree.now) first position) }
+{
+    match tree {
+        Tree::Leaf(_) => insert(row, first),
+        Tree::Seq(parts) => {
+            let mut start = first;
+            for part in &parts.items {
+                add_firsts(part, start, row);
+                if !is_empty(part) {
+                    return;
+                }
+                start += count(part);
+            }
+        }
+        Tree::Alt(parts) => {
+            let mut start = first;
+            for part in &parts.items {
+                add_firsts(part, start, row);
+                start += count(part);
+            }
+        }
+        Tree::Rep(_, part) => add_firsts(part, first, row),
+    }
+}
+
+/// Makes the row of what may stand behind a tree that of what may stand before it.
+pub(crate) fn lead(tree: &Tree, first: usize, row: &mut [u64])
+    requires short { length row.old ≤ 128 }
+    requires within { (sets : List (List Range)) →
+        first + leaf_count (tree_of sets tree.now) ≤ 64 * length row.old }
+    ensures { (sets : List (List Range)) (position : ℕ) → row_bit row.new position
+        ≡ leads (tree_of sets tree.now) first position (row_bit row.old position) }
+{
+    if !is_empty(tree) {
+        row.fill(0);
+    }
+    add_firsts(tree, first, row);
+}

@@ -1,0 +1,73 @@
+//! The positions that read each category.
+ghost use Rattle.std.specs.Prelude.{◌≡◌, ◌+◌, ◌*◌, ◌<◌, ◌≤◌, ℕ, IsTrue, ◌↔◌, IfOk, length, slice_index, vec_len};
+ghost use Rattle.std.specs.List.{AllByRecursion};
+ghost use Rattle.rbbi_model.specs.Ranges.{Has};
+ghost use Rattle.rbbi_model.specs.ValidTables.{AreValidRanges};
+ghost use Rattle.rbbi_resolve.specs.RuleTrees.{set_at};
+ghost use Rattle.rbbi_positions.specs.PositionMarks.{in_row};
+ghost use Rattle.rbbi_positions.specs.RuleTests.{AreCodesOf, ReadCode};
+ghost use Rattle.rbbi_positions.specs.Readers.{HasEachCategory, AreReaders};
+
+use crate::bits::{insert, unite_row};
+use rbbi_cats::Categories;
+use rbbi_resolve::SetList;
+use std::alloc::{AllocError, Global};
+
+/// One code point of each category but 0, whose place has some number.
+pub(crate) fn codes_of(alloc: Global, cats: &Categories) -> Result<Vec<u32>, AllocError>
+    requires form { AreValidRanges cats.now.count cats.now.ranges }
+    requires used { HasEachCategory cats.now.count cats.now.ranges }
+    ensures { IfOk result (λ codes. AreCodesOf cats.now.count cats.now.ranges codes.items) }
+{
+    let mut codes = vec![in alloc; 0u32; cats.count() as usize]?;
+    for range in cats.ranges() {
+        codes[range.cat as usize] = range.start;
+    }
+    Ok(codes)
+}
+
+/// The row of the positions whose sets hold the code point.
+fn readers_of_code(
+    alloc: Global,
+    sets: &SetList,
+    numbers: &[u32],
+    code: u32,
+    words: usize,
+) -> Result<Vec<u64>, AllocError>
+    requires numbered { AllByRecursion (λ number. number < length sets.now) numbers.now }
+    requires wide { length numbers.now ≤ 64 * words }
+    ensures many { IfOk result (λ row. length row.items ≡ words) }
+    ensures read { IfOk result (λ row. ReadCode sets.now numbers.now code row.items) }
+{
+    let mut row = vec![in alloc; 0u64; words]?;
+    for position in 0..numbers.len() {
+        if sets.get(numbers[position] as usize).has(code) {
+            insert(&mut row, position);
+        }
+    }
+    Ok(row)
+}
+
+/// For each category the row of the positions whose sets hold its code point. That of category 0 is
+/// empty.
+pub(crate) fn readers_of(
+    alloc: Global,
+    sets: &SetList,
+    numbers: &[u32],
+    codes: &[u32],
+    words: usize,
+) -> Result<Vec<u64>, AllocError>
+    requires numbered { AllByRecursion (λ number. number < length sets.now) numbers.now }
+    requires wide { length numbers.now ≤ 64 * words }
+    requires few_categories { length codes.now ≤ 255 }
+    requires few_words { words ≤ 128 }
+    ensures many { IfOk result (λ rows. length rows.items ≡ length codes.now * words) }
+    ensures read { IfOk result (λ rows. AreReaders sets.now numbers.now codes.now words rows.items) }
+{
+    let mut rows = vec![in alloc; 0u64; codes.len() * words]?;
+    for category in 1..codes.len() {
+        let row = readers_of_code(alloc, sets, numbers, codes[category], words)?;
+        unite_row(&mut rows, category, &row);
+    }
+    Ok(rows)
+}

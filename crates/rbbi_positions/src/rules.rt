@@ -1,0 +1,185 @@
+//! The marks of the positions of all rules.
+ghost use Rattle.std.specs.Prelude.{◌≡◌, ◌+◌, ◌*◌, ◌<◌, ◌≤◌, ◌||◌, ℕ, List, false, IfOk, OnOk, ◌++◌, replicate, length, slice_index_or, sum_by};
+ghost use Rattle.rbbi_model.specs.Ranges.{Range};
+ghost use Rattle.rbbi_model.specs.Rules.{leaves_of, AreLawful};
+ghost use Rattle.rbbi_resolve.specs.RuleLists.{rule_of, rules_of};
+ghost use Rattle.rbbi_positions.specs.PositionMarks.{in_row};
+ghost use Rattle.rbbi_positions.specs.Rows.{row_bit};
+ghost use Rattle.rbbi_positions.specs.RuleTests.{some_rule, rule_begins, front_ends, rule_ends, rule_goes, AreOwners};
+
+use crate::count::count;
+use crate::firsts::add_firsts;
+use crate::followers::add_followers;
+use crate::lasts::add_lasts;
+use rbbi_resolve::{Rule, Rules};
+use std::alloc::{AllocError, Global};
+
+/// The number of leaves of a rule.
+fn count_of_rule(rule: &Rule) -> usize
+    requires { (sets : List (List Range)) → leaves_of (rule_of sets rule.now) ≤ 8192 }
+    ensures { (sets : List (List Range)) → result ≡ leaves_of (rule_of sets rule.now) }
+{
+    match &rule.rest {
+        None => count(&rule.front),
+        Some(rest) => count(&rule.front) + count(rest),
+    }
+}
+
+/// The row of the positions that some list of a rule begins with. The front of a rule with a rest
+/// isn't empty.
+pub(crate) fn firsts_of(alloc: Global, rules: &Rules, words: usize) -> Result<Vec<u64>, AllocError>
+    requires wide { sum_by leaves_of (rules_of rules.now) ≤ 64 * words }
+    requires few { words ≤ 128 }
+    ensures many { IfOk result (λ row. length row.items ≡ words) }
+    ensures bits { IfOk result (λ row. (position : ℕ) → row_bit row.items position
+        ≡ some_rule (rule_begins position) (rules_of rules.now) 0) }
+{
+    let mut row = vec![in alloc; 0u64; words]?;
+    let mut start = 0;
+    for number in 0..rules.len() {
+        let rule = rules.get(number);
+        add_firsts(&rule.front, start, &mut row);
+        start += count_of_rule(rule);
+    }
+    Ok(row)
+}
+
+/// The flags of the positions that some list of a rule's front ends with.
+pub(crate) fn front_lasts_of(
+    alloc: Global,
+    rules: &Rules,
+    leaves: usize,
+) -> Result<Vec<bool>, AllocError>
+    requires all { leaves ≡ sum_by leaves_of (rules_of rules.now) }
+    requires few { leaves ≤ 8192 }
+    ensures many { IfOk result (λ flags. length flags.items ≡ leaves) }
+    ensures flags { IfOk result (λ flags. (position : ℕ) → slice_index_or flags.items position false
+        ≡ some_rule (front_ends position) (rules_of rules.now) 0) }
+{
+    let mut flags = vec![in alloc; false; leaves]?;
+    let mut start = 0;
+    for number in 0..rules.len() {
+        let rule = rules.get(number);
+        add_lasts(&rule.front, start, &mut flags);
+        start += count_of_rule(rule);
+    }
+    Ok(flags)
+}
+
+/// Sets the flags of the positions that some list of the rule ends with. A rest isn't empty.
+fn add_rule_lasts(rule: &Rule, first: usize, flags: &mut [bool])
+    requires few { length flags.old ≤ 8192 }
+    requires within { (sets : List (List Range)) →
+        first + leaves_of (rule_of sets rule.now) ≤ length flags.old }
+    ensures { (sets : List (List Range)) (position : ℕ) →
+        slice_index_or flags.new position false
+        ≡ (slice_index_or flags.old position false
+        || rule_ends position (rule_of sets rule.now) first) }
+{
+    match &rule.rest {
+        None => add_lasts(&rule.front, first, flags),
+        Some(rest) => add_lasts(rest, first + count(&rule.front), flags),
+    }
+}
+
+/// The flags of the positions that some list of a rule ends with.
+pub(crate) fn lasts_of(alloc: Global, rules: &Rules, leaves: usize) -> Result<Vec<bool>, AllocError>
+    requires all { leaves ≡ sum_by leaves_of (rules_of rules.now) }
+    requires few { leaves ≤ 8192 }
+    ensures many { IfOk result (λ flags. length flags.items ≡ leaves) }
+    ensures flags { IfOk result (λ flags. (position : ℕ) → slice_index_or flags.items position false
+        ≡ some_rule (rule_ends position) (rules_of rules.now) 0) }
+{
+    let mut flags = vec![in alloc; false; leaves]?;
+    let mut start = 0;
+    for number in 0..rules.len() {
+        let rule = rules.get(number);
+        add_rule_lasts(rule, start, &mut flags);
+        start += count_of_rule(rule);
+    }
+    Ok(flags)
+}
+
+/// Adds to the rows of the rule's positions those that follow them; in the row `none` no bit is set.
+/// A rest isn't empty, so what may follow its front are its first positions.
+fn add_rule_followers(
+    alloc: Global,
+    rule: &Rule,
+    first: usize,
+    none: &[u64],
+    followers: &mut [u64],
+) -> Result<(), AllocError>
+    requires few { length none.now ≤ 128 }
+    requires none { (position : ℕ) → row_bit none.now position ≡ false }
+    requires within { (sets : List (List Range)) →
+        first + leaves_of (rule_of sets rule.now) ≤ 64 * length none.now }
+    requires rows { (sets : List (List Range)) →
+        (first + leaves_of (rule_of sets rule.now)) * length none.now ≤ length followers.old }
+    ensures { OnOk result ((sets : List (List Range)) (position other : ℕ) →
+        other < 64 * length none.now →
+        in_row (length none.now) followers.new position other
+        ≡ (in_row (length none.now) followers.old position other
+        || rule_goes position other (rule_of sets rule.now) first)) }
+{
+    match &rule.rest {
+        None => add_followers(alloc, &rule.front, first, none, followers),
+        Some(rest) => {
+            let second = first + count(&rule.front);
+            add_followers(alloc, rest, second, none, followers)?;
+            let mut row = none.to_vec(alloc)?;
+            add_firsts(rest, second, &mut row);
+            add_followers(alloc, &rule.front, first, &row, followers)
+        }
+    }
+}
+
+/// For each position the row of those that follow it in some list of a rule.
+pub(crate) fn followers_of(
+    alloc: Global,
+    rules: &Rules,
+    leaves: usize,
+    words: usize,
+) -> Result<Vec<u64>, AllocError>
+    requires all { leaves ≡ sum_by leaves_of (rules_of rules.now) }
+    requires wide { leaves ≤ 64 * words }
+    requires few { words ≤ 128 }
+    ensures many { IfOk result (λ rows. length rows.items ≡ leaves * words) }
+    ensures rows { IfOk result (λ rows. (position other : ℕ) → other < 64 * words →
+        in_row words rows.items position other
+        ≡ some_rule (rule_goes position other) (rules_of rules.now) 0) }
+{
+    let none = vec![in alloc; 0u64; words]?;
+    let mut rows = vec![in alloc; 0u64; leaves * words]?;
+    let mut start = 0;
+    for number in 0..rules.len() {
+        let rule = rules.get(number);
+        add_rule_followers(alloc, rule, start, &none, &mut rows)?;
+        start += count_of_rule(rule);
+    }
+    Ok(rows)
+}
+
+/// Adds so many times the number of a rule.
+fn add_owners(owners: &mut Vec<u32>, number: u32, count: usize) -> Result<(), AllocError>
+    ensures { OnOk result (owners.new.items ≡ owners.old.items ++ replicate count number) }
+{
+    for _ in 0..count {
+        owners.push(number)?;
+    }
+    Ok(())
+}
+
+/// The rule of each position.
+pub(crate) fn owners_of(alloc: Global, rules: &Rules) -> Result<Vec<u32>, AllocError>
+    requires { AreLawful (rules_of rules.now) }
+    ensures many { IfOk result (λ owners.
+        length owners.items ≡ sum_by leaves_of (rules_of rules.now)) }
+    ensures each { IfOk result (λ owners. AreOwners (rules_of rules.now) owners.items) }
+{
+    let mut owners = Vec::new(alloc);
+    for number in 0..rules.len() {
+        let count = count_of_rule(rules.get(number));
+        add_owners(&mut owners, number as u32, count)?;
+    }
+    Ok(owners)
+}
