@@ -54,15 +54,25 @@ fn files_of(rt: &HostRuntime, held: &[(&str, &[u8])]) -> Result<MemFiles, AllocE
     Ok(files)
 }
 
-/// Runs the words over the files.
+/// Runs the words over the files, and answers the exit status.
+fn run_into(
+    rt: &HostRuntime,
+    words: &str,
+    files: &mut MemFiles,
+    out: &mut MemSink,
+) -> Result<u8, AllocError> {
+    let words = split(rt, words)?;
+    Ok(status_of::<Brand>(rt, &words, files, out, Blank::new(1)))
+}
+
+/// Runs the words over the files, into a sink of their own.
 fn run_words(
     rt: &HostRuntime,
     words: &str,
     files: &mut MemFiles,
 ) -> Result<(u8, MemSink), AllocError> {
     let mut out = MemSink::new(rt.alloc());
-    let words = split(rt, words)?;
-    let status = status_of::<Brand>(rt, &words, files, &mut out, Blank::new(1));
+    let status = run_into(rt, words, files, &mut out)?;
     Ok((status, out))
 }
 

@@ -1,8 +1,6 @@
 //! Faults of files, of the sink and of memory.
-use super::{files_of, run_words, split, status_of};
+use super::{files_of, run_into, run_words};
 use rbbi_io::MemSink;
-use std::marker::Brand;
-use std::sync::ledger::Blank;
 use std::test::Fail;
 
 #[test]
@@ -21,8 +19,7 @@ fn of_files_and_sink(rt: HostRuntime) -> Result<(), Fail> {
         let mut out = MemSink::new(rt.alloc());
         files.fail_at(read)?;
         out.fail_at(put)?;
-        let split = split(&rt, words)?;
-        let answered = status_of::<Brand>(&rt, &split, &mut files, &mut out, Blank::new(1));
+        let answered = run_into(&rt, words, &mut files, &mut out)?;
         assert_eq!(rt; answered, status, "of {words} at {read} and {put}");
         assert_eq!(rt;
             out.taken(),
