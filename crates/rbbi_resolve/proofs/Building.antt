@@ -1,5 +1,6 @@
 -- The trees of parts, one after another.
-use Rattle.std.proofs.Common.{◌≡◌, ℕ, zero, suc, ◌+◌, ◌<◌, ◌≤◌, inl, inr, Bool, Option, Some, None, unwrap_or, List, [], ◌∷◌, ◌++◌, map, length, slice_get, sym, refl, ap, ◌∙◌, subst, arith}
+use Rattle.std.proofs.Common.{◌≡◌, ℕ, zero, suc, ◌+◌, ◌<◌, ◌≤◌, inl, inr, Bool, Option, Some, None, unwrap_or, List, [], ◌∷◌, ◌++◌, map, length, slice_get}
+use Rattle.std.proofs.Common.{sym, refl, ap, ◌∙◌, subst, arith}
 use Rattle.std.specs.List.{AllByRecursion, AllZip, Contains, flat_map}
 use Rattle.std.proofs.lemmas.Bool.{cases_lt}
 use Rattle.std.proofs.lemmas.List.{append_assoc, append-nil, length-append}
@@ -56,7 +57,8 @@ pub flat_push : (ts : List Tree) (t : Tree) → flat_map numbers_of (ts ++ t ∷
 flat_push [] t = append-nil (numbers_of t)
 flat_push (s ∷ ts) t = ap (λ ns. numbers_of s ++ ns) (flat_push ts t) ∙ sym (append_assoc (numbers_of s) (flat_map numbers_of ts) (numbers_of t))
 
-zip_split : {A B : Type 0} (P : A → B → Type 0) (a b : List A) (ys : List B) → AllZip P (a ++ b) ys → (u : List B) × (v : List B) × (ys ≡ u ++ v) × AllZip P a u × AllZip P b v
+zip_split : {A B : Type 0} (P : A → B → Type 0) (a b : List A) (ys : List B) → AllZip P (a ++ b) ys → (u : List B) × (v : List B) ×
+    (ys ≡ u ++ v) × AllZip P a u × AllZip P b v
 zip_split P [] b ys z = ([], ys, refl, tt, z)
 zip_split P (x ∷ a) b [] z = absurd z
 zip_split P (x ∷ a) b (y ∷ ys) z = let r = zip_split P a b ys z.1 in (y ∷ r.0, r.1, ap (λ s. y ∷ s) r.2, (z.0, r.3), r.4)
@@ -77,7 +79,8 @@ all_sets : (a b : List (List Range)) → AllByRecursion IsLeafSet a → AllByRec
 all_sets [] b x y = y
 all_sets (s ∷ a) b x y = (x.0, all_sets a b x.1 y)
 
-pub sets_formed : (files : List File) (leaves : List model.SetTree) (sets : List (List Range)) → AllZip (IsSetOfLeaf files) leaves sets → AllByRecursion IsLeafSet sets
+pub sets_formed : (files : List File) (leaves : List model.SetTree) (sets : List (List Range)) → AllZip (IsSetOfLeaf files) leaves sets →
+    AllByRecursion IsLeafSet sets
 sets_formed files [] [] z = tt
 sets_formed files [] (s ∷ sets) z = absurd z
 sets_formed files (l ∷ leaves) [] z = absurd z
@@ -90,7 +93,8 @@ get_at (b ∷ before) x after zero e = absurd (omega arith)
 get_at (b ∷ before) x after (suc n) e = get_at before x after n (omega arith)
 
 module _ (files : List File) where
-  pub stand_more : (sets more : List (List Range)) (n : ℕ) (leaves : List model.SetTree) → StandFrom files sets n leaves → StandFrom files (sets ++ more) n leaves
+  pub stand_more : (sets more : List (List Range)) (n : ℕ) (leaves : List model.SetTree) → StandFrom files sets n leaves →
+      StandFrom files (sets ++ more) n leaves
   stand_more sets more n leaves s =
       record {
         before = s.before;
@@ -110,10 +114,12 @@ module _ (files : List File) where
       let at = s.at in
       omega arith
 
-  stand_parts : (sets : List (List Range)) (n : ℕ) (a b : List model.SetTree) → StandFrom files sets n (a ++ b) → StandFrom files sets n a × StandFrom files sets (n + length a) b
+  stand_parts : (sets : List (List Range)) (n : ℕ) (a b : List model.SetTree) → StandFrom files sets n (a ++ b) → StandFrom files sets n a ×
+      StandFrom files sets (n + length a) b
   stand_parts sets n a b s =
       let r = zip_split (IsSetOfLeaf files) a b s.own s.each in
-      let whole : sets ≡ s.before ++ (r.0 ++ (r.1 ++ s.after)) = s.is ∙ ap (λ x. s.before ++ (x ++ s.after)) r.2 ∙ ap (λ x. s.before ++ x) (append_assoc r.0 r.1 s.after) in (
+      let whole : sets ≡ s.before ++ (r.0 ++ (r.1 ++ s.after)) = s.is ∙ ap (λ x. s.before ++ (x ++ s.after)) r.2
+      ∙ ap (λ x. s.before ++ x) (append_assoc r.0 r.1 s.after) in (
         record { before = s.before; own = r.0; after = r.1 ++ s.after; is = whole; at = s.at; each = r.3 },
         record {
           before = s.before ++ r.0;
@@ -135,22 +141,34 @@ module _ (files : List File) where
   pub stand_rest : (sets : List (List Range)) (n : ℕ) (a b : List model.SetTree) → StandFrom files sets n (a ++ b) → StandFrom files sets (n + length a) b
   stand_rest sets n a b s = (stand_parts sets n a b s).1
 
-  pub stand_added : (before after : List (List Range)) (leaves : List model.SetTree) → AddsLeaves files leaves before after → StandFrom files after (length before) leaves
-  stand_added before after leaves a = record { before = before; own = a.more; after = []; is = a.is ∙ ap (λ x. before ++ x) (sym (append-nil a.more)); at = refl; each = a.each }
+  pub stand_added : (before after : List (List Range)) (leaves : List model.SetTree) → AddsLeaves files leaves before after →
+      StandFrom files after (length before) leaves
+  stand_added before after leaves a = record {
+    before = before;
+    own = a.more;
+    after = [];
+    is = a.is ∙ ap (λ x. before ++ x) (sym (append-nil a.more));
+    at =
+        refl;
+    each = a.each;
+  }
 
-  pub added_length : (before after : List (List Range)) (leaves : List model.SetTree) → AddsLeaves files leaves before after → length after ≡ length before + length leaves
+  pub added_length : (before after : List (List Range)) (leaves : List model.SetTree) → AddsLeaves files leaves before after →
+      length after ≡ length before + length leaves
   added_length before after leaves a =
       let l = AllZip-long (IsSetOfLeaf files) leaves a.more a.each in
       let e = ap length a.is in
       let b = length-append before a.more in
       omega arith
 
-  leaf_own : (tree : model.SetTree) (own : List (List Range)) → AllZip (IsSetOfLeaf files) (tree ∷ []) own → (set : List Range) × (own ≡ set ∷ []) × IsSetOfLeaf files tree set
+  leaf_own : (tree : model.SetTree) (own : List (List Range)) → AllZip (IsSetOfLeaf files) (tree ∷ []) own → (set : List Range) ×
+      (own ≡ set ∷ []) × IsSetOfLeaf files tree set
   leaf_own tree [] z = absurd z
   leaf_own tree (x ∷ []) z = (x, refl, z.0)
   leaf_own tree (x ∷ y ∷ own) z = absurd z.1
 
-  stand_leaf : (sets : List (List Range)) (n : ℕ) (tree : model.SetTree) → StandFrom files sets n (tree ∷ []) → (set : List Range) × (slice_get sets n ≡ Some set) × IsSetOfLeaf files tree set
+  stand_leaf : (sets : List (List Range)) (n : ℕ) (tree : model.SetTree) → StandFrom files sets n (tree ∷ []) → (set : List Range) ×
+      (slice_get sets n ≡ Some set) × IsSetOfLeaf files tree set
   stand_leaf sets n tree s =
       let o = leaf_own tree s.own s.each in
       (o.0, ap (λ x. slice_get x n) (s.is ∙ ap (λ w. s.before ++ (w ++ s.after)) o.1) ∙ get_at s.before o.0 s.after n s.at, o.2)
@@ -174,7 +192,8 @@ module _ (files : List File) where
       }
 
   -- no tree
-  pub never_built : (sets : List (List Range)) (n : ℕ) (t : Tree) → ((ss : List (List Range)) → tree_of ss t ≡ spelling.Never) → numbers_of t ≡ [] → IsBuilt files (length sets) sets n n Never t
+  pub never_built : (sets : List (List Range)) (n : ℕ) (t : Tree) → ((ss : List (List Range)) → tree_of ss t ≡ spelling.Never) → numbers_of t ≡ [] →
+      IsBuilt files (length sets) sets n n Never t
   never_built sets n t of numbers =
       record {
         part = record {
@@ -200,7 +219,8 @@ module _ (files : List File) where
 
   -- a part as often as it stands
   pub repeated_built : (q : Quant) (old : ℕ) (sets : List (List Range)) (from to : ℕ) (m : Meaning) (t r : Tree) → IsBuilt files old sets from to m t →
-      ((ss : List (List Range)) → tree_of ss r ≡ trees.repeated q (tree_of ss t)) → numbers_of r ≡ numbers_of t → IsBuilt files old sets from to (repeated q m) r
+      ((ss : List (List Range)) → tree_of ss r ≡ trees.repeated q (tree_of ss t)) → numbers_of r ≡ numbers_of t →
+      IsBuilt files old sets from to (repeated q m) r
   repeated_built q old sets from to m t r b of numbers =
       record {
         part = record {
@@ -217,7 +237,8 @@ module _ (files : List File) where
       record {
         stands = λ more. subst (λ ss. Stands files m (tree_of ss t)) (sym (append_assoc sets ext more)) (p.stands (ext ++ more));
         filled = λ more. subst (λ ss. HasLeafSets (tree_of ss t)) (sym (append_assoc sets ext more)) (p.filled (ext ++ more));
-        numbered = all_map (λ k. k < length sets) (λ k. k < length (sets ++ ext)) (numbers_of t) (λ k low. let l = length-append sets ext in omega arith) p.numbered;
+        numbered = all_map (λ k. k < length sets) (λ k. k < length (sets ++ ext)) (numbers_of t) (λ k low. let l =
+            length-append sets ext in omega arith) p.numbered;
       }
 
   -- several trees
@@ -232,9 +253,11 @@ module _ (files : List File) where
   pub push_built : (old : ℕ) (sets ext : List (List Range)) (from mid to : ℕ) (ms : List Meaning) (ts : List Tree) (m : Meaning) (t : Tree) →
       AreBuilt old sets from mid ms ts → IsBuilt files (length sets) (sets ++ ext) mid to m t → AreBuilt old (sets ++ ext) from to (ms ++ m ∷ []) (ts ++ t ∷ [])
   push_built old sets ext from mid to ms ts m t a b =
-      let put : (k : ℕ) → Contains (flat_map numbers_of ts ++ numbers_of t) k → Contains (flat_map numbers_of (ts ++ t ∷ [])) k = λ k w. subst (λ ns. Contains ns k) (sym (flat_push ts t)) w in
+      let put : (k : ℕ) → Contains (flat_map numbers_of ts ++ numbers_of t) k → Contains (flat_map numbers_of (ts ++ t ∷ [])) k =
+      λ k w. subst (λ ns. Contains ns k) (sym (flat_push ts t)) w in
       record {
-        each = zip_push (IsPart files (sets ++ ext)) ms ts m t (zip_with (IsPart files sets) (IsPart files (sets ++ ext)) ms ts (λ x y p. part_more sets ext x y p) a.each) b.part;
+        each = zip_push (IsPart files (sets ++ ext)) ms ts m t
+            (zip_with (IsPart files sets) (IsPart files (sets ++ ext)) ms ts (λ x y p. part_more sets ext x y p) a.each) b.part;
         own =
             λ k low high.
             elim (cases_lt k mid) [
@@ -271,28 +294,33 @@ module _ (files : List File) where
   other_built old sets n m t b = record { part = b.part; own = λ k low high. absurd (omega arith); fresh = b.fresh }
 
   -- the bases stay right when sets are added
-  pub builder_more : (statements : List StatementTree) (sets sets' more : List (List Range)) (bases : List (Option ℕ)) → sets' ≡ sets ++ more → length sets' ≤ 4294967295 → AllByRecursion IsLeafSet more → IsBuilder files statements sets bases → IsBuilder files statements sets' bases
+  pub builder_more : (statements : List StatementTree) (sets sets' more : List (List Range)) (bases : List (Option ℕ)) → sets' ≡ sets ++ more →
+      length sets' ≤ 4294967295 → AllByRecursion IsLeafSet more → IsBuilder files statements sets bases → IsBuilder files statements sets' bases
   builder_more statements sets sets' more bases is few formed b =
       record {
         few = few;
         formed = subst (AllByRecursion IsLeafSet) (sym is) (all_sets sets more b.formed formed);
         long = b.long;
-        based = λ number base expr at assigned. subst (λ ss. StandFrom files ss base (leaves_of_expr (context_at files statements number) expr)) (sym is) (stand_more sets more base (leaves_of_expr (context_at files statements number) expr) (b.based number base expr at assigned));
+        based = λ number base expr at assigned. subst (λ ss. StandFrom files ss base (leaves_of_expr (context_at files statements number) expr)) (sym is)
+            (stand_more sets more base (leaves_of_expr (context_at files statements number) expr) (b.based number base expr at assigned));
       }
 
-  zip_stands : (sets more : List (List Range)) (ms : List Meaning) (ts : List Tree) → AllZip (IsPart files sets) ms ts → AllZip (Stands files) ms (map (tree_of (sets ++ more)) ts)
+  zip_stands : (sets more : List (List Range)) (ms : List Meaning) (ts : List Tree) → AllZip (IsPart files sets) ms ts →
+      AllZip (Stands files) ms (map (tree_of (sets ++ more)) ts)
   zip_stands sets more [] [] z = tt
   zip_stands sets more [] (t ∷ ts) z = absurd z
   zip_stands sets more (m ∷ ms) [] z = absurd z
   zip_stands sets more (m ∷ ms) (t ∷ ts) z = (z.0.stands more, zip_stands sets more ms ts z.1)
 
-  all_filled : (sets more : List (List Range)) (ms : List Meaning) (ts : List Tree) → AllZip (IsPart files sets) ms ts → AllByRecursion HasLeafSets (map (tree_of (sets ++ more)) ts)
+  all_filled : (sets more : List (List Range)) (ms : List Meaning) (ts : List Tree) → AllZip (IsPart files sets) ms ts →
+      AllByRecursion HasLeafSets (map (tree_of (sets ++ more)) ts)
   all_filled sets more [] [] z = tt
   all_filled sets more [] (t ∷ ts) z = absurd z
   all_filled sets more (m ∷ ms) [] z = absurd z
   all_filled sets more (m ∷ ms) (t ∷ ts) z = (z.0.filled more, all_filled sets more ms ts z.1)
 
-  pub all_numbered : (sets : List (List Range)) (ms : List Meaning) (ts : List Tree) → AllZip (IsPart files sets) ms ts → AllByRecursion (λ k. k < length sets) (flat_map numbers_of ts)
+  pub all_numbered : (sets : List (List Range)) (ms : List Meaning) (ts : List Tree) → AllZip (IsPart files sets) ms ts →
+      AllByRecursion (λ k. k < length sets) (flat_map numbers_of ts)
   all_numbered sets [] [] z = tt
   all_numbered sets [] (t ∷ ts) z = absurd z
   all_numbered sets (m ∷ ms) [] z = absurd z
@@ -328,11 +356,13 @@ module _ (files : List File) where
 
   -- a choice
   pub choice_built : (old : ℕ) (sets : List (List Range)) (from to : ℕ) (ms : List Meaning) (ts : List Tree) (r : Tree) → AreBuilt old sets from to ms ts →
-      ((ss : List (List Range)) → tree_of ss r ≡ spelling.choice_of (map (tree_of ss) ts)) → numbers_of r ≡ flat_map numbers_of ts → IsBuilt files old sets from to (choice_meaning ms) r
+      ((ss : List (List Range)) → tree_of ss r ≡ spelling.choice_of (map (tree_of ss) ts)) → numbers_of r ≡ flat_map numbers_of ts →
+      IsBuilt files old sets from to (choice_meaning ms) r
   choice_built old sets from to ms ts r a of numbers =
       record {
         part = record {
-          stands = λ more. subst (Stands files (choice_meaning ms)) (sym (of (sets ++ more))) (choice_stands ms (map (tree_of (sets ++ more)) ts) (zip_stands sets more ms ts a.each));
+          stands = λ more. subst (Stands files (choice_meaning ms)) (sym (of (sets ++ more)))
+              (choice_stands ms (map (tree_of (sets ++ more)) ts) (zip_stands sets more ms ts a.each));
           filled = λ more. subst HasLeafSets (sym (of (sets ++ more))) (choice_filled (map (tree_of (sets ++ more)) ts) (all_filled sets more ms ts a.each));
           numbered = subst (AllByRecursion (λ k. k < length sets)) (sym numbers) (all_numbered sets ms ts a.each);
         };
@@ -342,11 +372,13 @@ module _ (files : List File) where
 
   -- a sequence
   pub sequence_built : (old : ℕ) (sets : List (List Range)) (from to : ℕ) (ms : List Meaning) (ts : List Tree) (r : Tree) → AreBuilt old sets from to ms ts →
-      ((ss : List (List Range)) → tree_of ss r ≡ spelling.sequence_of (map (tree_of ss) ts)) → numbers_of r ≡ flat_map numbers_of ts → IsBuilt files old sets from to (sequence_meaning ms) r
+      ((ss : List (List Range)) → tree_of ss r ≡ spelling.sequence_of (map (tree_of ss) ts)) → numbers_of r ≡ flat_map numbers_of ts →
+      IsBuilt files old sets from to (sequence_meaning ms) r
   sequence_built old sets from to ms ts r a of numbers =
       record {
         part = record {
-          stands = λ more. subst (Stands files (sequence_meaning ms)) (sym (of (sets ++ more))) (sequence_stands ms (map (tree_of (sets ++ more)) ts) (zip_stands sets more ms ts a.each));
+          stands = λ more. subst (Stands files (sequence_meaning ms)) (sym (of (sets ++ more)))
+              (sequence_stands ms (map (tree_of (sets ++ more)) ts) (zip_stands sets more ms ts a.each));
           filled = λ more. subst HasLeafSets (sym (of (sets ++ more))) (sequence_filled (map (tree_of (sets ++ more)) ts) (all_filled sets more ms ts a.each));
           numbered = subst (AllByRecursion (λ k. k < length sets)) (sym numbers) (all_numbered sets ms ts a.each);
         };
@@ -355,20 +387,26 @@ module _ (files : List File) where
       }
 
   -- sets were added, and added again
-  pub goes_nowhere : (statements : List StatementTree) (sets : List (List Range)) (bases : List (Option ℕ)) → IsBuilder files statements sets bases → GoesOn files statements sets sets bases
+  pub goes_nowhere : (statements : List StatementTree) (sets : List (List Range)) (bases : List (Option ℕ)) → IsBuilder files statements sets bases →
+      GoesOn files statements sets sets bases
   goes_nowhere statements sets bases b = record { more = []; is = sym (append-nil sets); builder = b }
 
-  pub goes_further : (statements : List StatementTree) (a b d : List (List Range)) (bases bases' : List (Option ℕ)) → GoesOn files statements a b bases → GoesOn files statements b d bases' → GoesOn files statements a d bases'
-  goes_further statements a b d bases bases' x y = record { more = x.more ++ y.more; is = y.is ∙ ap (λ s. s ++ y.more) x.is ∙ append_assoc a x.more y.more; builder = y.builder }
+  pub goes_further : (statements : List StatementTree) (a b d : List (List Range)) (bases bases' : List (Option ℕ)) → GoesOn files statements a b bases →
+      GoesOn files statements b d bases' → GoesOn files statements a d bases'
+  goes_further statements a b d bases bases' x y =
+      record { more = x.more ++ y.more; is = y.is ∙ ap (λ s. s ++ y.more) x.is ∙ append_assoc a x.more y.more; builder = y.builder }
 
 -- what building a part does
-pub record Builds (files : List File) (statements : List StatementTree) (sets sets' : List (List Range)) (bases' : List (Option ℕ)) (next next' : ℕ) (leaves : List model.SetTree) (meaning : Meaning) (t : Tree) : Type 0 where
+pub record Builds (files : List File) (statements : List StatementTree) (sets sets' : List (List Range)) (bases' : List (Option ℕ)) (next next' : ℕ)
+    (leaves : List model.SetTree) (meaning : Meaning) (t : Tree) : Type 0 where
   pub on : GoesOn files statements sets sets' bases'
   pub moved : next' ≡ next + length leaves
   pub built : IsBuilt files (length sets) sets' next next' meaning t
 
 -- the parts so far, and those that are left
-pub record AreBuilding (files : List File) (statements : List StatementTree) (start : List (List Range)) (from : ℕ) (whole : List Meaning) (all : List model.SetTree) (now : List File) (sets : List (List Range)) (bases : List (Option ℕ)) (next : ℕ) (ts : List Tree) (left : List Meaning) (leaves : List model.SetTree) : Type 0 where
+pub record AreBuilding (files : List File) (statements : List StatementTree) (start : List (List Range)) (from : ℕ) (whole : List Meaning)
+    (all : List model.SetTree) (now : List File) (sets : List (List Range)) (bases : List (Option ℕ)) (next : ℕ) (ts : List Tree) (left : List Meaning)
+    (leaves : List model.SetTree) : Type 0 where
   pub same : now ≡ files
   pub goes : GoesOn files statements start sets bases
   pub done : List Meaning
@@ -377,7 +415,9 @@ pub record AreBuilding (files : List File) (statements : List StatementTree) (st
   pub stand : StandFrom files sets next leaves
   pub moved : next + length leaves ≡ from + length all
 
-pub building_turn : (files : List File) (statements : List StatementTree) (start : List (List Range)) (from : ℕ) (whole : List Meaning) (all : List model.SetTree) (now now' : List File) (sets sets' : List (List Range)) (bases bases' : List (Option ℕ)) (next next' : ℕ) (ts ts' : List Tree) (t : Tree) (m : Meaning) (left : List Meaning) (own leaves : List model.SetTree) →
+pub building_turn : (files : List File) (statements : List StatementTree) (start : List (List Range)) (from : ℕ) (whole : List Meaning)
+    (all : List model.SetTree) (now now' : List File) (sets sets' : List (List Range)) (bases bases' : List (Option ℕ)) (next next' : ℕ) (ts ts' : List Tree)
+    (t : Tree) (m : Meaning) (left : List Meaning) (own leaves : List model.SetTree) →
     AreBuilding files statements start from whole all now sets bases next ts (m ∷ left) (own ++ leaves) →
     Builds files statements sets sets' bases' next next' own m t → now' ≡ now → ts' ≡ ts ++ t ∷ [] →
     AreBuilding files statements start from whole all now' sets' bases' next' ts' left leaves
@@ -392,7 +432,8 @@ building_turn files statements start from whole all now now' sets sets' bases ba
       goes = goes_further files statements start sets sets' bases bases' here.goes step.on;
       done = here.done ++ m ∷ [];
       every = append_assoc here.done (m ∷ []) left ∙ here.every;
-      parts = subst (λ ss. AreBuilt files (length start) ss from next' (here.done ++ m ∷ []) ts') (sym wider) (subst (λ xs. AreBuilt files (length start) (sets ++ ext) from next' (here.done ++ m ∷ []) xs) (sym put) pushed);
+      parts = subst (λ ss. AreBuilt files (length start) ss from next' (here.done ++ m ∷ []) ts') (sym wider)
+          (subst (λ xs. AreBuilt files (length start) (sets ++ ext) from next' (here.done ++ m ∷ []) xs) (sym put) pushed);
       stand = subst (λ ss. StandFrom files ss next' leaves) (sym wider) (subst (λ n. StandFrom files (sets ++ ext) n leaves) (sym step.moved) rest);
       moved = let l = length-append own leaves in let a = here.moved in let b = step.moved in omega arith;
     }

@@ -1,5 +1,6 @@
 -- The test whether a set holds a character says whether it does.
-use Rattle.std.proofs.Common.{◌≡◌, ℕ, zero, suc, ◌+◌, ◌<◌, ◌≤◌, Bool, true, false, not, ◌&&◌, ◌||◌, eqb, leb, ◌⊎◌, ◌↔◌, inl, inr, List, Option, Some, None, IsTrue, Decides, sym, refl, ap, ◌∙◌, subst, arith, rules}
+use Rattle.std.proofs.Common.{◌≡◌, ℕ, zero, suc, ◌+◌, ◌<◌, ◌≤◌, Bool, true, false, not, ◌&&◌, ◌||◌, eqb, leb, ◌⊎◌, ◌↔◌, inl, inr, List, Option, Some, None}
+use Rattle.std.proofs.Common.{IsTrue, Decides, sym, refl, ap, ◌∙◌, subst, arith, rules}
 use Rattle.std.proofs.lemmas.Bool.{cases_lt}
 use Rattle.std.proofs.lemmas.Bool.Decides.{nat_tests}
 use Rattle.rbbi_model.specs.Words.{IsSurrogate, IsCodePoint}
@@ -52,13 +53,16 @@ tells_join model.Minus a b A B ta tb = tells_and a (not b) A (¬ B) ta (tells_no
 pub tells_in_set : (files : List File) (tree : model.SetTree) (c : ℕ) → Tells (in_set files tree c) (model.InSet (HasProperty files) tree c)
 tells_in_set files model.Nothing c = (λ e. cc, λ p. absurd p)
 tells_in_set files (model.Character d) c = tells_eq c d
-tells_in_set files (model.Span range) c = tells_and (leb range.low c) (leb c range.high) (range.low ≤ c) (c ≤ range.high) (tells_le range.low c) (tells_le c range.high)
+tells_in_set files (model.Span range) c = tells_and (leb range.low c) (leb c range.high) (range.low ≤ c) (c ≤ range.high) (tells_le range.low c)
+    (tells_le c range.high)
 tells_in_set files (model.Property negated name value) c =
     tells_property negated (passes (found files name value) c) c (Passes (found files name value) c) (tells_passes (found files name value) c)
 tells_in_set files (model.Joined left join part) c =
-    tells_join join (in_set files left c) (in_set files part c) (model.InSet (HasProperty files) left c) (model.InSet (HasProperty files) part c) (tells_in_set files left c) (tells_in_set files part c)
+    tells_join join (in_set files left c) (in_set files part c) (model.InSet (HasProperty files) left c) (model.InSet (HasProperty files) part c)
+    (tells_in_set files left c) (tells_in_set files part c)
 tells_in_set files (model.Others set) c =
-    tells_and (leb c 0x10FFFF) (not (in_set files set c)) (c ≤ 0x10FFFF) (¬ model.InSet (HasProperty files) set c) (tells_le c 0x10FFFF) (tells_not (in_set files set c) (model.InSet (HasProperty files) set c) (tells_in_set files set c))
+    tells_and (leb c 0x10FFFF) (not (in_set files set c)) (c ≤ 0x10FFFF) (¬ model.InSet (HasProperty files) set c) (tells_le c 0x10FFFF)
+    (tells_not (in_set files set c) (model.InSet (HasProperty files) set c) (tells_in_set files set c))
 
 any_below_gives : (test : ℕ → Bool) (end : ℕ) → any_below test end ≡ true → (c : ℕ) × (c < end) × (test c ≡ true)
 unfolding any_below
@@ -93,8 +97,10 @@ character_in : (files : List File) (tree : model.SetTree) (set : List Range) →
     ((c : ℕ) × Has set c × ¬ IsSurrogate c) → holds_character files tree ≡ true
 unfolding holds_character
 character_in files tree set members w =
-    any_below_takes (λ c. is_no_surrogate c && in_set files tree c) 0x110000 w.0 (let bound = members_are_code_points 0 set members.rising w.0 w.1 in omega arith)
-    ((tells_and (is_no_surrogate w.0) (in_set files tree w.0) (¬ IsSurrogate w.0) (model.InSet (HasProperty files) tree w.0) (no_surrogate w.0) (tells_in_set files tree w.0)).1
+    any_below_takes (λ c. is_no_surrogate c && in_set files tree c) 0x110000 w.0 (let bound =
+    members_are_code_points 0 set members.rising w.0 w.1 in omega arith)
+    ((tells_and (is_no_surrogate w.0) (in_set files tree w.0) (¬ IsSurrogate w.0) (model.InSet (HasProperty files) tree w.0) (no_surrogate w.0)
+    (tells_in_set files tree w.0)).1
     (w.2, (members.members w.0).0 w.1))
 
 pub character_of : (files : List File) (tree : model.SetTree) (set : List Range) → HasMembers files tree set →
@@ -102,7 +108,8 @@ pub character_of : (files : List File) (tree : model.SetTree) (set : List Range)
 unfolding holds_character
 character_of files tree set members e =
     let w = any_below_gives (λ c. is_no_surrogate c && in_set files tree c) 0x110000 e in
-    let both = (tells_and (is_no_surrogate w.0) (in_set files tree w.0) (¬ IsSurrogate w.0) (model.InSet (HasProperty files) tree w.0) (no_surrogate w.0) (tells_in_set files tree w.0)).0 w.2 in
+    let both = (tells_and (is_no_surrogate w.0) (in_set files tree w.0) (¬ IsSurrogate w.0) (model.InSet (HasProperty files) tree w.0) (no_surrogate w.0)
+    (tells_in_set files tree w.0)).0 w.2 in
     (w.0, (members.members w.0).1 both.1, both.0)
 
 -- the code's test is that of the specification
@@ -118,26 +125,32 @@ pub in_set_takes : (files : List File) (tree : model.SetTree) (c : ℕ) → mode
 in_set_takes files tree c is = (tells_in_set files tree c).1 is
 
 -- a character in the set is held
-pub character_held : (files : List File) (tree : model.SetTree) (c : ℕ) → c ≤ 0x10FFFF → ¬ IsSurrogate c → in_set files tree c ≡ true → holds_character files tree ≡ true
+pub character_held : (files : List File) (tree : model.SetTree) (c : ℕ) → c ≤ 0x10FFFF → ¬ IsSurrogate c → in_set files tree c ≡ true →
+    holds_character files tree ≡ true
 unfolding holds_character
 character_held files tree c low whole is =
     any_below_takes (λ d. is_no_surrogate d && in_set files tree d) 0x110000 c (omega arith)
     ((tells_and (is_no_surrogate c) (in_set files tree c) (¬ IsSurrogate c) (in_set files tree c ≡ true) (no_surrogate c) (λ e. e, λ e. e)).1 (whole, is))
 
 -- and a set that holds one has one
-pub held_character : (files : List File) (tree : model.SetTree) → holds_character files tree ≡ true → (c : ℕ) × model.InSet (HasProperty files) tree c × ¬ IsSurrogate c
+pub held_character : (files : List File) (tree : model.SetTree) → holds_character files tree ≡ true → (c : ℕ) × model.InSet (HasProperty files) tree c ×
+    ¬ IsSurrogate c
 unfolding holds_character
 held_character files tree e =
     let w = any_below_gives (λ c. is_no_surrogate c && in_set files tree c) 0x110000 e in
-    let both = (tells_and (is_no_surrogate w.0) (in_set files tree w.0) (¬ IsSurrogate w.0) (model.InSet (HasProperty files) tree w.0) (no_surrogate w.0) (tells_in_set files tree w.0)).0 w.2 in
+    let both = (tells_and (is_no_surrogate w.0) (in_set files tree w.0) (¬ IsSurrogate w.0) (model.InSet (HasProperty files) tree w.0) (no_surrogate w.0)
+    (tells_in_set files tree w.0)).0 w.2 in
     (w.0, both.1, both.0)
 
 -- the test whether a code point is in the set and no surrogate
 pub in_leaf : List File → model.SetTree → ℕ → Bool
 in_leaf files tree c = is_no_surrogate c && in_set files tree c
 
-pub in_leaf_tells : (files : List File) (tree : model.SetTree) (c : ℕ) → (in_leaf files tree c ≡ true → model.InSet (HasProperty files) tree c × ¬ IsSurrogate c) × (model.InSet (HasProperty files) tree c × ¬ IsSurrogate c → in_leaf files tree c ≡ true)
+pub in_leaf_tells : (files : List File) (tree : model.SetTree) (c : ℕ) →
+    (in_leaf files tree c ≡ true → model.InSet (HasProperty files) tree c × ¬ IsSurrogate c) ×
+    (model.InSet (HasProperty files) tree c × ¬ IsSurrogate c → in_leaf files tree c ≡ true)
 unfolding in_leaf
 in_leaf_tells files tree c =
-    let t = tells_and (is_no_surrogate c) (in_set files tree c) (¬ IsSurrogate c) (model.InSet (HasProperty files) tree c) (no_surrogate c) (tells_in_set files tree c) in
+    let t = tells_and (is_no_surrogate c) (in_set files tree c) (¬ IsSurrogate c) (model.InSet (HasProperty files) tree c) (no_surrogate c)
+    (tells_in_set files tree c) in
     (λ e. let b = t.0 e in (b.1, b.0), λ b. t.1 (b.1, b.0))

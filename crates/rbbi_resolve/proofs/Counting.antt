@@ -1,5 +1,6 @@
 -- Loops that count expressions and note their faults, one turn at a time.
-use Rattle.std.proofs.Common.{◌≡◌, ℕ, ◌+◌, ◌<◌, ◌≤◌, max, Bool, true, false, ◌&&◌, ◌||◌, List, [], ◌∷◌, map, length, drop, get_or, nat_lt, if◌then◌else◌, Option, sym, refl, ap, ◌∙◌, subst, arith, rules}
+use Rattle.std.proofs.Common.{◌≡◌, ℕ, ◌+◌, ◌<◌, ◌≤◌, max, Bool, true, false, ◌&&◌, ◌||◌, List, [], ◌∷◌, map, length, drop, get_or, nat_lt, if◌then◌else◌}
+use Rattle.std.proofs.Common.{Option, sym, refl, ap, ◌∙◌, subst, arith, rules}
 use Rattle.std.proofs.Math.Nat.{max-zero, le-max_left, le-max_right, max-le}
 use Rattle.std.proofs.Math.Bool.{or_assoc}
 use Rattle.std.proofs.lemmas.List.{length-map}
@@ -17,7 +18,8 @@ use Rattle.rbbi_resolve.specs.declared.fault.Fault.{Fault}
 use Rattle.rbbi_resolve.specs.declared.variables.Summary.{Summary}
 use Rattle.rbbi_resolve.specs.Meanings.{Meaning, leaf_count, spells_empty}
 use Rattle.rbbi_resolve.specs.Contexts.{Context}
-use Rattle.rbbi_resolve.specs.Expressions.{meaning_of_expr, meaning_of_seq, meaning_of_item, height_of_expr, highest_of_expr, height_of_seq, highest_of_seq, height_of_item, repeated, height_of_quant}
+use Rattle.rbbi_resolve.specs.Expressions.{meaning_of_expr, meaning_of_seq, meaning_of_item, height_of_expr, highest_of_expr, height_of_seq, highest_of_seq}
+use Rattle.rbbi_resolve.specs.Expressions.{height_of_item, repeated, height_of_quant}
 use Rattle.rbbi_resolve.specs.Parts.{Part, parts_of_expr, parts_of_seq, parts_of_item}
 use Rattle.rbbi_resolve.specs.Faults.{noted_parts}
 use Rattle.rbbi_resolve.specs.Summaries.{Sums, Summarizes, empty_of_quant}
@@ -31,34 +33,43 @@ and-true : (b : Bool) → b ≡ (b && true)
 and-true true = refl
 and-true false = refl
 
-expr_leaves : (context : Context) (first : SeqTree) (more : ExprTree) → leaf_count (meaning_of_expr context (alternative first more)) ≡ leaf_count (meaning_of_seq context first) + leaf_count (meaning_of_expr context more)
+expr_leaves : (context : Context) (first : SeqTree) (more : ExprTree) → leaf_count (meaning_of_expr context (alternative first more)) ≡ leaf_count
+    (meaning_of_seq context first) + leaf_count (meaning_of_expr context more)
 expr_leaves context first no_alternatives = omega arith
 expr_leaves context first (alternative second more) = refl
 
-expr_empty : (context : Context) (first : SeqTree) (more : ExprTree) → spells_empty (meaning_of_expr context (alternative first more)) ≡ (spells_empty (meaning_of_seq context first) || spells_empty (meaning_of_expr context more))
+expr_empty : (context : Context) (first : SeqTree) (more : ExprTree) →
+    spells_empty (meaning_of_expr context (alternative first more)) ≡ (spells_empty (meaning_of_seq context first) || spells_empty
+    (meaning_of_expr context more))
 expr_empty context first no_alternatives = or-false (spells_empty (meaning_of_seq context first))
 expr_empty context first (alternative second more) = refl
 
-seq_leaves : (context : Context) (first : ItemTree) (more : SeqTree) → leaf_count (meaning_of_seq context (item first more)) ≡ leaf_count (meaning_of_item context first) + leaf_count (meaning_of_seq context more)
+seq_leaves : (context : Context) (first : ItemTree) (more : SeqTree) → leaf_count (meaning_of_seq context (item first more)) ≡ leaf_count
+    (meaning_of_item context first) + leaf_count (meaning_of_seq context more)
 seq_leaves context first no_items = omega arith
 seq_leaves context first (item second more) = refl
 
-seq_empty : (context : Context) (first : ItemTree) (more : SeqTree) → spells_empty (meaning_of_seq context (item first more)) ≡ (spells_empty (meaning_of_item context first) && spells_empty (meaning_of_seq context more))
+seq_empty : (context : Context) (first : ItemTree) (more : SeqTree) →
+    spells_empty (meaning_of_seq context (item first more)) ≡ (spells_empty (meaning_of_item context first) && spells_empty (meaning_of_seq context more))
 seq_empty context first no_items = and-true (spells_empty (meaning_of_item context first))
 seq_empty context first (item second more) = refl
 
-expr_height : (context : Context) (ss : List SeqTree) → height_of_expr context (expr_of ss) ≡ highest_of_expr context (expr_of ss) + (if nat_lt 1 (length ss) then 1 else 0)
+expr_height : (context : Context) (ss : List SeqTree) → height_of_expr context (expr_of ss) ≡ highest_of_expr context (expr_of ss) +
+    (if nat_lt 1 (length ss) then 1 else 0)
 expr_height context [] = refl
 expr_height context (s ∷ []) = let e = max-zero (height_of_seq context s) in omega arith
 expr_height context (s ∷ t ∷ ss) = let e : nat_lt 1 (length (s ∷ t ∷ ss)) ≡ true = search rules in rw e refl
 
-seq_height : (context : Context) (is : List ItemTree) → height_of_seq context (seq_of is) ≡ highest_of_seq context (seq_of is) + (if nat_lt 1 (length is) then 1 else 0)
+seq_height : (context : Context) (is : List ItemTree) → height_of_seq context (seq_of is) ≡ highest_of_seq context (seq_of is) +
+    (if nat_lt 1 (length is) then 1 else 0)
 seq_height context [] = refl
 seq_height context (i ∷ []) = let e = max-zero (height_of_item context i) in omega arith
 seq_height context (i ∷ j ∷ is) = let e : nat_lt 1 (length (i ∷ j ∷ is)) ≡ true = search rules in rw e refl
 
 -- the counts so far, with those of what is left, are those of the whole; and the faults left are noted last
-pub record IsCounting (files : List File) (context : Context) (before : Option Fault) (join : Bool → Bool → Bool) (parts : List Part) (leaves height : ℕ) (empty : Bool) (summary : Summary) (least : Option Fault) (now : List File) (parts_left : List Part) (leaves_left height_left : ℕ) (empty_left : Bool) : Type 0 where
+pub record IsCounting (files : List File) (context : Context) (before : Option Fault) (join : Bool → Bool → Bool) (parts : List Part) (leaves height : ℕ)
+    (empty : Bool) (summary : Summary) (least : Option Fault) (now : List File) (parts_left : List Part) (leaves_left height_left : ℕ)
+    (empty_left : Bool) : Type 0 where
   pub same : now ≡ files
   pub leaf_number : ℕ
   pub height_number : ℕ
@@ -90,26 +101,34 @@ and-join false b c = refl
 -- the loop over the sequences of an expression
 abbrev pub CountingExpr : List File → Context → Option Fault → ExprTree → Summary → Option Fault → List File → ExprTree → Type 0
 CountingExpr files context before whole summary least now left =
-    IsCounting files context before ◌||◌ (parts_of_expr whole) (leaf_count (meaning_of_expr context whole)) (highest_of_expr context whole) (spells_empty (meaning_of_expr context whole)) summary least now (parts_of_expr left) (leaf_count (meaning_of_expr context left)) (highest_of_expr context left) (spells_empty (meaning_of_expr context left))
+    IsCounting files context before ◌||◌ (parts_of_expr whole) (leaf_count (meaning_of_expr context whole)) (highest_of_expr context whole)
+    (spells_empty (meaning_of_expr context whole)) summary least now (parts_of_expr left) (leaf_count (meaning_of_expr context left))
+    (highest_of_expr context left) (spells_empty (meaning_of_expr context left))
 
 -- the loop over the items of a sequence
 abbrev pub CountingSeq : List File → Context → Option Fault → SeqTree → Summary → Option Fault → List File → SeqTree → Type 0
 CountingSeq files context before whole summary least now left =
-    IsCounting files context before ◌&&◌ (parts_of_seq whole) (leaf_count (meaning_of_seq context whole)) (highest_of_seq context whole) (spells_empty (meaning_of_seq context whole)) summary least now (parts_of_seq left) (leaf_count (meaning_of_seq context left)) (highest_of_seq context left) (spells_empty (meaning_of_seq context left))
+    IsCounting files context before ◌&&◌ (parts_of_seq whole) (leaf_count (meaning_of_seq context whole)) (highest_of_seq context whole)
+    (spells_empty (meaning_of_seq context whole)) summary least now (parts_of_seq left) (leaf_count (meaning_of_seq context left))
+    (highest_of_seq context left) (spells_empty (meaning_of_seq context left))
 
 -- what counting a part does
-pub record CountsPart (context : List File → Context) (parts : List Part) (meaning : Context → Meaning) (height : Context → ℕ) (files : List File) (part : Summary) (least least' : Option Fault) (now' : List File) : Type 0 where
+pub record CountsPart (context : List File → Context) (parts : List Part) (meaning : Context → Meaning) (height : Context → ℕ) (files : List File)
+    (part : Summary) (least least' : Option Fault) (now' : List File) : Type 0 where
   pub noted : least' ≡ noted_parts (context files) least parts
   pub counts : Summarizes part (meaning (context files)) (height (context files))
   pub same : now' ≡ files
 
-pub exprs_left : (items : List Seq) (i : ℕ) (p : Seq) → i < length items → p ≡ get_or items i p → expr_of (map seq_tree (drop i items)) ≡ alternative (seq_tree p) (expr_of (map seq_tree (drop (i + 1) items)))
+pub exprs_left : (items : List Seq) (i : ℕ) (p : Seq) → i < length items → p ≡ get_or items i p → expr_of (map seq_tree (drop i items)) ≡ alternative
+    (seq_tree p) (expr_of (map seq_tree (drop (i + 1) items)))
 exprs_left items i p inside is = ap (λ ps. expr_of (map seq_tree ps)) (drop_more items i p inside ∙ ap (λ q. q ∷ drop (i + 1) items) (sym is))
 
-pub seqs_left : (items : List Item) (i : ℕ) (p : Item) → i < length items → p ≡ get_or items i p → seq_of (map item_tree (drop i items)) ≡ item (item_tree p) (seq_of (map item_tree (drop (i + 1) items)))
+pub seqs_left : (items : List Item) (i : ℕ) (p : Item) → i < length items → p ≡ get_or items i p → seq_of (map item_tree (drop i items)) ≡ item (item_tree p)
+    (seq_of (map item_tree (drop (i + 1) items)))
 seqs_left items i p inside is = ap (λ ps. seq_of (map item_tree ps)) (drop_more items i p inside ∙ ap (λ q. q ∷ drop (i + 1) items) (sym is))
 
-pub expr_turn : (context : List File → Context) (files : List File) (before : Option Fault) (whole : ExprTree) (summary part summary' : Summary) (least least' : Option Fault) (now now' : List File) (items : List Seq) (i : ℕ) (p : Seq) →
+pub expr_turn : (context : List File → Context) (files : List File) (before : Option Fault) (whole : ExprTree) (summary part summary' : Summary)
+    (least least' : Option Fault) (now now' : List File) (items : List Seq) (i : ℕ) (p : Seq) →
     i < length items → p ≡ get_or items i p →
     CountingExpr files (context files) before whole summary least now (expr_of (map seq_tree (drop i items))) →
     CountsPart context (parts_of_seq (seq_tree p)) (λ k. meaning_of_seq k (seq_tree p)) (λ k. height_of_seq k (seq_tree p)) now part least least' now' →
@@ -131,11 +150,14 @@ expr_turn context files before whole summary part summary' least least' now now'
       sums = joins _ _ _ _ _ _ here.sums step'.counts;
       all_leaves = let e = expr_leaves c s rest in let f = here.all_leaves in omega arith;
       all_heights = max-join here.height_number (height_of_seq c s) (highest_of_expr c rest) ∙ here.all_heights;
-      all_empty = or_assoc here.empty_so_far (spells_empty (meaning_of_seq c s)) (spells_empty (meaning_of_expr c rest)) ∙ ap (λ b. here.empty_so_far || b) (sym (expr_empty c s rest)) ∙ here.all_empty;
-      noted = ap (λ l. noted_parts c l (parts_of_expr rest)) step'.noted ∙ sym (noted_parts_of_append c least (parts_of_seq s) (parts_of_expr rest)) ∙ here.noted;
+      all_empty = or_assoc here.empty_so_far (spells_empty (meaning_of_seq c s)) (spells_empty (meaning_of_expr c rest))
+          ∙ ap (λ b. here.empty_so_far || b) (sym (expr_empty c s rest)) ∙ here.all_empty;
+      noted = ap (λ l. noted_parts c l (parts_of_expr rest)) step'.noted ∙ sym (noted_parts_of_append c least (parts_of_seq s) (parts_of_expr rest))
+          ∙ here.noted;
     }
 
-pub seq_turn : (context : List File → Context) (files : List File) (before : Option Fault) (whole : SeqTree) (summary part summary' : Summary) (least least' : Option Fault) (now now' : List File) (items : List Item) (i : ℕ) (p : Item) →
+pub seq_turn : (context : List File → Context) (files : List File) (before : Option Fault) (whole : SeqTree) (summary part summary' : Summary)
+    (least least' : Option Fault) (now now' : List File) (items : List Item) (i : ℕ) (p : Item) →
     i < length items → p ≡ get_or items i p →
     CountingSeq files (context files) before whole summary least now (seq_of (map item_tree (drop i items))) →
     CountsPart context (parts_of_item (item_tree p)) (λ k. meaning_of_item k (item_tree p)) (λ k. height_of_item k (item_tree p)) now part least least' now' →
@@ -157,15 +179,18 @@ seq_turn context files before whole summary part summary' least least' now now' 
       sums = joins _ _ _ _ _ _ here.sums step'.counts;
       all_leaves = let e = seq_leaves c s rest in let f = here.all_leaves in omega arith;
       all_heights = max-join here.height_number (height_of_item c s) (highest_of_seq c rest) ∙ here.all_heights;
-      all_empty = and-join here.empty_so_far (spells_empty (meaning_of_item c s)) (spells_empty (meaning_of_seq c rest)) ∙ ap (λ b. here.empty_so_far && b) (sym (seq_empty c s rest)) ∙ here.all_empty;
-      noted = ap (λ l. noted_parts c l (parts_of_seq rest)) step'.noted ∙ sym (noted_parts_of_append c least (parts_of_item s) (parts_of_seq rest)) ∙ here.noted;
+      all_empty = and-join here.empty_so_far (spells_empty (meaning_of_item c s)) (spells_empty (meaning_of_seq c rest))
+          ∙ ap (λ b. here.empty_so_far && b) (sym (seq_empty c s rest)) ∙ here.all_empty;
+      noted = ap (λ l. noted_parts c l (parts_of_seq rest)) step'.noted ∙ sym (noted_parts_of_append c least (parts_of_item s) (parts_of_seq rest))
+          ∙ here.noted;
     }
 
 module _ (files : List File) (context : Context) (before : Option Fault) (summary raised : Summary) (least : Option Fault) (now : List File) where
   pub expr_gives : (e : Expr) (items : List Seq) (i : ℕ) → items ≡ (out-Expr e).items.items → length items ≤ i →
       CountingExpr files context before (expr_of (map seq_tree items)) summary least now (expr_of (map seq_tree (drop i items))) →
       ((a h : ℕ) (b : Bool) → Sums summary a h b → Sums raised a (h + (if nat_lt 1 (length items) then 1 else 0)) b) →
-      Summarizes raised (meaning_of_expr context (expr_tree e)) (height_of_expr context (expr_tree e)) × (least ≡ noted_parts context before (parts_of_expr (expr_tree e)))
+      Summarizes raised (meaning_of_expr context (expr_tree e)) (height_of_expr context (expr_tree e)) ×
+      (least ≡ noted_parts context before (parts_of_expr (expr_tree e)))
   expr_gives e items i is done counting raises =
       let whole = expr_of (map seq_tree items) in
       let end : CountingExpr files context before whole summary least now no_alternatives =
@@ -176,14 +201,16 @@ module _ (files : List File) (context : Context) (before : Option Fault) (summar
       let empty : end.empty_so_far ≡ spells_empty (meaning_of_expr context whole) = or-false end.empty_so_far ∙ end.all_empty in
       let same_len : length (map seq_tree items) ≡ length items = simp length-map in
       let height : height_of_expr context whole ≡ end.height_number + (if nat_lt 1 (length items) then 1 else 0) =
-      expr_height context (map seq_tree items) ∙ ap (λ n. highest_of_expr context whole + (if nat_lt 1 n then 1 else 0)) same_len ∙ ap (λ n. n + (if nat_lt 1 (length items) then 1 else 0)) (sym heights) in
+      expr_height context (map seq_tree items) ∙ ap (λ n. highest_of_expr context whole + (if nat_lt 1 n then 1 else 0)) same_len
+      ∙ ap (λ n. n + (if nat_lt 1 (length items) then 1 else 0)) (sym heights) in
       let sums = raises end.leaf_number end.height_number end.empty_so_far end.sums in
       rw tree (rw (sym leaves, sym empty, height) sums, end.noted)
 
   pub seq_gives : (e : Seq) (items : List Item) (i : ℕ) → items ≡ (out-Seq e).items.items → length items ≤ i →
       CountingSeq files context before (seq_of (map item_tree items)) summary least now (seq_of (map item_tree (drop i items))) →
       ((a h : ℕ) (b : Bool) → Sums summary a h b → Sums raised a (h + (if nat_lt 1 (length items) then 1 else 0)) b) →
-      Summarizes raised (meaning_of_seq context (seq_tree e)) (height_of_seq context (seq_tree e)) × (least ≡ noted_parts context before (parts_of_seq (seq_tree e)))
+      Summarizes raised (meaning_of_seq context (seq_tree e)) (height_of_seq context (seq_tree e)) ×
+      (least ≡ noted_parts context before (parts_of_seq (seq_tree e)))
   seq_gives e items i is done counting raises =
       let whole = seq_of (map item_tree items) in
       let end : CountingSeq files context before whole summary least now no_items =
@@ -194,12 +221,14 @@ module _ (files : List File) (context : Context) (before : Option Fault) (summar
       let empty : end.empty_so_far ≡ spells_empty (meaning_of_seq context whole) = and-true end.empty_so_far ∙ end.all_empty in
       let same_len : length (map item_tree items) ≡ length items = simp length-map in
       let height : height_of_seq context whole ≡ end.height_number + (if nat_lt 1 (length items) then 1 else 0) =
-      seq_height context (map item_tree items) ∙ ap (λ n. highest_of_seq context whole + (if nat_lt 1 n then 1 else 0)) same_len ∙ ap (λ n. n + (if nat_lt 1 (length items) then 1 else 0)) (sym heights) in
+      seq_height context (map item_tree items) ∙ ap (λ n. highest_of_seq context whole + (if nat_lt 1 n then 1 else 0)) same_len
+      ∙ ap (λ n. n + (if nat_lt 1 (length items) then 1 else 0)) (sym heights) in
       let sums = raises end.leaf_number end.height_number end.empty_so_far end.sums in
       rw tree (rw (sym leaves, sym empty, height) sums, end.noted)
 
 -- an atom as often as it stands
-pub repeated_sums : (quant : Quant) (meaning : Meaning) (height : ℕ) (summary : Summary) → Sums summary (leaf_count meaning) height (empty_of_quant quant (spells_empty meaning)) → Summarizes summary (repeated quant meaning) height
+pub repeated_sums : (quant : Quant) (meaning : Meaning) (height : ℕ) (summary : Summary) → Sums summary (leaf_count meaning) height
+    (empty_of_quant quant (spells_empty meaning)) → Summarizes summary (repeated quant meaning) height
 repeated_sums quant.Once meaning height summary sums = sums
 repeated_sums quant.Star meaning height summary sums = sums
 repeated_sums quant.Plus meaning height summary sums = sums

@@ -1,5 +1,6 @@
 -- A file of characters without faults means lawful rules.
-use Rattle.std.proofs.Common.{◌≡◌, ℕ, ◌+◌, ◌<◌, ◌≤◌, ◌⊎◌, inl, inr, Bool, true, false, if◌then◌else◌, Option, Some, None, IfSome, List, [], ◌∷◌, ◌++◌, length, sym, refl, ap, ◌∙◌, subst, arith}
+use Rattle.std.proofs.Common.{◌≡◌, ℕ, ◌+◌, ◌<◌, ◌≤◌, ◌⊎◌, inl, inr, Bool, true, false, if◌then◌else◌, Option, Some, None, IfSome, List, [], ◌∷◌, ◌++◌, length}
+use Rattle.std.proofs.Common.{sym, refl, ap, ◌∙◌, subst, arith}
 use Rattle.std.specs.Option.{option_map}
 use Rattle.std.specs.List.{AllByRecursion, AllZip}
 use Rattle.rbbi_model.specs.Words.{IsCodePoint}
@@ -18,7 +19,8 @@ use Rattle.rbbi_resolve.specs.Contexts.{Context}
 use Rattle.rbbi_resolve.specs.Expressions.{meaning_of_expr}
 use Rattle.rbbi_resolve.specs.Parts.{parts_of_expr}
 use Rattle.rbbi_resolve.specs.Faults.{faults_of_parts, noted}
-use Rattle.rbbi_resolve.specs.Files.{RuleMeaning, start, context_after, faults_of_rest, faults_at_slash, faults_of_statement, faults_from, faults_of, rule_in, rules_from, active_rules}
+use Rattle.rbbi_resolve.specs.Files.{RuleMeaning, start, context_after, faults_of_rest, faults_at_slash, faults_of_statement, faults_from, faults_of, rule_in}
+use Rattle.rbbi_resolve.specs.Files.{rules_from, active_rules}
 use Rattle.rbbi_resolve.specs.Counts.{counted}
 use Rattle.rbbi_resolve.specs.Refusals.{IsFaultOf}
 use Rattle.rbbi_resolve.specs.Outcomes.{BothStand, IsRuleOf, Means}
@@ -41,7 +43,8 @@ passes_within : (test : Option (ℕ → Bool)) (c : ℕ) → Passes test c → c
 passes_within None c p = absurd p
 passes_within (Some test) c p = p.0
 
-property_within : (files : List File) (negated : Bool) (word : List ℕ) (value : Option (List ℕ)) (c : ℕ) → sets.InProperty negated c (HasProperty files word value c) → c ≤ 0x10FFFF
+property_within : (files : List File) (negated : Bool) (word : List ℕ) (value : Option (List ℕ)) (c : ℕ) →
+    sets.InProperty negated c (HasProperty files word value c) → c ≤ 0x10FFFF
 property_within files false word value c p = passes_within (found files word value) c p
 property_within files true word value c p = p.0
 
@@ -56,7 +59,8 @@ member_within files (sets.Character d) w c p = omega arith
 member_within files (sets.Span range) w c p = omega (arith, p.1)
 member_within files (sets.Property negated word value) w c p = property_within files negated word value c p
 member_within files (sets.Joined left join part) w c p =
-    join_within join c (sets.InSet (HasProperty files) left c) (sets.InSet (HasProperty files) part c) (member_within files left w.0 c) (member_within files part w.1 c) p
+    join_within join c (sets.InSet (HasProperty files) left c) (sets.InSet (HasProperty files) part c) (member_within files left w.0 c)
+    (member_within files part w.1 c) p
 member_within files (sets.Others set) w c p = p.0
 
 leaf_exists : (files : List File) (tree : sets.SetTree) → IsWithin tree → (rs : List Range) × IsLeafOf files tree rs
@@ -65,7 +69,11 @@ leaf_exists files tree w =
       r.0,
       record {
         rising = r.1;
-        members = λ c. (λ h. (in_leaf_tells files tree c).0 ((r.2 c).0 h), λ p. (r.2 c).1 (member_within files tree w c p.0) ((in_leaf_tells files tree c).1 p));
+        members = λ c. (
+          λ h. (in_leaf_tells files tree c).0 ((r.2 c).0 h),
+          λ p. (r.2 c).1 (member_within files tree w c p.0)
+              ((in_leaf_tells files tree c).1 p),
+        );
       },
     )
 
@@ -124,22 +132,29 @@ rules_exist files (m ∷ ms) g =
     let r : model.Rule = record { front = front.0; rest = rest.0; chained_into = m.chained_into; tag = m.tag; place = m.place } in
     (r ∷ more.0, (record { front = front.1; rest = rest.1; chained_into = refl; tag = refl; place = refl }, more.1))
 
-rules_filled : (files : List File) (ms : List RuleMeaning) (rs : List model.Rule) → AllByRecursion (IsGoodRule files) ms → AllZip (IsRuleOf files) ms rs → AllByRecursion HasRuleSets rs
+rules_filled : (files : List File) (ms : List RuleMeaning) (rs : List model.Rule) → AllByRecursion (IsGoodRule files) ms → AllZip (IsRuleOf files) ms rs →
+    AllByRecursion HasRuleSets rs
 rules_filled files [] [] g z = tt
 rules_filled files [] (r ∷ rs) g z = absurd z
 rules_filled files (m ∷ ms) [] g z = absurd z
-rules_filled files (m ∷ ms) (r ∷ rs) g z =
-    (record { front = filled_tree files m.front r.front g.0.front z.0.front; rest = rest_filled files m.rest r.rest g.0.rest z.0.rest }, rules_filled files ms rs g.1 z.1)
+rules_filled files (m ∷ ms) (r ∷ rs) g z = (
+  record { front = filled_tree files m.front r.front g.0.front z.0.front; rest = rest_filled files m.rest r.rest g.0.rest z.0.rest },
+  rules_filled files
+      ms rs g.1 z.1,
+)
 
-all_good : (files : List File) (a b : List RuleMeaning) → AllByRecursion (IsGoodRule files) a → AllByRecursion (IsGoodRule files) b → AllByRecursion (IsGoodRule files) (a ++ b)
+all_good : (files : List File) (a b : List RuleMeaning) → AllByRecursion (IsGoodRule files) a → AllByRecursion (IsGoodRule files) b →
+    AllByRecursion (IsGoodRule files) (a ++ b)
 all_good files [] b x y = y
 all_good files (m ∷ a) b x y = (x.0, all_good files a b x.1 y)
 
-rest_good : (k : Context) → AreSound k → AreGood k → (rest : Option ExprTree) → IsRestOfCharacters rest → faults_of_rest k rest ≡ [] → IfSome (option_map (meaning_of_expr k) rest) (IsGood k.files)
+rest_good : (k : Context) → AreSound k → AreGood k → (rest : Option ExprTree) → IsRestOfCharacters rest → faults_of_rest k rest ≡ [] →
+    IfSome (option_map (meaning_of_expr k) rest) (IsGood k.files)
 rest_good k sound good None c e = tt
 rest_good k sound good (Some rest) c e = good_expr k sound good rest c e
 
-rule_good : (ignored : Bool) (k : Context) (s : StatementTree) → AreSound k → AreGood k → IsStatementOfCharacters s → faults_of_statement ignored k s ≡ [] → AllByRecursion (IsGoodRule k.files) (rule_in k s)
+rule_good : (ignored : Bool) (k : Context) (s : StatementTree) → AreSound k → AreGood k → IsStatementOfCharacters s → faults_of_statement ignored k s ≡ [] →
+    AllByRecursion (IsGoodRule k.files) (rule_in k s)
 rule_good ignored k nothing sound good c e = tt
 rule_good ignored k (control word place) sound good c e = tt
 rule_good ignored k (assign word place x) sound good c e = tt
@@ -147,38 +162,53 @@ rule_good ignored k (rule place no_chain_in front slash rest tag) sound good c e
     let own = faults_of_parts k (parts_of_expr front) in
     let others = faults_of_rest k rest ++ faults_at_slash k front slash rest in
     let is : IsGoodRule k.files (meant k place no_chain_in front rest tag) =
-    record { front = good_expr k sound good front c.0 (first_empty own others e); rest = rest_good k sound good rest c.1 (first_empty (faults_of_rest k rest) (faults_at_slash k front slash rest) (second_empty own others e)) } in
-    elim k.active as (λ b. AllByRecursion (IsGoodRule k.files) (if b then meant k place no_chain_in front rest tag ∷ [] else [])) [ true ↦ (is, tt) | false ↦ tt ]
+    record {
+      front = good_expr k sound good front c.0 (first_empty own others e);
+      rest =
+          rest_good k sound good rest c.1 (first_empty (faults_of_rest k rest) (faults_at_slash k front slash rest) (second_empty own others e));
+    } in
+    elim k.active as (λ b. AllByRecursion (IsGoodRule k.files) (if b then meant k place no_chain_in front rest tag ∷ [] else []))
+    [ true ↦ (is, tt) | false ↦ tt ]
 
-rules_good : (files : List File) (ignored : Bool) (k : Context) (statements : List StatementTree) → k.files ≡ files → AreSound k → AreGood k → AreWellMade statements → AreOfCharacters statements → faults_from ignored k statements ≡ [] →
+rules_good : (files : List File) (ignored : Bool) (k : Context) (statements : List StatementTree) → k.files ≡ files → AreSound k → AreGood k →
+    AreWellMade statements → AreOfCharacters statements → faults_from ignored k statements ≡ [] →
     AllByRecursion (IsGoodRule files) (rules_from k statements)
 unfolding faults_from rules_from
 rules_good files ignored k [] same sound good well c e = tt
 rules_good files ignored k (s ∷ statements) same sound good well c e =
     let here = first_empty (faults_of_statement ignored k s) (faults_from ignored (context_after k s) statements) e in
     let later = second_empty (faults_of_statement ignored k s) (faults_from ignored (context_after k s) statements) e in
-    all_good files (rule_in k s) (rules_from (context_after k s) statements) (subst (λ f. AllByRecursion (IsGoodRule f) (rule_in k s)) same (rule_good ignored k s sound good c.0 here))
-    (rules_good files ignored (context_after k s) statements (statement_keeps k s ∙ same) (sound_after ignored k s sound well.0 here) (good_after ignored k s sound good c.0 here) well.1 c.1 later)
+    all_good files (rule_in k s) (rules_from (context_after k s) statements)
+    (subst (λ f. AllByRecursion (IsGoodRule f) (rule_in k s)) same (rule_good ignored k s sound good c.0 here))
+    (rules_good files ignored (context_after k s) statements (statement_keeps k s ∙ same) (sound_after ignored k s sound well.0 here)
+    (good_after ignored k s sound good c.0 here) well.1 c.1 later)
 
-file_good : (files : List File) (ignored : Bool) (statements : List StatementTree) → AreWellMade statements → AreOfCharacters statements → faults_of files ignored statements ≡ [] → AllByRecursion (IsGoodRule files) (active_rules files statements)
-file_good files ignored statements well c e = rules_good files ignored (start files) statements refl (record { each = λ name. tt }) (record { each = λ name. tt }) well c e
+file_good : (files : List File) (ignored : Bool) (statements : List StatementTree) → AreWellMade statements → AreOfCharacters statements →
+    faults_of files ignored statements ≡ [] → AllByRecursion (IsGoodRule files) (active_rules files statements)
+file_good files ignored statements well c e =
+    rules_good files ignored (start files) statements refl (record { each = λ name. tt }) (record { each = λ name. tt }) well c e
 
 -- what a file of characters means is lawful
-pub lawful_meaning : (files : List File) (ignored : Bool) (statements : List StatementTree) (rs : List model.Rule) → AreWellMade statements → AreOfCharacters statements → Means files ignored statements rs → AreLawful rs
+pub lawful_meaning : (files : List File) (ignored : Bool) (statements : List StatementTree) (rs : List model.Rule) → AreWellMade statements →
+    AreOfCharacters statements → Means files ignored statements rs → AreLawful rs
 lawful_meaning files ignored statements rs well c means =
-    lawful_rules files ignored statements rs well means (rules_filled files (active_rules files statements) rs (file_good files ignored statements well c means.faultless) means.rules_in_order)
+    lawful_rules files ignored statements rs well means
+    (rules_filled files (active_rules files statements) rs (file_good files ignored statements well c means.faultless) means.rules_in_order)
 
 -- and it means something or has a fault
 pub meaning_or_fault : (files : List File) (ignored : Bool) (statements : List StatementTree) (end : ℕ) → AreWellMade statements → AreOfCharacters statements →
-    ((rs : List model.Rule) × Means files ignored statements rs) ⊎ ((fault : Fault) × IsFaultOf (faults_of files ignored statements) (counted end (active_rules files statements)) fault)
+    ((rs : List model.Rule) × Means files ignored statements rs) ⊎
+    ((fault : Fault) × IsFaultOf (faults_of files ignored statements) (counted end (active_rules files statements)) fault)
 meaning_or_fault files ignored statements end well c =
     let faults = faults_of files ignored statements in
     let ms = active_rules files statements in
-    elim (noted None faults) as (λ o. noted None faults ≡ o → ((rs : List model.Rule) × Means files ignored statements rs) ⊎ ((fault : Fault) × IsFaultOf faults (counted end ms) fault)) [
+    elim (noted None faults) as (λ o. noted None faults ≡ o → ((rs : List model.Rule) × Means files ignored statements rs) ⊎
+    ((fault : Fault) × IsFaultOf faults (counted end ms) fault)) [
       | Some f ↦ λ e. inr (f, inl (least_noted faults f e))
       | None ↦ λ e.
           let none = none_noted faults e in
-          elim (counted end ms) as (λ o. counted end ms ≡ o → ((rs : List model.Rule) × Means files ignored statements rs) ⊎ ((fault : Fault) × IsFaultOf faults (counted end ms) fault)) [
+          elim (counted end ms) as (λ o. counted end ms ≡ o → ((rs : List model.Rule) × Means files ignored statements rs) ⊎
+          ((fault : Fault) × IsFaultOf faults (counted end ms) fault)) [
             | Some f ↦ λ g. inr (f, inr (none, g))
             | None ↦ λ g.
                 let r = rules_exist files ms (file_good files ignored statements well c none) in
@@ -187,7 +217,8 @@ meaning_or_fault files ignored statements end well c =
     ] refl
 
 -- but not both
-pub not_both : (files : List File) (ignored : Bool) (statements : List StatementTree) (end : ℕ) (rs : List model.Rule) (fault : Fault) → Means files ignored statements rs →
+pub not_both : (files : List File) (ignored : Bool) (statements : List StatementTree) (end : ℕ) (rs : List model.Rule) (fault : Fault) →
+    Means files ignored statements rs →
     IsFaultOf (faults_of files ignored statements) (counted end (active_rules files statements)) fault → ⊥
 not_both files ignored statements end rs fault means f =
     elim f [

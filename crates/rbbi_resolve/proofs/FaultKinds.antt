@@ -1,5 +1,6 @@
 -- Each fault has the number of a kind.
-use Rattle.std.proofs.Common.{◌≡◌, ℕ, zero, suc, ◌+◌, ◌<◌, ◌≤◌, Bool, true, false, Option, Some, None, List, [], ◌∷◌, ◌++◌, length, not, ◌&&◌, is_some, bytes_eq, codes, encode_utf8_all, sym, refl, ap, ◌∙◌, subst, arith}
+use Rattle.std.proofs.Common.{◌≡◌, ℕ, zero, suc, ◌+◌, ◌<◌, ◌≤◌, Bool, true, false, Option, Some, None, List, [], ◌∷◌, ◌++◌, length, not, ◌&&◌, is_some}
+use Rattle.std.proofs.Common.{bytes_eq, codes, encode_utf8_all, sym, refl, ap, ◌∙◌, subst, arith}
 use Rattle.std.specs.Option.{option_or}
 use Rattle.std.specs.List.{AllByRecursion, Contains}
 use Rattle.rbbi_tree.specs.Trees.{ExprTree, StatementTree, nothing, control, assign, rule}
@@ -8,8 +9,10 @@ use Rattle.rbbi_resolve.specs.Meanings.{spells_empty}
 use Rattle.rbbi_resolve.specs.Contexts.{Context, variable_of}
 use Rattle.rbbi_resolve.specs.Expressions.{meaning_of_expr}
 use Rattle.rbbi_resolve.specs.Parts.{Part, parts_of_expr}
-use Rattle.rbbi_resolve.specs.Faults.{faults_where, faults_of_part, faults_of_parts, is_undefined, is_not_a_set, is_unknown_property, is_bad_range, is_empty_set, is_bare_literal, place_of}
-use Rattle.rbbi_resolve.specs.Files.{RuleMeaning, context_after, is_supported, is_unsupported, faults_of_rest, faults_at_slash, faults_of_statement, faults_from}
+use Rattle.rbbi_resolve.specs.Faults.{faults_where, faults_of_part, faults_of_parts, is_undefined, is_not_a_set, is_unknown_property, is_bad_range}
+use Rattle.rbbi_resolve.specs.Faults.{is_empty_set, is_bare_literal, place_of}
+use Rattle.rbbi_resolve.specs.Files.{RuleMeaning, context_after, is_supported, is_unsupported, faults_of_rest, faults_at_slash, faults_of_statement}
+use Rattle.rbbi_resolve.specs.Files.{faults_from}
 use Rattle.rbbi_resolve.specs.Counts.{counted, fault_at, no_rules_at, too_many_rules_at, too_many_leaves_at, too_many_slashes_at, too_tall_at}
 use Rattle.rbbi_resolve.specs.Refusals.{IsKind}
 
@@ -46,19 +49,23 @@ kinds_at_slash k front None rest = tt
 kinds_at_slash k front (Some slash) None = tt
 kinds_at_slash k front (Some slash) (Some rest) =
     both_kinds (faults_where (spells_empty (meaning_of_expr k front)) slash 11) (faults_where (spells_empty (meaning_of_expr k rest)) slash 12)
-    (where_kind (spells_empty (meaning_of_expr k front)) slash 11 (omega arith, omega arith)) (where_kind (spells_empty (meaning_of_expr k rest)) slash 12 (omega arith, omega arith))
+    (where_kind (spells_empty (meaning_of_expr k front)) slash 11 (omega arith, omega arith))
+    (where_kind (spells_empty (meaning_of_expr k rest)) slash 12 (omega arith, omega arith))
 
 kinds_of_statement : (ignored : Bool) (k : Context) (s : StatementTree) → AllByRecursion OfKind (faults_of_statement ignored k s)
 kinds_of_statement ignored k nothing = tt
 kinds_of_statement ignored k (control word place) =
     let unknown = not (is_supported (encode_utf8_all word)) && not (is_unsupported (encode_utf8_all word)) in
     let unsupported = is_unsupported (encode_utf8_all word) in
-    both_kinds (faults_where unknown place 1) (faults_where unsupported place 2) (where_kind unknown place 1 (omega arith, omega arith)) (where_kind unsupported place 2 (omega arith, omega arith))
+    both_kinds (faults_where unknown place 1) (faults_where unsupported place 2) (where_kind unknown place 1 (omega arith, omega arith))
+    (where_kind unsupported place 2 (omega arith, omega arith))
 kinds_of_statement ignored k (assign word place x) =
     let dictionary = bytes_eq (encode_utf8_all word) (codes "dictionary") && not ignored in
     let known = is_some (variable_of k word) in
-    both_kinds (faults_where dictionary place 3) (faults_where known place 4 ++ faults_of_parts k (parts_of_expr x)) (where_kind dictionary place 3 (omega arith, omega arith))
-    (both_kinds (faults_where known place 4) (faults_of_parts k (parts_of_expr x)) (where_kind known place 4 (omega arith, omega arith)) (kinds_of_parts k (parts_of_expr x)))
+    both_kinds (faults_where dictionary place 3) (faults_where known place 4 ++ faults_of_parts k (parts_of_expr x))
+    (where_kind dictionary place 3 (omega arith, omega arith))
+    (both_kinds (faults_where known place 4) (faults_of_parts k (parts_of_expr x)) (where_kind known place 4 (omega arith, omega arith))
+    (kinds_of_parts k (parts_of_expr x)))
 kinds_of_statement ignored k (rule place no_chain_in front slash rest tag) =
     both_kinds (faults_of_parts k (parts_of_expr front)) (faults_of_rest k rest ++ faults_at_slash k front slash rest) (kinds_of_parts k (parts_of_expr front))
     (both_kinds (faults_of_rest k rest) (faults_at_slash k front slash rest) (kinds_of_rest k rest) (kinds_at_slash k front slash rest))
@@ -67,7 +74,8 @@ pub kinds_from : (ignored : Bool) (k : Context) (statements : List StatementTree
 unfolding faults_from
 kinds_from ignored k [] = tt
 kinds_from ignored k (s ∷ statements) =
-    both_kinds (faults_of_statement ignored k s) (faults_from ignored (context_after k s) statements) (kinds_of_statement ignored k s) (kinds_from ignored (context_after k s) statements)
+    both_kinds (faults_of_statement ignored k s) (faults_from ignored (context_after k s) statements) (kinds_of_statement ignored k s)
+    (kinds_from ignored (context_after k s) statements)
 
 pub kind_of_one : (faults : List Fault) (f : Fault) → AllByRecursion OfKind faults → Contains faults f → IsKind f.number
 kind_of_one [] f all (i, lt, e) = absurd (omega arith)
@@ -91,7 +99,8 @@ counted_kinded end ms =
     kinded_or (fault_at 13 (no_rules_at end ms)) _ (kinded_at 13 (no_rules_at end ms) (omega arith, omega arith))
     (kinded_or (fault_at 14 (too_many_rules_at ms)) _ (kinded_at 14 (too_many_rules_at ms) (omega arith, omega arith))
     (kinded_or (fault_at 15 (too_many_leaves_at 0 ms)) _ (kinded_at 15 (too_many_leaves_at 0 ms) (omega arith, omega arith))
-    (kinded_or (fault_at 16 (too_many_slashes_at ms)) _ (kinded_at 16 (too_many_slashes_at ms) (omega arith, omega arith)) (kinded_at 17 (too_tall_at ms) (omega arith, omega arith)))))
+    (kinded_or (fault_at 16 (too_many_slashes_at ms)) _ (kinded_at 16 (too_many_slashes_at ms) (omega arith, omega arith))
+    (kinded_at 17 (too_tall_at ms) (omega arith, omega arith)))))
 
 pub kind_of_counted : (end : ℕ) (ms : List RuleMeaning) (f : Fault) → counted end ms ≡ Some f → IsKind f.number
 kind_of_counted end ms f e = subst Kinded e (counted_kinded end ms)

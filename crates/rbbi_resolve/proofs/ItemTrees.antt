@@ -1,7 +1,9 @@
 -- The trees of the variants that have values inside.
 use Rattle.std.proofs.Common.{◌≡◌, ℕ, Bool, List, Option, sym, ◌∙◌, ap}
-use Rattle.rbbi_tree.specs.Trees.{SetItemTree, PartsTree, SetTree, PartTree, ExprTree, SeqTree, ItemTree, AtomTree, set_property, set_within, character, quoted, any, name, property, set, group}
-use Rattle.rbbi_tree.specs.Values.{set_item_tree, set_tree, atom_tree, expr_tree, set_item_step, parts_step, set_step, part_step, atom_step, expr_step, item_step, seq_step}
+use Rattle.rbbi_tree.specs.Trees.{SetItemTree, PartsTree, SetTree, PartTree, ExprTree, SeqTree, ItemTree, AtomTree, set_property, set_within, character}
+use Rattle.rbbi_tree.specs.Trees.{quoted, any, name, property, set, group}
+use Rattle.rbbi_tree.specs.Values.{set_item_tree, set_tree, atom_tree, expr_tree, set_item_step, parts_step, set_step, part_step, atom_step, expr_step}
+use Rattle.rbbi_tree.specs.Values.{item_step, seq_step}
 use Rattle.rbbi_tree.specs.declared.syntax.SetExpr.{SetExpr}
 use Rattle.rbbi_tree.specs.declared.syntax.Expr.{Expr}
 use Rattle.rbbi_tree.specs.declared.syntax.SetItem as item

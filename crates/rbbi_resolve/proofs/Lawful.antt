@@ -1,5 +1,6 @@
 -- The rules that a file means are lawful.
-use Rattle.std.proofs.Common.{◌≡◌, ℕ, zero, suc, ◌+◌, ◌<◌, ◌≤◌, ◌⊎◌, inl, inr, Bool, true, false, not, ◌&&◌, ◌||◌, nat_lt, if◌then◌else◌, is_some, Option, Some, None, IfSome, IsSome, List, [], ◌∷◌, ◌++◌, map, length, filter, slice_get, sum_by, sym, refl, ap, ◌∙◌, subst, arith}
+use Rattle.std.proofs.Common.{◌≡◌, ℕ, zero, suc, ◌+◌, ◌<◌, ◌≤◌, ◌⊎◌, inl, inr, Bool, true, false, not, ◌&&◌, ◌||◌, nat_lt, if◌then◌else◌, is_some, Option}
+use Rattle.std.proofs.Common.{Some, None, IfSome, IsSome, List, [], ◌∷◌, ◌++◌, map, length, filter, slice_get, sum_by, sym, refl, ap, ◌∙◌, subst, arith}
 use Rattle.std.specs.Option.{option_or, option_map, option_map_or}
 use Rattle.std.specs.List.{AllByRecursion, AllZip}
 use Rattle.std.proofs.lemmas.Bool.Decides.{nat_tests}
@@ -19,7 +20,8 @@ use Rattle.rbbi_resolve.specs.Contexts.{Context}
 use Rattle.rbbi_resolve.specs.Expressions.{meaning_of_expr}
 use Rattle.rbbi_resolve.specs.Parts.{parts_of_expr}
 use Rattle.rbbi_resolve.specs.Faults.{faults_where, faults_of_parts}
-use Rattle.rbbi_resolve.specs.Files.{RuleMeaning, start, context_after, faults_of_rest, faults_at_slash, faults_of_statement, faults_from, faults_of, rule_in, rules_from, active_rules}
+use Rattle.rbbi_resolve.specs.Files.{RuleMeaning, start, context_after, faults_of_rest, faults_at_slash, faults_of_statement, faults_from, faults_of, rule_in}
+use Rattle.rbbi_resolve.specs.Files.{rules_from, active_rules}
 use Rattle.rbbi_resolve.specs.Counts.{counted, fault_at, no_rules_at, too_many_rules_at, too_many_leaves_at, too_many_slashes_at, too_tall_at}
 use Rattle.rbbi_resolve.specs.Counts as counts
 use Rattle.rbbi_resolve.specs.Countings.{passing, one, slash_of}
@@ -112,8 +114,10 @@ all_rules : (a b : List RuleMeaning) → AllByRecursion IsSoundRule a → AllByR
 all_rules [] b x y = y
 all_rules (m ∷ a) b x y = (x.0, all_rules a b x.1 y)
 
-rest_sound : (k : Context) → AreSound k → (front : ExprTree) (slash : Option ℕ) (rest : Option ExprTree) → IsWellMadeRest slash rest → faults_of_rest k rest ++ faults_at_slash k front slash rest ≡ [] →
-    IfSome (option_map (meaning_of_expr k) rest) (λ x. IsFull x × (spells_empty x ≡ false)) × (IsSome (option_map (meaning_of_expr k) rest) → spells_empty (meaning_of_expr k front) ≡ false)
+rest_sound : (k : Context) → AreSound k → (front : ExprTree) (slash : Option ℕ) (rest : Option ExprTree) → IsWellMadeRest slash rest →
+    faults_of_rest k rest ++ faults_at_slash k front slash rest ≡ [] →
+    IfSome (option_map (meaning_of_expr k) rest) (λ x. IsFull x × (spells_empty x ≡ false)) ×
+    (IsSome (option_map (meaning_of_expr k) rest) → spells_empty (meaning_of_expr k front) ≡ false)
 rest_sound k sound front None None well e = (tt, λ s. absurd cc)
 rest_sound k sound front None (Some rest) well e = absurd well
 rest_sound k sound front (Some slash) None well e = absurd well
@@ -126,7 +130,8 @@ rest_sound k sound front (Some slash) (Some rest) well e =
       λ s. not_where (spells_empty (meaning_of_expr k front)) slash 11 (first_empty a b at),
     )
 
-rule_sound : (ignored : Bool) (k : Context) (s : StatementTree) → AreSound k → IsWellMade s → faults_of_statement ignored k s ≡ [] → AllByRecursion IsSoundRule (rule_in k s)
+rule_sound : (ignored : Bool) (k : Context) (s : StatementTree) → AreSound k → IsWellMade s → faults_of_statement ignored k s ≡ [] →
+    AllByRecursion IsSoundRule (rule_in k s)
 rule_sound ignored k nothing sound well e = tt
 rule_sound ignored k (control word place) sound well e = tt
 rule_sound ignored k (assign word place x) sound well e = tt
@@ -138,7 +143,8 @@ rule_sound ignored k (rule place no_chain_in front slash rest tag) sound well e 
     record { front = full_expr k sound front well.0.0 well.0.1 (first_empty own others e); rest = r.0; tag = well.2; front_not_empty = r.1 } in
     elim k.active as (λ b. AllByRecursion IsSoundRule (if b then meant k place no_chain_in front rest tag ∷ [] else [])) [ true ↦ (is, tt) | false ↦ tt ]
 
-rules_sound : (ignored : Bool) (k : Context) (statements : List StatementTree) → AreSound k → AreWellMade statements → faults_from ignored k statements ≡ [] → AllByRecursion IsSoundRule (rules_from k statements)
+rules_sound : (ignored : Bool) (k : Context) (statements : List StatementTree) → AreSound k → AreWellMade statements →
+    faults_from ignored k statements ≡ [] → AllByRecursion IsSoundRule (rules_from k statements)
 unfolding faults_from rules_from
 rules_sound ignored k [] sound well e = tt
 rules_sound ignored k (s ∷ statements) sound well e =
@@ -152,7 +158,8 @@ pub record HasRuleSets (r : model.Rule) : Type 0 where
   pub front : HasLeafSets r.front
   pub rest : IfSome r.rest HasLeafSets
 
-rest_lawful : (files : List File) (m : Option Meaning) (t : Option spelling.Tree) → BothStand files m t → IfSome m (λ x. IsFull x × (spells_empty x ≡ false)) → IfSome t HasLeafSets →
+rest_lawful : (files : List File) (m : Option Meaning) (t : Option spelling.Tree) → BothStand files m t →
+    IfSome m (λ x. IsFull x × (spells_empty x ≡ false)) → IfSome t HasLeafSets →
     IfSome t IsLawfulTree × IfSome t (λ x. ¬ Spells x []) × (IsSome t → IsSome m)
 rest_lawful files None None b f h = (tt, tt, λ s. s)
 rest_lawful files None (Some t) b f h = absurd b
@@ -170,13 +177,15 @@ rule_lawful files m r is sound has =
       rest_not_empty = rest.1;
     }
 
-each_lawful : (files : List File) (ms : List RuleMeaning) (rs : List model.Rule) → AllZip (IsRuleOf files) ms rs → AllByRecursion IsSoundRule ms → AllByRecursion HasRuleSets rs → AllByRecursion IsLawfulRule rs
+each_lawful : (files : List File) (ms : List RuleMeaning) (rs : List model.Rule) → AllZip (IsRuleOf files) ms rs → AllByRecursion IsSoundRule ms →
+    AllByRecursion HasRuleSets rs → AllByRecursion IsLawfulRule rs
 each_lawful files [] [] z s h = tt
 each_lawful files [] (r ∷ rs) z s h = absurd z
 each_lawful files (m ∷ ms) [] z s h = absurd z
 each_lawful files (m ∷ ms) (r ∷ rs) z s h = (rule_lawful files m r z.0 s.0 h.0, each_lawful files ms rs z.1 s.1 h.1)
 
-rest_count : (files : List File) (m : Option Meaning) (t : Option spelling.Tree) → BothStand files m t → option_map_or model.leaf_count t 0 ≡ option_map_or leaf_count m 0
+rest_count : (files : List File) (m : Option Meaning) (t : Option spelling.Tree) → BothStand files m t →
+    option_map_or model.leaf_count t 0 ≡ option_map_or leaf_count m 0
 rest_count files None None b = refl
 rest_count files None (Some t) b = absurd b
 rest_count files (Some m) None b = absurd b
@@ -189,7 +198,8 @@ rest_there files (Some m) None b = absurd b
 rest_there files (Some m) (Some t) b = refl
 
 -- the rules have as many leaves as their meanings
-pub same_leaves : (files : List File) (ms : List RuleMeaning) (rs : List model.Rule) → AllZip (IsRuleOf files) ms rs → sum_by model.leaves_of rs ≡ sum_by counts.leaves_of ms
+pub same_leaves : (files : List File) (ms : List RuleMeaning) (rs : List model.Rule) → AllZip (IsRuleOf files) ms rs →
+    sum_by model.leaves_of rs ≡ sum_by counts.leaves_of ms
 same_leaves files [] [] z = refl
 same_leaves files [] (r ∷ rs) z = absurd z
 same_leaves files (m ∷ ms) [] z = absurd z
@@ -201,12 +211,14 @@ same_leaves files (m ∷ ms) (r ∷ rs) z =
     let e = sum_by-cons counts.leaves_of m ms in
     omega arith
 
-look_step : (r : model.Rule) (rs : List model.Rule) (b : Bool) → is_some r.rest ≡ b → length (look_aheads (r ∷ rs)) ≡ (if b then 1 else 0) + length (look_aheads rs)
+look_step : (r : model.Rule) (rs : List model.Rule) (b : Bool) → is_some r.rest ≡ b → length (look_aheads (r ∷ rs)) ≡ (if b then 1 else 0) + length
+    (look_aheads rs)
 look_step r rs true e = rw e (omega arith)
 look_step r rs false e = rw e (omega arith)
 
 -- and as many rests
-pub same_slashes : (files : List File) (ms : List RuleMeaning) (rs : List model.Rule) → AllZip (IsRuleOf files) ms rs → length (look_aheads rs) ≡ sum_by slash_of ms
+pub same_slashes : (files : List File) (ms : List RuleMeaning) (rs : List model.Rule) → AllZip (IsRuleOf files) ms rs →
+    length (look_aheads rs) ≡ sum_by slash_of ms
 same_slashes files [] [] z = refl
 same_slashes files [] (r ∷ rs) z = absurd z
 same_slashes files (m ∷ ms) [] z = absurd z
@@ -223,7 +235,8 @@ sum_of_ones (m ∷ ms) = let e = sum_by-cons one m ms in let r = sum_of_ones ms 
 not_passed : (amount : RuleMeaning → ℕ) (most sum : ℕ) (ms : List RuleMeaning) → sum ≤ most → passing amount most sum ms ≡ None → sum + sum_by amount ms ≤ most
 not_passed amount most sum [] low e = omega arith
 not_passed amount most sum (m ∷ ms) low e =
-    elim (nat_lt most (sum + amount m)) as (λ b. nat_lt most (sum + amount m) ≡ b → (if b then Some m.place else passing amount most (sum + amount m) ms) ≡ None → sum + sum_by amount (m ∷ ms) ≤ most) [
+    elim (nat_lt most (sum + amount m)) as (λ b. nat_lt most (sum + amount m) ≡ b →
+    (if b then Some m.place else passing amount most (sum + amount m) ms) ≡ None → sum + sum_by amount (m ∷ ms) ≤ most) [
       | true ↦ λ t f. absurd cc
       | false ↦ λ t f.
           let low' : sum + amount m ≤ most = grind (arith, nat_tests) in
@@ -274,7 +287,8 @@ some_rules end [] e = absurd cc
 some_rules end (m ∷ ms) e = omega arith
 
 -- the rules that a file means are lawful, where each leaf has a set that it may have
-pub lawful_rules : (files : List File) (ignored : Bool) (statements : List StatementTree) (rs : List model.Rule) → AreWellMade statements → Means files ignored statements rs → AllByRecursion HasRuleSets rs → AreLawful rs
+pub lawful_rules : (files : List File) (ignored : Bool) (statements : List StatementTree) (rs : List model.Rule) → AreWellMade statements →
+    Means files ignored statements rs → AllByRecursion HasRuleSets rs → AreLawful rs
 lawful_rules files ignored statements rs well means has =
     let ms = active_rules files statements in
     let w = within 0 ms (means.within 0) in
@@ -291,5 +305,6 @@ lawful_rules files ignored statements rs well means has =
       few = omega arith;
       few_look_aheads = omega arith;
       few_leaves = omega arith;
-      each = each_lawful files ms rs means.rules_in_order (rules_sound ignored (start files) statements (record { each = λ name. tt }) well means.faultless) has;
+      each = each_lawful files ms rs means.rules_in_order (rules_sound ignored (start files) statements (record { each = λ name. tt }) well means.faultless)
+          has;
     }

@@ -35,17 +35,22 @@ not_lone_sequence k e n =
     ap (set_of_expr k) (expr_tree_out e) ∙ not_one_sequence k (map seq_tree (out-Expr e).items.items) (λ one. n (sym same ∙ one))
 
 -- of one sequence
-pub lone_sequence : (e : Expr) (s : Seq) → length (out-Expr e).items.items ≡ 1 → s ≡ slice_index_or (out-Expr e).items.items 0 s → expr_tree e ≡ alternative (seq_tree s) no_alternatives
+pub lone_sequence : (e : Expr) (s : Seq) → length (out-Expr e).items.items ≡ 1 → s ≡ slice_index_or (out-Expr e).items.items 0 s →
+    expr_tree e ≡ alternative (seq_tree s) no_alternatives
 lone_sequence e s len is = expr_tree_out e ∙ ap (λ xs. expr_of (map seq_tree xs)) (one_of_list (out-Expr e).items.items s len is)
 
 -- of one sequence with more or fewer items than one
-pub not_lone_item : (k : Context) (e : Expr) (s : Seq) → expr_tree e ≡ alternative (seq_tree s) no_alternatives → ¬ (length (out-Seq s).items.items ≡ 1) → set_of_expr k (expr_tree e) ≡ None
+pub not_lone_item : (k : Context) (e : Expr) (s : Seq) → expr_tree e ≡ alternative (seq_tree s) no_alternatives → ¬ (length (out-Seq s).items.items ≡ 1) →
+    set_of_expr k (expr_tree e) ≡ None
 not_lone_item k e s is n =
     let same : length (map item_tree (out-Seq s).items.items) ≡ length (out-Seq s).items.items = simp length-map in
-    ap (set_of_expr k) (is ∙ ap (λ t. alternative t no_alternatives) (seq_tree_out s)) ∙ not_one_item k (map item_tree (out-Seq s).items.items) (λ one. n (sym same ∙ one))
+    ap (set_of_expr k) (is ∙ ap (λ t. alternative t no_alternatives) (seq_tree_out s))
+    ∙ not_one_item k (map item_tree (out-Seq s).items.items) (λ one. n (sym same ∙ one))
 
 -- of one item
-pub lone_item : (e : Expr) (s : Seq) (i : Item) → expr_tree e ≡ alternative (seq_tree s) no_alternatives → length (out-Seq s).items.items ≡ 1 → i ≡ slice_index_or (out-Seq s).items.items 0 i →
+pub lone_item : (e : Expr) (s : Seq) (i : Item) → expr_tree e ≡ alternative (seq_tree s) no_alternatives → length (out-Seq s).items.items ≡ 1 →
+    i ≡ slice_index_or (out-Seq s).items.items 0 i →
     expr_tree e ≡ alternative (item (placed i.place (atom_tree i.atom) i.quant) no_items) no_alternatives
 lone_item e s i is len at =
-    is ∙ ap (λ t. alternative t no_alternatives) (seq_tree_out s ∙ ap (λ xs. seq_of (map item_tree xs)) (one_of_list (out-Seq s).items.items i len at) ∙ ap (λ t. item t no_items) (item_tree_out i))
+    is ∙ ap (λ t. alternative t no_alternatives) (seq_tree_out s ∙ ap (λ xs. seq_of (map item_tree xs)) (one_of_list (out-Seq s).items.items i len at)
+    ∙ ap (λ t. item t no_items) (item_tree_out i))

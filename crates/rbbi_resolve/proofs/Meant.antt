@@ -1,5 +1,6 @@
 -- What names mean, by the expressions that their statements assign.
-use Rattle.std.proofs.Common.{◌≡◌, ℕ, ◌+◌, ◌<◌, ◌≤◌, Bool, true, false, nat_lt, if◌then◌else◌, Option, Some, None, MatchOption, unwrap_or, List, [], ◌∷◌, ◌++◌, map, length, slice_get, encode_utf8_all, sym, refl, ap, ◌∙◌, subst, arith}
+use Rattle.std.proofs.Common.{◌≡◌, ℕ, ◌+◌, ◌<◌, ◌≤◌, Bool, true, false, nat_lt, if◌then◌else◌, Option, Some, None, MatchOption, unwrap_or, List, [], ◌∷◌}
+use Rattle.std.proofs.Common.{◌++◌, map, length, slice_get, encode_utf8_all, sym, refl, ap, ◌∙◌, subst, arith}
 use Rattle.std.proofs.lemmas.Bool.Decides.{nat_tests}
 use Rattle.std.proofs.lemmas.Option.{slice_get_within}
 use Rattle.std.proofs.lemmas.List.{length-map}
@@ -7,7 +8,8 @@ use Rattle.std.specs.HashMap.{get_by_text}
 use Rattle.rbbi_model.specs.Ranges.{Range}
 use Rattle.rbbi_model.specs.SetTrees as model
 use Rattle.rbbi_props.specs.Rows.{File}
-use Rattle.rbbi_tree.specs.Trees.{ExprTree, SeqTree, ItemTree, AtomTree, no_alternatives, alternative, no_items, item, placed, character, quoted, any, name, property, set, group, expr_of, seq_of}
+use Rattle.rbbi_tree.specs.Trees.{ExprTree, SeqTree, ItemTree, AtomTree, no_alternatives, alternative, no_items, item, placed, character, quoted, any, name}
+use Rattle.rbbi_tree.specs.Trees.{property, set, group, expr_of, seq_of}
 use Rattle.rbbi_tree.specs.Trees.{StatementTree}
 use Rattle.rbbi_tree.specs.Values.{statement_trees, statement_tree}
 use Rattle.rbbi_tree.specs.declared.syntax.Quant.TheVariants as quant
@@ -17,7 +19,8 @@ use Rattle.rbbi_resolve.specs.Meanings as Meanings
 use Rattle.rbbi_resolve.specs.Meanings.{Meaning, Leaf, Never}
 use Rattle.rbbi_resolve.specs.Contexts as contexts
 use Rattle.rbbi_resolve.specs.Contexts.{Set, Expression, Context, assigned_to, variable_of}
-use Rattle.rbbi_resolve.specs.Expressions.{leaf_of, word_of, meaning_of_variable, meaning_of_expr, meaning_of_seq, meaning_of_item, meaning_of_atom, height_of_expr, set_of_variable, set_of_atom, set_of_item, set_of_expr, variable_with, variable_for}
+use Rattle.rbbi_resolve.specs.Expressions.{leaf_of, word_of, meaning_of_variable, meaning_of_expr, meaning_of_seq, meaning_of_item, meaning_of_atom}
+use Rattle.rbbi_resolve.specs.Expressions.{height_of_expr, set_of_variable, set_of_atom, set_of_item, set_of_expr, variable_with, variable_for}
 use Rattle.rbbi_resolve.specs.Files.{context_at}
 use Rattle.rbbi_resolve.specs.Scopes.{visible, Matches, IsUnassigned, IsDefinedBy, context_of}
 use Rattle.rbbi_resolve.specs.OwnLeaves.{set_or_nothing}
@@ -57,7 +60,8 @@ expr_is_leaf k (alternative (item first (item second rest)) more) value e = absu
 expr_is_leaf k (alternative (item first no_items) (alternative second more)) value e = absurd cc
 expr_is_leaf k (alternative (item first no_items) no_alternatives) value e = item_is_leaf k first value e
 
-variable_means : (k : Context) (x : ExprTree) (o : Option (Option model.SetTree)) → set_of_expr k x ≡ o → meaning_of_variable (Some (variable_with o (meaning_of_expr k x) (height_of_expr k x))) ≡ meaning_of_expr k x
+variable_means : (k : Context) (x : ExprTree) (o : Option (Option model.SetTree)) → set_of_expr k x ≡ o →
+    meaning_of_variable (Some (variable_with o (meaning_of_expr k x) (height_of_expr k x))) ≡ meaning_of_expr k x
 variable_means k x None e = refl
 variable_means k x (Some value) e = sym (expr_is_leaf k x value e)
 
@@ -80,12 +84,14 @@ pub record IsNamed (files : List File) (scope : Scope) (word : List ℕ) (v : Va
   pub low : v.statement < scope.limit
   pub inside : v.statement < length scope.statements.now
 
-pub named : (files : List File) (scope : Scope) (word : List ℕ) (v : Variable) → IsReady files scope → Some v ≡ visible scope.limit (get_by_text scope.variables.now (encode_utf8_all word)) → IsNamed files scope word v
+pub named : (files : List File) (scope : Scope) (word : List ℕ) (v : Variable) → IsReady files scope →
+    Some v ≡ visible scope.limit (get_by_text scope.variables.now (encode_utf8_all word)) → IsNamed files scope word v
 named files scope word v ready e =
     let trees = statement_trees scope.statements.now in
     let text = encode_utf8_all word in
     let s = seen_is scope.limit (get_by_text scope.variables.now text) v e in
-    let d : IsDefinedBy files trees ready.end text v = subst (λ o. MatchOption o (IsUnassigned files trees ready.end text) (IsDefinedBy files trees ready.end text)) s.0 (ready.variables.each text) in
+    let d : IsDefinedBy files trees ready.end text v =
+    subst (λ o. MatchOption o (IsUnassigned files trees ready.end text) (IsDefinedBy files trees ready.end text)) s.0 (ready.variables.each text) in
     let k = context_at files trees v.statement in
     let found : variable_of (context_of files scope) word ≡ Some (variable_for k d.expr) = d.behind scope.limit s.1 ready.low in
     let within = slice_get_within trees v.statement _ d.assigns in
@@ -103,11 +109,13 @@ unmatched files None m = refl
 unmatched files (Some v) m = absurd m
 
 -- what a name means that stands for nothing
-pub unnamed : (files : List File) (scope : Scope) (word : List ℕ) → IsReady files scope → None ≡ visible scope.limit (get_by_text scope.variables.now (encode_utf8_all word)) →
+pub unnamed : (files : List File) (scope : Scope) (word : List ℕ) → IsReady files scope →
+    None ≡ visible scope.limit (get_by_text scope.variables.now (encode_utf8_all word)) →
     meaning_of_atom (context_of files scope) (name word) ≡ Never
 unnamed files scope word ready e =
     let d = describes files (statement_trees scope.statements.now) scope.variables.now ready.end scope.limit ready.low ready.variables in
-    unmatched files (variable_of (context_of files scope) word) (subst (λ o. Matches files o (variable_of (context_of files scope) word)) (sym e) (d.same (encode_utf8_all word)))
+    unmatched files (variable_of (context_of files scope) word) (subst (λ o. Matches files o (variable_of (context_of files scope) word)) (sym e)
+    (d.same (encode_utf8_all word)))
 
 -- an expression is a choice of its sequences, and a sequence its items
 pub expr_means : (k : Context) (ss : List SeqTree) → meaning_of_expr k (expr_of ss) ≡ choice_meaning (map (meaning_of_seq k) ss)

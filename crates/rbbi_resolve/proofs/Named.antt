@@ -1,5 +1,6 @@
 -- What a variable of the code says of that of the specification.
-use Rattle.std.proofs.Common.{◌≡◌, ℕ, ◌+◌, Bool, true, false, Option, Some, None, List, is_none, is_some, if◌then◌else◌, [], ◌∷◌, ◌++◌, sym, refl, ap, ◌∙◌, subst}
+use Rattle.std.proofs.Common.{◌≡◌, ℕ, ◌+◌, Bool, true, false, Option, Some, None, List, is_none, is_some, if◌then◌else◌, [], ◌∷◌, ◌++◌, sym, refl, ap, ◌∙◌}
+use Rattle.std.proofs.Common.{subst}
 use Rattle.rbbi_model.specs.Ranges.{Range}
 use Rattle.rbbi_model.specs.SetTrees as model
 use Rattle.rbbi_props.specs.Rows.{File}
@@ -22,13 +23,15 @@ use Rattle.rbbi_resolve.proofs.Noting.{noted_parts_of_append}
 use Rattle.rbbi_resolve.specs.Summaries.{Sums, Summarizes}
 
 -- a name that is absent has no value in a set
-pub absent_has_none : (files : List File) (here : Option Variable) (there : Option contexts.Variable) → None ≡ here → Matches files here there → value_of_variable there ≡ None
+pub absent_has_none : (files : List File) (here : Option Variable) (there : Option contexts.Variable) → None ≡ here → Matches files here there →
+    value_of_variable there ≡ None
 absent_has_none files None None is same = refl
 absent_has_none files None (Some v) is same = absurd same
 absent_has_none files (Some v) there is same = cc
 
 -- nor has one that is no set
-of_expression : (files : List File) (here : Kind) (summary : Summary) (there : contexts.Variable) → here ≡ kind.Expression summary → IsKindOf files here there → value_of_variable (Some there) ≡ None
+of_expression : (files : List File) (here : Kind) (summary : Summary) (there : contexts.Variable) → here ≡ kind.Expression summary →
+    IsKindOf files here there → value_of_variable (Some there) ≡ None
 of_expression files (kind.Set own) summary there is same = cc
 of_expression files (kind.Expression own) summary (contexts.Set value) is same = absurd same
 of_expression files (kind.Expression own) summary (contexts.Expression meaning height) is same = refl
@@ -62,12 +65,14 @@ pub known_property : (files : List File) (negated : Bool) (word : List ℕ) (val
     IsValue files (value_of_property files negated word value) set → is_none set ≡ is_none (found files word value)
 known_property files negated word value set is = known_where files (found files word value) (model.Property negated word value) set is
 
-one_fault : (least : Option Fault) (b : Bool) (place number : ℕ) → noted least (faults_where b place number) ≡ noted least ((faults_where b place number ++ []) ++ [])
+one_fault : (least : Option Fault) (b : Bool) (place number : ℕ) → noted least (faults_where b place number) ≡ noted least
+    ((faults_where b place number ++ []) ++ [])
 one_fault least true place number = refl
 one_fault least false place number = refl
 
 -- what is noted of a property in a set
-pub property_noted : (context : contexts.Context) (files : List File) (least : Option Fault) (place : ℕ) (join : Join) (negated : Bool) (word : List ℕ) (value : Option (List ℕ)) (set : Option (List Range)) →
+pub property_noted : (context : contexts.Context) (files : List File) (least : Option Fault) (place : ℕ) (join : Join) (negated : Bool) (word : List ℕ)
+    (value : Option (List ℕ)) (set : Option (List Range)) →
     context.files ≡ files → IsValue files (value_of_property files negated word value) set →
     noted least (faults_where (is_none set) place 7) ≡ noted_parts context least (parts_of_part (joined place join (set_property negated word value)))
 property_noted context files least place join negated word value set same is =
@@ -83,7 +88,8 @@ within_noted context least place join inner = sym (noted_parts_of_append context
 -- what is noted of a set outside of sets
 pub set_noted : (context : contexts.Context) (files : List File) (least : Option Fault) (place : ℕ) (s : SetTree) (empty : Bool) →
     context.files ≡ files → empty ≡ is_empty_value files (value_of_set files (value_of_name context) s) →
-    noted (noted_parts context least (parts_of_set s)) (faults_where empty place 9) ≡ noted_parts context least (parts_of_set s ++ Outside place (trees.set s) ∷ [])
+    noted (noted_parts context least (parts_of_set s)) (faults_where empty place 9) ≡ noted_parts context least
+    (parts_of_set s ++ Outside place (trees.set s) ∷ [])
 set_noted context files least place s empty same is =
     let e : empty ≡ is_empty_value context.files (value_of_set context.files (value_of_name context) s) =
     subst (λ f. empty ≡ is_empty_value f (value_of_set f (value_of_name context) s)) (sym same) is in

@@ -12,8 +12,10 @@ noted_of_append least xs ys = fold-append noted_one least xs ys
 
 pub faults_of_append : (context : Context) (a b : List Part) → faults_of_parts context (a ++ b) ≡ faults_of_parts context a ++ faults_of_parts context b
 faults_of_append context [] b = refl
-faults_of_append context (p ∷ a) b = ap (λ fs. faults_of_part context p ++ fs) (faults_of_append context a b) ∙ sym (append_assoc (faults_of_part context p) (faults_of_parts context a) (faults_of_parts context b))
+faults_of_append context (p ∷ a) b = ap (λ fs. faults_of_part context p ++ fs) (faults_of_append context a b)
+    ∙ sym (append_assoc (faults_of_part context p) (faults_of_parts context a) (faults_of_parts context b))
 
 pub noted_parts_of_append : (context : Context) (least : Option Fault) (a b : List Part) →
     noted_parts context least (a ++ b) ≡ noted_parts context (noted_parts context least a) b
-noted_parts_of_append context least a b = ap (noted least) (faults_of_append context a b) ∙ noted_of_append least (faults_of_parts context a) (faults_of_parts context b)
+noted_parts_of_append context least a b = ap (noted least) (faults_of_append context a b)
+    ∙ noted_of_append least (faults_of_parts context a) (faults_of_parts context b)

@@ -13,7 +13,8 @@ use Rattle.rbbi_resolve.specs.Outcomes.{BothStand, IsRuleOf}
 module _ (determine : MembersDetermine) (files : List File) where
   pub stands_once : (meaning : Meaning) (t u : spelling.Tree) → Stands files meaning t → Stands files meaning u → t ≡ u
   stands_once (Leaf tree) t u s r =
-      let same : s.0 ≡ r.0 = determine s.0 r.0 s.2.rising r.2.rising (λ c. (λ h. (r.2.members c).1 ((s.2.members c).0 h), λ h. (s.2.members c).1 ((r.2.members c).0 h))) in
+      let same : s.0 ≡ r.0 =
+      determine s.0 r.0 s.2.rising r.2.rising (λ c. (λ h. (r.2.members c).1 ((s.2.members c).0 h), λ h. (s.2.members c).1 ((r.2.members c).0 h))) in
       s.1 ∙ ap spelling.Leaf same ∙ sym r.1
   stands_once Empty t u s r = s ∙ sym r
   stands_once Never t u s r = s ∙ sym r
@@ -41,7 +42,8 @@ module _ (determine : MembersDetermine) (files : List File) where
       ∙ ap (λ x. made other.front other.rest other.chained_into x rule.place) (s.tag ∙ sym r.tag)
       ∙ ap (λ x. made other.front other.rest other.chained_into other.tag x) (s.place ∙ sym r.place)
 
-  pub rules_once : (meanings : List RuleMeaning) (rules others : List model.Rule) → AllZip (IsRuleOf files) meanings rules → AllZip (IsRuleOf files) meanings others → rules ≡ others
+  pub rules_once : (meanings : List RuleMeaning) (rules others : List model.Rule) → AllZip (IsRuleOf files) meanings rules →
+      AllZip (IsRuleOf files) meanings others → rules ≡ others
   rules_once [] [] [] s r = refl
   rules_once [] [] (o ∷ others) s r = absurd r
   rules_once [] (x ∷ rules) others s r = absurd s

@@ -1,5 +1,6 @@
 -- The ranges of the code points that pass a test.
-use Rattle.std.proofs.Common.{◌≡◌, ℕ, zero, suc, ◌+◌, ◌<◌, ◌≤◌, ◌⊎◌, inl, inr, Bool, true, false, nat_eq, if◌then◌else◌, List, [], ◌∷◌, sym, refl, ap, ◌∙◌, subst, arith}
+use Rattle.std.proofs.Common.{◌≡◌, ℕ, zero, suc, ◌+◌, ◌<◌, ◌≤◌, ◌⊎◌, inl, inr, Bool, true, false, nat_eq, if◌then◌else◌, List, [], ◌∷◌, sym, refl, ap, ◌∙◌}
+use Rattle.std.proofs.Common.{subst, arith}
 use Rattle.std.proofs.lemmas.Bool.{cases_lt}
 use Rattle.std.proofs.lemmas.Bool.Decides.{nat_tests}
 use Rattle.rbbi_model.specs.Ranges.{Range, Has, InRange}
@@ -52,7 +53,8 @@ before_has c d [] r = (
   λ w. elim w [ inl e ↦ inl (omega arith, omega arith) | inr n ↦ absurd n ],
 )
 before_has c d (x ∷ rs) r =
-    elim (nat_eq x.low (c + 1)) as (λ b. nat_eq x.low (c + 1) ≡ b → Same (Has (if b then one_range c x.high ∷ rs else one_range c c ∷ x ∷ rs) d) ((d ≡ c) ⊎ Has (x ∷ rs) d)) [
+    elim (nat_eq x.low (c + 1)) as (λ b. nat_eq x.low (c + 1) ≡ b → Same (Has (if b then one_range c x.high ∷ rs else one_range c c ∷ x ∷ rs) d)
+    ((d ≡ c) ⊎ Has (x ∷ rs) d)) [
       | true ↦ λ e.
           let touch : x.low ≡ c + 1 = grind (arith, nat_tests) in
           let up = r.1 in (
@@ -75,7 +77,8 @@ before_has c d (x ∷ rs) r =
 abbrev IsPassing : (ℕ → Bool) → ℕ → ℕ → ℕ → Type 0
 IsPassing test c n d = (c ≤ d) × (d < c + n) × (test d ≡ true)
 
-put_has : (test : ℕ → Bool) (b : Bool) (c n d : ℕ) (rs : List Range) → test c ≡ b → AreRisingFrom (c + 1) rs → Same (Has rs d) (IsPassing test (c + 1) n d) → Same (Has (put b c rs) d) (IsPassing test c (n + 1) d)
+put_has : (test : ℕ → Bool) (b : Bool) (c n d : ℕ) (rs : List Range) → test c ≡ b → AreRisingFrom (c + 1) rs → Same (Has rs d) (IsPassing test (c + 1) n d) →
+    Same (Has (put b c rs) d) (IsPassing test c (n + 1) d)
 put_has test true c n d rs e r rest =
     let own = before_has c d rs r in (
       λ h. elim (own.0 h) [

@@ -1,5 +1,6 @@
 -- The active rules, one after another.
-use Rattle.std.proofs.Common.{◌≡◌, ℕ, ◌+◌, ◌<◌, ◌≤◌, inl, inr, Bool, Option, Some, None, IfSome, List, [], ◌∷◌, ◌++◌, map, length, drop, slice_get, sum_by, sym, refl, ap, ◌∙◌, subst, arith}
+use Rattle.std.proofs.Common.{◌≡◌, ℕ, ◌+◌, ◌<◌, ◌≤◌, inl, inr, Bool, Option, Some, None, IfSome, List, [], ◌∷◌, ◌++◌, map, length, drop, slice_get, sum_by}
+use Rattle.std.proofs.Common.{sym, refl, ap, ◌∙◌, subst, arith}
 use Rattle.std.specs.Option.{option_map, option_map_or}
 use Rattle.std.specs.List.{AllByRecursion, AllZip, Contains, flat_map}
 use Rattle.std.proofs.lemmas.Bool.{cases_lt}
@@ -34,15 +35,24 @@ module _ (files : List File) where
 
   rule_more : (sets ext : List (List Range)) (m : RuleMeaning) (r : Rule) → IsRuleBuilt files sets m r → IsRuleBuilt files (sets ++ ext) m r
   rule_more sets ext m r b =
-      record { front = part_more files sets ext m.front r.front b.front; rest = rest_more sets ext m.rest r.rest b.rest; chained_into = b.chained_into; tag = b.tag; place = b.place }
+      record {
+        front = part_more files sets ext m.front r.front b.front;
+        rest = rest_more sets ext m.rest r.rest b.rest;
+        chained_into = b.chained_into;
+        tag =
+            b.tag;
+        place = b.place;
+      }
 
-  rules_more : (sets ext : List (List Range)) (ms : List RuleMeaning) (rs : List Rule) → AllZip (IsRuleBuilt files sets) ms rs → AllZip (IsRuleBuilt files (sets ++ ext)) ms rs
+  rules_more : (sets ext : List (List Range)) (ms : List RuleMeaning) (rs : List Rule) → AllZip (IsRuleBuilt files sets) ms rs →
+      AllZip (IsRuleBuilt files (sets ++ ext)) ms rs
   rules_more sets ext [] [] z = tt
   rules_more sets ext [] (r ∷ rs) z = absurd z
   rules_more sets ext (m ∷ ms) [] z = absurd z
   rules_more sets ext (m ∷ ms) (r ∷ rs) z = (rule_more sets ext m r z.0, rules_more sets ext ms rs z.1)
 
-  rules_both : (sets : List (List Range)) (ms : List RuleMeaning) (rs : List Rule) (ns : List RuleMeaning) (ss : List Rule) → AllZip (IsRuleBuilt files sets) ms rs → AllZip (IsRuleBuilt files sets) ns ss → AllZip (IsRuleBuilt files sets) (ms ++ ns) (rs ++ ss)
+  rules_both : (sets : List (List Range)) (ms : List RuleMeaning) (rs : List Rule) (ns : List RuleMeaning) (ss : List Rule) →
+      AllZip (IsRuleBuilt files sets) ms rs → AllZip (IsRuleBuilt files sets) ns ss → AllZip (IsRuleBuilt files sets) (ms ++ ns) (rs ++ ss)
   rules_both sets [] [] ns ss a b = b
   rules_both sets [] (r ∷ rs) ns ss a b = absurd a
   rules_both sets (m ∷ ms) [] ns ss a b = absurd a
@@ -50,12 +60,15 @@ module _ (files : List File) where
 
   flat_both : (rs ss : List Rule) → flat_map numbers_of_rule (rs ++ ss) ≡ flat_map numbers_of_rule rs ++ flat_map numbers_of_rule ss
   flat_both [] ss = refl
-  flat_both (r ∷ rs) ss = ap (λ ns. numbers_of_rule r ++ ns) (flat_both rs ss) ∙ sym (append_assoc (numbers_of_rule r) (flat_map numbers_of_rule rs) (flat_map numbers_of_rule ss))
+  flat_both (r ∷ rs) ss = ap (λ ns. numbers_of_rule r ++ ns) (flat_both rs ss)
+      ∙ sym (append_assoc (numbers_of_rule r) (flat_map numbers_of_rule rs) (flat_map numbers_of_rule ss))
 
   -- one statement further
-  pub statement_built : (statements : List StatementTree) (sets sets' : List (List Range)) (bases bases' : List (Option ℕ)) (switches switches' : Switches) (rules rules' new : List Rule) (n : ℕ) (s : StatementTree) →
+  pub statement_built : (statements : List StatementTree) (sets sets' : List (List Range)) (bases bases' : List (Option ℕ)) (switches switches' : Switches)
+      (rules rules' new : List Rule) (n : ℕ) (s : StatementTree) →
       AreRulesTo files statements sets bases switches rules n → slice_get statements n ≡ Some s → GoesOn files statements sets sets' bases' →
-      AreSwitches switches' (context_after (context_at files statements n) s) → AllZip (IsRuleBuilt files sets') (rule_in (context_at files statements n) s) new → rules' ≡ rules ++ new →
+      AreSwitches switches' (context_after (context_at files statements n) s) → AllZip (IsRuleBuilt files sets') (rule_in (context_at files statements n) s)
+      new → rules' ≡ rules ++ new →
       ((k : ℕ) → length sets ≤ k → k < length sets' → Contains (flat_map numbers_of_rule new) k) →
       AreRulesTo files statements sets' bases' switches' rules' (n + 1)
   statement_built statements sets sets' bases bases' switches switches' rules rules' new n s a at on switch each put fresh =
@@ -86,7 +99,8 @@ module _ (files : List File) where
       }
 
   -- the numbers of a rule that was built
-  pub rule_fresh : (old mid : ℕ) (sets' sets : List (List Range)) (m : Meaning) (o : Option Meaning) (r : Rule) → length sets' ≡ mid → IsBuilt files old sets' 0 0 m r.front → IsRestBuilt files mid sets o r.rest →
+  pub rule_fresh : (old mid : ℕ) (sets' sets : List (List Range)) (m : Meaning) (o : Option Meaning) (r : Rule) → length sets' ≡ mid →
+      IsBuilt files old sets' 0 0 m r.front → IsRestBuilt files mid sets o r.rest →
       (k : ℕ) → old ≤ k → k < length sets → Contains (flat_map numbers_of_rule (r ∷ [])) k
   rule_fresh old mid sets' sets m o r long front rest k low high =
       let out : Contains (numbers_of_rule r) k → Contains (flat_map numbers_of_rule (r ∷ [])) k = λ w. contains_left (numbers_of_rule r) [] k w in
@@ -95,15 +109,22 @@ module _ (files : List File) where
         | inr ge ↦ out (contains_right (numbers_of r.front) (option_map_or numbers_of r.rest []) k (rest.fresh k ge high))
       ]
 
-  all_steps : (statements : List StatementTree) (n : ℕ) → length statements ≤ n → (done : List RuleMeaning) → done ++ rules_from (context_at files statements n) (drop n statements) ≡ active_rules files statements → done ≡ active_rules files statements
+  all_steps : (statements : List StatementTree) (n : ℕ) → length statements ≤ n → (done : List RuleMeaning) →
+      done ++ rules_from (context_at files statements n) (drop n statements) ≡ active_rules files statements → done ≡ active_rules files statements
   unfolding rules_from
   all_steps statements n long done e =
       sym (append-nil done) ∙ ap (λ x. done ++ rules_from (context_at files statements n) x) (sym (drop_all n statements long)) ∙ e
 
   -- at the end
-  pub all_built : (statements : List StatementTree) (sets : List (List Range)) (bases : List (Option ℕ)) (switches : Switches) (rules : List Rule) (n : ℕ) → length statements ≤ n → AreRulesTo files statements sets bases switches rules n → AreAllRules files statements sets rules
+  pub all_built : (statements : List StatementTree) (sets : List (List Range)) (bases : List (Option ℕ)) (switches : Switches) (rules : List Rule) (n : ℕ) →
+      length statements ≤ n → AreRulesTo files statements sets bases switches rules n → AreAllRules files statements sets rules
   all_built statements sets bases switches rules n long a =
-      record { each = subst (λ ms. AllZip (IsRuleBuilt files sets) ms rules) (all_steps statements n long a.done a.every) a.each; used = a.used; formed = a.builder.formed }
+      record {
+        each = subst (λ ms. AllZip (IsRuleBuilt files sets) ms rules) (all_steps statements n long a.done a.every) a.each;
+        used = a.used;
+        formed =
+            a.builder.formed;
+      }
 
   rest_stands : (sets : List (List Range)) (m : Option Meaning) (t : Option Tree) → IsRest files sets m t → BothStand files m (option_map (tree_of sets) t)
   rest_stands sets None None r = tt
@@ -121,7 +142,8 @@ module _ (files : List File) where
         place = b.place;
       }
 
-  pub rules_stand : (sets : List (List Range)) (ms : List RuleMeaning) (rs : List Rule) → AllZip (IsRuleBuilt files sets) ms rs → AllZip (IsRuleOf files) ms (map (rule_of sets) rs)
+  pub rules_stand : (sets : List (List Range)) (ms : List RuleMeaning) (rs : List Rule) → AllZip (IsRuleBuilt files sets) ms rs →
+      AllZip (IsRuleOf files) ms (map (rule_of sets) rs)
   rules_stand sets [] [] z = tt
   rules_stand sets [] (r ∷ rs) z = absurd z
   rules_stand sets (m ∷ ms) [] z = absurd z
@@ -133,7 +155,8 @@ module _ (files : List File) where
   rest_filled sets (Some m) None r = absurd r
   rest_filled sets (Some m) (Some t) r = subst (λ ss. HasLeafSets (tree_of ss t)) (append-nil sets) (r.filled [])
 
-  pub rules_filled : (sets : List (List Range)) (ms : List RuleMeaning) (rs : List Rule) → AllZip (IsRuleBuilt files sets) ms rs → AllByRecursion HasRuleSets (map (rule_of sets) rs)
+  pub rules_filled : (sets : List (List Range)) (ms : List RuleMeaning) (rs : List Rule) → AllZip (IsRuleBuilt files sets) ms rs →
+      AllByRecursion HasRuleSets (map (rule_of sets) rs)
   rules_filled sets [] [] z = tt
   rules_filled sets [] (r ∷ rs) z = absurd z
   rules_filled sets (m ∷ ms) [] z = absurd z
@@ -142,21 +165,25 @@ module _ (files : List File) where
     rules_filled sets ms rs z.1,
   )
 
-  rest_numbered : (sets : List (List Range)) (m : Option Meaning) (t : Option Tree) → IsRest files sets m t → AllByRecursion (λ n. n < length sets) (option_map_or numbers_of t [])
+  rest_numbered : (sets : List (List Range)) (m : Option Meaning) (t : Option Tree) → IsRest files sets m t →
+      AllByRecursion (λ n. n < length sets) (option_map_or numbers_of t [])
   rest_numbered sets None None r = tt
   rest_numbered sets None (Some t) r = absurd r
   rest_numbered sets (Some m) None r = absurd r
   rest_numbered sets (Some m) (Some t) r = r.numbered
 
-  rules_numbered : (sets : List (List Range)) (ms : List RuleMeaning) (rs : List Rule) → AllZip (IsRuleBuilt files sets) ms rs → AllByRecursion (λ n. n < length sets) (flat_map numbers_of_rule rs)
+  rules_numbered : (sets : List (List Range)) (ms : List RuleMeaning) (rs : List Rule) → AllZip (IsRuleBuilt files sets) ms rs →
+      AllByRecursion (λ n. n < length sets) (flat_map numbers_of_rule rs)
   rules_numbered sets [] [] z = tt
   rules_numbered sets [] (r ∷ rs) z = absurd z
   rules_numbered sets (m ∷ ms) [] z = absurd z
   rules_numbered sets (m ∷ ms) (r ∷ rs) z =
       all_append (λ n. n < length sets) (numbers_of_rule r) (flat_map numbers_of_rule rs)
-      (all_append (λ n. n < length sets) (numbers_of r.front) (option_map_or numbers_of r.rest []) z.0.front.numbered (rest_numbered sets m.rest r.rest z.0.rest))
+      (all_append (λ n. n < length sets) (numbers_of r.front) (option_map_or numbers_of r.rest []) z.0.front.numbered
+      (rest_numbered sets m.rest r.rest z.0.rest))
       (rules_numbered sets ms rs z.1)
 
   -- the rules are well formed
-  pub rules_formed : (statements : List StatementTree) (sets : List (List Range)) (rules : List Rule) → AreAllRules files statements sets rules → AreWellFormed (record { rules = rules; sets = sets })
+  pub rules_formed : (statements : List StatementTree) (sets : List (List Range)) (rules : List Rule) → AreAllRules files statements sets rules →
+      AreWellFormed (record { rules = rules; sets = sets })
   rules_formed statements sets rules a = record { numbered = rules_numbered sets (active_rules files statements) rules a.each; used = a.used; sets = a.formed }

@@ -1,5 +1,6 @@
 -- A range that is collected, and the whole at the end.
-use Rattle.std.proofs.Common.{◌≡◌, ℕ, Bool, true, false, ◌⊎◌, ◌↔◌, inl, inr, List, [], ◌∷◌, ◌++◌, Option, Some, None, option_map, ◌<◌, ◌≤◌, cond, leb, sym, ap, ◌∙◌, refl, subst, arith}
+use Rattle.std.proofs.Common.{◌≡◌, ℕ, Bool, true, false, ◌⊎◌, ◌↔◌, inl, inr, List, [], ◌∷◌, ◌++◌, Option, Some, None, option_map, ◌<◌, ◌≤◌, cond, leb, sym}
+use Rattle.std.proofs.Common.{ap, ◌∙◌, refl, subst, arith}
 use Rattle.std.proofs.lemmas.Bool.Decides.{nat_tests}
 use Rattle.rbbi_model.specs.Ranges.{Range, Has, InRange}
 use Rattle.rbbi_model.specs.SetTrees as model
@@ -37,7 +38,8 @@ collected files (Some tree) old new range same known added so_far =
     }
 
 -- the set that was collected has the members of the parts
-pub gathered : (files : List File) (tree : model.SetTree) (so_far : SoFar) → so_far.added.items ≡ [] → IsJoined files tree so_far → HasMembers files tree so_far.set
+pub gathered : (files : List File) (tree : model.SetTree) (so_far : SoFar) → so_far.added.items ≡ [] → IsJoined files tree so_far →
+    HasMembers files tree so_far.set
 gathered files tree so_far none joined =
     record {
       rising = joined.rising;
@@ -71,7 +73,8 @@ only_itself : (c d : ℕ) → ((c ≤ d) × (d ≤ c)) ↔ (d ≡ c)
 only_itself c d = (λ h. omega (arith, h.0, h.1), λ e. (omega arith, omega arith))
 
 pub one_character : (files : List File) (join : Join) (c : ℕ) (left : Option model.SetTree) (so_far : SoFar) →
-    IsSoFar files (joined_to join (Some (model.Span (record { low = c; high = c }))) left) so_far → IsSoFar files (joined_to join (Some (model.Character c)) left) so_far
+    IsSoFar files (joined_to join (Some (model.Span (record { low = c; high = c }))) left) so_far →
+    IsSoFar files (joined_to join (Some (model.Character c)) left) so_far
 one_character files join c None so_far is = is
 one_character files join c (Some tree) so_far is =
     record {

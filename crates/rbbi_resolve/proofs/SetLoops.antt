@@ -19,7 +19,8 @@ use Rattle.rbbi_resolve.specs.Faults.{noted_parts}
 use Rattle.rbbi_resolve.proofs.Noting.{noted_parts_of_append}
 
 -- the parts so far are worth something that, with the parts left, is the worth of the whole; and the faults left are noted last
-pub record IsJoining (files : List File) (context : Context) (before : Option Fault) (whole : PartsTree) (so_far : SoFar) (least : Option Fault) (now : List File) (left_over : PartsTree) : Type 0 where
+pub record IsJoining (files : List File) (context : Context) (before : Option Fault) (whole : PartsTree) (so_far : SoFar) (least : Option Fault)
+    (now : List File) (left_over : PartsTree) : Type 0 where
   pub same : now ≡ files
   pub left : Option model.SetTree
   pub is : IsSoFar files left so_far
@@ -33,16 +34,20 @@ parts_in s = (out-Parts (out-SetExpr s).parts).items.items
 set_is : (s : SetExpr) → set_tree s ≡ set_of (out-SetExpr s).place (out-SetExpr s).negated (parts_of (map part_tree (parts_in s)))
 set_is s = set_tree_out s ∙ ap (set_of (out-SetExpr s).place (out-SetExpr s).negated) (parts_tree_out (out-SetExpr s).parts)
 
-parts_left : (items : List SetPart) (i : ℕ) (p : SetPart) → i < length items → p ≡ get_or items i p → parts_of (map part_tree (drop i items)) ≡ parts_of (part_tree p ∷ map part_tree (drop (i + 1) items))
+parts_left : (items : List SetPart) (i : ℕ) (p : SetPart) → i < length items → p ≡ get_or items i p → parts_of (map part_tree (drop i items)) ≡ parts_of
+    (part_tree p ∷ map part_tree (drop (i + 1) items))
 parts_left items i p inside is = ap (λ ps. parts_of (map part_tree ps)) (drop_more items i p inside ∙ ap (λ q. q ∷ drop (i + 1) items) (sym is))
 
 -- what joining a part does
-pub record JoinsPart (context : List File → Context) (files : List File) (p : SetPart) (so_far so_far' : SoFar) (least least' : Option Fault) (now' : List File) : Type 0 where
-  pub joined : (left : Option model.SetTree) → IsSoFar files left so_far → IsSoFar files (value_of_part files (value_of_name (context files)) left (part_tree p)) so_far'
+pub record JoinsPart (context : List File → Context) (files : List File) (p : SetPart) (so_far so_far' : SoFar) (least least' : Option Fault)
+    (now' : List File) : Type 0 where
+  pub joined : (left : Option model.SetTree) → IsSoFar files left so_far →
+      IsSoFar files (value_of_part files (value_of_name (context files)) left (part_tree p)) so_far'
   pub noted : least' ≡ noted_parts (context files) least (parts_of_part (part_tree p))
   pub same : now' ≡ files
 
-pub joining_turn : (context : List File → Context) (files : List File) (before : Option Fault) (whole : PartsTree) (so_far so_far' : SoFar) (least least' : Option Fault) (now now' : List File) (items : List SetPart) (i : ℕ) (p : SetPart) →
+pub joining_turn : (context : List File → Context) (files : List File) (before : Option Fault) (whole : PartsTree) (so_far so_far' : SoFar)
+    (least least' : Option Fault) (now now' : List File) (items : List SetPart) (i : ℕ) (p : SetPart) →
     i < length items → p ≡ get_or items i p →
     IsJoining files (context files) before whole so_far least now (parts_of (map part_tree (drop i items))) →
     JoinsPart context now p so_far so_far' least least' now' →
@@ -50,7 +55,8 @@ pub joining_turn : (context : List File → Context) (files : List File) (before
 joining_turn context files before whole so_far so_far' least least' now now' items i p inside is joining step =
     let here : IsJoining files (context files) before whole so_far least now (parts_of (part_tree p ∷ map part_tree (drop (i + 1) items))) =
     subst (IsJoining files (context files) before whole so_far least now) (parts_left items i p inside is) joining in
-    let step' : JoinsPart context files p so_far so_far' least least' now' = subst (λ n. JoinsPart context n p so_far so_far' least least' now') here.same step in
+    let step' : JoinsPart context files p so_far so_far' least least' now' =
+    subst (λ n. JoinsPart context n p so_far so_far' least least' now') here.same step in
     record {
       same = step'.same;
       left = value_of_part files (value_of_name (context files)) here.left (part_tree p);
@@ -62,10 +68,12 @@ joining_turn context files before whole so_far so_far' least least' now now' ite
           ∙ here.noted;
     }
 
-module _ (files : List File) (context : Context) (before : Option Fault) (s : SetExpr) (items : List SetPart) (i : ℕ) (so_far : SoFar) (least : Option Fault) (now : List File) where
+module _ (files : List File) (context : Context) (before : Option Fault) (s : SetExpr) (items : List SetPart) (i : ℕ) (so_far : SoFar) (least : Option Fault)
+    (now : List File) where
   ended : length items ≤ i → IsJoining files context before (parts_of (map part_tree items)) so_far least now (parts_of (map part_tree (drop i items))) →
       IsJoining files context before (parts_of (map part_tree items)) so_far least now (parts_of (map part_tree []))
-  ended done joining = subst (λ ps. IsJoining files context before (parts_of (map part_tree items)) so_far least now (parts_of (map part_tree ps))) (drop_all i items done) joining
+  ended done joining = subst (λ ps. IsJoining files context before (parts_of (map part_tree items)) so_far least now (parts_of (map part_tree ps)))
+      (drop_all i items done) joining
 
   pub joining_gives : (result : Option (List Range)) → items ≡ parts_in s → length items ≤ i →
       IsJoining files context before (parts_of (map part_tree items)) so_far least now (parts_of (map part_tree (drop i items))) →
@@ -74,7 +82,8 @@ module _ (files : List File) (context : Context) (before : Option Fault) (s : Se
   joining_gives result is done joining gives =
       let e = ended done joining in
       let worth : option_map (signed (out-SetExpr s).negated) e.left ≡ value_of_set files (value_of_name context) (set_tree s) =
-      ap (option_map (signed (out-SetExpr s).negated)) (e.worth ∙ ap (λ ps. value_of_parts files (value_of_name context) (Some model.Nothing) (parts_of (map part_tree ps))) is)
+      ap (option_map (signed (out-SetExpr s).negated))
+      (e.worth ∙ ap (λ ps. value_of_parts files (value_of_name context) (Some model.Nothing) (parts_of (map part_tree ps))) is)
       ∙ ap (value_of_set files (value_of_name context)) (sym (set_is s)) in
       subst (λ v. IsValue files v result) worth (gives e.left e.is)
 

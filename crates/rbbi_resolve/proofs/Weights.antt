@@ -1,6 +1,7 @@
 -- A number that falls from an expression to its parts and to those of its variables.
 use Rattle.std.proofs.Common.{◌≡◌, ℕ, zero, suc, ◌+◌, ◌<◌, ◌≤◌, Some, List, [], ◌∷◌, map, length, get_or, slice_get, sym, refl, ap, ◌∙◌, subst, arith}
-use Rattle.rbbi_tree.specs.Trees.{ExprTree, SeqTree, ItemTree, AtomTree, no_alternatives, alternative, no_items, item, placed, character, quoted, any, name, property, set, group, expr_of, seq_of}
+use Rattle.rbbi_tree.specs.Trees.{ExprTree, SeqTree, ItemTree, AtomTree, no_alternatives, alternative, no_items, item, placed, character, quoted, any, name}
+use Rattle.rbbi_tree.specs.Trees.{property, set, group, expr_of, seq_of}
 use Rattle.rbbi_tree.specs.Trees.{StatementTree, nothing, control, assign, rule}
 use Rattle.rbbi_tree.specs.Values.{seq_tree, item_tree}
 use Rattle.rbbi_tree.specs.declared.syntax.Seq.{Seq}
@@ -44,7 +45,8 @@ weight_none [] n e = refl
 weight_none (s ∷ statements) zero e = refl
 weight_none (s ∷ statements) (suc n) e = absurd (omega arith)
 
-pub weight_more : (statements : List StatementTree) (n m : ℕ) (s : StatementTree) → slice_get statements n ≡ Some s → m ≡ n + 1 → weight statements m ≡ weight statements n + weight_of s
+pub weight_more : (statements : List StatementTree) (n m : ℕ) (s : StatementTree) → slice_get statements n ≡ Some s → m ≡ n + 1 →
+    weight statements m ≡ weight statements n + weight_of s
 weight_more [] n m s at e = absurd cc
 weight_more (x ∷ statements) zero zero s at e = absurd (omega arith)
 weight_more (x ∷ statements) zero (suc m) s at e =
@@ -61,12 +63,14 @@ weight_le (x ∷ statements) zero n low = omega arith
 weight_le (x ∷ statements) (suc m) zero low = absurd (omega arith)
 weight_le (x ∷ statements) (suc m) (suc n) low = let r = weight_le statements m n (omega arith) in omega arith
 
-pub smaller_seq : (items : List Seq) (i : ℕ) (p : Seq) → i < length items → p ≡ get_or items i p → size_of_seq (seq_tree p) < size_of_expr (expr_of (map seq_tree items))
+pub smaller_seq : (items : List Seq) (i : ℕ) (p : Seq) → i < length items → p ≡ get_or items i p →
+    size_of_seq (seq_tree p) < size_of_expr (expr_of (map seq_tree items))
 smaller_seq [] i p inside is = absurd (omega arith)
 smaller_seq (s ∷ items) zero p inside is = let e = ap (λ x. size_of_seq (seq_tree x)) is in omega arith
 smaller_seq (s ∷ items) (suc i) p inside is = let r = smaller_seq items i p (omega arith) is in omega arith
 
-pub smaller_item : (items : List Item) (i : ℕ) (p : Item) → i < length items → p ≡ get_or items i p → size_of_item (item_tree p) < size_of_seq (seq_of (map item_tree items))
+pub smaller_item : (items : List Item) (i : ℕ) (p : Item) → i < length items → p ≡ get_or items i p → size_of_item (item_tree p) < size_of_seq
+    (seq_of (map item_tree items))
 smaller_item [] i p inside is = absurd (omega arith)
 smaller_item (s ∷ items) zero p inside is = let e = ap (λ x. size_of_item (item_tree x)) is in omega arith
 smaller_item (s ∷ items) (suc i) p inside is = let r = smaller_item items i p (omega arith) is in omega arith

@@ -1,5 +1,6 @@
 -- The faults and the active rules of a rule file.
-use Rattle.std.specs.Prelude.{◌≡◌, ℕ, ◌+◌, Bool, true, false, not, ◌&&◌, ◌||◌, nat_lt, max, Option, Some, None, option_map, is_some, List, [], ◌∷◌, ◌++◌, filter, find, slice_get, fold, take, codes, bytes_eq, encode_utf8_all, if◌then◌else◌}
+use Rattle.std.specs.Prelude.{◌≡◌, ℕ, ◌+◌, Bool, true, false, not, ◌&&◌, ◌||◌, nat_lt, max, Option, Some, None, option_map, is_some, List, [], ◌∷◌, ◌++◌}
+use Rattle.std.specs.Prelude.{filter, find, slice_get, fold, take, codes, bytes_eq, encode_utf8_all, if◌then◌else◌}
 use Rattle.std.specs.Option.{option_or, option_map_or}
 use Rattle.rbbi_props.specs.Rows.{File}
 use Rattle.rbbi_tree.specs.Trees.{ExprTree, StatementTree, nothing, control, assign, rule}
@@ -25,7 +26,8 @@ is_unsupported name = bytes_eq name (codes "LBCMNoChain") || bytes_eq name (code
 -- whether a control is known and supported
 abbrev pub is_supported : List ℕ → Bool
 is_supported name =
-    bytes_eq name (codes "chain") || (bytes_eq name (codes "quoted_literals_only") || (bytes_eq name (codes "forward") || (ends_active name || bytes_eq name (codes "lookAheadHardBreak"))))
+    bytes_eq name (codes "chain") ||
+    (bytes_eq name (codes "quoted_literals_only") || (bytes_eq name (codes "forward") || (ends_active name || bytes_eq name (codes "lookAheadHardBreak"))))
 
 -- what a control, by its bytes, switches on or off
 abbrev pub after_control : Context → List ℕ → Context

@@ -1,7 +1,9 @@
 -- The parts of an expression in which a fault may lie, each with its place.
 use Rattle.std.specs.Prelude.{ℕ, List, [], ◌∷◌, ◌++◌}
-use Rattle.rbbi_tree.specs.Trees.{SetTree, PartsTree, PartTree, SetItemTree, set_of, no_parts, part, joined, set_character, set_range, set_name, set_property, set_within}
-use Rattle.rbbi_tree.specs.Trees.{ExprTree, SeqTree, ItemTree, AtomTree, no_alternatives, alternative, no_items, item, placed, character, quoted, any, name, property, set, group}
+use Rattle.rbbi_tree.specs.Trees.{SetTree, PartsTree, PartTree, SetItemTree, set_of, no_parts, part, joined, set_character, set_range, set_name, set_property}
+use Rattle.rbbi_tree.specs.Trees.{set_within}
+use Rattle.rbbi_tree.specs.Trees.{ExprTree, SeqTree, ItemTree, AtomTree, no_alternatives, alternative, no_items, item, placed, character, quoted, any, name}
+use Rattle.rbbi_tree.specs.Trees.{property, set, group}
 
 -- an atom, or an item of a set, with the place of its first token
 pub data Part : Type 0 where

@@ -14,4 +14,5 @@ pub record IsFor (answer : Answer) (negated : Bool) (word : List ℕ) (word_of_v
 -- the answer is right: its set is the value of the property
 abbrev pub IsAnswer : List File → Answer → Type 0
 IsAnswer files answer =
-    IsValue files (value_of_property files answer.negated (chars (string_bytes answer.name)) (option_map (λ text. chars (string_bytes text)) answer.value)) answer.set
+    IsValue files (value_of_property files answer.negated (chars (string_bytes answer.name)) (option_map (λ text. chars (string_bytes text)) answer.value))
+    answer.set

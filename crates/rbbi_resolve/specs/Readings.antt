@@ -15,9 +15,11 @@ use Rattle.rbbi_resolve.specs.Countings.{AreCounting}
 
 -- The statements before this number were read: the variables and the switches are those before it, and what was noted and
 -- counted goes on with the statements that are left.
-pub record IsReadTo (files : List File) (ignored : Bool) (statements : List StatementTree) (variables : Variables) (least : Option Fault) (switches : Switches) (counts : declared.Counts) (number : ℕ) : Type 0 where
+pub record IsReadTo (files : List File) (ignored : Bool) (statements : List StatementTree) (variables : Variables) (least : Option Fault)
+    (switches : Switches) (counts : declared.Counts) (number : ℕ) : Type 0 where
   pub defined : AreVariables files statements variables number
-  pub noted_so_far : noted least (faults_from ignored (context_at files statements number) (drop number statements)) ≡ noted None (faults_of files ignored statements)
+  pub noted_so_far : noted least (faults_from ignored (context_at files statements number) (drop number statements)) ≡ noted None
+      (faults_of files ignored statements)
   pub switched : AreSwitches switches (context_at files statements number)
   pub counted_so_far : AreCounting counts (rules_from (context_at files statements number) (drop number statements)) (active_rules files statements)
 

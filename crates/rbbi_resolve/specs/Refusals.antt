@@ -3,7 +3,9 @@ use Rattle.std.specs.Prelude.{◌≡◌, ℕ, ◌≤◌, ◌⊎◌, Bool, true, 
 use Rattle.std.specs.List.{AllByRecursion}
 use Rattle.rbbi_resolve.specs.declared.fault.Fault.{Fault}
 use Rattle.rbbi_resolve.specs.declared.error.ResolveErr.{ResolveErr}
-use Rattle.rbbi_resolve.specs.declared.error.ResolveErr.TheVariants.{UnknownControl, UnsupportedControl, Dictionary, Redefined, Undefined, NotASet, UnknownProperty, BadRange, EmptySet, BareLiteral, EmptyFront, EmptyRest, NoRules, TooManyRules, TooManyLeaves, TooManySlashes, TooTall, Memory}
+use Rattle.rbbi_resolve.specs.declared.error.ResolveErr.TheVariants.{UnknownControl, UnsupportedControl, Dictionary, Redefined, Undefined, NotASet}
+use Rattle.rbbi_resolve.specs.declared.error.ResolveErr.TheVariants.{UnknownProperty, BadRange, EmptySet, BareLiteral, EmptyFront, EmptyRest, NoRules}
+use Rattle.rbbi_resolve.specs.declared.error.ResolveErr.TheVariants.{TooManyRules, TooManyLeaves, TooManySlashes, TooTall, Memory}
 use Rattle.rbbi_resolve.specs.Faults.{comes_before}
 use Rattle.rbbi_props.specs.Rows.{File}
 use Rattle.rbbi_tree.specs.Trees.{StatementTree}

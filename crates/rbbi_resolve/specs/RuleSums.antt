@@ -17,5 +17,6 @@ faults_where_empty (Some slash) front rest = faults_where front slash 11 ++ faul
 
 -- the counts of a rule: the sum of its leaves, and the greater height
 pub record AreSumsOf (context : Context) (front : ExprTree) (rest : Option ExprTree) (summary : Summary) : Type 0 where
-  pub leaf_sum : IsCapped 8193 (leaf_count (meaning_of_expr context front) + option_map_or leaf_count (option_map (meaning_of_expr context) rest) 0) summary.leaves
+  pub leaf_sum : IsCapped 8193 (leaf_count (meaning_of_expr context front) + option_map_or leaf_count (option_map (meaning_of_expr context) rest) 0)
+      summary.leaves
   pub height_sum : IsCapped 257 (max (height_of_expr context front) (option_map_or (height_of_expr context) rest 0)) summary.height

@@ -36,7 +36,8 @@ pub record IsRuleBuilt (files : List File) (sets : List (List Range)) (meaning :
   pub place : rule.place ≡ meaning.place
 
 -- the active rules of the statements before this number were built, and each set is that of one of their leaves
-pub record AreRulesTo (files : List File) (statements : List StatementTree) (sets : List (List Range)) (bases : List (Option ℕ)) (switches : Switches) (rules : List Rule) (number : ℕ) : Type 0 where
+pub record AreRulesTo (files : List File) (statements : List StatementTree) (sets : List (List Range)) (bases : List (Option ℕ)) (switches : Switches)
+    (rules : List Rule) (number : ℕ) : Type 0 where
   pub builder : IsBuilder files statements sets bases
   pub switched : AreSwitches switches (context_at files statements number)
   pub done : List RuleMeaning

@@ -2,8 +2,10 @@
 use Rattle.std.specs.Prelude.{ℕ, Option, Some, None, List}
 use Rattle.std.specs.List.{AllByRecursion}
 use Rattle.rbbi_model.specs.Words.{IsCharacter}
-use Rattle.rbbi_tree.specs.Trees.{SetTree, PartsTree, PartTree, SetItemTree, set_of, no_parts, part, joined, set_character, set_range, set_name, set_property, set_within}
-use Rattle.rbbi_tree.specs.Trees.{ExprTree, SeqTree, ItemTree, AtomTree, no_alternatives, alternative, no_items, item, placed, character, quoted, any, name, property, set, group}
+use Rattle.rbbi_tree.specs.Trees.{SetTree, PartsTree, PartTree, SetItemTree, set_of, no_parts, part, joined, set_character, set_range, set_name, set_property}
+use Rattle.rbbi_tree.specs.Trees.{set_within}
+use Rattle.rbbi_tree.specs.Trees.{ExprTree, SeqTree, ItemTree, AtomTree, no_alternatives, alternative, no_items, item, placed, character, quoted, any, name}
+use Rattle.rbbi_tree.specs.Trees.{property, set, group}
 use Rattle.rbbi_tree.specs.Trees.{StatementTree, nothing, control, assign, rule}
 
 abbrev mutual

@@ -1,5 +1,6 @@
 //! The active rules of a file without faults, with their trees.
-ghost use Rattle.std.specs.Prelude.{◌≡◌, ◌+◌, ◌<◌, ◌&&◌, not, ℕ, [], None, IfOk, OnOk, length, option_map};
+ghost use Rattle.std.specs.Prelude.{◌≡◌, ◌+◌, ◌<◌, ◌&&◌, not, ℕ, [], None, IfOk, OnOk, length};
+ghost use Rattle.std.specs.Prelude.{option_map};
 ghost use Rattle.rbbi_model.specs.Rules.{AreLawful};
 ghost use Rattle.rbbi_tree.specs.Values.{statement_trees, expr_tree, rest_tree};
 ghost use Rattle.rbbi_tree.specs.WellMade.{AreWellMade};
@@ -32,11 +33,15 @@ fn tree_of_rest(
     requires ready { IsReady builder.old.properties scope.now }
     requires builder { IsBuilder builder.old.properties (statement_trees scope.now.statements.now)
         builder.old.sets.items builder.old.bases.items }
-    requires faultless { faults_of_rest (context_of builder.old.properties scope.now) (rest_tree rest.now) ≡ [] }
-    ensures on { OnOk result (GoesOn builder.old.properties (statement_trees scope.now.statements.now)
+    requires faultless { faults_of_rest (context_of builder.old.properties scope.now)
+        (rest_tree rest.now) ≡ [] }
+    ensures on { OnOk result (GoesOn builder.old.properties
+        (statement_trees scope.now.statements.now)
         builder.old.sets.items builder.new.sets.items builder.new.bases.items) }
-    ensures built { IfOk result (IsRestBuilt builder.old.properties (length builder.old.sets.items) builder.new.sets.items
-        (option_map (meaning_of_expr (context_of builder.old.properties scope.now)) (rest_tree rest.now))) }
+    ensures built { IfOk result (IsRestBuilt builder.old.properties
+        (length builder.old.sets.items) builder.new.sets.items
+        (option_map (meaning_of_expr (context_of builder.old.properties scope.now))
+        (rest_tree rest.now))) }
     ensures same { builder.new.properties ≡ builder.old.properties }
 {
     match rest {
@@ -57,11 +62,14 @@ fn add_statement(
     rules: &mut Vec<Rule>,
 ) -> Result<(), AllocError>
     requires ready { IsReady builder.old.properties scope.now }
-    requires rules { AreRulesTo builder.old.properties (statement_trees scope.now.statements.now) builder.old.sets.items
+    requires rules { AreRulesTo builder.old.properties
+        (statement_trees scope.now.statements.now) builder.old.sets.items
         builder.old.bases.items switches.old rules.old.items scope.now.limit }
     requires inside { scope.now.limit < length scope.now.statements.now }
-    ensures added { OnOk result (AreRulesTo builder.old.properties (statement_trees scope.now.statements.now)
-        builder.new.sets.items builder.new.bases.items switches.new rules.new.items (scope.now.limit + 1)) }
+    ensures added { OnOk result (AreRulesTo builder.old.properties
+        (statement_trees scope.now.statements.now)
+        builder.new.sets.items builder.new.bases.items switches.new rules.new.items
+        (scope.now.limit + 1)) }
     ensures same { builder.new.properties ≡ builder.old.properties }
 {
     match scope.statements.get(scope.limit) {
@@ -108,7 +116,8 @@ fn rules_with_trees(
         builder.old.sets.items builder.old.bases.items }
     requires empty { builder.old.sets.items ≡ [] }
     requires all { scope.now.limit ≡ length scope.now.statements.now }
-    ensures built { IfOk result (λ rules. AreAllRules builder.old.properties (statement_trees scope.now.statements.now)
+    ensures built { IfOk result (λ rules. AreAllRules builder.old.properties
+        (statement_trees scope.now.statements.now)
         builder.new.sets.items rules.items) }
 {
     let mut switches = Switches::new();
@@ -133,7 +142,8 @@ pub(crate) fn build_rules(alloc: Global, reading: Reading) -> Result<Rules, Allo
         (statement_trees reading.statements.now) ≡ [] }
     requires few { (end : ℕ) × (counted end (active_rules reading.properties
         (statement_trees reading.statements.now)) ≡ None) }
-    ensures means { IfOk result (λ rules. Means reading.entry.properties reading.entry.dictionary_ignored
+    ensures means { IfOk result (λ rules. Means reading.entry.properties
+        reading.entry.dictionary_ignored
         (statement_trees reading.entry.statements.now) (rules_of rules)) }
     ensures lawful { IfOk result (λ rules. AreLawful (rules_of rules)) }
 {
@@ -162,7 +172,8 @@ fn new_builder<'a>(
     statements: &Statements,
     properties: Properties<'a>,
 ) -> Result<Builder<'a>, AllocError>
-    ensures builder { IfOk result (λ builder. IsBuilder properties.entry (statement_trees statements.now)
+    ensures builder { IfOk result (λ builder. IsBuilder properties.entry
+        (statement_trees statements.now)
         builder.sets.items builder.bases.items) }
     ensures empty { IfOk result (λ builder. builder.sets.items ≡ []) }
     ensures same { IfOk result (λ builder. builder.properties ≡ properties.entry) }

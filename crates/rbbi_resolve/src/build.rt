@@ -1,16 +1,21 @@
 //! The trees of expressions, with the sets of their leaves.
-ghost use Rattle.std.specs.Prelude.{◌≡◌, ◌+◌, ◌<◌, ◌≤◌, ℕ, List, [], IfOk, IfSome, IfNone, OnOk, length, map};
+ghost use Rattle.std.specs.Prelude.{◌≡◌, ◌+◌, ◌<◌, ◌≤◌, ℕ, List, [], IfOk, IfSome, IfNone, OnOk};
+ghost use Rattle.std.specs.Prelude.{length, map};
 ghost use Rattle.rbbi_model.specs.Ranges.{Range};
 ghost use Rattle.rbbi_model.specs.SetTrees as model;
 ghost use Rattle.rbbi_props.specs.Rows.{File};
 ghost use Rattle.rbbi_tree.specs.Trees.{ExprTree};
-ghost use Rattle.rbbi_tree.specs.Values.{statement_trees, expr_tree, seq_tree, item_tree, atom_tree};
-ghost use Rattle.rbbi_resolve.specs.Expressions.{word_of, meaning_of_expr, meaning_of_seq, meaning_of_item, meaning_of_atom};
+ghost use Rattle.rbbi_tree.specs.Values.{statement_trees, expr_tree, seq_tree, item_tree};
+ghost use Rattle.rbbi_tree.specs.Values.{atom_tree};
+ghost use Rattle.rbbi_resolve.specs.Expressions.{word_of, meaning_of_expr, meaning_of_seq};
+ghost use Rattle.rbbi_resolve.specs.Expressions.{meaning_of_item, meaning_of_atom};
 ghost use Rattle.rbbi_resolve.specs.Parts.{parts_of_expr};
 ghost use Rattle.rbbi_resolve.specs.Faults.{faults_of_parts};
 ghost use Rattle.rbbi_resolve.specs.Scopes.{context_of};
-ghost use Rattle.rbbi_resolve.specs.OwnLeaves.{leaves_of_expr, leaves_of_seq, leaves_of_item, leaves_of_atom};
-ghost use Rattle.rbbi_resolve.specs.Builders.{StandFrom, IsBuilt, IsBuilder, IsAssigned, GoesOn, IsReady};
+ghost use Rattle.rbbi_resolve.specs.OwnLeaves.{leaves_of_expr, leaves_of_seq, leaves_of_item};
+ghost use Rattle.rbbi_resolve.specs.OwnLeaves.{leaves_of_atom};
+ghost use Rattle.rbbi_resolve.specs.Builders.{StandFrom, IsBuilt, IsBuilder, IsAssigned, GoesOn};
+ghost use Rattle.rbbi_resolve.specs.Builders.{IsReady};
 
 use crate::leaves::add_leaves;
 use crate::properties::Properties;
@@ -33,8 +38,8 @@ const MOST_SETS: usize = 4_294_967_295;
 pub(crate) struct Builder<'a> {
     pub(crate) properties: Properties<'a>,
     pub(crate) sets: Vec<CodeSet>,
-    /// For each statement the number of the first set of its own leaves, where it assigns a variable
-    /// that was used.
+    /// For each statement the number of the first set of its own leaves, where it assigns a
+    /// variable that was used.
     pub(crate) bases: Vec<Option<usize>>,
 }
 
@@ -51,9 +56,11 @@ impl<'a> Builder<'a> {
             self.old.sets.items self.old.bases.items }
         requires faultless { faults_of_parts (context_of self.old.properties scope.now)
             (parts_of_expr (expr_tree expr.now)) ≡ [] }
-        ensures on { OnOk result (GoesOn self.old.properties (statement_trees scope.now.statements.now)
+        ensures on { OnOk result (GoesOn self.old.properties
+            (statement_trees scope.now.statements.now)
             self.old.sets.items self.new.sets.items self.new.bases.items) }
-        ensures built { IfOk result (IsBuilt self.old.properties (length self.old.sets.items) self.new.sets.items 0 0
+        ensures built { IfOk result (IsBuilt self.old.properties
+            (length self.old.sets.items) self.new.sets.items 0 0
             (meaning_of_expr (context_of self.old.properties scope.now) (expr_tree expr.now))) }
         ensures same { self.new.properties ≡ self.old.properties }
     {
@@ -69,13 +76,15 @@ impl<'a> Builder<'a> {
             self.old.sets.items self.old.bases.items }
         requires faultless { faults_of_parts (context_of self.old.properties scope.now)
             (parts_of_expr (expr_tree expr.now)) ≡ [] }
-        ensures on { OnOk result (GoesOn self.old.properties (statement_trees scope.now.statements.now)
+        ensures on { OnOk result (GoesOn self.old.properties
+            (statement_trees scope.now.statements.now)
             self.old.sets.items self.new.sets.items self.new.bases.items) }
         ensures stand { IfOk result (λ base. StandFrom self.old.properties self.new.sets.items base
             (leaves_of_expr (context_of self.old.properties scope.now) (expr_tree expr.now))) }
         ensures fresh { IfOk result (λ base. base ≡ length self.old.sets.items) }
         ensures all { IfOk result (λ base. length self.new.sets.items ≡ base
-            + length (leaves_of_expr (context_of self.old.properties scope.now) (expr_tree expr.now))) }
+            + length (leaves_of_expr (context_of self.old.properties scope.now)
+            (expr_tree expr.now))) }
         ensures bases { self.new.bases ≡ self.old.bases }
         ensures same { self.new.properties ≡ self.old.properties }
     {
@@ -87,14 +96,16 @@ impl<'a> Builder<'a> {
         Ok(base)
     }
 
-    /// The number of the first set of the own leaves of a statement, which are added where they aren't
-    /// there yet.
+    /// The number of the first set of the own leaves of a statement, which are added where they
+    /// aren't there yet.
     fn base(&mut self, alloc: Global, scope: &Scope, expr: &Expr) -> Result<usize, AllocError>
         requires ready { IsReady self.old.properties scope.now }
         requires builder { IsBuilder self.old.properties (statement_trees scope.now.statements.now)
             self.old.sets.items self.old.bases.items }
-        requires assigned { IsAssigned (statement_trees scope.now.statements.now) scope.now.limit (expr_tree expr.now) }
-        ensures on { OnOk result (GoesOn self.old.properties (statement_trees scope.now.statements.now)
+        requires assigned { IsAssigned (statement_trees scope.now.statements.now) scope.now.limit
+            (expr_tree expr.now) }
+        ensures on { OnOk result (GoesOn self.old.properties
+            (statement_trees scope.now.statements.now)
             self.old.sets.items self.new.sets.items self.new.bases.items) }
         ensures stand { IfOk result (λ base. StandFrom self.old.properties self.new.sets.items base
             (leaves_of_expr (context_of self.old.properties scope.now) (expr_tree expr.now))) }
@@ -102,7 +113,8 @@ impl<'a> Builder<'a> {
             → number < length self.new.sets.items → base ≤ number) }
         ensures all { IfOk result (λ base. (number : ℕ) → length self.old.sets.items ≤ number
             → number < length self.new.sets.items → number < base
-            + length (leaves_of_expr (context_of self.old.properties scope.now) (expr_tree expr.now))) }
+            + length (leaves_of_expr (context_of self.old.properties scope.now)
+            (expr_tree expr.now))) }
         ensures same { self.new.properties ≡ self.old.properties }
     {
         match self.bases[scope.limit] {
@@ -122,7 +134,8 @@ impl<'a> Builder<'a> {
         requires builder { IsBuilder self.old.properties (statement_trees scope.now.statements.now)
             self.old.sets.items self.old.bases.items }
         requires inside { scope.now.limit < length scope.now.statements.now }
-        ensures on { OnOk result (GoesOn self.old.properties (statement_trees scope.now.statements.now)
+        ensures on { OnOk result (GoesOn self.old.properties
+            (statement_trees scope.now.statements.now)
             self.old.sets.items self.new.sets.items self.new.bases.items) }
         ensures built { IfOk result (λ tree. (expr : ExprTree)
             → IsAssigned (statement_trees scope.now.statements.now) scope.now.limit expr
@@ -154,12 +167,16 @@ impl<'a> Builder<'a> {
             self.old.sets.items self.old.bases.items }
         requires stand { StandFrom self.old.properties self.old.sets.items next.old
             (leaves_of_expr (context_of self.old.properties scope.now) (expr_tree expr.now)) }
-        ensures on { OnOk result (GoesOn self.old.properties (statement_trees scope.now.statements.now)
+        ensures on { OnOk result (GoesOn self.old.properties
+            (statement_trees scope.now.statements.now)
             self.old.sets.items self.new.sets.items self.new.bases.items) }
         ensures moved { OnOk result (next.new ≡ next.old
-            + length (leaves_of_expr (context_of self.old.properties scope.now) (expr_tree expr.now))) }
-        ensures built { IfOk result (IsBuilt self.old.properties (length self.old.sets.items) self.new.sets.items
-            next.old next.new (meaning_of_expr (context_of self.old.properties scope.now) (expr_tree expr.now))) }
+            + length (leaves_of_expr (context_of self.old.properties scope.now)
+            (expr_tree expr.now))) }
+        ensures built { IfOk result (IsBuilt self.old.properties
+            (length self.old.sets.items) self.new.sets.items
+            next.old next.new (meaning_of_expr (context_of self.old.properties scope.now)
+            (expr_tree expr.now))) }
         ensures same { self.new.properties ≡ self.old.properties }
     {
         let mut items = Vec::new(alloc);
@@ -184,12 +201,15 @@ impl<'a> Builder<'a> {
             self.old.sets.items self.old.bases.items }
         requires stand { StandFrom self.old.properties self.old.sets.items next.old
             (leaves_of_seq (context_of self.old.properties scope.now) (seq_tree seq.now)) }
-        ensures on { OnOk result (GoesOn self.old.properties (statement_trees scope.now.statements.now)
+        ensures on { OnOk result (GoesOn self.old.properties
+            (statement_trees scope.now.statements.now)
             self.old.sets.items self.new.sets.items self.new.bases.items) }
         ensures moved { OnOk result (next.new ≡ next.old
             + length (leaves_of_seq (context_of self.old.properties scope.now) (seq_tree seq.now))) }
-        ensures built { IfOk result (IsBuilt self.old.properties (length self.old.sets.items) self.new.sets.items
-            next.old next.new (meaning_of_seq (context_of self.old.properties scope.now) (seq_tree seq.now))) }
+        ensures built { IfOk result (IsBuilt self.old.properties
+            (length self.old.sets.items) self.new.sets.items
+            next.old next.new (meaning_of_seq (context_of self.old.properties scope.now)
+            (seq_tree seq.now))) }
         ensures same { self.new.properties ≡ self.old.properties }
     {
         let mut items = Vec::new(alloc);
@@ -214,12 +234,16 @@ impl<'a> Builder<'a> {
             self.old.sets.items self.old.bases.items }
         requires stand { StandFrom self.old.properties self.old.sets.items next.old
             (leaves_of_item (context_of self.old.properties scope.now) (item_tree item.now)) }
-        ensures on { OnOk result (GoesOn self.old.properties (statement_trees scope.now.statements.now)
+        ensures on { OnOk result (GoesOn self.old.properties
+            (statement_trees scope.now.statements.now)
             self.old.sets.items self.new.sets.items self.new.bases.items) }
         ensures moved { OnOk result (next.new ≡ next.old
-            + length (leaves_of_item (context_of self.old.properties scope.now) (item_tree item.now))) }
-        ensures built { IfOk result (IsBuilt self.old.properties (length self.old.sets.items) self.new.sets.items
-            next.old next.new (meaning_of_item (context_of self.old.properties scope.now) (item_tree item.now))) }
+            + length (leaves_of_item (context_of self.old.properties scope.now)
+            (item_tree item.now))) }
+        ensures built { IfOk result (IsBuilt self.old.properties
+            (length self.old.sets.items) self.new.sets.items
+            next.old next.new (meaning_of_item (context_of self.old.properties scope.now)
+            (item_tree item.now))) }
         ensures same { self.new.properties ≡ self.old.properties }
     {
         let part = self.tree_of_atom(alloc, scope, next, &item.atom)?;
@@ -241,12 +265,16 @@ impl<'a> Builder<'a> {
             self.old.sets.items self.old.bases.items }
         requires stand { StandFrom self.old.properties self.old.sets.items next.old
             (leaves_of_atom (context_of self.old.properties scope.now) (atom_tree atom.now)) }
-        ensures on { OnOk result (GoesOn self.old.properties (statement_trees scope.now.statements.now)
+        ensures on { OnOk result (GoesOn self.old.properties
+            (statement_trees scope.now.statements.now)
             self.old.sets.items self.new.sets.items self.new.bases.items) }
         ensures moved { OnOk result (next.new ≡ next.old
-            + length (leaves_of_atom (context_of self.old.properties scope.now) (atom_tree atom.now))) }
-        ensures built { IfOk result (IsBuilt self.old.properties (length self.old.sets.items) self.new.sets.items
-            next.old next.new (meaning_of_atom (context_of self.old.properties scope.now) (atom_tree atom.now))) }
+            + length (leaves_of_atom (context_of self.old.properties scope.now)
+            (atom_tree atom.now))) }
+        ensures built { IfOk result (IsBuilt self.old.properties
+            (length self.old.sets.items) self.new.sets.items
+            next.old next.new (meaning_of_atom (context_of self.old.properties scope.now)
+            (atom_tree atom.now))) }
         ensures same { self.new.properties ≡ self.old.properties }
     {
         match atom {
@@ -297,8 +325,10 @@ fn tree_of_word(alloc: Global, next: &mut usize, word: &Word) -> Result<Tree, Al
 /// The expression that a statement assigns, where it is an assignment.
 fn assigned(statements: &Statements, number: usize) -> Option<&Expr>
     requires { number < length statements.now }
-    ensures some { IfSome result (λ expr. IsAssigned (statement_trees statements.now) number (expr_tree expr.now)) }
-    ensures none { IfNone result ((expr : ExprTree) → IsAssigned (statement_trees statements.now) number expr → ⊥) }
+    ensures some { IfSome result (λ expr. IsAssigned (statement_trees statements.now) number
+        (expr_tree expr.now)) }
+    ensures none { IfNone result ((expr : ExprTree) →
+        IsAssigned (statement_trees statements.now) number expr → ⊥) }
 {
     match statements.get(number) {
         Statement::Assign { expr, .. } => Some(expr),

@@ -1,16 +1,21 @@
 //! The faults of expressions, and their counts.
-ghost use Rattle.std.specs.Prelude.{◌≡◌, ◌+◌, ℕ, List, Option, Some, None, IfOk, OnOk, IsTrue, ◌↔◌, [], ◌∷◌};
+ghost use Rattle.std.specs.Prelude.{◌≡◌, ◌+◌, ℕ, List, Option, Some, None, IfOk, OnOk, IsTrue, ◌↔◌};
+ghost use Rattle.std.specs.Prelude.{[], ◌∷◌};
 ghost use Rattle.rbbi_model.specs.Words.{IsSurrogate};
 ghost use Rattle.rbbi_model.specs.Ranges.{Has};
 ghost use Rattle.rbbi_model.specs.SetTrees as model;
 ghost use Rattle.rbbi_props.specs.Rows.{File};
-ghost use Rattle.rbbi_tree.specs.Trees.{name as named_atom, property as property_atom, set as set_atom, placed};
+ghost use Rattle.rbbi_tree.specs.Trees.{name as named_atom, property as property_atom};
+ghost use Rattle.rbbi_tree.specs.Trees.{set as set_atom, placed};
 ghost use Rattle.rbbi_tree.specs.declared.syntax.Quant.{Quant};
 ghost use Rattle.rbbi_tree.specs.Values.{expr_tree, seq_tree, item_tree, atom_tree, set_tree};
 ghost use Rattle.rbbi_resolve.specs.SetValues.{IsValue, value_of_set, value_of_property};
 ghost use Rattle.rbbi_resolve.specs.Contexts as contexts;
 ghost use Rattle.rbbi_resolve.specs.Contexts.{value_of_name, variable_of};
-ghost use Rattle.rbbi_resolve.specs.Expressions.{meaning_of_expr, meaning_of_seq, meaning_of_item, meaning_of_atom, meaning_of_variable, height_of_expr, height_of_seq, height_of_item, height_of_atom, height_of_variable, variable_for};
+ghost use Rattle.rbbi_resolve.specs.Expressions.{meaning_of_expr, meaning_of_seq, meaning_of_item};
+ghost use Rattle.rbbi_resolve.specs.Expressions.{meaning_of_atom, meaning_of_variable};
+ghost use Rattle.rbbi_resolve.specs.Expressions.{height_of_expr, height_of_seq, height_of_item};
+ghost use Rattle.rbbi_resolve.specs.Expressions.{height_of_atom, height_of_variable, variable_for};
 ghost use Rattle.rbbi_resolve.specs.Parts.{Outside, parts_of_expr, parts_of_seq, parts_of_item};
 ghost use Rattle.rbbi_resolve.specs.Faults.{noted_parts, is_empty_value};
 ghost use Rattle.rbbi_resolve.specs.Scopes.{IsScope, KnowsQuotes, IsKindOf, context_of};
@@ -37,7 +42,8 @@ pub(crate) fn check_expr(
 ) -> Result<Summary, AllocError>
     requires scope { IsScope properties.old scope.now }
     requires quotes { KnowsQuotes properties.old scope.now }
-    ensures noted { OnOk result (least.new ≡ noted_parts (context_of properties.old scope.now) least.old
+    ensures noted { OnOk result (least.new ≡ noted_parts
+        (context_of properties.old scope.now) least.old
         (parts_of_expr (expr_tree expr.now))) }
     ensures counts { IfOk result (λ summary. Summarizes summary
         (meaning_of_expr (context_of properties.old scope.now) (expr_tree expr.now))
@@ -63,7 +69,8 @@ fn check_seq(
 ) -> Result<Summary, AllocError>
     requires scope { IsScope properties.old scope.now }
     requires quotes { KnowsQuotes properties.old scope.now }
-    ensures noted { OnOk result (least.new ≡ noted_parts (context_of properties.old scope.now) least.old
+    ensures noted { OnOk result (least.new ≡ noted_parts
+        (context_of properties.old scope.now) least.old
         (parts_of_seq (seq_tree seq.now))) }
     ensures counts { IfOk result (λ summary. Summarizes summary
         (meaning_of_seq (context_of properties.old scope.now) (seq_tree seq.now))
@@ -89,7 +96,8 @@ fn check_item(
 ) -> Result<Summary, AllocError>
     requires scope { IsScope properties.old scope.now }
     requires quotes { KnowsQuotes properties.old scope.now }
-    ensures noted { OnOk result (least.new ≡ noted_parts (context_of properties.old scope.now) least.old
+    ensures noted { OnOk result (least.new ≡ noted_parts
+        (context_of properties.old scope.now) least.old
         (parts_of_item (item_tree item.now))) }
     ensures counts { IfOk result (λ summary. Summarizes summary
         (meaning_of_item (context_of properties.old scope.now) (item_tree item.now))
@@ -112,7 +120,8 @@ fn check_atom(
 ) -> Result<Summary, AllocError>
     requires scope { IsScope properties.old scope.now }
     requires quotes { KnowsQuotes properties.old scope.now }
-    ensures noted { OnOk result ((quant : Quant) → least.new ≡ noted_parts (context_of properties.old scope.now) least.old
+    ensures noted { OnOk result ((quant : Quant) →
+        least.new ≡ noted_parts (context_of properties.old scope.now) least.old
         (parts_of_item (placed place (atom_tree atom.now) quant))) }
     ensures counts { IfOk result (λ summary. Summarizes summary
         (meaning_of_atom (context_of properties.old scope.now) (atom_tree atom.now))
@@ -149,7 +158,8 @@ fn check_atom(
 /// Counts a variable, and notes where it is undefined.
 fn check_name(scope: &Scope, least: &mut Option<Fault>, place: u32, name: &Word) -> Summary
     ensures noted { (files : List File) → IsScope files scope.now
-        → least.new ≡ noted_parts (context_of files scope.now) least.old (Outside place (named_atom name.now) ∷ []) }
+        → least.new ≡ noted_parts (context_of files scope.now) least.old
+        (Outside place (named_atom name.now) ∷ []) }
     ensures counts { (files : List File) → IsScope files scope.now → Summarizes result
         (meaning_of_variable (variable_of (context_of files scope.now) name.now))
         (height_of_variable (variable_of (context_of files scope.now) name.now)) }
@@ -166,7 +176,8 @@ fn check_name(scope: &Scope, least: &mut Option<Fault>, place: u32, name: &Word)
 /// The counts of a variable, used as an atom.
 fn summary_of(kind: &Kind) -> Summary
     ensures { (files : List File) (variable : contexts.Variable) → IsKindOf files kind.now variable
-        → Summarizes result (meaning_of_variable (Some variable)) (height_of_variable (Some variable)) }
+        → Summarizes result (meaning_of_variable (Some variable))
+        (height_of_variable (Some variable)) }
 {
     match kind {
         Kind::Set(_) => Summary::leaf(),
@@ -185,7 +196,8 @@ pub(crate) fn check_property(
     value: &Option<Word>,
 ) -> Result<Option<CodeSet>, AllocError>
     ensures noted { OnOk result ((context : contexts.Context) → context.files ≡ properties.old
-        → least.new ≡ noted_parts context least.old (Outside place (property_atom negated name.now value.now) ∷ [])) }
+        → least.new ≡ noted_parts context least.old
+        (Outside place (property_atom negated name.now value.now) ∷ [])) }
     ensures value { IfOk result (λ set.
         IsValue properties.old (value_of_property properties.old negated name.now value.now) set) }
     ensures same { properties.new ≡ properties.old }
@@ -197,7 +209,8 @@ pub(crate) fn check_property(
     Ok(set)
 }
 
-/// The value of a set that stands as an atom. Notes the faults in it, and where it holds no character.
+/// The value of a set that stands as an atom. Notes the faults in it, and where it holds no
+/// character.
 pub(crate) fn check_set(
     alloc: Global,
     scope: &Scope,
@@ -207,10 +220,12 @@ pub(crate) fn check_set(
     set: &SetExpr,
 ) -> Result<Option<CodeSet>, AllocError>
     requires { IsScope properties.old scope.now }
-    ensures noted { OnOk result ((quant : Quant) → least.new ≡ noted_parts (context_of properties.old scope.now) least.old
+    ensures noted { OnOk result ((quant : Quant) →
+        least.new ≡ noted_parts (context_of properties.old scope.now) least.old
         (parts_of_item (placed place (set_atom (set_tree set.now)) quant))) }
     ensures value { IfOk result (λ value. IsValue properties.old
-        (value_of_set properties.old (value_of_name (context_of properties.old scope.now)) (set_tree set.now)) value) }
+        (value_of_set properties.old (value_of_name (context_of properties.old scope.now))
+        (set_tree set.now)) value) }
     ensures same { properties.new ≡ properties.old }
 {
     let value = value_of_set(alloc, scope, properties, least, set)?;

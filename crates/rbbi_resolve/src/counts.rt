@@ -39,9 +39,11 @@ impl Count {
     /// Adds the amount of the rule at a place.
     fn add(&mut self, amount: u32, most: u32, place: u32)
         requires { most ≤ 65536 }
-        ensures { (cap : ℕ) (amount_of : RuleMeaning → ℕ) (rule : RuleMeaning) (left all : List RuleMeaning)
+        ensures { (cap : ℕ) (amount_of : RuleMeaning → ℕ) (rule : RuleMeaning)
+            (left all : List RuleMeaning)
             → most < cap → rule.place ≡ place → IsCapped cap (amount_of rule) amount
-            → IsCount amount_of most self.old (rule ∷ left) all → IsCount amount_of most self.new left all }
+            → IsCount amount_of most self.old (rule ∷ left) all →
+            IsCount amount_of most self.new left all }
     {
         if self.passed.is_none() {
             let sum = self.sum.saturating_add(amount);
@@ -101,7 +103,8 @@ impl Counts {
 
     /// The first fault, by number, of these counts. The text has this length.
     pub(crate) fn fault(&self, end: u32) -> Option<Fault>
-        ensures { (all : List RuleMeaning) → AreCounting self.now [] all → result ≡ counted end all }
+        ensures { (all : List RuleMeaning) → AreCounting self.now [] all →
+            result ≡ counted end all }
     {
         if let Some(place) = self.rules.passed {
             return Some(Fault { place, number: 14 });

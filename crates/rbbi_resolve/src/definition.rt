@@ -1,6 +1,8 @@
 //! What the expressions of assignments make of their names.
-ghost use Rattle.std.specs.Prelude.{◌≡◌, ◌∷◌, [], None, Some, IfOk, IfSome, IfNone, MatchOption, OnOk};
-ghost use Rattle.rbbi_tree.specs.Trees.{placed, alternative, item as item_of, no_items, no_alternatives};
+ghost use Rattle.std.specs.Prelude.{◌≡◌, ◌∷◌, [], None, Some, IfOk, IfSome, IfNone, MatchOption};
+ghost use Rattle.std.specs.Prelude.{OnOk};
+ghost use Rattle.rbbi_tree.specs.Trees.{placed, alternative, item as item_of, no_items};
+ghost use Rattle.rbbi_tree.specs.Trees.{no_alternatives};
 ghost use Rattle.rbbi_tree.specs.declared.syntax.Quant.TheVariants.{Once};
 ghost use Rattle.rbbi_tree.specs.Values.{expr_tree, atom_tree};
 ghost use Rattle.rbbi_resolve.specs.Expressions.{variable_for, set_of_atom, set_of_expr};
@@ -29,7 +31,8 @@ pub(crate) fn check_definition(
 ) -> Result<Kind, AllocError>
     requires scope { IsScope properties.old scope.now }
     requires quotes { KnowsQuotes properties.old scope.now }
-    ensures noted { OnOk result (least.new ≡ noted_parts (context_of properties.old scope.now) least.old
+    ensures noted { OnOk result (least.new ≡ noted_parts
+        (context_of properties.old scope.now) least.old
         (parts_of_expr (expr_tree expr.now))) }
     ensures kind { IfOk result (λ kind. IsKindOf properties.old kind
         (variable_for (context_of properties.old scope.now) (expr_tree expr.now))) }
@@ -53,7 +56,8 @@ fn check_lone(
     expr: &Expr,
 ) -> Result<Option<Option<CodeSet>>, AllocError>
     requires { IsScope properties.old scope.now }
-    ensures noted { IfOk result (λ found. least.new ≡ noted_if_set (context_of properties.old scope.now) least.old
+    ensures noted { IfOk result (λ found. least.new ≡ noted_if_set
+        (context_of properties.old scope.now) least.old
         (parts_of_expr (expr_tree expr.now)) found) }
     ensures value { IfOk result (λ found. AreSetOf properties.old
         (set_of_expr (context_of properties.old scope.now) (expr_tree expr.now)) found) }
@@ -75,7 +79,8 @@ fn check_lone_atom(
     atom: &Atom,
 ) -> Result<Option<Option<CodeSet>>, AllocError>
     requires { IsScope properties.old scope.now }
-    ensures noted { IfOk result (λ found. least.new ≡ noted_if_set (context_of properties.old scope.now) least.old
+    ensures noted { IfOk result (λ found. least.new ≡ noted_if_set
+        (context_of properties.old scope.now) least.old
         (parts_of_item (placed place (atom_tree atom.now) Once)) found) }
     ensures value { IfOk result (λ found. AreSetOf properties.old
         (set_of_atom (context_of properties.old scope.now) (atom_tree atom.now)) found) }
@@ -108,8 +113,10 @@ fn check_lone_atom(
 /// The one item of an expression that is a single atom with no quantifier.
 fn lone_item(expr: &Expr) -> Option<&Item>
     ensures lone { IfSome result (λ item. expr_tree expr.now
-        ≡ alternative (item_of (placed item.now.place (atom_tree item.now.atom) Once) no_items) no_alternatives) }
-    ensures none { IfNone result ((context : contexts.Context) → set_of_expr context (expr_tree expr.now) ≡ None) }
+        ≡ alternative (item_of (placed item.now.place (atom_tree item.now.atom) Once) no_items)
+        no_alternatives) }
+    ensures none { IfNone result ((context : contexts.Context) →
+        set_of_expr context (expr_tree expr.now) ≡ None) }
 {
     if expr.items.len() != 1 {
         return None;

@@ -9,7 +9,8 @@ pub struct Fault {
     pub number: u8,
 }
 
-/// Whether a fault comes before another: at a lesser place, or at the same one with a lesser number.
+/// Whether a fault comes before another: at a lesser place, or at the same one with a lesser
+/// number.
 fn comes_before(fault: Fault, other: Fault) -> bool
     ensures { result ≡ comes_before fault other }
 {

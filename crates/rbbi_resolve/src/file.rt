@@ -1,5 +1,6 @@
 //! The faults of a rule file, and the counts of its active rules.
-ghost use Rattle.std.specs.Prelude.{◌≡◌, ◌+◌, ◌<◌, ◌&&◌, not, Some, OnOk, length, slice_get, encode_utf8_all, bytes_eq, codes};
+ghost use Rattle.std.specs.Prelude.{◌≡◌, ◌+◌, ◌<◌, ◌&&◌, not, Some, OnOk, length, slice_get};
+ghost use Rattle.std.specs.Prelude.{encode_utf8_all, bytes_eq, codes};
 ghost use Rattle.rbbi_tree.specs.Trees as trees;
 ghost use Rattle.rbbi_tree.specs.Values.{statement_trees, expr_tree, rest_tree};
 ghost use Rattle.rbbi_resolve.specs.Readings.{IsReading, ReadsOn};
@@ -69,7 +70,8 @@ impl<'a> Reading<'a> {
 
     /// Reads a control.
     fn read_control(&mut self, number: usize, name: &Word, place: u32)
-        requires at { slice_get (statement_trees self.old.statements.now) number ≡ Some (trees.control name.now place) }
+        requires at { slice_get (statement_trees self.old.statements.now) number ≡ Some
+            (trees.control name.now place) }
         requires reading { IsReading self.old number }
         ensures { ReadsOn self.old self.new (number + 1) }
     {
@@ -132,7 +134,8 @@ impl<'a> Reading<'a> {
         tag: Option<u32>,
     ) -> Result<(), AllocError>
         requires at { slice_get (statement_trees self.old.statements.now) number
-            ≡ Some (trees.rule place no_chain_in (expr_tree front.now) slash (rest_tree rest.now) tag) }
+            ≡ Some (trees.rule place no_chain_in
+            (expr_tree front.now) slash (rest_tree rest.now) tag) }
         requires reading { IsReading self.old number }
         ensures { OnOk result (ReadsOn self.old self.new (number + 1)) }
     {

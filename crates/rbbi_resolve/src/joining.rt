@@ -41,7 +41,9 @@ impl SoFar {
         requires ordered { low ≤ high }
         requires code_points { high ≤ 0x10FFFF }
         ensures { OnOk result ((files : List File) (left : Option model.SetTree)
-            → IsSoFar files left self.old → IsSoFar files (joined_to join (Some (model.Span (record { low = low; high = high }))) left) self.new) }
+            → IsSoFar files left self.old →
+            IsSoFar files (joined_to join
+            (Some (model.Span (record { low = low; high = high }))) left) self.new) }
     {
         match join {
             Join::Add => {
@@ -58,7 +60,8 @@ impl SoFar {
     /// Joins a character.
     pub(crate) fn join_char(&mut self, alloc: Global, join: Join, c: char) -> Result<(), AllocError>
         ensures { OnOk result ((files : List File) (left : Option model.SetTree)
-            → IsSoFar files left self.old → IsSoFar files (joined_to join (Some (model.Character c)) left) self.new) }
+            → IsSoFar files left self.old →
+            IsSoFar files (joined_to join (Some (model.Character c)) left) self.new) }
     {
         let code = c as u32;
         self.join_range(alloc, join, code, code)?;
@@ -72,7 +75,8 @@ impl SoFar {
         join: Join,
         item: &CodeSet,
     ) -> Result<(), AllocError>
-        ensures { OnOk result ((files : List File) (left : Option model.SetTree) (tree : model.SetTree)
+        ensures { OnOk result ((files : List File) (left : Option model.SetTree)
+            (tree : model.SetTree)
             → IsSoFar files left self.old → HasMembers files tree item.now
             → IsSoFar files (joined_to join (Some tree) left) self.new) }
     {

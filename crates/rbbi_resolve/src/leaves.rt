@@ -10,7 +10,8 @@ ghost use Rattle.rbbi_resolve.specs.Parts.{parts_of_expr, parts_of_seq, parts_of
 ghost use Rattle.rbbi_resolve.specs.Faults.{faults_of_parts, is_empty_value};
 ghost use Rattle.rbbi_resolve.specs.Scopes.{IsScope, context_of};
 ghost use Rattle.rbbi_resolve.specs.Soundness.{AreSound};
-ghost use Rattle.rbbi_resolve.specs.OwnLeaves.{AddsLeaves, leaves_of_expr, leaves_of_seq, leaves_of_item};
+ghost use Rattle.rbbi_resolve.specs.OwnLeaves.{AddsLeaves, leaves_of_expr, leaves_of_seq};
+ghost use Rattle.rbbi_resolve.specs.OwnLeaves.{leaves_of_item};
 
 use crate::fault::Fault;
 use crate::properties::Properties;
@@ -33,9 +34,11 @@ pub(crate) fn add_leaves(
 ) -> Result<(), AllocError>
     requires { IsScope properties.old scope.now }
     ensures added { OnOk result (AreSound (context_of properties.old scope.now)
-        → faults_of_parts (context_of properties.old scope.now) (parts_of_expr (expr_tree expr.now)) ≡ []
+        → faults_of_parts (context_of properties.old scope.now)
+        (parts_of_expr (expr_tree expr.now)) ≡ []
         → AddsLeaves properties.old
-        (leaves_of_expr (context_of properties.old scope.now) (expr_tree expr.now)) sets.old.items sets.new.items) }
+        (leaves_of_expr (context_of properties.old scope.now) (expr_tree expr.now)) sets.old.items
+        sets.new.items) }
     ensures same { properties.new ≡ properties.old }
 {
     for seq in &expr.items {
@@ -55,9 +58,11 @@ fn add_leaves_of_seq(
 ) -> Result<(), AllocError>
     requires { IsScope properties.old scope.now }
     ensures added { OnOk result (AreSound (context_of properties.old scope.now)
-        → faults_of_parts (context_of properties.old scope.now) (parts_of_seq (seq_tree seq.now)) ≡ []
+        → faults_of_parts (context_of properties.old scope.now)
+        (parts_of_seq (seq_tree seq.now)) ≡ []
         → AddsLeaves properties.old
-        (leaves_of_seq (context_of properties.old scope.now) (seq_tree seq.now)) sets.old.items sets.new.items) }
+        (leaves_of_seq (context_of properties.old scope.now) (seq_tree seq.now)) sets.old.items
+        sets.new.items) }
     ensures same { properties.new ≡ properties.old }
 {
     for item in &seq.items {
@@ -77,9 +82,11 @@ fn add_leaves_of_item(
 ) -> Result<(), AllocError>
     requires { IsScope properties.old scope.now }
     ensures added { OnOk result (AreSound (context_of properties.old scope.now)
-        → faults_of_parts (context_of properties.old scope.now) (parts_of_item (item_tree item.now)) ≡ []
+        → faults_of_parts (context_of properties.old scope.now)
+        (parts_of_item (item_tree item.now)) ≡ []
         → AddsLeaves properties.old
-        (leaves_of_item (context_of properties.old scope.now) (item_tree item.now)) sets.old.items sets.new.items) }
+        (leaves_of_item (context_of properties.old scope.now) (item_tree item.now)) sets.old.items
+        sets.new.items) }
     ensures same { properties.new ≡ properties.old }
 {
     match &item.atom {
@@ -111,8 +118,10 @@ fn add_leaves_of_item(
 
 /// Adds the characters of a set that holds one.
 fn add_set(alloc: Global, sets: &mut Vec<CodeSet>, set: &CodeSet) -> Result<(), AllocError>
-    ensures { OnOk result ((files : List File) (tree : model.SetTree) → HasMembers files tree set.now
-        → ((c : ℕ) × Has set.now c × ¬ IsSurrogate c) → AddsLeaves files (tree ∷ []) sets.old.items sets.new.items) }
+    ensures { OnOk result ((files : List File) (tree : model.SetTree) →
+        HasMembers files tree set.now
+        → ((c : ℕ) × Has set.now c × ¬ IsSurrogate c) →
+        AddsLeaves files (tree ∷ []) sets.old.items sets.new.items) }
 {
     let characters = set.without_surrogates(alloc)?;
     sets.push(characters)?;
@@ -158,8 +167,10 @@ fn add_value(
     sets: &mut Vec<CodeSet>,
     value: &Option<CodeSet>,
 ) -> Result<(), AllocError>
-    ensures { OnOk result ((files : List File) (tree : model.SetTree) → IsValue files (Some tree) value.now
-        → is_empty_value files (Some tree) ≡ false → AddsLeaves files (tree ∷ []) sets.old.items sets.new.items) }
+    ensures { OnOk result ((files : List File) (tree : model.SetTree) →
+        IsValue files (Some tree) value.now
+        → is_empty_value files (Some tree) ≡ false →
+        AddsLeaves files (tree ∷ []) sets.old.items sets.new.items) }
 {
     match value {
         Some(set) => {

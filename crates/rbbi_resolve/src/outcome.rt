@@ -25,8 +25,8 @@ use std::alloc::{AllocError, Global};
 /// `end` is the length of the text in characters. An assignment to `$dictionary` is refused, unless
 /// `ignore_dictionary` says to read it as any other (ICU User Guide, "Break Rules").
 ///
-/// Refuses the fault of least place of the first twelve kinds, at one place that of the earlier kind;
-/// without any of these the first, by kind, of `NoRules`, `TooManyRules`, `TooManyLeaves`,
+/// Refuses the fault of least place of the first twelve kinds, at one place that of the earlier
+/// kind; without any of these the first, by kind, of `NoRules`, `TooManyRules`, `TooManyLeaves`,
 /// `TooManySlashes` and `TooTall`; and `Memory`.
 pub fn resolve(
     alloc: Global,

@@ -67,7 +67,8 @@ impl<'a> Model for Properties<'a> {
 
     ghost view = { λ properties. properties.table.now };
 
-    ghost invariant = { λ properties. All (IsAnswer properties.table.now) (values properties.answers) };
+    ghost invariant = { λ properties. All (IsAnswer properties.table.now)
+        (values properties.answers) };
 }
 
 impl<'a> Properties<'a> {

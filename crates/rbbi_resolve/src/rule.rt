@@ -30,7 +30,8 @@ pub(crate) fn check_rule(
     ensures noted { OnOk result (least.new ≡ noted least.old (
         faults_of_parts (context_of properties.old scope.now) (parts_of_expr (expr_tree front.now))
         ++ (faults_of_rest (context_of properties.old scope.now) (rest_tree rest.now)
-        ++ faults_at_slash (context_of properties.old scope.now) (expr_tree front.now) slash (rest_tree rest.now)))) }
+        ++ faults_at_slash (context_of properties.old scope.now) (expr_tree front.now) slash
+        (rest_tree rest.now)))) }
     ensures counts { IfOk result (AreSumsOf (context_of properties.old scope.now)
         (expr_tree front.now) (rest_tree rest.now)) }
     ensures same { properties.new ≡ properties.old }

@@ -76,8 +76,8 @@ impl SetList {
 }
 
 /// The active rules of a rule file in their order, with the sets of their leaves, and the counts of
-/// leaves and of rules with a rest. Contracts see the rules and the sets; `rules_of` gives the list of
-/// rules that they stand for.
+/// leaves and of rules with a rest. Contracts see the rules and the sets; `rules_of` gives the list
+/// of rules that they stand for.
 #[derive(Debug, Drop)]
 pub struct Rules {
     rules: Vec<Rule>,
@@ -98,7 +98,8 @@ impl Model for Rules {
     ghost view = { λ rules. record { rules = rules.rules.items; sets = rules.sets } };
 
     ghost invariant = { λ rules.
-        AreCounted (record { rules = rules.rules.items; sets = rules.sets }) rules.leaves rules.slashes };
+        AreCounted (record { rules = rules.rules.items; sets = rules.sets }) rules.leaves
+        rules.slashes };
 }
 
 impl Rules {
@@ -131,7 +132,8 @@ impl Rules {
         &self.rules[i]
     }
 
-    /// The sets of the leaves. A leaf has the number of its set here, and each set is that of a leaf.
+    /// The sets of the leaves. A leaf has the number of its set here, and each set is that of a
+    /// leaf.
     pub fn sets(&self) -> &SetList
         ensures value { result.now ≡ self.now.sets }
         ensures form { AreWellFormed self.now }

@@ -4,7 +4,8 @@ ghost use Rattle.rbbi_model.specs.SetTrees as model;
 ghost use Rattle.rbbi_props.specs.Rows.{File};
 ghost use Rattle.rbbi_tree.specs.Trees.{set_name};
 ghost use Rattle.rbbi_tree.specs.Values.{set_tree, part_tree};
-ghost use Rattle.rbbi_resolve.specs.SetValues.{IsValue, joined_to, value_of_set, value_of_part, value_of_range};
+ghost use Rattle.rbbi_resolve.specs.SetValues.{IsValue, joined_to, value_of_set, value_of_part};
+ghost use Rattle.rbbi_resolve.specs.SetValues.{value_of_range};
 ghost use Rattle.rbbi_resolve.specs.SetsSoFar.{IsSoFar};
 ghost use Rattle.rbbi_resolve.specs.Contexts.{value_of_name};
 ghost use Rattle.rbbi_resolve.specs.Parts.{Within, parts_of_set, parts_of_part};
@@ -32,8 +33,10 @@ pub(crate) fn value_of_set(
 ) -> Result<Option<CodeSet>, AllocError>
     requires { IsScope properties.old scope.now }
     ensures value { IfOk result (λ value. IsValue properties.old
-        (value_of_set properties.old (value_of_name (context_of properties.old scope.now)) (set_tree set.now)) value) }
-    ensures noted { OnOk result (least.new ≡ noted_parts (context_of properties.old scope.now) least.old
+        (value_of_set properties.old (value_of_name (context_of properties.old scope.now))
+        (set_tree set.now)) value) }
+    ensures noted { OnOk result (least.new ≡ noted_parts
+        (context_of properties.old scope.now) least.old
         (parts_of_set (set_tree set.now))) }
     ensures same { properties.new ≡ properties.old }
 {
@@ -57,10 +60,12 @@ fn join_part(
     part: &SetPart,
 ) -> Result<(), AllocError>
     requires { IsScope properties.old scope.now }
-    ensures joined { OnOk result ((left : Option model.SetTree) → IsSoFar properties.old left so_far.old
+    ensures joined { OnOk result ((left : Option model.SetTree) →
+        IsSoFar properties.old left so_far.old
         → IsSoFar properties.old (value_of_part properties.old
         (value_of_name (context_of properties.old scope.now)) left (part_tree part.now)) so_far.new) }
-    ensures noted { OnOk result (least.new ≡ noted_parts (context_of properties.old scope.now) least.old
+    ensures noted { OnOk result (least.new ≡ noted_parts
+        (context_of properties.old scope.now) least.old
         (parts_of_part (part_tree part.now))) }
     ensures same { properties.new ≡ properties.old }
 {
@@ -98,9 +103,11 @@ fn join_span(
     first: char,
     last: char,
 ) -> Result<(), AllocError>
-    ensures joined { OnOk result ((files : List File) (left : Option model.SetTree) → IsSoFar files left so_far.old
+    ensures joined { OnOk result ((files : List File) (left : Option model.SetTree) →
+        IsSoFar files left so_far.old
         → IsSoFar files (joined_to join (value_of_range first last) left) so_far.new) }
-    ensures noted { OnOk result (least.new ≡ noted least.old (faults_where (nat_lt last first) place 8)) }
+    ensures noted { OnOk result (least.new ≡ noted least.old
+        (faults_where (nat_lt last first) place 8)) }
 {
     let low = first as u32;
     let high = last as u32;
@@ -120,7 +127,8 @@ fn join_value(
     join: Join,
     value: &Option<CodeSet>,
 ) -> Result<(), AllocError>
-    ensures { OnOk result ((files : List File) (left item : Option model.SetTree) → IsSoFar files left so_far.old
+    ensures { OnOk result ((files : List File) (left item : Option model.SetTree) →
+        IsSoFar files left so_far.old
         → IsValue files item value.now → IsSoFar files (joined_to join item left) so_far.new) }
 {
     match value {
@@ -142,11 +150,14 @@ fn join_name(
     join: Join,
     name: &Word,
 ) -> Result<(), AllocError>
-    ensures joined { OnOk result ((files : List File) (left : Option model.SetTree) → IsScope files scope.now
+    ensures joined { OnOk result ((files : List File) (left : Option model.SetTree) →
+        IsScope files scope.now
         → IsSoFar files left so_far.old
-        → IsSoFar files (joined_to join (value_of_name (context_of files scope.now) name.now) left) so_far.new) }
+        → IsSoFar files (joined_to join (value_of_name (context_of files scope.now) name.now) left)
+        so_far.new) }
     ensures noted { OnOk result ((files : List File) → IsScope files scope.now
-        → least.new ≡ noted_parts (context_of files scope.now) least.old (Within place (set_name name.now) ∷ [])) }
+        → least.new ≡ noted_parts (context_of files scope.now) least.old
+        (Within place (set_name name.now) ∷ [])) }
 {
     match scope.variable(name) {
         Some(variable) => match &variable.kind {

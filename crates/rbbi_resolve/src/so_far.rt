@@ -6,7 +6,8 @@ use rbbi_sets::{CodeRange, CodeSet};
 
 /// The parts of a set so far: the members of a set and of ranges that are yet to be joined to it.
 ///
-/// Characters and ranges are collected and joined by one sort, since a set may have a hundred thousand.
+/// Characters and ranges are collected and joined by one sort, since a set may have a hundred
+/// thousand.
 #[derive(Drop)]
 pub(crate) struct SoFar {
     pub(crate) set: CodeSet,

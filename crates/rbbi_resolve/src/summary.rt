@@ -1,5 +1,6 @@
 //! Counts of expressions without expanding them.
-ghost use Rattle.std.specs.Prelude.{◌≡◌, ◌+◌, ◌≤◌, ◌&&◌, ◌||◌, ℕ, Bool, true, false, max, length, if◌then◌else◌};
+ghost use Rattle.std.specs.Prelude.{◌≡◌, ◌+◌, ◌≤◌, ◌&&◌, ◌||◌, ℕ, Bool, true, false, max, length};
+ghost use Rattle.std.specs.Prelude.{if◌then◌else◌};
 ghost use Rattle.rbbi_resolve.specs.Summaries.{IsCapped, Sums, Summarizes, empty_of_quant};
 ghost use Rattle.rbbi_resolve.specs.Expressions.{word_of, height_of_word, height_of_quant};
 
@@ -12,7 +13,8 @@ fn capped_sum(left: u32, right: u32, cap: u32) -> u32
     requires left_low { left ≤ 65536 }
     requires right_low { right ≤ 65536 }
     ensures within { result ≤ cap }
-    ensures sum { (a b : ℕ) → IsCapped cap a left → IsCapped cap b right → IsCapped cap (a + b) result }
+    ensures sum { (a b : ℕ) → IsCapped cap a left → IsCapped cap b right →
+        IsCapped cap (a + b) result }
 {
     let sum = left + right;
     if sum > cap { cap } else { sum }
@@ -21,7 +23,8 @@ fn capped_sum(left: u32, right: u32, cap: u32) -> u32
 /// The greater of two capped numbers.
 fn greater(left: u32, right: u32) -> u32
     ensures within { (cap : ℕ) → left ≤ cap → right ≤ cap → result ≤ cap }
-    ensures greater { (cap a b : ℕ) → IsCapped cap a left → IsCapped cap b right → IsCapped cap (max a b) result }
+    ensures greater { (cap a b : ℕ) → IsCapped cap a left → IsCapped cap b right →
+        IsCapped cap (max a b) result }
 {
     if left < right { right } else { left }
 }
@@ -127,7 +130,8 @@ impl Summary {
 
     /// What is higher by 1 where it has many parts.
     pub(crate) fn raised(self, many: bool) -> Summary
-        ensures { (a h : ℕ) (e : Bool) → Sums self a h e → Sums result a (h + (if many then 1 else 0)) e }
+        ensures { (a h : ℕ) (e : Bool) → Sums self a h e →
+            Sums result a (h + (if many then 1 else 0)) e }
     {
         if many { self.higher() } else { self }
     }

@@ -128,8 +128,8 @@ fn times(alloc: Global, piece: &str, count: u32) -> Result<String, AllocError> {
     Ok(text)
 }
 
-/// Variables from 0 on, each of which is the one before with a text before and behind it, and a rule of
-/// the last.
+/// Variables from 0 on, each of which is the one before with a text before and behind it, and a
+/// rule of the last.
 fn chain(
     alloc: Global,
     first: &str,

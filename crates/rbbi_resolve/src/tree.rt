@@ -13,7 +13,8 @@ use std::alloc::{AllocError, Global};
 pub(crate) fn next_leaf(next: &mut usize) -> Tree
     requires { next.old ≤ 4294967294 }
     ensures moved { next.new ≡ next.old + 1 }
-    ensures tree { (sets : List (List Range)) → tree_of sets result ≡ spelling.Leaf (set_at sets next.old) }
+    ensures tree { (sets : List (List Range)) →
+        tree_of sets result ≡ spelling.Leaf (set_at sets next.old) }
     ensures numbers { numbers_of result ≡ next.old ∷ [] }
 {
     let number = *next as u32;

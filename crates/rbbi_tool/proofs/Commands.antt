@@ -21,61 +21,63 @@ abbrev pub Answers : Stage Outcome → Result Outcome Refusal → Type 0
 Answers stage result = Meets (λ outcome. outcome) stage result
 
 module _ (request : Request) (files handed back : List (List ℕ)) (source : List ℕ) (result : Result Outcome Refusal)
-    (handed_is : handed ≡ take (length request.properties) files) (back_is : back ≡ drop (length request.properties) files) (source_is : source ≡ nth back 0) where
-  pub check_answers : request.command ≡ Check → Answers (check_stage request.properties request.ignored handed source) result
-      → Answers (files_stage request files) result
-  check_answers is met =
-      subst (λ c. Answers (command_stage c request (take (length request.properties) files) (drop (length request.properties) files)) result) (sym is)
-      (subst (λ h. Answers (check_stage request.properties request.ignored h (nth (drop (length request.properties) files) 0)) result) handed_is
-      (subst (λ b. Answers (check_stage request.properties request.ignored handed (nth b 0)) result) back_is
-      (subst (λ s. Answers (check_stage request.properties request.ignored handed s) result) source_is met)))
+    (handed_is : handed ≡ take (length request.properties) files) (back_is : back ≡ drop (length request.properties) files) (source_is : source ≡ nth back 0)
+  where
+    pub check_answers : request.command ≡ Check → Answers (check_stage request.properties request.ignored handed source) result
+        → Answers (files_stage request files) result
+    check_answers is met =
+        subst (λ c. Answers (command_stage c request (take (length request.properties) files) (drop (length request.properties) files)) result) (sym is)
+        (subst (λ h. Answers (check_stage request.properties request.ignored h (nth (drop (length request.properties) files) 0)) result) handed_is
+        (subst (λ b. Answers (check_stage request.properties request.ignored handed (nth b 0)) result) back_is
+        (subst (λ s. Answers (check_stage request.properties request.ignored handed s) result) source_is met)))
 
-  pub compile_answers : (name : List ℕ) → name ≡ nth request.operands 1 → request.command ≡ Compile
-      → Answers (compile_stage request.properties request.ignored handed source name) result → Answers (files_stage request files) result
-  compile_answers name name_is is met =
-      subst (λ c. Answers (command_stage c request (take (length request.properties) files) (drop (length request.properties) files)) result) (sym is)
-      (subst (λ h. Answers (compile_stage request.properties request.ignored h (nth (drop (length request.properties) files) 0) (nth request.operands 1)) result)
-      handed_is
-      (subst (λ b. Answers (compile_stage request.properties request.ignored handed (nth b 0) (nth request.operands 1)) result) back_is
-      (subst (λ s. Answers (compile_stage request.properties request.ignored handed s (nth request.operands 1)) result) source_is
-      (subst (λ n. Answers (compile_stage request.properties request.ignored handed source n) result) name_is met))))
+    pub compile_answers : (name : List ℕ) → name ≡ nth request.operands 1 → request.command ≡ Compile
+        → Answers (compile_stage request.properties request.ignored handed source name) result → Answers (files_stage request files) result
+    compile_answers name name_is is met =
+        subst (λ c. Answers (command_stage c request (take (length request.properties) files) (drop (length request.properties) files)) result) (sym is)
+        (subst (λ h. Answers (compile_stage request.properties request.ignored h (nth (drop (length request.properties) files) 0) (nth request.operands 1))
+        result)
+        handed_is
+        (subst (λ b. Answers (compile_stage request.properties request.ignored handed (nth b 0) (nth request.operands 1)) result) back_is
+        (subst (λ s. Answers (compile_stage request.properties request.ignored handed s (nth request.operands 1)) result) source_is
+        (subst (λ n. Answers (compile_stage request.properties request.ignored handed source n) result) name_is met))))
 
-  pub breaks_answers : (name text : List ℕ) → name ≡ nth request.operands 1 → text ≡ nth back 1 → request.command ≡ Breaks
-      → Answers (breaks_stage request.properties request.ignored request.by_table handed source name text) result → Answers (files_stage request files) result
-  breaks_answers name text name_is text_is is met =
-      let stage = λ (h : List (List ℕ)) (s n t : List ℕ). Answers (breaks_stage request.properties request.ignored request.by_table h s n t) result in
-      subst (λ c. Answers (command_stage c request (take (length request.properties) files) (drop (length request.properties) files)) result) (sym is)
-      (subst (λ h. stage h (nth (drop (length request.properties) files) 0) (nth request.operands 1) (nth (drop (length request.properties) files) 1)) handed_is
-      (subst (λ b. stage handed (nth b 0) (nth request.operands 1) (nth b 1)) back_is
-      (subst (λ s. stage handed s (nth request.operands 1) (nth back 1)) source_is
-      (subst (λ n. stage handed source n (nth back 1)) name_is (subst (λ t. stage handed source name t) text_is met)))))
+    pub breaks_answers : (name text : List ℕ) → name ≡ nth request.operands 1 → text ≡ nth back 1 → request.command ≡ Breaks
+        → Answers (breaks_stage request.properties request.ignored request.by_table handed source name text) result → Answers (files_stage request files) result
+    breaks_answers name text name_is text_is is met =
+        let stage = λ (h : List (List ℕ)) (s n t : List ℕ). Answers (breaks_stage request.properties request.ignored request.by_table h s n t) result in
+        subst (λ c. Answers (command_stage c request (take (length request.properties) files) (drop (length request.properties) files)) result) (sym is)
+        (subst (λ h. stage h (nth (drop (length request.properties) files) 0) (nth request.operands 1) (nth (drop (length request.properties) files) 1)) handed_is
+        (subst (λ b. stage handed (nth b 0) (nth request.operands 1) (nth b 1)) back_is
+        (subst (λ s. stage handed s (nth request.operands 1) (nth back 1)) source_is
+        (subst (λ n. stage handed source n (nth back 1)) name_is (subst (λ t. stage handed source name t) text_is met)))))
 
-  pub conform_answers : (name tests : List ℕ) → name ≡ nth request.operands 1 → tests ≡ nth back 1 → request.command ≡ Conform
-      → Answers (conform_stage request.properties request.ignored request.by_table handed source name tests) result → Answers (files_stage request files) result
-  conform_answers name tests name_is tests_is is met =
-      let stage = λ (h : List (List ℕ)) (s n t : List ℕ). Answers (conform_stage request.properties request.ignored request.by_table h s n t) result in
-      subst (λ c. Answers (command_stage c request (take (length request.properties) files) (drop (length request.properties) files)) result) (sym is)
-      (subst (λ h. stage h (nth (drop (length request.properties) files) 0) (nth request.operands 1) (nth (drop (length request.properties) files) 1)) handed_is
-      (subst (λ b. stage handed (nth b 0) (nth request.operands 1) (nth b 1)) back_is
-      (subst (λ s. stage handed s (nth request.operands 1) (nth back 1)) source_is
-      (subst (λ n. stage handed source n (nth back 1)) name_is (subst (λ t. stage handed source name t) tests_is met)))))
+    pub conform_answers : (name tests : List ℕ) → name ≡ nth request.operands 1 → tests ≡ nth back 1 → request.command ≡ Conform
+        → Answers (conform_stage request.properties request.ignored request.by_table handed source name tests) result → Answers (files_stage request files) result
+    conform_answers name tests name_is tests_is is met =
+        let stage = λ (h : List (List ℕ)) (s n t : List ℕ). Answers (conform_stage request.properties request.ignored request.by_table h s n t) result in
+        subst (λ c. Answers (command_stage c request (take (length request.properties) files) (drop (length request.properties) files)) result) (sym is)
+        (subst (λ h. stage h (nth (drop (length request.properties) files) 0) (nth request.operands 1) (nth (drop (length request.properties) files) 1)) handed_is
+        (subst (λ b. stage handed (nth b 0) (nth request.operands 1) (nth b 1)) back_is
+        (subst (λ s. stage handed s (nth request.operands 1) (nth back 1)) source_is
+        (subst (λ n. stage handed source n (nth back 1)) name_is (subst (λ t. stage handed source name t) tests_is met)))))
 
-  pub run_answers : (name text script_name script : List ℕ) → name ≡ nth request.operands 1 → text ≡ nth back 1 → script_name ≡ nth request.operands 2
-      → script ≡ nth back 2 → request.command ≡ Run
-      → Answers (play_stage request.properties request.ignored request.by_table handed source name text script_name script) result
-      → Answers (files_stage request files) result
-  run_answers name text script_name script name_is text_is script_name_is script_is is met =
-      let stage = λ (h : List (List ℕ)) (s n t m r : List ℕ).
-      Answers (play_stage request.properties request.ignored request.by_table h s n t m r) result in
-      let names = request.operands in
-      let files_left = drop (length request.properties) files in
-      subst (λ c. Answers (command_stage c request (take (length request.properties) files) files_left) result) (sym is)
-      (subst (λ h. stage h (nth files_left 0) (nth names 1) (nth files_left 1) (nth names 2) (nth files_left 2)) handed_is
-      (subst (λ b. stage handed (nth b 0) (nth names 1) (nth b 1) (nth names 2) (nth b 2)) back_is
-      (subst (λ s. stage handed s (nth names 1) (nth back 1) (nth names 2) (nth back 2)) source_is
-      (subst (λ n. stage handed source n (nth back 1) (nth names 2) (nth back 2)) name_is
-      (subst (λ t. stage handed source name t (nth names 2) (nth back 2)) text_is
-      (subst (λ m. stage handed source name text m (nth back 2)) script_name_is (subst (λ r. stage handed source name text script_name r) script_is met)))))))
+    pub run_answers : (name text script_name script : List ℕ) → name ≡ nth request.operands 1 → text ≡ nth back 1 → script_name ≡ nth request.operands 2
+        → script ≡ nth back 2 → request.command ≡ Run
+        → Answers (play_stage request.properties request.ignored request.by_table handed source name text script_name script) result
+        → Answers (files_stage request files) result
+    run_answers name text script_name script name_is text_is script_name_is script_is is met =
+        let stage = λ (h : List (List ℕ)) (s n t m r : List ℕ).
+        Answers (play_stage request.properties request.ignored request.by_table h s n t m r) result in
+        let names = request.operands in
+        let files_left = drop (length request.properties) files in
+        subst (λ c. Answers (command_stage c request (take (length request.properties) files) files_left) result) (sym is)
+        (subst (λ h. stage h (nth files_left 0) (nth names 1) (nth files_left 1) (nth names 2) (nth files_left 2)) handed_is
+        (subst (λ b. stage handed (nth b 0) (nth names 1) (nth b 1) (nth names 2) (nth b 2)) back_is
+        (subst (λ s. stage handed s (nth names 1) (nth back 1) (nth names 2) (nth back 2)) source_is
+        (subst (λ n. stage handed source n (nth back 1) (nth names 2) (nth back 2)) name_is
+        (subst (λ t. stage handed source name t (nth names 2) (nth back 2)) text_is
+        (subst (λ m. stage handed source name text m (nth back 2)) script_name_is (subst (λ r. stage handed source name text script_name r) script_is met)))))))
 
 -- what is told of the output of a command: its status, and the file that it writes
 pub record IsToldOf (request : Request) (outcome : Outcome) : Type 0 where

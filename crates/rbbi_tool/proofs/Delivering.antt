@@ -43,7 +43,8 @@ told_left None now writes writes' file result told failed = tt
 told_left (Some held) None writes writes' file result told failed = told
 told_left (Some held) (Some held') writes writes' file result told failed = each_left writes writes' held held' file result told failed
 
-pub each_left_told : {T : Type 0} (before now : Option (List ℕ → List ℕ)) (writes writes' : List ℕ → ℕ) (file same : Option Written) (result : Result T WriteErr)
+pub each_left_told : {T : Type 0} (before now : Option (List ℕ → List ℕ)) (writes writes' : List ℕ → ℕ) (file same : Option Written)
+    (result : Result T WriteErr)
     → file ≡ same → WhereTold before now (LeavesFile file result) → (IsErrOf result write.Failed → FileFailed file writes writes')
     → WhereTold before now (EachHoldsOrIsFile same writes writes')
 each_left_told before now writes writes' file same result is told failed =

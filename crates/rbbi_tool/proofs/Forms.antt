@@ -42,35 +42,36 @@ module _ (words : List (List ℕ)) (word : List ℕ) (more : List (List ℕ)) (a
       let same : asks.more ≡ more = (let both = sym are ∙ asks.are in cc) in
       none asks.settings request.operands (subst (λ w. BeginWithSettings w asks.settings request.operands) same asks.begin)
 
-  module _ (command : Command) (is : word ≡ name_of command) (settings : List Setting) (rest : List (List ℕ)) (begin : BeginWithSettings more settings rest) where
-    command_is : (request : Request) → Asks words request → request.command ≡ command
-    command_is request asks =
-        let both = sym are ∙ asks.are in
-        let name : name_of request.command ≡ name_of command = cc in
-        same_command request.command command name
+  module _ (command : Command) (is : word ≡ name_of command) (settings : List Setting) (rest : List (List ℕ)) (begin : BeginWithSettings more settings rest)
+    where
+      command_is : (request : Request) → Asks words request → request.command ≡ command
+      command_is request asks =
+          let both = sym are ∙ asks.are in
+          let name : name_of request.command ≡ name_of command = cc in
+          same_command request.command command name
 
-    settings_are : (request : Request) (asks : Asks words request) → (asks.settings ≡ settings) × (request.operands ≡ rest)
-    settings_are request asks =
-        let both = sym are ∙ asks.are in
-        let same : asks.more ≡ more = cc in
-        same_settings more asks.settings settings request.operands rest
-        (subst (λ w. BeginWithSettings w asks.settings request.operands) same asks.begin) begin
+      settings_are : (request : Request) (asks : Asks words request) → (asks.settings ≡ settings) × (request.operands ≡ rest)
+      settings_are request asks =
+          let both = sym are ∙ asks.are in
+          let same : asks.more ≡ more = cc in
+          same_settings more asks.settings settings request.operands rest
+          (subst (λ w. BeginWithSettings w asks.settings request.operands) same asks.begin) begin
 
-    -- the command doesn't take the options
-    pub not_taken : are_taken (taken_by command) settings ≡ false → AreNoForm words
-    not_taken refused request asks =
-        let here : are_taken (taken_by request.command) asks.settings ≡ are_taken (taken_by command) settings =
-        ap (λ c. are_taken (taken_by c) asks.settings) (command_is request asks) ∙ ap (are_taken (taken_by command)) (settings_are request asks).0 in
-        let taken = asks.taken in
-        absurd cc
+      -- the command doesn't take the options
+      pub not_taken : are_taken (taken_by command) settings ≡ false → AreNoForm words
+      not_taken refused request asks =
+          let here : are_taken (taken_by request.command) asks.settings ≡ are_taken (taken_by command) settings =
+          ap (λ c. are_taken (taken_by c) asks.settings) (command_is request asks) ∙ ap (are_taken (taken_by command)) (settings_are request asks).0 in
+          let taken = asks.taken in
+          absurd cc
 
-    -- there are more or fewer operands
-    pub other_count : (by_table : Bool) → by_table ≡ are_by_table settings → length rest ≢ length (operands_of command by_table) → AreNoForm words
-    other_count by_table same differ request asks =
-        let table : request.by_table ≡ by_table = asks.by_table ∙ ap are_by_table (settings_are request asks).0 ∙ sym same in
-        differ
-        (ap length (sym (settings_are request asks).1) ∙ asks.count ∙ ap (λ c. length (operands_of c request.by_table)) (command_is request asks)
-        ∙ ap (λ t. length (operands_of command t)) table)
+      -- there are more or fewer operands
+      pub other_count : (by_table : Bool) → by_table ≡ are_by_table settings → length rest ≢ length (operands_of command by_table) → AreNoForm words
+      other_count by_table same differ request asks =
+          let table : request.by_table ≡ by_table = asks.by_table ∙ ap are_by_table (settings_are request asks).0 ∙ sym same in
+          differ
+          (ap length (sym (settings_are request asks).1) ∙ asks.count ∙ ap (λ c. length (operands_of c request.by_table)) (command_is request asks)
+          ∙ ap (λ t. length (operands_of command t)) table)
 
 -- one request fits the words
 pub same_request : (words : List (List ℕ)) (one other : Request) → Asks words one → Asks words other → one ≡ other

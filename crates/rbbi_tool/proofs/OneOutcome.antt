@@ -1,5 +1,6 @@
 -- Each stage is determined, and so is the outcome. The laws of the lower crates are handed in.
-use Rattle.std.proofs.Common.{◌≡◌, ◌≢◌, ◌⊎◌, ◌+◌, inl, inr, ⊎_elim, ℕ, Bool, true, false, List, [], ◌∷◌, length, Option, Some, is_some, sym, refl, ap, ◌∙◌, subst, arith}
+use Rattle.std.proofs.Common.{◌≡◌, ◌≢◌, ◌⊎◌, ◌+◌, inl, inr, ⊎_elim, ℕ, Bool, true, false, List, [], ◌∷◌, length, Option, Some, is_some, sym, refl, ap, ◌∙◌}
+use Rattle.std.proofs.Common.{subst, arith}
 use Rattle.std.specs.Prelude.{codes, IsSome, Result, Err, Ok}
 use Rattle.rbbi_model.specs.Rules.{Rule}
 use Rattle.rbbi_model.specs.Boundaries.{Boundary, AreBoundaries}
@@ -44,7 +45,8 @@ use Rattle.rbbi_tool.specs.Words.{Request, Asks, AreNoForm}
 use Rattle.rbbi_tool.specs.Files.{length_stage, lengths_stage, sources_of}
 use Rattle.rbbi_tool.specs.Texts.{TellsNotUtf8, checked_utf8_stage, utf8_stage, count_stage, text_stage}
 use Rattle.rbbi_tool.specs.Properties.{rows_stage, property_stage, properties_stage, property_files}
-use Rattle.rbbi_tool.specs.Rules.{IsTold, fault_at, rule_text_stage, tokens_stage, statements_stage, meaning_stage, rules_of_text_stage, rule_bytes_stage, rules_stage}
+use Rattle.rbbi_tool.specs.Rules.{IsTold, fault_at, rule_text_stage, tokens_stage, statements_stage, meaning_stage, rules_of_text_stage, rule_bytes_stage}
+use Rattle.rbbi_tool.specs.Rules.{rules_stage}
 use Rattle.rbbi_tool.specs.Basis.{categories_stage, TellsLimit, sizes_stage, limits_stage, compiled_stage, table_place, TellsTableFault, table_stage}
 use Rattle.rbbi_tool.specs.Basis.{Basis, ByRules, ByTable, AreBoundariesBy, basis_stage}
 use Rattle.rbbi_tool.specs.Reads.{bytes_of}

@@ -19,7 +19,8 @@ use Rattle.rbbi_tool.specs.Files.{sources_of, lengths_stage}
 use Rattle.rbbi_tool.specs.Reads.{EndsReading, AreRead, MakesSomeReads, bytes_of}
 use Rattle.rbbi_tool.specs.Program.{files_stage, run_stage, IsOutcome}
 use Rattle.rbbi_tool.specs.Delivery.{HoldsFile, FileFailed, OthersUncounted, EachHoldsOrIsFile}
-use Rattle.rbbi_tool.specs.Causes.{NamesToWrite, IsWrittenBy, ComesTo, Tells, IsAnswer, TellsFailedRead, NoReadFailed, IsPartOfAnswer, TakesPart, TakesOutcome, TakesFailedRead}
+use Rattle.rbbi_tool.specs.Causes.{NamesToWrite, IsWrittenBy, ComesTo, Tells, IsAnswer, TellsFailedRead, NoReadFailed, IsPartOfAnswer, TakesPart}
+use Rattle.rbbi_tool.specs.Causes.{TakesOutcome, TakesFailedRead}
 use Rattle.rbbi_tool.specs.Causes.{EachHolds, IsWritten, SomeWriteFailed, OthersUnwritten}
 use Rattle.rbbi_tool.proofs.Forms.{same_request}
 use Rattle.rbbi_tool.proofs.Reading.{all_told}

@@ -1,5 +1,6 @@
 -- How many files a request has, and that none has more bytes than are read at once.
-use Rattle.std.proofs.Common.{◌≡◌, ◌<◌, ◌≤◌, ◌+◌, ◌-◌, ℕ, zero, suc, Bool, true, false, List, [], ◌∷◌, ◌++◌, length, map, take, drop, get_or, refl, sym, ap, ◌∙◌, subst, arith}
+use Rattle.std.proofs.Common.{◌≡◌, ◌<◌, ◌≤◌, ◌+◌, ◌-◌, ℕ, zero, suc, Bool, true, false, List, [], ◌∷◌, ◌++◌, length, map, take, drop, get_or, refl, sym, ap}
+use Rattle.std.proofs.Common.{◌∙◌, subst, arith}
 use Rattle.std.specs.List.{AllByRecursion}
 use Rattle.std.proofs.lemmas.List.{length-map, length-append, length-take-le, length-drop, get_or_read}
 use Rattle.rbbi_text.specs.Bytes.{most_bytes}
@@ -143,7 +144,8 @@ module _ (request : Request) (files : List (List ℕ)) (within : AreWithin (sour
 
   pub file_short : (n k : ℕ) (back : List (List ℕ)) (bytes : List ℕ) → back ≡ drop n files → bytes ≡ nth back k → length bytes ≤ most_bytes
   file_short n k back bytes is is' =
-      subst (λ b. length b ≤ most_bytes) (sym (is' ∙ ap (λ b. nth b k) is)) (nth_short k (drop n files) (drop_short n files (within_short (sources_of request) files within)))
+      subst (λ b. length b ≤ most_bytes) (sym (is' ∙ ap (λ b. nth b k) is))
+      (nth_short k (drop n files) (drop_short n files (within_short (sources_of request) files within)))
 
   -- there are as many as the command reads
   pub files_behind : (n : ℕ) (back : List (List ℕ)) → length request.operands ≡ length (operands_of request.command request.by_table) → back ≡ drop n files

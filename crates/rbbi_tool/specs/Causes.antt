@@ -50,7 +50,8 @@ pub record ReadFails (words : List (List ℕ)) (contents : Option (List ℕ → 
 -- what a run comes to before anything is written: its output, or what ends it
 abbrev pub ComesTo : List (List ℕ) → Option (List ℕ → List ℕ) → (List ℕ → ℕ) → (List ℕ → ℕ) → Result Outcome Refusal → Type 0
 ComesTo words contents before now (Ok outcome) =
-    (outcome.status ≤ 1) × (¬ AreNoForm words) × IfSome outcome.file (λ file. NamesToWrite words file.name) × IfSome contents (λ held. (run_stage words held).passes outcome)
+    (outcome.status ≤ 1) × (¬ AreNoForm words) × IfSome outcome.file (λ file. NamesToWrite words file.name) ×
+    IfSome contents (λ held. (run_stage words held).passes outcome)
 ComesTo words contents before now (Err Usage) = AreNoForm words
 ComesTo words contents before now (Err (Unread name)) = ReadFails words contents before now name
 ComesTo words contents before now (Err (Fault subject label place)) =

@@ -4,8 +4,8 @@ ghost use Rattle.std.specs.Prelude.{ℕ, List};
 ghost use Rattle.rbbi_tool.specs.Causes.{AskToReadLines, HasOneOutcome};
 
 /// To words over files that tell what they hold there is one outcome: one status, one text, and one
-/// file. Of a table that is compiled the row numbers are free, and so are its bytes. Nothing is said
-/// of commands that read a script or a test file.
+/// file. Of a table that is compiled the row numbers are free, and so are its bytes. Nothing is
+/// said of commands that read a script or a test file.
 pub fn outcomes_are_unique()
     ensures { (words : List (List ℕ)) (held : List ℕ → List ℕ) → ¬ AskToReadLines words
         → HasOneOutcome words held }

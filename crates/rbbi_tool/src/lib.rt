@@ -1,9 +1,9 @@
 //! The top call of `rbbi`: from the words of the command line to the bytes that go out.
 //!
-//! A run goes through stages, each of which passes or refuses: the words, the files that they
-//! name, and then what the command makes of them. `words` has the commands, their options and their
-//! operands as data, `files` the limits of what is read, `refusal` all that ends a run, and `command`
-//! one function for each command.
+//! A run goes through stages, each of which passes or refuses: the words, the files that they name,
+//! and then what the command makes of them. `words` has the commands, their options and their
+//! operands as data, `files` the limits of what is read, `refusal` all that ends a run, and
+//! `command` one function for each command.
 #![tactic(auto)]
 
 mod basis;

@@ -127,8 +127,8 @@ pub fn rbbi<F: Files, K: Sink, L: Ledger>(
     ensures unread { AreNoForm (map string_bytes words.now.items)
         → EachStays (F.failed_reads files.old) (F.failed_reads files.new) }
 
-    // The files are read in the order of the words, and none behind one that can't be read or is too
-    // long.
+    // The files are read in the order of the words, and none behind one that can't be read or is
+    // too long.
     ensures order { (request : Request) → Asks (map string_bytes words.now.items) request
         → IfSome (F.contents files.old) (MakesSomeReads (sources_of request)
         (F.failed_reads files.old) (F.failed_reads files.new)) }

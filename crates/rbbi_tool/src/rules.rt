@@ -136,8 +136,8 @@ fn rules_of_text(
     meaning_of(alloc, text, &statements, props, ignored)
 }
 
-/// The rules of a rule file. Its fault is the first of the property files, of its bytes, its tokens,
-/// its grammar and its meaning.
+/// The rules of a rule file. Its fault is the first of the property files, of its bytes, its
+/// tokens, its grammar and its meaning.
 pub(crate) fn rules_from<L: Ledger>(
     alloc: Global,
     options: &Options,

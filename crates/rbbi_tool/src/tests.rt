@@ -76,7 +76,8 @@ fn run_words(
     Ok((status, out))
 }
 
-/// The number of the first row, from 0, that hasn't the exit status or the output that it must have.
+/// The number of the first row, from 0, that hasn't the exit status or the output that it must
+/// have.
 fn first_wrong(rt: &HostRuntime, rows: &[Row]) -> Result<Option<usize>, AllocError> {
     for (i, (words, held, status, output)) in rows.iter().enumerate() {
         let mut files = files_of(rt, held)?;

@@ -55,7 +55,8 @@ pub(crate) fn breaks<L: Ledger>(
     requires handed { AreHanded options.now.properties.items handed.now }
     requires source { length source.now ≤ most_bytes }
     requires text { length text.now ≤ most_bytes }
-    ensures { Meets (λ output. output) (breaks_stage options.now.properties.items options.now.ignored
+    ensures { Meets (λ output. output) (breaks_stage options.now.properties.items
+        options.now.ignored
         options.now.by_table handed.now source.now name.now text.now) result }
 {
     let table = basis(alloc, options, handed, source, steps)?;

@@ -43,7 +43,12 @@ impl Model for Output {
 
     ghost Value = { Outcome };
 
-    ghost view = { λ output. record { status = output.status; bytes = output.bytes.items; file = output.file } };
+    ghost view = { λ output. record {
+      status = output.status;
+      bytes = output.bytes.items;
+      file =
+          output.file;
+    } };
 }
 
 impl Output {

@@ -30,7 +30,8 @@ fn of_files_and_sink(rt: HostRuntime) -> Result<(), Fail> {
     Ok(())
 }
 
-/// A rule file of one byte too many ends the reading: the text isn't read, even where that would fail.
+/// A rule file of one byte too many ends the reading: the text isn't read, even where that would
+/// fail.
 #[test]
 fn too_long_ends_the_reading(rt: HostRuntime) -> Result<(), Fail> {
     let rules = vec![in rt.alloc(); b';'; 1_048_577]?;

@@ -1,5 +1,6 @@
 //! The options between the word of a command and its first operand.
-ghost use Rattle.std.specs.Prelude.{◌≡◌, ◌≢◌, ◌++◌, ◌∷◌, [], ℕ, List, length, codes, map, drop, MatchOption, MatchBool, IfOk, ◌≤◌};
+ghost use Rattle.std.specs.Prelude.{◌≡◌, ◌≢◌, ◌++◌, ◌∷◌, [], ℕ, List, length, codes, map, drop};
+ghost use Rattle.std.specs.Prelude.{MatchOption, MatchBool, IfOk, ◌≤◌};
 ghost use Rattle.std.specs.List.{list_all, list_any};
 ghost use Rattle.std.specs.Char.{is_ascii_alphanumeric};
 ghost use Rattle.std.specs.String.{string_bytes};
@@ -100,8 +101,8 @@ fn are_name_bytes(name: &[u8]) -> bool
     name.iter().all(|byte| is_name_byte(*byte))
 }
 
-/// Whether it is the name of a property: letters, digits, spaces, `_` and `-` of ASCII, with a letter
-/// or digit among them.
+/// Whether it is the name of a property: letters, digits, spaces, `_` and `-` of ASCII, with a
+/// letter or digit among them.
 fn is_property_name(name: &str) -> bool
     ensures { result ≡ spec.is_property_name name.now }
 {

@@ -30,7 +30,8 @@ rules_with_trees-requires-clause-ready c =
       ignored = r.dictionary_ignored;
       none = none;
       sound = λ n. sound_at now r.dictionary_ignored T n c.requires.well_made none;
-      faultless = λ n e is. assigned_faultless r.dictionary_ignored (context_at now T n) is.word is.place e (faultless_at now r.dictionary_ignored T n _ is.at none);
+      faultless = λ n e is. assigned_faultless r.dictionary_ignored (context_at now T n) is.word is.place e
+          (faultless_at now r.dictionary_ignored T n _ is.at none);
     }
 
 pub new-requires : goal.new-requires
@@ -44,11 +45,14 @@ new-requires c =
     let long : length T ≡ length r.statements.now = simp length-map in
     let all = subst (λ f. AreAllRules f T sets rules) c.in_ok-builder.ensures.same c.in_ok-rules.ensures.built in
     let stand = rules_stand files sets ms rules all.each in
-    let counting = counting_all files r.dictionary_ignored T r.variables r.least r.switches r.counts (length r.statements.now) (omega arith) c.requires.reading in
+    let counting = counting_all files r.dictionary_ignored T r.variables r.least r.switches r.counts (length r.statements.now)
+    (omega arith) c.requires.reading in
     record {
       well_formed = rules_formed files T sets rules all;
-      leaf_count = leaves_counted r.counts c.requires.few.0 ms counting c.requires.few.1 ∙ sym (same_leaves files ms (rules_of (record { rules = rules; sets = sets })) stand);
-      slash_count = slashes_counted r.counts c.requires.few.0 ms counting c.requires.few.1 ∙ sym (same_slashes files ms (rules_of (record { rules = rules; sets = sets })) stand);
+      leaf_count = leaves_counted r.counts c.requires.few.0 ms counting c.requires.few.1
+          ∙ sym (same_leaves files ms (rules_of (record { rules = rules; sets = sets })) stand);
+      slash_count = slashes_counted r.counts c.requires.few.0 ms counting c.requires.few.1
+          ∙ sym (same_slashes files ms (rules_of (record { rules = rules; sets = sets })) stand);
     }
 
 pub returns-clause-means : goal.returns-clause-means
@@ -61,7 +65,12 @@ returns-clause-means c =
     let rules = c.in_ok-rules.rules.items in
     let all = subst (λ f. AreAllRules f T sets rules) c.in_ok-builder.ensures.same c.in_ok-rules.ensures.built in
     subst (λ (x : RuleList). Means files r.dictionary_ignored T (rules_of x)) (sym c.new.ensures)
-    (record { faultless = c.requires.faultless; within = λ end. within_anywhere c.requires.few.0 end ms c.requires.few.1; rules_in_order = rules_stand files sets ms rules all.each })
+    (record {
+      faultless = c.requires.faultless;
+      within = λ end. within_anywhere c.requires.few.0 end ms c.requires.few.1;
+      rules_in_order =
+          rules_stand files sets ms rules all.each;
+    })
 
 pub returns-clause-lawful : goal.returns-clause-lawful
 returns-clause-lawful c =
@@ -74,5 +83,11 @@ returns-clause-lawful c =
     let list : RuleList = record { rules = rules; sets = sets } in
     let all = subst (λ f. AreAllRules f T sets rules) c.in_ok-builder.ensures.same c.in_ok-rules.ensures.built in
     let means : Means files r.dictionary_ignored T (rules_of list) =
-    record { faultless = c.requires.faultless; within = λ end. within_anywhere c.requires.few.0 end ms c.requires.few.1; rules_in_order = rules_stand files sets ms rules all.each } in
-    subst (λ (x : RuleList). AreLawful (rules_of x)) (sym c.new.ensures) (lawful_rules files r.dictionary_ignored T (rules_of list) c.requires.well_made means (rules_filled files sets ms rules all.each))
+    record {
+      faultless = c.requires.faultless;
+      within = λ end. within_anywhere c.requires.few.0 end ms c.requires.few.1;
+      rules_in_order =
+          rules_stand files sets ms rules all.each;
+    } in
+    subst (λ (x : RuleList). AreLawful (rules_of x)) (sym c.new.ensures)
+    (lawful_rules files r.dictionary_ignored T (rules_of list) c.requires.well_made means (rules_filled files sets ms rules all.each))

@@ -36,7 +36,8 @@ loop-number-preserved c =
     let n = c.add_statement.new in
     let same = c.in_ok-add_statement.ensures.same in (
       same ∙ c.loop-number.invariant.0,
-      subst (λ f. AreRulesTo f (statement_trees c.args.scope.now.statements.now) n.builder.sets.items n.builder.bases.items n.switches n.rules.items (c.loop-number.number + 1)) (sym same) c.in_ok-add_statement.ensures.added,
+      subst (λ f. AreRulesTo f (statement_trees c.args.scope.now.statements.now) n.builder.sets.items n.builder.bases.items n.switches n.rules.items
+          (c.loop-number.number + 1)) (sym same) c.in_ok-add_statement.ensures.added,
     )
 
 pub returns : goal.returns
@@ -47,5 +48,6 @@ returns c =
     let all = c.requires.all in
     let test = c.loop-number-test.false in
     record {
-      built = subst (λ f. AreAllRules f T l.builder.sets.items l.rules.items) l.invariant.0 (all_built l.builder.properties T l.builder.sets.items l.builder.bases.items l.switches l.rules.items l.number (omega arith) l.invariant.1);
+      built = subst (λ f. AreAllRules f T l.builder.sets.items l.rules.items) l.invariant.0
+          (all_built l.builder.properties T l.builder.sets.items l.builder.bases.items l.switches l.rules.items l.number (omega arith) l.invariant.1);
     }

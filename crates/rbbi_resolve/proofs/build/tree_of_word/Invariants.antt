@@ -10,4 +10,5 @@ use Rattle.rbbi_resolve.proofs.build.tree_of_word.Given as goal
 abbrev pub invariant-loop : goal.invariant-loop
 invariant-loop l =
     (l.next ≡ l.initial.next + length l.yielded)
-    × ((files : List File) (sets : List (List Range)) → StandFrom files sets l.initial.next (map model.Character l.yielded) → AreBuilt files (length sets) sets l.initial.next l.next (map (λ c. Leaf (model.Character c)) l.yielded) l.items.items)
+    × ((files : List File) (sets : List (List Range)) → StandFrom files sets l.initial.next (map model.Character l.yielded) →
+    AreBuilt files (length sets) sets l.initial.next l.next (map (λ c. Leaf (model.Character c)) l.yielded) l.items.items)

@@ -15,46 +15,80 @@ use Rattle.rbbi_resolve.proofs.check.+check.Goals as goal
 
 pub check_expr-loop-seq-init : goal.check_expr-loop-seq-init
 check_expr-loop-seq-init t c =
-    record { same = refl; leaf_number = 0; height_number = 0; empty_so_far = false; sums = c.never-whole.ensures; all_leaves = omega arith; all_heights = search rules; all_empty = refl; noted = refl }
+    record {
+      same = refl;
+      leaf_number = 0;
+      height_number = 0;
+      empty_so_far = false;
+      sums = c.never-whole.ensures;
+      all_leaves = omega arith;
+      all_heights =
+          search rules;
+      all_empty = refl;
+      noted = refl;
+    }
 
 pub check_expr-loop-seq-preserved : goal.check_expr-loop-seq-preserved
 check_expr-loop-seq-preserved t c =
-    expr_turn (λ files. context_of files c.args.scope.now) c.args.properties.now c.args.least.now _ c.loop-seq.whole c.in_ok-part.part c.or-whole.result c.loop-seq.least c.check_seq.new.least c.loop-seq.properties c.check_seq.new.properties c.deref-seq-items.result.now c.loop-seq.seq-index c.seq-item.result (omega arith) c.seq-item.is c.loop-seq.invariant
+    expr_turn (λ files. context_of files c.args.scope.now) c.args.properties.now c.args.least.now _ c.loop-seq.whole c.in_ok-part.part c.or-whole.result
+    c.loop-seq.least c.check_seq.new.least c.loop-seq.properties c.check_seq.new.properties c.deref-seq-items.result.now c.loop-seq.seq-index
+    c.seq-item.result (omega arith) c.seq-item.is c.loop-seq.invariant
     (record { noted = c.in_ok-part.ensures.noted; counts = c.in_ok-part.ensures.counts; same = c.in_ok-part.ensures.same })
     c.or-whole.ensures
 
 pub check_expr-returns-clause-noted : goal.check_expr-returns-clause-noted
 check_expr-returns-clause-noted t c =
     let len : c.len.result ≡ length c.deref-seq-items.result.now = search rules in
-    (expr_gives c.args.properties.now (context_of c.args.properties.now c.args.scope.now) c.args.least.now c.loop-seq.whole c.raised.result c.loop-seq.least c.loop-seq.properties c.args.expr.now c.deref-seq-items.result.now c.loop-seq.seq-index c.deref-seq-items.ensures.value (omega arith) c.loop-seq.invariant
+    (expr_gives c.args.properties.now (context_of c.args.properties.now c.args.scope.now) c.args.least.now c.loop-seq.whole c.raised.result c.loop-seq.least
+    c.loop-seq.properties c.args.expr.now c.deref-seq-items.result.now c.loop-seq.seq-index c.deref-seq-items.ensures.value
+    (omega arith) c.loop-seq.invariant
     (subst (λ n. (a h : ℕ) (b : Bool) → Sums c.loop-seq.whole a h b → Sums c.raised.result a (h + (if nat_lt 1 n then 1 else 0)) b) len c.raised.ensures)).1
 
 pub check_expr-returns-clause-counts : goal.check_expr-returns-clause-counts
 check_expr-returns-clause-counts t c =
     let len : c.len.result ≡ length c.deref-seq-items.result.now = search rules in
-    (expr_gives c.args.properties.now (context_of c.args.properties.now c.args.scope.now) c.args.least.now c.loop-seq.whole c.raised.result c.loop-seq.least c.loop-seq.properties c.args.expr.now c.deref-seq-items.result.now c.loop-seq.seq-index c.deref-seq-items.ensures.value (omega arith) c.loop-seq.invariant
+    (expr_gives c.args.properties.now (context_of c.args.properties.now c.args.scope.now) c.args.least.now c.loop-seq.whole c.raised.result c.loop-seq.least
+    c.loop-seq.properties c.args.expr.now c.deref-seq-items.result.now c.loop-seq.seq-index c.deref-seq-items.ensures.value
+    (omega arith) c.loop-seq.invariant
     (subst (λ n. (a h : ℕ) (b : Bool) → Sums c.loop-seq.whole a h b → Sums c.raised.result a (h + (if nat_lt 1 n then 1 else 0)) b) len c.raised.ensures)).0
 
 pub check_seq-loop-item-init : goal.check_seq-loop-item-init
 check_seq-loop-item-init t c =
-    record { same = refl; leaf_number = 0; height_number = 0; empty_so_far = true; sums = c.empty-whole.ensures; all_leaves = omega arith; all_heights = search rules; all_empty = refl; noted = refl }
+    record {
+      same = refl;
+      leaf_number = 0;
+      height_number = 0;
+      empty_so_far = true;
+      sums = c.empty-whole.ensures;
+      all_leaves = omega arith;
+      all_heights =
+          search rules;
+      all_empty = refl;
+      noted = refl;
+    }
 
 pub check_seq-loop-item-preserved : goal.check_seq-loop-item-preserved
 check_seq-loop-item-preserved t c =
-    seq_turn (λ files. context_of files c.args.scope.now) c.args.properties.now c.args.least.now _ c.loop-item.whole c.in_ok-part.part c.then-whole.result c.loop-item.least c.check_item.new.least c.loop-item.properties c.check_item.new.properties c.deref-item-items.result.now c.loop-item.item-index c.item-item.result (omega arith) c.item-item.is c.loop-item.invariant
+    seq_turn (λ files. context_of files c.args.scope.now) c.args.properties.now c.args.least.now _ c.loop-item.whole c.in_ok-part.part c.then-whole.result
+    c.loop-item.least c.check_item.new.least c.loop-item.properties c.check_item.new.properties c.deref-item-items.result.now c.loop-item.item-index
+    c.item-item.result (omega arith) c.item-item.is c.loop-item.invariant
     (record { noted = c.in_ok-part.ensures.noted; counts = c.in_ok-part.ensures.counts; same = c.in_ok-part.ensures.same })
     c.then-whole.ensures
 
 pub check_seq-returns-clause-noted : goal.check_seq-returns-clause-noted
 check_seq-returns-clause-noted t c =
     let len : c.len.result ≡ length c.deref-item-items.result.now = search rules in
-    (seq_gives c.args.properties.now (context_of c.args.properties.now c.args.scope.now) c.args.least.now c.loop-item.whole c.raised.result c.loop-item.least c.loop-item.properties c.args.seq.now c.deref-item-items.result.now c.loop-item.item-index c.deref-item-items.ensures.value (omega arith) c.loop-item.invariant
+    (seq_gives c.args.properties.now (context_of c.args.properties.now c.args.scope.now) c.args.least.now c.loop-item.whole c.raised.result c.loop-item.least
+    c.loop-item.properties c.args.seq.now c.deref-item-items.result.now c.loop-item.item-index c.deref-item-items.ensures.value
+    (omega arith) c.loop-item.invariant
     (subst (λ n. (a h : ℕ) (b : Bool) → Sums c.loop-item.whole a h b → Sums c.raised.result a (h + (if nat_lt 1 n then 1 else 0)) b) len c.raised.ensures)).1
 
 pub check_seq-returns-clause-counts : goal.check_seq-returns-clause-counts
 check_seq-returns-clause-counts t c =
     let len : c.len.result ≡ length c.deref-item-items.result.now = search rules in
-    (seq_gives c.args.properties.now (context_of c.args.properties.now c.args.scope.now) c.args.least.now c.loop-item.whole c.raised.result c.loop-item.least c.loop-item.properties c.args.seq.now c.deref-item-items.result.now c.loop-item.item-index c.deref-item-items.ensures.value (omega arith) c.loop-item.invariant
+    (seq_gives c.args.properties.now (context_of c.args.properties.now c.args.scope.now) c.args.least.now c.loop-item.whole c.raised.result c.loop-item.least
+    c.loop-item.properties c.args.seq.now c.deref-item-items.result.now c.loop-item.item-index c.deref-item-items.ensures.value
+    (omega arith) c.loop-item.invariant
     (subst (λ n. (a h : ℕ) (b : Bool) → Sums c.loop-item.whole a h b → Sums c.raised.result a (h + (if nat_lt 1 n then 1 else 0)) b) len c.raised.ensures)).0
 
 pub check_item-returns-clause-noted : goal.check_item-returns-clause-noted
@@ -66,13 +100,16 @@ pub check_item-returns-clause-counts : goal.check_item-returns-clause-counts
 check_item-returns-clause-counts t c =
     let k = context_of c.args.properties.now c.args.scope.now in
     subst (λ i. Summarizes c.repeated.result (meaning_of_item k i) (height_of_item k i)) (sym (item_tree_out c.args.item.now))
-    (repeated_sums c.args.item.now.quant (meaning_of_atom k (atom_tree c.args.item.now.atom)) _ c.repeated.result (c.repeated.ensures _ _ _ c.in_ok-atom.ensures.counts))
+    (repeated_sums c.args.item.now.quant (meaning_of_atom k (atom_tree c.args.item.now.atom)) _ c.repeated.result
+    (c.repeated.ensures _ _ _ c.in_ok-atom.ensures.counts))
 
 pub check_atom-returns-in_ok-check_property-in-Prop-clause-noted : goal.check_atom-returns-in_ok-check_property-in-Prop-clause-noted
 check_atom-returns-in_ok-check_property-in-Prop-clause-noted t c =
     let k = context_of c.args.properties.now c.args.scope.now in
-    let e : atom_tree c.args.atom.now ≡ property c.in-Prop.negated c.in-Prop.name c.in-Prop.value = let i = c.in-Prop.is in ap atom_tree i ∙ atom_of_property c.in-Prop.negated c.in-Prop.name c.in-Prop.value in
-    λ quant. c.in_ok-check_property-in-Prop.ensures.noted k (files_stay c.args.properties.now _ _) ∙ ap (λ a. noted_parts k c.args.least.now (parts_of_item (placed c.args.place a quant))) (sym e)
+    let e : atom_tree c.args.atom.now ≡ property c.in-Prop.negated c.in-Prop.name c.in-Prop.value = let i =
+    c.in-Prop.is in ap atom_tree i ∙ atom_of_property c.in-Prop.negated c.in-Prop.name c.in-Prop.value in
+    λ quant. c.in_ok-check_property-in-Prop.ensures.noted k (files_stay c.args.properties.now _ _)
+    ∙ ap (λ a. noted_parts k c.args.least.now (parts_of_item (placed c.args.place a quant))) (sym e)
 
 pub check_atom-returns-in_ok-check_set-in-Set-clause-noted : goal.check_atom-returns-in_ok-check_set-in-Set-clause-noted
 check_atom-returns-in_ok-check_set-in-Set-clause-noted t c =
@@ -86,7 +123,8 @@ check_atom-returns-in_ok-whole-in-Group-clause-noted t c =
     let e : atom_tree c.args.atom.now ≡ group (expr_tree c.in-Group.inner) = let i = c.in-Group.is in ap atom_tree i ∙ atom_of_group c.in-Group.inner in
     λ quant.
     c.in_ok-whole-in-Group.ensures.noted
-    ∙ sym (noted_parts_of_append k c.args.least.now (parts_of_expr (expr_tree c.in-Group.inner)) (Outside c.args.place (group (expr_tree c.in-Group.inner)) ∷ []))
+    ∙ sym (noted_parts_of_append k c.args.least.now (parts_of_expr (expr_tree c.in-Group.inner))
+    (Outside c.args.place (group (expr_tree c.in-Group.inner)) ∷ []))
     ∙ ap (λ a. noted_parts k c.args.least.now (parts_of_item (placed c.args.place a quant))) (sym e)
 
 pub check_atom-returns-in_ok-whole-in-Group-clause-counts : goal.check_atom-returns-in_ok-whole-in-Group-clause-counts

@@ -11,4 +11,5 @@ returns c =
     let range = c.ranges.c in
     let is = is_character c.args.c range.0 in
     let members = subst (HasMembers files (model.Character c.args.c)) (sym c.in_ok-set.ensures) (of_character files c.args.c is.0) in
-    c.in_ok-add_set.ensures files (model.Character c.args.c) members (c.args.c, subst (λ s. Has s c.args.c) (sym c.in_ok-set.ensures) (in_character c.args.c), is.1)
+    c.in_ok-add_set.ensures files (model.Character c.args.c) members
+    (c.args.c, subst (λ s. Has s c.args.c) (sym c.in_ok-set.ensures) (in_character c.args.c), is.1)

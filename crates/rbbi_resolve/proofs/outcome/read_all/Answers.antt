@@ -9,7 +9,8 @@ pub loop-number-init : goal.loop-number-init
 loop-number-init c =
     let none : (name : List ℕ) → get_by_text c.new-2.result name ≡ None = λ name. rw c.new-2.ensures.empty refl in
     record {
-      reading = read_none c.new.result c.args.ignore_dictionary (statement_trees c.args.statements.now) c.new-2.result c.new-3.result c.new-4.result none (c.new-3.ensures c.new.result) c.new-4.ensures;
+      reading = read_none c.new.result c.args.ignore_dictionary (statement_trees c.args.statements.now) c.new-2.result c.new-3.result c.new-4.result none
+          (c.new-3.ensures c.new.result) c.new-4.ensures;
       statements = refl;
       properties = refl;
       ignored = refl;

@@ -6,8 +6,10 @@ use Rattle.rbbi_resolve.proofs.set_value.join_span.Goals as goal
 
 pub returns-then-high-low-clause-joined : goal.returns-then-high-low-clause-joined
 returns-then-high-low-clause-joined c =
-    λ files left so_far. subst (λ v. IsSoFar files (joined_to c.args.join v left) c.spoil.new.self) (sym (value_of_falling c.args.first c.args.last (omega arith))) (c.spoil.ensures files)
+    λ files left so_far. subst (λ v. IsSoFar files (joined_to c.args.join v left) c.spoil.new.self)
+    (sym (value_of_falling c.args.first c.args.last (omega arith))) (c.spoil.ensures files)
 
 pub returns-clause-joined : goal.returns-clause-joined
 returns-clause-joined c =
-    λ files left so_far. subst (λ v. IsSoFar files (joined_to c.args.join v left) c.join_range.new.self) (sym (value_of_rising c.args.first c.args.last (omega arith))) (c.in_ok-join_range.ensures files left so_far)
+    λ files left so_far. subst (λ v. IsSoFar files (joined_to c.args.join v left) c.join_range.new.self)
+    (sym (value_of_rising c.args.first c.args.last (omega arith))) (c.in_ok-join_range.ensures files left so_far)

@@ -5,19 +5,23 @@ use Rattle.rbbi_tool.proofs.deliver.deliver.Goals as goal
 pub returns-in-Err-Failed-clause-contents : goal.returns-in-Err-Failed-clause-contents
 returns-in-Err-Failed-clause-contents g c =
     each_left_told (g.F.Files.contents c.args.files.now) (g.F.Files.contents c.write_file.new.files) (g.F.Files.failed_writes c.args.files.now)
-    (g.F.Files.failed_writes c.write_file.new.files) c.output.inside.file c.args.output.now.file c.write_file.result (ap (λ o. o.file) c.output.view_is) c.write_file.ensures.held c.write_file.ensures.failed
+    (g.F.Files.failed_writes c.write_file.new.files) c.output.inside.file c.args.output.now.file c.write_file.result (ap (λ o. o.file) c.output.view_is)
+    c.write_file.ensures.held c.write_file.ensures.failed
 
 pub returns-in-Ok-put_all-clause-contents : goal.returns-in-Ok-put_all-clause-contents
 returns-in-Ok-put_all-clause-contents g c =
     each_left_told (g.F.Files.contents c.args.files.now) (g.F.Files.contents c.write_file.new.files) (g.F.Files.failed_writes c.args.files.now)
-    (g.F.Files.failed_writes c.write_file.new.files) c.output.inside.file c.args.output.now.file c.write_file.result (ap (λ o. o.file) c.output.view_is) c.write_file.ensures.held c.write_file.ensures.failed
+    (g.F.Files.failed_writes c.write_file.new.files) c.output.inside.file c.args.output.now.file c.write_file.result (ap (λ o. o.file) c.output.view_is)
+    c.write_file.ensures.held c.write_file.ensures.failed
 
 pub returns-in-Err-Failed-put_all-clause-contents : goal.returns-in-Err-Failed-put_all-clause-contents
 returns-in-Err-Failed-put_all-clause-contents g c =
     each_left_told (g.F.Files.contents c.args.files.now) (g.F.Files.contents c.write_file.new.files) (g.F.Files.failed_writes c.args.files.now)
-    (g.F.Files.failed_writes c.write_file.new.files) c.output.inside.file c.args.output.now.file c.write_file.result (ap (λ o. o.file) c.output.view_is) c.write_file.ensures.held c.write_file.ensures.failed
+    (g.F.Files.failed_writes c.write_file.new.files) c.output.inside.file c.args.output.now.file c.write_file.result (ap (λ o. o.file) c.output.view_is)
+    c.write_file.ensures.held c.write_file.ensures.failed
 
 pub returns-in-Err-Memory-put_all-clause-contents : goal.returns-in-Err-Memory-put_all-clause-contents
 returns-in-Err-Memory-put_all-clause-contents g c =
     each_left_told (g.F.Files.contents c.args.files.now) (g.F.Files.contents c.write_file.new.files) (g.F.Files.failed_writes c.args.files.now)
-    (g.F.Files.failed_writes c.write_file.new.files) c.output.inside.file c.args.output.now.file c.write_file.result (ap (λ o. o.file) c.output.view_is) c.write_file.ensures.held c.write_file.ensures.failed
+    (g.F.Files.failed_writes c.write_file.new.files) c.output.inside.file c.args.output.now.file c.write_file.result (ap (λ o. o.file) c.output.view_is)
+    c.write_file.ensures.held c.write_file.ensures.failed

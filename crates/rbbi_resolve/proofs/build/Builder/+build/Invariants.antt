@@ -26,11 +26,15 @@ decreases-tree_of_atom l = weight (statement_trees l.scope.now.statements.now) l
 abbrev pub invariant-tree_of_expr-loop-seq : goal.invariant-tree_of_expr-loop-seq
 invariant-tree_of_expr-loop-seq l =
     let k = context_of l.initial.self.properties l.scope in
-    AreBuilding l.initial.self.properties (statement_trees l.scope.statements.now) l.initial.self.sets.items l.initial.next (map (meaning_of_seq k) (map seq_tree l.seq-items)) (leaves_of_expr k (expr_of (map seq_tree l.seq-items)))
-    l.self.properties l.self.sets.items l.self.bases.items l.next l.items.items (map (meaning_of_seq k) (map seq_tree (drop l.seq-index l.seq-items))) (leaves_of_expr k (expr_of (map seq_tree (drop l.seq-index l.seq-items))))
+    AreBuilding l.initial.self.properties (statement_trees l.scope.statements.now) l.initial.self.sets.items l.initial.next
+    (map (meaning_of_seq k) (map seq_tree l.seq-items)) (leaves_of_expr k (expr_of (map seq_tree l.seq-items)))
+    l.self.properties l.self.sets.items l.self.bases.items l.next l.items.items (map (meaning_of_seq k) (map seq_tree (drop l.seq-index l.seq-items)))
+    (leaves_of_expr k (expr_of (map seq_tree (drop l.seq-index l.seq-items))))
 
 abbrev pub invariant-tree_of_seq-loop-item : goal.invariant-tree_of_seq-loop-item
 invariant-tree_of_seq-loop-item l =
     let k = context_of l.initial.self.properties l.scope in
-    AreBuilding l.initial.self.properties (statement_trees l.scope.statements.now) l.initial.self.sets.items l.initial.next (map (meaning_of_item k) (map item_tree l.item-items)) (leaves_of_seq k (seq_of (map item_tree l.item-items)))
-    l.self.properties l.self.sets.items l.self.bases.items l.next l.items.items (map (meaning_of_item k) (map item_tree (drop l.item-index l.item-items))) (leaves_of_seq k (seq_of (map item_tree (drop l.item-index l.item-items))))
+    AreBuilding l.initial.self.properties (statement_trees l.scope.statements.now) l.initial.self.sets.items l.initial.next
+    (map (meaning_of_item k) (map item_tree l.item-items)) (leaves_of_seq k (seq_of (map item_tree l.item-items)))
+    l.self.properties l.self.sets.items l.self.bases.items l.next l.items.items (map (meaning_of_item k) (map item_tree (drop l.item-index l.item-items)))
+    (leaves_of_seq k (seq_of (map item_tree (drop l.item-index l.item-items))))

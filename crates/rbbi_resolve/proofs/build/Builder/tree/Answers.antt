@@ -13,9 +13,11 @@ returns-clause-built c =
     let files = c.args.self.now.properties in
     let e = expr_tree c.args.expr.now in
     let same = c.in_ok-next.ensures.same in
-    let built = subst (λ f. IsBuilt f (length c.add_own.new.self.sets.items) c.tree_of_expr.new.self.sets.items c.in_ok-next.next c.tree_of_expr.new.next (meaning_of_expr (context_of f scope) e) c.in_ok-tree.tree) same c.in_ok-tree.ensures.built in
+    let built = subst (λ f. IsBuilt f (length c.add_own.new.self.sets.items) c.tree_of_expr.new.self.sets.items c.in_ok-next.next c.tree_of_expr.new.next
+    (meaning_of_expr (context_of f scope) e) c.in_ok-tree.tree) same c.in_ok-tree.ensures.built in
     let moved = subst (λ f. c.tree_of_expr.new.next ≡ c.in_ok-next.next + length (leaves_of_expr (context_of f scope) e)) same c.in_ok-tree.ensures.moved in
     let base = c.in_ok-next.ensures.fresh in
     let all = c.in_ok-next.ensures.all in
-    whole_built files (length c.args.self.now.sets.items) (length c.add_own.new.self.sets.items) c.tree_of_expr.new.self.sets.items c.in_ok-next.next c.tree_of_expr.new.next (meaning_of_expr (context_of files scope) e) c.in_ok-tree.tree built
+    whole_built files (length c.args.self.now.sets.items) (length c.add_own.new.self.sets.items) c.tree_of_expr.new.self.sets.items c.in_ok-next.next
+    c.tree_of_expr.new.next (meaning_of_expr (context_of files scope) e) c.in_ok-tree.tree built
     (λ k low high. omega arith) (λ k low high. omega arith)

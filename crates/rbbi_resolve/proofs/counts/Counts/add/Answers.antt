@@ -14,9 +14,11 @@ returns c =
       slash_count =
           let few : c.one_where.result < 33 = omega (arith, c.one_where.ensures.few) in
           c.add-3.ensures 33 slash_of rule left all (omega arith) at
-          (subst (λ n. IsCapped 33 n c.one_where.result) (c.one_where.ensures.one ∙ ap (λ b. if b then 1 else 0) (sym slash)) (capped_self 33 c.one_where.result few)) is.slash_count;
+          (subst (λ n. IsCapped 33 n c.one_where.result) (c.one_where.ensures.one ∙ ap (λ b. if b then 1 else 0) (sym slash))
+          (capped_self 33 c.one_where.result few)) is.slash_count;
       tall_count =
           let few : c.one_where-2.result < 2 = omega (arith, c.one_where-2.ensures.few) in
           c.add-4.ensures 2 tall_of rule left all (omega arith) at
-          (subst (λ n. IsCapped 2 n c.one_where-2.result) (c.one_where-2.ensures.one ∙ ap (λ b. if b then 1 else 0) (tall_capped rule.height c.args.whole.height height)) (capped_self 2 c.one_where-2.result few)) is.tall_count;
+          (subst (λ n. IsCapped 2 n c.one_where-2.result) (c.one_where-2.ensures.one
+          ∙ ap (λ b. if b then 1 else 0) (tall_capped rule.height c.args.whole.height height)) (capped_self 2 c.one_where-2.result few)) is.tall_count;
     }

@@ -11,11 +11,13 @@ returns-in-Nothing c =
     let r = c.args.self.now in
     let trees = statement_trees r.statements.now in
     let n = c.args.number in
-    let at : slice_get trees n ≡ Some nothing = slice_get-map statement_tree r.statements.now n ∙ ap (option_map statement_tree) (c.get.ensures ∙ ap Some c.in-Nothing.is) in
+    let at : slice_get trees n ≡ Some nothing = slice_get-map statement_tree r.statements.now n
+    ∙ ap (option_map statement_tree) (c.get.ensures ∙ ap Some c.in-Nothing.is) in
     let next = ap (λ x. x.variables) (context_next r.properties trees n nothing at) in
     record {
       reading =
-          step r.properties r.dictionary_ignored trees n nothing r.variables r.variables r.least r.least r.switches r.switches r.counts r.counts c.requires.reading at
+          step r.properties r.dictionary_ignored trees n nothing r.variables r.variables r.least r.least r.switches r.switches r.counts r.counts
+          c.requires.reading at
           (stay_variables r.properties trees r.variables n next c.requires.reading.defined)
           refl
           c.requires.reading.switched

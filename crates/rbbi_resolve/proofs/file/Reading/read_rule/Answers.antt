@@ -22,13 +22,16 @@ returns-then-self c =
     let next = ap (λ x. x.variables) (context_next files trees n s c.requires.at) in
     record {
       reading =
-          subst (λ p. IsReadTo p r.dictionary_ignored trees r.variables c.check_rule.new.least r.switches c.add.new.self (n + 1)) (sym c.in_ok-whole.ensures.same)
-          (step files r.dictionary_ignored trees n s r.variables r.variables r.least c.check_rule.new.least r.switches r.switches r.counts c.add.new.self c.requires.reading c.requires.at
+          subst (λ p. IsReadTo p r.dictionary_ignored trees r.variables c.check_rule.new.least r.switches c.add.new.self (n + 1))
+          (sym c.in_ok-whole.ensures.same)
+          (step files r.dictionary_ignored trees n s r.variables r.variables r.least c.check_rule.new.least r.switches r.switches r.counts c.add.new.self
+          c.requires.reading c.requires.at
           (stay_variables files trees r.variables n next c.requires.reading.defined)
           c.in_ok-whole.ensures.noted
           c.requires.reading.switched
           (λ left all so_far.
-          c.add.ensures means left all refl c.in_ok-whole.ensures.counts.leaf_sum c.in_ok-whole.ensures.counts.height_sum (rest_there k c.args.rest.now ∙ sym c.is_some.ensures)
+          c.add.ensures means left all refl c.in_ok-whole.ensures.counts.leaf_sum c.in_ok-whole.ensures.counts.height_sum (rest_there k c.args.rest.now
+          ∙ sym c.is_some.ensures)
           (subst (λ b. AreCounting r.counts ((if b then means ∷ [] else []) ++ left) all) active so_far)));
       statements = refl;
       properties = c.in_ok-whole.ensures.same;
@@ -51,7 +54,8 @@ returns-else-self c =
     record {
       reading =
           subst (λ p. IsReadTo p r.dictionary_ignored trees r.variables c.check_rule.new.least r.switches r.counts (n + 1)) (sym c.in_ok-whole.ensures.same)
-          (step files r.dictionary_ignored trees n s r.variables r.variables r.least c.check_rule.new.least r.switches r.switches r.counts r.counts c.requires.reading c.requires.at
+          (step files r.dictionary_ignored trees n s r.variables r.variables r.least c.check_rule.new.least r.switches r.switches r.counts r.counts
+          c.requires.reading c.requires.at
           (stay_variables files trees r.variables n next c.requires.reading.defined)
           c.in_ok-whole.ensures.noted
           c.requires.reading.switched

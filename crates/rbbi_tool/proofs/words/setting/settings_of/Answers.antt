@@ -28,7 +28,8 @@ options-preserved c =
     let at : c.options.at + c.words-at.result ≡ c.options.at + length (spelled s) = ap (λ n. c.options.at + n) c.words-at.ensures in
     record {
       within = omega (arith, length-map c.args.words.now string_bytes, at);
-      are = words_push words c.options.list.items s c.options.at c.options.invariant.are next ∙ ap (λ n. flat_map spelled (c.options.list.items ++ s ∷ []) ++ drop n words) (sym at)
+      are = words_push words c.options.list.items s c.options.at c.options.invariant.are next
+          ∙ ap (λ n. flat_map spelled (c.options.list.items ++ s ∷ []) ++ drop n words) (sym at)
           ∙ ap (λ ss. flat_map spelled ss ++ drop (c.options.at + c.words-at.result) words) (sym pushed);
       each = subst (AllByRecursion IsSetting) (sym pushed) (settings_push c.options.list.items s c.options.invariant.each found.0);
     }
