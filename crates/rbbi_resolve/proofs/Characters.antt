@@ -97,7 +97,7 @@ character_in files tree set members w =
     ((tells_and (is_no_surrogate w.0) (in_set files tree w.0) (¬ IsSurrogate w.0) (model.InSet (HasProperty files) tree w.0) (no_surrogate w.0) (tells_in_set files tree w.0)).1
     (w.2, (members.members w.0).0 w.1))
 
-character_of : (files : List File) (tree : model.SetTree) (set : List Range) → HasMembers files tree set →
+pub character_of : (files : List File) (tree : model.SetTree) (set : List Range) → HasMembers files tree set →
     holds_character files tree ≡ true → (c : ℕ) × Has set c × ¬ IsSurrogate c
 unfolding holds_character
 character_of files tree set members e =

@@ -103,10 +103,10 @@ pub record CountsPart (context : List File → Context) (parts : List Part) (mea
   pub counts : Summarizes part (meaning (context files)) (height (context files))
   pub same : now' ≡ files
 
-exprs_left : (items : List Seq) (i : ℕ) (p : Seq) → i < length items → p ≡ get_or items i p → expr_of (map seq_tree (drop i items)) ≡ alternative (seq_tree p) (expr_of (map seq_tree (drop (i + 1) items)))
+pub exprs_left : (items : List Seq) (i : ℕ) (p : Seq) → i < length items → p ≡ get_or items i p → expr_of (map seq_tree (drop i items)) ≡ alternative (seq_tree p) (expr_of (map seq_tree (drop (i + 1) items)))
 exprs_left items i p inside is = ap (λ ps. expr_of (map seq_tree ps)) (drop_more items i p inside ∙ ap (λ q. q ∷ drop (i + 1) items) (sym is))
 
-seqs_left : (items : List Item) (i : ℕ) (p : Item) → i < length items → p ≡ get_or items i p → seq_of (map item_tree (drop i items)) ≡ item (item_tree p) (seq_of (map item_tree (drop (i + 1) items)))
+pub seqs_left : (items : List Item) (i : ℕ) (p : Item) → i < length items → p ≡ get_or items i p → seq_of (map item_tree (drop i items)) ≡ item (item_tree p) (seq_of (map item_tree (drop (i + 1) items)))
 seqs_left items i p inside is = ap (λ ps. seq_of (map item_tree ps)) (drop_more items i p inside ∙ ap (λ q. q ∷ drop (i + 1) items) (sym is))
 
 pub expr_turn : (context : List File → Context) (files : List File) (before : Option Fault) (whole : ExprTree) (summary part summary' : Summary) (least least' : Option Fault) (now now' : List File) (items : List Seq) (i : ℕ) (p : Seq) →

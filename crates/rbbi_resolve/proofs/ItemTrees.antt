@@ -1,6 +1,6 @@
 -- The trees of the variants that have values inside.
 use Rattle.std.proofs.Common.{◌≡◌, ℕ, Bool, List, Option, sym, ◌∙◌, ap}
-use Rattle.rbbi_tree.specs.Trees.{SetItemTree, PartsTree, SetTree, PartTree, ExprTree, SeqTree, ItemTree, AtomTree, set_property, set_within, property, set, group}
+use Rattle.rbbi_tree.specs.Trees.{SetItemTree, PartsTree, SetTree, PartTree, ExprTree, SeqTree, ItemTree, AtomTree, set_property, set_within, character, quoted, any, name, property, set, group}
 use Rattle.rbbi_tree.specs.Values.{set_item_tree, set_tree, atom_tree, expr_tree, set_item_step, parts_step, set_step, part_step, atom_step, expr_step, item_step, seq_step}
 use Rattle.rbbi_tree.specs.declared.syntax.SetExpr.{SetExpr}
 use Rattle.rbbi_tree.specs.declared.syntax.Expr.{Expr}
@@ -35,3 +35,21 @@ atom_of_set s =
 pub atom_of_group : (e : Expr) → atom_tree (atom.Group e) ≡ group (expr_tree e)
 atom_of_group e =
     ap atom_tree (sym (atom_variants.rolls-Group e)) ∙ fold-roll-Atom AtomTree ExprTree ItemTree SeqTree atom_step expr_step item_step seq_step (Atom-F.Group e)
+
+pub atom_of_character : (c : ℕ) (bare : Bool) → atom_tree (atom.Char c bare) ≡ character c bare
+atom_of_character c bare =
+    ap atom_tree (sym (atom_variants.rolls-Char c bare))
+    ∙ fold-roll-Atom AtomTree ExprTree ItemTree SeqTree atom_step expr_step item_step seq_step (Atom-F.Char c bare)
+
+pub atom_of_quoted : (word : List ℕ) → atom_tree (atom.Quoted word) ≡ quoted word
+atom_of_quoted word =
+    ap atom_tree (sym (atom_variants.rolls-Quoted word))
+    ∙ fold-roll-Atom AtomTree ExprTree ItemTree SeqTree atom_step expr_step item_step seq_step (Atom-F.Quoted word)
+
+pub atom_of_any : atom_tree atom.Any ≡ any
+atom_of_any = ap atom_tree (sym atom_variants.rolls-Any) ∙ fold-roll-Atom AtomTree ExprTree ItemTree SeqTree atom_step expr_step item_step seq_step Atom-F.Any
+
+pub atom_of_name : (word : List ℕ) → atom_tree (atom.Name word) ≡ name word
+atom_of_name word =
+    ap atom_tree (sym (atom_variants.rolls-Name word))
+    ∙ fold-roll-Atom AtomTree ExprTree ItemTree SeqTree atom_step expr_step item_step seq_step (Atom-F.Name word)

@@ -12,3 +12,17 @@ pub mod Kept
 pub mod ItemTrees
 pub mod OneMeaning
 pub mod Earliest
+pub mod Counted
+pub mod Lone
+pub mod Steps
+pub mod Sound
+pub mod SoundFiles
+pub mod Adding
+pub mod TreeValues
+pub mod Weights
+pub mod Building
+pub mod Meant
+pub mod Lawful
+pub mod RulesBuilt
+pub mod FaultKinds
+pub mod Ending

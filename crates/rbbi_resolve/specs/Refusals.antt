@@ -1,11 +1,13 @@
 -- Why a rule file is refused.
-use Rattle.std.specs.Prelude.{◌≡◌, ℕ, ◌≤◌, ◌⊎◌, true, false, Option, Some, None, List, [], codes, Contains}
+use Rattle.std.specs.Prelude.{◌≡◌, ℕ, ◌≤◌, ◌⊎◌, Bool, true, false, Option, Some, None, List, [], codes, Contains}
 use Rattle.std.specs.List.{AllByRecursion}
 use Rattle.rbbi_resolve.specs.declared.fault.Fault.{Fault}
 use Rattle.rbbi_resolve.specs.declared.error.ResolveErr.{ResolveErr}
 use Rattle.rbbi_resolve.specs.declared.error.ResolveErr.TheVariants.{UnknownControl, UnsupportedControl, Dictionary, Redefined, Undefined, NotASet, UnknownProperty, BadRange, EmptySet, BareLiteral, EmptyFront, EmptyRest, NoRules, TooManyRules, TooManyLeaves, TooManySlashes, TooTall, Memory}
 use Rattle.rbbi_resolve.specs.Faults.{comes_before}
-use Rattle.rbbi_resolve.specs.Files.{RuleMeaning}
+use Rattle.rbbi_props.specs.Rows.{File}
+use Rattle.rbbi_tree.specs.Trees.{StatementTree}
+use Rattle.rbbi_resolve.specs.Files.{faults_of, active_rules}
 use Rattle.rbbi_resolve.specs.Counts.{counted}
 
 -- the variant's name
@@ -80,3 +82,8 @@ IsFaultOf faults count fault = IsLeast faults fault ⊎ ((faults ≡ []) × (cou
 abbrev pub IsCause : List Fault → Option Fault → Option Fault → Type 0
 IsCause faults count None = Unit {0}
 IsCause faults count (Some fault) = IsFaultOf faults count fault
+
+-- A file is refused for what the refusal tells. `end` is the length of its text.
+abbrev pub IsRefusedFor : List File → Bool → List StatementTree → ℕ → ResolveErr → Type 0
+IsRefusedFor files ignored statements end refusal =
+    IsCause (faults_of files ignored statements) (counted end (active_rules files statements)) (fault_of refusal)

@@ -70,7 +70,10 @@ pub record AreVariables (files : List File) (statements : List StatementTree) (v
 abbrev pub context_of : List File → Scope → contexts.Context
 context_of files scope = context_at files (statement_trees scope.statements.now) scope.limit
 
--- the variables of the scope are those before its limit, and so is whether only quoted characters may stand outside of sets
+-- the variables of the scope are those before its limit
 pub record IsScope (files : List File) (scope : Scope) : Type 0 where
   pub describes : Describes files (statement_trees scope.statements.now) scope.variables.now scope.limit
-  pub quoted_only : scope.quoted_only ≡ (context_of files scope).quoted_only
+
+-- the scope knows whether only quoted characters may stand outside of sets
+abbrev pub KnowsQuotes : List File → Scope → Type 0
+KnowsQuotes files scope = scope.quoted_only ≡ (context_of files scope).quoted_only

@@ -13,7 +13,7 @@ ghost use Rattle.rbbi_resolve.specs.Contexts.{value_of_name, variable_of};
 ghost use Rattle.rbbi_resolve.specs.Expressions.{meaning_of_expr, meaning_of_seq, meaning_of_item, meaning_of_atom, meaning_of_variable, height_of_expr, height_of_seq, height_of_item, height_of_atom, height_of_variable, variable_for};
 ghost use Rattle.rbbi_resolve.specs.Parts.{Outside, parts_of_expr, parts_of_seq, parts_of_item};
 ghost use Rattle.rbbi_resolve.specs.Faults.{noted_parts, is_empty_value};
-ghost use Rattle.rbbi_resolve.specs.Scopes.{IsScope, IsKindOf, context_of};
+ghost use Rattle.rbbi_resolve.specs.Scopes.{IsScope, KnowsQuotes, IsKindOf, context_of};
 ghost use Rattle.rbbi_resolve.specs.Summaries.{Summarizes};
 
 use crate::fault::{Fault, note, note_where};
@@ -35,7 +35,8 @@ pub(crate) fn check_expr(
     least: &mut Option<Fault>,
     expr: &Expr,
 ) -> Result<Summary, AllocError>
-    requires { IsScope properties.old scope.now }
+    requires scope { IsScope properties.old scope.now }
+    requires quotes { KnowsQuotes properties.old scope.now }
     ensures noted { OnOk result (least.new ≡ noted_parts (context_of properties.old scope.now) least.old
         (parts_of_expr (expr_tree expr.now))) }
     ensures counts { IfOk result (λ summary. Summarizes summary
@@ -60,7 +61,8 @@ fn check_seq(
     least: &mut Option<Fault>,
     seq: &Seq,
 ) -> Result<Summary, AllocError>
-    requires { IsScope properties.old scope.now }
+    requires scope { IsScope properties.old scope.now }
+    requires quotes { KnowsQuotes properties.old scope.now }
     ensures noted { OnOk result (least.new ≡ noted_parts (context_of properties.old scope.now) least.old
         (parts_of_seq (seq_tree seq.now))) }
     ensures counts { IfOk result (λ summary. Summarizes summary
@@ -85,7 +87,8 @@ fn check_item(
     least: &mut Option<Fault>,
     item: &Item,
 ) -> Result<Summary, AllocError>
-    requires { IsScope properties.old scope.now }
+    requires scope { IsScope properties.old scope.now }
+    requires quotes { KnowsQuotes properties.old scope.now }
     ensures noted { OnOk result (least.new ≡ noted_parts (context_of properties.old scope.now) least.old
         (parts_of_item (item_tree item.now))) }
     ensures counts { IfOk result (λ summary. Summarizes summary
@@ -107,7 +110,8 @@ fn check_atom(
     place: u32,
     atom: &Atom,
 ) -> Result<Summary, AllocError>
-    requires { IsScope properties.old scope.now }
+    requires scope { IsScope properties.old scope.now }
+    requires quotes { KnowsQuotes properties.old scope.now }
     ensures noted { OnOk result ((quant : Quant) → least.new ≡ noted_parts (context_of properties.old scope.now) least.old
         (parts_of_item (placed place (atom_tree atom.now) quant))) }
     ensures counts { IfOk result (λ summary. Summarizes summary

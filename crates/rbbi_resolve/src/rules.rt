@@ -1,7 +1,7 @@
 //! The active rules of a rule file, with their variables replaced.
 ghost use Rattle.std.specs.Prelude.{◌≡◌, ◌<◌, length, slice_get, sum_by};
 ghost use Rattle.rbbi_model.specs.Rules.{leaves_of, look_aheads};
-ghost use Rattle.rbbi_resolve.specs.RuleLists.{rules_of, AreWellFormed};
+ghost use Rattle.rbbi_resolve.specs.RuleLists.{rules_of, AreWellFormed, AreCounted};
 
 use rbbi_sets::CodeSet;
 use rbbi_tree::Quant;
@@ -102,6 +102,19 @@ impl Model for Rules {
 }
 
 impl Rules {
+    /// These rules with these sets, and so many leaves and rules with a rest.
+    pub(crate) fn new(rules: Vec<Rule>, sets: Vec<CodeSet>, leaves: u32, slashes: u32) -> Rules
+        requires { AreCounted (record { rules = rules.items; sets = sets.items }) leaves slashes }
+        ensures { result ≡ record { rules = rules.items; sets = sets.items } }
+    {
+        Rules {
+            rules,
+            sets: SetList { items: sets },
+            leaves,
+            slashes,
+        }
+    }
+
     /// The number of rules.
     pub fn len(&self) -> usize
         ensures value { result ≡ length self.now.rules }

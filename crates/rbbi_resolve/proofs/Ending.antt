@@ -1,0 +1,98 @@
+-- What was read, before the first statement and behind the last.
+use Rattle.std.proofs.Common.{◌≡◌, ℕ, zero, suc, ◌+◌, ◌<◌, ◌≤◌, Bool, true, false, if◌then◌else◌, is_some, Option, Some, None, MatchOption, List, [], ◌∷◌, ◌++◌, fold, take, drop, length, slice_get, sum_by, sym, refl, ap, ◌∙◌, subst, arith}
+use Rattle.std.proofs.lemmas.List.{drop_all}
+use Rattle.std.specs.HashMap.{get_by_text}
+use Rattle.rbbi_props.specs.Rows.{File}
+use Rattle.rbbi_tree.specs.Trees.{ExprTree, StatementTree}
+use Rattle.rbbi_resolve.specs.declared.fault.Fault.{Fault}
+use Rattle.rbbi_resolve.specs.declared.switches.Switches.{Switches}
+use Rattle.rbbi_resolve.specs.declared.counts.Counts as declared
+use Rattle.rbbi_resolve.specs.Contexts.{Context, assigned_to, variable_of}
+use Rattle.rbbi_resolve.specs.Expressions.{variable_for}
+use Rattle.rbbi_resolve.specs.Faults.{noted}
+use Rattle.rbbi_resolve.specs.Files.{RuleMeaning, start, context_after, context_at, with_variable, faults_from, faults_of, rules_from, active_rules}
+use Rattle.rbbi_resolve.specs.Counts.{counted, leaves_of}
+use Rattle.rbbi_resolve.specs.Scopes.{Variables, IsUnassigned, IsDefinedBy, AreVariables}
+use Rattle.rbbi_resolve.specs.Switchings.{AreSwitches}
+use Rattle.rbbi_resolve.specs.Countings.{AreCounting, slash_of}
+use Rattle.rbbi_resolve.specs.Readings.{IsReadTo}
+use Rattle.rbbi_resolve.proofs.Counted.{passed_at_end}
+use Rattle.rbbi_resolve.proofs.Lawful.{within}
+use Rattle.rbbi_resolve.proofs.Steps.{made}
+
+at_start : (files : List File) (statements : List StatementTree) → context_at files statements 0 ≡ start files
+unfolding context_at
+at_start files [] = refl
+at_start files (s ∷ statements) = refl
+
+all_left : (statements : List StatementTree) → drop 0 statements ≡ statements
+all_left [] = refl
+all_left (s ∷ statements) = refl
+
+pub rules_at_start : (files : List File) (statements : List StatementTree) → rules_from (context_at files statements 0) (drop 0 statements) ≡ active_rules files statements
+rules_at_start files statements = ap (λ k. rules_from k (drop 0 statements)) (at_start files statements) ∙ ap (rules_from (start files)) (all_left statements)
+
+pub switches_at_start : (files : List File) (statements : List StatementTree) (switches : Switches) → AreSwitches switches (start files) → AreSwitches switches (context_at files statements 0)
+switches_at_start files statements switches is = subst (AreSwitches switches) (sym (at_start files statements)) is
+
+none_at_start : (files : List File) (statements : List StatementTree) (name : List ℕ) → IsUnassigned files statements 0 name
+none_at_start files statements name = λ limit low. let e : limit ≡ 0 = omega arith in ap (λ n. assigned_to (context_at files statements n).variables name) e ∙ ap (λ k. assigned_to k.variables name) (at_start files statements)
+
+-- before the first statement
+pub read_none : (files : List File) (ignored : Bool) (statements : List StatementTree) (variables : Variables) (switches : Switches) (counts : declared.Counts) → ((name : List ℕ) → get_by_text variables name ≡ None) →
+    AreSwitches switches (start files) → ((all : List RuleMeaning) → AreCounting counts all all) → IsReadTo files ignored statements variables None switches counts 0
+read_none files ignored statements variables switches counts none is counting =
+    record {
+      defined = record { each = λ name. subst (λ v. MatchOption v (IsUnassigned files statements 0 name) (IsDefinedBy files statements 0 name)) (sym (none name)) (none_at_start files statements name) };
+      noted_so_far = ap (λ k. noted None (faults_from ignored k (drop 0 statements))) (at_start files statements) ∙ ap (λ ss. noted None (faults_from ignored (start files) ss)) (all_left statements);
+      switched = switches_at_start files statements switches is;
+      counted_so_far = subst (λ ms. AreCounting counts ms (active_rules files statements)) (sym (rules_at_start files statements)) (counting (active_rules files statements));
+    }
+
+faults_of_none : (ignored : Bool) (k : Context) → faults_from ignored k [] ≡ []
+unfolding faults_from
+faults_of_none ignored k = refl
+
+rules_of_none : (k : Context) → rules_from k [] ≡ []
+unfolding rules_from
+rules_of_none k = refl
+
+-- behind the last statement
+pub least_of_all : (files : List File) (ignored : Bool) (statements : List StatementTree) (variables : Variables) (least : Option Fault) (switches : Switches) (counts : declared.Counts) (n : ℕ) → length statements ≤ n →
+    IsReadTo files ignored statements variables least switches counts n → noted None (faults_of files ignored statements) ≡ least
+least_of_all files ignored statements variables least switches counts n long read =
+    let k = context_at files statements n in
+    sym read.noted_so_far ∙ ap (λ ss. noted least (faults_from ignored k ss)) (drop_all n statements long) ∙ ap (noted least) (faults_of_none ignored k)
+
+pub counting_all : (files : List File) (ignored : Bool) (statements : List StatementTree) (variables : Variables) (least : Option Fault) (switches : Switches) (counts : declared.Counts) (n : ℕ) → length statements ≤ n →
+    IsReadTo files ignored statements variables least switches counts n → AreCounting counts [] (active_rules files statements)
+counting_all files ignored statements variables least switches counts n long read =
+    let k = context_at files statements n in
+    subst (λ ms. AreCounting counts ms (active_rules files statements)) (ap (rules_from k) (drop_all n statements long) ∙ rules_of_none k) read.counted_so_far
+
+pub leaves_counted : (counts : declared.Counts) (end : ℕ) (ms : List RuleMeaning) → AreCounting counts [] ms → counted end ms ≡ None → counts.leaves.sum ≡ sum_by leaves_of ms
+leaves_counted counts end ms is e =
+    let w = within end ms e in
+    let sum = is.leaf_count.sum_of (sym (passed_at_end leaves_of 8192 counts.leaves ms is.leaf_count) ∙ w.leaves) in
+    omega arith
+
+pub slashes_counted : (counts : declared.Counts) (end : ℕ) (ms : List RuleMeaning) → AreCounting counts [] ms → counted end ms ≡ None → counts.slashes.sum ≡ sum_by slash_of ms
+slashes_counted counts end ms is e =
+    let w = within end ms e in
+    let sum = is.slash_count.sum_of (sym (passed_at_end slash_of 32 counts.slashes ms is.slash_count) ∙ w.slashes) in
+    omega arith
+
+-- an assignment leaves the switches
+pub switches_kept : (switches : Switches) (k : Context) (word : List ℕ) (x : ExprTree) → AreSwitches switches k → AreSwitches switches (with_variable k word x)
+switches_kept switches k word x is =
+    elim (is_some (variable_of k word)) as (λ b. AreSwitches switches (if b then k else record k { variables = made word (variable_for k x) ∷ k.variables })) [
+      | true ↦ is
+      | false ↦ record { chained = is.chained; quoted_only = is.quoted_only; active = is.active }
+    ]
+
+-- a list of no bases, and one more
+pub no_base : (xs : List (Option ℕ)) → ((k b : ℕ) → slice_get xs k ≡ Some (Some b) → ⊥) → (k b : ℕ) → slice_get (xs ++ None ∷ []) k ≡ Some (Some b) → ⊥
+no_base [] f zero b e = cc
+no_base [] f (suc k) b e = cc
+no_base (x ∷ xs) f zero b e = f 0 b e
+no_base (x ∷ xs) f (suc k) b e = no_base xs (λ j d. f (suc j) d) k b e

@@ -1,0 +1,130 @@
+-- What names mean, by the expressions that their statements assign.
+use Rattle.std.proofs.Common.{◌≡◌, ℕ, ◌+◌, ◌<◌, ◌≤◌, Bool, true, false, nat_lt, if◌then◌else◌, Option, Some, None, MatchOption, unwrap_or, List, [], ◌∷◌, ◌++◌, map, length, slice_get, encode_utf8_all, sym, refl, ap, ◌∙◌, subst, arith}
+use Rattle.std.proofs.lemmas.Bool.Decides.{nat_tests}
+use Rattle.std.proofs.lemmas.Option.{slice_get_within}
+use Rattle.std.proofs.lemmas.List.{length-map}
+use Rattle.std.specs.HashMap.{get_by_text}
+use Rattle.rbbi_model.specs.Ranges.{Range}
+use Rattle.rbbi_model.specs.SetTrees as model
+use Rattle.rbbi_props.specs.Rows.{File}
+use Rattle.rbbi_tree.specs.Trees.{ExprTree, SeqTree, ItemTree, AtomTree, no_alternatives, alternative, no_items, item, placed, character, quoted, any, name, property, set, group, expr_of, seq_of}
+use Rattle.rbbi_tree.specs.Trees.{StatementTree}
+use Rattle.rbbi_tree.specs.Values.{statement_trees, statement_tree}
+use Rattle.rbbi_tree.specs.declared.syntax.Quant.TheVariants as quant
+use Rattle.rbbi_resolve.specs.declared.scope.Scope.{Scope}
+use Rattle.rbbi_resolve.specs.declared.variables.Variable.{Variable}
+use Rattle.rbbi_resolve.specs.Meanings as Meanings
+use Rattle.rbbi_resolve.specs.Meanings.{Meaning, Leaf, Never}
+use Rattle.rbbi_resolve.specs.Contexts as contexts
+use Rattle.rbbi_resolve.specs.Contexts.{Set, Expression, Context, assigned_to, variable_of}
+use Rattle.rbbi_resolve.specs.Expressions.{leaf_of, word_of, meaning_of_variable, meaning_of_expr, meaning_of_seq, meaning_of_item, meaning_of_atom, height_of_expr, set_of_variable, set_of_atom, set_of_item, set_of_expr, variable_with, variable_for}
+use Rattle.rbbi_resolve.specs.Files.{context_at}
+use Rattle.rbbi_resolve.specs.Scopes.{visible, Matches, IsUnassigned, IsDefinedBy, context_of}
+use Rattle.rbbi_resolve.specs.OwnLeaves.{set_or_nothing}
+use Rattle.rbbi_resolve.specs.Builders.{IsAssigned, IsReady}
+use Rattle.rbbi_resolve.proofs.Building.{sequence_meaning, choice_meaning}
+use Rattle.rbbi_resolve.proofs.Steps.{describes}
+
+variable_is_leaf : (v : Option contexts.Variable) (value : Option model.SetTree) → set_of_variable v ≡ Some value → meaning_of_variable v ≡ leaf_of value
+variable_is_leaf None value e = absurd cc
+variable_is_leaf (Some (Set own)) value e = let same : own ≡ value = cc in ap leaf_of same
+variable_is_leaf (Some (Expression meaning height)) value e = absurd cc
+
+-- the leaf of an atom that is a set
+abbrev meaning_of_set : Option (Option model.SetTree) → Meaning
+meaning_of_set None = Never
+meaning_of_set (Some value) = leaf_of value
+
+atom_is_leaf : (k : Context) (x : AtomTree) (value : Option model.SetTree) → set_of_atom k x ≡ Some value → meaning_of_atom k x ≡ leaf_of value
+atom_is_leaf k (character c bare) value e = absurd cc
+atom_is_leaf k (quoted word) value e = absurd cc
+atom_is_leaf k any value e = absurd cc
+atom_is_leaf k (name word) value e = variable_is_leaf (variable_of k word) value e
+atom_is_leaf k (property negated word own) value e = ap meaning_of_set e
+atom_is_leaf k (set s) value e = ap meaning_of_set e
+atom_is_leaf k (group inner) value e = absurd cc
+
+item_is_leaf : (k : Context) (x : ItemTree) (value : Option model.SetTree) → set_of_item k x ≡ Some value → meaning_of_item k x ≡ leaf_of value
+item_is_leaf k (placed place atom quant.Once) value e = atom_is_leaf k atom value e
+item_is_leaf k (placed place atom quant.Star) value e = absurd cc
+item_is_leaf k (placed place atom quant.Plus) value e = absurd cc
+item_is_leaf k (placed place atom quant.Quest) value e = absurd cc
+
+expr_is_leaf : (k : Context) (x : ExprTree) (value : Option model.SetTree) → set_of_expr k x ≡ Some value → meaning_of_expr k x ≡ leaf_of value
+expr_is_leaf k no_alternatives value e = absurd cc
+expr_is_leaf k (alternative no_items more) value e = absurd cc
+expr_is_leaf k (alternative (item first (item second rest)) more) value e = absurd cc
+expr_is_leaf k (alternative (item first no_items) (alternative second more)) value e = absurd cc
+expr_is_leaf k (alternative (item first no_items) no_alternatives) value e = item_is_leaf k first value e
+
+variable_means : (k : Context) (x : ExprTree) (o : Option (Option model.SetTree)) → set_of_expr k x ≡ o → meaning_of_variable (Some (variable_with o (meaning_of_expr k x) (height_of_expr k x))) ≡ meaning_of_expr k x
+variable_means k x None e = refl
+variable_means k x (Some value) e = sym (expr_is_leaf k x value e)
+
+seen_is : (limit : ℕ) (o : Option Variable) (v : Variable) → Some v ≡ visible limit o → (o ≡ Some v) × (v.statement < limit)
+seen_is limit None v e = absurd cc
+seen_is limit (Some w) v e =
+    elim (nat_lt w.statement limit) as (λ b. nat_lt w.statement limit ≡ b → Some v ≡ (if b then Some w else None) → (Some w ≡ Some v) × (v.statement < limit)) [
+      | true ↦ λ t f.
+          let same : w ≡ v = cc in
+          let low : w.statement < limit = grind (arith, nat_tests) in
+          (ap Some same, subst (λ (x : Variable). x.statement < limit) same low)
+      | false ↦ λ t f. absurd cc
+    ] refl e
+
+-- what a name stands for in a scope
+pub record IsNamed (files : List File) (scope : Scope) (word : List ℕ) (v : Variable) : Type 0 where
+  pub expr : ExprTree
+  pub assigned : IsAssigned (statement_trees scope.statements.now) v.statement expr
+  pub means : meaning_of_atom (context_of files scope) (name word) ≡ meaning_of_expr (context_at files (statement_trees scope.statements.now) v.statement) expr
+  pub low : v.statement < scope.limit
+  pub inside : v.statement < length scope.statements.now
+
+pub named : (files : List File) (scope : Scope) (word : List ℕ) (v : Variable) → IsReady files scope → Some v ≡ visible scope.limit (get_by_text scope.variables.now (encode_utf8_all word)) → IsNamed files scope word v
+named files scope word v ready e =
+    let trees = statement_trees scope.statements.now in
+    let text = encode_utf8_all word in
+    let s = seen_is scope.limit (get_by_text scope.variables.now text) v e in
+    let d : IsDefinedBy files trees ready.end text v = subst (λ o. MatchOption o (IsUnassigned files trees ready.end text) (IsDefinedBy files trees ready.end text)) s.0 (ready.variables.each text) in
+    let k = context_at files trees v.statement in
+    let found : variable_of (context_of files scope) word ≡ Some (variable_for k d.expr) = d.behind scope.limit s.1 ready.low in
+    let within = slice_get_within trees v.statement _ d.assigns in
+    let long : length trees ≡ length scope.statements.now = simp length-map in
+    record {
+      expr = d.expr;
+      assigned = record { word = d.word; place = d.place; at = d.assigns };
+      means = ap meaning_of_variable found ∙ variable_means k d.expr (set_of_expr k d.expr) refl;
+      low = s.1;
+      inside = omega arith;
+    }
+
+unmatched : (files : List File) (b : Option contexts.Variable) → Matches files None b → meaning_of_variable b ≡ Never
+unmatched files None m = refl
+unmatched files (Some v) m = absurd m
+
+-- what a name means that stands for nothing
+pub unnamed : (files : List File) (scope : Scope) (word : List ℕ) → IsReady files scope → None ≡ visible scope.limit (get_by_text scope.variables.now (encode_utf8_all word)) →
+    meaning_of_atom (context_of files scope) (name word) ≡ Never
+unnamed files scope word ready e =
+    let d = describes files (statement_trees scope.statements.now) scope.variables.now ready.end scope.limit ready.low ready.variables in
+    unmatched files (variable_of (context_of files scope) word) (subst (λ o. Matches files o (variable_of (context_of files scope) word)) (sym e) (d.same (encode_utf8_all word)))
+
+-- an expression is a choice of its sequences, and a sequence its items
+pub expr_means : (k : Context) (ss : List SeqTree) → meaning_of_expr k (expr_of ss) ≡ choice_meaning (map (meaning_of_seq k) ss)
+expr_means k [] = refl
+expr_means k (s ∷ []) = refl
+expr_means k (s ∷ t ∷ ss) = ap (Meanings.Either (meaning_of_seq k s)) (expr_means k (t ∷ ss))
+
+pub seq_means : (k : Context) (is : List ItemTree) → meaning_of_seq k (seq_of is) ≡ sequence_meaning (map (meaning_of_item k) is)
+seq_means k [] = refl
+seq_means k (i ∷ []) = refl
+seq_means k (i ∷ j ∷ is) = ap (Meanings.Then (meaning_of_item k i)) (seq_means k (j ∷ is))
+
+pub word_means : (word : List ℕ) → word_of word ≡ sequence_meaning (map (λ c. Leaf (model.Character c)) word)
+word_means [] = refl
+word_means (c ∷ []) = refl
+word_means (c ∷ d ∷ word) = ap (Meanings.Then (Leaf (model.Character c))) (word_means (d ∷ word))
+
+pub leaf_means : (v : Option model.SetTree) → leaf_of v ≡ Leaf (set_or_nothing v)
+leaf_means None = refl
+leaf_means (Some tree) = refl

@@ -1,0 +1,51 @@
+use Rattle.std.proofs.Common.{◌≡◌, ◌+◌, ◌≤◌, ◌<◌, [], length, sym, refl, ap, ◌∙◌, subst, arith}
+use Rattle.std.specs.List.{AllZip}
+use Rattle.std.proofs.lemmas.List.{length-map}
+use Rattle.rbbi_tree.specs.Values.{statement_trees}
+use Rattle.rbbi_resolve.specs.Builders.{IsReady}
+use Rattle.rbbi_resolve.specs.RulesSoFar.{IsRuleBuilt, AreRulesTo, AreAllRules}
+use Rattle.rbbi_resolve.proofs.RulesBuilt.{all_built}
+use Rattle.rbbi_resolve.proofs.Ending.{rules_at_start, switches_at_start}
+use Rattle.rbbi_resolve.proofs.active.rules_with_trees.Goals as goal
+
+pub loop-number-init : goal.loop-number-init
+loop-number-init c =
+    let files = c.args.builder.now.properties in
+    let T = statement_trees c.args.scope.now.statements.now in
+    let none = ap length c.requires.empty in (
+      refl,
+      record {
+        builder = c.requires.builder;
+        switched = switches_at_start files T c.new-switches.result (c.new-switches.ensures files);
+        done = [];
+        every = rules_at_start files T;
+        each = subst (λ rs. AllZip (IsRuleBuilt files c.args.builder.now.sets.items) [] rs) (sym c.new-rules.ensures.items) tt;
+        used = λ n low. absurd (omega arith);
+      },
+    )
+
+pub add_statement-requires-clause-ready : goal.add_statement-requires-clause-ready
+add_statement-requires-clause-ready c =
+    let r = subst (λ f. IsReady f c.args.scope.now) (sym c.loop-number.invariant.0) c.requires.ready in
+    let low = r.low in
+    let test = c.loop-number-test.true in
+    record { end = r.end; variables = r.variables; low = omega arith; ignored = r.ignored; none = r.none; sound = r.sound; faultless = r.faultless }
+
+pub loop-number-preserved : goal.loop-number-preserved
+loop-number-preserved c =
+    let n = c.add_statement.new in
+    let same = c.in_ok-add_statement.ensures.same in (
+      same ∙ c.loop-number.invariant.0,
+      subst (λ f. AreRulesTo f (statement_trees c.args.scope.now.statements.now) n.builder.sets.items n.builder.bases.items n.switches n.rules.items (c.loop-number.number + 1)) (sym same) c.in_ok-add_statement.ensures.added,
+    )
+
+pub returns : goal.returns
+returns c =
+    let l = c.loop-number in
+    let T = statement_trees c.args.scope.now.statements.now in
+    let long : length T ≡ length c.args.scope.now.statements.now = simp length-map in
+    let all = c.requires.all in
+    let test = c.loop-number-test.false in
+    record {
+      built = subst (λ f. AreAllRules f T l.builder.sets.items l.rules.items) l.invariant.0 (all_built l.builder.properties T l.builder.sets.items l.builder.bases.items l.switches l.rules.items l.number (omega arith) l.invariant.1);
+    }

@@ -1,0 +1,33 @@
+use Rattle.std.proofs.Common.{◌≡◌, ◌+◌, ◌&&◌, not, encode_utf8_all, refl, ap, ◌∙◌, subst}
+use Rattle.rbbi_tree.specs.Trees.{control}
+use Rattle.rbbi_tree.specs.Values.{statement_trees}
+use Rattle.rbbi_resolve.specs.Files.{after_control, context_at, is_supported, is_unsupported}
+use Rattle.rbbi_resolve.specs.Faults.{faults_where, noted}
+use Rattle.rbbi_resolve.specs.Switchings.{AreSwitches}
+use Rattle.rbbi_resolve.proofs.Steps.{step, context_next, stay_variables, control_variables, note_two}
+use Rattle.rbbi_resolve.proofs.file.Reading.read_control.Goals as goal
+
+pub returns : goal.returns
+returns c =
+    let r = c.args.self.now in
+    let trees = statement_trees r.statements.now in
+    let n = c.args.number in
+    let text = encode_utf8_all c.args.name.now in
+    let k = context_at r.properties trees n in
+    let same = c.as_str-name.ensures.bytes in
+    let next = ap (λ x. x.variables) (context_next r.properties trees n (control c.args.name.now c.args.place) c.requires.at) ∙ control_variables k text in
+    let unknown : c.is_unknown.result ≡ (not (is_supported text) && not (is_unsupported text)) = c.is_unknown.ensures ∙ ap (λ t. not (is_supported t) && not (is_unsupported t)) same in
+    let unsupported : c.is_unsupported.result ≡ is_unsupported text = c.is_unsupported.ensures ∙ ap is_unsupported same in
+    record {
+      reading =
+          step r.properties r.dictionary_ignored trees n (control c.args.name.now c.args.place) r.variables r.variables r.least c.note_where-2.new.least r.switches c.after-self.result r.counts r.counts c.requires.reading c.requires.at
+          (stay_variables r.properties trees r.variables n next c.requires.reading.defined)
+          (note_two r.least c.note_where.new.least c.note_where-2.new.least (faults_where (not (is_supported text) && not (is_unsupported text)) c.args.place 1) (faults_where (is_unsupported text) c.args.place 2)
+          (c.note_where.ensures ∙ ap (λ b. noted r.least (faults_where b c.args.place 1)) unknown)
+          (c.note_where-2.ensures ∙ ap (λ b. noted c.note_where.new.least (faults_where b c.args.place 2)) unsupported))
+          (subst (λ t. AreSwitches c.after-self.result (after_control k t)) same (c.after-self.ensures k c.requires.reading.switched))
+          (λ left all so_far. so_far);
+      statements = refl;
+      properties = refl;
+      ignored = refl;
+    }

@@ -1,0 +1,78 @@
+use Rattle.std.proofs.Common.{◌≡◌, ◌<◌, [], ◌∷◌, length, map, drop, sym, refl, ap, ◌∙◌, subst, arith, rules}
+use Rattle.std.proofs.lemmas.List.{drop_all}
+use Rattle.rbbi_tree.specs.Trees.{expr_of, seq_of, placed, property, set, group}
+use Rattle.rbbi_tree.specs.Values.{expr_tree, seq_tree, item_tree, atom_tree, set_tree, expr_tree_out, seq_tree_out, item_tree_out}
+use Rattle.rbbi_resolve.specs.Parts.{Outside, parts_of_expr, parts_of_seq, parts_of_item}
+use Rattle.rbbi_resolve.specs.Faults.{faults_of_parts}
+use Rattle.rbbi_resolve.specs.Scopes.{IsScope, context_of}
+use Rattle.rbbi_resolve.specs.Soundness.{AreSound}
+use Rattle.rbbi_resolve.specs.OwnLeaves.{AddsLeaves, leaves_of_expr, leaves_of_seq, leaves_of_item}
+use Rattle.rbbi_resolve.proofs.ItemTrees.{atom_of_property, atom_of_set, atom_of_group}
+use Rattle.rbbi_resolve.proofs.Kept.{files_stay}
+use Rattle.rbbi_resolve.proofs.Sound.{faultless_first}
+use Rattle.rbbi_resolve.proofs.Adding.{IsAdding, adding_expr, adding_seq, property_leaf, set_leaf, no_leaves}
+use Rattle.rbbi_resolve.proofs.leaves.+leaves.Goals as goal
+
+pub add_leaves-loop-seq-init : goal.add_leaves-loop-seq-init
+add_leaves-loop-seq-init t c = record { same = refl; adds = λ sound e after x. x; faultless = λ e. e }
+
+pub add_leaves-loop-seq-preserved : goal.add_leaves-loop-seq-preserved
+add_leaves-loop-seq-preserved t c =
+    adding_expr (λ f. context_of f c.args.scope.now) c.args.properties.now c.args.sets.now.items _ _ c.loop-seq.properties c.loop-seq.sets.items c.add_leaves_of_seq.new.sets.items c.add_leaves_of_seq.new.properties c.deref-seq-items.result.now c.loop-seq.seq-index c.seq-item.result (omega arith) c.seq-item.is c.loop-seq.invariant
+    c.in_ok-add_leaves_of_seq.ensures.added c.in_ok-add_leaves_of_seq.ensures.same
+
+pub add_leaves-returns-clause-added : goal.add_leaves-returns-clause-added
+add_leaves-returns-clause-added t c =
+    let k = context_of c.args.properties.now c.args.scope.now in
+    let tree : expr_tree c.args.expr.now ≡ expr_of (map seq_tree c.deref-seq-items.result.now) = expr_tree_out c.args.expr.now ∙ ap (λ xs. expr_of (map seq_tree xs)) (sym c.deref-seq-items.ensures.value) in
+    let none : drop c.loop-seq.seq-index c.deref-seq-items.result.now ≡ [] = drop_all c.loop-seq.seq-index c.deref-seq-items.result.now (omega arith) in
+    λ sound e.
+    subst (λ x. AddsLeaves c.args.properties.now (leaves_of_expr k x) c.args.sets.now.items c.loop-seq.sets.items) (sym tree)
+    (c.loop-seq.invariant.adds sound (subst (λ x. faults_of_parts k (parts_of_expr x) ≡ []) tree e) c.loop-seq.sets.items (subst (λ xs. AddsLeaves c.args.properties.now (leaves_of_expr k (expr_of (map seq_tree xs))) c.loop-seq.sets.items c.loop-seq.sets.items) (sym none) (no_leaves c.args.properties.now c.loop-seq.sets.items)))
+
+pub add_leaves_of_seq-loop-item-init : goal.add_leaves_of_seq-loop-item-init
+add_leaves_of_seq-loop-item-init t c = record { same = refl; adds = λ sound e after x. x; faultless = λ e. e }
+
+pub add_leaves_of_seq-loop-item-preserved : goal.add_leaves_of_seq-loop-item-preserved
+add_leaves_of_seq-loop-item-preserved t c =
+    adding_seq (λ f. context_of f c.args.scope.now) c.args.properties.now c.args.sets.now.items _ _ c.loop-item.properties c.loop-item.sets.items c.add_leaves_of_item.new.sets.items c.add_leaves_of_item.new.properties c.deref-item-items.result.now c.loop-item.item-index c.item-item.result (omega arith) c.item-item.is c.loop-item.invariant
+    c.in_ok-add_leaves_of_item.ensures.added c.in_ok-add_leaves_of_item.ensures.same
+
+pub add_leaves_of_seq-returns-clause-added : goal.add_leaves_of_seq-returns-clause-added
+add_leaves_of_seq-returns-clause-added t c =
+    let k = context_of c.args.properties.now c.args.scope.now in
+    let tree : seq_tree c.args.seq.now ≡ seq_of (map item_tree c.deref-item-items.result.now) = seq_tree_out c.args.seq.now ∙ ap (λ xs. seq_of (map item_tree xs)) (sym c.deref-item-items.ensures.value) in
+    let none : drop c.loop-item.item-index c.deref-item-items.result.now ≡ [] = drop_all c.loop-item.item-index c.deref-item-items.result.now (omega arith) in
+    λ sound e.
+    subst (λ x. AddsLeaves c.args.properties.now (leaves_of_seq k x) c.args.sets.now.items c.loop-item.sets.items) (sym tree)
+    (c.loop-item.invariant.adds sound (subst (λ x. faults_of_parts k (parts_of_seq x) ≡ []) tree e) c.loop-item.sets.items (subst (λ xs. AddsLeaves c.args.properties.now (leaves_of_seq k (seq_of (map item_tree xs))) c.loop-item.sets.items c.loop-item.sets.items) (sym none) (no_leaves c.args.properties.now c.loop-item.sets.items)))
+
+pub add_leaves_of_item-returns-in_ok-add_value-in-Prop-clause-added : goal.add_leaves_of_item-returns-in_ok-add_value-in-Prop-clause-added
+add_leaves_of_item-returns-in_ok-add_value-in-Prop-clause-added t c =
+    let files = c.args.properties.now in
+    let k = context_of files c.args.scope.now in
+    let e : item_tree c.args.item.now ≡ placed c.args.item.now.place (property c.in-Prop.negated c.in-Prop.name c.in-Prop.value) c.args.item.now.quant = item_tree_out c.args.item.now ∙ ap (λ a. placed c.args.item.now.place a c.args.item.now.quant) (let i = c.in-Prop.is in ap atom_tree i ∙ atom_of_property c.in-Prop.negated c.in-Prop.name c.in-Prop.value) in
+    λ sound faultless.
+    subst (λ i. AddsLeaves files (leaves_of_item k i) c.args.sets.now.items c.add_value.new.sets.items) (sym e)
+    (property_leaf k files c.args.item.now.place c.in-Prop.negated c.in-Prop.name c.in-Prop.value c.args.item.now.quant c.args.sets.now.items c.add_value.new.sets.items c.in_ok-set-in-Prop.set (files_stay files _ _)
+    (subst (λ i. faults_of_parts k (parts_of_item i) ≡ []) e faultless) c.in_ok-set-in-Prop.ensures.value (λ tree is filled. c.in_ok-add_value-in-Prop.ensures files tree is filled))
+
+pub add_leaves_of_item-returns-in_ok-add_value-in-Set-clause-added : goal.add_leaves_of_item-returns-in_ok-add_value-in-Set-clause-added
+add_leaves_of_item-returns-in_ok-add_value-in-Set-clause-added t c =
+    let files = c.args.properties.now in
+    let k = context_of files c.args.scope.now in
+    let e : item_tree c.args.item.now ≡ placed c.args.item.now.place (set (set_tree c.in-Set.set)) c.args.item.now.quant = item_tree_out c.args.item.now ∙ ap (λ a. placed c.args.item.now.place a c.args.item.now.quant) (let i = c.in-Set.is in ap atom_tree i ∙ atom_of_set c.in-Set.set) in
+    λ sound faultless.
+    subst (λ i. AddsLeaves files (leaves_of_item k i) c.args.sets.now.items c.add_value-in-Set.new.sets.items) (sym e)
+    (set_leaf k files c.args.item.now.place (set_tree c.in-Set.set) c.args.item.now.quant c.args.sets.now.items c.add_value-in-Set.new.sets.items c.in_ok-value-in-Set.value (files_stay files _ _) sound
+    (subst (λ i. faults_of_parts k (parts_of_item i) ≡ []) e faultless) c.in_ok-value-in-Set.ensures.value (λ tree is filled. c.in_ok-add_value-in-Set.ensures files tree is filled))
+
+pub add_leaves_of_item-returns-in_ok-add_leaves-in-Group-clause-added : goal.add_leaves_of_item-returns-in_ok-add_leaves-in-Group-clause-added
+add_leaves_of_item-returns-in_ok-add_leaves-in-Group-clause-added t c =
+    let files = c.args.properties.now in
+    let k = context_of files c.args.scope.now in
+    let e : item_tree c.args.item.now ≡ placed c.args.item.now.place (group (expr_tree c.in-Group.inner)) c.args.item.now.quant = item_tree_out c.args.item.now ∙ ap (λ a. placed c.args.item.now.place a c.args.item.now.quant) (let i = c.in-Group.is in ap atom_tree i ∙ atom_of_group c.in-Group.inner) in
+    λ sound faultless.
+    subst (λ i. AddsLeaves files (leaves_of_item k i) c.args.sets.now.items c.add_leaves.new.sets.items) (sym e)
+    (c.in_ok-add_leaves-in-Group.ensures.added sound
+    (faultless_first k (parts_of_expr (expr_tree c.in-Group.inner)) (Outside c.args.item.now.place (group (expr_tree c.in-Group.inner)) ∷ []) (subst (λ i. faults_of_parts k (parts_of_item i) ≡ []) e faultless)))

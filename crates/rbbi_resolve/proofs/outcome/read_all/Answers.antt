@@ -1,0 +1,47 @@
+use Rattle.std.proofs.Common.{◌≡◌, ◌<◌, ◌≤◌, ℕ, List, None, length, sym, refl, ap, ◌∙◌, subst, arith}
+use Rattle.std.specs.HashMap.{get_by_text}
+use Rattle.rbbi_tree.specs.Values.{statement_trees}
+use Rattle.rbbi_resolve.specs.Readings.{IsReading}
+use Rattle.rbbi_resolve.proofs.Ending.{read_none}
+use Rattle.rbbi_resolve.proofs.outcome.read_all.Goals as goal
+
+pub loop-number-init : goal.loop-number-init
+loop-number-init c =
+    let none : (name : List ℕ) → get_by_text c.new-2.result name ≡ None = λ name. rw c.new-2.ensures.empty refl in
+    record {
+      reading = read_none c.new.result c.args.ignore_dictionary (statement_trees c.args.statements.now) c.new-2.result c.new-3.result c.new-4.result none (c.new-3.ensures c.new.result) c.new-4.ensures;
+      statements = refl;
+      properties = refl;
+      ignored = refl;
+    }
+
+pub read-requires-clause-inside : goal.read-requires-clause-inside
+read-requires-clause-inside c =
+    let same = ap length c.loop-number.invariant.statements in
+    let test = c.loop-number-test.true in
+    omega (arith, c.len-number-end.ensures)
+
+pub read-requires-clause-reading : goal.read-requires-clause-reading
+read-requires-clause-reading c = c.loop-number.invariant.reading
+
+pub loop-number-preserved : goal.loop-number-preserved
+loop-number-preserved c =
+    let r = c.in_ok-read.ensures in
+    let i = c.loop-number.invariant in
+    record { reading = r.reading; statements = r.statements ∙ i.statements; properties = r.properties ∙ i.properties; ignored = r.ignored ∙ i.ignored }
+
+pub returns-clause-reading : goal.returns-clause-reading
+returns-clause-reading c =
+    let auto = c.loop-number.auto.number-end in
+    let test = c.loop-number-test.false in
+    let same : c.loop-number.number ≡ length c.args.statements.now = omega (arith, c.len-number-end.ensures) in
+    subst (λ n. IsReading c.loop-number.reading n) same c.loop-number.invariant.reading
+
+pub returns-clause-statements : goal.returns-clause-statements
+returns-clause-statements c = c.loop-number.invariant.statements
+
+pub returns-clause-properties : goal.returns-clause-properties
+returns-clause-properties c = c.loop-number.invariant.properties ∙ c.new.ensures
+
+pub returns-clause-ignored : goal.returns-clause-ignored
+returns-clause-ignored c = c.loop-number.invariant.ignored

@@ -1,0 +1,307 @@
+//! The trees of expressions, with the sets of their leaves.
+ghost use Rattle.std.specs.Prelude.{◌≡◌, ◌+◌, ◌<◌, ◌≤◌, ℕ, List, [], IfOk, IfSome, IfNone, OnOk, length, map};
+ghost use Rattle.rbbi_model.specs.Ranges.{Range};
+ghost use Rattle.rbbi_model.specs.SetTrees as model;
+ghost use Rattle.rbbi_props.specs.Rows.{File};
+ghost use Rattle.rbbi_tree.specs.Trees.{ExprTree};
+ghost use Rattle.rbbi_tree.specs.Values.{statement_trees, expr_tree, seq_tree, item_tree, atom_tree};
+ghost use Rattle.rbbi_resolve.specs.Expressions.{word_of, meaning_of_expr, meaning_of_seq, meaning_of_item, meaning_of_atom};
+ghost use Rattle.rbbi_resolve.specs.Parts.{parts_of_expr};
+ghost use Rattle.rbbi_resolve.specs.Faults.{faults_of_parts};
+ghost use Rattle.rbbi_resolve.specs.Scopes.{context_of};
+ghost use Rattle.rbbi_resolve.specs.OwnLeaves.{leaves_of_expr, leaves_of_seq, leaves_of_item, leaves_of_atom};
+ghost use Rattle.rbbi_resolve.specs.Builders.{StandFrom, IsBuilt, IsBuilder, IsAssigned, GoesOn, IsReady};
+
+use crate::leaves::add_leaves;
+use crate::properties::Properties;
+use crate::rules::Tree;
+use crate::scope::Scope;
+use crate::tree::{in_choice, in_sequence, next_leaf, no_tree, repeated_tree};
+use rbbi_sets::CodeSet;
+use rbbi_text::Word;
+use rbbi_tree::{Atom, Expr, Item, Seq, Statement, Statements};
+use std::alloc::{AllocError, Global};
+
+/// The most sets that have a number.
+const MOST_SETS: usize = 4_294_967_295;
+
+/// The sets of the leaves so far.
+///
+/// The own leaves of an expression, those that don't come from variables, have sets one after
+/// another. A variable's are added when it is used first, and each of its uses has their numbers.
+#[derive(Drop)]
+pub(crate) struct Builder<'a> {
+    pub(crate) properties: Properties<'a>,
+    pub(crate) sets: Vec<CodeSet>,
+    /// For each statement the number of the first set of its own leaves, where it assigns a variable
+    /// that was used.
+    pub(crate) bases: Vec<Option<usize>>,
+}
+
+impl<'a> Builder<'a> {
+    /// The tree of an expression of a rule.
+    pub(crate) fn tree(
+        &mut self,
+        alloc: Global,
+        scope: &Scope,
+        expr: &Expr,
+    ) -> Result<Tree, AllocError>
+        requires ready { IsReady self.old.properties scope.now }
+        requires builder { IsBuilder self.old.properties (statement_trees scope.now.statements.now)
+            self.old.sets.items self.old.bases.items }
+        requires faultless { faults_of_parts (context_of self.old.properties scope.now)
+            (parts_of_expr (expr_tree expr.now)) ≡ [] }
+        ensures on { OnOk result (GoesOn self.old.properties (statement_trees scope.now.statements.now)
+            self.old.sets.items self.new.sets.items self.new.bases.items) }
+        ensures built { IfOk result (IsBuilt self.old.properties (length self.old.sets.items) self.new.sets.items 0 0
+            (meaning_of_expr (context_of self.old.properties scope.now) (expr_tree expr.now))) }
+        ensures same { self.new.properties ≡ self.old.properties }
+    {
+        let mut next = self.add_own(alloc, scope, expr)?;
+        let tree = self.tree_of_expr(alloc, scope, &mut next, expr)?;
+        Ok(tree)
+    }
+
+    /// Adds the sets of the own leaves of an expression, and tells the number of the first.
+    fn add_own(&mut self, alloc: Global, scope: &Scope, expr: &Expr) -> Result<usize, AllocError>
+        requires ready { IsReady self.old.properties scope.now }
+        requires builder { IsBuilder self.old.properties (statement_trees scope.now.statements.now)
+            self.old.sets.items self.old.bases.items }
+        requires faultless { faults_of_parts (context_of self.old.properties scope.now)
+            (parts_of_expr (expr_tree expr.now)) ≡ [] }
+        ensures on { OnOk result (GoesOn self.old.properties (statement_trees scope.now.statements.now)
+            self.old.sets.items self.new.sets.items self.new.bases.items) }
+        ensures stand { IfOk result (λ base. StandFrom self.old.properties self.new.sets.items base
+            (leaves_of_expr (context_of self.old.properties scope.now) (expr_tree expr.now))) }
+        ensures fresh { IfOk result (λ base. base ≡ length self.old.sets.items) }
+        ensures all { IfOk result (λ base. length self.new.sets.items ≡ base
+            + length (leaves_of_expr (context_of self.old.properties scope.now) (expr_tree expr.now))) }
+        ensures bases { self.new.bases ≡ self.old.bases }
+        ensures same { self.new.properties ≡ self.old.properties }
+    {
+        let base = self.sets.len();
+        add_leaves(alloc, scope, &mut self.properties, &mut self.sets, expr)?;
+        if self.sets.len() > MOST_SETS {
+            return Err(AllocError);
+        }
+        Ok(base)
+    }
+
+    /// The number of the first set of the own leaves of a statement, which are added where they aren't
+    /// there yet.
+    fn base(&mut self, alloc: Global, scope: &Scope, expr: &Expr) -> Result<usize, AllocError>
+        requires ready { IsReady self.old.properties scope.now }
+        requires builder { IsBuilder self.old.properties (statement_trees scope.now.statements.now)
+            self.old.sets.items self.old.bases.items }
+        requires assigned { IsAssigned (statement_trees scope.now.statements.now) scope.now.limit (expr_tree expr.now) }
+        ensures on { OnOk result (GoesOn self.old.properties (statement_trees scope.now.statements.now)
+            self.old.sets.items self.new.sets.items self.new.bases.items) }
+        ensures stand { IfOk result (λ base. StandFrom self.old.properties self.new.sets.items base
+            (leaves_of_expr (context_of self.old.properties scope.now) (expr_tree expr.now))) }
+        ensures fresh { IfOk result (λ base. (number : ℕ) → length self.old.sets.items ≤ number
+            → number < length self.new.sets.items → base ≤ number) }
+        ensures all { IfOk result (λ base. (number : ℕ) → length self.old.sets.items ≤ number
+            → number < length self.new.sets.items → number < base
+            + length (leaves_of_expr (context_of self.old.properties scope.now) (expr_tree expr.now))) }
+        ensures same { self.new.properties ≡ self.old.properties }
+    {
+        match self.bases[scope.limit] {
+            Some(base) => Ok(base),
+            None => {
+                let base = self.add_own(alloc, scope, expr)?;
+                self.bases[scope.limit] = Some(base);
+                Ok(base)
+            }
+        }
+    }
+
+    /// The tree of the expression that the statement with the number `limit` assigns.
+    #[cycle(build)]
+    fn definition(&mut self, alloc: Global, scope: &Scope) -> Result<Tree, AllocError>
+        requires ready { IsReady self.old.properties scope.now }
+        requires builder { IsBuilder self.old.properties (statement_trees scope.now.statements.now)
+            self.old.sets.items self.old.bases.items }
+        requires inside { scope.now.limit < length scope.now.statements.now }
+        ensures on { OnOk result (GoesOn self.old.properties (statement_trees scope.now.statements.now)
+            self.old.sets.items self.new.sets.items self.new.bases.items) }
+        ensures built { IfOk result (λ tree. (expr : ExprTree)
+            → IsAssigned (statement_trees scope.now.statements.now) scope.now.limit expr
+            → IsBuilt self.old.properties (length self.old.sets.items) self.new.sets.items 0 0
+            (meaning_of_expr (context_of self.old.properties scope.now) expr) tree) }
+        ensures same { self.new.properties ≡ self.old.properties }
+    {
+        match assigned(scope.statements, scope.limit) {
+            Some(expr) => {
+                let mut next = self.base(alloc, scope, expr)?;
+                let tree = self.tree_of_expr(alloc, scope, &mut next, expr)?;
+                Ok(tree)
+            }
+            None => Ok(no_tree(alloc)),
+        }
+    }
+
+    /// The tree of an expression whose own leaves have the sets from the number `next` on.
+    #[cycle(build)]
+    fn tree_of_expr(
+        &mut self,
+        alloc: Global,
+        scope: &Scope,
+        next: &mut usize,
+        expr: &Expr,
+    ) -> Result<Tree, AllocError>
+        requires ready { IsReady self.old.properties scope.now }
+        requires builder { IsBuilder self.old.properties (statement_trees scope.now.statements.now)
+            self.old.sets.items self.old.bases.items }
+        requires stand { StandFrom self.old.properties self.old.sets.items next.old
+            (leaves_of_expr (context_of self.old.properties scope.now) (expr_tree expr.now)) }
+        ensures on { OnOk result (GoesOn self.old.properties (statement_trees scope.now.statements.now)
+            self.old.sets.items self.new.sets.items self.new.bases.items) }
+        ensures moved { OnOk result (next.new ≡ next.old
+            + length (leaves_of_expr (context_of self.old.properties scope.now) (expr_tree expr.now))) }
+        ensures built { IfOk result (IsBuilt self.old.properties (length self.old.sets.items) self.new.sets.items
+            next.old next.new (meaning_of_expr (context_of self.old.properties scope.now) (expr_tree expr.now))) }
+        ensures same { self.new.properties ≡ self.old.properties }
+    {
+        let mut items = Vec::new(alloc);
+        for seq in &expr.items {
+            let part = self.tree_of_seq(alloc, scope, next, seq)?;
+            items.push(part)?;
+        }
+        Ok(in_choice(items))
+    }
+
+    /// The tree of a sequence.
+    #[cycle(build)]
+    fn tree_of_seq(
+        &mut self,
+        alloc: Global,
+        scope: &Scope,
+        next: &mut usize,
+        seq: &Seq,
+    ) -> Result<Tree, AllocError>
+        requires ready { IsReady self.old.properties scope.now }
+        requires builder { IsBuilder self.old.properties (statement_trees scope.now.statements.now)
+            self.old.sets.items self.old.bases.items }
+        requires stand { StandFrom self.old.properties self.old.sets.items next.old
+            (leaves_of_seq (context_of self.old.properties scope.now) (seq_tree seq.now)) }
+        ensures on { OnOk result (GoesOn self.old.properties (statement_trees scope.now.statements.now)
+            self.old.sets.items self.new.sets.items self.new.bases.items) }
+        ensures moved { OnOk result (next.new ≡ next.old
+            + length (leaves_of_seq (context_of self.old.properties scope.now) (seq_tree seq.now))) }
+        ensures built { IfOk result (IsBuilt self.old.properties (length self.old.sets.items) self.new.sets.items
+            next.old next.new (meaning_of_seq (context_of self.old.properties scope.now) (seq_tree seq.now))) }
+        ensures same { self.new.properties ≡ self.old.properties }
+    {
+        let mut items = Vec::new(alloc);
+        for item in &seq.items {
+            let part = self.tree_of_item(alloc, scope, next, item)?;
+            items.push(part)?;
+        }
+        Ok(in_sequence(items))
+    }
+
+    /// The tree of an item.
+    #[cycle(build)]
+    fn tree_of_item(
+        &mut self,
+        alloc: Global,
+        scope: &Scope,
+        next: &mut usize,
+        item: &Item,
+    ) -> Result<Tree, AllocError>
+        requires ready { IsReady self.old.properties scope.now }
+        requires builder { IsBuilder self.old.properties (statement_trees scope.now.statements.now)
+            self.old.sets.items self.old.bases.items }
+        requires stand { StandFrom self.old.properties self.old.sets.items next.old
+            (leaves_of_item (context_of self.old.properties scope.now) (item_tree item.now)) }
+        ensures on { OnOk result (GoesOn self.old.properties (statement_trees scope.now.statements.now)
+            self.old.sets.items self.new.sets.items self.new.bases.items) }
+        ensures moved { OnOk result (next.new ≡ next.old
+            + length (leaves_of_item (context_of self.old.properties scope.now) (item_tree item.now))) }
+        ensures built { IfOk result (IsBuilt self.old.properties (length self.old.sets.items) self.new.sets.items
+            next.old next.new (meaning_of_item (context_of self.old.properties scope.now) (item_tree item.now))) }
+        ensures same { self.new.properties ≡ self.old.properties }
+    {
+        let part = self.tree_of_atom(alloc, scope, next, &item.atom)?;
+        let tree = repeated_tree(alloc, item.quant, part)?;
+        Ok(tree)
+    }
+
+    /// The tree of an atom.
+    #[cycle(build)]
+    fn tree_of_atom(
+        &mut self,
+        alloc: Global,
+        scope: &Scope,
+        next: &mut usize,
+        atom: &Atom,
+    ) -> Result<Tree, AllocError>
+        requires ready { IsReady self.old.properties scope.now }
+        requires builder { IsBuilder self.old.properties (statement_trees scope.now.statements.now)
+            self.old.sets.items self.old.bases.items }
+        requires stand { StandFrom self.old.properties self.old.sets.items next.old
+            (leaves_of_atom (context_of self.old.properties scope.now) (atom_tree atom.now)) }
+        ensures on { OnOk result (GoesOn self.old.properties (statement_trees scope.now.statements.now)
+            self.old.sets.items self.new.sets.items self.new.bases.items) }
+        ensures moved { OnOk result (next.new ≡ next.old
+            + length (leaves_of_atom (context_of self.old.properties scope.now) (atom_tree atom.now))) }
+        ensures built { IfOk result (IsBuilt self.old.properties (length self.old.sets.items) self.new.sets.items
+            next.old next.new (meaning_of_atom (context_of self.old.properties scope.now) (atom_tree atom.now))) }
+        ensures same { self.new.properties ≡ self.old.properties }
+    {
+        match atom {
+            Atom::Char { .. } => Ok(next_leaf(next)),
+            Atom::Any => Ok(next_leaf(next)),
+            Atom::Prop { .. } => Ok(next_leaf(next)),
+            Atom::Set(_) => Ok(next_leaf(next)),
+            Atom::Quoted(word) => {
+                let tree = tree_of_word(alloc, next, word)?;
+                Ok(tree)
+            }
+            Atom::Name(name) => match scope.variable(name) {
+                Some(variable) => {
+                    let inner = Scope {
+                        statements: scope.statements,
+                        variables: scope.variables,
+                        limit: variable.statement,
+                        quoted_only: scope.quoted_only,
+                    };
+                    let tree = self.definition(alloc, &inner)?;
+                    Ok(tree)
+                }
+                None => Ok(no_tree(alloc)),
+            },
+            Atom::Group(inner) => {
+                let tree = self.tree_of_expr(alloc, scope, next, inner)?;
+                Ok(tree)
+            }
+        }
+    }
+}
+
+/// The tree of a quoted sequence.
+fn tree_of_word(alloc: Global, next: &mut usize, word: &Word) -> Result<Tree, AllocError>
+    requires { next.old + length word.now ≤ 4294967295 }
+    ensures moved { OnOk result (next.new ≡ next.old + length word.now) }
+    ensures built { IfOk result (λ tree. (files : List File) (sets : List (List Range))
+        → StandFrom files sets next.old (map model.Character word.now)
+        → IsBuilt files (length sets) sets next.old next.new (word_of word.now) tree) }
+{
+    let mut items = Vec::new(alloc);
+    for _ in word.as_str().chars() {
+        items.push(next_leaf(next))?;
+    }
+    Ok(in_sequence(items))
+}
+
+/// The expression that a statement assigns, where it is an assignment.
+fn assigned(statements: &Statements, number: usize) -> Option<&Expr>
+    requires { number < length statements.now }
+    ensures some { IfSome result (λ expr. IsAssigned (statement_trees statements.now) number (expr_tree expr.now)) }
+    ensures none { IfNone result ((expr : ExprTree) → IsAssigned (statement_trees statements.now) number expr → ⊥) }
+{
+    match statements.get(number) {
+        Statement::Assign { expr, .. } => Some(expr),
+        _ => None,
+    }
+}

@@ -1,0 +1,126 @@
+//! What the expressions of assignments make of their names.
+ghost use Rattle.std.specs.Prelude.{◌≡◌, ◌∷◌, [], None, Some, IfOk, IfSome, IfNone, MatchOption, OnOk};
+ghost use Rattle.rbbi_tree.specs.Trees.{placed, alternative, item as item_of, no_items, no_alternatives};
+ghost use Rattle.rbbi_tree.specs.declared.syntax.Quant.TheVariants.{Once};
+ghost use Rattle.rbbi_tree.specs.Values.{expr_tree, atom_tree};
+ghost use Rattle.rbbi_resolve.specs.Expressions.{variable_for, set_of_atom, set_of_expr};
+ghost use Rattle.rbbi_resolve.specs.Parts.{parts_of_expr, parts_of_item};
+ghost use Rattle.rbbi_resolve.specs.Faults.{noted_parts};
+ghost use Rattle.rbbi_resolve.specs.Contexts as contexts;
+ghost use Rattle.rbbi_resolve.specs.Scopes.{IsScope, KnowsQuotes, IsKindOf, context_of};
+ghost use Rattle.rbbi_resolve.specs.Definitions.{AreSetOf, noted_if_set};
+
+use crate::check::{check_expr, check_property, check_set};
+use crate::fault::Fault;
+use crate::properties::{Properties, copy_of};
+use crate::scope::Scope;
+use crate::variables::Kind;
+use rbbi_sets::CodeSet;
+use rbbi_tree::{Atom, Expr, Item, Quant};
+use std::alloc::{AllocError, Global};
+
+/// Notes the faults of an expression that is assigned, and tells what it makes of its name.
+pub(crate) fn check_definition(
+    alloc: Global,
+    scope: &Scope,
+    properties: &mut Properties,
+    least: &mut Option<Fault>,
+    expr: &Expr,
+) -> Result<Kind, AllocError>
+    requires scope { IsScope properties.old scope.now }
+    requires quotes { KnowsQuotes properties.old scope.now }
+    ensures noted { OnOk result (least.new ≡ noted_parts (context_of properties.old scope.now) least.old
+        (parts_of_expr (expr_tree expr.now))) }
+    ensures kind { IfOk result (λ kind. IsKindOf properties.old kind
+        (variable_for (context_of properties.old scope.now) (expr_tree expr.now))) }
+    ensures same { properties.new ≡ properties.old }
+{
+    match check_lone(alloc, scope, properties, least, expr)? {
+        Some(set) => Ok(Kind::Set(set)),
+        None => {
+            let summary = check_expr(alloc, scope, properties, least, expr)?;
+            Ok(Kind::Expression(summary))
+        }
+    }
+}
+
+/// The value of an expression that is a set, with its faults noted; None where it is no set.
+fn check_lone(
+    alloc: Global,
+    scope: &Scope,
+    properties: &mut Properties,
+    least: &mut Option<Fault>,
+    expr: &Expr,
+) -> Result<Option<Option<CodeSet>>, AllocError>
+    requires { IsScope properties.old scope.now }
+    ensures noted { IfOk result (λ found. least.new ≡ noted_if_set (context_of properties.old scope.now) least.old
+        (parts_of_expr (expr_tree expr.now)) found) }
+    ensures value { IfOk result (λ found. AreSetOf properties.old
+        (set_of_expr (context_of properties.old scope.now) (expr_tree expr.now)) found) }
+    ensures same { properties.new ≡ properties.old }
+{
+    match lone_item(expr) {
+        Some(item) => check_lone_atom(alloc, scope, properties, least, item.place, &item.atom),
+        None => Ok(None),
+    }
+}
+
+/// The value of an atom that is a set, with its faults noted; None where it is no set.
+fn check_lone_atom(
+    alloc: Global,
+    scope: &Scope,
+    properties: &mut Properties,
+    least: &mut Option<Fault>,
+    place: u32,
+    atom: &Atom,
+) -> Result<Option<Option<CodeSet>>, AllocError>
+    requires { IsScope properties.old scope.now }
+    ensures noted { IfOk result (λ found. least.new ≡ noted_if_set (context_of properties.old scope.now) least.old
+        (parts_of_item (placed place (atom_tree atom.now) Once)) found) }
+    ensures value { IfOk result (λ found. AreSetOf properties.old
+        (set_of_atom (context_of properties.old scope.now) (atom_tree atom.now)) found) }
+    ensures same { properties.new ≡ properties.old }
+{
+    match atom {
+        Atom::Prop {
+            negated,
+            name,
+            value,
+        } => {
+            let set = check_property(alloc, properties, least, place, *negated, name, value)?;
+            Ok(Some(set))
+        }
+        Atom::Set(set) => {
+            let value = check_set(alloc, scope, properties, least, place, set)?;
+            Ok(Some(value))
+        }
+        Atom::Name(name) => match scope.variable(name) {
+            Some(variable) => match &variable.kind {
+                Kind::Set(value) => Ok(Some(copy_of(alloc, value)?)),
+                Kind::Expression(_) => Ok(None),
+            },
+            None => Ok(None),
+        },
+        Atom::Char { .. } | Atom::Quoted(_) | Atom::Any | Atom::Group(_) => Ok(None),
+    }
+}
+
+/// The one item of an expression that is a single atom with no quantifier.
+fn lone_item(expr: &Expr) -> Option<&Item>
+    ensures lone { IfSome result (λ item. expr_tree expr.now
+        ≡ alternative (item_of (placed item.now.place (atom_tree item.now.atom) Once) no_items) no_alternatives) }
+    ensures none { IfNone result ((context : contexts.Context) → set_of_expr context (expr_tree expr.now) ≡ None) }
+{
+    if expr.items.len() != 1 {
+        return None;
+    }
+    let seq = &expr.items[0];
+    if seq.items.len() != 1 {
+        return None;
+    }
+    let item = &seq.items[0];
+    match item.quant {
+        Quant::Once => Some(item),
+        Quant::Star | Quant::Plus | Quant::Quest => None,
+    }
+}

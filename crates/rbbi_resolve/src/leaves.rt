@@ -1,0 +1,171 @@
+//! The sets of the leaves of expressions.
+ghost use Rattle.std.specs.Prelude.{◌≡◌, ◌≤◌, ℕ, OnOk, List, [], ◌∷◌, Some, map, false};
+ghost use Rattle.rbbi_model.specs.Words.{IsSurrogate};
+ghost use Rattle.rbbi_model.specs.Ranges.{Has};
+ghost use Rattle.rbbi_model.specs.SetTrees as model;
+ghost use Rattle.rbbi_props.specs.Rows.{File};
+ghost use Rattle.rbbi_tree.specs.Values.{expr_tree, seq_tree, item_tree};
+ghost use Rattle.rbbi_resolve.specs.SetValues.{IsValue, HasMembers};
+ghost use Rattle.rbbi_resolve.specs.Parts.{parts_of_expr, parts_of_seq, parts_of_item};
+ghost use Rattle.rbbi_resolve.specs.Faults.{faults_of_parts, is_empty_value};
+ghost use Rattle.rbbi_resolve.specs.Scopes.{IsScope, context_of};
+ghost use Rattle.rbbi_resolve.specs.Soundness.{AreSound};
+ghost use Rattle.rbbi_resolve.specs.OwnLeaves.{AddsLeaves, leaves_of_expr, leaves_of_seq, leaves_of_item};
+
+use crate::fault::Fault;
+use crate::properties::Properties;
+use crate::scope::Scope;
+use crate::set_value::value_of_set;
+use rbbi_sets::CodeSet;
+use rbbi_text::Word;
+use rbbi_tree::{Atom, Expr, Item, Seq};
+use std::alloc::{AllocError, Global};
+
+/// Adds the sets of the leaves of an expression without faults, but for those that come from
+/// variables.
+#[cycle(leaves)]
+pub(crate) fn add_leaves(
+    alloc: Global,
+    scope: &Scope,
+    properties: &mut Properties,
+    sets: &mut Vec<CodeSet>,
+    expr: &Expr,
+) -> Result<(), AllocError>
+    requires { IsScope properties.old scope.now }
+    ensures added { OnOk result (AreSound (context_of properties.old scope.now)
+        → faults_of_parts (context_of properties.old scope.now) (parts_of_expr (expr_tree expr.now)) ≡ []
+        → AddsLeaves properties.old
+        (leaves_of_expr (context_of properties.old scope.now) (expr_tree expr.now)) sets.old.items sets.new.items) }
+    ensures same { properties.new ≡ properties.old }
+{
+    for seq in &expr.items {
+        add_leaves_of_seq(alloc, scope, properties, sets, seq)?;
+    }
+    Ok(())
+}
+
+/// Adds the sets of the leaves of a sequence.
+#[cycle(leaves)]
+fn add_leaves_of_seq(
+    alloc: Global,
+    scope: &Scope,
+    properties: &mut Properties,
+    sets: &mut Vec<CodeSet>,
+    seq: &Seq,
+) -> Result<(), AllocError>
+    requires { IsScope properties.old scope.now }
+    ensures added { OnOk result (AreSound (context_of properties.old scope.now)
+        → faults_of_parts (context_of properties.old scope.now) (parts_of_seq (seq_tree seq.now)) ≡ []
+        → AddsLeaves properties.old
+        (leaves_of_seq (context_of properties.old scope.now) (seq_tree seq.now)) sets.old.items sets.new.items) }
+    ensures same { properties.new ≡ properties.old }
+{
+    for item in &seq.items {
+        add_leaves_of_item(alloc, scope, properties, sets, item)?;
+    }
+    Ok(())
+}
+
+/// Adds the sets of the leaves of an item.
+#[cycle(leaves)]
+fn add_leaves_of_item(
+    alloc: Global,
+    scope: &Scope,
+    properties: &mut Properties,
+    sets: &mut Vec<CodeSet>,
+    item: &Item,
+) -> Result<(), AllocError>
+    requires { IsScope properties.old scope.now }
+    ensures added { OnOk result (AreSound (context_of properties.old scope.now)
+        → faults_of_parts (context_of properties.old scope.now) (parts_of_item (item_tree item.now)) ≡ []
+        → AddsLeaves properties.old
+        (leaves_of_item (context_of properties.old scope.now) (item_tree item.now)) sets.old.items sets.new.items) }
+    ensures same { properties.new ≡ properties.old }
+{
+    match &item.atom {
+        Atom::Char { c, .. } => add_character(alloc, sets, *c),
+        Atom::Quoted(word) => add_word(alloc, sets, word),
+        Atom::Any => add_any(alloc, sets),
+        Atom::Name(_) => Ok(()),
+        Atom::Prop {
+            negated,
+            name,
+            value,
+        } => {
+            let set = properties.set_of(alloc, *negated, name, value)?;
+            add_value(alloc, sets, &set)?;
+            Ok(())
+        }
+        Atom::Set(set) => {
+            let mut least: Option<Fault> = None;
+            let value = value_of_set(alloc, scope, properties, &mut least, set)?;
+            add_value(alloc, sets, &value)?;
+            Ok(())
+        }
+        Atom::Group(inner) => {
+            add_leaves(alloc, scope, properties, sets, inner)?;
+            Ok(())
+        }
+    }
+}
+
+/// Adds the characters of a set that holds one.
+fn add_set(alloc: Global, sets: &mut Vec<CodeSet>, set: &CodeSet) -> Result<(), AllocError>
+    ensures { OnOk result ((files : List File) (tree : model.SetTree) → HasMembers files tree set.now
+        → ((c : ℕ) × Has set.now c × ¬ IsSurrogate c) → AddsLeaves files (tree ∷ []) sets.old.items sets.new.items) }
+{
+    let characters = set.without_surrogates(alloc)?;
+    sets.push(characters)?;
+    Ok(())
+}
+
+/// Adds the set of a character.
+fn add_character(alloc: Global, sets: &mut Vec<CodeSet>, c: char) -> Result<(), AllocError>
+    ensures { OnOk result ((files : List File)
+        → AddsLeaves files (model.Character c ∷ []) sets.old.items sets.new.items) }
+{
+    let code = c as u32;
+    let set = CodeSet::range(alloc, code, code)?;
+    add_set(alloc, sets, &set)?;
+    Ok(())
+}
+
+/// Adds the sets of the characters of a word.
+fn add_word(alloc: Global, sets: &mut Vec<CodeSet>, word: &Word) -> Result<(), AllocError>
+    ensures { OnOk result ((files : List File)
+        → AddsLeaves files (map model.Character word.now) sets.old.items sets.new.items) }
+{
+    for c in word.as_str().chars() {
+        add_character(alloc, sets, c)?;
+    }
+    Ok(())
+}
+
+/// Adds the set of all characters.
+fn add_any(alloc: Global, sets: &mut Vec<CodeSet>) -> Result<(), AllocError>
+    ensures { OnOk result ((files : List File)
+        → AddsLeaves files (model.Others model.Nothing ∷ []) sets.old.items sets.new.items) }
+{
+    let nothing = CodeSet::empty(alloc);
+    let all = nothing.complement(alloc)?;
+    add_set(alloc, sets, &all)?;
+    Ok(())
+}
+
+/// Adds the characters of a set that has a value and holds a character.
+fn add_value(
+    alloc: Global,
+    sets: &mut Vec<CodeSet>,
+    value: &Option<CodeSet>,
+) -> Result<(), AllocError>
+    ensures { OnOk result ((files : List File) (tree : model.SetTree) → IsValue files (Some tree) value.now
+        → is_empty_value files (Some tree) ≡ false → AddsLeaves files (tree ∷ []) sets.old.items sets.new.items) }
+{
+    match value {
+        Some(set) => {
+            add_set(alloc, sets, set)?;
+            Ok(())
+        }
+        None => Ok(()),
+    }
+}

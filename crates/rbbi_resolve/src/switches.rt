@@ -1,0 +1,92 @@
+//! What the controls of a rule file switch on and off.
+ghost use Rattle.std.specs.Prelude.{◌≡◌, ◌&&◌, not, List};
+ghost use Rattle.rbbi_resolve.specs.Contexts as contexts;
+ghost use Rattle.rbbi_resolve.specs.Files as files;
+ghost use Rattle.rbbi_resolve.specs.Files.{after_control};
+ghost use Rattle.rbbi_resolve.specs.Switchings.{AreSwitches};
+ghost use Rattle.rbbi_props.specs.Rows.{File};
+
+/// What the controls so far have switched on.
+#[derive(Clone, Copy)]
+pub(crate) struct Switches {
+    pub(crate) chained: bool,
+    pub(crate) quoted_only: bool,
+    pub(crate) active: bool,
+}
+
+impl Switches {
+    /// Before the first statement rules are active, and nothing else is.
+    pub(crate) fn new() -> Switches
+        ensures { (rows : List File) → AreSwitches result (files.start rows) }
+    {
+        Switches {
+            chained: false,
+            quoted_only: false,
+            active: true,
+        }
+    }
+
+    /// What is switched on behind a control.
+    pub(crate) fn after(self, name: &str) -> Switches
+        ensures { (context : contexts.Context) → AreSwitches self context
+            → AreSwitches result (after_control context name.now) }
+    {
+        if name == "chain" {
+            return Switches {
+                chained: true,
+                ..self
+            };
+        }
+        if name == "quoted_literals_only" {
+            return Switches {
+                quoted_only: true,
+                ..self
+            };
+        }
+        if name == "forward" {
+            return Switches {
+                active: true,
+                ..self
+            };
+        }
+        if ends_active(name) {
+            return Switches {
+                active: false,
+                ..self
+            };
+        }
+        self
+    }
+}
+
+/// Whether a control makes the rules behind it inactive.
+fn ends_active(name: &str) -> bool
+    ensures { result ≡ files.ends_active name.now }
+{
+    name == "reverse" || name == "safe_forward" || name == "safe_reverse"
+}
+
+/// Whether a control is known and has no effect that is supported.
+pub(crate) fn is_unsupported(name: &str) -> bool
+    ensures { result ≡ files.is_unsupported name.now }
+{
+    name == "LBCMNoChain" || name == "unquoted_literals"
+}
+
+/// Whether a control is neither supported nor known to be not.
+pub(crate) fn is_unknown(name: &str) -> bool
+    ensures { result ≡ (not (files.is_supported name.now) && not (files.is_unsupported name.now)) }
+{
+    !is_supported(name) && !is_unsupported(name)
+}
+
+/// Whether a control is known and supported.
+fn is_supported(name: &str) -> bool
+    ensures { result ≡ files.is_supported name.now }
+{
+    name == "chain"
+        || name == "quoted_literals_only"
+        || name == "forward"
+        || ends_active(name)
+        || name == "lookAheadHardBreak"
+}

@@ -1,0 +1,222 @@
+//! Rule files that were worked out by hand from the table of faults.
+ghost use Rattle.std.specs.Prelude.{◌≡◌, ◌≤◌, length};
+ghost use Rattle.std.specs.Str.{chars};
+
+use crate::{Tree, resolve};
+use rbbi_lex::lex;
+use rbbi_props::PropTable;
+use rbbi_tree::parse;
+use std::alloc::{AllocError, Global};
+use std::test::Fail;
+
+/// The number of characters of a text, at most that of its bytes.
+fn characters_in(text: &str) -> usize
+    ensures exact { result ≡ length (chars text.now) }
+    ensures short { result ≤ length text.now }
+{
+    text.chars().count()
+}
+
+/// What a text gives: the counts of rules, slashes, leaves and sets, or the place and the fault.
+fn outcome(alloc: Global, text: &str, ignore_dictionary: bool) -> Result<String, Fail>
+    requires { length text.now ≤ 1000000 }
+{
+    let tokens = lex(alloc, text)?;
+    let end = characters_in(text) as u32;
+    let statements = parse(alloc, &tokens, end)?;
+    let mut props = PropTable::new(alloc);
+    props.add(
+        "Kind",
+        b"0061..0063 ; Low\n0064 ; High\nD800..DFFF ; Half\n",
+    )?;
+    match resolve(alloc, &statements, end, &props, ignore_dictionary) {
+        Ok(rules) => Ok(format!(in alloc;
+            "{} {} {} {}",
+            rules.len(),
+            rules.slashes(),
+            rules.leaves(),
+            rules.sets().len()
+        )?),
+        Err(err) => Ok(format!(in alloc; "{} {}", err.place().unwrap_or(0), err.label())?),
+    }
+}
+
+#[test]
+fn faults(rt: HostRuntime) -> Result<(), Fail> {
+    for (text, want) in [
+        ("$x = $y; $x = [z-a]; !!foo;", "5 Undefined"),
+        ("(a?) / b;", "5 EmptyFront"),
+        ("$x = [a-c]; $x = [d];", "12 Redefined"),
+        ("[z-a];", "1 BadRange"),
+        ("$dictionary = [a]; .;", "0 Dictionary"),
+        ("!!quoted_literals_only; ab;", "24 BareLiteral"),
+        ("\\p{NoSuchName};", "0 UnknownProperty"),
+        ("!!reverse; b;", "13 NoRules"),
+        // each fault where another comes first
+        ("!!foo; !!unquoted_literals;", "0 UnknownControl"),
+        ("[z-a]; !!foo;", "1 BadRange"),
+        ("a; !!LBCMNoChain;", "3 UnsupportedControl"),
+        ("!!x; $dictionary = [a];", "0 UnknownControl"),
+        ("$dictionary = [a]; $dictionary = $b;", "0 Dictionary"),
+        ("$a = $b; $a = c;", "5 Undefined"),
+        ("$b = [$b];", "6 Undefined"),
+        ("!!foo; $b;", "0 UnknownControl"),
+        ("c/$late; $late = b?;", "2 Undefined"),
+        ("$a = b; [$a];", "9 NotASet"),
+        ("$a = ([b]); [$a];", "13 NotASet"),
+        ("[z-a]; $a = b; [$a];", "1 BadRange"),
+        ("a [\\p{Kind=None}];", "3 UnknownProperty"),
+        ("[z-a] \\p{Kind};", "1 BadRange"),
+        ("[$x b-a];", "1 Undefined"),
+        ("a [];", "2 EmptySet"),
+        ("$x = [[a]&[b]];", "5 EmptySet"),
+        ("[\\p{Kind=Half}];", "0 EmptySet"),
+        ("[$x];", "1 Undefined"),
+        ("!!quoted_literals_only; [z-a] b;", "25 BadRange"),
+        ("a* / b?;", "3 EmptyFront"),
+        ("a / b*;", "2 EmptyRest"),
+        ("$x / a?;", "0 Undefined"),
+        ("!!reverse; a / b?; !!forward; c;", "13 EmptyRest"),
+    ] {
+        assert!(rt; text.len() < 1000);
+        let found = outcome(rt.alloc(), text, false)?;
+        assert_eq!(rt; found.as_str(), want, "in {text:?}");
+    }
+    Ok(())
+}
+
+/// The rules of words.
+const WORDS: &str = "!!chain;\n!!quoted_literals_only;\n$ALetter = [A-Za-z];\n$Numeric = [0-9];\n\
+$Mid     = ['];\n$MidNum  = [.,];\n$ALetter {200};\n$Numeric {100};\n$ALetter $ALetter {200};\n\
+$ALetter $Mid $ALetter {200};\n$Numeric $Numeric {100};\n$Numeric $MidNum $Numeric {100};\n.;\n";
+
+#[test]
+fn rules(rt: HostRuntime) -> Result<(), Fail> {
+    for (text, ignore, want) in [
+        (WORDS, false, "7 0 13 5"),
+        ("$dictionary = [a]; .;", true, "1 0 1 1"),
+        ("!!quoted_literals_only; 'ab';", false, "1 0 2 2"),
+        ("$v = [a-c]; [$v-[b]] d;", false, "1 0 2 2"),
+        ("!!lookAheadHardBreak; !!forward; a;", false, "1 0 1 1"),
+        (
+            "$a = [b]; $c = $a; $d = \\p{L}; [$a $c $d];",
+            false,
+            "1 0 1 1",
+        ),
+        (
+            "\\p{Kind=Low} \\p{kind = high} [\\P{Kind=Low}];",
+            false,
+            "1 0 3 3",
+        ),
+        ("$v = [ab] x; $v $v | $v+;", false, "1 0 6 2"),
+        ("$unused = [a]; b / c;", false, "1 1 2 2"),
+        ("!!reverse; b; !!forward; a;", false, "1 0 1 1"),
+    ] {
+        assert!(rt; text.len() < 1000);
+        let found = outcome(rt.alloc(), text, ignore)?;
+        assert_eq!(rt; found.as_str(), want, "in {text:?}");
+    }
+    Ok(())
+}
+
+/// A text that repeats a piece.
+fn times(alloc: Global, piece: &str, count: u32) -> Result<String, AllocError> {
+    let mut text = String::new(alloc);
+    for _ in 0..count {
+        text.push_str(piece)?;
+    }
+    Ok(text)
+}
+
+/// Variables from 0 on, each of which is the one before with a text before and behind it, and a rule of
+/// the last.
+fn chain(
+    alloc: Global,
+    first: &str,
+    before: bool,
+    behind: &str,
+    last: u32,
+) -> Result<String, AllocError> {
+    let mut text = format!(in alloc; "$v0 = {first};\n")?;
+    for next in 1..=last {
+        let number = next - 1;
+        if before {
+            let twice = format!(in alloc; "$v{next} = $v{number} $v{number}{behind};\n")?;
+            text.push_str(twice.as_str())?;
+        } else {
+            let once = format!(in alloc; "$v{next} = $v{number}{behind};\n")?;
+            text.push_str(once.as_str())?;
+        }
+    }
+    let rule = format!(in alloc; "$v{last};")?;
+    text.push_str(rule.as_str())?;
+    Ok(text)
+}
+
+#[test]
+fn limits(rt: HostRuntime) -> Result<(), Fail> {
+    let alloc = rt.alloc();
+    for (text, want) in [
+        (times(alloc, "a;", 4096)?, "4096 0 4096 4096"),
+        (times(alloc, "a;", 4097)?, "8192 TooManyRules"),
+        (times(alloc, "a/b;", 32)?, "32 32 64 64"),
+        (times(alloc, "a/b;", 33)?, "128 TooManySlashes"),
+        (chain(alloc, "x+", false, "+", 127)?, "1 0 1 1"),
+        (chain(alloc, "x+", false, "+", 128)?, "1840 TooTall"),
+        (chain(alloc, "x", true, "", 13)?, "1 0 8192 1"),
+        (chain(alloc, "x", true, "", 14)?, "232 TooManyLeaves"),
+        (chain(alloc, "x", true, "", 60)?, "1060 TooManyLeaves"),
+    ] {
+        assert!(rt; text.as_str().len() < 100000);
+        let found = outcome(alloc, text.as_str(), false)?;
+        assert_eq!(rt; found.as_str(), want);
+    }
+    Ok(())
+}
+
+/// The shape of a tree, with the numbers of the sets of its leaves.
+#[cycle(shape)]
+fn shape(alloc: Global, tree: &Tree) -> Result<String, AllocError> {
+    match tree {
+        Tree::Leaf(number) => format!(in alloc; "{number}"),
+        Tree::Seq(parts) => shape_of_parts(alloc, "(", ")", &parts.items),
+        Tree::Alt(parts) => shape_of_parts(alloc, "[", "]", &parts.items),
+        Tree::Rep(_, part) => {
+            let inner = shape(alloc, part)?;
+            format!(in alloc; "*{inner}", inner = inner.as_str())
+        }
+    }
+}
+
+#[cycle(shape)]
+fn shape_of_parts(
+    alloc: Global,
+    open: &str,
+    close: &str,
+    parts: &Vec<Tree>,
+) -> Result<String, AllocError> {
+    let mut text = String::from_str(alloc, open)?;
+    for part in parts {
+        let inner = shape(alloc, part)?;
+        text.push_str(inner.as_str())?;
+        text.push_str(".")?;
+    }
+    text.push_str(close)?;
+    Ok(text)
+}
+
+#[test]
+fn trees(rt: HostRuntime) -> Result<(), Fail> {
+    let alloc = rt.alloc();
+    let text = "$s = [ab]; $v = $s (x | 'yz')?; $v $v;";
+    assert!(rt; text.len() < 1000);
+    let tokens = lex(alloc, text)?;
+    let end = characters_in(text) as u32;
+    let statements = parse(alloc, &tokens, end)?;
+    let props = PropTable::new(alloc);
+    let rules = resolve(alloc, &statements, end, &props, false)?;
+    assert_eq!(rt; rules.len(), 1);
+    let shown = shape(alloc, &rules.get(0).front)?;
+    assert_eq!(rt; shown.as_str(), "((3.*[0.(1.2.).].).(3.*[0.(1.2.).].).)");
+    Ok(())
+}
