@@ -15,3 +15,6 @@ pub use categories::{Categories, partition};
 pub use classes::MOST_CATEGORIES;
 pub use error::CatsErr;
 pub use range::CatRange;
+
+#[cfg(test)]
+mod tests;

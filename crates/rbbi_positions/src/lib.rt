@@ -25,3 +25,6 @@ mod rule_marks;
 
 pub use making::positions;
 pub use marks::Positions;
+
+#[cfg(test)]
+mod tests;

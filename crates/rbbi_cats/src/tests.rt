@@ -1,0 +1,135 @@
+//! Rule files whose categories were worked out by hand.
+ghost use Rattle.std.specs.Prelude.{◌≡◌, ◌<◌, ◌≤◌, IfOk, length, chars};
+ghost use Rattle.rbbi_model.specs.Rules.{AreLawful};
+ghost use Rattle.rbbi_resolve.specs.RuleLists.{rules_of};
+
+use crate::{CatRange, CatsErr, partition};
+use rbbi_lex::lex;
+use rbbi_props::PropTable;
+use rbbi_resolve::{Rules, resolve};
+use rbbi_tree::parse;
+use std::alloc::{AllocError, Global};
+use std::test::Fail;
+
+/// The number of characters of a text, at most that of its bytes.
+fn characters_in(text: &str) -> usize
+    ensures exact { result ≡ length (chars text.now) }
+    ensures short { result ≤ length text.now }
+{
+    text.chars().count()
+}
+
+/// The rules of a short file.
+fn rules_in(alloc: Global, text: &str) -> Result<Rules, Fail>
+    requires { length text.now < 1000 }
+    ensures { IfOk result (λ rules. AreLawful (rules_of rules)) }
+{
+    let end = characters_in(text) as u32;
+    let tokens = lex(alloc, text)?;
+    let statements = parse(alloc, &tokens, end)?;
+    let rules = resolve(alloc, &statements, end, &PropTable::new(alloc), false)?;
+    Ok(rules)
+}
+
+type Starts = &'static [(u32, u16)];
+
+/// Whether the ranges have these starts and categories.
+fn are_ranges(ranges: &[CatRange], want: Starts) -> bool {
+    ranges.len() == want.len()
+        && ranges.iter().zip(want).all(|(range, pair)| range.start == pair.0 && range.cat == pair.1)
+}
+
+#[test]
+fn classes(rt: HostRuntime) -> Result<(), Fail> {
+    let rows: [(&str, u16, Starts); 7] = [
+        ("a|b|a;", 3, &[(0, 0), (0x61, 1), (0x62, 2), (0x63, 0)]),
+        (
+            "[a-c]; [b-d];",
+            4,
+            &[(0, 0), (0x61, 1), (0x62, 2), (0x64, 3), (0x65, 0)],
+        ),
+        (
+            "[a-d] [c-f] [b-e];",
+            6,
+            &[
+                (0, 0),
+                (0x61, 1),
+                (0x62, 2),
+                (0x63, 3),
+                (0x65, 4),
+                (0x66, 5),
+                (0x67, 0),
+            ],
+        ),
+        ("\\U0010FFFF;", 2, &[(0, 0), (0x10_FFFF, 1)]),
+        (".;", 2, &[(0, 1), (0xD800, 0), (0xE000, 1)]),
+        (
+            ". a;",
+            3,
+            &[(0, 1), (0x61, 2), (0x62, 1), (0xD800, 0), (0xE000, 1)],
+        ),
+        (
+            "[\\uD7FF-\\uE000];",
+            2,
+            &[(0, 0), (0xD7FF, 1), (0xD800, 0), (0xE000, 1), (0xE001, 0)],
+        ),
+    ];
+    for (text, count, starts) in rows {
+        assert!(rt; text.len() < 1000);
+        let rules = rules_in(rt.alloc(), text)?;
+        let cats = partition(rt.alloc(), &rules)?;
+        assert_eq!(rt; cats.count(), count, "in {text:?}");
+        assert!(rt; are_ranges(cats.ranges(), starts), "in {text:?}");
+    }
+    Ok(())
+}
+
+#[test]
+fn look_ups(rt: HostRuntime) -> Result<(), Fail> {
+    for (text, c, want) in [
+        ("[a-c]; [b-d];", '`', 0),
+        ("[a-c]; [b-d];", 'a', 1),
+        ("[a-c]; [b-d];", 'b', 2),
+        ("[a-c]; [b-d];", 'c', 2),
+        ("[a-c]; [b-d];", 'd', 3),
+        ("[a-c]; [b-d];", 'e', 0),
+        ("\\U0010FFFF;", '\u{10FFFF}', 1),
+        ("\\U0010FFFF;", '\u{10FFFE}', 0),
+        ("\\U0010FFFF;", '\0', 0),
+        (".;", '\u{D7FF}', 1),
+        (".;", '\u{E000}', 1),
+    ] {
+        assert!(rt; text.len() < 1000);
+        let rules = rules_in(rt.alloc(), text)?;
+        let cats = partition(rt.alloc(), &rules)?;
+        assert_eq!(rt; cats.of(c), want, "of {c:?} in {text:?}");
+    }
+    Ok(())
+}
+
+/// A rule of so many different characters, each a literal.
+fn literals(alloc: Global, count: u32) -> Result<String, AllocError> {
+    let mut text = String::new(alloc);
+    for k in 0..count {
+        if let Some(c) = char::from_u32(0x4E00 + k % 1000) {
+            text.push(c)?;
+        }
+    }
+    text.push(';')?;
+    Ok(text)
+}
+
+#[test]
+fn most_categories(rt: HostRuntime) -> Result<(), Fail> {
+    let text = literals(rt.alloc(), 254)?;
+    assert!(rt; text.len() < 1000);
+    let rules = rules_in(rt.alloc(), text.as_str())?;
+    let cats = partition(rt.alloc(), &rules)?;
+    assert_eq!(rt; cats.count(), 255);
+    let text = literals(rt.alloc(), 255)?;
+    assert!(rt; text.len() < 1000);
+    let rules = rules_in(rt.alloc(), text.as_str())?;
+    let refused = partition(rt.alloc(), &rules);
+    assert!(rt; matches!(refused, Err(CatsErr::TooManyCategories)));
+    Ok(())
+}
