@@ -47,17 +47,20 @@ module _ (request : Request) (files handed back : List (List ℕ)) (source : Lis
     breaks_answers name text name_is text_is is met =
         let stage = λ (h : List (List ℕ)) (s n t : List ℕ). Answers (breaks_stage request.properties request.ignored request.by_table h s n t) result in
         subst (λ c. Answers (command_stage c request (take (length request.properties) files) (drop (length request.properties) files)) result) (sym is)
-        (subst (λ h. stage h (nth (drop (length request.properties) files) 0) (nth request.operands 1) (nth (drop (length request.properties) files) 1)) handed_is
+        (subst (λ h. stage h (nth (drop (length request.properties) files) 0) (nth request.operands 1) (nth (drop (length request.properties) files) 1))
+        handed_is
         (subst (λ b. stage handed (nth b 0) (nth request.operands 1) (nth b 1)) back_is
         (subst (λ s. stage handed s (nth request.operands 1) (nth back 1)) source_is
         (subst (λ n. stage handed source n (nth back 1)) name_is (subst (λ t. stage handed source name t) text_is met)))))
 
     pub conform_answers : (name tests : List ℕ) → name ≡ nth request.operands 1 → tests ≡ nth back 1 → request.command ≡ Conform
-        → Answers (conform_stage request.properties request.ignored request.by_table handed source name tests) result → Answers (files_stage request files) result
+        → Answers (conform_stage request.properties request.ignored request.by_table handed source name tests) result →
+        Answers (files_stage request files) result
     conform_answers name tests name_is tests_is is met =
         let stage = λ (h : List (List ℕ)) (s n t : List ℕ). Answers (conform_stage request.properties request.ignored request.by_table h s n t) result in
         subst (λ c. Answers (command_stage c request (take (length request.properties) files) (drop (length request.properties) files)) result) (sym is)
-        (subst (λ h. stage h (nth (drop (length request.properties) files) 0) (nth request.operands 1) (nth (drop (length request.properties) files) 1)) handed_is
+        (subst (λ h. stage h (nth (drop (length request.properties) files) 0) (nth request.operands 1) (nth (drop (length request.properties) files) 1))
+        handed_is
         (subst (λ b. stage handed (nth b 0) (nth request.operands 1) (nth b 1)) back_is
         (subst (λ s. stage handed s (nth request.operands 1) (nth back 1)) source_is
         (subst (λ n. stage handed source n (nth back 1)) name_is (subst (λ t. stage handed source name t) tests_is met)))))
