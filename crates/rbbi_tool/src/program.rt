@@ -98,16 +98,18 @@ fn answer<F: Files, L: Ledger>(
 /// | status | comes | what is written |
 /// |---|---|---|
 /// | 0 | all is done | what the command tells |
+/// | 1 | all is done, and a test of `conform` differs | what the command tells |
 /// | 2 | the words are of no stated form | how to call the program |
 /// | 3 | the rule file is too long, isn't UTF-8 or has a fault | the fault |
 /// | 4 | the table file is too long, or no spelling of a valid table | the fault |
-/// | 5 | another file is too long, isn't UTF-8, has too many characters or a bad row | the fault |
+/// | 5 | another file is too long, isn't UTF-8, has too many characters or a bad line | the fault |
 /// | 6 | a read of a file failed | the file |
 /// | 7 | a put or a write failed | a front of what was to be written |
 /// | 8 | memory ran out | a front of what was to be written |
 ///
 /// The words are looked at first, then the files are read in the order of the words; then come the
-/// property files, then the rule file or the table file, and then the text. A file that the command
+/// property files, then the rule file or the table file, then the text, and then the script or the
+/// tests. A file that the command
 /// writes is written before anything goes out.
 pub fn rbbi<F: Files, K: Sink, L: Ledger>(
     alloc: Global,

@@ -98,67 +98,38 @@ fn boundaries(rt: HostRuntime) -> Result<(), Fail> {
 
 #[test]
 fn by_table(rt: HostRuntime) -> Result<(), Fail> {
-    let changed = |byte: u8| -> [u8; 81] {
+    let rows: [(&[u8], &[u8], u8, &str); 7] = [
+        (&TABLE, b"ab", 0, "0 0\n1 0\n2 0\n"),
+        (&TABLE[..0], b"ab", 4, "table: BadMagic\n"),
+        (&TABLE[..7], b"ab", 4, "table: BadMagic\n"),
+        (&TABLE[..8], b"ab", 4, "table: Short 8\n"),
+        (&TABLE[..80], b"ab", 4, "table: Short 80\n"),
+        // the table comes before the text
+        (&TABLE[..7], b"\xFF", 4, "table: BadMagic\n"),
+        (&TABLE, b"a\xFF", 5, "t.txt: NotUtf8 1\n"),
+    ];
+    for (table, text, status, output) in rows {
+        let files = [("b.tbl", table), ("t.txt", text)];
+        assert_eq!(rt;
+            first_wrong(
+                &rt,
+                &[("breaks --table b.tbl t.txt", &files, status, output)]
+            )?,
+            None,
+            "of {table:?} on {text:?}"
+        );
+    }
+    for byte in [0x0E, 0x1F] {
         let mut table = TABLE;
         table[80] = byte;
-        table
-    };
-    let words = "breaks --table b.tbl t.txt";
-    let text = ("t.txt", b"ab".as_slice());
-    assert_eq!(rt; first_wrong(
-        &rt,
-        &[
-            (words, &[("b.tbl", &TABLE), text], 0, "0 0\n1 0\n2 0\n"),
-            (
-                words,
-                &[("b.tbl", &TABLE[..0]), text],
-                4,
-                "table: BadMagic\n",
-            ),
-            (
-                words,
-                &[("b.tbl", &TABLE[..7]), text],
-                4,
-                "table: BadMagic\n",
-            ),
-            (
-                words,
-                &[("b.tbl", &TABLE[..8]), text],
-                4,
-                "table: Short 8\n",
-            ),
-            (
-                words,
-                &[("b.tbl", &TABLE[..80]), text],
-                4,
-                "table: Short 80\n",
-            ),
-            (
-                words,
-                &[("b.tbl", &changed(0x0E)), text],
-                4,
-                "table: BadSafe\n",
-            ),
-            (
-                words,
-                &[("b.tbl", &changed(0x1F)), text],
-                4,
-                "table: BadSafe\n",
-            ),
-            // the table comes before the text
-            (
-                words,
-                &[("b.tbl", &TABLE[..7]), ("t.txt", b"\xFF")],
-                4,
-                "table: BadMagic\n",
-            ),
-            (
-                words,
-                &[("b.tbl", &TABLE), ("t.txt", b"a\xFF")],
-                5,
-                "t.txt: NotUtf8 1\n",
-            ),
-        ],
-    )?, None);
+        let files: [(&str, &[u8]); 2] = [("b.tbl", &table), ("t.txt", b"ab")];
+        assert_eq!(rt;
+            first_wrong(
+                &rt,
+                &[("breaks --table b.tbl t.txt", &files, 4, "table: BadSafe\n")]
+            )?,
+            None
+        );
+    }
     Ok(())
 }

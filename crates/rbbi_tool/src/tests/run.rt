@@ -45,45 +45,27 @@ statuses\ntext\ndelete 11 1",
 
 #[test]
 fn by_table(rt: HostRuntime) -> Result<(), Fail> {
-    let words = "run --table b.tbl t.txt s.txt";
-    let table = ("b.tbl", TABLE.as_slice());
-    let text = ("t.txt", b"ab".as_slice());
-    assert_eq!(rt; first_wrong(
-        &rt,
-        &[
-            (
-                words,
-                &[
-                    table,
-                    text,
-                    (
-                        "s.txt",
-                        b"# all\nbreaks\n\ninsert 0 a\\n\nprevious\nlast\nis 3\ntext\n",
-                    ),
-                ],
-                0,
-                "0 0\n1 0\n2 0\nok 4\ndone\n4\nyes\na\\nab\n",
-            ),
-            (
-                words,
-                &[table, text, ("s.txt", b"first\nnext 1\n")],
-                5,
-                "s.txt:2: BadLine\n",
-            ),
-            (
-                words,
-                &[table, text, ("s.txt", b"first\xFF")],
-                5,
-                "s.txt: NotUtf8 5\n",
-            ),
-            // the text comes before the script
-            (
-                words,
-                &[table, ("t.txt", b"\xFF"), ("s.txt", b"?")],
-                5,
-                "t.txt: NotUtf8 0\n",
-            ),
-        ],
-    )?, None);
+    let rows: [(&[u8], &[u8], u8, &str); 4] = [
+        (
+            b"ab",
+            b"# all\nbreaks\n\ninsert 0 a\\n\nprevious\nlast\nis 3\ntext\n",
+            0,
+            "0 0\n1 0\n2 0\nok 4\ndone\n4\nyes\na\\nab\n",
+        ),
+        (b"ab", b"first\nnext 1\n", 5, "s.txt:2: BadLine\n"),
+        (b"ab", b"first\xFF", 5, "s.txt: NotUtf8 5\n"),
+        // the text comes before the script
+        (b"\xFF", b"?", 5, "t.txt: NotUtf8 0\n"),
+    ];
+    for (text, script, status, output) in rows {
+        let files: [(&str, &[u8]); 3] = [("b.tbl", &TABLE), ("t.txt", text), ("s.txt", script)];
+        assert_eq!(rt;
+            first_wrong(
+                &rt,
+                &[("run --table b.tbl t.txt s.txt", &files, status, output)]
+            )?,
+            None
+        );
+    }
     Ok(())
 }
