@@ -3,3 +3,4 @@ pub mod Bytes
 pub mod Numbers
 pub mod Answers
 pub mod Errors
+pub mod Cuts

@@ -23,7 +23,7 @@ use std::marker::Model;
 use std::sync::ledger::Ledger;
 
 /// The most characters that a text may have.
-const MOST_CHARACTERS: usize = 16_777_216;
+pub(crate) const MOST_CHARACTERS: usize = 16_777_216;
 
 /// A text in one flat list of characters. Contracts see it as that list.
 ///
@@ -116,7 +116,7 @@ impl Chars for PlainText {
 }
 
 /// The number of characters of a string.
-fn count(text: &str) -> usize
+pub(crate) fn count(text: &str) -> usize
     ensures { result ≡ length (chars text.now) }
 {
     text.chars().count()
@@ -124,7 +124,12 @@ fn count(text: &str) -> usize
 
 /// Puts the characters of a string in place of those from one place to another. It takes all memory
 /// before it changes anything.
-fn put(items: &mut Vec<char>, start: usize, end: usize, text: &str) -> Result<(), AllocError>
+pub(crate) fn put(
+    items: &mut Vec<char>,
+    start: usize,
+    end: usize,
+    text: &str,
+) -> Result<(), AllocError>
     requires forward { start ≤ end }
     requires within { end ≤ length items.old.items }
     ensures ok { OnOk result (items.new.items ≡ splice items.old.items start end (chars text.now)) }

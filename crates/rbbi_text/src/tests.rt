@@ -2,8 +2,8 @@
 ghost use Rattle.std.specs.Prelude.{◌≡◌, ◌<◌, IfOk};
 
 use crate::{
-    Chars, EditErr, EditText, PlainText, Raw, RawErr, Steps, TextErr, Word, decimal, hexadecimal,
-    without_mark,
+    Chars, EditErr, EditText, Pieces, PlainText, Raw, RawErr, Steps, TextErr, Word, decimal,
+    hexadecimal, without_mark,
 };
 use std::alloc::{AllocError, Global};
 use std::marker::Brand;
@@ -173,4 +173,58 @@ fn names_of_refusals(rt: HostRuntime) {
     assert_eq!(rt; EditErr::Outside.label(), "Outside");
     assert_eq!(rt; EditErr::TooLong.label(), "TooLong");
     assert_eq!(rt; EditErr::Memory.place(), None);
+}
+
+/// Whether two texts have the same characters.
+fn are_same<L: Ledger>(rt: &HostRuntime, text: &Pieces, plain: &PlainText, blank: Blank) -> bool
+    requires name { blank.name ≡ L.name }
+    requires parts { blank.parts ≡ L.parts }
+    requires some { 0 < blank.parts }
+{
+    let mut steps = Steps::<L>::new(rt, blank);
+    if text.len() != plain.len() {
+        return false;
+    }
+    for i in 0..plain.len() {
+        if i < text.len() && text.char_at(i, &mut steps) != plain.char_at(i, &mut steps) {
+            return false;
+        }
+    }
+    true
+}
+
+#[test]
+fn edits_by_pieces(rt: HostRuntime) -> Result<(), Fail> {
+    let alloc = rt.alloc();
+    let mut letters = String::new(alloc);
+    for _letter in 0..3000 {
+        letters.push('a')?;
+    }
+    let mut text = Pieces::new(alloc, &letters)?;
+    let mut plain = PlainText::new(alloc, &letters)?;
+    for n in 0..500 {
+        text.replace(7 * n, 1, "bc")?;
+        plain.replace(7 * n, 1, "bc")?;
+    }
+    assert_eq!(rt; text.len(), 3500);
+    // An edit that is refused, and others that join pieces, split them, and leave nothing.
+    let rows: [(u32, u32, &str); 8] = [
+        (3501, 0, "x"),
+        (100, 3300, "\u{e9}"),
+        (50, 100, ""),
+        (0, 0, &letters),
+        (1000, 1500, &letters),
+        (4600, 0, "z"),
+        (10, 4500, ""),
+        (0, 200, ""),
+    ];
+    for (at, remove, insert) in rows {
+        let answer = text.replace(at, remove, insert).is_ok();
+        assert_eq!(rt; plain.replace(at, remove, insert).is_ok(), answer);
+        assert!(rt;
+            are_same::<Brand>(&rt, &text, &plain, Blank::new(1)),
+            "at {at}"
+        );
+    }
+    Ok(())
 }

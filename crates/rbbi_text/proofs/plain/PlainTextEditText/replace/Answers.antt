@@ -1,20 +1,10 @@
-use Rattle.std.proofs.Common.{◌≡◌, ◌+◌, ◌-◌, ◌≤◌, ℕ, List, length, length-append, length-take, length-drop, take, drop, ap, arith, subst, sym, ◌++◌, ◌∙◌, chars}
+use Rattle.std.proofs.Common.{◌≡◌, ◌+◌, ◌≤◌, length, take, drop, ap, arith, subst, sym, ◌∙◌, chars}
 use Rattle.std.proofs.Common.{refl, append_assoc}
 use Rattle.rbbi_model.specs.Words.{IsText, most_characters}
 use Rattle.rbbi_model.specs.Scripts.{splice}
-use Rattle.rbbi_model.proofs.Texts.{text_take, text_drop, text_append}
 use Rattle.rbbi_text.proofs.Characters.{IsText-chars}
+use Rattle.rbbi_text.proofs.Splices.{length-splice, text-splice}
 use Rattle.rbbi_text.proofs.plain.PlainTextEditText.replace.Goals as goal
-
--- the length of an edited list
-length-splice : (x w : List ℕ) (at remove : ℕ) → at + remove ≤ length x → length (splice x at remove w) ≡ length x - remove + length w
-length-splice x w at remove within =
-    omega (arith, length-append (take at x ++ w) (drop (at + remove) x), length-append (take at x) w, length-take at x, length-drop (at + remove) x)
-
--- an edited text is a text
-text-splice : (x w : List ℕ) (at remove : ℕ) → IsText x → IsText w → IsText (splice x at remove w)
-text-splice x w at remove text text' =
-    text_append (take at x ++ w) (drop (at + remove) x) (text_append (take at x) w (text_take at x text) text') (text_drop (at + remove) x text)
 
 pub returns-then-count-len : goal.returns-then-count-len
 returns-then-count-len c =

@@ -1,0 +1,180 @@
+//! The pieces that a text is cut into.
+ghost use Rattle.std.specs.Prelude.{◌≡◌, ◌+◌, ◌≤◌, ◌<◌, ◌++◌, length, take, drop, slice_index, IfOk, OnOk, OnErr, MatchOption, MatchBool, [], ◌∷◌, chars};
+ghost use Rattle.std.specs.List.{AllByRecursion, splice};
+ghost use Rattle.rbbi_model.specs.Words.{most_characters};
+ghost use Rattle.rbbi_model.specs.Spelling.{joined};
+ghost use Rattle.rbbi_text.specs.Cuts.{IsFilled, AreFilled, ArePieces, AreSoFar, HaveRoom};
+
+use crate::plain::{MOST_CHARACTERS, put};
+use std::alloc::{AllocError, Global};
+use std::marker::Model;
+use std::mem;
+
+/// The most characters of a piece.
+pub(crate) const FULL: usize = 1024;
+
+/// The fewest characters of a piece, but for the last.
+pub(crate) const QUARTER: usize = 256;
+
+/// Some characters of a text, one behind the other. Contracts see it as their list.
+#[derive(Drop)]
+pub(crate) struct Piece {
+    items: Vec<char>,
+}
+
+impl Model for Piece {
+    ghost use Rattle.std.specs.Prelude.{List, ℕ};
+
+    ghost Value = { List ℕ };
+
+    ghost view = { λ piece. piece.items.items };
+}
+
+impl Piece {
+    /// Puts the characters of a string in place of those from one place to another. It takes all
+    /// memory before it changes anything.
+    pub(crate) fn put(&mut self, start: usize, end: usize, text: &str) -> Result<(), AllocError>
+        requires forward { start ≤ end }
+        requires within { end ≤ length self.old }
+        ensures ok { OnOk result (self.new ≡ splice self.old start end (chars text.now)) }
+        ensures err { OnErr result (self.new ≡ self.old) }
+    {
+        put(&mut self.items, start, end, text)
+    }
+
+    /// A piece of these characters, with room for as many as a piece may have.
+    fn copied(alloc: Global, characters: &[char]) -> Result<Piece, AllocError>
+        requires { length characters.now ≤ 1024 }
+        ensures { IfOk result (λ piece. piece ≡ characters.now) }
+    {
+        let mut items = Vec::with_capacity(alloc, FULL)?;
+        items.extend_from_slice(characters)?;
+        Ok(Piece { items })
+    }
+
+    /// The number of characters.
+    pub(crate) fn len(&self) -> usize
+        ensures { result ≡ length self.now }
+    {
+        self.items.len()
+    }
+
+    /// The character with this number, from 0.
+    pub(crate) fn get(&self, i: usize) -> char
+        requires { i < length self.now }
+        ensures { result ≡ slice_index self.now i }
+    {
+        self.items[i]
+    }
+
+    /// The characters before a number.
+    pub(crate) fn before(&self, i: usize) -> &[char]
+        requires { i ≤ length self.now }
+        ensures { result.now ≡ take i self.now }
+    {
+        &self.items[..i]
+    }
+
+    /// The characters from a number on.
+    pub(crate) fn behind(&self, i: usize) -> &[char]
+        requires { i ≤ length self.now }
+        ensures { result.now ≡ drop i self.now }
+    {
+        &self.items[i..]
+    }
+
+    /// All characters, in order.
+    pub(crate) fn as_slice(&self) -> &[char]
+        ensures { result.now ≡ self.now }
+    {
+        &self.items
+    }
+}
+
+/// Adds a piece of these characters.
+fn push_piece(alloc: Global, pieces: &mut Vec<Piece>, characters: &[char]) -> Result<(), AllocError>
+    requires { length characters.now ≤ 1024 }
+    ensures { OnOk result (pieces.new.items ≡ pieces.old.items ++ characters.now ∷ []) }
+{
+    pieces.push(Piece::copied(alloc, characters)?)?;
+    Ok(())
+}
+
+/// How many of so many characters make the next piece: a full one, or half of them where a full one
+/// would leave too few.
+fn next_size(rest: usize) -> usize
+    requires { 1024 < rest }
+    ensures filled { (256 ≤ result) × (result ≤ 1024) }
+    ensures left { result + 256 ≤ rest }
+{
+    if rest < FULL + QUARTER {
+        rest / 2
+    } else {
+        FULL
+    }
+}
+
+/// The characters cut into pieces: full ones, but for the last two, which share what is left.
+#[tactic(auto, using(crate::proofs::CutLemmas::cut_more, crate::proofs::CutLemmas::joined_push, crate::proofs::CutLemmas::all_filled_push, crate::proofs::CutLemmas::filled_push))]
+pub(crate) fn cut(alloc: Global, characters: &[char]) -> Result<Vec<Piece>, AllocError>
+    ensures same { IfOk result (λ pieces. joined pieces.items ≡ characters.now) }
+    ensures some { IfOk result (λ pieces. 1 ≤ length pieces.items) }
+    ensures filled { IfOk result (λ pieces. AreFilled pieces.items) }
+    ensures all { 256 ≤ length characters.now
+        → IfOk result (λ pieces. AllByRecursion IsFilled pieces.items) }
+{
+    let mut pieces = Vec::new(alloc);
+    let mut rest = characters;
+    while rest.len() > FULL {
+        let (front, back) = rest.split_at(next_size(rest.len()));
+        push_piece(alloc, &mut pieces, front)?;
+        rest = back;
+    }
+    push_piece(alloc, &mut pieces, rest)?;
+    Ok(pieces)
+}
+
+/// Makes room for one more character: where the open piece is full, it becomes one of the pieces.
+/// The answer is whether one more may come.
+#[tactic(auto, using(crate::proofs::CutLemmas::room_behind))]
+fn make_room(
+    alloc: Global,
+    pieces: &mut Vec<Piece>,
+    latest: &mut Vec<char>,
+) -> Result<bool, AllocError>
+    requires { AreSoFar pieces.old.items latest.old.items }
+    ensures { IfOk result (λ room. MatchBool room
+        (HaveRoom (joined pieces.old.items ++ latest.old.items) pieces.new.items latest.new.items)
+        (length (joined pieces.old.items ++ latest.old.items) ≡ most_characters)) }
+{
+    if latest.len() < FULL {
+        return Ok(true);
+    }
+    if pieces.len() == MOST_CHARACTERS / FULL - 1 {
+        return Ok(false);
+    }
+    let empty = Vec::with_capacity(alloc, FULL)?;
+    let full = mem::replace(latest, empty);
+    pieces.push(Piece { items: full })?;
+    Ok(true)
+}
+
+/// The pieces of a string, all full but the last, or nothing where it has more characters than a
+/// text may have.
+pub(crate) fn pieces_of(alloc: Global, text: &str) -> Result<Option<Vec<Piece>>, AllocError>
+    ensures { IfOk result (λ found. MatchOption found
+        (most_characters < length (chars text.now))
+        (λ pieces. (joined pieces.items ≡ chars text.now) × ArePieces pieces.items)) }
+{
+    let mut pieces = Vec::new(alloc);
+    let mut latest = Vec::with_capacity(alloc, FULL)?;
+    for c in text.chars() {
+        let room = make_room(alloc, &mut pieces, &mut latest)?;
+        if !room {
+            return Ok(None);
+        }
+        latest.push(c)?;
+    }
+    pieces.push(Piece { items: latest })?;
+    Ok(Some(pieces))
+}

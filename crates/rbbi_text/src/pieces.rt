@@ -1,0 +1,362 @@
+//! A text by pieces.
+ghost use Rattle.std.specs.Prelude.{ℕ, ◌≡◌, ◌+◌, ◌-◌, ◌^◌, ◌<◌, ◌≤◌, [], ◌∷◌, ◌++◌, length, take, drop, slice_index, slice_index_or, slice_set, chars, IfOk, OnOk, OnErr, MatchBool, ⊤};
+ghost use Rattle.rbbi_model.specs.Words.{most_characters};
+ghost use Rattle.rbbi_model.specs.Spelling.{joined};
+ghost use Rattle.rbbi_model.specs.Scripts.{splice};
+ghost use Rattle.rbbi_text.specs.Bytes.{most_bytes};
+ghost use Rattle.rbbi_text.specs.Cuts.{ArePieces, AreWholeCut, IsMiddle, moved, pieces_with, starts_with_new, edited_piece};
+ghost use Rattle.rbbi_text.specs.Answers.{TakesText, ReadsText};
+
+use crate::piece::{FULL, Piece, QUARTER, cut, pieces_of};
+use crate::places::{character, locate, push_starts, shift};
+use crate::plain::{MOST_CHARACTERS, count, put};
+use crate::{Chars, EditErr, EditText, Raw, RawErr, Steps, TextErr, utf8_text};
+use std::alloc::{AllocError, Global};
+use std::fmt;
+use std::marker::Model;
+use std::sync::ledger::Ledger;
+
+/// A text by pieces of at most 1,024 characters. Contracts see it as the list of all characters.
+///
+/// All pieces but the last are between a quarter full and full. A place is found by where the
+/// pieces start, from the piece on in which it would be if all were full: some nanoseconds in a
+/// text that was hardly edited, and logarithmic in one that was. An edit moves the characters of
+/// one piece, or of the few that it touches, and the starts behind it.
+#[derive(Drop)]
+pub struct Pieces {
+    pieces: Vec<Piece>,
+    /// Where each piece starts, in characters from 0.
+    starts: Vec<u32>,
+    /// The number of characters.
+    len: u32,
+    /// Where the memory of further pieces comes from.
+    alloc: Global,
+}
+
+impl Model for Pieces {
+    ghost use Rattle.std.specs.Prelude.{List, ℕ};
+    ghost use Rattle.rbbi_model.specs.Spelling.{joined};
+    ghost use Rattle.rbbi_text.specs.Cuts.{AreCut};
+
+    ghost Value = { List ℕ };
+
+    ghost view = { λ text. joined text.pieces.items };
+
+    ghost invariant = { λ text. AreCut text.pieces.items text.starts.items text.len };
+}
+
+/// It writes the type's name and none of the characters, which only `char_at` gives.
+impl fmt::Debug for Pieces {
+    fn fmt<W: fmt::Write>(&self, f: &mut fmt::Formatter<W>) -> fmt::Result {
+        f.write_str("Pieces")
+    }
+}
+
+/// The text of these pieces.
+fn text_of(alloc: Global, pieces: Vec<Piece>) -> Result<Pieces, AllocError>
+    requires { ArePieces pieces.items }
+    ensures { IfOk result (λ text. text ≡ joined pieces.items) }
+{
+    let mut starts = Vec::with_capacity(alloc, pieces.len())?;
+    let len = push_starts(&mut starts, 0, &pieces)?;
+    Ok(Pieces {
+        pieces,
+        starts,
+        len,
+        alloc,
+    })
+}
+
+impl Pieces {
+    /// The text of this string.
+    ///
+    /// Refuses `TooManyChars` where it has more than 16,777,216 characters.
+    pub fn new(alloc: Global, text: &str) -> Result<Pieces, TextErr>
+        ensures { TakesText (chars text.now) result }
+    {
+        match pieces_of(alloc, text)? {
+            Some(pieces) => Ok(text_of(alloc, pieces)?),
+            None => Err(TextErr::TooManyChars),
+        }
+    }
+
+    /// The text that the bytes spell in UTF-8. It counts no step. A U+FEFF at the start is a
+    /// character of the text.
+    ///
+    /// Refuses `NotUtf8` where the bytes are not UTF-8, at the first byte past the longest valid
+    /// front; otherwise `TooManyChars` where they spell more than 16,777,216 characters.
+    pub fn from_raw(alloc: Global, raw: &Raw) -> Result<Pieces, RawErr>
+        requires { length raw.now ≤ most_bytes }
+        ensures { ReadsText raw.now result }
+    {
+        let text = match utf8_text(raw.uncounted()) {
+            Ok(text) => text,
+            Err(at) => return Err(RawErr::NotUtf8(at)),
+        };
+        match pieces_of(alloc, text)? {
+            Some(pieces) => Ok(text_of(alloc, pieces)?),
+            None => Err(RawErr::TooManyChars),
+        }
+    }
+}
+
+impl Chars for Pieces {
+    ghost characters = { λ text. text };
+
+    fn len(&self) -> u32 {
+        self.len
+    }
+
+    fn char_at<L: Ledger>(&self, i: u32, steps: &mut Steps<L>) -> char {
+        steps.tick();
+        character(&self.pieces, &self.starts, i as usize)
+    }
+}
+
+/// Edits one piece: it puts the characters of a string, `added` of them, in place of `remove`
+/// characters from `from`, and moves the starts behind it. It takes all memory before it changes
+/// anything.
+fn edit_piece(
+    pieces: &mut Vec<Piece>,
+    starts: &mut Vec<u32>,
+    first: usize,
+    from: usize,
+    remove: u32,
+    insert: &str,
+    added: u32,
+) -> Result<(), AllocError>
+    requires number { first < length pieces.old.items }
+    requires number_of_start { first < length starts.old.items }
+    requires from { from < 2 ^ 32 }
+    requires within { from + remove ≤ length (slice_index_or pieces.old.items first []) }
+    requires behind { (k : ℕ) → first + 1 ≤ k → k < length starts.old.items
+        → remove ≤ slice_index starts.old.items k }
+    requires small { (k : ℕ) → first + 1 ≤ k → k < length starts.old.items
+        → slice_index starts.old.items k + added < 2 ^ 32 }
+    ensures pieces { OnOk result (pieces.new.items ≡ slice_set pieces.old.items first
+        (edited_piece pieces.old.items first from remove (chars insert.now))) }
+    ensures starts { OnOk result (starts.new.items ≡ take (first + 1) starts.old.items
+        ++ moved remove added (drop (first + 1) starts.old.items)) }
+    ensures err { OnErr result (pieces.new.items ≡ pieces.old.items) }
+    ensures err_starts { OnErr result (starts.new.items ≡ starts.old.items) }
+{
+    pieces[first].put(from, from + remove as usize, insert)?;
+    shift(starts, first + 1, remove, added);
+    Ok(())
+}
+
+/// Puts pieces in place of those from `first` to the one before `past`, and moves the starts behind
+/// them. It takes all memory before it changes anything.
+fn put_pieces(
+    pieces: &mut Vec<Piece>,
+    starts: &mut Vec<u32>,
+    first: usize,
+    past: usize,
+    new: Vec<Piece>,
+    new_starts: Vec<u32>,
+) -> Result<(), AllocError>
+    requires order { first ≤ past }
+    requires past { past ≤ length pieces.old.items }
+    ensures pieces { OnOk result
+        (pieces.new.items ≡ pieces_with pieces.old.items first past new.items) }
+    ensures starts { OnOk result (starts.new.items ≡ new_starts.items) }
+    ensures err { OnErr result (pieces.new.items ≡ pieces.old.items) }
+    ensures err_starts { OnErr result (starts.new.items ≡ starts.old.items) }
+{
+    let _gone = pieces.splice(first..past, new)?;
+    *starts = new_starts;
+    Ok(())
+}
+
+/// A copy of the starts before a number, with room for all.
+fn starts_before(alloc: Global, starts: &[u32], first: usize) -> Result<Vec<u32>, AllocError>
+    requires { first ≤ length starts.now }
+    ensures { IfOk result (λ all. all.items ≡ take first starts.now) }
+{
+    let mut all = Vec::with_capacity(alloc, starts.len())?;
+    all.extend_from_slice(&starts[..first])?;
+    Ok(all)
+}
+
+/// Adds the starts from a number on.
+fn push_behind(all: &mut Vec<u32>, starts: &[u32], past: usize) -> Result<(), AllocError>
+    requires { past ≤ length starts.now }
+    ensures { OnOk result (all.new.items ≡ all.old.items ++ drop past starts.now) }
+{
+    all.extend_from_slice(&starts[past..])
+}
+
+/// The starts with those of new pieces in place of those from `first` to the one before `past`.
+/// Those behind are moved.
+fn starts_with(
+    alloc: Global,
+    starts: &[u32],
+    first: usize,
+    past: usize,
+    new: &[Piece],
+    removed: u32,
+    added: u32,
+) -> Result<Vec<u32>, AllocError>
+    requires first { first < length starts.now }
+    requires past { past ≤ length starts.now }
+    requires few { slice_index starts.now first + length (joined new.now) < 2 ^ 32 }
+    requires behind { (k : ℕ) → past ≤ k → k < length starts.now
+        → removed ≤ slice_index starts.now k }
+    requires small { (k : ℕ) → past ≤ k → k < length starts.now
+        → slice_index starts.now k + added < 2 ^ 32 }
+    ensures { IfOk result (λ all.
+        all.items ≡ starts_with_new starts.now first past new.now removed added) }
+{
+    let mut all = starts_before(alloc, starts, first)?;
+    let _end = push_starts(&mut all, starts[first], new)?;
+    let behind = all.len();
+    push_behind(&mut all, starts, past)?;
+    shift(&mut all, behind, removed, added);
+    Ok(all)
+}
+
+/// Characters, those of a string and further ones, one behind the other.
+fn gathered(
+    alloc: Global,
+    front: &[char],
+    insert: &str,
+    back: &[char],
+) -> Result<Vec<char>, AllocError>
+    ensures { IfOk result (λ all. all.items ≡ front.now ++ (chars insert.now ++ back.now)) }
+{
+    let mut all = Vec::with_capacity(alloc, FULL)?;
+    all.extend_from_slice(front)?;
+    put(&mut all, front.len(), front.len(), insert)?;
+    all.extend_from_slice(back)?;
+    Ok(all)
+}
+
+/// The characters of the pieces that an edit touches, after the edit.
+#[derive(Drop)]
+struct Middle {
+    characters: Vec<char>,
+    /// The number of the first piece behind them.
+    past: usize,
+}
+
+/// Whether so many characters may stand behind those of the last piece that an edit touches without
+/// the next piece.
+fn is_enough(len: usize, last: usize, count: usize) -> bool
+    requires { last < count }
+    ensures { MatchBool result (last + 1 < count → 256 ≤ len) (last + 1 < count) }
+{
+    len >= QUARTER || last + 1 == count
+}
+
+/// What an edit makes of the pieces that it touches: what it leaves of piece `first` in front, the
+/// characters of the string, and what it leaves from the place `end` on. Where these are few, the
+/// next piece is taken with them.
+fn make_middle(
+    alloc: Global,
+    pieces: &[Piece],
+    starts: &[u32],
+    front: &[char],
+    insert: &str,
+    end: usize,
+) -> Result<Middle, AllocError>
+    requires cut { AreWholeCut pieces.now starts.now }
+    requires inside { end ≤ length (joined pieces.now) }
+    ensures { IfOk result (λ middle. IsMiddle pieces.now starts.now front.now (chars insert.now) end
+        middle.characters.items middle.past) }
+{
+    let last = locate(pieces, starts, end);
+    let left = end - starts[last] as usize;
+    let back = pieces[last].behind(left);
+    let mut characters = gathered(alloc, front, insert, back)?;
+    if is_enough(characters.len(), last, pieces.len()) {
+        return Ok(Middle {
+            characters,
+            past: last + 1,
+        });
+    }
+    characters.extend_from_slice(pieces[last + 1].as_slice())?;
+    Ok(Middle {
+        characters,
+        past: last + 2,
+    })
+}
+
+/// Whether an edit from a place of a piece is within it and leaves it between a quarter full and
+/// full, or not more than full where no piece is behind it.
+fn fits(size: usize, from: usize, remove: usize, added: usize, behind: usize) -> bool
+    requires small { from + remove < 2 ^ 40 }
+    requires few { added < 2 ^ 32 }
+    requires size { size < 2 ^ 32 }
+    ensures { MatchBool result ((from + remove ≤ size) × (size - remove + added ≤ 1024)
+        × (0 < behind → 256 ≤ size - remove + added)) ⊤ }
+{
+    if from + remove > size || size - remove + added > FULL {
+        return false;
+    }
+    behind == 0 || size - remove + added >= QUARTER
+}
+
+/// Puts the characters of a string, `added` of them, in place of `remove` characters from a place.
+/// It takes all memory before it changes anything.
+fn edit(
+    alloc: Global,
+    pieces: &mut Vec<Piece>,
+    starts: &mut Vec<u32>,
+    place: usize,
+    remove: u32,
+    insert: &str,
+    added: u32,
+) -> Result<(), AllocError>
+    requires cut { AreWholeCut pieces.old.items starts.old.items }
+    requires inside { place + remove ≤ length (joined pieces.old.items) }
+    requires added { added ≡ length (chars insert.now) }
+    requires few { length (joined pieces.old.items) - remove + added ≤ most_characters }
+    ensures cut { OnOk result (AreWholeCut pieces.new.items starts.new.items) }
+    ensures text { OnOk result (joined pieces.new.items
+        ≡ splice (joined pieces.old.items) place remove (chars insert.now)) }
+    ensures err { OnErr result (pieces.new.items ≡ pieces.old.items) }
+    ensures err_starts { OnErr result (starts.new.items ≡ starts.old.items) }
+{
+    let first = locate(pieces, starts, place);
+    let from = place - starts[first] as usize;
+    let size = pieces[first].len();
+    let behind = pieces.len() - first - 1;
+    if fits(size, from, remove as usize, added as usize, behind) {
+        edit_piece(pieces, starts, first, from, remove, insert, added)?;
+        return Ok(());
+    }
+    let end = place + remove as usize;
+    let front = pieces[first].before(from);
+    let middle = make_middle(alloc, pieces, starts, front, insert, end)?;
+    let new = cut(alloc, &middle.characters)?;
+    let new_starts = starts_with(alloc, starts, first, middle.past, &new, remove, added)?;
+    put_pieces(pieces, starts, first, middle.past, new, new_starts)?;
+    Ok(())
+}
+
+impl EditText for Pieces {
+    fn replace(&mut self, at: u32, remove: u32, insert: &str) -> Result<(), EditErr> {
+        let len = self.len as usize;
+        let start = at as usize;
+        let end = start + remove as usize;
+        if end > len {
+            return Err(EditErr::Outside);
+        }
+        let added = count(insert);
+        if added > MOST_CHARACTERS - (len - (end - start)) {
+            return Err(EditErr::TooLong);
+        }
+        let added = added as u32;
+        edit(
+            self.alloc,
+            &mut self.pieces,
+            &mut self.starts,
+            start,
+            remove,
+            insert,
+            added,
+        )?;
+        self.len = self.len - remove + added;
+        Ok(())
+    }
+}
