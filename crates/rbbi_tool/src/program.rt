@@ -109,8 +109,7 @@ fn answer<F: Files, L: Ledger>(
 ///
 /// The words are looked at first, then the files are read in the order of the words; then come the
 /// property files, then the rule file or the table file, then the text, and then the script or the
-/// tests. A file that the command
-/// writes is written before anything goes out.
+/// tests. A file that the command writes is written before anything goes out.
 pub fn rbbi<F: Files, K: Sink, L: Ledger>(
     alloc: Global,
     words: &Vec<String>,
