@@ -1,10 +1,13 @@
 //! A text by pieces.
-ghost use Rattle.std.specs.Prelude.{ℕ, ◌≡◌, ◌+◌, ◌-◌, ◌^◌, ◌<◌, ◌≤◌, [], ◌∷◌, ◌++◌, length, take, drop, slice_index, slice_index_or, slice_set, chars, IfOk, OnOk, OnErr, MatchBool, ⊤};
+ghost use Rattle.std.specs.Prelude.{ℕ, ◌≡◌, ◌+◌, ◌-◌, ◌^◌, ◌<◌, ◌≤◌, [], ◌∷◌, ◌++◌, length, take};
+ghost use Rattle.std.specs.Prelude.{drop, slice_index, slice_index_or, slice_set, chars, IfOk};
+ghost use Rattle.std.specs.Prelude.{OnOk, OnErr, MatchBool, ⊤};
 ghost use Rattle.rbbi_model.specs.Words.{most_characters};
 ghost use Rattle.rbbi_model.specs.Spelling.{joined};
 ghost use Rattle.rbbi_model.specs.Scripts.{splice};
 ghost use Rattle.rbbi_text.specs.Bytes.{most_bytes};
-ghost use Rattle.rbbi_text.specs.Cuts.{ArePieces, AreWholeCut, IsMiddle, moved, pieces_with, starts_with_new, edited_piece};
+ghost use Rattle.rbbi_text.specs.Cuts.{ArePieces, AreWholeCut, IsMiddle, moved, pieces_with};
+ghost use Rattle.rbbi_text.specs.Cuts.{starts_with_new, edited_piece};
 ghost use Rattle.rbbi_text.specs.Answers.{TakesText, ReadsText};
 
 use crate::piece::{FULL, Piece, QUARTER, cut, pieces_of};

@@ -1,5 +1,6 @@
 //! Where pieces start, and in which a place is.
-ghost use Rattle.std.specs.Prelude.{◌≡◌, ◌-◌, ◌+◌, ◌/◌, ◌^◌, ◌<◌, ◌≤◌, ◌++◌, ℕ, length, take, drop, min, slice_index, IfOk, OnOk};
+ghost use Rattle.std.specs.Prelude.{◌≡◌, ◌-◌, ◌+◌, ◌/◌, ◌^◌, ◌<◌, ◌≤◌, ◌++◌, ℕ, length, take, drop};
+ghost use Rattle.std.specs.Prelude.{min, slice_index, IfOk, OnOk};
 ghost use Rattle.rbbi_model.specs.Spelling.{joined};
 ghost use Rattle.rbbi_text.specs.Cuts.{starts_from, moved, IsIn, IsFound, AreWholeCut};
 
