@@ -27,49 +27,52 @@ pub(super) const CLASSES: &[u8] = b"# an extract
 0300..036F    ; Extend  # combining diacritical marks
 ";
 
+/// Rules, texts, and the boundaries.
+const BOUNDARIES: &[(&[u8], &[u8], &str)] = &[
+    (b"[a-z]+;", b"ab1c", "0 0\n2 0\n3 0\n4 0\n"),
+    (b"!!chain; 'ab'; 'bc'{7};", b"abc", "0 0\n3 7\n"),
+    (b"'ab'; 'bc'{7};", b"abc", "0 0\n2 0\n3 0\n"),
+    (b"!!chain; 'ab'; ^'bc';", b"abc", "0 0\n2 0\n3 0\n"),
+    (b"a+ / b; b;", b"aab", "0 0\n2 0\n3 0\n"),
+    (b"a+ / ab;", b"aaab", "0 0\n3 0\n4 0\n"),
+    (b"a*;", b"b", "0 0\n1 0\n"),
+    (
+        b"!!chain; $RI = [\\U0001F1E6-\\U0001F1FF]; ^$RI $RI / $RI; ^$RI $RI; .;",
+        b"\xF0\x9F\x87\xA6\xF0\x9F\x87\xA6\xF0\x9F\x87\xA6\xF0\x9F\x87\xA6\xF0\x9F\x87\xA6",
+        "0 0\n2 0\n4 0\n5 0\n",
+    ),
+    (b"[[ace][bdf]-[abc][def]]+;", b"dab", "0 0\n1 0\n2 0\n3 0\n"),
+    (b"[[a-f]&[d-k]]+; [^a-z];", b"defg1", "0 0\n3 0\n4 0\n5 0\n"),
+    (WORDS, b"can't 32.3.", "0 0\n5 200\n6 0\n10 100\n11 0\n"),
+    (
+        b"\xEF\xBB\xBF# note\n'a b'; 'it''s'; \\u0061\\x62+;",
+        b"a bit'sabb",
+        "0 0\n3 0\n7 0\n10 0\n",
+    ),
+    (b"!!reverse; b; !!forward; a;", b"ab", "0 0\n1 0\n2 0\n"),
+    (b"$v = [a-c]; [$v-[b]] d;", b"cdbd", "0 0\n2 0\n3 0\n4 0\n"),
+    (b"a;", b"", "0 0\n"),
+    (b"ab{5}; a[b]{3}; ab;", b"ab", "0 0\n2 3,5\n"),
+    // the longest of several matches, by one rule or by two; a character that no rule takes
+    (b"a; ab; abc;", b"abcab", "0 0\n3 0\n5 0\n"),
+    (b"a|ab|abc;", b"abab", "0 0\n2 0\n4 0\n"),
+    (b"ab;", b"ba", "0 0\n1 0\n2 0\n"),
+    // places count characters and not bytes; a mark at the start of a text is a character
+    (
+        b"\xC3\xA9 \xE4\xB8\x80;",
+        b"\xEF\xBB\xBF\xC3\xA9\xE4\xB8\x80\xC3\xA9",
+        "0 0\n1 0\n3 0\n4 0\n",
+    ),
+    // of two look-ahead rules that are completed at one place the first cuts
+    (b"a / bc; ab / c;", b"abc", "0 0\n1 0\n2 0\n3 0\n"),
+    // the cut is the last end of the front, and its statuses are those of the whole rule
+    (b"a+ / b {3}; b;", b"aab", "0 0\n2 3\n3 0\n"),
+];
+
 #[test]
 fn boundaries(rt: HostRuntime) -> Result<(), Fail> {
-    let rows: [(&[u8], &[u8], &str); 22] = [
-        (b"[a-z]+;", b"ab1c", "0 0\n2 0\n3 0\n4 0\n"),
-        (b"!!chain; 'ab'; 'bc'{7};", b"abc", "0 0\n3 7\n"),
-        (b"'ab'; 'bc'{7};", b"abc", "0 0\n2 0\n3 0\n"),
-        (b"!!chain; 'ab'; ^'bc';", b"abc", "0 0\n2 0\n3 0\n"),
-        (b"a+ / b; b;", b"aab", "0 0\n2 0\n3 0\n"),
-        (b"a+ / ab;", b"aaab", "0 0\n3 0\n4 0\n"),
-        (b"a*;", b"b", "0 0\n1 0\n"),
-        (
-            b"!!chain; $RI = [\\U0001F1E6-\\U0001F1FF]; ^$RI $RI / $RI; ^$RI $RI; .;",
-            "\u{1F1E6}\u{1F1E6}\u{1F1E6}\u{1F1E6}\u{1F1E6}".as_bytes(),
-            "0 0\n2 0\n4 0\n5 0\n",
-        ),
-        (b"[[ace][bdf]-[abc][def]]+;", b"dab", "0 0\n1 0\n2 0\n3 0\n"),
-        (b"[[a-f]&[d-k]]+; [^a-z];", b"defg1", "0 0\n3 0\n4 0\n5 0\n"),
-        (WORDS, b"can't 32.3.", "0 0\n5 200\n6 0\n10 100\n11 0\n"),
-        (
-            b"\xEF\xBB\xBF# note\n'a b'; 'it''s'; \\u0061\\x62+;",
-            b"a bit'sabb",
-            "0 0\n3 0\n7 0\n10 0\n",
-        ),
-        (b"!!reverse; b; !!forward; a;", b"ab", "0 0\n1 0\n2 0\n"),
-        (b"$v = [a-c]; [$v-[b]] d;", b"cdbd", "0 0\n2 0\n3 0\n4 0\n"),
-        (b"a;", b"", "0 0\n"),
-        (b"ab{5}; a[b]{3}; ab;", b"ab", "0 0\n2 3,5\n"),
-        // the longest of several matches, by one rule or by two; a character that no rule takes
-        (b"a; ab; abc;", b"abcab", "0 0\n3 0\n5 0\n"),
-        (b"a|ab|abc;", b"abab", "0 0\n2 0\n4 0\n"),
-        (b"ab;", b"ba", "0 0\n1 0\n2 0\n"),
-        // places count characters and not bytes; a mark at the start of a text is a character
-        (
-            "\u{e9} \u{4e00};".as_bytes(),
-            "\u{feff}\u{e9}\u{4e00}\u{e9}".as_bytes(),
-            "0 0\n1 0\n3 0\n4 0\n",
-        ),
-        // of two look-ahead rules that are completed at one place the first cuts
-        (b"a / bc; ab / c;", b"abc", "0 0\n1 0\n2 0\n3 0\n"),
-        // the cut is the last end of the front, and its statuses are those of the whole rule
-        (b"a+ / b {3}; b;", b"aab", "0 0\n2 3\n3 0\n"),
-    ];
-    for (rules, text, output) in rows {
+    for row in BOUNDARIES {
+        let (rules, text, output) = *row;
         let files = [("r.txt", rules), ("t.txt", text)];
         assert_eq!(rt;
             first_wrong(&rt, &[("breaks r.txt t.txt", &files, 0, output)])?,
@@ -96,27 +99,30 @@ fn boundaries(rt: HostRuntime) -> Result<(), Fail> {
     Ok(())
 }
 
+/// How many bytes of the table file there are, the text, the exit status and the output.
+const FRONTS: &[(usize, &[u8], u8, &str)] = &[
+    (81, b"ab", 0, "0 0\n1 0\n2 0\n"),
+    (0, b"ab", 4, "table: BadMagic\n"),
+    (7, b"ab", 4, "table: BadMagic\n"),
+    (8, b"ab", 4, "table: Short 8\n"),
+    (80, b"ab", 4, "table: Short 80\n"),
+    // the table comes before the text
+    (7, b"\xFF", 4, "table: BadMagic\n"),
+    (81, b"a\xFF", 5, "t.txt: NotUtf8 1\n"),
+];
+
 #[test]
 fn by_table(rt: HostRuntime) -> Result<(), Fail> {
-    let rows: [(&[u8], &[u8], u8, &str); 7] = [
-        (&TABLE, b"ab", 0, "0 0\n1 0\n2 0\n"),
-        (&TABLE[..0], b"ab", 4, "table: BadMagic\n"),
-        (&TABLE[..7], b"ab", 4, "table: BadMagic\n"),
-        (&TABLE[..8], b"ab", 4, "table: Short 8\n"),
-        (&TABLE[..80], b"ab", 4, "table: Short 80\n"),
-        // the table comes before the text
-        (&TABLE[..7], b"\xFF", 4, "table: BadMagic\n"),
-        (&TABLE, b"a\xFF", 5, "t.txt: NotUtf8 1\n"),
-    ];
-    for (table, text, status, output) in rows {
-        let files = [("b.tbl", table), ("t.txt", text)];
+    for row in FRONTS {
+        let (len, text, status, output) = *row;
+        assert!(rt; len <= TABLE.len());
+        let files = [("b.tbl", &TABLE[..len]), ("t.txt", text)];
         assert_eq!(rt;
             first_wrong(
                 &rt,
                 &[("breaks --table b.tbl t.txt", &files, status, output)]
             )?,
-            None,
-            "of {table:?} on {text:?}"
+            None
         );
     }
     for byte in [0x0E, 0x1F] {

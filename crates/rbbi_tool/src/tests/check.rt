@@ -18,29 +18,32 @@ $Numeric $MidNum $Numeric {100};
 .;
 ";
 
+/// Rule files, and their counts.
+const COUNTS: &[(&[u8], &str)] = &[
+    (WORDS, "rules 7 slashes 0 leaves 13\n"),
+    (
+        b"!!quoted_literals_only; 'ab';",
+        "rules 1 slashes 0 leaves 2\n",
+    ),
+    (b"a;", "rules 1 slashes 0 leaves 1\n"),
+    (b"a+ / b; b; !!reverse; c;", "rules 2 slashes 1 leaves 3\n"),
+    (b"\xEF\xBB\xBFa;", "rules 1 slashes 0 leaves 1\n"),
+    (b"$x = [a-c]; $x $x;", "rules 1 slashes 0 leaves 2\n"),
+    (
+        b"((((((((((((((((((((((((((((((((((((((((((((((((((((((((((((((((a))))))))))))))))))))))))))))))))))))))))))))))))))))))))))))))));",
+        "rules 1 slashes 0 leaves 1\n",
+    ),
+    (
+        b"$a = x; $b = $a $a; $c = $b $b; $d = $c $c; $e = $d $d; $f = $e $e; $g = $f $f; $h = $g $g;
+$i = $h $h; $j = $i $i; $k = $j $j; $l = $k $k; $m = $l $l; $n = $m $m; $n;",
+        "rules 1 slashes 0 leaves 8192\n",
+    ),
+];
+
 #[test]
 fn counts(rt: HostRuntime) -> Result<(), Fail> {
-    let rows: [(&[u8], &str); 8] = [
-        (WORDS, "rules 7 slashes 0 leaves 13\n"),
-        (
-            b"!!quoted_literals_only; 'ab';",
-            "rules 1 slashes 0 leaves 2\n",
-        ),
-        (b"a;", "rules 1 slashes 0 leaves 1\n"),
-        (b"a+ / b; b; !!reverse; c;", "rules 2 slashes 1 leaves 3\n"),
-        (b"\xEF\xBB\xBFa;", "rules 1 slashes 0 leaves 1\n"),
-        (b"$x = [a-c]; $x $x;", "rules 1 slashes 0 leaves 2\n"),
-        (
-            b"((((((((((((((((((((((((((((((((((((((((((((((((((((((((((((((((a))))))))))))))))))))))))))))))))))))))))))))))))))))))))))))))));",
-            "rules 1 slashes 0 leaves 1\n",
-        ),
-        (
-            b"$a = x; $b = $a $a; $c = $b $b; $d = $c $c; $e = $d $d; $f = $e $e; $g = $f $f; $h = $g $g;
-$i = $h $h; $j = $i $i; $k = $j $j; $l = $k $k; $m = $l $l; $n = $m $m; $n;",
-            "rules 1 slashes 0 leaves 8192\n",
-        ),
-    ];
-    for (rules, output) in rows {
+    for row in COUNTS {
+        let (rules, output) = *row;
         assert_eq!(rt;
             first_wrong(&rt, &[("check r.txt", &[("r.txt", rules)], 0, output)])?,
             None
@@ -61,49 +64,52 @@ $i = $h $h; $j = $i $i; $k = $j $j; $l = $k $k; $m = $l $l; $n = $m $m; $n;",
     Ok(())
 }
 
-#[test]
-fn faults(rt: HostRuntime) -> Result<(), Fail> {
-    let rows: [(&[u8], &str); 28] = [
-        (b"$x = [a-c]; $x = [d];", "1:13: Redefined"),
-        (b"[z-a];", "1:2: BadRange"),
-        (b"(a|;", "1:4: Syntax"),
-        (b"$dictionary = [a]; .;", "1:1: Dictionary"),
-        (b"!!quoted_literals_only; ab;", "1:25: BareLiteral"),
-        (
-            b"(((((((((((((((((((((((((((((((((((((((((((((((((((((((((((((((((a;",
-            "1:65: TooDeep",
-        ),
-        (b"\\p{NoSuchName};", "1:1: UnknownProperty"),
-        (b"a - b;", "1:3: BadChar"),
-        (b"'ab", "1:1: OpenQuote"),
-        (b"\\q;", "1:1: BadEscape"),
-        (b"\\p{L;", "1:1: OpenProperty"),
-        (b"a{x};", "1:2: BadTag"),
-        (b"$1;", "1:1: BadName"),
-        (b"$x = $y; $x = [z-a]; !!foo;", "1:6: Undefined"),
-        (b"(a?) / b;", "1:6: EmptyFront"),
-        (b"a / b?;", "1:3: EmptyRest"),
-        (b"!!reverse; b;", "1:14: NoRules"),
-        (b"!!foo; $y;", "1:1: UnknownControl"),
-        (b"!!LBCMNoChain;", "1:1: UnsupportedControl"),
-        (b"$x = a; [$x];", "1:10: NotASet"),
-        (b"[[a]-[a]];", "1:1: EmptySet"),
-        (b";\n;\n", "3:1: NoRules"),
-        (b"", "1:1: NoRules"),
-        // tokens come before the grammar, and the grammar before the meaning
-        (b");$", "1:3: BadName"),
-        (b"[z-a];)", "1:7: Syntax"),
-        // lines end at LF; columns count characters
-        (b"\xC3\xA9;\r\n\xC3\xA9\xC3\xA9{x};", "2:3: BadTag"),
-        (b"\xEF\xBB\xBFa;\xC3\xA9", "1:4: Syntax"),
-        (
-            b"$a = x; $b = $a $a; $c = $b $b; $d = $c $c; $e = $d $d; $f = $e $e; $g = $f $f; $h = $g $g;
+/// Rule files, and their faults.
+const FAULTS: &[(&[u8], &str)] = &[
+    (b"$x = [a-c]; $x = [d];", "1:13: Redefined"),
+    (b"[z-a];", "1:2: BadRange"),
+    (b"(a|;", "1:4: Syntax"),
+    (b"$dictionary = [a]; .;", "1:1: Dictionary"),
+    (b"!!quoted_literals_only; ab;", "1:25: BareLiteral"),
+    (
+        b"(((((((((((((((((((((((((((((((((((((((((((((((((((((((((((((((((a;",
+        "1:65: TooDeep",
+    ),
+    (b"\\p{NoSuchName};", "1:1: UnknownProperty"),
+    (b"a - b;", "1:3: BadChar"),
+    (b"'ab", "1:1: OpenQuote"),
+    (b"\\q;", "1:1: BadEscape"),
+    (b"\\p{L;", "1:1: OpenProperty"),
+    (b"a{x};", "1:2: BadTag"),
+    (b"$1;", "1:1: BadName"),
+    (b"$x = $y; $x = [z-a]; !!foo;", "1:6: Undefined"),
+    (b"(a?) / b;", "1:6: EmptyFront"),
+    (b"a / b?;", "1:3: EmptyRest"),
+    (b"!!reverse; b;", "1:14: NoRules"),
+    (b"!!foo; $y;", "1:1: UnknownControl"),
+    (b"!!LBCMNoChain;", "1:1: UnsupportedControl"),
+    (b"$x = a; [$x];", "1:10: NotASet"),
+    (b"[[a]-[a]];", "1:1: EmptySet"),
+    (b";\n;\n", "3:1: NoRules"),
+    (b"", "1:1: NoRules"),
+    // tokens come before the grammar, and the grammar before the meaning
+    (b");$", "1:3: BadName"),
+    (b"[z-a];)", "1:7: Syntax"),
+    // lines end at LF; columns count characters
+    (b"\xC3\xA9;\r\n\xC3\xA9\xC3\xA9{x};", "2:3: BadTag"),
+    (b"\xEF\xBB\xBFa;\xC3\xA9", "1:4: Syntax"),
+    (
+        b"$a = x; $b = $a $a; $c = $b $b; $d = $c $c; $e = $d $d; $f = $e $e; $g = $f $f; $h = $g $g;
 $i = $h $h; $j = $i $i; $k = $j $j; $l = $k $k; $m = $l $l; $n = $m $m; $o = $n $n;
 $o;",
-            "3:1: TooManyLeaves",
-        ),
-    ];
-    for (rules, fault) in rows {
+        "3:1: TooManyLeaves",
+    ),
+];
+
+#[test]
+fn faults(rt: HostRuntime) -> Result<(), Fail> {
+    for row in FAULTS {
+        let (rules, fault) = *row;
         let line = format!(in rt.alloc(); "rules:{fault}\n")?;
         assert_eq!(rt;
             first_wrong(

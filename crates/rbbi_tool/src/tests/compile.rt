@@ -9,39 +9,42 @@ pub(super) const TABLE: [u8; 81] = [
     0, 0, 0, 0, 0, 0, 0, 0, 0, 0, 0, 0, 2, 0, 1, 0, 0, 0, 0, 0, 0, 0, 0, 0, 0, 0, 0x0F,
 ];
 
+/// Rules, the exit status, and the output.
+const TABLES: &[(&[u8], u8, &str)] = &[
+    (
+        b"[a-z]+; ' '+;",
+        0,
+        "categories 3 rows 4 lists 1 slashes 0 safe 7\n",
+    ),
+    (
+        b"a+ / b; b;",
+        0,
+        "categories 3 rows 5 lists 1 slashes 1 safe 7\n",
+    ),
+    (b"a;", 0, "categories 2 rows 3 lists 1 slashes 0 safe 4\n"),
+    (
+        b"(a|b)*a(a|b)(a|b)(a|b)(a|b)(a|b)(a|b)(a|b)(a|b)(a|b)(a|b);",
+        0,
+        "categories 3 rows 2049 lists 1 slashes 0 safe 5\n",
+    ),
+    (
+        b"(a|b)*a(a|b)(a|b)(a|b)(a|b)(a|b)(a|b)(a|b)(a|b)(a|b)(a|b)(a|b)(a|b)(a|b);",
+        3,
+        "rules: TooManyRows\n",
+    ),
+    (
+        b"(a|b)*a(a|b)(a|b)(a|b)(a|b)(a|b)(a|b)(a|b)(a|b)(a|b)(a|b)(a|b)(a|b)(a|b)(a|b);",
+        3,
+        "rules: TooManySets\n",
+    ),
+    (b"[z-a];", 3, "rules:1:2: BadRange\n"),
+    (b"", 3, "rules:1:1: NoRules\n"),
+];
+
 #[test]
 fn tables(rt: HostRuntime) -> Result<(), Fail> {
-    let rows: [(&[u8], u8, &str); 8] = [
-        (
-            b"[a-z]+; ' '+;",
-            0,
-            "categories 3 rows 4 lists 1 slashes 0 safe 7\n",
-        ),
-        (
-            b"a+ / b; b;",
-            0,
-            "categories 3 rows 5 lists 1 slashes 1 safe 7\n",
-        ),
-        (b"a;", 0, "categories 2 rows 3 lists 1 slashes 0 safe 4\n"),
-        (
-            b"(a|b)*a(a|b)(a|b)(a|b)(a|b)(a|b)(a|b)(a|b)(a|b)(a|b)(a|b);",
-            0,
-            "categories 3 rows 2049 lists 1 slashes 0 safe 5\n",
-        ),
-        (
-            b"(a|b)*a(a|b)(a|b)(a|b)(a|b)(a|b)(a|b)(a|b)(a|b)(a|b)(a|b)(a|b)(a|b)(a|b);",
-            3,
-            "rules: TooManyRows\n",
-        ),
-        (
-            b"(a|b)*a(a|b)(a|b)(a|b)(a|b)(a|b)(a|b)(a|b)(a|b)(a|b)(a|b)(a|b)(a|b)(a|b)(a|b);",
-            3,
-            "rules: TooManySets\n",
-        ),
-        (b"[z-a];", 3, "rules:1:2: BadRange\n"),
-        (b"", 3, "rules:1:1: NoRules\n"),
-    ];
-    for (rules, status, output) in rows {
+    for row in TABLES {
+        let (rules, status, output) = *row;
         assert_eq!(rt;
             first_wrong(
                 &rt,

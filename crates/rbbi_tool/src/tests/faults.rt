@@ -3,18 +3,20 @@ use super::{files_of, run_into, run_words};
 use rbbi_io::MemSink;
 use std::test::Fail;
 
+/// The words, the call of the files that fails, that of the sink, the status, the output.
+const FAULTS: &[(&str, u64, u64, u8, &str)] = &[
+    ("breaks r.txt t.txt", 1, 0, 6, "cannot read r.txt\n"),
+    ("breaks r.txt t.txt", 2, 0, 6, "cannot read t.txt\n"),
+    ("breaks r.txt t.txt", 0, 1, 7, ""),
+    ("breaks r.txt t.txt", 2, 1, 7, ""),
+    ("breaks r.txt --none", 0, 0, 6, "cannot read --none\n"),
+    ("check --prop A=t.txt r.txt", 1, 0, 6, "cannot read t.txt\n"),
+];
+
 #[test]
 fn of_files_and_sink(rt: HostRuntime) -> Result<(), Fail> {
-    // the words, the call of the files that fails, that of the sink, the status, the output
-    let rows: [(&str, u64, u64, u8, &str); 6] = [
-        ("breaks r.txt t.txt", 1, 0, 6, "cannot read r.txt\n"),
-        ("breaks r.txt t.txt", 2, 0, 6, "cannot read t.txt\n"),
-        ("breaks r.txt t.txt", 0, 1, 7, ""),
-        ("breaks r.txt t.txt", 2, 1, 7, ""),
-        ("breaks r.txt --none", 0, 0, 6, "cannot read --none\n"),
-        ("check --prop A=t.txt r.txt", 1, 0, 6, "cannot read t.txt\n"),
-    ];
-    for (words, read, put, status, output) in rows {
+    for row in FAULTS {
+        let (words, read, put, status, output) = *row;
         let mut files = files_of(&rt, &[("r.txt", b"[a-z]+;"), ("t.txt", b"ab1c")])?;
         let mut out = MemSink::new(rt.alloc());
         files.fail_at(read)?;

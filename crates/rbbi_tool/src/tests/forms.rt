@@ -4,33 +4,36 @@ use std::test::Fail;
 
 const USAGE: &str = "usage: rbbi COMMAND [OPTIONS] OPERANDS\n";
 
+/// Words of no form.
+const FORMS: &[&str] = &[
+    "",
+    "Breaks r.txt t.txt",
+    "check",
+    "check r.txt t.txt",
+    "compile r.txt",
+    "breaks r.txt",
+    "breaks r.txt t.txt t.txt",
+    "breaks --fast r.txt t.txt",
+    "breaks --fast t.txt",
+    "breaks --prop r.txt t.txt",
+    "breaks --prop =g.txt r.txt t.txt",
+    "breaks --prop A= r.txt t.txt",
+    "breaks --prop - --=g.txt r.txt t.txt",
+    "breaks --prop A.B=g.txt r.txt t.txt",
+    "breaks --ignore-dictionary --ignore-dictionary r.txt t.txt",
+    "breaks --table --table r.txt t.txt",
+    "breaks --table --ignore-dictionary r.txt t.txt",
+    "check --table r.txt",
+    "compile --table r.txt b.txt",
+    "--ignore-dictionary check r.txt",
+    "check r.txt --ignore-dictionary",
+    "demo 0",
+];
+
 #[test]
 fn words_of_no_form(rt: HostRuntime) -> Result<(), Fail> {
-    let forms = [
-        "",
-        "Breaks r.txt t.txt",
-        "check",
-        "check r.txt t.txt",
-        "compile r.txt",
-        "breaks r.txt",
-        "breaks r.txt t.txt t.txt",
-        "breaks --fast r.txt t.txt",
-        "breaks --fast t.txt",
-        "breaks --prop r.txt t.txt",
-        "breaks --prop =g.txt r.txt t.txt",
-        "breaks --prop A= r.txt t.txt",
-        "breaks --prop - --=g.txt r.txt t.txt",
-        "breaks --prop A.B=g.txt r.txt t.txt",
-        "breaks --ignore-dictionary --ignore-dictionary r.txt t.txt",
-        "breaks --table --table r.txt t.txt",
-        "breaks --table --ignore-dictionary r.txt t.txt",
-        "check --table r.txt",
-        "compile --table r.txt b.txt",
-        "--ignore-dictionary check r.txt",
-        "check r.txt --ignore-dictionary",
-        "demo 0",
-    ];
-    for words in forms {
+    for row in FORMS {
+        let words = *row;
         let mut files = files_of(&rt, &[("r.txt", b"a;"), ("t.txt", b"a")])?;
         let (status, out) = run_words(&rt, words, &mut files)?;
         assert_eq!(rt; status, 2, "of {words}");
