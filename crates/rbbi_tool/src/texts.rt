@@ -7,29 +7,45 @@ ghost use Rattle.rbbi_tool.specs.Texts.{text_stage};
 
 use crate::name::Name;
 use crate::refusal::{Place, Refusal, Subject, fault};
-use rbbi_text::{Chars, PlainText, Raw, RawErr};
+use rbbi_text::{Chars, Pieces, PlainText, Raw, RawErr};
 use std::alloc::Global;
 
-/// The text of a text file of this name.
+/// What taking a text from the bytes of the file of this name answers.
+macro_rules! taken {
+    ($alloc:ident, $name:ident, $taken:expr) => {
+        match $taken {
+            Ok(text) => {
+                // With its length it is told that these are characters.
+                let _length = text.len();
+                Ok(text)
+            }
+            Err(RawErr::NotUtf8(at)) => {
+                let subject = Subject::File(Name::new($alloc, $name)?);
+                Err(fault($alloc, subject, "NotUtf8", Place::Byte(at)))
+            }
+            Err(RawErr::TooManyChars) => {
+                let subject = Subject::File(Name::new($alloc, $name)?);
+                Err(fault($alloc, subject, "TooManyChars", Place::Whole))
+            }
+            Err(RawErr::Memory) => Err(Refusal::Memory),
+        }
+    };
+}
+
+/// The text of a text file of this name, to be read from its start to its end.
 pub(crate) fn text_of(alloc: Global, name: &str, bytes: &Raw) -> Result<PlainText, Refusal>
     requires { length bytes.now ≤ most_bytes }
     ensures exact { Meets (λ text. text) (text_stage name.now bytes.now) result }
     ensures text { IfOk result IsText }
 {
-    match PlainText::from_raw(alloc, bytes) {
-        Ok(text) => {
-            // With its length it is told that these are characters.
-            let _length = text.len();
-            Ok(text)
-        }
-        Err(RawErr::NotUtf8(at)) => {
-            let subject = Subject::File(Name::new(alloc, name)?);
-            Err(fault(alloc, subject, "NotUtf8", Place::Byte(at)))
-        }
-        Err(RawErr::TooManyChars) => {
-            let subject = Subject::File(Name::new(alloc, name)?);
-            Err(fault(alloc, subject, "TooManyChars", Place::Whole))
-        }
-        Err(RawErr::Memory) => Err(Refusal::Memory),
-    }
+    taken!(alloc, name, PlainText::from_raw(alloc, bytes))
+}
+
+/// The text of a text file of this name, to be edited.
+pub(crate) fn pieces_of(alloc: Global, name: &str, bytes: &Raw) -> Result<Pieces, Refusal>
+    requires { length bytes.now ≤ most_bytes }
+    ensures exact { Meets (λ text. text) (text_stage name.now bytes.now) result }
+    ensures text { IfOk result IsText }
+{
+    taken!(alloc, name, Pieces::from_raw(alloc, bytes))
 }

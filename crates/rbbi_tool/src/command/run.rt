@@ -13,12 +13,12 @@ use super::Output;
 use crate::basis::basis;
 use crate::refusal::Refusal;
 use crate::scripts::commands_of;
-use crate::texts::text_of;
+use crate::texts::pieces_of;
 use crate::words::Options;
 use rbbi_script::{Command, Commands, play};
 use rbbi_session::Session;
 use rbbi_table::Table;
-use rbbi_text::{PlainText, Raw, Steps};
+use rbbi_text::{Pieces, Raw, Steps};
 use std::alloc::{AllocError, Global};
 use std::sync::ledger::Ledger;
 
@@ -44,7 +44,7 @@ fn insert_texts(commands: &Commands)
 fn replies_of<L: Ledger>(
     alloc: Global,
     table: &Table,
-    text: PlainText,
+    text: Pieces,
     commands: &Commands,
     steps: &mut Steps<L>,
 ) -> Result<Vec<u8>, AllocError>
@@ -78,7 +78,7 @@ pub(crate) fn run<L: Ledger>(
         script_name.now script.now) result }
 {
     let table = basis(alloc, options, handed, source, steps)?;
-    let text = text_of(alloc, name, text)?;
+    let text = pieces_of(alloc, name, text)?;
     let commands = commands_of(alloc, script_name, script, steps)?;
     insert_texts(&commands);
     rbbi_model::table_replies_are_those_of_the_rules();
