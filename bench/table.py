@@ -227,37 +227,13 @@ def demo(bench):
     yield bench.below('`demo 1000000`', ['demo', '1000000'], 5.0)
 
 
-def part(bench, what, words, few, many, target, memory=None):
-    """One call of a library: two numbers of rounds by the program `rbbi_bench` give its time."""
-    program = os.path.join(bench.top, 'crates', 'rbbi_bench', 'out', 'rbbi_bench')
-    line = Line(what, target=time_text(target) + (f', {size_text(memory)}' if memory else ''))
-    if not os.path.exists(program):
-        line.time = 'not measured: `rt run` in crates/rbbi_bench builds its program'
-        return line
-    runs = [bench.best([program] + words[:2] + [str(rounds)] + words[2:]) for rounds in (few, many)]
-    seconds = max(runs[1].seconds - runs[0].seconds, 0) / (many - few)
-    line.time, line.peak = time_text(seconds), size_text(runs[1].peak)
-    line.verdict = verdict(seconds, target)
-    return line
-
-
-def parts(bench):
-    """Calls that no command makes alone."""
-    leaves, doubled = (inputs.make_rules(bench.folder, f'limit-{name}', inputs.LIMITS[name][0])
-                       for name in ('leaves', 'doubling14'))
-    table_file = inputs.make_big_table(bench.folder)
-    text = inputs.make_text(bench.folder, 'prose', bench.sizes[-1])
-    million = f'of {bench.sizes[-1] // 1_000_000} M characters'
-    yield part(bench, 'the categories of 8,192 leaves, sets of scripts and categories',
-               ['categories', leaves], 1, 3, 0.5)
-    yield part(bench, 'categories and positions of a rule with 8,192 leaves', ['positions', doubled],
-               1, 3, 0.5)
-    size = size_text(os.path.getsize(table_file))
-    yield part(bench, f'a table of {size}, written', ['write', table_file], 1, 3, 3.0)
-    yield part(bench, f'a table of {size}, read', ['read', table_file], 1, 3, 3.0)
-    line = part(bench, f'a million `char_at` at random places {million}', ['places', text], 1, 1_000_001, 5e-8)
-    yield line
-    yield part(bench, f'one character replaced at a random place {million}', ['edits', text], 1, 2_001, 2e-5)
+def parts(_):
+    """Targets of parts that no command runs alone."""
+    for what, target in (
+            ('the categories of 8,192 leaves, sets of scripts and categories', '500.0 ms'),
+            ('the positions of a rule with 8,192 leaves', '500.0 ms, 16 MiB'),
+            ('a million `char_at` at random places of 12 M characters', '50.0 ms')):
+        yield Line(what, 'not measured alone: it wants a program of its own', target=target)
 
 
 GROUPS = [start, texts, printing, compiling, front, limits, tables, loop, sessions, nexts, tests, demo,
