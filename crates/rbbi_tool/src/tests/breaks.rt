@@ -67,6 +67,16 @@ const BOUNDARIES: &[(&[u8], &[u8], &str)] = &[
     (b"a / bc; ab / c;", b"abc", "0 0\n1 0\n2 0\n3 0\n"),
     // the cut is the last end of the front, and its statuses are those of the whole rule
     (b"a+ / b {3}; b;", b"aab", "0 0\n2 3\n3 0\n"),
+    // a repeat of what may match nothing; a single character that is chained into ends where it began
+    (b"(a*)+;", b"aab", "0 0\n2 0\n3 0\n"),
+    (b"!!chain; 'ab'; b{5};", b"abc", "0 0\n2 5\n3 0\n"),
+    // 32 look-ahead rules
+    (
+        b"a/b;a/b;a/b;a/b;a/b;a/b;a/b;a/b;a/b;a/b;a/b;a/b;a/b;a/b;a/b;a/b;
+a/b;a/b;a/b;a/b;a/b;a/b;a/b;a/b;a/b;a/b;a/b;a/b;a/b;a/b;a/b;a/b;",
+        b"ab",
+        "0 0\n1 0\n2 0\n",
+    ),
 ];
 
 #[test]
@@ -111,6 +121,13 @@ const FRONTS: &[(usize, &[u8], u8, &str)] = &[
     (81, b"a\xFF", 5, "t.txt: NotUtf8 1\n"),
 ];
 
+/// A byte of the table file that is changed so that it stays one, the text and the output.
+const CHANGES: &[(usize, u8, &[u8], &str)] = &[
+    // a look-ahead rule that is never completed; a row that leads to itself
+    (18, 1, b"ab", "0 0\n1 0\n2 0\n"),
+    (78, 2, b"aab", "0 0\n2 0\n3 0\n"),
+];
+
 #[test]
 fn by_table(rt: HostRuntime) -> Result<(), Fail> {
     for row in FRONTS {
@@ -122,6 +139,17 @@ fn by_table(rt: HostRuntime) -> Result<(), Fail> {
                 &rt,
                 &[("breaks --table b.tbl t.txt", &files, status, output)]
             )?,
+            None
+        );
+    }
+    for row in CHANGES {
+        let (at, byte, text, output) = *row;
+        let mut table = TABLE;
+        assert!(rt; at < table.len());
+        table[at] = byte;
+        let files: [(&str, &[u8]); 2] = [("b.tbl", &table), ("t.txt", text)];
+        assert_eq!(rt;
+            first_wrong(&rt, &[("breaks --table b.tbl t.txt", &files, 0, output)])?,
             None
         );
     }
