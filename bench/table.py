@@ -78,13 +78,15 @@ def compiling(bench):
             line.time, line.peak = time_text(seconds), size_text(result.peak)
             line.verdict = verdict(seconds, target) if target else ''
         yield bench.beside_icu(line, theirs, 5, seconds)
-    yield loading(bench, table)
+    for name in ('grapheme', 'word', 'sentence', 'line'):
+        yield loading(bench, name)
 
 
-def loading(bench, table):
-    """The time for a table of 64 rows and 39 categories, on a text that is broken in no time."""
+def loading(bench, name):
+    """The time for the table of one of our rule files, on a text that is broken in no time."""
+    table = os.path.join(bench.folder, f'{name}.table')
     words = ['breaks', '--table', table, bench.tiny()]
-    line = Line('`breaks --table`, the table of line.rules, the start of the program apart',
+    line = Line(f'`breaks --table`, the table of {name}.rules, the start of the program apart',
                 bench.lacking(words) if os.path.exists(table) else bench.lacking(['compile']),
                 target='1.0 ms')
     if not line.time:
