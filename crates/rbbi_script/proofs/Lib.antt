@@ -6,3 +6,6 @@ pub mod Lines
 pub mod Says
 pub mod Performed
 pub mod Listed
+pub mod ListingCosts
+pub mod Recalled
+pub mod Played
