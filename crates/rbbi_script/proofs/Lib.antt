@@ -6,3 +6,5 @@ pub mod Lines
 pub mod Says
 pub mod Performed
 pub mod Listed
+pub mod OneCommand
+pub mod OneScript

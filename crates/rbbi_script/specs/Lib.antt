@@ -6,3 +6,4 @@ pub mod LineReadings
 pub mod Refusals
 pub mod Saying
 pub mod Performing
+pub mod Laws
