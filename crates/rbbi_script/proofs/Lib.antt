@@ -9,3 +9,5 @@ pub mod Listed
 pub mod ListingCosts
 pub mod Recalled
 pub mod Played
+pub mod OneCommand
+pub mod OneScript

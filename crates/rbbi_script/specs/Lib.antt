@@ -7,3 +7,4 @@ pub mod Refusals
 pub mod Saying
 pub mod Performing
 pub mod Reading
+pub mod Laws
