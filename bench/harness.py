@@ -61,10 +61,11 @@ def both_verdicts(result, seconds, memory):
 
 
 class Bench:
-    """The program, ICU's and the bare loop's where they are there, and the folder of the inputs."""
+    """The program, and where they are there, that of single calls, ICU's and the bare loop's; and the
+    folder of the inputs."""
 
-    def __init__(self, program, top, folder, data, icu, bare, quick, rounds):
-        self.program, self.top, self.folder, self.data = program, top, folder, data
+    def __init__(self, program, parts, top, folder, data, icu, bare, quick, rounds):
+        self.program, self.parts, self.top, self.folder, self.data = program, parts, top, folder, data
         self.icu, self.bare, self.rounds = icu, bare, rounds
         self.sizes = list(inputs.SIZES.values())[:1 if quick else 2]
 
@@ -91,6 +92,13 @@ class Bench:
             if status == 2 or file.read(100).startswith(b'rules: Unbuilt'):
                 return NOT_BUILT
         return '' if status in (0, 1, 3) else f'ended with status {status}'
+
+    def lacking_part(self, words):
+        """What keeps the program of single calls from doing this, or nothing."""
+        if self.parts is None:
+            return 'not measured: crates/rbbi_bench is not built'
+        run = subprocess.run([self.parts] + words, stdout=subprocess.PIPE, check=False)
+        return '' if run.stdout.strip().isdigit() else 'refused'
 
     def file(self, name, text):
         return inputs.write_file(self.folder, name, text)

@@ -21,6 +21,19 @@ def measure(words, stdout='/dev/null'):
     return Result(int(status), float(seconds), 1024 * int(peak))
 
 
+def held(words):
+    """The most memory that a command held, in bytes, also where that is little: the system tells it
+    while the command runs, so the last of it may be missed where a command ends at its peak."""
+    peak = 0
+    run = subprocess.Popen(words, stdin=subprocess.DEVNULL, stdout=subprocess.DEVNULL)
+    while run.poll() is None:
+        with open(f'/proc/{run.pid}/status', encoding='utf-8') as lines:
+            for line in lines:
+                if line.startswith('VmHWM:'):
+                    peak = max(peak, 1024 * int(line.split()[1]))
+    return peak
+
+
 def main():
     out = os.open(sys.argv[1], os.O_WRONLY | os.O_CREAT | os.O_TRUNC, 0o666)
     words = sys.argv[2:]

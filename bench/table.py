@@ -4,7 +4,7 @@ import subprocess
 
 import inputs
 from harness import MIB, Line, both_verdicts, rate_text, size_text, time_text, verdict
-from measure import measure
+from measure import Result, held, measure
 
 ONE_MILLION, TWELVE_MILLION = inputs.SIZES.values()
 
@@ -229,13 +229,52 @@ def demo(bench):
     yield bench.below('`demo 1000000`', ['demo', '1000000'], 5.0)
 
 
-def parts(_):
-    """Targets of parts that no command runs alone."""
-    for what, target in (
-            ('the categories of 8,192 leaves, sets of scripts and categories', '500.0 ms'),
-            ('the positions of a rule with 8,192 leaves', '500.0 ms, 16 MiB'),
-            ('a million `char_at` at random places of 12 M characters', '50.0 ms')):
-        yield Line(what, 'not measured alone: it wants a program of its own', target=target)
+def parts(bench):
+    """Single calls, by the program in crates/rbbi_bench: a call's time is that of some rounds less
+    that of none, which start and read the same."""
+    leaves = inputs.make_rules(bench.folder, 'limit-leaves', inputs.LIMITS['leaves'][0])
+    text = inputs.make_text(bench.folder, 'prose', TWELVE_MILLION)
+    yield part(bench, 'the categories of 8,192 leaves, sets of scripts and categories', 0.5,
+               ['categories', leaves], 20)
+    yield part(bench, 'the positions of a rule with 8,192 leaves', 0.5, ['positions', leaves], 20,
+               memory=16 * MIB)
+    yield part(bench, 'a million `char_at` at random places of 12 M characters by pieces, 100 of them '
+               'inserted', 0.05, ['places', text], 10_000_000, 1_000_000)
+    yield scanning(bench)
+
+
+def part(bench, what, target, words, rounds, counted=1, memory=None):
+    """A line for so many rounds of a call, and the memory beside what is held before it."""
+    line = Line(what, target=time_text(target) + (f', {size_text(memory)}' if memory else ''))
+    line.verdict = bench.lacking_part(words + ['0'])
+    if line.verdict:
+        return line
+    many, none = ([bench.parts] + words + [str(count)] for count in (rounds, 0))
+    seconds = (bench.best(many).seconds - bench.best(none).seconds) * counted / rounds
+    line.time, line.verdict = time_text(seconds), verdict(seconds, target)
+    if memory:
+        peak = held(many) - held(none)
+        line.peak = size_text(peak)
+        line.verdict = both_verdicts(Result(0, seconds, peak), target, memory)
+    return line
+
+
+def scanning(bench):
+    """All boundaries of a text in memory, from one to the next, without reading and printing."""
+    path, _, theirs = bench.rules('words')
+    text = inputs.make_text(bench.folder, 'prose', ONE_MILLION)
+    line = Line('words.rules, prose, 1 M in memory: `Table::next` from one boundary to the next, alone')
+    line.verdict = bench.lacking_part(['scan', path, '0', text])
+    if line.verdict:
+        return line
+    few, many = ([bench.parts, 'scan', path, count, text] for count in ('1', '21'))
+    seconds = (bench.best(many).seconds - bench.best(few).seconds) / 20
+    rate = ONE_MILLION / max(seconds, 1e-9)
+    line.time, line.rate = time_text(seconds), rate_text(rate)
+    if bench.icu:
+        alone = ONE_MILLION / max(bench.icu_answer(['scan', theirs, text, '5'])[1], 1e-9)
+        line.icu, line.ratio = rate_text(alone), f'{rate / alone:.2f}'
+    return line
 
 
 GROUPS = [start, texts, printing, compiling, front, limits, tables, loop, sessions, nexts, tests, demo,

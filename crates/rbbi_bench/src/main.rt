@@ -1,0 +1,74 @@
+//! Measures calls that the program `rbbi` can't show alone.
+//!
+//! `PART FILE ROUNDS` makes one call so many times and prints what came of the last one, so that the
+//! times of two numbers of rounds give that of one call. README.md has the parts.
+#![tactic(auto)]
+
+ghost use Rattle.std.specs.Prelude.{◌≡◌, ◌<◌, ◌≤◌, length, IfSome};
+ghost use Rattle.rbbi_text.specs.Bytes.{most_bytes};
+
+mod parts;
+mod rules;
+
+use parts::{measure_categories, measure_places, measure_positions, measure_scan};
+use rbbi_io::{Files, RealFiles};
+use rbbi_text::{Raw, Steps};
+use std::alloc::Global;
+use std::marker::Brand;
+use std::rt::Env;
+use std::sync::ledger::{Blank, Ledger};
+use std::{env, io};
+
+/// The most bytes of a file that is measured.
+const MOST_BYTES: u64 = 100_663_296;
+
+/// The words after the program's name.
+fn words<R: Env + AllocGlobal>(rt: &R) -> io::Result<Vec<String>> {
+    let mut words = Vec::new(rt.alloc());
+    for word in env::args(rt)?.skip(1) {
+        words.push(word)?;
+    }
+    Ok(words)
+}
+
+/// All bytes of a file, or nothing where it can't be read.
+fn read<R: std::rt::Files>(alloc: Global, files: &mut RealFiles<'_, R>, name: &str) -> Option<Raw>
+    ensures { IfSome result (λ bytes. length bytes ≤ most_bytes) }
+{
+    match files.read(alloc, name, MOST_BYTES) {
+        Ok(bytes) => Some(bytes),
+        Err(_) => None,
+    }
+}
+
+/// Makes the call that the words name, with a counter of its own.
+fn run<L: Ledger>(rt: &HostRuntime, words: &Vec<String>, blank: Blank) -> Option<u64>
+    requires name { blank.name ≡ L.name }
+    requires parts { blank.parts ≡ L.parts }
+    requires some { 0 < blank.parts }
+{
+    let alloc = rt.alloc();
+    let mut files = RealFiles::new(rt);
+    let mut steps = Steps::<L>::new(rt, blank);
+    let part = words.get(0)?.as_str();
+    let file = read(alloc, &mut files, words.get(1)?.as_str())?;
+    let rounds = words.get(2)?.as_str().parse::<u32>().ok()?;
+    match part {
+        "categories" => measure_categories(alloc, file.bytes(&mut steps), rounds),
+        "positions" => measure_positions(alloc, file.bytes(&mut steps), rounds),
+        "places" => measure_places(alloc, &file, rounds, &mut steps),
+        "scan" => {
+            let text = read(alloc, &mut files, words.get(3)?.as_str())?;
+            measure_scan(alloc, &file, &text, rounds, &mut steps)
+        }
+        _ => None,
+    }
+}
+
+fn main(rt: HostRuntime) -> io::Result<()> {
+    let words = words(&rt)?;
+    match run::<Brand>(&rt, &words, Blank::new(1)) {
+        Some(count) => println!(rt; "{count}"),
+        None => println!(rt; "PART FILE ROUNDS"),
+    }
+}

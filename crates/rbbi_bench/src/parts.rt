@@ -1,0 +1,152 @@
+//! The calls that are measured. Each answers a number of what it made, or nothing where it is
+//! refused.
+ghost use Rattle.std.specs.Prelude.{◌≡◌, ◌<◌, ◌≤◌, length, IfSome};
+ghost use Rattle.rbbi_text.specs.Bytes.{most_bytes};
+
+use crate::rules::{rules_of, table_of};
+use rbbi_cats::partition;
+use rbbi_positions::positions;
+use rbbi_table::{Marks, Table};
+use rbbi_text::{Chars, EditText, Pieces, PlainText, Raw, Steps};
+use std::alloc::Global;
+use std::sync::ledger::Ledger;
+
+/// How many characters are inserted into a text before its characters are read.
+const EDITS: u32 = 100;
+
+/// The categories of a rule file's rules, and how many there are.
+pub(crate) fn measure_categories(alloc: Global, bytes: &[u8], rounds: u32) -> Option<u64>
+    requires { length bytes.now ≤ most_bytes }
+{
+    let rules = rules_of(alloc, bytes)?;
+    let mut count = 0;
+    for _ in 0..rounds {
+        let Ok(cats) = partition(alloc, &rules) else {
+            return None;
+        };
+        count = u64::from(cats.count());
+    }
+    Some(count)
+}
+
+/// The positions of a rule file's rules, whose categories are made once, and how many there are.
+pub(crate) fn measure_positions(alloc: Global, bytes: &[u8], rounds: u32) -> Option<u64>
+    requires { length bytes.now ≤ most_bytes }
+{
+    let rules = rules_of(alloc, bytes)?;
+    let Ok(cats) = partition(alloc, &rules) else {
+        return None;
+    };
+    let mut count = 0;
+    for _ in 0..rounds {
+        let Ok(marks) = positions(alloc, &rules, &cats) else {
+            return None;
+        };
+        count = u64::from(marks.leaves());
+    }
+    Some(count)
+}
+
+/// How many boundaries a text has, by searches from one to the next.
+fn count_boundaries<L: Ledger>(
+    table: &Table,
+    text: &PlainText,
+    marks: &mut Marks,
+    steps: &mut Steps<L>,
+) -> u64
+    requires { marks.old ≡ table.now.slashes }
+    ensures { marks.new ≡ marks.old }
+{
+    let len = text.len();
+    let mut at = 0;
+    for count in 0..len {
+        if at >= len {
+            return u64::from(count) + 1;
+        }
+        at = table.next(text, at, marks, steps).at;
+    }
+    u64::from(len) + 1
+}
+
+/// How many boundaries a text has, found so many times.
+fn count_again<L: Ledger>(
+    alloc: Global,
+    table: &Table,
+    text: &PlainText,
+    rounds: u32,
+    steps: &mut Steps<L>,
+) -> Option<u64> {
+    let Ok(mut marks) = Marks::new(alloc, table) else {
+        return None;
+    };
+    let mut count = 0;
+    for _ in 0..rounds {
+        count = count_boundaries(table, text, &mut marks, steps);
+    }
+    Some(count)
+}
+
+/// All boundaries of a text by the table of a rule file, which is made once, and how many there
+/// are.
+pub(crate) fn measure_scan<L: Ledger>(
+    alloc: Global,
+    file: &Raw,
+    text: &Raw,
+    rounds: u32,
+    steps: &mut Steps<L>,
+) -> Option<u64>
+    requires rules { length file.now ≤ most_bytes }
+    requires text { length text.now ≤ most_bytes }
+{
+    let table = table_of(alloc, file.bytes(steps))?;
+    let Ok(text) = PlainText::from_raw(alloc, text) else {
+        return None;
+    };
+    count_again(alloc, &table, &text, rounds, steps)
+}
+
+/// The next number of a fixed row of numbers below 2^31.
+fn draw(state: u64) -> u64 {
+    state.wrapping_mul(1_103_515_245).wrapping_add(12_345) % 2_147_483_648
+}
+
+/// A text by pieces, with some letters inserted at random places.
+fn edited(alloc: Global, file: &Raw) -> Option<Pieces>
+    requires { length file.now ≤ most_bytes }
+{
+    let Ok(mut text) = Pieces::from_raw(alloc, file) else {
+        return None;
+    };
+    let mut state = 0;
+    for _ in 0..EDITS {
+        state = draw(state);
+        let at = (state / 8 % (u64::from(text.len()) + 1)) as u32;
+        if text.replace(at, 0, "x").is_err() {
+            return None;
+        }
+    }
+    Some(text)
+}
+
+/// The characters at random places of a text that was hardly edited, and their sum.
+pub(crate) fn measure_places<L: Ledger>(
+    alloc: Global,
+    file: &Raw,
+    rounds: u32,
+    steps: &mut Steps<L>,
+) -> Option<u64>
+    requires { length file.now ≤ most_bytes }
+{
+    let text = edited(alloc, file)?;
+    let len = text.len();
+    let mut state = 0;
+    let mut sum = 0u64;
+    for _ in 0..rounds {
+        state = draw(state);
+        let place = (state / 8 % u64::from(len.max(1))) as u32;
+        if place < len {
+            sum = sum.wrapping_add(u64::from(u32::from(text.char_at(place, steps))));
+        }
+    }
+    Some(sum)
+}
