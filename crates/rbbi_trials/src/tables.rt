@@ -1,0 +1,46 @@
+//! Tables of rules that are given as text.
+ghost use Rattle.std.specs.Prelude.{◌≡◌, ◌≤◌, length, IfOk};
+ghost use Rattle.std.specs.Str.{chars};
+ghost use Rattle.rbbi_model.specs.Rules.{AreLawful};
+ghost use Rattle.rbbi_resolve.specs.RuleLists.{rules_of};
+
+use rbbi_cats::partition;
+use rbbi_dfa::build;
+use rbbi_lex::lex;
+use rbbi_positions::positions;
+use rbbi_props::PropTable;
+use rbbi_resolve::{Rules, resolve};
+use rbbi_table::Table;
+use rbbi_tree::parse;
+use std::alloc::Global;
+use std::process::Abort;
+use std::test::Fail;
+
+/// The number of characters of a text.
+fn count_characters(text: &str) -> u32
+    requires { length text.now ≤ 100000 }
+    ensures { result ≡ length (chars text.now) }
+{
+    text.chars().count() as u32
+}
+
+/// The rules of a text without property files.
+fn rules_of(alloc: Global, text: &str) -> Result<Rules, Fail>
+    requires { length text.now ≤ 100000 }
+    ensures { IfOk result (λ rules. AreLawful (rules_of rules)) }
+{
+    let tokens = lex(alloc, text)?;
+    let end = count_characters(text);
+    let statements = parse(alloc, &tokens, end)?;
+    let props = PropTable::new(alloc);
+    Ok(resolve(alloc, &statements, end, &props, false)?)
+}
+
+/// The table of the rules of a text.
+pub(crate) fn table_of(rt: &impl Abort, alloc: Global, text: &str) -> Result<Table, Fail> {
+    assert!(rt; text.len() <= 100_000);
+    let rules = rules_of(alloc, text)?;
+    let cats = partition(alloc, &rules)?;
+    let marks = positions(alloc, &rules, &cats)?;
+    Ok(build(alloc, &marks, &cats)?)
+}
