@@ -86,11 +86,13 @@ fn files(rt: HostRuntime) -> Result<(), Fail> {
     let mut files = files_of(&rt, &[("r.txt", b"(")])?;
     run_words(&rt, "compile r.txt b.tbl", &mut files)?;
     assert_eq!(rt; files.get("b.tbl"), None);
-    // a write that fails ends the run before anything goes out
-    let mut files = files_of(&rt, &[("r.txt", b"a;")])?;
+    // a write that fails ends the run before anything goes out, and leaves the other files
+    let mut files = files_of(&rt, &[("r.txt", b"a;"), ("x.txt", b"x")])?;
     files.fail_at(2)?;
     let (status, out) = run_words(&rt, "compile r.txt b.tbl", &mut files)?;
     assert_eq!(rt; status, 7);
     assert_eq!(rt; out.taken(), b"".as_slice());
+    assert_eq!(rt; files.get("r.txt"), Some(b"a;".as_slice()));
+    assert_eq!(rt; files.get("x.txt"), Some(b"x".as_slice()));
     Ok(())
 }
