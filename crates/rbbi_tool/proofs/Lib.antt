@@ -17,3 +17,5 @@ pub mod Faults
 pub mod Runs
 pub mod LeastFaults
 pub mod OneOutcome
+pub mod Searched
+pub mod Counted
