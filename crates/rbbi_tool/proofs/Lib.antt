@@ -18,3 +18,5 @@ pub mod Runs
 pub mod LeastFaults
 pub mod OneReading
 pub mod OneOutcome
+pub mod Searched
+pub mod Counted
