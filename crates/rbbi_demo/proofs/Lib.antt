@@ -1,0 +1,5 @@
+mod Drawing
+mod Editing
+mod Counting
+mod Summing
+mod Demonstrating
