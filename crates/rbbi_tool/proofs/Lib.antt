@@ -16,4 +16,5 @@ pub mod Commands
 pub mod Faults
 pub mod Runs
 pub mod LeastFaults
+pub mod OneReading
 pub mod OneOutcome
