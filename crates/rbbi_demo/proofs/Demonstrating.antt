@@ -1,10 +1,10 @@
 -- The demonstration after some of its edits.
-use Rattle.std.proofs.Common.{◌≡◌, ◌<◌, ◌≤◌, ℕ, ◌+◌, ◌*◌, ◌^◌, ◌%◌, List, length, refl, sym, ap, ◌∙◌, subst, add-one, arith}
+use Rattle.std.proofs.Common.{◌≡◌, ◌<◌, ◌≤◌, ℕ, ◌+◌, ◌*◌, ◌^◌, ◌%◌, ◌/◌, List, length, refl, sym, ap, ◌∙◌, subst, add-one, arith}
 use Rattle.rbbi_model.specs.Tables.{Table}
 use Rattle.rbbi_session.specs.Sessions.{Session, boundaries_of}
 use Rattle.rbbi_demo.specs.Generator.{next_state, state_after, drawn, drawn_text}
 use Rattle.rbbi_demo.specs.Edits.{edited_text, asked_place, state_before, text_after, place_after, places_sum}
-use Rattle.rbbi_demo.specs.Summaries.{AreTableBoundaries, IsSum}
+use Rattle.rbbi_demo.specs.Summaries.{AreTableBoundaries, IsSum, IsSummary, edit_count}
 use Rattle.rbbi_demo.proofs.Drawing.{state_none, state_behind, state_more, drawn_behind, length-drawn_text}
 use Rattle.rbbi_demo.proofs.Editing.{place_is_asked}
 
@@ -65,4 +65,19 @@ after_more table count edits session mid new s t u sum more after table' text' l
       );
       small = let before : sum ≤ edits * 2 ^ 33 = after.small in omega arith;
       short = let before : length session.state.text ≤ count + edits = after.short in omega (arith, ap length text'');
+    }
+
+-- after all edits the summary is told
+pub summed_up : (table : Table) (count edits : ℕ) (session : Session) (state sum chars boundaries : ℕ) → edits ≡ count / 100 →
+    IsAfter table count edits session state sum → chars ≡ length session.state.text → boundaries ≡ length (boundaries_of session) →
+    IsSummary (AreTableBoundaries table) count (record { chars = chars; edits = count / 100; boundaries = boundaries; sum = sum })
+summed_up table count edits session state sum chars boundaries done after chars_is boundaries_is =
+    let text : session.state.text ≡ text_after count (edit_count count) = after.text_is ∙ ap (text_after count) done in
+    record {
+      boundaries = boundaries_of session;
+      are = cc (after.table_is, text);
+      chars_is = chars_is ∙ ap length text;
+      edits_is = refl;
+      boundaries_is = boundaries_is;
+      sum_is = subst (λ n. IsSum (AreTableBoundaries table) count n sum) done after.sum_is;
     }

@@ -4,6 +4,8 @@ use Rattle.std.proofs.Common.{length-append, arith}
 use Rattle.std.specs.Prelude.{slice_index}
 use Rattle.rbbi_model.specs.Words.{IsCharacter, IsText}
 use Rattle.rbbi_model.proofs.Texts.{text_append}
+use Rattle.std.specs.List.{AllByRecursion}
+use Rattle.std.specs.Char.{IsScalar}
 use Rattle.rbbi_demo.specs.Generator.{next_state, state_after, drawn, characters, drawn_character, drawn_text}
 
 -- before any draw
@@ -83,3 +85,16 @@ is_character s n = one_of characters (drawn s n % 8) are_characters
 pub text_is_drawn : (s n : ℕ) → IsText (drawn_text s n)
 text_is_drawn s zero = tt
 text_is_drawn s (suc n) = text_append (drawn_text s n) (drawn_character s (suc n) ∷ []) (text_is_drawn s n) (is_character s (suc n), tt)
+
+-- what is drawn is characters of the language
+scalar_of : (xs : List ℕ) (k : ℕ) → AllByRecursion IsScalar xs → IsScalar (get_or xs k 0)
+scalar_of [] k scalars = refl
+scalar_of (x ∷ xs) zero scalars = scalars.0
+scalar_of (x ∷ xs) (suc k) scalars = scalar_of xs k scalars.1
+
+are_scalars : AllByRecursion IsScalar characters
+are_scalars = (refl, (refl, (refl, (refl, (refl, (refl, (refl, (refl, tt))))))))
+
+pub is_scalar : (s n : ℕ) → IsScalar (drawn_character s n)
+unfolding drawn_character
+is_scalar s n = scalar_of characters (drawn s n % 8) are_scalars

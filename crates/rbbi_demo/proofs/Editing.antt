@@ -79,9 +79,9 @@ module _ {s t u : ℕ} {x : List ℕ} {at third removed c : ℕ} {inserted : Lis
   pub one_more : (new : List ℕ) → edit x at removed inserted ≡ Accepted new (length new) → length new ≤ length x + 1
   one_more new accepted =
       let within = removed_within in
-      let long : length new ≡ length ((take at x ++ inserted) ++ drop (at + removed) x) = ap length (new_text new accepted) in
+      let long : length new ≡ length (splice x at removed inserted) = ap length (new_text new accepted) in
       let one : length inserted ≡ 1 = ap length are.inserted_is in
-      let front : length ((take at x ++ inserted) ++ drop (at + removed) x) ≡ length (take at x) + length inserted + length (drop (at + removed) x) =
+      let front : length (splice x at removed inserted) ≡ length (take at x) + length inserted + length (drop (at + removed) x) =
       length-append (take at x ++ inserted) (drop (at + removed) x)
       ∙ ap (λ n. n + length (drop (at + removed) x)) (length-append (take at x) inserted) in
       omega (arith, front, length-take at x, length-drop (at + removed) x)

@@ -1,3 +1,4 @@
+mod OneCharacter
 mod Drawing
 mod Editing
 mod Counting

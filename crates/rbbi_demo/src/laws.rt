@@ -6,7 +6,6 @@ ghost use Rattle.rbbi_model.specs.Tables.{Table};
 ghost use Rattle.rbbi_model.specs.Compiled.{GivesBoundaries};
 ghost use Rattle.rbbi_demo.specs.declared.summary.Summary.{Summary};
 ghost use Rattle.rbbi_demo.specs.Summaries.{IsSummary, AreTableBoundaries};
-
 ghost use Rattle.std.specs.Prelude.{List};
 
 /// A table that gives the boundaries by rules gives the summaries by them too.

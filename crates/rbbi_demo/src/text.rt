@@ -16,11 +16,7 @@ fn push(text: &mut String, character: char) -> Result<(), AllocError>
 }
 
 /// A string of so many drawn characters.
-fn drawn_string(
-    alloc: Global,
-    generator: &mut Generator,
-    count: u32,
-) -> Result<String, AllocError>
+fn drawn_string(alloc: Global, generator: &mut Generator, count: u32) -> Result<String, AllocError>
     ensures text { IfOk result (λ text.
         chars (string_bytes text) ≡ drawn_text generator.old.state count) }
     ensures state { OnOk result

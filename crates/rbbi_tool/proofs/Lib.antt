@@ -18,3 +18,4 @@ pub mod Runs
 pub mod LeastFaults
 pub mod OneReading
 pub mod OneOutcome
+pub mod Fitting

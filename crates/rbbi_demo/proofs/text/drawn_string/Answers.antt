@@ -1,7 +1,7 @@
-use Rattle.std.proofs.Common.{◌≡◌, ℕ, ◌+◌, ◌++◌, ◌∷◌, [], sym, ap, ◌∙◌}
-use Rattle.std.proofs.lemmas.Str.{chars-nil}
+use Rattle.std.proofs.Common.{◌≡◌, ℕ, List, [], ◌∷◌, ◌++◌, sym, ap, ◌∙◌}
 use Rattle.std.specs.Prelude.{chars, string_bytes}
-use Rattle.rbbi_demo.specs.Generator.{next_state, state_after, drawn_text, drawn_character}
+use Rattle.std.proofs.lemmas.Str.{chars-nil}
+use Rattle.rbbi_demo.specs.Generator.{next_state, drawn_character, drawn_text}
 use Rattle.rbbi_demo.proofs.Drawing.{state_none, state_more, text_more}
 use Rattle.rbbi_demo.proofs.text.drawn_string.Goals as goal
 
@@ -10,10 +10,11 @@ loop-drawn-init c = (ap chars c.new-text.ensures.bytes ∙ chars-nil, sym (state
 
 pub loop-drawn-preserved : goal.loop-drawn-preserved
 loop-drawn-preserved c =
-    let state = c.args.generator.now.state in
-    let n = c.loop-drawn._drawn in (
-      text_more state n (chars (string_bytes c.push.new.text)) c.character.result
-          (c.in_ok-push.ensures ∙ ap (λ x. x ++ c.character.result ∷ []) c.loop-drawn.invariant.0)
-          (c.character.ensures.character ∙ ap (λ s. drawn_character s 1) c.loop-drawn.invariant.1),
-      c.character.ensures.state ∙ ap next_state c.loop-drawn.invariant.1 ∙ sym (state_more state n),
+    let seed : ℕ = c.args.generator.now.state in
+    let n : ℕ = c.loop-drawn._drawn in
+    let now = c.loop-drawn.invariant in
+    let pushed = c.in_ok-push.ensures ∙ ap (λ (l : List ℕ). l ++ c.character.result ∷ []) now.0 in
+    let character = c.character.ensures.character ∙ ap (λ s. drawn_character s 1) now.1 in (
+      text_more seed n (chars (string_bytes c.push.new.text)) c.character.result pushed character,
+      c.character.ensures.state ∙ ap next_state now.1 ∙ sym (state_more seed n),
     )
