@@ -5,7 +5,7 @@ use Rattle.rbbi_tool.specs.declared.words.command.Command.TheVariants.{Check, Co
 use Rattle.rbbi_tool.specs.Requests.{asked_by}
 use Rattle.rbbi_tool.specs.Words.{operands_of}
 use Rattle.rbbi_tool.proofs.Sizes.{handed_fit, handed_are, file_short, files_behind, read_by, some_files}
-use Rattle.rbbi_tool.proofs.Commands.{check_answers, compile_answers, breaks_answers, run_answers, conform_answers}
+use Rattle.rbbi_tool.proofs.Commands.{check_answers, compile_answers, breaks_answers, run_answers, conform_answers, demo_answers}
 use Rattle.rbbi_tool.proofs.Counted.{breaks_reads, run_reads, others_read}
 use Rattle.rbbi_tool.proofs.output.output_of.Goals as goal
 

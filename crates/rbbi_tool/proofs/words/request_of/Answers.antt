@@ -2,8 +2,8 @@ use Rattle.std.proofs.Common.{◌≡◌, List, ℕ, ◌∷◌, map, drop, length
 use Rattle.std.specs.String.{string_bytes}
 use Rattle.std.proofs.lemmas.List.{length-map}
 use Rattle.rbbi_tool.specs.Settings.{are_taken}
-use Rattle.rbbi_tool.specs.Words.{taken_by, operands_of}
-use Rattle.rbbi_tool.proofs.Forms.{not_taken, other_count}
+use Rattle.rbbi_tool.specs.Words.{taken_by, operands_of, AllFit}
+use Rattle.rbbi_tool.proofs.Forms.{not_taken, other_count, not_fit}
 use Rattle.rbbi_tool.proofs.words.request_of.Goals as goal
 
 pub returns-then-not-are_taken : goal.returns-then-not-are_taken
