@@ -12,7 +12,7 @@ use Rattle.rbbi_tool.specs.Stages.{Stage}
 use Rattle.rbbi_tool.specs.Words.{Request}
 use Rattle.rbbi_tool.specs.Texts.{text_stage}
 use Rattle.rbbi_tool.specs.Properties.{properties_stage}
-use Rattle.rbbi_tool.specs.Rules.{IsTold, rules_stage, rules_of_text_stage}
+use Rattle.rbbi_tool.specs.Rules.{IsTold, rules_stage}
 use Rattle.rbbi_script.specs.declared.error.ScriptErr.{ScriptErr}
 use Rattle.rbbi_script.specs.declared.error.ScriptErr.TheVariants as script
 use Rattle.rbbi_conform.specs.declared.error.TestErr.{TestErr}

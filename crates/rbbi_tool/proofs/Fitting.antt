@@ -1,5 +1,5 @@
 -- Whether each word is of its operand's form, told one by one.
-use Rattle.std.proofs.Common.{◌≡◌, ◌<◌, ◌≤◌, ◌+◌, ℕ, List, [], ◌∷◌, length, drop, get_or, sym, ap, ◌∙◌, subst}
+use Rattle.std.proofs.Common.{◌≡◌, ◌<◌, ◌≤◌, ◌+◌, ℕ, List, ◌∷◌, length, drop, get_or, sym, ap, ◌∙◌, subst}
 use Rattle.std.proofs.lemmas.List.{drop_more, drop_all}
 use Rattle.rbbi_tool.specs.declared.words.command.Operand.{Operand}
 use Rattle.rbbi_tool.specs.Words.{Fits, AllFit}
@@ -43,4 +43,4 @@ module _ {operands : List Operand} {words : List (List ℕ)} {i : ℕ} (so_far :
 
 -- all are
 pub all_fit : (operands : List Operand) (words : List (List ℕ)) (i : ℕ) → AreFitTo operands words i → length operands ≤ i → AllFit operands words
-all_fit operands words i so_far whole = so_far.back (subst (λ os. AllFit os (drop i words)) (sym (drop_all operands i whole)) tt)
+all_fit operands words i so_far whole = so_far.back (subst (λ os. AllFit os (drop i words)) (sym (drop_all i operands whole)) tt)

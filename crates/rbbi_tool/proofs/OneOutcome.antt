@@ -48,15 +48,15 @@ use Rattle.rbbi_tool.specs.declared.refusal.Subject.TheVariants as subject
 use Rattle.rbbi_tool.specs.declared.refusal.Place.TheVariants.{Whole, Byte, Row}
 use Rattle.rbbi_tool.specs.declared.refusal.Refusal.{Refusal}
 use Rattle.rbbi_tool.specs.declared.refusal.Refusal.TheVariants.{Fault}
-use Rattle.rbbi_tool.specs.Stages.{Stage, followed_by, gives, IsDetermined}
+use Rattle.rbbi_tool.specs.Stages.{followed_by, gives, IsDetermined}
 use Rattle.rbbi_tool.specs.Refusals.{Outcome, refused, printed}
-use Rattle.rbbi_tool.specs.Words.{Request, Asks, AreNoForm}
+use Rattle.rbbi_tool.specs.Words.{Request}
 use Rattle.rbbi_tool.specs.Files.{length_stage, lengths_stage, sources_of}
 use Rattle.rbbi_tool.specs.Texts.{TellsNotUtf8, checked_utf8_stage, utf8_stage, count_stage, text_stage}
 use Rattle.rbbi_tool.specs.Properties.{rows_stage, property_stage, properties_stage, property_files}
 use Rattle.rbbi_tool.specs.Rules.{IsTold, fault_at, rule_text_stage, tokens_stage, statements_stage, meaning_stage, rules_of_text_stage, rule_bytes_stage}
 use Rattle.rbbi_tool.specs.Rules.{rules_stage}
-use Rattle.rbbi_tool.specs.Basis.{categories_stage, TellsLimit, sizes_stage, limits_stage, compiled_stage, table_place, TellsTableFault, table_stage}
+use Rattle.rbbi_tool.specs.Basis.{categories_stage, sizes_stage, limits_stage, compiled_stage, table_place, table_stage}
 use Rattle.rbbi_tool.specs.Basis.{compiled_text_stage}
 use Rattle.rbbi_tool.specs.Basis.{Basis, ByRules, ByTable, AreBoundariesBy, basis_stage}
 use Rattle.rbbi_tool.specs.Reads.{bytes_of}

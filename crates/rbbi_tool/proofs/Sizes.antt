@@ -1,12 +1,10 @@
 -- How many files a request has, and that none has more bytes than are read at once.
-use Rattle.std.proofs.Common.{◌≡◌, ◌<◌, ◌≤◌, ◌+◌, ◌-◌, ℕ, zero, suc, Bool, true, false, List, [], ◌∷◌, ◌++◌, length, map, take, drop, get_or, refl, sym, ap}
+use Rattle.std.proofs.Common.{◌≡◌, ◌≤◌, ℕ, zero, suc, Bool, true, false, List, [], ◌∷◌, length, map, take, drop, refl, sym, ap}
 use Rattle.std.proofs.Common.{◌∙◌, subst, arith}
-use Rattle.std.specs.List.{AllByRecursion}
-use Rattle.std.proofs.lemmas.List.{length-map, length-append, length-take-le, length-drop, get_or_read}
+use Rattle.std.proofs.lemmas.List.{length-map, length-append, length-take-le, length-drop}
 use Rattle.rbbi_text.specs.Bytes.{most_bytes}
 use Rattle.rbbi_tool.specs.declared.words.command.Command.{Command}
 use Rattle.rbbi_tool.specs.declared.words.command.Command.TheVariants.{Check, Compile, Breaks, Run, Conform, Demo}
-use Rattle.rbbi_tool.specs.declared.words.setting.Property.{Property}
 use Rattle.rbbi_tool.specs.declared.files.Role.{Role}
 use Rattle.rbbi_tool.specs.declared.files.Role.TheVariants as role
 use Rattle.rbbi_tool.specs.declared.files.Source.{Source}
