@@ -1,5 +1,5 @@
 -- Tables that are compiled or read, and the boundaries that they give.
-use Rattle.std.proofs.Common.{◌≡◌, ℕ, Bool, true, false, List, refl, sym, ap, subst, inl, inr, ⊎_elim}
+use Rattle.std.proofs.Common.{◌≡◌, ℕ, Bool, true, false, List, [], refl, sym, ap, subst, inl, inr, ⊎_elim}
 use Rattle.std.specs.Prelude.{Result, Ok, Err, IfOk}
 use Rattle.rbbi_model.specs.Words.{IsText}
 use Rattle.rbbi_model.specs.Rules.{Rule}
@@ -11,8 +11,15 @@ use Rattle.rbbi_model.specs.Searches.{table_boundaries}
 use Rattle.rbbi_tool.specs.declared.words.setting.Property.{Property}
 use Rattle.rbbi_tool.specs.declared.refusal.Refusal.{Refusal}
 use Rattle.rbbi_tool.specs.Stages.{Meets, Serves}
-use Rattle.rbbi_tool.specs.Rules.{rules_stage}
-use Rattle.rbbi_tool.specs.Basis.{categories_stage, sizes_stage, compiled_stage, table_stage, basis_stage, Basis, ByRules, ByTable, AreBoundariesBy, GivesThem}
+use Rattle.rbbi_tool.specs.Rules.{rules_stage, rules_of_text_stage}
+use Rattle.rbbi_tool.specs.Basis.{categories_stage, sizes_stage, compiled_stage, compiled_text_stage, table_stage, basis_stage, Basis, ByRules, ByTable, AreBoundariesBy, GivesThem}
+
+-- a table of the rules of a text
+pub compiled_text_serves : (x : List ℕ) (rules : List Rule) (result : Result Table Refusal) → (rules_of_text_stage [] false x).passes rules
+    → (categories_stage rules).passes tt → Meets (λ _. tt) (sizes_stage rules) result → IfOk result (λ table. IsCompiled table rules)
+    → Serves IsCompiled (compiled_text_stage x) result
+compiled_text_serves x rules (Ok table) mean few met compiled = (rules, (rules, mean, (tt, (tt, few, met), refl)), compiled)
+compiled_text_serves x rules (Err r) mean few met compiled = ⊎_elim inl (λ is. inr (inr (rules, mean, inl (inr (tt, few, is))))) met
 
 module _ (properties : List Property) (ignored : Bool) (handed : List (List ℕ)) (bytes : List ℕ) where
   -- a table of the rules of a rule file

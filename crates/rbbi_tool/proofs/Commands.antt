@@ -4,7 +4,7 @@ use Rattle.std.specs.Prelude.{Result, Some, IfSome, slice_get, if◌then◌else�
 use Rattle.std.proofs.lemmas.Bool.{cond_both}
 use Rattle.rbbi_tool.specs.declared.refusal.Refusal.{Refusal}
 use Rattle.rbbi_tool.specs.declared.words.command.Command.{Command}
-use Rattle.rbbi_tool.specs.declared.words.command.Command.TheVariants.{Check, Compile, Breaks, Run, Conform}
+use Rattle.rbbi_tool.specs.declared.words.command.Command.TheVariants.{Check, Compile, Breaks, Run, Conform, Demo}
 use Rattle.rbbi_tool.specs.Stages.{Stage, Meets}
 use Rattle.rbbi_tool.specs.Refusals.{Outcome}
 use Rattle.rbbi_tool.specs.Words.{Request, operands_of}
@@ -15,6 +15,7 @@ use Rattle.rbbi_tool.specs.Command.Compile.{compile_stage}
 use Rattle.rbbi_tool.specs.Command.Breaks.{breaks_stage}
 use Rattle.rbbi_tool.specs.Command.Run.{play_stage}
 use Rattle.rbbi_tool.specs.Command.Conform.{conform_stage, failed_count}
+use Rattle.rbbi_tool.specs.Command.Demo.{demo_stage}
 
 -- the answer of a stage whose value is seen as it is
 abbrev pub Answers : Stage Outcome → Result Outcome Refusal → Type 0
@@ -82,6 +83,13 @@ module _ (request : Request) (files handed back : List (List ℕ)) (source : Lis
         (subst (λ t. stage handed source name t (nth names 2) (nth back 2)) text_is
         (subst (λ m. stage handed source name text m (nth back 2)) script_name_is (subst (λ r. stage handed source name text script_name r) script_is met)))))))
 
+-- one that reads no file is answered by its word
+pub demo_answers : (request : Request) (files : List (List ℕ)) (result : Result Outcome Refusal) (word : List ℕ) → word ≡ nth request.operands 0
+    → request.command ≡ Demo → Answers (demo_stage word) result → Answers (files_stage request files) result
+demo_answers request files result word word_is is met =
+    subst (λ c. Answers (command_stage c request (take (length request.properties) files) (drop (length request.properties) files)) result) (sym is)
+    (subst (λ w. Answers (demo_stage w) result) word_is met)
+
 -- what is told of the output of a command: its status, and the file that it writes
 pub record IsToldOf (request : Request) (outcome : Outcome) : Type 0 where
   pub status : outcome.status ≤ 1
@@ -117,6 +125,8 @@ command_told Breaks request handed files outcome is count (basis, passed, (x, ta
     told_of request outcome _ told (record { status = omega arith; file = tt })
 command_told Run request handed files outcome is count (basis, passed, (x, taken, (commands, read, (replies, are, told)))) =
     told_of request outcome _ told (record { status = omega arith; file = tt })
+command_told Demo request handed files outcome is count (number, written, (rules, passed, told)) =
+    told_of request outcome _ told.is (record { status = omega arith; file = tt })
 command_told Conform request handed files outcome is count (basis, passed, (tests, read, (verdicts, are, told))) =
     told_of request outcome _ told (record { status = low (failed_count verdicts); file = tt })
   where

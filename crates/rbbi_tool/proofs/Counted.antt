@@ -1,25 +1,23 @@
 -- The bytes that count of the files that a request names, and what a command reads of them.
-use Rattle.std.proofs.Common.{◌≡◌, ℕ, suc, ◌+◌, ◌<◌, ◌≤◌, Bool, true, false, List, [], ◌∷◌, ◌++◌, length, map, take, drop, get_or, refl, sym, ap, ◌∙◌}
+use Rattle.std.proofs.Common.{◌≡◌, ℕ, ◌+◌, ◌<◌, ◌≤◌, Bool, true, false, List, [], ◌∷◌, ◌++◌, length, map, take, drop, get_or, refl, sym, ap, ◌∙◌}
 use Rattle.std.proofs.Common.{subst, inl, inr, ⊎_elim, arith}
 use Rattle.std.specs.Prelude.{◌⊎◌, sum_by, Option, Some, None, IfSome, Result, Ok, Err}
 use Rattle.std.proofs.lemmas.List.Sums.{sum_by-append, sum_by-cons, sum_by_more, sum_by-take-le}
 use Rattle.rbbi_model.specs.Tables.{Table}
 use Rattle.rbbi_model.specs.Compiled.{IsCompiled}
-use Rattle.rbbi_model.specs.Costs.{breaks_cost, script_cost}
-use Rattle.rbbi_model.specs.Scripts as model
 use Rattle.rbbi_script.specs.Reading.{RisesUpTo}
 use Rattle.rbbi_tool.specs.declared.words.command.Command.{Command}
-use Rattle.rbbi_tool.specs.declared.words.command.Command.TheVariants.{Check, Compile, Breaks, Run, Conform}
+use Rattle.rbbi_tool.specs.declared.words.command.Command.TheVariants.{Check, Compile, Breaks, Run, Conform, Demo}
 use Rattle.rbbi_tool.specs.declared.words.setting.Property.{Property}
 use Rattle.rbbi_tool.specs.declared.refusal.Refusal.{Refusal}
 use Rattle.rbbi_tool.specs.declared.files.Source.{Source}
-use Rattle.rbbi_tool.specs.Stages.{Stage, Meets, Serves}
+use Rattle.rbbi_tool.specs.Stages.{Meets, Serves}
 use Rattle.rbbi_tool.specs.Words.{Request, Asks, operands_of}
 use Rattle.rbbi_tool.specs.Files.{property_source, operand_sources, sources_of}
 use Rattle.rbbi_tool.specs.Reads.{bytes_of, AreRead}
 use Rattle.rbbi_tool.specs.Texts.{text_stage}
 use Rattle.rbbi_tool.specs.Scripts.{script_stage}
-use Rattle.rbbi_tool.specs.Basis.{Basis, ByRules, ByTable, compiled_stage, table_stage, basis_stage}
+use Rattle.rbbi_tool.specs.Basis.{ByRules, ByTable, compiled_stage, table_stage, basis_stage}
 use Rattle.rbbi_tool.specs.Program.{nth}
 use Rattle.rbbi_tool.specs.Steps.{counted, named_bytes, IsTableOf, ReadsForBreaks, ReadsForScript, CommandReads, given_bytes, FilesReads, RequestReads}
 use Rattle.rbbi_tool.proofs.Forms.{same_request}
@@ -133,6 +131,7 @@ command_reads_none Compile request handed files bytes steps = tt
 command_reads_none Breaks request handed files bytes steps = inl (record { more = omega arith; cost = omega arith })
 command_reads_none Run request handed files bytes steps = inl (record { more = omega arith; cost = omega arith })
 command_reads_none Conform request handed files bytes steps = tt
+command_reads_none Demo request handed files bytes steps = tt
 
 -- a fact of what the files hold
 always : {H : Type 0} (o : Option H) (P : H → Type 0) → ((h : H) → P h) → IfSome o P
@@ -243,6 +242,7 @@ module _ (held : List ℕ → List ℕ) where
         omega (arith, parts, tail, zeroth, second) in
         subst (λ n. CommandReads Run request handed_bytes other_bytes n before after) same reads
     named_reads Conform before after is reads = reads
+    named_reads Demo before after is reads = reads
 
     files_reads : (before after : ℕ) → FilesReads request (bytes_of held (sources_of request)) before after → RequestReads request held before after
     files_reads before after reads = named_reads request.command before after refl reads

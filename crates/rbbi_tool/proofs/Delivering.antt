@@ -1,6 +1,6 @@
 -- What the names hold after the file of an outcome was written, or wasn't.
-use Rattle.std.proofs.Common.{◌≡◌, ◌≢◌, ◌⊎◌, ℕ, Bool, true, false, List, Option, None, Some, refl, sym, ap, ◌∙◌, subst, inl, inr, ⊎_elim}
-use Rattle.std.specs.Prelude.{IfSome, IsSomeAnd, IsErrOf, Result, Ok, Err, bytes_eq}
+use Rattle.std.proofs.Common.{◌≡◌, ◌≢◌, ◌⊎◌, ℕ, List, Option, None, Some, refl, sym, subst, inl, inr, ⊎_elim}
+use Rattle.std.specs.Prelude.{IsErrOf, Result, Ok, Err, bytes_eq}
 use Rattle.std.proofs.lemmas.Bool.{cases_Bool}
 use Rattle.std.proofs.lemmas.Bool.Decides.{not_from_Decides}
 use Rattle.std.proofs.lemmas.Slice.Eq.{bytes_eq-Decides}
@@ -8,7 +8,7 @@ use Rattle.rbbi_io.specs.declared.error.WriteErr.{WriteErr}
 use Rattle.rbbi_io.specs.declared.error.WriteErr.TheVariants as write
 use Rattle.rbbi_io.specs.Answers.{WhereTold, OthersHold}
 use Rattle.rbbi_tool.specs.Refusals.{Written}
-use Rattle.rbbi_tool.specs.Delivery.{LeavesFile, FileFailed, IsFile, EachHoldsOrIsFile}
+use Rattle.rbbi_tool.specs.Delivery.{LeavesFile, FileFailed, EachHoldsOrIsFile}
 
 -- two names are the same, or they differ
 same_or_not : (a b : List ℕ) → (a ≡ b) ⊎ (a ≢ b)

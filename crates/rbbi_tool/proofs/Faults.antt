@@ -2,7 +2,7 @@
 use Rattle.std.proofs.Common.{◌≡◌, ◌≢◌, refl, ℕ, Bool, true, false, Option, List, [], ◌∷◌, sym, subst, inl, inr}
 use Rattle.rbbi_model.specs.Rules.{Rule}
 use Rattle.rbbi_tool.specs.declared.words.command.Command.{Command}
-use Rattle.rbbi_tool.specs.declared.words.command.Command.TheVariants.{Check, Compile, Breaks, Run, Conform}
+use Rattle.rbbi_tool.specs.declared.words.command.Command.TheVariants.{Check, Compile, Breaks, Run, Conform, Demo}
 use Rattle.rbbi_tool.specs.declared.words.setting.Property.{Property}
 use Rattle.rbbi_tool.specs.declared.refusal.Subject.{Subject}
 use Rattle.rbbi_tool.specs.declared.refusal.Place.{Place}
@@ -18,7 +18,7 @@ use Rattle.rbbi_script.specs.declared.error.ScriptErr.TheVariants as script
 use Rattle.rbbi_conform.specs.declared.error.TestErr.{TestErr}
 use Rattle.rbbi_conform.specs.declared.error.TestErr.TheVariants as tests
 use Rattle.rbbi_tool.specs.Scripts.{script_fault, tests_fault}
-use Rattle.rbbi_tool.specs.Basis.{limits_stage, compiled_stage, basis_stage}
+use Rattle.rbbi_tool.specs.Basis.{limits_stage, compiled_stage, compiled_text_stage, basis_stage}
 use Rattle.rbbi_tool.specs.Program.{command_stage}
 
 -- a fault of a file ends the run
@@ -66,6 +66,14 @@ compiled_fault properties ignored handed bytes r (inl is) = rules_fault properti
 compiled_fault properties ignored handed bytes r (inr (rules, mean, inl is)) = limits_fault rules r is
 compiled_fault properties ignored handed bytes r (inr (rules, mean, inr (u, few, never))) = absurd never
 
+-- the text of built-in rules
+compiled_text_fault : (x : List ℕ) → Faults (compiled_text_stage x)
+compiled_text_fault x r (inl (inl is)) = told_fault _ _ _ x r is
+compiled_text_fault x r (inl (inr (tokens, are, inl is))) = told_fault _ _ _ x r is
+compiled_text_fault x r (inl (inr (tokens, are, inr (statements, read, is)))) = told_fault _ _ _ x r is
+compiled_text_fault x r (inr (rules, mean, inl is)) = limits_fault rules r is
+compiled_text_fault x r (inr (rules, mean, inr (u, few, never))) = absurd never
+
 -- what boundaries come by
 basis_fault : (properties : List Property) (ignored by_table : Bool) (handed : List (List ℕ)) (bytes : List ℕ)
     → Faults (basis_stage properties ignored by_table handed bytes)
@@ -107,3 +115,6 @@ command_fault Run request handed files r (inr (basis, passed, inr (x, taken, inr
 command_fault Conform request handed files r (inl is) = basis_fault request.properties request.ignored request.by_table handed _ r is
 command_fault Conform request handed files r (inr (basis, passed, inl is)) = tests_fault_is _ is.error r is.not_memory is.is
 command_fault Conform request handed files r (inr (basis, passed, inr (tests, read, never))) = absurd never
+command_fault Demo request handed files r (inl never) = absurd never
+command_fault Demo request handed files r (inr (count, written, inl is)) = compiled_text_fault _ r is
+command_fault Demo request handed files r (inr (count, written, inr (rules, passed, never))) = absurd never

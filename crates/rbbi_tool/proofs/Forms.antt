@@ -1,11 +1,11 @@
 -- What words ask for, and that they are of no form.
-use Rattle.std.proofs.Common.{◌≡◌, ◌≢◌, ℕ, Bool, true, false, List, [], ◌∷◌, length, Option, None, Some, refl, sym, ap, ◌∙◌, subst}
+use Rattle.std.proofs.Common.{◌≡◌, ◌≢◌, ℕ, Bool, false, List, [], ◌∷◌, length, Option, None, Some, refl, sym, ap, ◌∙◌, subst}
 use Rattle.std.specs.Prelude.{codes, bytes_eq, if◌then◌else◌}
 use Rattle.rbbi_tool.specs.declared.words.command.Command.{Command}
-use Rattle.rbbi_tool.specs.declared.words.command.Command.TheVariants.{Check, Compile, Breaks, Run, Conform}
+use Rattle.rbbi_tool.specs.declared.words.command.Command.TheVariants.{Check, Compile, Breaks, Run, Conform, Demo}
 use Rattle.rbbi_tool.specs.declared.words.setting.Setting.{Setting}
 use Rattle.rbbi_tool.specs.Settings.{are_taken, properties_of, ignores_dictionary, are_by_table, BeginWithSettings}
-use Rattle.rbbi_tool.specs.Words.{Request, Asks, AreNoForm, name_of, taken_by, operands_of}
+use Rattle.rbbi_tool.specs.Words.{Request, Asks, AreNoForm, name_of, taken_by, operands_of, AllFit}
 use Rattle.rbbi_tool.proofs.SettingLemmas.{same_settings}
 
 -- the command of a word
@@ -14,7 +14,8 @@ command_at word =
     if bytes_eq word (codes "check") then Some Check
     else (if bytes_eq word (codes "compile") then Some Compile
     else (if bytes_eq word (codes "breaks") then Some Breaks
-    else (if bytes_eq word (codes "run") then Some Run else (if bytes_eq word (codes "conform") then Some Conform else None))))
+    else (if bytes_eq word (codes "run") then Some Run
+    else (if bytes_eq word (codes "conform") then Some Conform else (if bytes_eq word (codes "demo") then Some Demo else None)))))
 
 named : (command : Command) → command_at (name_of command) ≡ Some command
 named Check = refl
@@ -22,6 +23,7 @@ named Compile = refl
 named Breaks = refl
 named Run = refl
 named Conform = refl
+named Demo = refl
 
 -- a word is that of one command alone
 pub same_command : (one other : Command) → name_of one ≡ name_of other → one ≡ other
@@ -72,6 +74,15 @@ module _ (words : List (List ℕ)) (word : List ℕ) (more : List (List ℕ)) (a
           differ
           (ap length (sym (settings_are request asks).1) ∙ asks.count ∙ ap (λ c. length (operands_of c request.by_table)) (command_is request asks)
           ∙ ap (λ t. length (operands_of command t)) table)
+
+      -- an operand isn't of its form
+      pub not_fit : (by_table : Bool) → by_table ≡ are_by_table settings → ¬ AllFit (operands_of command by_table) rest → AreNoForm words
+      not_fit by_table same none request asks =
+          let table : request.by_table ≡ by_table = asks.by_table ∙ ap are_by_table (settings_are request asks).0 ∙ sym same in
+          none
+          (subst (AllFit (operands_of command by_table)) (settings_are request asks).1
+          (subst (λ t. AllFit (operands_of command t) request.operands) table
+          (subst (λ c. AllFit (operands_of c request.by_table) request.operands) (command_is request asks) asks.fit)))
 
 -- one request fits the words
 pub same_request : (words : List (List ℕ)) (one other : Request) → Asks words one → Asks words other → one ≡ other

@@ -20,3 +20,4 @@ pub mod OneReading
 pub mod OneOutcome
 pub mod Searched
 pub mod Counted
+pub mod Fitting

@@ -1,5 +1,5 @@
 -- The lines of the boundaries that searches find, one after another.
-use Rattle.std.proofs.Common.{◌≡◌, ℕ, zero, suc, ◌+◌, ◌-◌, ◌<◌, ◌≤◌, List, [], ◌∷◌, ◌++◌, Option, Some, None, length, get_or, cond, sym, refl, ap, ◌∙◌, ⊎_elim}
+use Rattle.std.proofs.Common.{◌≡◌, ℕ, zero, suc, ◌+◌, ◌-◌, ◌<◌, ◌≤◌, List, [], ◌∷◌, ◌++◌, Option, Some, None, length, cond, sym, refl, ap, ◌∙◌, ⊎_elim}
 use Rattle.std.proofs.Common.{append_assoc, arith}
 use Rattle.std.proofs.lemmas.Bool.{cond_both, cases_lt, lt-ltb, le-ltb}
 use Rattle.std.proofs.lemmas.List.{get_or_past, append-nil}

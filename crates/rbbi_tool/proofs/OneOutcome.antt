@@ -2,6 +2,7 @@
 use Rattle.std.proofs.Common.{◌≡◌, ◌≢◌, ◌⊎◌, ◌+◌, inl, inr, ⊎_elim, ℕ, Bool, true, false, List, [], ◌∷◌, length, Option, Some, is_some, sym, refl, ap, ◌∙◌}
 use Rattle.std.proofs.Common.{arith}
 use Rattle.std.specs.Prelude.{codes, Result, Err, Ok}
+use Rattle.std.specs.Str.{chars}
 use Rattle.rbbi_model.specs.Rules.{Rule}
 use Rattle.rbbi_model.specs.Boundaries.{Boundary, AreBoundaries}
 use Rattle.rbbi_model.specs.Lines.{boundary_lines, all_reply_lines}
@@ -36,8 +37,10 @@ use Rattle.rbbi_file.specs.Answers.{ReadsTable}
 use Rattle.rbbi_script.specs.Laws.{HaveOneScript}
 use Rattle.rbbi_conform.specs.Tests.{Test}
 use Rattle.rbbi_conform.specs.Laws.{HaveOneTestList, HasOneVerdict}
+use Rattle.rbbi_demo.specs.declared.summary.Summary.{Summary}
+use Rattle.rbbi_demo.specs.Summaries.{IsSummary}
 use Rattle.rbbi_tool.specs.declared.words.command.Command.{Command}
-use Rattle.rbbi_tool.specs.declared.words.command.Command.TheVariants.{Check, Compile, Breaks, Run, Conform}
+use Rattle.rbbi_tool.specs.declared.words.command.Command.TheVariants.{Check, Compile, Breaks, Run, Conform, Demo}
 use Rattle.rbbi_tool.specs.declared.words.setting.Property.{Property}
 use Rattle.rbbi_tool.specs.declared.files.Source.{Source}
 use Rattle.rbbi_tool.specs.declared.refusal.Subject.{Subject}
@@ -45,15 +48,16 @@ use Rattle.rbbi_tool.specs.declared.refusal.Subject.TheVariants as subject
 use Rattle.rbbi_tool.specs.declared.refusal.Place.TheVariants.{Whole, Byte, Row}
 use Rattle.rbbi_tool.specs.declared.refusal.Refusal.{Refusal}
 use Rattle.rbbi_tool.specs.declared.refusal.Refusal.TheVariants.{Fault}
-use Rattle.rbbi_tool.specs.Stages.{Stage, followed_by, gives, IsDetermined}
+use Rattle.rbbi_tool.specs.Stages.{followed_by, gives, IsDetermined}
 use Rattle.rbbi_tool.specs.Refusals.{Outcome, refused, printed}
-use Rattle.rbbi_tool.specs.Words.{Request, Asks, AreNoForm}
+use Rattle.rbbi_tool.specs.Words.{Request}
 use Rattle.rbbi_tool.specs.Files.{length_stage, lengths_stage, sources_of}
 use Rattle.rbbi_tool.specs.Texts.{TellsNotUtf8, checked_utf8_stage, utf8_stage, count_stage, text_stage}
 use Rattle.rbbi_tool.specs.Properties.{rows_stage, property_stage, properties_stage, property_files}
 use Rattle.rbbi_tool.specs.Rules.{IsTold, fault_at, rule_text_stage, tokens_stage, statements_stage, meaning_stage, rules_of_text_stage, rule_bytes_stage}
 use Rattle.rbbi_tool.specs.Rules.{rules_stage}
-use Rattle.rbbi_tool.specs.Basis.{categories_stage, TellsLimit, sizes_stage, limits_stage, compiled_stage, table_place, TellsTableFault, table_stage}
+use Rattle.rbbi_tool.specs.Basis.{categories_stage, sizes_stage, limits_stage, compiled_stage, table_place, table_stage}
+use Rattle.rbbi_tool.specs.Basis.{compiled_text_stage}
 use Rattle.rbbi_tool.specs.Basis.{Basis, ByRules, ByTable, AreBoundariesBy, basis_stage}
 use Rattle.rbbi_tool.specs.Reads.{bytes_of}
 use Rattle.rbbi_tool.specs.Command.Check.{counts_line}
@@ -61,6 +65,7 @@ use Rattle.rbbi_tool.specs.Command.Compile.{TellsTable}
 use Rattle.rbbi_tool.specs.Command.Breaks.{boundaries_stage}
 use Rattle.rbbi_tool.specs.Command.Run.{AreRepliesFrom, replies_stage}
 use Rattle.rbbi_tool.specs.Command.Conform.{told_verdicts, verdicts_stage}
+use Rattle.rbbi_tool.specs.Command.Demo.{demo_rules, number_stage, summary_line, summary_stage}
 use Rattle.rbbi_tool.specs.Scripts.{script_stage, tests_stage}
 use Rattle.rbbi_tool.specs.Program.{nth, words_stage, command_stage, files_stage, request_stage, run_stage, IsOutcome}
 use Rattle.rbbi_tool.specs.Causes.{TellOneTable}
@@ -86,6 +91,8 @@ pub record Laws : Type 0 where
   pub replies : (rules : List Rule) (x : List ℕ) (commands : List scripts.Command) (these those : List Reply) → AreReplies rules x commands these
       → AreReplies rules x commands those → these ≡ those
   pub scripts : HaveOneScript
+  pub summaries : (rules : List Rule) (count : ℕ) (one other : Summary) → IsSummary (AreBoundaries rules) count one
+      → IsSummary (AreBoundaries rules) count other → one ≡ other
   pub tests : HaveOneTestList
   pub verdicts : (boundaries : List Boundary) (test : Test) → HasOneVerdict boundaries test
 
@@ -284,6 +291,14 @@ module _ (laws : Laws) where
       (rules_determined properties ignored handed bytes)
       (λ rules. determined_both (limits_stage rules) (λ _. gives rules) (limits_determined rules) (λ _. gives_determined rules))
 
+  -- what the text of built-in rules comes to is determined
+  compiled_text_determined : (x : List ℕ) → IsDetermined (List Rule) (compiled_text_stage x)
+  compiled_text_determined x =
+      determined_both (rules_of_text_stage [] false x) (λ rules. followed_by (limits_stage rules) (λ _. gives rules))
+      (determined_both (tokens_stage x) (λ ts. followed_by (statements_stage x ts) (meaning_stage [] false x)) (tokens_determined x)
+      (λ ts. determined_both (statements_stage x ts) (meaning_stage [] false x) (statements_determined x ts) (meaning_determined [] false x)))
+      (λ rules. determined_both (limits_stage rules) (λ _. gives rules) (limits_determined rules) (λ _. gives_determined rules))
+
   -- what a table file comes to is determined
   err_same : (e f : FileErr) → (let this : Result Table FileErr = Err e in this) ≡ Err f → e ≡ f
   err_same e f same = cc
@@ -341,6 +356,25 @@ module _ (laws : Laws) where
     apart = λ o r is is'. is';
   }
 
+  -- the number that a word writes is determined, and so is its summary
+  number_determined : (word : List ℕ) → IsDetermined ℕ (number_stage word)
+  number_determined word = record {
+    value = λ n m is is'. same_some n m (sym is.written ∙ is'.written);
+    refusal = λ r s is is'. absurd is;
+    apart = λ n r is is'. is';
+  }
+    where
+      same_some : (n m : ℕ) → Some n ≡ Some m → n ≡ m
+      same_some n m same = cc
+
+  summary_determined : (count : ℕ) (rules : List Rule) → IsDetermined Outcome (summary_stage count rules)
+  summary_determined count rules = record {
+    value = λ o p is is'.
+        is.is ∙ ap (λ summary. printed (summary_line summary)) (laws.summaries rules count is.summary is'.summary is.are is'.are) ∙ sym is'.is;
+    refusal = λ r s is is'. absurd is;
+    apart = λ o r is is'. is';
+  }
+
   -- what a command answers is settled
   command_settled : (command : Command) (request : Request) (handed files : List (List ℕ)) → IsSettled Outcome AreAlike (command_stage command request handed files)
   command_settled Run request handed files =
@@ -359,6 +393,12 @@ module _ (laws : Laws) where
       (λ basis. followed_by tests (verdicts_stage basis))
       (basis_determined request.properties request.ignored request.by_table handed (nth files 0))
       (λ basis. determined_both tests (verdicts_stage basis) (tests_determined laws.tests (nth request.operands 1) (nth files 1)) (verdicts_determined basis)))
+  command_settled Demo request handed files =
+      let word : List ℕ = nth request.operands 0 in
+      settled AreAlike (command_stage Demo request handed files) alike
+      (determined_both (number_stage word) (λ count. followed_by (compiled_text_stage (chars demo_rules)) (summary_stage count)) (number_determined word)
+      (λ count. determined_both (compiled_text_stage (chars demo_rules)) (summary_stage count) (compiled_text_determined (chars demo_rules))
+      (summary_determined count)))
   command_settled Check request handed files =
       settled AreAlike (command_stage Check request handed files) alike
       (determined_both (rules_stage request.properties request.ignored handed (nth files 0)) (λ rules. gives (printed (counts_line rules)))

@@ -1,9 +1,9 @@
 -- What a run comes to, what is told of it, and what the sink takes.
-use Rattle.std.proofs.Common.{◌≡◌, ◌≢◌, ◌⊎◌, ◌≤◌, ◌<◌, ℕ, Option, Some, None, List, [], ◌∷◌, length, take, sym, refl, ap, ◌∙◌, subst, inl, inr, ⊎_elim, arith}
-use Rattle.std.specs.Prelude.{IfSome, IsSomeAnd, OnSome, Result, Ok, Err}
+use Rattle.std.proofs.Common.{◌≡◌, ◌≢◌, ◌⊎◌, ◌≤◌, ◌<◌, ℕ, Option, Some, None, List, [], take, sym, refl, ap, ◌∙◌, subst, inl, inr, ⊎_elim, arith}
+use Rattle.std.specs.Prelude.{IfSome, OnSome, Result, Ok, Err}
 use Rattle.std.proofs.lemmas.List.{append-nil}
 use Rattle.std.proofs.lemmas.Bool.{cases_lt}
-use Rattle.rbbi_io.specs.Counts.{Rose, EachStays, OthersStay}
+use Rattle.rbbi_io.specs.Counts.{Rose, EachStays}
 use Rattle.rbbi_io.specs.Answers.{WhereTold}
 use Rattle.rbbi_io.specs.Sinks.{Takes, TakesFront}
 use Rattle.rbbi_tool.specs.declared.files.Source.{Source}
@@ -11,7 +11,7 @@ use Rattle.rbbi_tool.specs.declared.refusal.Subject.{Subject}
 use Rattle.rbbi_tool.specs.declared.refusal.Subject.TheVariants.{Rules, Table, File}
 use Rattle.rbbi_tool.specs.declared.refusal.Refusal.{Refusal}
 use Rattle.rbbi_tool.specs.declared.refusal.Refusal.TheVariants.{Usage, Unread, Fault, Memory}
-use Rattle.rbbi_tool.specs.Stages.{Stage, Meets}
+use Rattle.rbbi_tool.specs.Stages.{Meets}
 use Rattle.rbbi_tool.specs.Refusals.{Outcome, Written, status_of_subject}
 use Rattle.rbbi_model.specs.Lines.{usage_line}
 use Rattle.rbbi_tool.specs.Words.{Request, Asks, AreNoForm}
@@ -21,7 +21,7 @@ use Rattle.rbbi_tool.specs.Program.{files_stage, run_stage, IsOutcome}
 use Rattle.rbbi_tool.specs.Delivery.{HoldsFile, FileFailed, OthersUncounted, EachHoldsOrIsFile}
 use Rattle.rbbi_tool.specs.Causes.{NamesToWrite, IsWrittenBy, ComesTo, Tells, IsAnswer, TellsFailedRead, NoReadFailed, IsPartOfAnswer, TakesPart}
 use Rattle.rbbi_tool.specs.Causes.{TakesOutcome, TakesFailedRead}
-use Rattle.rbbi_tool.specs.Causes.{EachHolds, IsWritten, SomeWriteFailed, OthersUnwritten}
+use Rattle.rbbi_tool.specs.Causes.{EachHolds, SomeWriteFailed, OthersUnwritten}
 use Rattle.rbbi_tool.proofs.Forms.{same_request}
 use Rattle.rbbi_tool.proofs.Reading.{all_told}
 use Rattle.rbbi_tool.proofs.Faults.{IsFault, command_fault}

@@ -1,5 +1,5 @@
 -- The words of options: where the first `=` of one stands, and that words begin with one row of options alone.
-use Rattle.std.proofs.Common.{◌≡◌, ◌≢◌, ◌<◌, ◌≤◌, ◌+◌, ℕ, suc, Bool, true, false, not, cond, eqb, ◌&&◌, List, [], ◌∷◌, ◌++◌, length, take, drop, refl, sym}
+use Rattle.std.proofs.Common.{◌≡◌, ◌≢◌, ◌≤◌, ◌+◌, ℕ, suc, Bool, true, false, not, cond, eqb, ◌&&◌, List, [], ◌∷◌, ◌++◌, length, take, drop, refl, sym}
 use Rattle.std.proofs.Common.{ap, ◌∙◌, subst, arith}
 use Rattle.std.specs.Prelude.{codes}
 use Rattle.std.specs.Char.{is_ascii_alphanumeric}
@@ -11,7 +11,7 @@ use Rattle.std.proofs.lemmas.Grind.{flat_map-append}
 use Rattle.rbbi_tool.specs.declared.words.setting.Property.{Property}
 use Rattle.rbbi_tool.specs.declared.words.setting.Setting.{Setting}
 use Rattle.rbbi_tool.specs.declared.words.setting.Setting.TheVariants.{HandIn, IgnoreDictionary, ByTable}
-use Rattle.rbbi_tool.specs.Settings.{is_name_byte, is_property_name, IsSetting, spelled, BeginsWithoutOption, BeginWithSettings}
+use Rattle.rbbi_tool.specs.Settings.{is_name_byte, IsSetting, spelled, BeginsWithoutOption, BeginWithSettings}
 
 -- both sides of a test hold
 pub and_both : (a b : Bool) → a && b ≡ true → (a ≡ true) × (b ≡ true)

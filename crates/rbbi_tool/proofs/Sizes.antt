@@ -1,12 +1,10 @@
 -- How many files a request has, and that none has more bytes than are read at once.
-use Rattle.std.proofs.Common.{◌≡◌, ◌<◌, ◌≤◌, ◌+◌, ◌-◌, ℕ, zero, suc, Bool, true, false, List, [], ◌∷◌, ◌++◌, length, map, take, drop, get_or, refl, sym, ap}
+use Rattle.std.proofs.Common.{◌≡◌, ◌≤◌, ℕ, zero, suc, Bool, true, false, List, [], ◌∷◌, length, map, take, drop, refl, sym, ap}
 use Rattle.std.proofs.Common.{◌∙◌, subst, arith}
-use Rattle.std.specs.List.{AllByRecursion}
-use Rattle.std.proofs.lemmas.List.{length-map, length-append, length-take-le, length-drop, get_or_read}
+use Rattle.std.proofs.lemmas.List.{length-map, length-append, length-take-le, length-drop}
 use Rattle.rbbi_text.specs.Bytes.{most_bytes}
 use Rattle.rbbi_tool.specs.declared.words.command.Command.{Command}
-use Rattle.rbbi_tool.specs.declared.words.command.Command.TheVariants.{Check, Compile, Breaks, Run, Conform}
-use Rattle.rbbi_tool.specs.declared.words.setting.Property.{Property}
+use Rattle.rbbi_tool.specs.declared.words.command.Command.TheVariants.{Check, Compile, Breaks, Run, Conform, Demo}
 use Rattle.rbbi_tool.specs.declared.files.Role.{Role}
 use Rattle.rbbi_tool.specs.declared.files.Role.TheVariants as role
 use Rattle.rbbi_tool.specs.declared.files.Source.{Source}
@@ -73,6 +71,7 @@ read_by Compile = 1
 read_by Breaks = 2
 read_by Run = 3
 read_by Conform = 2
+read_by Demo = 0
 
 operand_count : (command : Command) (by_table : Bool) (names : List (List ℕ)) → length names ≡ length (operands_of command by_table)
     → length (operand_sources (operands_of command by_table) names) ≡ read_by command
@@ -109,6 +108,9 @@ operand_count Conform true (n ∷ m ∷ []) count = refl
 operand_count Conform true [] count = absurd (omega arith)
 operand_count Conform true (n ∷ []) count = absurd (omega arith)
 operand_count Conform true (n ∷ m ∷ o ∷ names) count = absurd (omega arith)
+operand_count Demo by_table (n ∷ []) count = refl
+operand_count Demo by_table [] count = absurd (omega arith)
+operand_count Demo by_table (n ∷ m ∷ names) count = absurd (omega arith)
 
 pub file_count : (request : Request) (files : List (List ℕ)) → length request.operands ≡ length (operands_of request.command request.by_table)
     → AreWithin (sources_of request) files
@@ -119,14 +121,6 @@ file_count request files count within =
     let first = length-map request.properties property_source in
     let rest = operand_count request.command request.by_table request.operands count in
     omega (arith, length-drop (length request.properties) files)
-
--- each command reads a file or two, and two operands are there where two are asked for
-pub some_files : (command : Command) → 1 ≤ read_by command
-some_files Check = omega arith
-some_files Compile = omega arith
-some_files Breaks = omega arith
-some_files Run = omega arith
-some_files Conform = omega arith
 
 module _ (request : Request) (files : List (List ℕ)) (within : AreWithin (sources_of request) files) where
   -- the property files are among the files

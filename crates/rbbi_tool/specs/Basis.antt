@@ -1,5 +1,5 @@
 -- What the boundaries of a text come by: the rules of a rule file, or a table.
-use Rattle.std.specs.Prelude.{◌≡◌, ◌≢◌, ℕ, Bool, true, false, Err, List, codes, Option, Some, None}
+use Rattle.std.specs.Prelude.{◌≡◌, ◌≢◌, ℕ, Bool, true, false, Err, List, [], codes, Option, Some, None}
 use Rattle.rbbi_model.specs.Rules.{Rule}
 use Rattle.rbbi_model.specs.Boundaries.{Boundary, AreBoundaries}
 use Rattle.rbbi_model.specs.Tables.{Table}
@@ -23,7 +23,7 @@ use Rattle.rbbi_tool.specs.declared.refusal.Place.TheVariants.{Whole, Byte}
 use Rattle.rbbi_tool.specs.declared.refusal.Refusal.{Refusal}
 use Rattle.rbbi_tool.specs.declared.refusal.Refusal.TheVariants.{Fault}
 use Rattle.rbbi_tool.specs.Stages.{Stage, followed_by, gives}
-use Rattle.rbbi_tool.specs.Rules.{rules_stage}
+use Rattle.rbbi_tool.specs.Rules.{rules_stage, rules_of_text_stage}
 
 -- there are at most 255 categories, category 0 counted, or more
 abbrev pub categories_stage : List Rule → Stage (Unit {0})
@@ -51,6 +51,10 @@ limits_stage rules = followed_by (categories_stage rules) (λ _. sizes_stage rul
 abbrev pub compiled_stage : List Property → Bool → List (List ℕ) → List ℕ → Stage (List Rule)
 compiled_stage properties ignored handed bytes =
     followed_by (rules_stage properties ignored handed bytes) (λ rules. followed_by (limits_stage rules) (λ _. gives rules))
+
+-- the rules of a text that has a table, without property files
+abbrev pub compiled_text_stage : List ℕ → Stage (List Rule)
+compiled_text_stage x = followed_by (rules_of_text_stage [] false x) (λ rules. followed_by (limits_stage rules) (λ _. gives rules))
 
 -- the place of a fault of a table file
 abbrev pub table_place : Option ℕ → Place

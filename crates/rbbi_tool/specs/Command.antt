@@ -4,3 +4,4 @@ pub mod Compile
 pub mod Breaks
 pub mod Run
 pub mod Conform
+pub mod Demo

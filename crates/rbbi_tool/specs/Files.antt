@@ -2,7 +2,7 @@
 use Rattle.std.specs.Prelude.{◌≡◌, ◌<◌, ◌≤◌, ℕ, List, [], ◌∷◌, ◌++◌, length, map, codes}
 use Rattle.rbbi_tool.specs.declared.words.setting.Property.{Property}
 use Rattle.rbbi_tool.specs.declared.words.command.Operand.{Operand}
-use Rattle.rbbi_tool.specs.declared.words.command.Operand.TheVariants.{Read, Written}
+use Rattle.rbbi_tool.specs.declared.words.command.Operand.TheVariants.{Read, Written, Count}
 use Rattle.rbbi_tool.specs.declared.files.Role.{Role}
 use Rattle.rbbi_tool.specs.declared.files.Role.TheVariants as role
 use Rattle.rbbi_tool.specs.declared.files.Source.{Source}
@@ -40,6 +40,7 @@ property_source property = record { role = role.Property; name = property.file }
 abbrev pub operand_source : Operand → List ℕ → List Source
 operand_source (Read role) name = record { role = role; name = name } ∷ []
 operand_source Written name = []
+operand_source Count word = []
 
 -- the files of these operands that are read
 abbrev pub operand_sources : List Operand → List (List ℕ) → List Source

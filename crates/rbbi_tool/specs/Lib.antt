@@ -1,6 +1,7 @@
 pub mod Stages
 pub mod Refusals
 pub mod Settings
+pub mod Counts
 pub mod Words
 pub mod Requests
 pub mod Files

@@ -1,7 +1,7 @@
 -- What a run of the program answers, where the files tell what they hold: the exit status, and what is written.
 use Rattle.std.specs.Prelude.{◌≡◌, ◌⊎◌, ℕ, List, [], slice_index_or, length, take, drop}
 use Rattle.rbbi_tool.specs.declared.words.command.Command.{Command}
-use Rattle.rbbi_tool.specs.declared.words.command.Command.TheVariants.{Check, Compile, Breaks, Run, Conform}
+use Rattle.rbbi_tool.specs.declared.words.command.Command.TheVariants.{Check, Compile, Breaks, Run, Conform, Demo}
 use Rattle.rbbi_tool.specs.declared.refusal.Refusal.{Refusal}
 use Rattle.rbbi_tool.specs.declared.refusal.Refusal.TheVariants.{Usage}
 use Rattle.rbbi_tool.specs.Stages.{Stage, followed_by}
@@ -14,6 +14,7 @@ use Rattle.rbbi_tool.specs.Command.Compile.{compile_stage}
 use Rattle.rbbi_tool.specs.Command.Breaks.{breaks_stage}
 use Rattle.rbbi_tool.specs.Command.Run.{play_stage}
 use Rattle.rbbi_tool.specs.Command.Conform.{conform_stage}
+use Rattle.rbbi_tool.specs.Command.Demo.{demo_stage}
 
 -- what the words ask for
 abbrev pub words_stage : List (List ℕ) → Stage Request
@@ -34,6 +35,7 @@ command_stage Run request handed files =
     (nth files 2)
 command_stage Conform request handed files =
     conform_stage request.properties request.ignored request.by_table handed (nth files 0) (nth request.operands 1) (nth files 1)
+command_stage Demo request handed files = demo_stage (nth request.operands 0)
 
 -- what a request is answered, from the bytes of all files in order: the property files come first
 abbrev pub files_stage : Request → List (List ℕ) → Stage Outcome

@@ -1,5 +1,5 @@
 -- From the bytes of property files to their rows.
-use Rattle.std.specs.Prelude.{◌≡◌, ℕ, List, [], ◌∷◌, length, codes, IsUtf8}
+use Rattle.std.specs.Prelude.{◌≡◌, ℕ, List, [], ◌∷◌, length, codes}
 use Rattle.rbbi_text.specs.Bytes.{file_lines}
 use Rattle.rbbi_props.specs.Rows as rows
 use Rattle.rbbi_props.specs.Files.{file_of}
@@ -7,7 +7,6 @@ use Rattle.rbbi_props.specs.Refusals.{HasRowsAlone, IsBadRow}
 use Rattle.rbbi_tool.specs.declared.words.setting.Property.{Property}
 use Rattle.rbbi_tool.specs.declared.refusal.Subject.TheVariants.{File}
 use Rattle.rbbi_tool.specs.declared.refusal.Place.TheVariants.{Row}
-use Rattle.rbbi_tool.specs.declared.refusal.Refusal.{Refusal}
 use Rattle.rbbi_tool.specs.declared.refusal.Refusal.TheVariants.{Fault}
 use Rattle.rbbi_tool.specs.Stages.{Stage, followed_by}
 use Rattle.rbbi_tool.specs.Reads.{AreShort}

@@ -1,5 +1,5 @@
 -- From the bytes of a rule file to its rules, and the first fault on the way.
-use Rattle.std.specs.Prelude.{◌≡◌, ℕ, Bool, List, length, codes, Option, Some, IsUtf8}
+use Rattle.std.specs.Prelude.{◌≡◌, ℕ, Bool, List, length, Option, Some, IsUtf8}
 use Rattle.std.specs.Str.{chars}
 use Rattle.rbbi_model.specs.Rules.{Rule}
 use Rattle.rbbi_model.specs.Lines.{row_of, column_of}
@@ -15,7 +15,7 @@ use Rattle.rbbi_props.specs.Rows.{File}
 use Rattle.rbbi_resolve.specs.Outcomes.{Means}
 use Rattle.rbbi_resolve.specs.Refusals as resolver
 use Rattle.rbbi_tool.specs.declared.refusal.Subject.TheVariants.{Rules}
-use Rattle.rbbi_tool.specs.declared.refusal.Place.TheVariants.{Whole, Within}
+use Rattle.rbbi_tool.specs.declared.refusal.Place.TheVariants.{Within}
 use Rattle.rbbi_tool.specs.declared.refusal.Refusal.{Refusal}
 use Rattle.rbbi_tool.specs.declared.refusal.Refusal.TheVariants.{Fault}
 use Rattle.rbbi_tool.specs.Stages.{Stage, followed_by}

@@ -7,7 +7,7 @@ use Rattle.rbbi_tool.specs.declared.words.setting.Property.{Property}
 use Rattle.rbbi_tool.specs.declared.words.setting.Setting.{Setting}
 use Rattle.rbbi_tool.specs.declared.words.setting.Setting.TheVariants.{HandIn, IgnoreDictionary, ByTable}
 use Rattle.rbbi_tool.specs.declared.words.command.Takes.{Takes}
-use Rattle.rbbi_tool.specs.declared.words.command.Takes.TheVariants.{RuleOptions, RuleOptionsOrTable}
+use Rattle.rbbi_tool.specs.declared.words.command.Takes.TheVariants.{NoOptions, RuleOptions, RuleOptionsOrTable}
 
 -- whether a byte may stand in the name of a property: a letter, a digit, a space, `_` or `-`
 abbrev pub is_name_byte : ℕ → Bool
@@ -69,9 +69,10 @@ are_by_table settings = list_any is_by_table settings
 abbrev pub are_few : List Setting → Bool
 are_few settings = nat_le (count_by is_property settings) 16 && nat_le (count_by is_ignoring settings) 1
 
--- Whether a command that takes such options takes these: those on rule files; or also the one that says that there is a table,
+-- Whether a command that takes such options takes these: none; those on rule files; or also the one that says that there is a table,
 -- which stands alone.
 abbrev pub are_taken : Takes → List Setting → Bool
+are_taken NoOptions settings = length settings == 0
 are_taken RuleOptions settings = not (are_by_table settings) && are_few settings
 are_taken RuleOptionsOrTable settings = if are_by_table settings then length settings == 1 else are_few settings
 

@@ -9,7 +9,6 @@ use Rattle.rbbi_tool.specs.declared.words.command.Command.{Command}
 use Rattle.rbbi_tool.specs.declared.words.command.Command.TheVariants.{Breaks, Run}
 use Rattle.rbbi_tool.specs.declared.files.Role.{Role}
 use Rattle.rbbi_tool.specs.declared.files.Role.TheVariants.{Text}
-use Rattle.rbbi_tool.specs.declared.files.Source.{Source}
 use Rattle.rbbi_tool.specs.Stages.{Stage}
 use Rattle.rbbi_tool.specs.Words.{Request}
 use Rattle.rbbi_tool.specs.Files.{sources_of}

@@ -1,6 +1,6 @@
 //! The table that the boundaries of a text come by: compiled from a rule file, or read from a table
 //! file.
-ghost use Rattle.std.specs.Prelude.{◌≡◌, ◌+◌, ◌≤◌, length, sum_by, IfOk};
+ghost use Rattle.std.specs.Prelude.{◌≡◌, ◌+◌, ◌≤◌, length, chars, sum_by, IfOk};
 ghost use Rattle.rbbi_text.specs.Bytes.{most_bytes};
 ghost use Rattle.rbbi_model.specs.Rules.{AreLawful};
 ghost use Rattle.rbbi_model.specs.Compiled.{AreClasses, IsCompiled};
@@ -13,11 +13,12 @@ ghost use Rattle.rbbi_tool.specs.Basis as spec;
 ghost use Rattle.rbbi_tool.specs.Steps.{IsTableOf};
 
 use crate::refusal::{Place, Refusal, Subject, fault};
-use crate::rules::rules_from;
+use crate::rules::{rules_from, rules_of_text};
 use crate::words::Options;
 use rbbi_cats::{Categories, CatsErr};
 use rbbi_dfa::BuildErr;
 use rbbi_file::FileErr;
+use rbbi_props::PropTable;
 use rbbi_resolve::Rules;
 use rbbi_table::Table;
 use rbbi_text::{Raw, Steps};
@@ -76,6 +77,18 @@ pub(crate) fn compiled<L: Ledger>(
     ensures steps { RisesUpTo (sum_by length handed.now + length bytes.now) steps.old steps.new }
 {
     let rules = rules_from(alloc, options, handed, bytes, steps)?;
+    let cats = categories_of(alloc, &rules)?;
+    built(alloc, &rules, &cats)
+}
+
+/// The table of the rules of a text, without property files. Its fault is the first of the text, of
+/// the number of its categories, and of the size of its table.
+pub(crate) fn compiled_text(alloc: Global, text: &str) -> Result<Table, Refusal>
+    requires { length text.now ≤ most_bytes }
+    ensures { Serves IsCompiled (spec.compiled_text_stage (chars text.now)) result }
+{
+    let props = PropTable::new(alloc);
+    let rules = rules_of_text(alloc, text, &props, false)?;
     let cats = categories_of(alloc, &rules)?;
     built(alloc, &rules, &cats)
 }

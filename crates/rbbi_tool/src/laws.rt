@@ -20,6 +20,7 @@ pub fn outcomes_are_unique()
     rbbi_file::one_answer();
     rbbi_model::replies_are_unique();
     rbbi_script::one_script();
+    rbbi_demo::summaries_are_unique();
     rbbi_conform::one_tests();
     rbbi_conform::one_verdict();
 }

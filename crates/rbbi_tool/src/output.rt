@@ -2,14 +2,14 @@
 ghost use Rattle.std.specs.Prelude.{◌≡◌, ◌<◌, map, length};
 ghost use Rattle.std.specs.String.{string_bytes};
 ghost use Rattle.rbbi_tool.specs.Stages.{Meets};
-ghost use Rattle.rbbi_tool.specs.Words.{operands_of};
+ghost use Rattle.rbbi_tool.specs.Words.{operands_of, AllFit};
 ghost use Rattle.rbbi_tool.specs.Requests.{asked_by};
 ghost use Rattle.rbbi_tool.specs.Files.{sources_of};
 ghost use Rattle.rbbi_tool.specs.Reads.{AreWithin};
 ghost use Rattle.rbbi_tool.specs.Program.{nth, files_stage};
 ghost use Rattle.rbbi_tool.specs.Steps.{FilesReads};
 
-use crate::command::{Output, breaks, check, compile, conform, run};
+use crate::command::{Output, breaks, check, compile, conform, demo, run};
 use crate::refusal::Refusal;
 use crate::words::{Command, Request};
 use rbbi_text::{Raw, Steps};
@@ -41,6 +41,8 @@ pub(crate) fn output_of<L: Ledger>(
 ) -> Result<Output, Refusal>
     requires count { length request.now.operands.now
         ≡ length (operands_of request.now.command request.now.options.by_table) }
+    requires fit { AllFit (operands_of request.now.command request.now.options.by_table)
+        (map string_bytes request.now.operands.now) }
     requires within { AreWithin (sources_of (asked_by request.now)) files.now }
     ensures exact { Meets (λ output. output) (files_stage (asked_by request.now) files.now) result }
     ensures steps { FilesReads (asked_by request.now) files.now steps.old steps.new }
@@ -48,19 +50,24 @@ pub(crate) fn output_of<L: Ledger>(
     let options = &request.options;
     let operands = request.operands;
     let (handed, files) = files.split_at(options.properties.len());
-    let source = file(files, 0);
     match request.command {
-        Command::Check => check(alloc, options, handed, source, steps),
+        Command::Check => {
+            let rules = file(files, 0);
+            check(alloc, options, handed, rules, steps)
+        }
         Command::Compile => {
+            let rules = file(files, 0);
             let table_name = word(operands, 1);
-            compile(alloc, options, handed, source, table_name, steps)
+            compile(alloc, options, handed, rules, table_name, steps)
         }
         Command::Breaks => {
+            let source = file(files, 0);
             let text_name = word(operands, 1);
             let text = file(files, 1);
             breaks(alloc, options, handed, source, text_name, text, steps)
         }
         Command::Run => {
+            let source = file(files, 0);
             let played_name = word(operands, 1);
             let played = file(files, 1);
             let script_name = word(operands, 2);
@@ -78,9 +85,11 @@ pub(crate) fn output_of<L: Ledger>(
             )
         }
         Command::Conform => {
+            let source = file(files, 0);
             let tests_name = word(operands, 1);
             let tests = file(files, 1);
             conform(alloc, options, handed, source, tests_name, tests, steps)
         }
+        Command::Demo => demo(alloc, word(operands, 0), steps),
     }
 }

@@ -121,7 +121,7 @@ fn meaning_of(
 }
 
 /// The rules of the text of a rule file.
-fn rules_of_text(
+pub(crate) fn rules_of_text(
     alloc: Global,
     text: &str,
     props: &PropTable,

@@ -5,6 +5,7 @@ mod breaks;
 mod check;
 mod compile;
 mod conform;
+mod demo;
 mod faults;
 mod forms;
 mod run;

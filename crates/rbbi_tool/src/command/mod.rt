@@ -4,6 +4,7 @@ mod breaks;
 mod check;
 mod compile;
 mod conform;
+mod demo;
 mod run;
 
 use crate::name::Name;
@@ -11,6 +12,7 @@ pub(crate) use breaks::breaks;
 pub(crate) use check::check;
 pub(crate) use compile::compile;
 pub(crate) use conform::conform;
+pub(crate) use demo::demo;
 pub(crate) use run::run;
 use std::marker::Model;
 

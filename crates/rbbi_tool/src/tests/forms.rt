@@ -28,6 +28,15 @@ const FORMS: &[&str] = &[
     "--ignore-dictionary check r.txt",
     "check r.txt --ignore-dictionary",
     "demo 0",
+    "demo 1000001",
+    "demo 00000001",
+    "demo",
+    "demo 5 6",
+    "demo x",
+    "demo +5",
+    "demo --table 5",
+    "demo --ignore-dictionary 5",
+    "demo --prop A=t.txt 5",
 ];
 
 #[test]

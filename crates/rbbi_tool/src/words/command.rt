@@ -18,11 +18,15 @@ pub(crate) enum Command {
     Run,
     /// Compare the boundaries of tests with their marks.
     Conform,
+    /// Tell what comes of a session over a text that is drawn.
+    Demo,
 }
 
 /// Which options a command takes.
 #[derive(Clone, Copy, Debug)]
 pub(crate) enum Takes {
+    /// None.
+    NoOptions,
     /// Those on rule files.
     RuleOptions,
     /// Those on rule files; or the one that says that the first operand is a table file.
@@ -36,6 +40,8 @@ pub(crate) enum Operand {
     Read(Role),
     /// A file that is written.
     Written,
+    /// A number of characters, from 1 to 1,000,000.
+    Count,
 }
 
 impl Command {
@@ -46,6 +52,7 @@ impl Command {
         match self {
             Command::Check | Command::Compile => Takes::RuleOptions,
             Command::Breaks | Command::Run | Command::Conform => Takes::RuleOptionsOrTable,
+            Command::Demo => Takes::NoOptions,
         }
     }
 
@@ -70,6 +77,7 @@ impl Command {
             ],
             (Command::Conform, false) => &[Operand::Read(Role::Rules), Operand::Read(Role::Tests)],
             (Command::Conform, true) => &[Operand::Read(Role::Table), Operand::Read(Role::Tests)],
+            (Command::Demo, _) => &[Operand::Count],
         }
     }
 }
@@ -85,6 +93,7 @@ pub(crate) fn command_of(word: &str) -> Option<Command>
         "breaks" => Some(Command::Breaks),
         "run" => Some(Command::Run),
         "conform" => Some(Command::Conform),
+        "demo" => Some(Command::Demo),
         _ => None,
     }
 }

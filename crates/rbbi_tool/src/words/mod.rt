@@ -5,11 +5,14 @@ ghost use Rattle.rbbi_tool.specs.Words as spec;
 ghost use Rattle.rbbi_tool.specs.Requests.{asked_by};
 
 mod command;
+mod operand;
 mod options;
 mod setting;
 
 use command::command_of;
 pub(crate) use command::{Command, Operand};
+use operand::are_fit;
+pub(crate) use operand::count_of;
 pub(crate) use options::Options;
 use options::{are_taken, options_of};
 pub(crate) use setting::Property;
@@ -48,6 +51,9 @@ pub(crate) fn request_of(
     }
     let options = options_of(alloc, settings.list)?;
     if operands.len() != command.operands(options.by_table).len() {
+        return Ok(None);
+    }
+    if !are_fit(command.operands(options.by_table), operands) {
         return Ok(None);
     }
     Ok(Some(Request {

@@ -62,6 +62,7 @@ pub(super) fn are_taken(takes: Takes, settings: &[Setting]) -> bool
     ensures { result ≡ spec.are_taken takes settings.now }
 {
     match takes {
+        Takes::NoOptions => settings.is_empty(),
         Takes::RuleOptions => !are_by_table(settings) && are_few(settings),
         Takes::RuleOptionsOrTable => {
             if are_by_table(settings) {

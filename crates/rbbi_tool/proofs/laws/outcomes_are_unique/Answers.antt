@@ -16,6 +16,7 @@ returns c =
       boundaries = c.boundaries_are_unique.ensures;
       replies = c.replies_are_unique.ensures;
       scripts = c.one_script.ensures;
+      summaries = c.summaries_are_unique.ensures;
       tests = c.one_tests.ensures;
       verdicts = c.one_verdict.ensures;
     })

@@ -1,5 +1,5 @@
 use Rattle.std.proofs.Common.{◌≡◌, ◌<◌, ◌++◌, length, sym, ap, ◌∙◌, subst, arith}
-use Rattle.rbbi_model.specs.Boundaries.{Boundary, start}
+use Rattle.rbbi_model.specs.Boundaries.{start}
 use Rattle.rbbi_model.specs.Lines.{boundary_line}
 use Rattle.rbbi_model.specs.Tables.{statuses_of}
 use Rattle.rbbi_model.specs.Searches.{next_boundary}

@@ -1,4 +1,4 @@
-use Rattle.std.proofs.Common.{◌≡◌, ◌<◌, ◌∙◌, ap, subst, length, arith}
+use Rattle.std.proofs.Common.{◌<◌, ◌∙◌, subst, length, arith}
 use Rattle.rbbi_model.specs.Words.{IsText}
 use Rattle.rbbi_tool.proofs.Verdicts.{judged_none, judged_more, all_judged}
 use Rattle.rbbi_tool.proofs.command.conform.report_of.Goals as goal

@@ -3,7 +3,6 @@ use Rattle.std.specs.Prelude.{sum_by}
 use Rattle.std.proofs.lemmas.Result.{err_from_is_err_and}
 use Rattle.rbbi_model.specs.Scripts.{table_replies}
 use Rattle.rbbi_model.specs.Costs.{script_cost}
-use Rattle.rbbi_model.specs.Lines.{all_reply_lines}
 use Rattle.rbbi_script.specs.Meaning.{meaning}
 use Rattle.rbbi_script.specs.Reading.{RisesUpTo}
 use Rattle.rbbi_tool.specs.Refusals.{printed}

@@ -1,0 +1,38 @@
+-- What `demo` answers.
+use Rattle.std.specs.Prelude.{◌≡◌, ℕ, List, codes}
+use Rattle.std.specs.Str.{chars}
+use Rattle.rbbi_model.specs.Rules.{Rule}
+use Rattle.rbbi_model.specs.Boundaries.{AreBoundaries}
+use Rattle.rbbi_model.specs.Lines.{demo_line}
+use Rattle.rbbi_demo.specs.declared.summary.Summary.{Summary}
+use Rattle.rbbi_demo.specs.Summaries.{IsSummary}
+use Rattle.rbbi_tool.specs.Stages.{Stage, followed_by}
+use Rattle.rbbi_tool.specs.Refusals.{Outcome, printed}
+use Rattle.rbbi_tool.specs.Counts.{IsCount}
+use Rattle.rbbi_tool.specs.Basis.{compiled_text_stage}
+
+-- the text of the built-in rules
+unfoldable pub demo_rules : List ℕ
+demo_rules = codes "$W = [a-c]; $X = [\\u0308]; $D = [12];\n$W ($W | $X)* {200}; $D+ ([.] $D+)* {100};\n' '+; [.] / ' ' {5}; .;\n"
+
+-- the number that the word writes
+abbrev pub number_stage : List ℕ → Stage ℕ
+number_stage word = record { passes = IsCount word; refuses = λ _. ⊥ }
+
+-- what is told of a summary
+abbrev pub summary_line : Summary → List ℕ
+summary_line summary = demo_line summary.chars summary.edits summary.boundaries summary.sum
+
+-- the summary of the number by the rules
+pub record TellsSummary (count : ℕ) (rules : List Rule) (outcome : Outcome) : Type 0 where
+  pub summary : Summary
+  pub are : IsSummary (AreBoundaries rules) count summary
+  pub is : outcome ≡ printed (summary_line summary)
+
+-- the line of the summary
+abbrev pub summary_stage : ℕ → List Rule → Stage Outcome
+summary_stage count rules = record { passes = TellsSummary count rules; refuses = λ _. ⊥ }
+
+-- the demonstration of the number that the word writes, by the rules that the built-in text means
+abbrev pub demo_stage : List ℕ → Stage Outcome
+demo_stage word = followed_by (number_stage word) (λ count. followed_by (compiled_text_stage (chars demo_rules)) (summary_stage count))

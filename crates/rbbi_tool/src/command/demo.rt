@@ -1,0 +1,72 @@
+//! The command `demo`.
+ghost use Rattle.std.specs.Prelude.{◌≡◌, ℕ, IfOk};
+ghost use Rattle.rbbi_demo.specs.declared.summary.Summary.{Summary};
+ghost use Rattle.rbbi_tool.specs.Counts.{IsCount};
+ghost use Rattle.rbbi_tool.specs.Stages.{Meets};
+ghost use Rattle.rbbi_tool.specs.Command.Demo as spec;
+
+use super::Output;
+use crate::basis::compiled_text;
+use crate::lines::joined;
+use crate::refusal::Refusal;
+use crate::words::count_of;
+use itoa::Buffer;
+use rbbi_demo::Summary;
+use rbbi_text::Steps;
+use std::alloc::{AllocError, Global};
+use std::sync::ledger::Ledger;
+
+/// The built-in rules: words of letters and marks, numbers with points, spaces, and a point before
+/// a space.
+const RULES: &str = "$W = [a-c]; $X = [\\u0308]; $D = [12];
+$W ($W | $X)* {200}; $D+ ([.] $D+)* {100};
+' '+; [.] / ' ' {5}; .;
+";
+
+/// The line of a summary.
+fn summary_line(alloc: Global, summary: &Summary) -> Result<Vec<u8>, AllocError>
+    ensures { IfOk result (λ line. line.items ≡ spec.summary_line summary.now) }
+{
+    let mut chars = Buffer::new();
+    let mut edits = Buffer::new();
+    let mut boundaries = Buffer::new();
+    let mut sum = Buffer::new();
+    let chars = chars.format(summary.chars).as_bytes();
+    let edits = edits.format(summary.edits).as_bytes();
+    let boundaries = boundaries.format(summary.boundaries).as_bytes();
+    let sum = sum.format(summary.sum).as_bytes();
+    joined(
+        alloc,
+        &[
+            b"chars ",
+            chars,
+            b" edits ",
+            edits,
+            b" boundaries ",
+            boundaries,
+            b" sum ",
+            sum,
+            b"\n",
+        ],
+    )
+}
+
+/// The summary of the demonstration of the number that the word writes, by the built-in rules.
+pub(crate) fn demo<L: Ledger>(
+    alloc: Global,
+    word: &str,
+    steps: &mut Steps<L>,
+) -> Result<Output, Refusal>
+    requires { (count : ℕ) × IsCount word.now count }
+    ensures { Meets (λ output. output) (spec.demo_stage word.now) result }
+{
+    let Some(count) = count_of(word) else {
+        unreachable!();
+    };
+    let table = compiled_text(alloc, RULES)?;
+    rbbi_model::same_marks_give_the_boundaries();
+    rbbi_demo::table_summaries_are_those_of_the_rules();
+    let summary = rbbi_demo::demo(alloc, &table, count, steps)?;
+    let line = summary_line(alloc, &summary)?;
+    Ok(Output::printed(line))
+}
