@@ -238,20 +238,23 @@ def parts(bench):
                ['categories', leaves], 20)
     yield part(bench, 'the positions of a rule with 8,192 leaves', 0.5, ['positions', leaves], 20,
                memory=16 * MIB)
-    yield part(bench, 'a million `char_at` at random places of 12 M characters by pieces, 100 of them '
-               'inserted', 0.05, ['places', text], 10_000_000, 1_000_000)
+    for edits, said, target in (('1', 'edited once', 0.05), ('100', 'with 100 letters inserted', None)):
+        yield part(bench, 'a million `char_at` at random places of 12 M characters by pieces, ' + said,
+                   target, ['places', text], 10_000_000, 1_000_000, behind=[edits])
     yield scanning(bench)
 
 
-def part(bench, what, target, words, rounds, counted=1, memory=None):
-    """A line for so many rounds of a call, and the memory beside what is held before it."""
-    line = Line(what, target=time_text(target) + (f', {size_text(memory)}' if memory else ''))
-    line.verdict = bench.lacking_part(words + ['0'])
+def part(bench, what, target, words, rounds, counted=1, memory=None, behind=()):
+    """A line for so many rounds of a call, and the memory beside what is held before it. `behind` are
+    the words behind the number of rounds."""
+    line = Line(what, target=(time_text(target) if target else '')
+                + (f', {size_text(memory)}' if memory else ''))
+    line.verdict = bench.lacking_part(words + ['0', *behind])
     if line.verdict:
         return line
-    many, none = ([bench.parts] + words + [str(count)] for count in (rounds, 0))
+    many, none = ([bench.parts] + words + [str(count), *behind] for count in (rounds, 0))
     seconds = (bench.best(many).seconds - bench.best(none).seconds) * counted / rounds
-    line.time, line.verdict = time_text(seconds), verdict(seconds, target)
+    line.time, line.verdict = time_text(seconds), verdict(seconds, target) if target else ''
     if memory:
         peak = held(many) - held(none)
         line.peak = size_text(peak)

@@ -56,7 +56,10 @@ fn run<L: Ledger>(rt: &HostRuntime, words: &Vec<String>, blank: Blank) -> Option
     match part {
         "categories" => measure_categories(alloc, file.bytes(&mut steps), rounds),
         "positions" => measure_positions(alloc, file.bytes(&mut steps), rounds),
-        "places" => measure_places(alloc, &file, rounds, &mut steps),
+        "places" => {
+            let edits = words.get(3)?.as_str().parse::<u32>().ok()?;
+            measure_places(alloc, &file, rounds, edits, &mut steps)
+        }
         "scan" => {
             let text = read(alloc, &mut files, words.get(3)?.as_str())?;
             measure_scan(alloc, &file, &text, rounds, &mut steps)

@@ -11,9 +11,6 @@ use rbbi_text::{Chars, EditText, Pieces, PlainText, Raw, Steps};
 use std::alloc::Global;
 use std::sync::ledger::Ledger;
 
-/// How many characters are inserted into a text before its characters are read.
-const EDITS: u32 = 100;
-
 /// The categories of a rule file's rules, and how many there are.
 pub(crate) fn measure_categories(alloc: Global, bytes: &[u8], rounds: u32) -> Option<u64>
     requires { length bytes.now ≤ most_bytes }
@@ -110,17 +107,24 @@ fn draw(state: u64) -> u64 {
     state.wrapping_mul(1_103_515_245).wrapping_add(12_345) % 2_147_483_648
 }
 
-/// A text by pieces, with some letters inserted at random places.
-fn edited(alloc: Global, file: &Raw) -> Option<Pieces>
+/// A place below a length, by a number below 2^31: it takes no division, which would count beside
+/// the call that is measured.
+fn place_by(number: u64, len: u32) -> u32 {
+    let product = number.wrapping_mul(u64::from(len));
+    (product / 2_147_483_648 % 4_294_967_296) as u32
+}
+
+/// A text by pieces, with so many letters inserted at random places.
+fn edited(alloc: Global, file: &Raw, edits: u32) -> Option<Pieces>
     requires { length file.now ≤ most_bytes }
 {
     let Ok(mut text) = Pieces::from_raw(alloc, file) else {
         return None;
     };
     let mut state = 0;
-    for _ in 0..EDITS {
+    for _ in 0..edits {
         state = draw(state);
-        let at = (state / 8 % (u64::from(text.len()) + 1)) as u32;
+        let at = place_by(state, text.len());
         if text.replace(at, 0, "x").is_err() {
             return None;
         }
@@ -128,22 +132,23 @@ fn edited(alloc: Global, file: &Raw) -> Option<Pieces>
     Some(text)
 }
 
-/// The characters at random places of a text that was hardly edited, and their sum.
+/// The characters at random places of a text that was edited so many times, and their sum.
 pub(crate) fn measure_places<L: Ledger>(
     alloc: Global,
     file: &Raw,
     rounds: u32,
+    edits: u32,
     steps: &mut Steps<L>,
 ) -> Option<u64>
     requires { length file.now ≤ most_bytes }
 {
-    let text = edited(alloc, file)?;
+    let text = edited(alloc, file, edits)?;
     let len = text.len();
     let mut state = 0;
     let mut sum = 0u64;
     for _ in 0..rounds {
         state = draw(state);
-        let place = (state / 8 % u64::from(len.max(1))) as u32;
+        let place = place_by(state, len);
         if place < len {
             sum = sum.wrapping_add(u64::from(u32::from(text.char_at(place, steps))));
         }

@@ -14,7 +14,7 @@ abbrev filled : List ℕ → Bool
 filled word = not (eqb (length word) 0)
 
 -- a blank at the start is no part of a word
-words_behind : (b : ℕ) (text : List ℕ) → is_blank b ≡ true → words_of (b ∷ text) ≡ words_of text
+pub words_behind : (b : ℕ) (text : List ℕ) → is_blank b ≡ true → words_of (b ∷ text) ≡ words_of text
 words_behind b text blank =
     ap (λ t. filter filled (cond t ([] ∷ slice_split is_blank text) (Rattle.std.specs.List.onto_first b (slice_split is_blank text)))) blank
 

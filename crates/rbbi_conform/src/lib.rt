@@ -5,6 +5,7 @@
 #![tactic(auto)]
 
 mod error;
+mod laws;
 mod line;
 mod reader;
 mod test;
@@ -13,6 +14,7 @@ mod tests;
 mod verdict;
 
 pub use error::TestErr;
+pub use laws::{one_tests, one_verdict};
 pub use reader::read_tests;
 pub use test::{Test, Tests};
 pub use verdict::{Verdict, judge};

@@ -54,7 +54,7 @@ fn read(alloc: Global, bytes: &[u8]) -> Result<String, AllocError> {
 #[test]
 fn files(rt: HostRuntime) -> Result<(), Fail> {
     let alloc = rt.alloc();
-    let rows: [(&str, &str); 9] = [
+    let rows: [(&str, &str); 11] = [
         ("", ""),
         (
             "\u{f7} 000D \u{d7} 000A \u{f7} 0061 \u{d7} 0308 \u{f7}",
@@ -67,6 +67,8 @@ fn files(rt: HostRuntime) -> Result<(), Fail> {
         ("\u{f7} 0061 \u{f7}#", "1:1:÷ "),
         ("\u{f7} 0061 \u{f7}\r", "BadLine 1"),
         ("\u{feff}\u{feff}\u{f7}", "BadLine 1"),
+        ("\u{f7}\n\u{feff}\u{f7}", "BadLine 2"),
+        ("\u{feff}", ""),
     ];
     for (file, wanted) in rows {
         assert_eq!(rt;
@@ -76,6 +78,7 @@ fn files(rt: HostRuntime) -> Result<(), Fail> {
         );
     }
     assert_eq!(rt; read(alloc, b"#\n\xC3\xB7\n\xC3")?.as_str(), "NotUtf8 5");
+    assert_eq!(rt; read(alloc, b"x\n\xC3\xB7\xFF")?.as_str(), "NotUtf8 4");
     Ok(())
 }
 
@@ -99,6 +102,13 @@ fn bad_lines(rt: HostRuntime) -> Result<(), Fail> {
         "\u{f7}\0",
         "\u{a0}",
         "+",
+        "\u{f7} 0061 +",
+        "\u{f7} 0061\u{f7}",
+        "\u{f7} DFFF \u{f7}",
+        "\u{f7} 100000061 \u{f7}",
+        "\u{f7} 0x61 \u{f7}",
+        "\r\u{f7}",
+        "\u{f7}\r\u{f7}",
     ];
     for line in bad {
         for (before, number) in [("", 1), ("# a\n\u{f7}\n", 3)] {

@@ -8,7 +8,8 @@ use Rattle.rbbi_lex.specs.Stretches.{goes_on, stretch_end, goes_on_at, IsLongest
 use Rattle.rbbi_lex.proofs.StretchLemmas.{stretch_end-more, stretch_end-here, stretch_end-past}
 
 -- a stretch that ends where it begins
-ended : (stretch : Stretch) (x : List ℕ) (i : ℕ) → goes_on_at stretch x i ≡ false → stretch_end stretch x i ≡ i → IsLongestStretch stretch x i (stretch_end stretch x i)
+ended : (stretch : Stretch) (x : List ℕ) (i : ℕ) → goes_on_at stretch x i ≡ false → stretch_end stretch x i ≡ i →
+    IsLongestStretch stretch x i (stretch_end stretch x i)
 ended stretch x i stops e =
     let here : IsLongestStretch stretch x i i = (omega arith, λ k a b. absurd (omega arith), stops) in
     subst (λ (j : ℕ). IsLongestStretch stretch x i j) (sym e) here

@@ -60,7 +60,8 @@ stretch_end-more stretch x i c h at holds =
     (tested stretch x i c true at holds) e in omega arith
 
 -- the character at which a stretch ends
-pub stretch_end-here : (stretch : Stretch) (x : List ℕ) (i c : ℕ) → i < length x → c ≡ get_or x i c → goes_on stretch c (slice_get x (i + 1)) ≡ false → stretch_end stretch x i ≡ i
+pub stretch_end-here : (stretch : Stretch) (x : List ℕ) (i c : ℕ) → i < length x → c ≡ get_or x i c → goes_on stretch c (slice_get x (i + 1)) ≡ false →
+    stretch_end stretch x i ≡ i
 stretch_end-here stretch x i c h at fails =
     let e = at_drop_more (stretch_len stretch) x i c h in
     let n = left (goes_on stretch (get_or x i c) (slice_get (drop (i + 1) x) 0)) (stretch_len stretch (drop i x)) (stretch_len stretch (drop (i + 1) x))

@@ -5,8 +5,8 @@ use Rattle.rbbi_lex.specs.Signs.{brace_close, bracket_close, colon, equals_sign}
 use Rattle.std.specs.Char.{is_ascii_digit, is_ascii_hexdigit}
 use Rattle.unicode.specs.Binary.{is_pattern_white_space}
 use Rattle.rbbi_lex.specs.declared.stretch.Stretch.{Stretch}
-use Rattle.rbbi_lex.specs.declared.stretch.Stretch.TheVariants.{WhiteSpace, CommentText, NameText, ControlText, Digits, HexadecimalDigits, BracedBody, BracedName}
-use Rattle.rbbi_lex.specs.declared.stretch.Stretch.TheVariants.{BracketedBody, BracketedName}
+use Rattle.rbbi_lex.specs.declared.stretch.Stretch.TheVariants.{WhiteSpace, CommentText, NameText, ControlText, Digits, HexadecimalDigits}
+use Rattle.rbbi_lex.specs.declared.stretch.Stretch.TheVariants.{BracedBody, BracedName, BracketedBody, BracketedName}
 use Rattle.rbbi_lex.specs.Characters.{is_line_end, is_name_character, is_word_character, is_sign, passes}
 
 -- the stretch goes on with this character, with that one, or none, behind it

@@ -123,7 +123,8 @@ fn signs_and_bare_characters(rt: HostRuntime) -> Result<(), Fail> {
             (" \t\r\n\u{85}\u{200e}\u{200f}\u{2028}\u{2029}", ""),
             (
                 ";=|/^*+?.()",
-                "Semi@0 Equals@1 Bar@2 Slash@3 Caret@4 Star@5 Plus@6 Quest@7 Dot@8 ParenOpen@9 ParenClose@10 ",
+                "Semi@0 Equals@1 Bar@2 Slash@3 Caret@4 Star@5 Plus@6 Quest@7 Dot@8 \
+                 ParenOpen@9 ParenClose@10 ",
             ),
             (
                 "0Z\u{1}\u{7f}",
@@ -265,7 +266,8 @@ fn escapes(rt: HostRuntime) -> Result<(), Fail> {
             ),
             (
                 "\\a\\b\\e\\f\\n\\r\\t\\v",
-                "Char \u{7}@0 Char \u{8}@2 Char \u{1b}@4 Char \u{c}@6 Char \n@8 Char \r@10 Char \t@12 Char \u{b}@14 ",
+                "Char \u{7}@0 Char \u{8}@2 Char \u{1b}@4 Char \u{c}@6 Char \n@8 Char \r@10 \
+                 Char \t@12 Char \u{b}@14 ",
             ),
             (
                 "\\;\\ \\\n\\\\\\\u{e9}\\_\\'",

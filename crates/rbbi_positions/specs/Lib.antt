@@ -4,5 +4,6 @@ pub mod PositionMarks
 pub mod Trees
 pub mod Readers
 pub mod RuleTests
+pub mod RuleParts
 pub mod Rounds
 pub mod Rows

@@ -11,7 +11,7 @@ use crate::bits::flags_of;
 use crate::numbers::all_numbers;
 use crate::readers::{codes_of, readers_of};
 use crate::rule_marks::marks_of;
-use crate::rules::{firsts_of, followers_of, front_lasts_of, lasts_of, owners_of};
+use crate::rules::{Part, firsts_of, followers_of, lasts_of, owners_of};
 use rbbi_cats::Categories;
 use rbbi_resolve::Rules;
 use std::alloc::{AllocError, Global};
@@ -35,8 +35,8 @@ pub fn positions(alloc: Global, rules: &Rules, cats: &Categories) -> Result<Posi
     let owners = owners_of(alloc, rules)?;
     let row = firsts_of(alloc, rules, words)?;
     let firsts = flags_of(alloc, &row, leaves)?;
-    let lasts = lasts_of(alloc, rules, leaves)?;
-    let front_lasts = front_lasts_of(alloc, rules, leaves)?;
+    let lasts = lasts_of(alloc, rules, Part::Whole, leaves)?;
+    let front_lasts = lasts_of(alloc, rules, Part::Front, leaves)?;
     let followers = followers_of(alloc, rules, leaves, words)?;
     let readers = readers_of(alloc, rules.sets(), &numbers, &codes, words)?;
     Ok(Positions {

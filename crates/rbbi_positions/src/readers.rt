@@ -63,7 +63,8 @@ pub(crate) fn readers_of(
     requires few_categories { length codes.now ≤ 255 }
     requires few_words { words ≤ 128 }
     ensures many { IfOk result (λ rows. length rows.items ≡ length codes.now * words) }
-    ensures read { IfOk result (λ rows. AreReaders sets.now numbers.now codes.now words rows.items) }
+    ensures read { IfOk result (λ rows.
+        AreReaders sets.now numbers.now codes.now words rows.items) }
 {
     let mut rows = vec![in alloc; 0u64; codes.len() * words]?;
     for category in 1..codes.len() {

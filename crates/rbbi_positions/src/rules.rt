@@ -6,8 +6,9 @@ ghost use Rattle.rbbi_model.specs.Rules.{leaves_of, AreLawful};
 ghost use Rattle.rbbi_resolve.specs.RuleLists.{rule_of, rules_of};
 ghost use Rattle.rbbi_positions.specs.PositionMarks.{in_row};
 ghost use Rattle.rbbi_positions.specs.Rows.{row_bit};
-ghost use Rattle.rbbi_positions.specs.RuleTests.{some_rule, rule_begins, front_ends, rule_ends};
-ghost use Rattle.rbbi_positions.specs.RuleTests.{rule_goes, AreOwners};
+ghost use Rattle.rbbi_positions.specs.RuleTests.{some_rule, rule_begins, rule_ends, rule_goes};
+ghost use Rattle.rbbi_positions.specs.RuleTests.{AreOwners};
+ghost use Rattle.rbbi_positions.specs.RuleParts.{part_ends};
 
 use crate::count::count;
 use crate::firsts::add_firsts;
@@ -46,28 +47,6 @@ pub(crate) fn firsts_of(alloc: Global, rules: &Rules, words: usize) -> Result<Ve
     Ok(row)
 }
 
-/// The flags of the positions that some list of a rule's front ends with.
-pub(crate) fn front_lasts_of(
-    alloc: Global,
-    rules: &Rules,
-    leaves: usize,
-) -> Result<Vec<bool>, AllocError>
-    requires all { leaves ≡ sum_by leaves_of (rules_of rules.now) }
-    requires few { leaves ≤ 8192 }
-    ensures many { IfOk result (λ flags. length flags.items ≡ leaves) }
-    ensures flags { IfOk result (λ flags. (position : ℕ) → slice_index_or flags.items position false
-        ≡ some_rule (front_ends position) (rules_of rules.now) 0) }
-{
-    let mut flags = vec![in alloc; false; leaves]?;
-    let mut start = 0;
-    for number in 0..rules.len() {
-        let rule = rules.get(number);
-        add_lasts(&rule.front, start, &mut flags);
-        start += count_of_rule(rule);
-    }
-    Ok(flags)
-}
-
 /// Sets the flags of the positions that some list of the rule ends with. A rest isn't empty.
 fn add_rule_lasts(rule: &Rule, first: usize, flags: &mut [bool])
     requires few { length flags.old ≤ 8192 }
@@ -84,19 +63,49 @@ fn add_rule_lasts(rule: &Rule, first: usize, flags: &mut [bool])
     }
 }
 
-/// The flags of the positions that some list of a rule ends with.
-pub(crate) fn lasts_of(alloc: Global, rules: &Rules, leaves: usize) -> Result<Vec<bool>, AllocError>
+/// What of a rule is looked at.
+#[derive(Clone, Copy, Debug)]
+pub(crate) enum Part {
+    /// Its front.
+    Front,
+    /// Its front and its rest, where it has one.
+    Whole,
+}
+
+/// Sets the flags of the positions that some list of this part of the rule ends with.
+fn add_part_lasts(rule: &Rule, part: Part, first: usize, flags: &mut [bool])
+    requires few { length flags.old ≤ 8192 }
+    requires within { (sets : List (List Range)) →
+        first + leaves_of (rule_of sets rule.now) ≤ length flags.old }
+    ensures { (sets : List (List Range)) (position : ℕ) →
+        slice_index_or flags.new position false
+        ≡ (slice_index_or flags.old position false
+        || part_ends part position (rule_of sets rule.now) first) }
+{
+    match part {
+        Part::Front => add_lasts(&rule.front, first, flags),
+        Part::Whole => add_rule_lasts(rule, first, flags),
+    }
+}
+
+/// The flags of the positions that some list of this part of a rule ends with.
+pub(crate) fn lasts_of(
+    alloc: Global,
+    rules: &Rules,
+    part: Part,
+    leaves: usize,
+) -> Result<Vec<bool>, AllocError>
     requires all { leaves ≡ sum_by leaves_of (rules_of rules.now) }
     requires few { leaves ≤ 8192 }
     ensures many { IfOk result (λ flags. length flags.items ≡ leaves) }
     ensures flags { IfOk result (λ flags. (position : ℕ) → slice_index_or flags.items position false
-        ≡ some_rule (rule_ends position) (rules_of rules.now) 0) }
+        ≡ some_rule (part_ends part position) (rules_of rules.now) 0) }
 {
     let mut flags = vec![in alloc; false; leaves]?;
     let mut start = 0;
     for number in 0..rules.len() {
         let rule = rules.get(number);
-        add_rule_lasts(rule, start, &mut flags);
+        add_part_lasts(rule, part, start, &mut flags);
         start += count_of_rule(rule);
     }
     Ok(flags)

@@ -10,7 +10,7 @@ use Rattle.rbbi_model.specs.SetTrees as model
 use Rattle.rbbi_sets.specs.Rising.{AreRising}
 use Rattle.rbbi_props.specs.Rows.{File}
 use Rattle.rbbi_tree.specs.Trees as trees
-use Rattle.rbbi_tree.specs.Trees.{ExprTree, SeqTree, ItemTree, AtomTree, SetTree, no_alternatives, alternative, no_items, item, placed, property, expr_of}
+use Rattle.rbbi_tree.specs.Trees.{ExprTree, SeqTree, ItemTree, AtomTree, SetSyntax, no_alternatives, alternative, no_items, item, placed, property, expr_of}
 use Rattle.rbbi_tree.specs.Trees.{seq_of}
 use Rattle.rbbi_tree.specs.Values.{expr_tree, seq_tree, item_tree, expr_tree_out, seq_tree_out}
 use Rattle.rbbi_tree.specs.declared.syntax.Quant.{Quant}
@@ -181,7 +181,7 @@ property_leaf k files place negated word value quantity before after set same e 
     ∙ f.filled in
     subst (λ v. AddsLeaves files (set_or_nothing v ∷ []) before after) (sym t.1) (adds t.0 (subst (λ v. IsValue files v set) here is) filled)
 
-pub set_leaf : (k : Context) (files : List File) (place : ℕ) (s : SetTree) (quantity : Quant) (before after : List (List Range)) (own : Option (List Range))
+pub set_leaf : (k : Context) (files : List File) (place : ℕ) (s : SetSyntax) (quantity : Quant) (before after : List (List Range)) (own : Option (List Range))
     → k.files ≡ files → AreSound k →
     faults_of_parts k (parts_of_item (placed place (trees.set s) quantity)) ≡ [] → IsValue files (value_of_set files (value_of_name k) s) own →
     ((tree : model.SetTree) → IsValue files (Some tree) own → is_empty_value files (Some tree) ≡ false → AddsLeaves files (tree ∷ []) before after) →

@@ -9,7 +9,7 @@ use Rattle.rbbi_resolve.specs.declared.fault.Fault.{Fault}
 use Rattle.rbbi_resolve.specs.declared.counts.Count.{Count}
 use Rattle.rbbi_resolve.specs.declared.counts.Counts as declared
 use Rattle.rbbi_resolve.specs.Files.{RuleMeaning}
-use Rattle.rbbi_resolve.specs.Counts.{leaves_of, counted, fault_at, no_rules_at, too_many_rules_at, too_many_leaves_at, too_many_slashes_at, too_tall_at}
+use Rattle.rbbi_resolve.specs.Counts.{leaves_meant, counted, fault_at, no_rules_at, too_many_rules_at, too_many_leaves_at, too_many_slashes_at, too_tall_at}
 use Rattle.rbbi_resolve.specs.Countings.{passing, IsCount, AreCounting, one, slash_of, tall_of}
 use Rattle.rbbi_resolve.specs.Summaries.{IsCapped}
 
@@ -29,13 +29,13 @@ passing_one most sum zero (r ∷ rules) e = let t : nat_lt most (sum + 1) ≡ tr
 passing_one most sum (suc k) (r ∷ rules) e = let t : nat_lt most (sum + 1) ≡ false =
     grind (arith, nat_tests) in rw t (passing_one most (sum + 1) k rules (omega arith))
 
-pub passing_leaves : (sum : ℕ) (rules : List RuleMeaning) → passing leaves_of 8192 sum rules ≡ too_many_leaves_at sum rules
+pub passing_leaves : (sum : ℕ) (rules : List RuleMeaning) → passing leaves_meant 8192 sum rules ≡ too_many_leaves_at sum rules
 passing_leaves sum [] = refl
 passing_leaves sum (r ∷ rules) =
-    elim (nat_lt 8192 (sum + leaves_of r)) as
-    (λ b. (if b then Some r.place else passing leaves_of 8192 (sum + leaves_of r) rules) ≡ (if b then Some r.place else too_many_leaves_at
-    (sum + leaves_of r) rules))
-    [ true ↦ refl | false ↦ passing_leaves (sum + leaves_of r) rules ]
+    elim (nat_lt 8192 (sum + leaves_meant r)) as
+    (λ b. (if b then Some r.place else passing leaves_meant 8192 (sum + leaves_meant r) rules) ≡ (if b then Some r.place else too_many_leaves_at
+    (sum + leaves_meant r) rules))
+    [ true ↦ refl | false ↦ passing_leaves (sum + leaves_meant r) rules ]
 
 abbrev PassesAsSlashes : ℕ → List RuleMeaning → Type 0
 PassesAsSlashes most rules =
@@ -66,7 +66,7 @@ pub counted_is : (counts : declared.Counts) (end : ℕ) (all : List RuleMeaning)
     counted end all ≡ option_or (fault_at 13 none) (option_or (fault_at 14 a) (option_or (fault_at 15 b) (option_or (fault_at 16 c) (fault_at 17 d))))
 counted_is counts end all none a b c d is en ea eb ec ed =
     let fa : too_many_rules_at all ≡ a = sym (passing_one 4096 0 4096 all refl) ∙ passed_at_end one 4096 counts.rules all is.rule_count ∙ ea in
-    let fb : too_many_leaves_at 0 all ≡ b = sym (passing_leaves 0 all) ∙ passed_at_end leaves_of 8192 counts.leaves all is.leaf_count ∙ eb in
+    let fb : too_many_leaves_at 0 all ≡ b = sym (passing_leaves 0 all) ∙ passed_at_end leaves_meant 8192 counts.leaves all is.leaf_count ∙ eb in
     let fc : too_many_slashes_at all ≡ c = sym (passing_slashes 32 all 0 32 refl) ∙ passed_at_end slash_of 32 counts.slashes all is.slash_count ∙ ec in
     let fd : too_tall_at all ≡ d = sym (passing_tall all) ∙ passed_at_end tall_of 0 counts.tall all is.tall_count ∙ ed in
     ap (λ x. option_or (fault_at 13 x)

@@ -12,7 +12,7 @@ use Rattle.rbbi_resolve.specs.Contexts.{Context, assigned_to, variable_of}
 use Rattle.rbbi_resolve.specs.Expressions.{variable_for}
 use Rattle.rbbi_resolve.specs.Faults.{noted}
 use Rattle.rbbi_resolve.specs.Files.{RuleMeaning, start, context_after, context_at, with_variable, faults_from, faults_of, rules_from, active_rules}
-use Rattle.rbbi_resolve.specs.Counts.{counted, leaves_of}
+use Rattle.rbbi_resolve.specs.Counts.{counted, leaves_meant}
 use Rattle.rbbi_resolve.specs.Scopes.{Variables, IsUnassigned, IsDefinedBy, AreVariables}
 use Rattle.rbbi_resolve.specs.Switchings.{AreSwitches}
 use Rattle.rbbi_resolve.specs.Countings.{AreCounting, slash_of}
@@ -84,10 +84,10 @@ counting_all files ignored statements variables least switches counts n long rea
     subst (λ ms. AreCounting counts ms (active_rules files statements)) (ap (rules_from k) (drop_all n statements long) ∙ rules_of_none k) read.counted_so_far
 
 pub leaves_counted : (counts : declared.Counts) (end : ℕ) (ms : List RuleMeaning) → AreCounting counts [] ms → counted end ms ≡ None →
-    counts.leaves.sum ≡ sum_by leaves_of ms
+    counts.leaves.sum ≡ sum_by leaves_meant ms
 leaves_counted counts end ms is e =
     let w = within end ms e in
-    let sum = is.leaf_count.sum_of (sym (passed_at_end leaves_of 8192 counts.leaves ms is.leaf_count) ∙ w.leaves) in
+    let sum = is.leaf_count.sum_of (sym (passed_at_end leaves_meant 8192 counts.leaves ms is.leaf_count) ∙ w.leaves) in
     omega arith
 
 pub slashes_counted : (counts : declared.Counts) (end : ℕ) (ms : List RuleMeaning) → AreCounting counts [] ms → counted end ms ≡ None →

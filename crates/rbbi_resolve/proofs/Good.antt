@@ -9,7 +9,7 @@ use Rattle.rbbi_model.specs.Ranges.{InRange}
 use Rattle.rbbi_model.specs.SetTrees as model
 use Rattle.rbbi_props.specs.Rows.{File}
 use Rattle.rbbi_tree.specs.Trees as trees
-use Rattle.rbbi_tree.specs.Trees.{SetTree, PartsTree, PartTree, SetItemTree, set_of, no_parts, part, joined, set_character, set_range, set_name, set_property}
+use Rattle.rbbi_tree.specs.Trees.{SetSyntax, PartsTree, PartTree, SetItemTree, set_of, no_parts, part, joined, set_character, set_range, set_name, set_property}
 use Rattle.rbbi_tree.specs.Trees.{set_within}
 use Rattle.rbbi_tree.specs.Trees.{ExprTree, SeqTree, ItemTree, AtomTree, no_alternatives, alternative, no_items, item, placed, character, quoted, any, name}
 use Rattle.rbbi_tree.specs.Trees.{property, group}
@@ -96,7 +96,7 @@ within_property files negated word value =
     elim (is_some (found files word value)) as (λ b. IsValueWithin (if b then Some (model.Property negated word value) else None)) [ true ↦ tt | false ↦ tt ]
 
 mutual
-  within_set : (k : Context) → AreGood k → (s : SetTree) → IsSetOfCharacters s → IsValueWithin (value_of_set k.files (value_of_name k) s)
+  within_set : (k : Context) → AreGood k → (s : SetSyntax) → IsSetOfCharacters s → IsValueWithin (value_of_set k.files (value_of_name k) s)
   within_set k good (set_of place negated parts) c = within_signed negated _ (within_parts k good (Some model.Nothing) tt parts c)
 
   within_parts : (k : Context) → AreGood k → (left : Option model.SetTree) → IsValueWithin left → (ps : PartsTree) → ArePartsOfCharacters ps →
@@ -164,7 +164,7 @@ good_property k place negated word value f =
     good_value k.files (value_of_property k.files negated word value) (known_there k.files negated word value f.known)
     (within_property k.files negated word value) f.filled
 
-good_set : (k : Context) → AreSound k → AreGood k → (place : ℕ) (s : SetTree) → IsSetOfCharacters s → faults_of_parts k (parts_of_set s) ≡ [] →
+good_set : (k : Context) → AreSound k → AreGood k → (place : ℕ) (s : SetSyntax) → IsSetOfCharacters s → faults_of_parts k (parts_of_set s) ≡ [] →
     IsFaultless k (Outside place (trees.set s)) → IfSome (value_of_set k.files (value_of_name k) s) (IsGoodSet k.files)
 good_set k sound good place s c e f = good_value k.files (value_of_set k.files (value_of_name k) s) (set_there k sound s e) (within_set k good s c) f.filled
 

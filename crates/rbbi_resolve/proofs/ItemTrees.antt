@@ -1,6 +1,6 @@
 -- The trees of the variants that have values inside.
 use Rattle.std.proofs.Common.{◌≡◌, ℕ, Bool, List, Option, sym, ◌∙◌, ap}
-use Rattle.rbbi_tree.specs.Trees.{SetItemTree, PartsTree, SetTree, PartTree, ExprTree, SeqTree, ItemTree, AtomTree, set_property, set_within, character}
+use Rattle.rbbi_tree.specs.Trees.{SetItemTree, PartsTree, SetSyntax, PartTree, ExprTree, SeqTree, ItemTree, AtomTree, set_property, set_within, character}
 use Rattle.rbbi_tree.specs.Trees.{quoted, any, name, property, set, group}
 use Rattle.rbbi_tree.specs.Values.{set_item_tree, set_tree, atom_tree, expr_tree, set_item_step, parts_step, set_step, part_step, atom_step, expr_step}
 use Rattle.rbbi_tree.specs.Values.{item_step, seq_step}
@@ -18,12 +18,12 @@ use Rattle.rbbi_tree.specs.declared.syntax.Atom.TheFolds.{fold-roll-Atom}
 pub of_property : (negated : Bool) (word : List ℕ) (value : Option (List ℕ)) → set_item_tree (item.Prop negated word value) ≡ set_property negated word value
 of_property negated word value =
     ap set_item_tree (sym (item_variants.rolls-Prop negated word value))
-    ∙ fold-roll-SetItem SetItemTree PartsTree SetTree PartTree set_item_step parts_step set_step part_step (SetItem-F.Prop negated word value)
+    ∙ fold-roll-SetItem SetItemTree PartsTree SetSyntax PartTree set_item_step parts_step set_step part_step (SetItem-F.Prop negated word value)
 
 pub of_inner : (inner : SetExpr) → set_item_tree (item.Set inner) ≡ set_within (set_tree inner)
 of_inner inner =
     ap set_item_tree (sym (item_variants.rolls-Set inner))
-    ∙ fold-roll-SetItem SetItemTree PartsTree SetTree PartTree set_item_step parts_step set_step part_step (SetItem-F.Set inner)
+    ∙ fold-roll-SetItem SetItemTree PartsTree SetSyntax PartTree set_item_step parts_step set_step part_step (SetItem-F.Set inner)
 
 pub atom_of_property : (negated : Bool) (word : List ℕ) (value : Option (List ℕ)) → atom_tree (atom.Prop negated word value) ≡ property negated word value
 atom_of_property negated word value =

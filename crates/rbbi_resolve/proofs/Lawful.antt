@@ -199,7 +199,7 @@ rest_there files (Some m) (Some t) b = refl
 
 -- the rules have as many leaves as their meanings
 pub same_leaves : (files : List File) (ms : List RuleMeaning) (rs : List model.Rule) → AllZip (IsRuleOf files) ms rs →
-    sum_by model.leaves_of rs ≡ sum_by counts.leaves_of ms
+    sum_by model.leaves_of rs ≡ sum_by counts.leaves_meant ms
 same_leaves files [] [] z = refl
 same_leaves files [] (r ∷ rs) z = absurd z
 same_leaves files (m ∷ ms) [] z = absurd z
@@ -208,7 +208,7 @@ same_leaves files (m ∷ ms) (r ∷ rs) z =
     let b = rest_count files m.rest r.rest z.0.rest in
     let c = same_leaves files ms rs z.1 in
     let d = sum_by-cons model.leaves_of r rs in
-    let e = sum_by-cons counts.leaves_of m ms in
+    let e = sum_by-cons counts.leaves_meant m ms in
     omega arith
 
 look_step : (r : model.Rule) (rs : List model.Rule) (b : Bool) → is_some r.rest ≡ b → length (look_aheads (r ∷ rs)) ≡ (if b then 1 else 0) + length
@@ -257,7 +257,7 @@ no_place number (Some p) e = absurd cc
 pub record IsWithin (end : ℕ) (ms : List RuleMeaning) : Type 0 where
   pub some : no_rules_at end ms ≡ None
   pub rules : passing one 4096 0 ms ≡ None
-  pub leaves : passing counts.leaves_of 8192 0 ms ≡ None
+  pub leaves : passing counts.leaves_meant 8192 0 ms ≡ None
   pub slashes : passing slash_of 32 0 ms ≡ None
 
 pub within : (end : ℕ) (ms : List RuleMeaning) → counted end ms ≡ None → IsWithin end ms
@@ -295,7 +295,7 @@ lawful_rules files ignored statements rs well means has =
     let long = AllZip-long (IsRuleOf files) ms rs means.rules_in_order in
     let ones = sum_of_ones ms in
     let few = not_passed one 4096 0 ms (omega arith) w.rules in
-    let leaves = not_passed counts.leaves_of 8192 0 ms (omega arith) w.leaves in
+    let leaves = not_passed counts.leaves_meant 8192 0 ms (omega arith) w.leaves in
     let slashes = not_passed slash_of 32 0 ms (omega arith) w.slashes in
     let same_leaf = same_leaves files ms rs means.rules_in_order in
     let same_slash = same_slashes files ms rs means.rules_in_order in

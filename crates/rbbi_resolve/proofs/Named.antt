@@ -5,7 +5,7 @@ use Rattle.rbbi_model.specs.Ranges.{Range}
 use Rattle.rbbi_model.specs.SetTrees as model
 use Rattle.rbbi_props.specs.Rows.{File}
 use Rattle.rbbi_tree.specs.Trees as trees
-use Rattle.rbbi_tree.specs.Trees.{SetTree, joined, set_property, set_within}
+use Rattle.rbbi_tree.specs.Trees.{SetSyntax, joined, set_property, set_within}
 use Rattle.rbbi_tree.specs.declared.syntax.Join.{Join}
 use Rattle.rbbi_resolve.specs.declared.fault.Fault.{Fault}
 use Rattle.rbbi_resolve.specs.declared.variables.Variable.{Variable}
@@ -81,12 +81,12 @@ property_noted context files least place join negated word value set same is =
     ∙ one_fault least (is_none (found context.files word value)) place 7
 
 -- what is noted of a set in a set
-pub within_noted : (context : contexts.Context) (least : Option Fault) (place : ℕ) (join : Join) (inner : SetTree) →
+pub within_noted : (context : contexts.Context) (least : Option Fault) (place : ℕ) (join : Join) (inner : SetSyntax) →
     noted_parts context least (parts_of_set inner) ≡ noted_parts context least (parts_of_part (joined place join (set_within inner)))
 within_noted context least place join inner = sym (noted_parts_of_append context least (parts_of_set inner) (Within place (set_within inner) ∷ []))
 
 -- what is noted of a set outside of sets
-pub set_noted : (context : contexts.Context) (files : List File) (least : Option Fault) (place : ℕ) (s : SetTree) (empty : Bool) →
+pub set_noted : (context : contexts.Context) (files : List File) (least : Option Fault) (place : ℕ) (s : SetSyntax) (empty : Bool) →
     context.files ≡ files → empty ≡ is_empty_value files (value_of_set files (value_of_name context) s) →
     noted (noted_parts context least (parts_of_set s)) (faults_where empty place 9) ≡ noted_parts context least
     (parts_of_set s ++ Outside place (trees.set s) ∷ [])

@@ -9,7 +9,7 @@ use Rattle.rbbi_model.specs.SetTrees as model
 use Rattle.rbbi_model.specs.Spelling.{Star, Plus, Quest}
 use Rattle.rbbi_props.specs.Rows.{File}
 use Rattle.rbbi_tree.specs.Trees as trees
-use Rattle.rbbi_tree.specs.Trees.{SetTree, PartsTree, PartTree, SetItemTree, set_of, no_parts, part, joined, set_character, set_range, set_name, set_property}
+use Rattle.rbbi_tree.specs.Trees.{SetSyntax, PartsTree, PartTree, SetItemTree, set_of, no_parts, part, joined, set_character, set_range, set_name, set_property}
 use Rattle.rbbi_tree.specs.Trees.{set_within}
 use Rattle.rbbi_tree.specs.Trees.{ExprTree, SeqTree, ItemTree, AtomTree, no_alternatives, alternative, no_items, item, placed, character, quoted, any, name}
 use Rattle.rbbi_tree.specs.Trees.{property, set, group}
@@ -106,7 +106,7 @@ name_there (Some (Expression meaning height)) sound there no_set = absurd cc
 
 mutual
   -- a set without faults has a value
-  pub set_there : (k : Context) → AreSound k → (s : SetTree) → faults_of_parts k (parts_of_set s) ≡ [] → IsThere (value_of_set k.files (value_of_name k) s)
+  pub set_there : (k : Context) → AreSound k → (s : SetSyntax) → faults_of_parts k (parts_of_set s) ≡ [] → IsThere (value_of_set k.files (value_of_name k) s)
   set_there k sound (set_of place negated parts) e =
       let whole = parts_there k sound (Some model.Nothing) (model.Nothing, refl) parts e in
       (signed negated whole.0, ap (option_map (signed negated)) whole.1)

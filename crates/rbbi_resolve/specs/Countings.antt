@@ -4,7 +4,7 @@ use Rattle.std.specs.Option.{option_or}
 use Rattle.rbbi_resolve.specs.declared.counts.Count.{Count}
 use Rattle.rbbi_resolve.specs.declared.counts.Counts as declared
 use Rattle.rbbi_resolve.specs.Files.{RuleMeaning}
-use Rattle.rbbi_resolve.specs.Counts.{leaves_of}
+use Rattle.rbbi_resolve.specs.Counts.{leaves_meant}
 
 -- the place of the first rule with which the sum of amounts passes the most, where so much stands before
 abbrev pub passing : (RuleMeaning → ℕ) → ℕ → ℕ → List RuleMeaning → Option ℕ
@@ -32,6 +32,6 @@ tall_of rule = if nat_lt 256 rule.height then 1 else 0
 -- the counts go on with the rules that are left
 pub record AreCounting (counts : declared.Counts) (left all : List RuleMeaning) : Type 0 where
   pub rule_count : IsCount one 4096 counts.rules left all
-  pub leaf_count : IsCount leaves_of 8192 counts.leaves left all
+  pub leaf_count : IsCount leaves_meant 8192 counts.leaves left all
   pub slash_count : IsCount slash_of 32 counts.slashes left all
   pub tall_count : IsCount tall_of 0 counts.tall left all

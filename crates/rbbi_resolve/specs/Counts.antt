@@ -19,14 +19,14 @@ abbrev pub too_many_rules_at : List RuleMeaning → Option ℕ
 too_many_rules_at rules = option_map (λ rule. rule.place) (slice_get rules 4096)
 
 -- how many leaves a rule has
-abbrev pub leaves_of : RuleMeaning → ℕ
-leaves_of rule = leaf_count rule.front + option_map_or leaf_count rule.rest 0
+abbrev pub leaves_meant : RuleMeaning → ℕ
+leaves_meant rule = leaf_count rule.front + option_map_or leaf_count rule.rest 0
 
 -- 15, `TooManyLeaves`: the place of the first rule with which the sum passes 8,192, where so many leaves stand before
 abbrev pub too_many_leaves_at : ℕ → List RuleMeaning → Option ℕ
 too_many_leaves_at sum [] = None
 too_many_leaves_at sum (rule ∷ rules) =
-    if nat_lt 8192 (sum + leaves_of rule) then Some rule.place else too_many_leaves_at (sum + leaves_of rule) rules
+    if nat_lt 8192 (sum + leaves_meant rule) then Some rule.place else too_many_leaves_at (sum + leaves_meant rule) rules
 
 -- 16, `TooManySlashes`: the place of the 33rd rule with a rest
 abbrev pub too_many_slashes_at : List RuleMeaning → Option ℕ

@@ -1,6 +1,6 @@
 -- The parts of an expression in which a fault may lie, each with its place.
 use Rattle.std.specs.Prelude.{ℕ, List, [], ◌∷◌, ◌++◌}
-use Rattle.rbbi_tree.specs.Trees.{SetTree, PartsTree, PartTree, SetItemTree, set_of, no_parts, part, joined, set_character, set_range, set_name, set_property}
+use Rattle.rbbi_tree.specs.Trees.{SetSyntax, PartsTree, PartTree, SetItemTree, set_of, no_parts, part, joined, set_character, set_range, set_name, set_property}
 use Rattle.rbbi_tree.specs.Trees.{set_within}
 use Rattle.rbbi_tree.specs.Trees.{ExprTree, SeqTree, ItemTree, AtomTree, no_alternatives, alternative, no_items, item, placed, character, quoted, any, name}
 use Rattle.rbbi_tree.specs.Trees.{property, set, group}
@@ -12,7 +12,7 @@ pub data Part : Type 0 where
 
 abbrev mutual
   -- the items of a set, those of the sets in it among them
-  pub parts_of_set : SetTree → List Part
+  pub parts_of_set : SetSyntax → List Part
   parts_of_set (set_of place negated parts) = parts_of_parts parts
 
   pub parts_of_parts : PartsTree → List Part

@@ -7,7 +7,7 @@ use Rattle.rbbi_model.specs.SetTrees as model
 use Rattle.rbbi_sets.specs.Rising.{AreRising}
 use Rattle.rbbi_props.specs.Rows.{File}
 use Rattle.rbbi_props.specs.Lookups.{lookup}
-use Rattle.rbbi_tree.specs.Trees.{SetTree, PartsTree, PartTree, SetItemTree, set_of, no_parts, part, joined, set_character, set_range, set_name, set_property}
+use Rattle.rbbi_tree.specs.Trees.{SetSyntax, PartsTree, PartTree, SetItemTree, set_of, no_parts, part, joined, set_character, set_range, set_name, set_property}
 use Rattle.rbbi_tree.specs.Trees.{set_within}
 use Rattle.rbbi_tree.specs.declared.syntax.Join.{Join}
 use Rattle.rbbi_tree.specs.declared.syntax.Join.TheVariants.{Add, Both, Minus}
@@ -53,7 +53,7 @@ value_of_range first last = if nat_le first last then Some (model.Span (record {
 
 -- The value of a set by what names are worth: from the left, starting empty. It has none where a part has none.
 abbrev mutual
-  pub value_of_set : List File → (List ℕ → Option model.SetTree) → SetTree → Option model.SetTree
+  pub value_of_set : List File → (List ℕ → Option model.SetTree) → SetSyntax → Option model.SetTree
   value_of_set files named (set_of place negated parts) =
       option_map (signed negated) (value_of_parts files named (Some model.Nothing) parts)
 

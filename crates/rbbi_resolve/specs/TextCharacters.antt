@@ -2,7 +2,7 @@
 use Rattle.std.specs.Prelude.{ℕ, Option, Some, None, List}
 use Rattle.std.specs.List.{AllByRecursion}
 use Rattle.rbbi_model.specs.Words.{IsCharacter}
-use Rattle.rbbi_tree.specs.Trees.{SetTree, PartsTree, PartTree, SetItemTree, set_of, no_parts, part, joined, set_character, set_range, set_name, set_property}
+use Rattle.rbbi_tree.specs.Trees.{SetSyntax, PartsTree, PartTree, SetItemTree, set_of, no_parts, part, joined, set_character, set_range, set_name, set_property}
 use Rattle.rbbi_tree.specs.Trees.{set_within}
 use Rattle.rbbi_tree.specs.Trees.{ExprTree, SeqTree, ItemTree, AtomTree, no_alternatives, alternative, no_items, item, placed, character, quoted, any, name}
 use Rattle.rbbi_tree.specs.Trees.{property, set, group}
@@ -10,7 +10,7 @@ use Rattle.rbbi_tree.specs.Trees.{StatementTree, nothing, control, assign, rule}
 
 abbrev mutual
   -- the characters of a set are characters
-  pub IsSetOfCharacters : SetTree → Type 0
+  pub IsSetOfCharacters : SetSyntax → Type 0
   IsSetOfCharacters (set_of place negated parts) = ArePartsOfCharacters parts
 
   pub ArePartsOfCharacters : PartsTree → Type 0

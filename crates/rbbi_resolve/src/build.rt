@@ -205,7 +205,8 @@ impl<'a> Builder<'a> {
             (statement_trees scope.now.statements.now)
             self.old.sets.items self.new.sets.items self.new.bases.items) }
         ensures moved { OnOk result (next.new ≡ next.old
-            + length (leaves_of_seq (context_of self.old.properties scope.now) (seq_tree seq.now))) }
+            + length (leaves_of_seq (context_of self.old.properties scope.now)
+            (seq_tree seq.now))) }
         ensures built { IfOk result (IsBuilt self.old.properties
             (length self.old.sets.items) self.new.sets.items
             next.old next.new (meaning_of_seq (context_of self.old.properties scope.now)

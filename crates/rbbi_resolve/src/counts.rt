@@ -1,6 +1,6 @@
 //! The counts of the active rules, and where they pass their limits.
 ghost use Rattle.std.specs.Prelude.{◌≡◌, ◌≤◌, ◌<◌, ℕ, List, [], ◌∷◌, is_some, if◌then◌else◌};
-ghost use Rattle.rbbi_resolve.specs.Counts.{counted, leaves_of};
+ghost use Rattle.rbbi_resolve.specs.Counts.{counted, leaves_meant};
 ghost use Rattle.rbbi_resolve.specs.Files.{RuleMeaning};
 ghost use Rattle.rbbi_resolve.specs.Summaries.{IsCapped};
 ghost use Rattle.rbbi_resolve.specs.Countings.{IsCount, AreCounting};
@@ -90,7 +90,7 @@ impl Counts {
     /// Counts a rule.
     pub(crate) fn add(&mut self, place: u32, whole: Summary, has_rest: bool)
         ensures { (rule : RuleMeaning) (left all : List RuleMeaning) → rule.place ≡ place
-            → IsCapped 8193 (leaves_of rule) whole.leaves → IsCapped 257 rule.height whole.height
+            → IsCapped 8193 (leaves_meant rule) whole.leaves → IsCapped 257 rule.height whole.height
             → is_some rule.rest ≡ has_rest
             → AreCounting self.old (rule ∷ left) all → AreCounting self.new left all }
     {

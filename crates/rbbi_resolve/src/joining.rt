@@ -68,7 +68,7 @@ impl SoFar {
         Ok(())
     }
 
-    /// Joins a set.
+    /// Joins a set. Where that changes nothing, the set stays as it is and nothing is copied.
     pub(crate) fn join(
         &mut self,
         alloc: Global,
@@ -81,14 +81,22 @@ impl SoFar {
             → IsSoFar files (joined_to join (Some tree) left) self.new) }
     {
         match join {
-            Join::Add => self.set = self.set.union(alloc, item)?,
+            Join::Add => {
+                if !self.set.holds_all(item) {
+                    self.set = self.set.union(alloc, item)?;
+                }
+            }
             Join::Both => {
                 self.settle(alloc)?;
-                self.set = self.set.intersect(alloc, item)?;
+                if !item.holds_all(&self.set) {
+                    self.set = self.set.intersect(alloc, item)?;
+                }
             }
             Join::Minus => {
                 self.settle(alloc)?;
-                self.set = self.set.minus(alloc, item)?;
+                if !self.set.holds_none(item) {
+                    self.set = self.set.minus(alloc, item)?;
+                }
             }
         }
         Ok(())

@@ -63,7 +63,8 @@ fn join_part(
     ensures joined { OnOk result ((left : Option model.SetTree) →
         IsSoFar properties.old left so_far.old
         → IsSoFar properties.old (value_of_part properties.old
-        (value_of_name (context_of properties.old scope.now)) left (part_tree part.now)) so_far.new) }
+        (value_of_name (context_of properties.old scope.now)) left (part_tree part.now))
+        so_far.new) }
     ensures noted { OnOk result (least.new ≡ noted_parts
         (context_of properties.old scope.now) least.old
         (parts_of_part (part_tree part.now))) }

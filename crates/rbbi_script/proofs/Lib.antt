@@ -6,3 +6,8 @@ pub mod Lines
 pub mod Says
 pub mod Performed
 pub mod Listed
+pub mod ListingCosts
+pub mod Recalled
+pub mod Played
+pub mod OneCommand
+pub mod OneScript

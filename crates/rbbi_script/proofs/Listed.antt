@@ -1,15 +1,14 @@
 -- Boundaries that were listed one by one.
-use Rattle.std.proofs.Common.{◌≡◌, ℕ, ◌+◌, ◌-◌, ◌<◌, ◌≤◌, Bool, true, false, ltb, List, [], ◌∷◌, ◌++◌, Option, Some, None, length, sym, refl, ap, ◌∙◌, subst}
+use Rattle.std.proofs.Common.{◌≡◌, ℕ, ◌+◌, ◌-◌, ◌<◌, ◌≤◌, false, ltb, List, [], ◌∷◌, ◌++◌, Option, Some, None, length, sym, refl, ap, ◌∙◌, subst}
 use Rattle.std.proofs.Common.{append_assoc, append-nil, arith}
 use Rattle.std.specs.Prelude.{unwrap_or}
-use Rattle.std.specs.List.{flat_map, AllByRecursion}
+use Rattle.std.specs.List.{AllByRecursion}
 use Rattle.std.proofs.lemmas.Bool.{cond-false, le-ltb, lt-ltb}
 use Rattle.std.proofs.lemmas.Grind.{flat_map-append}
 use Rattle.rbbi_model.specs.Lists.{IsRising}
 use Rattle.rbbi_model.specs.Boundaries.{Boundary}
 use Rattle.rbbi_model.specs.Cover.{places, end_of, IsPlaceOf}
-use Rattle.rbbi_model.specs.Answers.{First, Next, Statuses, IsBoundary, Breaks, Reply, Place, Done, AllOf, first_after, first_from, statuses_at, moved}
-use Rattle.rbbi_model.specs.Scripts.{Ask}
+use Rattle.rbbi_model.specs.Answers.{First, Next, Statuses, IsBoundary, Reply, Place, AllOf, first_after, first_from, statuses_at, moved}
 use Rattle.rbbi_model.specs.Lines.{boundary_line, boundary_lines}
 use Rattle.rbbi_model.proofs.Covering.{table_covers}
 use Rattle.rbbi_session.specs.Sessions.{Session, boundaries_of, answer_of, place_reply, Answers}
@@ -129,15 +128,18 @@ moved_cursor None cursor = refl
 moved_cursor (Some p) cursor = refl
 
 -- one boundary more: its line was appended, and the session has gone to the next
-pub record IsFurther (old new : Session) (at : ℕ) (place : Option ℕ) (before after : List ℕ) : Type 0 where
+pub record IsFurther (old now new : Session) (at : ℕ) (place : Option ℕ) (before after : List ℕ) (front : List Boundary) : Type 0 where
   pub listed : AreListed old new place before after
   pub less : left_of (length old.state.text) place < length old.state.text + 1 - at
+  pub here : Boundary
+  pub cursor : now.state.cursor ≡ here.at
+  pub more : listed.front ≡ front ++ here ∷ []
 
 module _ (old now : Session) (at : ℕ) (list : List ℕ) (replied : AllOf list ≡ (answer_of now Statuses).reply) (before reply : List ℕ) where
   further : (front rest : List Boundary) → boundaries_of old ≡ front ++ rest → reply ≡ before ++ boundary_lines front → now.state.text ≡ old.state.text →
       now.table ≡ old.table → StandsBefore now.state.cursor (Some at) rest →
       (place : Option ℕ) (new : Session) (after : List ℕ) → after ≡ reply ++ boundary_line (record { at = at; statuses = list }) →
-      Answers now Next (place_reply place) new → IsFurther old new at place before after
+      Answers now Next (place_reply place) new → IsFurther old now new at place before after front
   further front [] whole appended text table stands place new after more answers = absurd stands
   further front (b ∷ rest) whole appended text table stands place new after more answers =
       let rising : IsRising (places (front ++ b ∷ rest)) = subst (λ bs. IsRising (places bs)) whole (table_covers old.table old.state.text).rise in
@@ -175,6 +177,9 @@ module _ (old now : Session) (at : ℕ) (list : List ℕ) (replied : AllOf list 
         less = subst (λ p. left_of (length old.state.text) p < length old.state.text + 1 - at) (sym place_next)
             (subst (λ p. left_of (length old.state.text) (place_of rest) < length old.state.text + 1 - p) stands.0
             (falls (length old.state.text) b.at rest low (rises_after b rest (rising_right front (b ∷ rest) rising))));
+        here = b;
+        cursor = stands.1 ∙ sym stands.0;
+        more = refl;
       }
 
   broken : (front rest : List Boundary) → boundaries_of old ≡ front ++ rest → reply ≡ before ++ boundary_lines front → now.state.text ≡ old.state.text →
@@ -194,8 +199,9 @@ module _ (old now : Session) (at : ℕ) (list : List ℕ) (replied : AllOf list 
       (front_first reply (boundary_line b) (boundary_lines rest) (boundary_line b ++ boundary_lines rest) after refl
       (subst (λ l. AppendsFront reply l after) (line_is old now at list replied front b rest step) more))
 
-  pub listed_further : AreListed old now (Some at) before reply → (place : Option ℕ) (new : Session) (after : List ℕ) →
-      after ≡ reply ++ boundary_line (record { at = at; statuses = list }) → Answers now Next (place_reply place) new → IsFurther old new at place before after
+  pub listed_further : (are : AreListed old now (Some at) before reply) (place : Option ℕ) (new : Session) (after : List ℕ) →
+      after ≡ reply ++ boundary_line (record { at = at; statuses = list }) → Answers now Next (place_reply place) new →
+      IsFurther old now new at place before after are.front
   listed_further are place new after more answers =
       further are.front are.rest are.whole are.appended are.text_is are.table_is are.stands place new after more answers
 

@@ -18,13 +18,13 @@ use Rattle.rbbi_script.specs.Readings.{HasNone, IsNoEscape, IsNoNumberEscape, Is
 use Rattle.rbbi_script.proofs.Cuts.{same_cut, no_brace, hexadecimal_pass}
 
 -- the escapes of one letter, or of a number
-at_letter : (b : ℕ) (s r text : List ℕ) → s ≡ b ∷ [] → text ≡ s ++ r → text ≡ b ∷ r
+pub at_letter : (b : ℕ) (s r text : List ℕ) → s ≡ b ∷ [] → text ≡ s ++ r → text ≡ b ∷ r
 at_letter b s r text e f = f ∙ ap (λ x. x ++ r) e
 
 brace_assoc : (digits r : List ℕ) → codes "u{" ++ (digits ++ codes "}") ++ r ≡ codes "u{" ++ (digits ++ 125 ∷ r)
 brace_assoc digits r = ap (λ x. codes "u{" ++ x) (append_assoc digits (codes "}") r)
 
-at_number : (s r text : List ℕ) (c : ℕ) (h : IsNumberEscape s c) → text ≡ s ++ r → text ≡ codes "u{" ++ (h.digits ++ 125 ∷ r)
+pub at_number : (s r text : List ℕ) (c : ℕ) (h : IsNumberEscape s c) → text ≡ s ++ r → text ≡ codes "u{" ++ (h.digits ++ 125 ∷ r)
 at_number s r text c h f = f ∙ ap (λ x. x ++ r) h.spelled ∙ brace_assoc h.digits r
 
 -- a text begins with one letter, and with `u` where it begins with a number's escape
@@ -176,7 +176,7 @@ spells_plain (c ∷ cs) rest word plain h = (
   spells_plain cs rest word plain.1 h,
 )
 
-empty_is_no_character : (c : ℕ) (rest : List ℕ) → [] ≡ encode_utf8 c ++ rest → ⊥
+pub empty_is_no_character : (c : ℕ) (rest : List ℕ) → [] ≡ encode_utf8 c ++ rest → ⊥
 empty_is_no_character c rest e =
     let long = ap length e in let l = length-append (encode_utf8 c) rest in let k = length-encode c in let m = len_utf8_bounds c in omega arith
 

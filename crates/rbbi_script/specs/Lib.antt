@@ -6,3 +6,5 @@ pub mod LineReadings
 pub mod Refusals
 pub mod Saying
 pub mod Performing
+pub mod Reading
+pub mod Laws

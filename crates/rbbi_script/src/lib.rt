@@ -8,6 +8,7 @@
 mod command;
 mod error;
 mod escape;
+mod laws;
 mod line;
 mod listing;
 mod performing;
@@ -22,6 +23,7 @@ mod tests;
 
 pub use command::{Command, Commands};
 pub use error::ScriptErr;
+pub use laws::one_script;
 pub use performing::{perform, play};
 pub use reader::read_script;
 pub use saying::{Said, say, say_bound, say_list};

@@ -1,11 +1,12 @@
 //! Replies that list all boundaries or all characters of a text.
-ghost use Rattle.std.specs.Prelude.{◌≡◌};
+ghost use Rattle.std.specs.Prelude.{◌≡◌, length};
 ghost use Rattle.rbbi_model.specs.Answers.{Breaks, Characters};
 ghost use Rattle.rbbi_model.specs.Scripts.{Ask};
 ghost use Rattle.rbbi_model.specs.Lines.{escaped, reply_lines, boundary_lines};
 ghost use Rattle.rbbi_session.specs.Sessions.{boundaries_of};
 ghost use Rattle.rbbi_script.specs.Saying.{Appends};
 ghost use Rattle.rbbi_script.specs.Performing.{Performs};
+ghost use Rattle.rbbi_script.specs.Reading.{RisesUpTo, IsPaid, listing_cost};
 
 use crate::saying::{put, say_bound};
 use rbbi_session::Session;
@@ -19,7 +20,9 @@ pub(crate) fn say_boundaries<T: EditText, L: Ledger>(
     reply: &mut Vec<u8>,
     steps: &mut Steps<L>,
 ) -> Result<(), AllocError>
-    ensures { Performs session.old (Ask Breaks) reply.old.items result session.new reply.new.items }
+    ensures replies { Performs session.old (Ask Breaks) reply.old.items
+        result session.new reply.new.items }
+    ensures cost { IsPaid session.old (Ask Breaks) steps.old steps.new }
 {
     let cursor = session.current();
     let said = say_each(session, reply, steps);
@@ -37,6 +40,8 @@ fn say_each<T: EditText, L: Ledger>(
         result reply.new.items }
     ensures text { session.new.state.text ≡ session.old.state.text }
     ensures table { session.new.table ≡ session.old.table }
+    ensures cost { RisesUpTo (listing_cost session.old.table session.old.state.text
+        (boundaries_of session.old)) steps.old steps.new }
 {
     let mut place = Some(session.first());
     while let Some(at) = place {
@@ -53,8 +58,9 @@ pub(crate) fn say_text<T: Chars, L: Ledger>(
     reply: &mut Vec<u8>,
     steps: &mut Steps<L>,
 ) -> Result<(), AllocError>
-    ensures { Appends reply.old.items (reply_lines (Characters (T.characters text.now)))
+    ensures replies { Appends reply.old.items (reply_lines (Characters (T.characters text.now)))
         result reply.new.items }
+    ensures cost { RisesUpTo (length (T.characters text.now)) steps.old steps.new }
 {
     for i in 0..text.len() {
         say_character(text.char_at(i, steps), reply)?;

@@ -5,6 +5,7 @@ ghost use Rattle.rbbi_session.specs.Sessions.{place_reply, test_reply};
 ghost use Rattle.rbbi_script.specs.Meaning.{meaning};
 ghost use Rattle.rbbi_script.specs.Saying.{reply_of};
 ghost use Rattle.rbbi_script.specs.Performing.{Performs, Plays};
+ghost use Rattle.rbbi_script.specs.Reading.{RisesUpTo, IsPaid, TurnsRuns, commands_cost};
 
 use crate::command::{Command, Commands};
 use crate::listing::{say_boundaries, say_text};
@@ -23,14 +24,20 @@ use std::sync::ledger::Ledger;
 ///
 /// After the refusal a front of the reply was appended. Text and cursor are as after the command,
 /// or, where an edit was refused for memory, as before it.
+///
+/// Refused or not, the command reads at most its cost, and nothing where a kept run shows the
+/// answer or an edit is refused. The session's runs are left as the call that it makes leaves them.
 pub fn perform<T: EditText, L: Ledger>(
     session: &mut Session<'_, T>,
     command: &Command,
     reply: &mut Vec<u8>,
     steps: &mut Steps<L>,
 ) -> Result<(), AllocError>
-    ensures { Performs session.old (meaning command.now) reply.old.items
+    ensures replies { Performs session.old (meaning command.now) reply.old.items
         result session.new reply.new.items }
+    ensures cost { IsPaid session.old (meaning command.now) steps.old steps.new }
+    ensures runs { TurnsRuns session.old (meaning command.now) result session.new
+        steps.old steps.new }
 {
     match command {
         Command::First => say(Said::Place(session.first()), reply),
@@ -51,14 +58,19 @@ pub fn perform<T: EditText, L: Ledger>(
 
 /// Performs all commands in order, and appends the lines of their replies. After the refusal a
 /// front of the lines was appended.
+///
+/// Refused or not, at most the sum of the commands' costs is read. A question that repeats the one
+/// directly before it costs nothing, unless it is a `preceding` answered 0.
 pub fn play<T: EditText, L: Ledger>(
     session: &mut Session<'_, T>,
     commands: &Commands,
     replies: &mut Vec<u8>,
     steps: &mut Steps<L>,
 ) -> Result<(), AllocError>
-    ensures { Plays session.old (map meaning commands.now) replies.old.items
+    ensures replies { Plays session.old (map meaning commands.now) replies.old.items
         result session.new replies.new.items }
+    ensures cost { RisesUpTo (commands_cost session.old.table session.old.state
+        (map meaning commands.now)) steps.old steps.new }
 {
     for i in 0..commands.len() {
         perform(session, commands.get(i), replies, steps)?;
@@ -92,8 +104,11 @@ fn edit<T: EditText, L: Ledger>(
     reply: &mut Vec<u8>,
     steps: &mut Steps<L>,
 ) -> Result<(), AllocError>
-    ensures { Performs session.old (model.Replace at remove text.now) reply.old.items
+    ensures replies { Performs session.old (model.Replace at remove text.now) reply.old.items
         result session.new reply.new.items }
+    ensures cost { IsPaid session.old (model.Replace at remove text.now) steps.old steps.new }
+    ensures runs { TurnsRuns session.old (model.Replace at remove text.now) result session.new
+        steps.old steps.new }
 {
     match session.replace(at, remove, text.as_str(), steps) {
         Ok(()) => say(Said::Edited(session.text().len()), reply),

@@ -56,7 +56,7 @@ fn joined(alloc: Global, commands: &Commands) -> Result<String, AllocError> {
 #[test]
 fn scripts(rt: HostRuntime) -> Result<(), Fail> {
     let alloc = rt.alloc();
-    let rows: [(&str, &str); 12] = [
+    let rows: [(&str, &str); 14] = [
         ("", ""),
         (
             "first\nlast\nnext\nprevious\ncurrent\nstatus\nstatuses\nbreaks\ntext",
@@ -84,6 +84,8 @@ fn scripts(rt: HostRuntime) -> Result<(), Fail> {
         ("first\nlast\r\nnext\r", "BadLine 3"),
         ("first\ninsert 0 a\r\n", "first\nreplace|0|0|a|\n"),
         ("first\n\0\nlast", "BadLine 2"),
+        ("first\n\u{feff}last", "BadLine 2"),
+        ("\u{feff}", ""),
     ];
     for (script, wanted) in rows {
         assert_eq!(rt;
@@ -93,6 +95,7 @@ fn scripts(rt: HostRuntime) -> Result<(), Fail> {
         );
     }
     assert_eq!(rt; read(alloc, b"first\n\xFFlast")?.as_str(), "NotUtf8 6");
+    assert_eq!(rt; read(alloc, b"?\ntext\xE2\x82")?.as_str(), "NotUtf8 6");
     Ok(())
 }
 
@@ -138,6 +141,16 @@ fn bad_lines(rt: HostRuntime) -> Result<(), Fail> {
         "delete\t0 1",
         "\u{a0}",
         "text\0",
+        "\rfirst",
+        "fi\rst",
+        "text text",
+        "following 4294967296",
+        "preceding 4294967296",
+        "delete 4294967296 0",
+        "replace 4294967296 0 a",
+        "replace 0 4294967296 a",
+        "insert 0 \\u{DFFF}",
+        "insert 0 a\\",
     ];
     for line in bad {
         for (before, number) in [("", 1), ("first\n#\n", 3)] {

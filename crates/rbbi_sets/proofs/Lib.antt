@@ -3,6 +3,7 @@ pub mod Rise
 pub mod Joining
 pub mod Places
 pub mod Sweeping
+pub mod Alike
 pub mod Meanings
 pub mod Determined
 pub mod Sorting

@@ -1,6 +1,7 @@
 //! Sets of code points, as ranges that rise and neither overlap nor touch.
 #![tactic(auto)]
 
+mod inclusion;
 mod join;
 mod laws;
 mod range;

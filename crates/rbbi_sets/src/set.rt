@@ -7,6 +7,7 @@ ghost use Rattle.rbbi_sets.specs.Rising.{AreRising, IsRange};
 ghost use Rattle.rbbi_sets.specs.Covers.{covers};
 
 use crate::CodeRange;
+use crate::inclusion::covers_alike;
 use crate::join::join_last;
 use crate::sweep::{Operation, sweep};
 use std::alloc::{AllocError, Global};
@@ -134,6 +135,20 @@ impl CodeSet {
     {
         let next = self.ranges.partition_point(|range| range.high < c);
         next < self.ranges.len() && self.ranges[next].low <= c
+    }
+
+    /// Whether each member of the other set is a member of this one. It takes no memory.
+    pub fn holds_all(&self, other: &CodeSet) -> bool
+        ensures { IsTrue result ↔ ((c : ℕ) → Has other.now c → Has self.now c) }
+    {
+        covers_alike(true, &self.ranges, &other.ranges)
+    }
+
+    /// Whether no member of the other set is a member of this one. It takes no memory.
+    pub fn holds_none(&self, other: &CodeSet) -> bool
+        ensures { IsTrue result ↔ ((c : ℕ) → Has other.now c → ¬ Has self.now c) }
+    {
+        covers_alike(false, &self.ranges, &other.ranges)
     }
 
     /// The least code point, and None exactly where the set holds nothing.

@@ -119,6 +119,46 @@ fn operations(rt: HostRuntime) -> Result<(), Fail> {
 }
 
 #[test]
+fn inclusions(rt: HostRuntime) -> Result<(), Fail> {
+    // Two sets, whether the left one holds all of the right one, and whether it holds none of it.
+    let cases: [(Pairs, Pairs, bool, bool); 11] = [
+        (&[], &[], true, true),
+        (&[(1, 3)], &[], true, true),
+        (&[], &[(1, 3)], false, true),
+        (&[(1, 3)], &[(1, 3)], true, false),
+        (&[(1, 3)], &[(1, 4)], false, false),
+        (&[(1, 3)], &[(0, 3)], false, false),
+        (&[(1, 3)], &[(4, 4)], false, true),
+        (&[(5, 9)], &[(2, 4)], false, true),
+        (
+            &[(1, 9), (20, 30)],
+            &[(2, 2), (4, 9), (20, 29)],
+            true,
+            false,
+        ),
+        (
+            &[(1, 9), (20, 30)],
+            &[(0, 0), (10, 19), (31, LAST)],
+            false,
+            true,
+        ),
+        (
+            &[(0, 8), (10, LAST)],
+            &[(0, 0), (9, 9), (11, 12)],
+            false,
+            false,
+        ),
+    ];
+    for (left, right, all, none) in &cases {
+        let left = set_of(rt.alloc(), left)?;
+        let right = set_of(rt.alloc(), right)?;
+        assert_eq!(rt; left.holds_all(&right), *all);
+        assert_eq!(rt; left.holds_none(&right), *none);
+    }
+    Ok(())
+}
+
+#[test]
 fn complements(rt: HostRuntime) -> Result<(), Fail> {
     let cases: [(Pairs, Pairs); 5] = [
         (&[(0, LAST)], &[]),

@@ -16,4 +16,7 @@ pub mod Commands
 pub mod Faults
 pub mod Runs
 pub mod LeastFaults
+pub mod OneReading
 pub mod OneOutcome
+pub mod Searched
+pub mod Counted

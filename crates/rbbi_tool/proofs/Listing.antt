@@ -36,12 +36,12 @@ abbrev pub following : Table → List ℕ → ℕ → ℕ → List Boundary
 following table x most at = follow_by (next_boundary table x) (length x) most (record { at = at; statuses = [] })
 
 -- What follows a boundary depends on its place alone.
-by_place : (table : Table) (x : List ℕ) (most : ℕ) (b : Boundary) → follow_by (next_boundary table x) (length x) most b ≡ following table x most b.at
+pub by_place : (table : Table) (x : List ℕ) (most : ℕ) (b : Boundary) → follow_by (next_boundary table x) (length x) most b ≡ following table x most b.at
 by_place table x zero b = refl
 by_place table x (suc most) b = refl
 
 -- one more boundary follows, or none does at the text's end
-follows : (table : Table) (x : List ℕ) (most at : ℕ) → at < length x
+pub follows : (table : Table) (x : List ℕ) (most at : ℕ) → at < length x
     → following table x (suc most) at ≡ next_boundary table x at ∷ following table x most (next_boundary table x at).at
 follows table x most at inside =
     let next : Boundary = next_boundary table x at in

@@ -1,10 +1,13 @@
 -- Each stage is determined, and so is the outcome. The laws of the lower crates are handed in.
 use Rattle.std.proofs.Common.{◌≡◌, ◌≢◌, ◌⊎◌, ◌+◌, inl, inr, ⊎_elim, ℕ, Bool, true, false, List, [], ◌∷◌, length, Option, Some, is_some, sym, refl, ap, ◌∙◌}
-use Rattle.std.proofs.Common.{subst, arith}
-use Rattle.std.specs.Prelude.{codes, IsSome, Result, Err, Ok}
+use Rattle.std.proofs.Common.{arith}
+use Rattle.std.specs.Prelude.{codes, Result, Err, Ok}
 use Rattle.rbbi_model.specs.Rules.{Rule}
 use Rattle.rbbi_model.specs.Boundaries.{Boundary, AreBoundaries}
-use Rattle.rbbi_model.specs.Lines.{boundary_lines}
+use Rattle.rbbi_model.specs.Lines.{boundary_lines, all_reply_lines}
+use Rattle.rbbi_model.specs.Answers.{Reply}
+use Rattle.rbbi_model.specs.Scripts.{AreReplies}
+use Rattle.rbbi_model.specs.Scripts as scripts
 use Rattle.rbbi_model.specs.Tables.{Table}
 use Rattle.rbbi_model.specs.ValidTables.{IsValidTable}
 use Rattle.rbbi_model.specs.TableFile.{spelling}
@@ -30,6 +33,9 @@ use Rattle.rbbi_file.specs.declared.error.FileErr.{FileErr}
 use Rattle.rbbi_file.specs.declared.error.FileErr.TheVariants as file
 use Rattle.rbbi_file.specs.Errors as reader
 use Rattle.rbbi_file.specs.Answers.{ReadsTable}
+use Rattle.rbbi_script.specs.Laws.{HaveOneScript}
+use Rattle.rbbi_conform.specs.Tests.{Test}
+use Rattle.rbbi_conform.specs.Laws.{HaveOneTestList, HasOneVerdict}
 use Rattle.rbbi_tool.specs.declared.words.command.Command.{Command}
 use Rattle.rbbi_tool.specs.declared.words.command.Command.TheVariants.{Check, Compile, Breaks, Run, Conform}
 use Rattle.rbbi_tool.specs.declared.words.setting.Property.{Property}
@@ -53,10 +59,14 @@ use Rattle.rbbi_tool.specs.Reads.{bytes_of}
 use Rattle.rbbi_tool.specs.Command.Check.{counts_line}
 use Rattle.rbbi_tool.specs.Command.Compile.{TellsTable}
 use Rattle.rbbi_tool.specs.Command.Breaks.{boundaries_stage}
+use Rattle.rbbi_tool.specs.Command.Run.{AreRepliesFrom, replies_stage}
+use Rattle.rbbi_tool.specs.Command.Conform.{told_verdicts, verdicts_stage}
+use Rattle.rbbi_tool.specs.Scripts.{script_stage, tests_stage}
 use Rattle.rbbi_tool.specs.Program.{nth, words_stage, command_stage, files_stage, request_stage, run_stage, IsOutcome}
-use Rattle.rbbi_tool.specs.Causes.{AskToReadLines}
+use Rattle.rbbi_tool.specs.Causes.{TellOneTable}
 use Rattle.rbbi_tool.proofs.Forms.{same_request}
 use Rattle.rbbi_tool.proofs.StageLemmas.{IsSettled, settled, determined_both, settled_both}
+use Rattle.rbbi_tool.proofs.OneReading.{script_determined, tests_determined, same_verdicts}
 use Rattle.rbbi_tool.proofs.LeastFaults.{same_fault, meaning_excludes}
 
 -- what the lower crates state of tokens, faults, readings and boundaries
@@ -73,10 +83,15 @@ pub record Laws : Type 0 where
   pub answers : (bytes : List ℕ) (one other : Result Table FileErr) → ReadsTable bytes one → ReadsTable bytes other → one ≢ Err file.Memory
       → other ≢ Err file.Memory → one ≡ other
   pub boundaries : (rules : List Rule) (x : List ℕ) (these those : List Boundary) → AreBoundaries rules x these → AreBoundaries rules x those → these ≡ those
+  pub replies : (rules : List Rule) (x : List ℕ) (commands : List scripts.Command) (these those : List Reply) → AreReplies rules x commands these
+      → AreReplies rules x commands those → these ≡ those
+  pub scripts : HaveOneScript
+  pub tests : HaveOneTestList
+  pub verdicts : (boundaries : List Boundary) (test : Test) → HasOneVerdict boundaries test
 
--- outcomes are the same, or both write a file
+-- outcomes are the same, or both tell a table of the same rules
 abbrev AreAlike : Outcome → Outcome → Type 0
-AreAlike one other = (one ≡ other) ⊎ (IsSome one.file × IsSome other.file)
+AreAlike one other = (one ≡ other) ⊎ TellOneTable one other
 
 alike : (one other : Outcome) → one ≡ other → AreAlike one other
 alike one other same = inl same
@@ -304,25 +319,60 @@ module _ (laws : Laws) where
     apart = λ o r is is'. is';
   }
 
-  -- what a command answers is settled, but for those that read scripts and test files
-  command_settled : (command : Command) (request : Request) (handed files : List (List ℕ)) → command ≢ Run → command ≢ Conform
-      → IsSettled Outcome AreAlike (command_stage command request handed files)
-  command_settled Run request handed files other other' = absurd (other refl)
-  command_settled Conform request handed files other other' = absurd (other' refl)
-  command_settled Check request handed files other other' =
+  -- replies are determined
+  same_replies : (basis : Basis) (x : List ℕ) (commands : List scripts.Command) (these those : List Reply) → AreRepliesFrom basis x commands these
+      → AreRepliesFrom basis x commands those → these ≡ those
+  same_replies (ByRules rules) x commands these those are are' = laws.replies rules x commands these those are are'
+  same_replies (ByTable table) x commands these those are are' = are ∙ sym are'
+
+  replies_determined : (basis : Basis) (x : List ℕ) (commands : List scripts.Command) → IsDetermined Outcome (replies_stage basis x commands)
+  replies_determined basis x commands = record {
+    value = λ o p (rs, are, is) (ss, are', is'). is ∙ ap (λ list. printed (all_reply_lines list)) (same_replies basis x commands rs ss are are') ∙ sym is';
+    refusal = λ r s is is'. absurd is;
+    apart = λ o r is is'. is';
+  }
+
+  -- verdicts are determined
+  verdicts_determined : (basis : Basis) (tests : List Test) → IsDetermined Outcome (verdicts_stage basis tests)
+  verdicts_determined basis tests = record {
+    value = λ o p (vs, are, is) (ws, are', is').
+        is ∙ ap (told_verdicts tests) (same_verdicts basis (same_boundaries basis) laws.verdicts tests vs ws are are') ∙ sym is';
+    refusal = λ r s is is'. absurd is;
+    apart = λ o r is is'. is';
+  }
+
+  -- what a command answers is settled
+  command_settled : (command : Command) (request : Request) (handed files : List (List ℕ)) → IsSettled Outcome AreAlike (command_stage command request handed files)
+  command_settled Run request handed files =
+      let script = script_stage (nth request.operands 2) (nth files 2) in
+      settled AreAlike (command_stage Run request handed files) alike
+      (determined_both (basis_stage request.properties request.ignored request.by_table handed (nth files 0))
+      (λ basis. followed_by (text_stage (nth request.operands 1) (nth files 1)) (λ x. followed_by script (replies_stage basis x)))
+      (basis_determined request.properties request.ignored request.by_table handed (nth files 0))
+      (λ basis. determined_both (text_stage (nth request.operands 1) (nth files 1)) (λ x. followed_by script (replies_stage basis x))
+      (text_determined (nth request.operands 1) (nth files 1))
+      (λ x. determined_both script (replies_stage basis x) (script_determined laws.scripts (nth request.operands 2) (nth files 2)) (replies_determined basis x))))
+  command_settled Conform request handed files =
+      let tests = tests_stage (nth request.operands 1) (nth files 1) in
+      settled AreAlike (command_stage Conform request handed files) alike
+      (determined_both (basis_stage request.properties request.ignored request.by_table handed (nth files 0))
+      (λ basis. followed_by tests (verdicts_stage basis))
+      (basis_determined request.properties request.ignored request.by_table handed (nth files 0))
+      (λ basis. determined_both tests (verdicts_stage basis) (tests_determined laws.tests (nth request.operands 1) (nth files 1)) (verdicts_determined basis)))
+  command_settled Check request handed files =
       settled AreAlike (command_stage Check request handed files) alike
       (determined_both (rules_stage request.properties request.ignored handed (nth files 0)) (λ rules. gives (printed (counts_line rules)))
       (rules_determined request.properties request.ignored handed (nth files 0)) (λ rules. gives_determined (printed (counts_line rules))))
-  command_settled Compile request handed files other other' =
+  command_settled Compile request handed files =
       settled_both (compiled_stage request.properties request.ignored handed (nth files 0))
       (λ rules. record { passes = TellsTable rules (nth request.operands 1); refuses = λ _. ⊥ }) AreAlike
       (compiled_determined request.properties request.ignored handed (nth files 0))
       (λ rules mean. record {
-        value = λ o p is is'. inr (subst (λ q. IsSome q.file) (sym is.is) refl, subst (λ q. IsSome q.file) (sym is'.is) refl);
+        value = λ o p is is'. inr (record { rules = rules; name = nth request.operands 1; is = is; is_other = is' });
         refusal = λ r s is is'. absurd is;
         apart = λ o r is is'. is';
       })
-  command_settled Breaks request handed files other other' =
+  command_settled Breaks request handed files =
       settled AreAlike (command_stage Breaks request handed files) alike
       (determined_both (basis_stage request.properties request.ignored request.by_table handed (nth files 0))
       (λ basis. followed_by (text_stage (nth request.operands 1) (nth files 1)) (boundaries_stage basis))
@@ -331,20 +381,18 @@ module _ (laws : Laws) where
       (text_determined (nth request.operands 1) (nth files 1)) (boundaries_determined basis)))
 
   -- a run over files that tell what they hold is settled
-  run_settled : (words : List (List ℕ)) (held : List ℕ → List ℕ) → ¬ AskToReadLines words → IsSettled Outcome AreAlike (run_stage words held)
-  run_settled words held none =
+  run_settled : (words : List (List ℕ)) (held : List ℕ → List ℕ) → IsSettled Outcome AreAlike (run_stage words held)
+  run_settled words held =
       settled_both (words_stage words) (request_stage held) AreAlike (words_determined words)
       (λ request asks.
       settled_both (lengths_stage held (sources_of request)) (λ _. files_stage request (bytes_of held (sources_of request))) AreAlike
       (lengths_determined held (sources_of request))
-      (λ _ short.
-      command_settled request.command request _ _ (λ is. none (record { request = request; asks = asks; reads = inl is }))
-      (λ is. none (record { request = request; asks = asks; reads = inr is }))))
+      (λ _ short. command_settled request.command request _ _))
 
-  pub same_outcome : (words : List (List ℕ)) (held : List ℕ → List ℕ) → ¬ AskToReadLines words → (one other : Outcome) → IsOutcome words held one
+  pub same_outcome : (words : List (List ℕ)) (held : List ℕ → List ℕ) → (one other : Outcome) → IsOutcome words held one
       → IsOutcome words held other → AreAlike one other
-  same_outcome words held none one other is is' =
-      let run = run_settled words held none in
+  same_outcome words held one other is is' =
+      let run = run_settled words held in
       ⊎_elim
       (λ (r, refuses, told). ⊎_elim (λ (s, refuses', told'). inl (told ∙ ap refused (run.refusal r s refuses refuses') ∙ sym told'))
       (λ passes. absurd (run.apart other r passes refuses)) is')

@@ -1,17 +1,18 @@
 -- What a run of the program answers and writes, and why.
-use Rattle.std.specs.Prelude.{◌≡◌, ◌≢◌, ◌⊎◌, ◌≤◌, ℕ, List, [], take, slice_get, Option, Some, None, IfSome, IsSome, Result, Ok, Err}
+use Rattle.std.specs.Prelude.{◌≡◌, ◌≢◌, ◌⊎◌, ◌≤◌, ℕ, List, [], take, slice_get, Option, Some, None, IfSome, Result, Ok, Err}
 use Rattle.rbbi_model.specs.Lines.{usage_line, unread_line}
+use Rattle.rbbi_model.specs.Rules.{Rule}
 use Rattle.rbbi_io.specs.Counts.{Rose}
 use Rattle.rbbi_io.specs.Sinks.{Takes}
 use Rattle.rbbi_tool.specs.declared.files.Source.{Source}
 use Rattle.rbbi_tool.specs.declared.words.command.Operand.TheVariants as operand
-use Rattle.rbbi_tool.specs.declared.words.command.Command.TheVariants as command
 use Rattle.rbbi_tool.specs.declared.refusal.Refusal.{Refusal}
 use Rattle.rbbi_tool.specs.declared.refusal.Refusal.TheVariants.{Usage, Unread, Fault, Memory}
 use Rattle.rbbi_tool.specs.Refusals.{Outcome, refused}
 use Rattle.rbbi_tool.specs.Words.{Request, Asks, AreNoForm, operands_of}
 use Rattle.rbbi_tool.specs.Files.{sources_of}
 use Rattle.rbbi_tool.specs.Reads.{FailsToRead}
+use Rattle.rbbi_tool.specs.Command.Compile.{TellsTable}
 use Rattle.rbbi_tool.specs.Program.{run_stage, IsOutcome}
 use Rattle.rbbi_tool.specs.Delivery.{HoldsFile}
 
@@ -126,13 +127,15 @@ abbrev pub TakesFailedRead : List (List ℕ) → Option (List ℕ → List ℕ) 
 TakesFailedRead words contents before now taken taken' =
     (line : List ℕ) × TellsFailedRead words contents before now line × Takes taken taken' line
 
--- the words ask for a command that reads a script or a test file
-pub record AskToReadLines (words : List (List ℕ)) : Type 0 where
-  pub request : Request
-  pub asks : Asks words request
-  pub reads : (request.command ≡ command.Run) ⊎ (request.command ≡ command.Conform)
+-- Both tell a table that is compiled from the same rules, and write its file under the same name. Of such a table the numbers of
+-- the rows but the first two are free.
+pub record TellOneTable (one other : Outcome) : Type 0 where
+  pub rules : List Rule
+  pub name : List ℕ
+  pub is : TellsTable rules name one
+  pub is_other : TellsTable rules name other
 
--- No two outcomes differ, but where both write a file: of a table that is compiled the row numbers are free.
+-- no two outcomes differ, but for the row numbers of a table that is compiled
 abbrev pub HasOneOutcome : List (List ℕ) → (List ℕ → List ℕ) → Type 0
 HasOneOutcome words held =
-    (one other : Outcome) → IsOutcome words held one → IsOutcome words held other → (one ≡ other) ⊎ (IsSome one.file × IsSome other.file)
+    (one other : Outcome) → IsOutcome words held one → IsOutcome words held other → (one ≡ other) ⊎ TellOneTable one other

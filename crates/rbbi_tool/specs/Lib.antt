@@ -15,3 +15,4 @@ pub mod Judging
 pub mod Program
 pub mod Delivery
 pub mod Causes
+pub mod Steps

@@ -1,14 +1,16 @@
 //! The table that the boundaries of a text come by: compiled from a rule file, or read from a table
 //! file.
-ghost use Rattle.std.specs.Prelude.{◌≡◌, ◌≤◌, length, IfOk};
+ghost use Rattle.std.specs.Prelude.{◌≡◌, ◌+◌, ◌≤◌, length, sum_by, IfOk};
 ghost use Rattle.rbbi_text.specs.Bytes.{most_bytes};
 ghost use Rattle.rbbi_model.specs.Rules.{AreLawful};
 ghost use Rattle.rbbi_model.specs.Compiled.{AreClasses, IsCompiled};
 ghost use Rattle.rbbi_model.specs.ValidTables.{AreValidRanges};
 ghost use Rattle.rbbi_resolve.specs.RuleLists.{rules_of};
+ghost use Rattle.rbbi_script.specs.Reading.{RisesUpTo};
 ghost use Rattle.rbbi_tool.specs.Stages.{Meets, Serves};
 ghost use Rattle.rbbi_tool.specs.Properties.{AreHanded};
 ghost use Rattle.rbbi_tool.specs.Basis as spec;
+ghost use Rattle.rbbi_tool.specs.Steps.{IsTableOf};
 
 use crate::refusal::{Place, Refusal, Subject, fault};
 use crate::rules::rules_from;
@@ -69,8 +71,9 @@ pub(crate) fn compiled<L: Ledger>(
 ) -> Result<Table, Refusal>
     requires handed { AreHanded options.now.properties.items handed.now }
     requires short { length bytes.now ≤ most_bytes }
-    ensures { Serves IsCompiled (spec.compiled_stage options.now.properties.items
+    ensures exact { Serves IsCompiled (spec.compiled_stage options.now.properties.items
         options.now.ignored handed.now bytes.now) result }
+    ensures steps { RisesUpTo (sum_by length handed.now + length bytes.now) steps.old steps.new }
 {
     let rules = rules_from(alloc, options, handed, bytes, steps)?;
     let cats = categories_of(alloc, &rules)?;
@@ -105,8 +108,11 @@ pub(crate) fn basis<L: Ledger>(
 ) -> Result<Table, Refusal>
     requires handed { AreHanded options.now.properties.items handed.now }
     requires short { length bytes.now ≤ most_bytes }
-    ensures { Serves spec.GivesThem (spec.basis_stage options.now.properties.items
+    ensures exact { Serves spec.GivesThem (spec.basis_stage options.now.properties.items
         options.now.ignored options.now.by_table handed.now bytes.now) result }
+    ensures table { Serves IsTableOf (spec.basis_stage options.now.properties.items
+        options.now.ignored options.now.by_table handed.now bytes.now) result }
+    ensures steps { RisesUpTo (sum_by length handed.now + length bytes.now) steps.old steps.new }
 {
     if options.by_table {
         return read(alloc, bytes.bytes(steps));

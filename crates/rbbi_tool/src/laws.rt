@@ -1,14 +1,12 @@
 //! Laws of what the program answers. The functions carry no code: each states a law as its
 //! contract.
 ghost use Rattle.std.specs.Prelude.{ℕ, List};
-ghost use Rattle.rbbi_tool.specs.Causes.{AskToReadLines, HasOneOutcome};
+ghost use Rattle.rbbi_tool.specs.Causes.{HasOneOutcome};
 
 /// To words over files that tell what they hold there is one outcome: one status, one text, and one
-/// file. Of a table that is compiled the row numbers are free, and so are its bytes. Nothing is
-/// said of commands that read a script or a test file.
+/// file. Of a table that is compiled the row numbers are free, and so are its bytes and its line.
 pub fn outcomes_are_unique()
-    ensures { (words : List (List ℕ)) (held : List ℕ → List ℕ) → ¬ AskToReadLines words
-        → HasOneOutcome words held }
+    ensures { (words : List (List ℕ)) (held : List ℕ → List ℕ) → HasOneOutcome words held }
 {
     rbbi_model::boundaries_are_unique();
     rbbi_lex::tokens_are_unique();
@@ -20,4 +18,8 @@ pub fn outcomes_are_unique()
     rbbi_resolve::at_most_one_meaning();
     rbbi_model::spelling_tells_the_table();
     rbbi_file::one_answer();
+    rbbi_model::replies_are_unique();
+    rbbi_script::one_script();
+    rbbi_conform::one_tests();
+    rbbi_conform::one_verdict();
 }

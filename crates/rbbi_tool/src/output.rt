@@ -7,6 +7,7 @@ ghost use Rattle.rbbi_tool.specs.Requests.{asked_by};
 ghost use Rattle.rbbi_tool.specs.Files.{sources_of};
 ghost use Rattle.rbbi_tool.specs.Reads.{AreWithin};
 ghost use Rattle.rbbi_tool.specs.Program.{nth, files_stage};
+ghost use Rattle.rbbi_tool.specs.Steps.{FilesReads};
 
 use crate::command::{Output, breaks, check, compile, conform, run};
 use crate::refusal::Refusal;
@@ -41,7 +42,8 @@ pub(crate) fn output_of<L: Ledger>(
     requires count { length request.now.operands.now
         ≡ length (operands_of request.now.command request.now.options.by_table) }
     requires within { AreWithin (sources_of (asked_by request.now)) files.now }
-    ensures { Meets (λ output. output) (files_stage (asked_by request.now) files.now) result }
+    ensures exact { Meets (λ output. output) (files_stage (asked_by request.now) files.now) result }
+    ensures steps { FilesReads (asked_by request.now) files.now steps.old steps.new }
 {
     let options = &request.options;
     let operands = request.operands;

@@ -8,6 +8,7 @@ ghost use Rattle.rbbi_io.specs.Sinks.{Takes};
 ghost use Rattle.rbbi_tool.specs.Words.{Request, Asks, AreNoForm};
 ghost use Rattle.rbbi_tool.specs.Files.{sources_of};
 ghost use Rattle.rbbi_tool.specs.Reads.{MakesSomeReads};
+ghost use Rattle.rbbi_tool.specs.Steps.{RequestReads};
 ghost use Rattle.rbbi_tool.specs.Causes.{ComesTo, Tells, IsAnswer, NoReadFailed};
 ghost use Rattle.rbbi_tool.specs.Causes.{TakesOutcome, TakesFailedRead, TakesPart};
 ghost use Rattle.rbbi_tool.specs.Causes.{EachHolds, SomeWriteFailed, OthersUnwritten};
@@ -38,6 +39,9 @@ fn run<F: Files, L: Ledger>(
     ensures order { (request : Request) → Asks (map string_bytes words.now.items) request
         → IfSome (F.contents files.old) (MakesSomeReads (sources_of request)
         (F.failed_reads files.old) (F.failed_reads files.new)) }
+    ensures steps { (request : Request) → Asks (map string_bytes words.now.items) request
+        → IfSome (F.contents files.old)
+        (λ held. RequestReads request held steps.old steps.new) }
 
     ensures contents { F.contents files.new ≡ F.contents files.old }
     ensures reads { EachGoesOn (F.failed_reads files.old) (F.failed_reads files.new) }
@@ -83,6 +87,9 @@ fn answer<F: Files, L: Ledger>(
     ensures order { (request : Request) → Asks (map string_bytes words.now.items) request
         → IfSome (F.contents files.old) (MakesSomeReads (sources_of request)
         (F.failed_reads files.old) (F.failed_reads files.new)) }
+    ensures steps { (request : Request) → Asks (map string_bytes words.now.items) request
+        → IfSome (F.contents files.old)
+        (λ held. RequestReads request held steps.old steps.new) }
 
     ensures contents { F.contents files.new ≡ F.contents files.old }
     ensures reads { EachGoesOn (F.failed_reads files.old) (F.failed_reads files.new) }
@@ -133,6 +140,12 @@ pub fn rbbi<F: Files, K: Sink, L: Ledger>(
     ensures order { (request : Request) → Asks (map string_bytes words.now.items) request
         → IfSome (F.contents files.old) (MakesSomeReads (sources_of request)
         (F.failed_reads files.old) (F.failed_reads files.new)) }
+
+    // Of a text only the characters count that are read. Its lines are made within what the
+    // boundaries or the commands cost; beside that, the bytes of the other files are read once.
+    ensures steps { (request : Request) → Asks (map string_bytes words.now.items) request
+        → IfSome (F.contents files.old)
+        (λ held. RequestReads request held steps.old steps.new) }
 
     // 0 to 5 are the one outcome of the words and of what the files hold.
     ensures outcome { result ≤ 5 → WhereTold (F.contents files.old) (F.contents files.new)

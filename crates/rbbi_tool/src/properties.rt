@@ -1,7 +1,8 @@
 //! From the bytes of property files to their rows.
-ghost use Rattle.std.specs.Prelude.{◌≡◌, ◌≤◌, ◌∷◌, [], ◌++◌, length, IfOk, OnOk};
+ghost use Rattle.std.specs.Prelude.{◌≡◌, ◌+◌, ◌≤◌, ◌∷◌, [], ◌++◌, length, sum_by, IfOk, OnOk};
 ghost use Rattle.rbbi_text.specs.Bytes.{most_bytes};
 ghost use Rattle.rbbi_props.specs.Files.{file_of};
+ghost use Rattle.rbbi_script.specs.Reading.{RisesUpTo};
 ghost use Rattle.rbbi_tool.specs.Stages.{Meets};
 ghost use Rattle.rbbi_tool.specs.Properties as spec;
 
@@ -25,6 +26,7 @@ fn add<L: Ledger>(
     ensures exact { Meets (λ _. tt) (spec.property_stage property.now.file bytes.now) result }
     ensures added { OnOk result
         (table.new ≡ table.old ++ file_of property.now.name bytes.now ∷ []) }
+    ensures steps { steps.new ≡ steps.old + length bytes.now }
 {
     match table.add(property.name.as_str(), bytes.bytes(steps)) {
         Ok(()) => Ok(()),
@@ -51,6 +53,7 @@ pub(crate) fn properties_of<L: Ledger>(
     requires { spec.AreHanded properties.now handed.now }
     ensures exact { Meets (λ _. tt) (spec.properties_stage properties.now handed.now) result }
     ensures files { IfOk result (λ table. table ≡ spec.property_files properties.now handed.now) }
+    ensures steps { RisesUpTo (sum_by length handed.now) steps.old steps.new }
 {
     let mut table = PropTable::new(alloc);
     for i in 0..properties.len() {

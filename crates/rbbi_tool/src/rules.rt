@@ -1,5 +1,5 @@
 //! From the bytes of a rule file to its rules.
-ghost use Rattle.std.specs.Prelude.{◌≡◌, ◌≤◌, ◌⊎◌, length, IfOk, MatchOption};
+ghost use Rattle.std.specs.Prelude.{◌≡◌, ◌+◌, ◌≤◌, ◌⊎◌, length, sum_by, IfOk, MatchOption};
 ghost use Rattle.std.specs.Str.{chars};
 ghost use Rattle.rbbi_text.specs.Bytes.{most_bytes};
 ghost use Rattle.rbbi_lex.specs.Places.{PlacesRise};
@@ -8,6 +8,7 @@ ghost use Rattle.rbbi_tree.specs.Values.{statement_trees};
 ghost use Rattle.rbbi_tree.specs.WellMade.{AreWellMade};
 ghost use Rattle.rbbi_model.specs.Rules.{AreLawful};
 ghost use Rattle.rbbi_resolve.specs.RuleLists.{rules_of};
+ghost use Rattle.rbbi_script.specs.Reading.{RisesUpTo};
 ghost use Rattle.rbbi_tool.specs.Properties.{AreHanded};
 ghost use Rattle.rbbi_tool.specs.Stages.{Meets};
 ghost use Rattle.rbbi_tool.specs.Rules as spec;
@@ -150,6 +151,7 @@ pub(crate) fn rules_from<L: Ledger>(
     ensures exact { Meets rules_of (spec.rules_stage options.now.properties.items
         options.now.ignored handed.now bytes.now) result }
     ensures lawful { IfOk result (λ rules. AreLawful (rules_of rules)) }
+    ensures steps { RisesUpTo (sum_by length handed.now + length bytes.now) steps.old steps.new }
 {
     let props = properties_of(alloc, &options.properties, handed, steps)?;
     let text = text_of(alloc, bytes.bytes(steps))?;

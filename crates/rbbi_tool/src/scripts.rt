@@ -1,5 +1,5 @@
 //! From the bytes of a script to its commands, and from those of a test file to its tests.
-ghost use Rattle.std.specs.Prelude.{◌≡◌, ◌≢◌, ◌≤◌, ◌⊎◌, length, map};
+ghost use Rattle.std.specs.Prelude.{◌≡◌, ◌≢◌, ◌+◌, ◌≤◌, ◌⊎◌, length, map};
 ghost use Rattle.rbbi_text.specs.Bytes.{most_bytes};
 ghost use Rattle.rbbi_script.specs.Meaning.{meaning};
 ghost use Rattle.rbbi_tool.specs.Stages.{Meets};
@@ -32,8 +32,9 @@ pub(crate) fn commands_of<L: Ledger>(
     steps: &mut Steps<L>,
 ) -> Result<Commands, Refusal>
     requires { length bytes.now ≤ most_bytes }
-    ensures { Meets (λ commands. map meaning commands)
+    ensures exact { Meets (λ commands. map meaning commands)
         (spec.script_stage name.now bytes.now) result }
+    ensures steps { steps.new ≡ steps.old + length bytes.now }
 {
     match read_script(alloc, bytes.bytes(steps)) {
         Ok(commands) => Ok(commands),

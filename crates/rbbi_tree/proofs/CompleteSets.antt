@@ -6,7 +6,7 @@ use Rattle.rbbi_tree.specs.declared.syntax.Join.{Join}
 use Rattle.rbbi_tree.specs.declared.syntax.Join.TheVariants.{Add, Both, Minus}
 use Rattle.rbbi_tree.specs.declared.set_level.SetState.{SetState}
 use Rattle.rbbi_tree.specs.declared.set_level.SetState.TheVariants as state
-use Rattle.rbbi_tree.specs.Trees.{SetTree, PartsTree, PartTree, SetItemTree, set_of, no_parts, part, joined, set_character, set_range, set_name, set_property}
+use Rattle.rbbi_tree.specs.Trees.{SetSyntax, PartsTree, PartTree, SetItemTree, set_of, no_parts, part, joined, set_character, set_range, set_name, set_property}
 use Rattle.rbbi_tree.specs.Trees.{set_within}
 use Rattle.rbbi_tree.specs.Grammar.{token, IsCaret, Spot, opening, behind, elsewhere, IsOpening, IsJoin, AreCharactersPart, hyphen_at, AreParts, IsOperand}
 use Rattle.rbbi_tree.specs.Machine.Sets.{SetLevelTree, OuterSetTree, SetsTree, settled, join_in, parts_back, outer_set}
@@ -28,7 +28,7 @@ Fits elsewhere (state.Character c place) = Unit {0}
 Fits spot last = ⊥
 
 -- which sets are open makes no difference to the end of a set
-ended-sets : (place : ℕ) (t : SetTree) (outers : List OuterSetTree) (sets : Option SetsTree) (p : Progress) →
+ended-sets : (place : ℕ) (t : SetSyntax) (outers : List OuterSetTree) (sets : Option SetsTree) (p : Progress) →
     set_ended place t outers (with_sets sets p) ≡ set_ended place t outers p
 ended-sets place t [] sets p = refl
 ended-sets place t (o ∷ outers) sets p = refl

@@ -5,7 +5,7 @@ use Rattle.rbbi_lex.specs.declared.token.TokenKind.TheVariants.{Semi, ParenClose
 use Rattle.rbbi_tree.specs.declared.syntax.Quant.TheVariants.{Once}
 use Rattle.rbbi_tree.specs.declared.set_level.SetState.{SetState}
 use Rattle.rbbi_tree.specs.declared.set_level.SetState.TheVariants as state
-use Rattle.rbbi_tree.specs.Trees.{SetTree, PartTree, SeqTree, ItemTree, StatementTree, placed, character, set, group}
+use Rattle.rbbi_tree.specs.Trees.{SetSyntax, PartTree, SeqTree, ItemTree, StatementTree, placed, character, set, group}
 use Rattle.rbbi_tree.specs.Grammar.{token}
 use Rattle.rbbi_tree.specs.Machine.Sets.{SetLevelTree, OuterSetTree, SetsTree, set_from, set_resumed}
 use Rattle.rbbi_tree.specs.Machine.Statements.{LevelTree, GroupTree, HeadTree, between, assigning, ruling, resting, ended, Progress, whole, set_ended, run}
@@ -54,8 +54,8 @@ close_sets [] groups = close_groups groups
 close_sets (o ∷ outers) groups = token SetClose 0 ∷ close_sets outers groups
 
 -- after a set the outer ones are closed
-finish_outers : (outers : List OuterSetTree) (at : ℕ) (t : SetTree) (done : List StatementTree) (head : HeadTree) (groups : List GroupTree) (level : LevelTree)
-    (sets : Option SetsTree) → Reading head →
+finish_outers : (outers : List OuterSetTree) (at : ℕ) (t : SetSyntax) (done : List StatementTree) (head : HeadTree) (groups : List GroupTree)
+    (level : LevelTree) (sets : Option SetsTree) → Reading head →
     Finishes (close_sets outers groups) (set_ended at t outers (made done head groups level sets))
 finish_outers [] at t done head groups level sets reading = finish_groups groups done head level.sequences (placed at (set t) Once) level.items reading
 finish_outers (o ∷ outers) at t done head groups level sets reading =

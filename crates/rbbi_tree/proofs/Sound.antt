@@ -10,8 +10,8 @@ use Rattle.rbbi_lex.specs.declared.token.TokenKind.TheVariants.{Char, Quoted, Na
 use Rattle.rbbi_tree.specs.declared.syntax.Join.{Join}
 use Rattle.rbbi_tree.specs.declared.syntax.Quant.{Quant}
 use Rattle.rbbi_tree.specs.declared.syntax.Quant.TheVariants.{Once, Star, Plus, Quest}
-use Rattle.rbbi_tree.specs.Trees.{SetTree, PartTree, ExprTree, SeqTree, ItemTree, AtomTree, StatementTree, no_alternatives, alternative, no_items, item, placed}
-use Rattle.rbbi_tree.specs.Trees.{character, quoted, any, name, property, set, group, nothing, control}
+use Rattle.rbbi_tree.specs.Trees.{SetSyntax, PartTree, ExprTree, SeqTree, ItemTree, AtomTree, StatementTree, no_alternatives, alternative, no_items}
+use Rattle.rbbi_tree.specs.Trees.{item, placed, character, quoted, any, name, property, set, group, nothing, control}
 use Rattle.rbbi_tree.specs.Grammar.{token, BeginsAt, IsCaret, IsQuant, IsTag, IsSet, IsExpr, AreMoreAlternatives, IsSeq, AreItems, IsItem, IsAtom, IsOneSeq}
 use Rattle.rbbi_tree.specs.Grammar.{IsStatement, IsFile}
 use Rattle.rbbi_tree.specs.Machine.Sets.{SetLevelTree, OuterSetTree, SetsTree, join_in, ended_parts, set_from, at_set_token}
@@ -681,8 +681,8 @@ step_inner_open place ts done head groups level s outers (Some join) joins (a, b
     )
 
 -- a set ends: the outermost is an atom, another an operand
-set_closes : (at : ℕ) (t : SetTree) (a b c d e f us ts : List Token) (done : List StatementTree) (head : HeadTree) (groups : List GroupTree) (level : LevelTree)
-    (s : SetLevelTree) (outers : List OuterSetTree) →
+set_closes : (at : ℕ) (t : SetSyntax) (a b c d e f us ts : List Token) (done : List StatementTree) (head : HeadTree) (groups : List GroupTree)
+    (level : LevelTree) (s : SetLevelTree) (outers : List OuterSetTree) →
     ts ≡ a ++ b → IsFile a done → b ≡ c ++ d → IsBegun c head groups level → Reading head → d ≡ e ++ f → AreOuters e outers → IsSet at (f ++ us) t →
     StartsAt b head →
     IsRead (ts ++ us) (set_ended at t outers (made done head groups level (sets_with s outers)))

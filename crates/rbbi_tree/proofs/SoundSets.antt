@@ -8,7 +8,7 @@ use Rattle.rbbi_tree.specs.declared.syntax.Join.{Join}
 use Rattle.rbbi_tree.specs.declared.syntax.Join.TheVariants.{Add, Both, Minus}
 use Rattle.rbbi_tree.specs.declared.set_level.SetState.{SetState}
 use Rattle.rbbi_tree.specs.declared.set_level.SetState.TheVariants as state
-use Rattle.rbbi_tree.specs.Trees.{SetTree, PartsTree, PartTree, SetItemTree, set_of, no_parts, part, joined, set_range, set_name, set_property, set_within}
+use Rattle.rbbi_tree.specs.Trees.{SetSyntax, PartsTree, PartTree, SetItemTree, set_of, no_parts, part, joined, set_range, set_name, set_property, set_within}
 use Rattle.rbbi_tree.specs.Grammar.{token, Spot, opening, behind, elsewhere, IsJoin, hyphen_at, AreParts, IsSet, IsOperand}
 use Rattle.rbbi_tree.specs.Machine.Sets.{SetLevelTree, OuterSetTree, settled, join_in, ended_parts, character_at, parts_back, opened, outer_set, set_resumed}
 use Rattle.rbbi_tree.specs.Machine.Sets.{at_set_caret, at_set_hyphen, at_set_amp, at_set_character, at_set_operand, at_set_token}
@@ -156,7 +156,7 @@ opens_inner ts s join (fresh, leads) joins a at i us more is h =
     subst (λ all. IsSet s.place (ts ++ (a ++ us)) (set_of s.place s.negated all)) same (leads (a ++ us) m follows)
 
 -- a set ends in another one
-pub resumes : (ts us : List Token) (at : ℕ) (t : SetTree) (o : OuterSetTree) → IsOuterRead ts o → IsSet at us t → IsSetRead (ts ++ us) (set_resumed at t o)
+pub resumes : (ts us : List Token) (at : ℕ) (t : SetSyntax) (o : OuterSetTree) → IsOuterRead ts o → IsSet at us t → IsSetRead (ts ++ us) (set_resumed at t o)
 resumes ts us at t o outer is = (tt, λ vs more h. rw (append_assoc ts us vs) (outer us at (set_within t) vs more is h))
 
 -- an operand of one token is read

@@ -9,7 +9,7 @@ use Rattle.rbbi_tree.specs.declared.syntax.Quant.{Quant}
 use Rattle.rbbi_tree.specs.declared.syntax.Quant.TheVariants.{Once, Star, Plus, Quest}
 use Rattle.rbbi_tree.specs.declared.syntax.Join.{Join}
 use Rattle.rbbi_tree.specs.declared.syntax.Join.TheVariants.{Add, Both, Minus}
-use Rattle.rbbi_tree.specs.Trees.{SetTree, PartsTree, PartTree, SetItemTree, set_of, no_parts, part, joined, set_character, set_range, set_name, set_property}
+use Rattle.rbbi_tree.specs.Trees.{SetSyntax, PartsTree, PartTree, SetItemTree, set_of, no_parts, part, joined, set_character, set_range, set_name, set_property}
 use Rattle.rbbi_tree.specs.Trees.{set_within}
 use Rattle.rbbi_tree.specs.Trees.{ExprTree, SeqTree, ItemTree, AtomTree, no_alternatives, alternative, no_items, item, placed, character, quoted, any, name}
 use Rattle.rbbi_tree.specs.Trees.{property, set, group}
@@ -92,7 +92,7 @@ IsLastHyphen tokens p (part next more) = ⊥
 
 abbrev mutual
   -- a set that begins at this place: its bracket, perhaps a caret, and the rest
-  pub IsSet : ℕ → List Token → SetTree → Type 0
+  pub IsSet : ℕ → List Token → SetSyntax → Type 0
   IsSet place tokens (set_of at negated parts) =
       (caret : List Token) × (rest : List Token) × (tokens ≡ token SetOpen place ∷ (caret ++ rest)) × (at ≡ place) × IsCaret caret negated ×
       AreParts opening rest parts

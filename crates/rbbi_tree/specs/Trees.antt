@@ -5,8 +5,8 @@ use Rattle.rbbi_tree.specs.declared.syntax.Join.{Join}
 
 mutual
   -- a set in square brackets: the place of its bracket, whether it is negated, and its parts
-  pub data SetTree : Type 0 where
-    set_of : (place : ℕ) → (negated : Bool) → PartsTree → SetTree
+  pub data SetSyntax : Type 0 where
+    set_of : (place : ℕ) → (negated : Bool) → PartsTree → SetSyntax
 
   -- the parts of a set, from first to last
   pub data PartsTree : Type 0 where
@@ -23,7 +23,7 @@ mutual
     set_range : (first last : ℕ) → SetItemTree
     set_name : (name : List ℕ) → SetItemTree
     set_property : (negated : Bool) → (name : List ℕ) → (value : Option (List ℕ)) → SetItemTree
-    set_within : SetTree → SetItemTree
+    set_within : SetSyntax → SetItemTree
 
 mutual
   -- the alternatives of an expression, from first to last
@@ -47,7 +47,7 @@ mutual
     any : AtomTree
     name : (name : List ℕ) → AtomTree
     property : (negated : Bool) → (name : List ℕ) → (value : Option (List ℕ)) → AtomTree
-    set : SetTree → AtomTree
+    set : SetSyntax → AtomTree
     group : ExprTree → AtomTree
 
 -- a statement: a lone semicolon; a control; a variable and what it stands for; or a rule, with the place of its

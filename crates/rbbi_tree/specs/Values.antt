@@ -1,6 +1,6 @@
 -- The trees that the values of the code stand for.
 use Rattle.std.specs.Prelude.{◌≡◌, List, map, Option, Some, None}
-use Rattle.rbbi_tree.specs.Trees.{SetTree, PartsTree, PartTree, SetItemTree, set_of, joined, set_character, set_range, set_name, set_property, set_within}
+use Rattle.rbbi_tree.specs.Trees.{SetSyntax, PartsTree, PartTree, SetItemTree, set_of, joined, set_character, set_range, set_name, set_property, set_within}
 use Rattle.rbbi_tree.specs.Trees.{parts_of}
 use Rattle.rbbi_tree.specs.Trees.{ExprTree, SeqTree, ItemTree, AtomTree, placed, character, quoted, any, name, property, set, group, expr_of, seq_of}
 use Rattle.rbbi_tree.specs.Trees.{StatementTree, nothing, control, assign, rule}
@@ -23,16 +23,16 @@ use Rattle.rbbi_tree.specs.declared.syntax.Statement.{Statement}
 use Rattle.rbbi_tree.specs.declared.syntax.Statement.TheVariants.{Nothing, Control, Assign, Rule}
 
 -- one level of each kind of value in a set, with the trees of the values inside in their place
-abbrev pub set_step : SetExpr-F SetItemTree PartsTree SetTree PartTree → SetTree
+abbrev pub set_step : SetExpr-F SetItemTree PartsTree SetSyntax PartTree → SetSyntax
 set_step s = set_of s.place s.negated s.parts
 
-abbrev pub parts_step : Parts-F SetItemTree PartsTree SetTree PartTree → PartsTree
+abbrev pub parts_step : Parts-F SetItemTree PartsTree SetSyntax PartTree → PartsTree
 parts_step p = parts_of p.items.items
 
-abbrev pub part_step : SetPart-F SetItemTree PartsTree SetTree PartTree → PartTree
+abbrev pub part_step : SetPart-F SetItemTree PartsTree SetSyntax PartTree → PartTree
 part_step p = joined p.place p.join p.item
 
-abbrev pub set_item_step : SetItem-F SetItemTree PartsTree SetTree PartTree → SetItemTree
+abbrev pub set_item_step : SetItem-F SetItemTree PartsTree SetSyntax PartTree → SetItemTree
 set_item_step (SetItem-F.Char c) = set_character c
 set_item_step (SetItem-F.Range first last) = set_range first last
 set_item_step (SetItem-F.Name word) = set_name word
@@ -40,20 +40,20 @@ set_item_step (SetItem-F.Prop negated word value) = set_property negated word va
 set_item_step (SetItem-F.Set inner) = set_within inner
 
 -- the tree of a set
-abbrev pub set_tree : SetExpr → SetTree
-set_tree = fold-SetExpr SetItemTree PartsTree SetTree PartTree set_item_step parts_step set_step part_step
+abbrev pub set_tree : SetExpr → SetSyntax
+set_tree = fold-SetExpr SetItemTree PartsTree SetSyntax PartTree set_item_step parts_step set_step part_step
 
 -- the trees of the parts of a set
 abbrev pub parts_tree : Parts → PartsTree
-parts_tree = fold-Parts SetItemTree PartsTree SetTree PartTree set_item_step parts_step set_step part_step
+parts_tree = fold-Parts SetItemTree PartsTree SetSyntax PartTree set_item_step parts_step set_step part_step
 
 -- the tree of a part of a set
 abbrev pub part_tree : SetPart → PartTree
-part_tree = fold-SetPart SetItemTree PartsTree SetTree PartTree set_item_step parts_step set_step part_step
+part_tree = fold-SetPart SetItemTree PartsTree SetSyntax PartTree set_item_step parts_step set_step part_step
 
 -- the tree of what is joined to a set
 abbrev pub set_item_tree : SetItem → SetItemTree
-set_item_tree = fold-SetItem SetItemTree PartsTree SetTree PartTree set_item_step parts_step set_step part_step
+set_item_tree = fold-SetItem SetItemTree PartsTree SetSyntax PartTree set_item_step parts_step set_step part_step
 
 -- one level of each kind of value in an expression, with the trees of the values inside in their place
 abbrev pub expr_step : Expr-F AtomTree ExprTree ItemTree SeqTree → ExprTree
@@ -108,15 +108,15 @@ statement_trees statements = map statement_tree statements
 
 -- a set's tree has its place, its sign and its parts' trees
 pub set_tree_out : (s : SetExpr) → set_tree s ≡ set_of (out-SetExpr s).place (out-SetExpr s).negated (parts_tree (out-SetExpr s).parts)
-set_tree_out = fold_out-SetExpr SetItemTree PartsTree SetTree PartTree set_item_step parts_step set_step part_step
+set_tree_out = fold_out-SetExpr SetItemTree PartsTree SetSyntax PartTree set_item_step parts_step set_step part_step
 
 -- the tree of parts has their trees
 pub parts_tree_out : (p : Parts) → parts_tree p ≡ parts_of (map part_tree (out-Parts p).items.items)
-parts_tree_out = fold_out-Parts SetItemTree PartsTree SetTree PartTree set_item_step parts_step set_step part_step
+parts_tree_out = fold_out-Parts SetItemTree PartsTree SetSyntax PartTree set_item_step parts_step set_step part_step
 
 -- a part's tree has its place, its join and its item's tree
 pub part_tree_out : (p : SetPart) → part_tree p ≡ joined (out-SetPart p).place (out-SetPart p).join (set_item_tree (out-SetPart p).item)
-part_tree_out = fold_out-SetPart SetItemTree PartsTree SetTree PartTree set_item_step parts_step set_step part_step
+part_tree_out = fold_out-SetPart SetItemTree PartsTree SetSyntax PartTree set_item_step parts_step set_step part_step
 
 -- an expression's tree has the trees of its sequences
 pub expr_tree_out : (e : Expr) → expr_tree e ≡ expr_of (map seq_tree (out-Expr e).items.items)

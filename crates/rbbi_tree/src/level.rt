@@ -13,6 +13,7 @@ ghost use Rattle.rbbi_tree.specs.Machine.SetStates.{Reads};
 ghost use Rattle.rbbi_tree.specs.Machine.States.{level_tree};
 
 use crate::error::TreeErr;
+use crate::lean::push_lean;
 use crate::syntax::{Atom, Expr, Item, Quant, Seq};
 use rbbi_text::Word;
 use std::alloc::{AllocError, Global};
@@ -55,8 +56,7 @@ impl Level {
         ensures { OnOk result
             (level_tree self.new ≡ with_item (item_tree item) (level_tree self.old)) }
     {
-        self.items.push(item)?;
-        Ok(())
+        push_lean(&mut self.items, item)
     }
 
     /// Says how often the last item stands, which must not have been said before.
@@ -105,7 +105,7 @@ impl Level {
             mut items,
         } = self;
         items.shrink_to_fit();
-        sequences.push(Seq { items })?;
+        push_lean(&mut sequences, Seq { items })?;
         sequences.shrink_to_fit();
         Ok(Expr { items: sequences })
     }

@@ -5,6 +5,7 @@ mod copies;
 mod error;
 mod file;
 mod laws;
+mod lean;
 mod level;
 mod parser;
 mod set_level;

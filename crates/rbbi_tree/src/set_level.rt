@@ -29,6 +29,7 @@ ghost use Rattle.rbbi_tree.specs.Machine.SetStates.{
 
 use crate::copies::{copy_of, copy_of_option};
 use crate::error::TreeErr;
+use crate::lean::push_lean;
 use crate::syntax::{Join, Parts, SetExpr, SetItem, SetPart};
 use rbbi_lex::{Token, TokenKind};
 use std::alloc::{AllocError, Global};
@@ -112,7 +113,7 @@ impl SetLevel {
         ensures { let s = set_level_tree self.old in OnOk result (set_level_tree self.new
             ≡ level_with s (joined place join (set_item_tree item) ∷ s.parts) state) }
     {
-        self.parts.push(SetPart { place, join, item })?;
+        push_lean(&mut self.parts, SetPart { place, join, item })?;
         self.state = state;
         Ok(())
     }
@@ -384,7 +385,7 @@ impl OuterSet {
             join,
         } = self;
         let item = SetItem::Set(inner);
-        parts.push(SetPart { place, join, item })?;
+        push_lean(&mut parts, SetPart { place, join, item })?;
         Ok(SetLevel {
             place: bracket,
             negated,

@@ -35,7 +35,8 @@ impl Partition {
         inside: &[bool],
     ) -> Result<u16, AllocError>
         requires determined { IsDetermined automaton.now }
-        requires partition { IsPartition automaton.now self.old.classes.items self.old.firsts.items }
+        requires partition { IsPartition automaton.now self.old.classes.items
+            self.old.firsts.items }
         requires class { class < length self.old.firsts.items }
         requires category { category < automaton.now.categories }
         requires sides { AreSides self.old.classes.items inside.now }

@@ -54,7 +54,8 @@ impl Tally {
 
     /// A class of which rows were counted, with their number, which it forgets.
     pub fn take(&mut self) -> Option<(u16, u16)>
-        ensures { OnSome result (length self.new.touched.items + 1 ≡ length self.old.touched.items) }
+        ensures { OnSome result
+            (length self.new.touched.items + 1 ≡ length self.old.touched.items) }
     {
         let class = self.touched.pop()?;
         let mut taken = 0;

@@ -1,11 +1,16 @@
 //! The command `breaks`.
-ghost use Rattle.std.specs.Prelude.{◌≡◌, ◌≤◌, length, IfOk};
+ghost use Rattle.std.specs.Prelude.{◌≡◌, ◌+◌, ◌≤◌, ◌⊎◌, length, sum_by, IfOk};
 ghost use Rattle.rbbi_text.specs.Bytes.{most_bytes};
 ghost use Rattle.rbbi_model.specs.Lines.{boundary_lines};
 ghost use Rattle.rbbi_model.specs.Searches.{table_boundaries};
+ghost use Rattle.rbbi_model.specs.Costs.{breaks_cost};
+ghost use Rattle.rbbi_script.specs.Reading.{RisesUpTo};
 ghost use Rattle.rbbi_tool.specs.Stages.{Meets};
 ghost use Rattle.rbbi_tool.specs.Properties.{AreHanded};
+ghost use Rattle.rbbi_tool.specs.Texts.{text_stage};
+ghost use Rattle.rbbi_tool.specs.Basis.{basis_stage};
 ghost use Rattle.rbbi_tool.specs.Command.Breaks.{breaks_stage};
+ghost use Rattle.rbbi_tool.specs.Steps.{ReadsForBreaks};
 
 use super::Output;
 use crate::basis::basis;
@@ -25,10 +30,13 @@ fn lines_of<L: Ledger>(
     text: &PlainText,
     steps: &mut Steps<L>,
 ) -> Result<Vec<u8>, AllocError>
-    ensures { IfOk result (λ lines.
+    ensures lines { IfOk result (λ lines.
         lines.items ≡ boundary_lines (table_boundaries table.now text.now)) }
+    ensures steps { RisesUpTo (breaks_cost table.now text.now 0) steps.old steps.new }
 {
     rbbi_model::next_boundary_is_past_the_start();
+    rbbi_model::anchors_are_stored();
+    rbbi_model::anchors_lead_to_the_boundaries();
     table.valid();
     let mut marks = Marks::new(alloc, table)?;
     let mut lines = Vec::new(alloc);
@@ -55,9 +63,14 @@ pub(crate) fn breaks<L: Ledger>(
     requires handed { AreHanded options.now.properties.items handed.now }
     requires source { length source.now ≤ most_bytes }
     requires text { length text.now ≤ most_bytes }
-    ensures { Meets (λ output. output) (breaks_stage options.now.properties.items
+    ensures exact { Meets (λ output. output) (breaks_stage options.now.properties.items
         options.now.ignored
         options.now.by_table handed.now source.now name.now text.now) result }
+    ensures steps { let bytes = sum_by length handed.now + length source.now in
+        RisesUpTo bytes steps.old steps.new
+        ⊎ ReadsForBreaks (basis_stage options.now.properties.items options.now.ignored
+        options.now.by_table handed.now source.now) (text_stage name.now text.now)
+        bytes steps.old steps.new }
 {
     let table = basis(alloc, options, handed, source, steps)?;
     let text = text_of(alloc, name, text)?;

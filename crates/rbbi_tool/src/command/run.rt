@@ -1,13 +1,19 @@
 //! The command `run`.
-ghost use Rattle.std.specs.Prelude.{◌≡◌, ◌≤◌, length, map, IfOk};
+ghost use Rattle.std.specs.Prelude.{◌≡◌, ◌+◌, ◌≤◌, ◌⊎◌, length, map, sum_by, IfOk};
 ghost use Rattle.rbbi_text.specs.Bytes.{most_bytes};
 ghost use Rattle.rbbi_model.specs.Lines.{all_reply_lines};
 ghost use Rattle.std.specs.List.{AllByRecursion};
 ghost use Rattle.rbbi_model.specs.Scripts.{table_replies, InsertsText};
+ghost use Rattle.rbbi_model.specs.Costs.{script_cost};
 ghost use Rattle.rbbi_script.specs.Meaning.{meaning};
+ghost use Rattle.rbbi_script.specs.Reading.{RisesUpTo};
 ghost use Rattle.rbbi_tool.specs.Stages.{Meets};
 ghost use Rattle.rbbi_tool.specs.Properties.{AreHanded};
+ghost use Rattle.rbbi_tool.specs.Texts.{text_stage};
+ghost use Rattle.rbbi_tool.specs.Scripts.{script_stage};
+ghost use Rattle.rbbi_tool.specs.Basis.{basis_stage};
 ghost use Rattle.rbbi_tool.specs.Command.Run.{play_stage};
+ghost use Rattle.rbbi_tool.specs.Steps.{ReadsForScript};
 
 use super::Output;
 use crate::basis::basis;
@@ -48,8 +54,10 @@ fn replies_of<L: Ledger>(
     commands: &Commands,
     steps: &mut Steps<L>,
 ) -> Result<Vec<u8>, AllocError>
-    ensures { IfOk result (λ lines. lines.items
+    ensures lines { IfOk result (λ lines. lines.items
         ≡ all_reply_lines (table_replies table.now text (map meaning commands.now))) }
+    ensures steps { RisesUpTo (script_cost table.now text (map meaning commands.now))
+        steps.old steps.new }
 {
     let mut session = Session::open(alloc, table, text)?;
     let mut replies = Vec::new(alloc);
@@ -73,9 +81,14 @@ pub(crate) fn run<L: Ledger>(
     requires source { length source.now ≤ most_bytes }
     requires text { length text.now ≤ most_bytes }
     requires script { length script.now ≤ most_bytes }
-    ensures { Meets (λ output. output) (play_stage options.now.properties.items options.now.ignored
-        options.now.by_table handed.now source.now name.now text.now
+    ensures exact { Meets (λ output. output) (play_stage options.now.properties.items
+        options.now.ignored options.now.by_table handed.now source.now name.now text.now
         script_name.now script.now) result }
+    ensures steps { let bytes = sum_by length handed.now + length source.now + length script.now in
+        RisesUpTo bytes steps.old steps.new
+        ⊎ ReadsForScript (basis_stage options.now.properties.items options.now.ignored
+        options.now.by_table handed.now source.now) (text_stage name.now text.now)
+        (script_stage script_name.now script.now) bytes steps.old steps.new }
 {
     let table = basis(alloc, options, handed, source, steps)?;
     let text = pieces_of(alloc, name, text)?;

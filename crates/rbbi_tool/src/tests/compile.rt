@@ -1,5 +1,6 @@
 //! The command `compile`.
 use super::{files_of, first_wrong, run_words};
+use rbbi_io::MemFiles;
 use std::test::Fail;
 
 /// The table file of the rules `a;`.
@@ -77,6 +78,14 @@ fn categories(rt: HostRuntime) -> Result<(), Fail> {
     Ok(())
 }
 
+/// Whether the file of this name holds these bytes.
+fn holds(files: &MemFiles, name: &str, bytes: &[u8]) -> bool {
+    match files.get(name) {
+        Some(held) => held == bytes,
+        None => false,
+    }
+}
+
 /// The table file is written before the line, and not at all behind a fault.
 #[test]
 fn files(rt: HostRuntime) -> Result<(), Fail> {
@@ -86,11 +95,13 @@ fn files(rt: HostRuntime) -> Result<(), Fail> {
     let mut files = files_of(&rt, &[("r.txt", b"(")])?;
     run_words(&rt, "compile r.txt b.tbl", &mut files)?;
     assert_eq!(rt; files.get("b.tbl"), None);
-    // a write that fails ends the run before anything goes out
-    let mut files = files_of(&rt, &[("r.txt", b"a;")])?;
+    // a write that fails ends the run before anything goes out, and leaves the other files
+    let mut files = files_of(&rt, &[("r.txt", b"a;"), ("x.txt", b"x")])?;
     files.fail_at(2)?;
     let (status, out) = run_words(&rt, "compile r.txt b.tbl", &mut files)?;
     assert_eq!(rt; status, 7);
     assert_eq!(rt; out.taken(), b"".as_slice());
+    assert!(rt; holds(&files, "r.txt", b"a;"));
+    assert!(rt; holds(&files, "x.txt", b"x"));
     Ok(())
 }

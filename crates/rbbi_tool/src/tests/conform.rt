@@ -53,6 +53,7 @@ const BY_TABLE: &[(&str, u8, &str)] = &[
     ),
     ("", 0, "passed 0 failed 0\n"),
     ("\u{f7} 0061 \u{f7}\n\u{f7} 0061", 5, "c.txt:2: BadLine\n"),
+    ("\u{f7} 61 \u{f7}\n\u{f7}", 5, "c.txt:1: BadLine\n"),
 ];
 
 #[test]

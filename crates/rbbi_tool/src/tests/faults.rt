@@ -11,13 +11,30 @@ const FAULTS: &[(&str, u64, u64, u8, &str)] = &[
     ("breaks r.txt t.txt", 2, 1, 7, ""),
     ("breaks r.txt --none", 0, 0, 6, "cannot read --none\n"),
     ("check --prop A=t.txt r.txt", 1, 0, 6, "cannot read t.txt\n"),
+    ("run r.txt t.txt s.txt", 1, 0, 6, "cannot read r.txt\n"),
+    ("run r.txt t.txt s.txt", 2, 0, 6, "cannot read t.txt\n"),
+    ("run r.txt t.txt s.txt", 3, 0, 6, "cannot read s.txt\n"),
+    ("run r.txt t.txt s.txt", 0, 1, 7, ""),
+    ("conform r.txt s.txt", 1, 0, 6, "cannot read r.txt\n"),
+    ("conform r.txt s.txt", 2, 0, 6, "cannot read s.txt\n"),
+    // a text that isn't UTF-8, once read and once not
+    ("breaks r.txt f.txt", 0, 0, 5, "f.txt: NotUtf8 1\n"),
+    ("breaks r.txt f.txt", 2, 1, 7, ""),
+];
+
+/// The files of these rows.
+const HELD: [(&str, &[u8]); 4] = [
+    ("r.txt", b"[a-z]+;"),
+    ("t.txt", b"ab1c"),
+    ("s.txt", b"breaks"),
+    ("f.txt", b"a\xFF"),
 ];
 
 #[test]
 fn of_files_and_sink(rt: HostRuntime) -> Result<(), Fail> {
     for row in FAULTS {
         let (words, read, put, status, output) = *row;
-        let mut files = files_of(&rt, &[("r.txt", b"[a-z]+;"), ("t.txt", b"ab1c")])?;
+        let mut files = files_of(&rt, &HELD)?;
         let mut out = MemSink::new(rt.alloc());
         files.fail_at(read)?;
         out.fail_at(put)?;

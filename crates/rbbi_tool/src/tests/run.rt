@@ -54,7 +54,25 @@ const BY_TABLE: &[(&[u8], &[u8], u8, &str)] = &[
         0,
         "0 0\n1 0\n2 0\nok 4\ndone\n4\nyes\na\\nab\n",
     ),
+    // edits at, before and behind the text's end
+    (
+        b"ab",
+        b"insert 3 a\ninsert 2 a\ndelete 3 0\ndelete 3 1\ndelete 2 1\ndelete 1 2\nreplace 1 1 ba
+replace 0 3 \ninsert 0 b\ndelete 4294967295 4294967295\ntext",
+        0,
+        "outside\nok 3\nok 3\noutside\nok 2\noutside\nok 3\nok 0\nok 1\noutside\nb\n",
+    ),
+    // places behind the text's end
+    (
+        b"ab",
+        b"following 4294967295\npreceding 4294967295\nis 4294967295\nfollowing 2\npreceding 0",
+        0,
+        "done\n2\nno\ndone\ndone\n",
+    ),
     (b"ab", b"first\nnext 1\n", 5, "s.txt:2: BadLine\n"),
+    (b"ab", b"is 4294967296", 5, "s.txt:1: BadLine\n"),
+    (b"ab\xFF", b"first", 5, "t.txt: NotUtf8 2\n"),
+    (b"ab\xE2\x82", b"first", 5, "t.txt: NotUtf8 2\n"),
     (b"ab", b"first\xFF", 5, "s.txt: NotUtf8 5\n"),
     // the text comes before the script
     (b"\xFF", b"?", 5, "t.txt: NotUtf8 0\n"),

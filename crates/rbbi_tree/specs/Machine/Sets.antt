@@ -3,7 +3,7 @@ use Rattle.std.specs.Prelude.{ℕ, Bool, true, false, List, [], ◌∷◌, Optio
 use Rattle.rbbi_lex.specs.declared.token.TokenKind.{TokenKind}
 use Rattle.rbbi_lex.specs.declared.token.TokenKind.TheVariants.{Semi, Equals, Bar, Slash, Caret, Star, Plus, Quest, Dot, ParenOpen, ParenClose, SetOpen}
 use Rattle.rbbi_lex.specs.declared.token.TokenKind.TheVariants.{SetClose, Hyphen, Amp, Char, Quoted, Name, Control, Tag, Prop}
-use Rattle.rbbi_tree.specs.Trees.{SetTree, PartsTree, PartTree, SetItemTree, set_of, no_parts, part, joined, set_character, set_range, set_name, set_property}
+use Rattle.rbbi_tree.specs.Trees.{SetSyntax, PartsTree, PartTree, SetItemTree, set_of, no_parts, part, joined, set_character, set_range, set_name, set_property}
 use Rattle.rbbi_tree.specs.Trees.{set_within}
 use Rattle.rbbi_tree.specs.Grammar.{hyphen_at}
 use Rattle.rbbi_tree.specs.declared.syntax.Join.{Join}
@@ -161,7 +161,7 @@ parts_back [] more = more
 parts_back (p ∷ parts) more = parts_back parts (part p more)
 
 -- the set with these parts, the latest first
-abbrev pub set_from : SetLevelTree → List PartTree → SetTree
+abbrev pub set_from : SetLevelTree → List PartTree → SetSyntax
 set_from s parts = set_of s.place s.negated (parts_back parts no_parts)
 
 -- the set in which another one begins here, joined like this
@@ -169,5 +169,5 @@ abbrev pub outer_set : SetLevelTree → Join → OuterSetTree
 outer_set s j = record { place = s.place; negated = s.negated; parts = settled s.state s.parts; join = j }
 
 -- the set in which another one ends, which began at this place
-abbrev pub set_resumed : ℕ → SetTree → OuterSetTree → SetLevelTree
+abbrev pub set_resumed : ℕ → SetSyntax → OuterSetTree → SetLevelTree
 set_resumed place t o = record { place = o.place; negated = o.negated; parts = joined place o.join (set_within t) ∷ o.parts; state = Operand }

@@ -7,7 +7,7 @@ use Rattle.rbbi_lex.specs.declared.token.TokenKind.TheVariants.{SetClose, Hyphen
 use Rattle.rbbi_tree.specs.declared.syntax.Join.{Join}
 use Rattle.rbbi_tree.specs.declared.syntax.Quant.{Quant}
 use Rattle.rbbi_tree.specs.declared.syntax.Quant.TheVariants as quant
-use Rattle.rbbi_tree.specs.Trees.{SetTree, PartTree, ExprTree, SeqTree, ItemTree, AtomTree, StatementTree, no_alternatives, alternative, no_items, item}
+use Rattle.rbbi_tree.specs.Trees.{SetSyntax, PartTree, ExprTree, SeqTree, ItemTree, AtomTree, StatementTree, no_alternatives, alternative, no_items, item}
 use Rattle.rbbi_tree.specs.Trees.{placed, character, quoted, any, name, property, set, group, nothing, control, assign, rule}
 use Rattle.rbbi_tree.specs.Machine.Sets.{SetLevelTree, OuterSetTree, SetsTree, opened, at_set_token, join_in, ended_parts, set_from, outer_set, set_resumed}
 
@@ -281,7 +281,7 @@ at_inner_open place None sets p = None
 at_inner_open place (Some j) sets p = Some (with_sets (Some (record { innermost = opened place; outers = outer_set sets.innermost j ∷ sets.outers })) p)
 
 -- a set that began at this place ends
-abbrev pub set_ended : ℕ → SetTree → List OuterSetTree → Progress → Progress
+abbrev pub set_ended : ℕ → SetSyntax → List OuterSetTree → Progress → Progress
 set_ended place t [] p = atom_read place (set t) (with_sets None p)
 set_ended place t (o ∷ outers) p = with_sets (Some (record { innermost = set_resumed place t o; outers = outers })) p
 

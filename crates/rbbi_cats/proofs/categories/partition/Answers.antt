@@ -42,8 +42,8 @@ overflow_add-result c = omega (
   c.in_ok-classes.ensures.few,
 )
 
-pub returns-clause-classes : goal.returns-clause-classes
-returns-clause-classes c =
+pub returns : goal.returns
+returns c =
     let list = c.args.rules.now in
     let cuts = c.in_ok-cuts.cuts.items in
     let classes = c.in_ok-classes.classes.items in
@@ -63,50 +63,9 @@ returns-clause-classes c =
     c.in_ok-classes.ensures.few in
     let found = classed list.sets cuts classes sizes numbers ranges greatest cut small c.in_ok-classes.ensures.partition told long numbered are in
     let classes_found = classes_are list (greatest + 1) ranges c.sets-sets.ensures.form found in
-    classes_found
-
-pub returns-clause-form : goal.returns-clause-form
-returns-clause-form c =
-    let list = c.args.rules.now in
-    let cuts = c.in_ok-cuts.cuts.items in
-    let classes = c.in_ok-classes.classes.items in
-    let sizes = c.in_ok-classes.sizes.items in
-    let numbers = c.in_ok-numbers.numbers.items in
-    let greatest = c.in_ok-numbers.greatest in
-    let ranges = c.in_ok-ranges.ranges.items in
-    let cut : AreCuts list.sets cuts = subst (λ (s : List (List Range)). AreCuts s cuts) c.sets-sets.ensures.value c.in_ok-cuts.ensures in
-    let small = cuts_small list.sets cuts cut (all_rising list.sets (subst (AllByRecursion IsLeafSet) refl c.sets-sets.ensures.form.sets)) in
-    let told : Tells list.sets cuts classes = subst (λ (s : List (List Range)). Tells s cuts classes) c.sets-sets.ensures.value
-    (rw c.deref.ensures.value at c.in_ok-classes.ensures.tells) in
-    let numbered : AreNumbers classes numbers greatest = rw c.deref-2.ensures.value at c.in_ok-numbers.ensures.numbers in
-    let are : AreRangesOf cuts classes numbers ranges = rw (c.deref-3.ensures.value, c.deref-4.ensures.value, c.deref-5.ensures.value) at c.in_ok-ranges.ensures
-    in
-    let long : length numbers ≡ length sizes = omega (arith, c.in_ok-numbers.ensures.many, c.len.ensures, c.in_ok-classes.sizes.ok) in
-    let form = valid list.sets cuts classes sizes numbers ranges greatest cut small c.in_ok-classes.ensures.partition told long numbered are
-    c.in_ok-classes.ensures.few in
-    let found = classed list.sets cuts classes sizes numbers ranges greatest cut small c.in_ok-classes.ensures.partition told long numbered are in
-    let classes_found = classes_are list (greatest + 1) ranges c.sets-sets.ensures.form found in
-    form
-
-pub returns-clause-few : goal.returns-clause-few
-returns-clause-few c =
-    let list = c.args.rules.now in
-    let cuts = c.in_ok-cuts.cuts.items in
-    let classes = c.in_ok-classes.classes.items in
-    let sizes = c.in_ok-classes.sizes.items in
-    let numbers = c.in_ok-numbers.numbers.items in
-    let greatest = c.in_ok-numbers.greatest in
-    let ranges = c.in_ok-ranges.ranges.items in
-    let cut : AreCuts list.sets cuts = subst (λ (s : List (List Range)). AreCuts s cuts) c.sets-sets.ensures.value c.in_ok-cuts.ensures in
-    let small = cuts_small list.sets cuts cut (all_rising list.sets (subst (AllByRecursion IsLeafSet) refl c.sets-sets.ensures.form.sets)) in
-    let told : Tells list.sets cuts classes = subst (λ (s : List (List Range)). Tells s cuts classes) c.sets-sets.ensures.value
-    (rw c.deref.ensures.value at c.in_ok-classes.ensures.tells) in
-    let numbered : AreNumbers classes numbers greatest = rw c.deref-2.ensures.value at c.in_ok-numbers.ensures.numbers in
-    let are : AreRangesOf cuts classes numbers ranges = rw (c.deref-3.ensures.value, c.deref-4.ensures.value, c.deref-5.ensures.value) at c.in_ok-ranges.ensures
-    in
-    let long : length numbers ≡ length sizes = omega (arith, c.in_ok-numbers.ensures.many, c.len.ensures, c.in_ok-classes.sizes.ok) in
-    let form = valid list.sets cuts classes sizes numbers ranges greatest cut small c.in_ok-classes.ensures.partition told long numbered are
-    c.in_ok-classes.ensures.few in
-    let found = classed list.sets cuts classes sizes numbers ranges greatest cut small c.in_ok-classes.ensures.partition told long numbered are in
-    let classes_found = classes_are list (greatest + 1) ranges c.sets-sets.ensures.form found in
-    λ h. few (rules_of list) (greatest + 1) ranges classes_found (λ n code. category_within (greatest + 1) ranges n form) 255 form.few_categories h
+    record {
+      classes = classes_found;
+      form = form;
+      few = λ h. few (rules_of list) (greatest + 1) ranges classes_found (λ n code. category_within (greatest + 1) ranges n form) 255 form.few_categories h;
+      too_many = λ same. absurd (cc);
+    }

@@ -2,12 +2,12 @@ use Rattle.std.proofs.Common.{◌≡◌, ◌||◌, false, [], length, drop, get_
 use Rattle.std.specs.Vec.{with_items}
 use Rattle.std.proofs.lemmas.List.{take_at}
 use Rattle.rbbi_resolve.specs.RuleLists.{rule_of}
-use Rattle.rbbi_positions.specs.RuleTests.{rule_ends}
+use Rattle.rbbi_positions.specs.RuleParts.{part_ends}
 use Rattle.rbbi_positions.proofs.RuleFacts.{first_next, first_within, some_next}
 use Rattle.rbbi_positions.proofs.rules.lasts_of.Goals as goal
 
-pub add_rule_lasts-requires-clause-within : goal.add_rule_lasts-requires-clause-within
-add_rule_lasts-requires-clause-within c =
+pub add_part_lasts-requires-clause-within : goal.add_part_lasts-requires-clause-within
+add_part_lasts-requires-clause-within c =
     λ sets. omega (
       arith,
       c.requires.all,
@@ -36,11 +36,11 @@ overflow_add-start c =
 
 pub loop-number-preserved : goal.loop-number-preserved
 loop-number-preserved c =
-    let written : (with_items c.loop-number.flags c.add_rule_lasts.new.flags).items ≡ c.add_rule_lasts.new.flags =
-    take_at c.add_rule_lasts.new.flags (drop (length c.add_rule_lasts.new.flags) c.loop-number.flags.items) c.loop-number.flags.len
-    (omega (arith, c.loop-number.flags.ok.0, c.deref_mut.ensures.len, c.add_rule_lasts.auto.flags)) in
+    let written : (with_items c.loop-number.flags c.add_part_lasts.new.flags).items ≡ c.add_part_lasts.new.flags =
+    take_at c.add_part_lasts.new.flags (drop (length c.add_part_lasts.new.flags) c.loop-number.flags.items) c.loop-number.flags.len
+    (omega (arith, c.loop-number.flags.ok.0, c.deref_mut.ensures.len, c.add_part_lasts.auto.flags)) in
     record {
-      many = ap length written ∙ c.add_rule_lasts.auto.flags ∙ ap length c.deref_mut.ensures.value ∙ c.loop-number.invariant.many;
+      many = ap length written ∙ c.add_part_lasts.auto.flags ∙ ap length c.deref_mut.ensures.value ∙ c.loop-number.invariant.many;
       at = omega (
         arith,
         c.loop-number.invariant.at,
@@ -50,10 +50,10 @@ loop-number-preserved c =
       );
       flags = λ position.
           ap (λ flags. get_or flags position false) written
-          ∙ some_next c.args.rules.now c.loop-number.number c.get-rule.result.now c.get-rule.ensures (rule_ends position) c.loop-number.start
-          (get_or c.loop-number.flags.items position false) (get_or c.add_rule_lasts.new.flags position false) c.loop-number.invariant.at
+          ∙ some_next c.args.rules.now c.loop-number.number c.get-rule.result.now c.get-rule.ensures (part_ends c.args.part position) c.loop-number.start
+          (get_or c.loop-number.flags.items position false) (get_or c.add_part_lasts.new.flags position false) c.loop-number.invariant.at
           (c.loop-number.invariant.flags position)
-          (c.add_rule_lasts.ensures c.args.rules.now.sets position
-          ∙ ap (λ flags. get_or flags position false || rule_ends position (rule_of c.args.rules.now.sets c.get-rule.result.now) c.loop-number.start)
+          (c.add_part_lasts.ensures c.args.rules.now.sets position
+          ∙ ap (λ flags. get_or flags position false || part_ends c.args.part position (rule_of c.args.rules.now.sets c.get-rule.result.now) c.loop-number.start)
           c.deref_mut.ensures.value);
     }

@@ -1,6 +1,7 @@
-use Rattle.std.proofs.Common.{◌≡◌, ℕ, ◌<◌, List, Option, Some, length, sym, ap, ◌∙◌, subst}
+use Rattle.std.proofs.Common.{◌<◌, length, sym, subst}
 use Rattle.std.proofs.lemmas.Result.{err_from_is_err_and}
 use Rattle.rbbi_script.proofs.Listed.{AreListed, left_of, listed_further, listed_broken}
+use Rattle.rbbi_script.proofs.ListingCosts.{AreRead, read_further, read_all}
 use Rattle.rbbi_script.proofs.listing.say_each.Goals as goal
 
 pub returns-in_err-say_bound-clause-lines : goal.returns-in_err-say_bound-clause-lines
@@ -9,22 +10,31 @@ returns-in_err-say_bound-clause-lines g c =
     rw told.1
     (listed_broken c.args.session.now c.loop-place.session c.in-Some.at c.status_list.result.now c.status_list.ensures c.args.reply.now.items
     c.loop-place.reply.items
-    (subst (λ p. AreListed c.args.session.now c.loop-place.session p c.args.reply.now.items c.loop-place.reply.items) c.in-Some.is c.loop-place.invariant)
+    (subst (λ p. AreListed c.args.session.now c.loop-place.session p c.args.reply.now.items c.loop-place.reply.items) c.in-Some.is
+    c.loop-place.invariant.listed)
     c.say_bound.new.reply.items c.in_err-say_bound.ensures)
+
+pub returns-in_err-say_bound-clause-cost : goal.returns-in_err-say_bound-clause-cost
+returns-in_err-say_bound-clause-cost g c =
+    read_all c.args.session.now c.loop-place.session c.loop-place.place c.args.reply.now.items c.loop-place.reply.items c.args.steps.now c.loop-place.steps
+    c.loop-place.invariant
 
 pub loop-place-smaller : goal.loop-place-smaller
 loop-place-smaller g c =
     let further = listed_further c.args.session.now c.loop-place.session c.in-Some.at c.status_list.result.now c.status_list.ensures c.args.reply.now.items
     c.loop-place.reply.items
-    (subst (λ p. AreListed c.args.session.now c.loop-place.session p c.args.reply.now.items c.loop-place.reply.items) c.in-Some.is c.loop-place.invariant)
+    (subst (λ p. AreListed c.args.session.now c.loop-place.session p c.args.reply.now.items c.loop-place.reply.items) c.in-Some.is
+    c.loop-place.invariant.listed)
     c.next-place.result c.next-place.new.self c.say_bound.new.reply.items c.in_ok-say_bound.ensures c.next-place.ensures.answers in
     subst (λ p. left_of (length c.args.session.now.state.text) c.next-place.result < left_of (length c.args.session.now.state.text) p)
     (sym c.in-Some.is) further.less
 
 pub loop-place-preserved : goal.loop-place-preserved
 loop-place-preserved g c =
+    let here = subst (λ p. AreRead c.args.session.now c.loop-place.session p c.args.reply.now.items c.loop-place.reply.items c.args.steps.now c.loop-place.steps)
+    c.in-Some.is c.loop-place.invariant in
     let further = listed_further c.args.session.now c.loop-place.session c.in-Some.at c.status_list.result.now c.status_list.ensures c.args.reply.now.items
-    c.loop-place.reply.items
-    (subst (λ p. AreListed c.args.session.now c.loop-place.session p c.args.reply.now.items c.loop-place.reply.items) c.in-Some.is c.loop-place.invariant)
-    c.next-place.result c.next-place.new.self c.say_bound.new.reply.items c.in_ok-say_bound.ensures c.next-place.ensures.answers in
-    further.listed
+    c.loop-place.reply.items here.listed c.next-place.result c.next-place.new.self c.say_bound.new.reply.items c.in_ok-say_bound.ensures
+    c.next-place.ensures.answers in
+    read_further c.args.session.now c.loop-place.session c.next-place.new.self c.in-Some.at c.next-place.result c.args.reply.now.items
+    c.loop-place.reply.items c.say_bound.new.reply.items c.args.steps.now c.loop-place.steps c.next-place.new.steps here further c.next-place.ensures.reads

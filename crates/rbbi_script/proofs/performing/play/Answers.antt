@@ -1,17 +1,18 @@
-use Rattle.std.proofs.Common.{◌≡◌, ℕ, suc, ◌<◌, List, length, map, take, drop, ap, ◌∙◌, subst, arith}
+use Rattle.std.proofs.Common.{ℕ, suc, ◌<◌, List, length, map, take, drop, ◌∙◌, subst, arith}
 use Rattle.std.proofs.lemmas.Result.{err_from_is_err_and}
-use Rattle.rbbi_model.specs.Scripts as model
 use Rattle.rbbi_model.specs.Lines.{all_reply_lines}
 use Rattle.rbbi_session.specs.Sessions.{Session}
 use Rattle.rbbi_script.specs.declared.command.Command.{Command}
 use Rattle.rbbi_script.specs.Meaning.{meaning}
 use Rattle.rbbi_script.specs.Saying.{AppendsFront}
-use Rattle.rbbi_script.specs.Performing.{replies_of, ArePlayed}
-use Rattle.rbbi_script.proofs.Performed.{one_more_played, broken_off, mapped_parts, mapped_more}
+use Rattle.rbbi_script.specs.Performing.{replies_of}
+use Rattle.rbbi_script.specs.Reading.{RisesUpTo, commands_cost}
+use Rattle.rbbi_script.proofs.Performed.{broken_off, mapped_parts, mapped_more}
+use Rattle.rbbi_script.proofs.Played.{ArePaid, one_more_paid, all_paid}
 use Rattle.rbbi_script.proofs.performing.play.Goals as goal
 
-pub returns-in_err-perform : goal.returns-in_err-perform
-returns-in_err-perform g c =
+pub returns-in_err-perform-clause-replies : goal.returns-in_err-perform-clause-replies
+returns-in_err-perform-clause-replies g c =
     let told = err_from_is_err_and c.from_residual.result c.from_residual.ensures.1 in
     let old : Session = c.args.session.now in
     let commands : List Command = c.args.commands.now in
@@ -22,9 +23,21 @@ returns-in_err-perform g c =
           (mapped_parts meaning commands i c.get.result.now within c.get.ensures)
           (broken_off old (map meaning (take i commands)) c.args.replies.now.items c.loop-i.session c.loop-i.replies.items (meaning c.get.result.now)
           (map meaning (drop (suc i) commands)) c.perform.new.session c.perform.new.reply.items
-          c.loop-i.invariant c.in_err-perform.ensures),
-      c.in_err-perform.ensures.table_is ∙ c.loop-i.invariant.table_is,
+          c.loop-i.invariant.played c.in_err-perform.ensures.replies),
+      c.in_err-perform.ensures.replies.table_is ∙ c.loop-i.invariant.played.table_is,
     )
+
+pub returns-in_err-perform-clause-cost : goal.returns-in_err-perform-clause-cost
+returns-in_err-perform-clause-cost g c =
+    let old : Session = c.args.session.now in
+    let commands : List Command = c.args.commands.now in
+    let i : ℕ = c.loop-i.i in
+    let within : c.loop-i.i < length c.args.commands.now = omega (arith, c.loop-i-test.true, c.len-i-end.ensures) in
+    subst (λ cs. RisesUpTo (commands_cost c.args.session.now.table c.args.session.now.state cs) c.args.steps.now c.perform.new.steps)
+    (mapped_parts meaning commands i c.get.result.now within c.get.ensures)
+    (all_paid old (map meaning (take i commands)) c.args.replies.now.items c.loop-i.session c.loop-i.replies.items c.args.steps.now c.loop-i.steps
+    c.loop-i.invariant (meaning c.get.result.now) c.perform.new.session c.perform.new.steps c.perform.result (map meaning (drop (suc i) commands))
+    c.perform.ensures.cost c.perform.ensures.runs)
 
 pub loop-i-preserved : goal.loop-i-preserved
 loop-i-preserved g c =
@@ -32,8 +45,8 @@ loop-i-preserved g c =
     let commands : List Command = c.args.commands.now in
     let i : ℕ = c.loop-i.i in
     let within : c.loop-i.i < length c.args.commands.now = omega (arith, c.loop-i-test.true, c.len-i-end.ensures) in
-    subst (λ cs. ArePlayed c.args.session.now cs c.args.replies.now.items c.perform.new.session c.perform.new.reply.items)
+    subst (λ cs. ArePaid c.args.session.now cs c.args.replies.now.items c.perform.new.session c.perform.new.reply.items c.args.steps.now c.perform.new.steps)
     (mapped_more meaning commands i c.get.result.now within c.get.ensures)
-    (one_more_played old (map meaning (take i commands)) c.args.replies.now.items c.loop-i.session c.loop-i.replies.items (meaning c.get.result.now)
-    c.perform.new.session c.perform.new.reply.items
-    c.loop-i.invariant c.in_ok-perform.ensures)
+    (one_more_paid old (map meaning (take i commands)) c.args.replies.now.items c.loop-i.session c.loop-i.replies.items c.args.steps.now c.loop-i.steps
+    c.loop-i.invariant (meaning c.get.result.now) c.perform.new.session c.perform.new.steps c.perform.result c.perform.new.reply.items
+    c.in_ok-perform.ensures.replies c.perform.ensures.cost c.perform.ensures.runs)

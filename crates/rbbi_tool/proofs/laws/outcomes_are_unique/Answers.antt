@@ -14,4 +14,8 @@ returns c =
       tables = c.spelling_tells_the_table.ensures;
       answers = c.one_answer.ensures;
       boundaries = c.boundaries_are_unique.ensures;
+      replies = c.replies_are_unique.ensures;
+      scripts = c.one_script.ensures;
+      tests = c.one_tests.ensures;
+      verdicts = c.one_verdict.ensures;
     })

@@ -1,10 +1,12 @@
 use Rattle.std.proofs.Common.{◌≡◌, ◌<◌, length, take, drop, ap, ◌∙◌, arith}
 use Rattle.std.specs.String.{string_bytes}
 use Rattle.std.proofs.lemmas.List.{length-map}
+use Rattle.rbbi_tool.specs.declared.words.command.Command.TheVariants.{Check, Compile, Conform}
 use Rattle.rbbi_tool.specs.Requests.{asked_by}
 use Rattle.rbbi_tool.specs.Words.{operands_of}
 use Rattle.rbbi_tool.proofs.Sizes.{handed_fit, handed_are, file_short, files_behind, read_by, some_files}
 use Rattle.rbbi_tool.proofs.Commands.{check_answers, compile_answers, breaks_answers, run_answers, conform_answers}
+use Rattle.rbbi_tool.proofs.Counted.{breaks_reads, run_reads, others_read}
 use Rattle.rbbi_tool.proofs.output.output_of.Goals as goal
 
 pub split_at-requires : goal.split_at-requires
@@ -36,8 +38,8 @@ check-requires-clause-short g c =
     file_short (asked_by c.args.request.now) c.args.files.now c.requires.within c.len.result 0 c.split_at.result.1.now c.file-source.result.now
     c.split_at.ensures.back c.file-source.ensures
 
-pub returns-in-Check : goal.returns-in-Check
-returns-in-Check g c =
+pub returns-in-Check-clause-exact : goal.returns-in-Check-clause-exact
+returns-in-Check-clause-exact g c =
     let files = c.args.files.now in
     let same : c.len.result ≡ length c.args.request.now.options.properties.items = omega (arith, c.len.ensures) in
     check_answers (asked_by c.args.request.now) files c.split_at.result.0.now c.split_at.result.1.now c.file-source.result.now c.check.result
@@ -54,8 +56,8 @@ compile-requires-clause-short g c =
     file_short (asked_by c.args.request.now) c.args.files.now c.requires.within c.len.result 0 c.split_at.result.1.now c.file-source.result.now
     c.split_at.ensures.back c.file-source.ensures
 
-pub returns-in-Compile : goal.returns-in-Compile
-returns-in-Compile g c =
+pub returns-in-Compile-clause-exact : goal.returns-in-Compile-clause-exact
+returns-in-Compile-clause-exact g c =
     let files = c.args.files.now in
     let same : c.len.result ≡ length c.args.request.now.options.properties.items = omega (arith, c.len.ensures) in
     compile_answers (asked_by c.args.request.now) files c.split_at.result.0.now c.split_at.result.1.now c.file-source.result.now c.compile.result
@@ -77,13 +79,13 @@ breaks-requires-clause-text g c =
     file_short (asked_by c.args.request.now) c.args.files.now c.requires.within c.len.result 1 c.split_at.result.1.now c.file-text.result.now
     c.split_at.ensures.back c.file-text.ensures
 
-pub returns-in-Breaks : goal.returns-in-Breaks
-returns-in-Breaks g c =
+pub returns-in-Breaks-clause-exact : goal.returns-in-Breaks-clause-exact
+returns-in-Breaks-clause-exact g c =
     let files = c.args.files.now in
     let same : c.len.result ≡ length c.args.request.now.options.properties.items = omega (arith, c.len.ensures) in
     breaks_answers (asked_by c.args.request.now) files c.split_at.result.0.now c.split_at.result.1.now c.file-source.result.now c.breaks.result
     (c.split_at.ensures.front ∙ ap (λ n. take n files) same) (c.split_at.ensures.back ∙ ap (λ n. drop n files) same)
-    c.file-source.ensures c.word-text_name.result.now c.file-text.result.now c.word-text_name.ensures c.file-text.ensures c.in-Breaks.is c.breaks.ensures
+    c.file-source.ensures c.word-text_name.result.now c.file-text.result.now c.word-text_name.ensures c.file-text.ensures c.in-Breaks.is c.breaks.ensures.exact
 
 pub file-played-requires : goal.file-played-requires
 file-played-requires g c =
@@ -129,14 +131,14 @@ run-requires-clause-script g c =
     file_short (asked_by c.args.request.now) c.args.files.now c.requires.within c.len.result 2 c.split_at.result.1.now c.file-script.result.now
     c.split_at.ensures.back c.file-script.ensures
 
-pub returns-in-Run : goal.returns-in-Run
-returns-in-Run g c =
+pub returns-in-Run-clause-exact : goal.returns-in-Run-clause-exact
+returns-in-Run-clause-exact g c =
     let files = c.args.files.now in
     let same : c.len.result ≡ length c.args.request.now.options.properties.items = omega (arith, c.len.ensures) in
     run_answers (asked_by c.args.request.now) files c.split_at.result.0.now c.split_at.result.1.now c.file-source.result.now c.run.result
     (c.split_at.ensures.front ∙ ap (λ n. take n files) same) (c.split_at.ensures.back ∙ ap (λ n. drop n files) same)
     c.file-source.ensures c.word-played_name.result.now c.file-played.result.now c.word-script_name.result.now
-    c.file-script.result.now c.word-played_name.ensures c.file-played.ensures c.word-script_name.ensures c.file-script.ensures c.in-Run.is c.run.ensures
+    c.file-script.result.now c.word-played_name.ensures c.file-played.ensures c.word-script_name.ensures c.file-script.ensures c.in-Run.is c.run.ensures.exact
 
 pub conform-requires-clause-handed : goal.conform-requires-clause-handed
 conform-requires-clause-handed g c =
@@ -153,10 +155,40 @@ conform-requires-clause-tests g c =
     file_short (asked_by c.args.request.now) c.args.files.now c.requires.within c.len.result 1 c.split_at.result.1.now c.file-tests.result.now
     c.split_at.ensures.back c.file-tests.ensures
 
-pub returns-in-Conform : goal.returns-in-Conform
-returns-in-Conform g c =
+pub returns-in-Conform-clause-exact : goal.returns-in-Conform-clause-exact
+returns-in-Conform-clause-exact g c =
     let files = c.args.files.now in
     let same : c.len.result ≡ length c.args.request.now.options.properties.items = omega (arith, c.len.ensures) in
     conform_answers (asked_by c.args.request.now) files c.split_at.result.0.now c.split_at.result.1.now c.file-source.result.now c.conform.result
     (c.split_at.ensures.front ∙ ap (λ n. take n files) same) (c.split_at.ensures.back ∙ ap (λ n. drop n files) same)
     c.file-source.ensures c.word-tests_name.result.now c.file-tests.result.now c.word-tests_name.ensures c.file-tests.ensures c.in-Conform.is c.conform.ensures
+
+pub returns-in-Check-clause-steps : goal.returns-in-Check-clause-steps
+returns-in-Check-clause-steps g c =
+    others_read (asked_by c.args.request.now) Check c.args.files.now c.args.steps.now c.check.new.steps c.in-Check.is tt
+
+pub returns-in-Compile-clause-steps : goal.returns-in-Compile-clause-steps
+returns-in-Compile-clause-steps g c =
+    others_read (asked_by c.args.request.now) Compile c.args.files.now c.args.steps.now c.compile.new.steps c.in-Compile.is tt
+
+pub returns-in-Conform-clause-steps : goal.returns-in-Conform-clause-steps
+returns-in-Conform-clause-steps g c =
+    others_read (asked_by c.args.request.now) Conform c.args.files.now c.args.steps.now c.conform.new.steps c.in-Conform.is tt
+
+pub returns-in-Breaks-clause-steps : goal.returns-in-Breaks-clause-steps
+returns-in-Breaks-clause-steps g c =
+    let files = c.args.files.now in
+    let same : c.len.result ≡ length c.args.request.now.options.properties.items = omega (arith, c.len.ensures) in
+    breaks_reads (asked_by c.args.request.now) files c.split_at.result.0.now c.split_at.result.1.now c.file-source.result.now c.args.steps.now
+    c.breaks.new.steps (c.split_at.ensures.front ∙ ap (λ n. take n files) same) (c.split_at.ensures.back ∙ ap (λ n. drop n files) same)
+    c.file-source.ensures c.word-text_name.result.now c.file-text.result.now c.word-text_name.ensures c.file-text.ensures c.in-Breaks.is
+    c.breaks.ensures.steps
+
+pub returns-in-Run-clause-steps : goal.returns-in-Run-clause-steps
+returns-in-Run-clause-steps g c =
+    let files = c.args.files.now in
+    let same : c.len.result ≡ length c.args.request.now.options.properties.items = omega (arith, c.len.ensures) in
+    run_reads (asked_by c.args.request.now) files c.split_at.result.0.now c.split_at.result.1.now c.file-source.result.now c.args.steps.now c.run.new.steps
+    (c.split_at.ensures.front ∙ ap (λ n. take n files) same) (c.split_at.ensures.back ∙ ap (λ n. drop n files) same)
+    c.file-source.ensures c.word-played_name.result.now c.file-played.result.now c.word-script_name.result.now
+    c.file-script.result.now c.word-played_name.ensures c.file-played.ensures c.word-script_name.ensures c.file-script.ensures c.in-Run.is c.run.ensures.steps

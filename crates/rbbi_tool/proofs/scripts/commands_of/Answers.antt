@@ -3,15 +3,15 @@ use Rattle.std.specs.Prelude.{Ok, Err}
 use Rattle.rbbi_script.specs.Files.{ReadsScript}
 use Rattle.rbbi_tool.proofs.scripts.commands_of.Goals as goal
 
-pub returns-in-Ok : goal.returns-in-Ok
-returns-in-Ok g c = record {
+pub returns-in-Ok-clause-exact : goal.returns-in-Ok-clause-exact
+returns-in-Ok-clause-exact g c = record {
   written = c.in-Ok.commands;
   read = subst (λ b. ReadsScript b (Ok c.in-Ok.commands)) c.bytes.ensures.bytes c.in-Ok.ensures;
   mean = refl;
 }
 
-pub returns-in-Err : goal.returns-in-Err
-returns-in-Err g c =
+pub returns-in-Err-clause-exact : goal.returns-in-Err-clause-exact
+returns-in-Err-clause-exact g c =
     ⊎_elim inl
     (λ (some, is). inr (record {
       error = c.in-Err.error;

@@ -1,7 +1,7 @@
 use Rattle.std.proofs.Common.{◌<◌, refl, arith, subst, sym, ap, ◌∙◌, ◌≡◌, nat_lt, is_some, if◌then◌else◌}
 use Rattle.rbbi_resolve.specs.Summaries.{IsCapped}
 use Rattle.rbbi_resolve.specs.Countings.{one, slash_of, tall_of}
-use Rattle.rbbi_resolve.specs.Counts.{leaves_of}
+use Rattle.rbbi_resolve.specs.Counts.{leaves_meant}
 use Rattle.rbbi_resolve.proofs.Counted.{capped_self, tall_capped}
 use Rattle.rbbi_resolve.proofs.counts.Counts.add.Goals as goal
 
@@ -10,7 +10,7 @@ returns c =
     λ rule left all at leaves height slash is.
     record {
       rule_count = c.add.ensures 4097 one rule left all (omega arith) at (capped_self 4097 1 (omega arith)) is.rule_count;
-      leaf_count = c.add-2.ensures 8193 leaves_of rule left all (omega arith) at leaves is.leaf_count;
+      leaf_count = c.add-2.ensures 8193 leaves_meant rule left all (omega arith) at leaves is.leaf_count;
       slash_count =
           let few : c.one_where.result < 33 = omega (arith, c.one_where.ensures.few) in
           c.add-3.ensures 33 slash_of rule left all (omega arith) at

@@ -4,6 +4,7 @@ use Rattle.rbbi_model.specs.Lines.{boundary_line}
 use Rattle.rbbi_model.specs.Tables.{statuses_of}
 use Rattle.rbbi_model.specs.Searches.{next_boundary}
 use Rattle.rbbi_tool.proofs.Listing.{found_within, listed_start, listed_more, all_listed}
+use Rattle.rbbi_tool.proofs.Searched.{searched_none, searched_more, all_searched}
 use Rattle.rbbi_tool.proofs.command.breaks.lines_of.Goals as goal
 
 pub loop-at-init : goal.loop-at-init
@@ -11,6 +12,7 @@ loop-at-init g c = record {
   listed = listed_start c.args.table.now c.args.text.now c.say_bound.new.reply.items
       (c.in_ok-say_bound.ensures ∙ ap (λ l. l ++ boundary_line start) c.new-lines.ensures.items);
   fit = c.in_ok-marks.ensures;
+  read = searched_none c.args.table.now c.args.text.now c.args.steps.now;
 }
 
 pub status_list-requires : goal.status_list-requires
@@ -32,9 +34,25 @@ loop-at-preserved g c =
           inside (c.next_boundary_is_past_the_start.ensures table x c.loop-at.at inside) c.next-found.ensures.at
           (c.in_ok-say_bound-2.ensures ∙ ap (λ b. c.loop-at.lines.items ++ boundary_line b) found);
       fit = c.next-found.ensures.fit ∙ c.loop-at.invariant.fit;
+      read = searched_more table x c.loop-at.at c.next-found.result.at c.args.steps.now c.loop-at.steps c.next-found.new.steps c.valid.ensures
+          c.anchors_are_stored.ensures c.anchors_lead_to_the_boundaries.ensures c.loop-at.invariant.read inside
+          (c.next_boundary_is_past_the_start.ensures table x c.loop-at.at inside).0 c.next-found.ensures.at c.next-found.ensures.read;
     }
 
-pub returns : goal.returns
-returns g c =
+pub returns-clause-lines : goal.returns-clause-lines
+returns-clause-lines g c =
     all_listed c.args.table.now c.args.text.now c.loop-at.lines.items c.loop-at.at c.loop-at.invariant.listed
     (omega (arith, c.loop-at-test.false, c.len.ensures.exact))
+
+pub returns-clause-steps : goal.returns-clause-steps
+returns-clause-steps g c = all_searched c.args.table.now c.args.text.now c.loop-at.at c.args.steps.now c.loop-at.steps c.loop-at.invariant.read
+
+pub returns-in_err-say_bound-2-clause-steps : goal.returns-in_err-say_bound-2-clause-steps
+returns-in_err-say_bound-2-clause-steps g c =
+    let table = c.args.table.now in
+    let x = c.args.text.now in
+    let inside : c.loop-at.at < length x = omega (arith, c.loop-at-test.true, c.len.ensures.exact) in
+    all_searched table x c.next-found.result.at c.args.steps.now c.next-found.new.steps
+    (searched_more table x c.loop-at.at c.next-found.result.at c.args.steps.now c.loop-at.steps c.next-found.new.steps c.valid.ensures
+    c.anchors_are_stored.ensures c.anchors_lead_to_the_boundaries.ensures c.loop-at.invariant.read inside
+    (c.next_boundary_is_past_the_start.ensures table x c.loop-at.at inside).0 c.next-found.ensures.at c.next-found.ensures.read)

@@ -9,12 +9,12 @@ use Rattle.rbbi_tool.proofs.command.conform.conform.Goals as goal
 pub returns-in_err-tests : goal.returns-in_err-tests
 returns-in_err-tests g c =
     let p = err_from_is_err_and c.from_residual-in_err-tests.result c.from_residual-in_err-tests.ensures.1 in
-    let basis = c.in_ok-table.ensures in
+    let basis = c.in_ok-table.ensures.exact in
     rw (p.1, p.2) (⊎_elim inl (λ is. inr (inr (basis.0, basis.1, inl is))) c.in_err-tests.ensures)
 
 pub returns : goal.returns
 returns g c =
-    let basis = c.in_ok-table.ensures in
+    let basis = c.in_ok-table.ensures.exact in
     let told = c.in_ok-report.ensures in
     let output = c.in_ok-output_of.ensures in
     let is : c.in_ok-output_of.field-0 ≡ told_verdicts c.in_ok-tests.tests told.verdicts = λ i. record {

@@ -11,8 +11,8 @@ pub returns : goal.returns
 returns c =
     let ss = map seq_tree c.args.self.sequences.items in
     let is = map item_tree c.args.self.items.items in
-    let e : map seq_tree c.push.new.self.items ≡ ss ++ seq_of is ∷ [] =
-    rw (c.in_ok-push.ensures.items, map-append)
+    let e : map seq_tree c.push_lean.new.list.items ≡ ss ++ seq_of is ∷ [] =
+    rw (c.in_ok-push_lean.ensures, map-append)
     (ap (λ s. ss ++ s ∷ []) (seq_tree_roll _ ∙ ap (λ xs. seq_of (map item_tree xs)) c.shrink_to_fit.ensures.items)) in
     expr_tree_roll _
     ∙ ap (λ xs. expr_of (map seq_tree xs)) c.shrink_to_fit-2.ensures.items

@@ -1,0 +1,6 @@
+mod OneCharacter
+mod Drawing
+mod Editing
+mod Counting
+mod Summing
+mod Demonstrating

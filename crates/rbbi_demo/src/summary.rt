@@ -1,0 +1,14 @@
+//! What a demonstration comes to.
+
+/// What a demonstration comes to.
+#[derive(Clone, Copy, Debug)]
+pub struct Summary {
+    /// The length of the last text, in characters.
+    pub chars: u32,
+    /// The number of edits.
+    pub edits: u32,
+    /// The number of boundaries of the last text.
+    pub boundaries: u64,
+    /// The sum of the places that were answered.
+    pub sum: u64,
+}

@@ -1,0 +1,49 @@
+//! The text that is drawn.
+ghost use Rattle.std.specs.Prelude.{◌≡◌, ◌≤◌, ◌++◌, ◌∷◌, [], chars, string_bytes, IfOk, OnOk};
+ghost use Rattle.rbbi_model.specs.Words.{most_characters};
+ghost use Rattle.rbbi_demo.specs.Generator.{drawn_text, state_after};
+
+use crate::generator::Generator;
+use rbbi_text::{Pieces, TextErr};
+use std::alloc::{AllocError, Global};
+
+/// Appends a character.
+fn push(text: &mut String, character: char) -> Result<(), AllocError>
+    ensures { OnOk result (chars (string_bytes text.new)
+        ≡ chars (string_bytes text.old) ++ character ∷ []) }
+{
+    text.push(character)
+}
+
+/// A string of so many drawn characters.
+fn drawn_string(alloc: Global, generator: &mut Generator, count: u32) -> Result<String, AllocError>
+    ensures text { IfOk result (λ text.
+        chars (string_bytes text) ≡ drawn_text generator.old.state count) }
+    ensures state { OnOk result
+        (generator.new.state ≡ state_after generator.old.state count) }
+{
+    let mut text = String::new(alloc);
+    for _drawn in 0..count {
+        push(&mut text, generator.character())?;
+    }
+    Ok(text)
+}
+
+/// The text of so many drawn characters.
+pub(crate) fn drawn(
+    alloc: Global,
+    generator: &mut Generator,
+    count: u32,
+) -> Result<Pieces, AllocError>
+    requires { count ≤ most_characters }
+    ensures text { IfOk result (λ text. text ≡ drawn_text generator.old.state count) }
+    ensures state { OnOk result
+        (generator.new.state ≡ state_after generator.old.state count) }
+{
+    let text = drawn_string(alloc, generator, count)?;
+    match Pieces::new(alloc, text.as_str()) {
+        Ok(pieces) => Ok(pieces),
+        Err(TextErr::TooManyChars) => unreachable!(),
+        Err(TextErr::Memory) => Err(AllocError),
+    }
+}

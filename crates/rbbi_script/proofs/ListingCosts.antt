@@ -1,0 +1,101 @@
+-- What listing all boundaries reads.
+use Rattle.std.proofs.Common.{◌≡◌, ℕ, suc, zero, ◌+◌, ◌-◌, ◌≤◌, cond, ltb, eqb, List, [], ◌∷◌, ◌++◌, Option, Some, length, sym, refl, ap, ◌∙◌}
+use Rattle.std.proofs.Common.{⊎_elim, arith}
+use Rattle.std.specs.Prelude.{sum_by, filter}
+use Rattle.std.proofs.lemmas.Bool.{cases_Bool, cond-true, cond-false, lt-ltb, ne_eqb}
+use Rattle.std.proofs.lemmas.List.Sums.{sum_by-append}
+use Rattle.std.proofs.lemmas.List.Elements.{filter-append}
+use Rattle.rbbi_model.specs.Boundaries.{Boundary}
+use Rattle.rbbi_model.specs.Tables.{Table}
+use Rattle.rbbi_model.specs.Cover.{IsPlaceOf}
+use Rattle.rbbi_model.specs.Answers.{Next, IsBoundary, Breaks}
+use Rattle.rbbi_model.specs.Scripts.{Ask}
+use Rattle.rbbi_model.specs.Costs.{forward_cost, last_cost, is_boundary_cost, question_cost}
+use Rattle.rbbi_session.specs.Sessions.{Session, boundaries_of}
+use Rattle.rbbi_session.specs.Asking.{Asks}
+use Rattle.rbbi_session.proofs.Answering.{none_past, place_within}
+use Rattle.rbbi_script.specs.Reading.{RisesUpTo, IsPaid, listing_cost}
+use Rattle.rbbi_script.proofs.Listed.{AreListed, IsFurther}
+
+module _ (table : Table) (x : List ℕ) where
+  listing_parts : (done rest : List Boundary) → listing_cost table x (done ++ rest) ≡ listing_cost table x done + listing_cost table x rest
+  listing_parts done rest =
+      ap (sum_by (λ (b : Boundary). forward_cost table x b.at)) (filter-append (λ (b : Boundary). ltb b.at (length x)) done rest)
+      ∙ sum_by-append (λ (b : Boundary). forward_cost table x b.at) (filter (λ (b : Boundary). ltb b.at (length x)) done)
+      (filter (λ (b : Boundary). ltb b.at (length x)) rest)
+
+  sum_of_one : (b : Boundary) → sum_by (λ (c : Boundary). forward_cost table x c.at) (b ∷ []) ≡ forward_cost table x b.at
+  sum_of_one b = omega arith
+
+  -- going on from a boundary costs as much as the question for the next one
+  listing_one : (b : Boundary) → listing_cost table x (b ∷ []) ≡ question_cost table x b.at Next
+  listing_one b =
+      ⊎_elim
+      (λ within.
+      ap (sum_by (λ (c : Boundary). forward_cost table x c.at)) (cond-true (ltb b.at (length x)) (b ∷ []) [] within)
+      ∙ sum_of_one b
+      ∙ sym (cond-true (ltb b.at (length x)) (forward_cost table x b.at) 0 within))
+      (λ past.
+      ap (sum_by (λ (c : Boundary). forward_cost table x c.at)) (cond-false (ltb b.at (length x)) (b ∷ []) [] past)
+      ∙ sym (cond-false (ltb b.at (length x)) (forward_cost table x b.at) 0 past))
+      (cases_Bool (ltb b.at (length x)))
+
+  -- a place within the text that isn't 0 is asked about by going on from the place before it
+  asked_again : (c : ℕ) → c ≤ length x → is_boundary_cost table x c ≡ cond (eqb c 0) 0 (forward_cost table x (c - 1))
+  asked_again zero within = refl
+  asked_again (suc p) within =
+      cond-true (ltb p (length x)) (forward_cost table x p) (last_cost table x) (lt-ltb p (length x) (omega arith))
+      ∙ ap (forward_cost table x) (let one : p ≡ suc p - 1 = omega arith in one)
+      ∙ sym (cond-false (eqb (suc p) 0) 0 (forward_cost table x (suc p - 1)) (ne_eqb (suc p) 0 (λ none. omega (arith, none))))
+
+-- the lines of the first boundaries were appended, and so much was read for them
+pub record AreRead (old now : Session) (place : Option ℕ) (before after : List ℕ) (start steps : ℕ) : Type 0 where
+  pub listed : AreListed old now place before after
+  pub paid : RisesUpTo (listing_cost old.table old.state.text listed.front) start steps
+
+pub read_none : (old now : Session) (place : Option ℕ) (before after : List ℕ) (start : ℕ) → AreListed old now place before after →
+    AreRead old now place before after start start
+read_none old now place before after start are = record { listed = are; paid = record { more = omega arith; cost = omega arith } }
+
+pub read_further : (old now new : Session) (at : ℕ) (place : Option ℕ) (before reply after : List ℕ) (start middle steps : ℕ)
+    (are : AreRead old now (Some at) before reply start middle) → IsFurther old now new at place before after are.listed.front →
+    Asks now Next new middle steps → AreRead old new place before after start steps
+read_further old now new at place before reply after start middle steps are further asked =
+    let cost_is : question_cost now.table now.state.text now.state.cursor Next ≡ question_cost old.table old.state.text further.here.at Next =
+    ap (λ t. question_cost t now.state.text now.state.cursor Next) are.listed.table_is
+    ∙ ap (λ x. question_cost old.table x now.state.cursor Next) are.listed.text_is
+    ∙ ap (λ c. question_cost old.table old.state.text c Next) further.cursor in
+    let front_is : listing_cost old.table old.state.text further.listed.front ≡ listing_cost old.table old.state.text are.listed.front + listing_cost old.table
+    old.state.text (further.here ∷ []) =
+    ap (listing_cost old.table old.state.text) further.more ∙ listing_parts old.table old.state.text are.listed.front (further.here ∷ []) in
+    record {
+      listed = further.listed;
+      paid = record {
+        more = omega (arith, are.paid.more, asked.more);
+        cost = omega (arith, are.paid.cost, asked.cost, cost_is, front_is, listing_one old.table old.state.text further.here);
+      };
+    }
+
+-- what was read for the first boundaries is at most what all cost
+pub read_all : (old now : Session) (place : Option ℕ) (before after : List ℕ) (start steps : ℕ) → AreRead old now place before after start steps →
+    RisesUpTo (listing_cost old.table old.state.text (boundaries_of old)) start steps
+read_all old now place before after start steps are =
+    let whole : listing_cost old.table old.state.text (boundaries_of old) ≡ listing_cost old.table old.state.text are.listed.front + listing_cost old.table
+    old.state.text are.listed.rest =
+    ap (listing_cost old.table old.state.text) are.listed.whole ∙ listing_parts old.table old.state.text are.listed.front are.listed.rest in
+    record { more = are.paid.more; cost = omega (arith, are.paid.cost, whole) }
+
+-- all boundaries were listed, and then the cursor's was found again
+pub breaks_paid : (old now new : Session) (cursor start middle steps : ℕ) → now.state.text ≡ old.state.text → now.table ≡ old.table →
+    cursor ≡ old.state.cursor → IsPlaceOf (boundaries_of old) cursor → RisesUpTo (listing_cost old.table old.state.text (boundaries_of old)) start middle →
+    Asks now (IsBoundary cursor) new middle steps → IsPaid old (Ask Breaks) start steps
+breaks_paid old now new cursor start middle steps text table same here listed asked =
+    let within : cursor ≤ length old.state.text =
+    place_within (boundaries_of old) cursor (length old.state.text) (none_past old.table old.state.text) here in
+    let again : is_boundary_cost now.table now.state.text cursor ≡ cond (eqb old.state.cursor 0) 0
+    (forward_cost old.table old.state.text (old.state.cursor - 1)) =
+    ap (λ t. is_boundary_cost t now.state.text cursor) table
+    ∙ ap (λ x. is_boundary_cost old.table x cursor) text
+    ∙ asked_again old.table old.state.text cursor within
+    ∙ ap (λ c. cond (eqb c 0) 0 (forward_cost old.table old.state.text (c - 1))) same in
+    record { more = omega (arith, listed.more, asked.more); cost = omega (arith, listed.cost, asked.cost, again) }

@@ -1,0 +1,8 @@
+//! What holds of the answers of reading a script.
+ghost use Rattle.rbbi_script.specs.Laws.{HaveOneScript};
+
+/// Law: bytes have one answer, but for want of memory: they are the script of one list of commands,
+/// or one fault is told. It is there for proofs, and does nothing when it runs.
+pub fn one_script()
+    ensures { HaveOneScript }
+{}

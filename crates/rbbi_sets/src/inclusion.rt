@@ -1,0 +1,65 @@
+//! One pass over two sets that tells whether the one covers all of the other, or nothing of it.
+ghost use Rattle.std.specs.Prelude.{◌≡◌, ◌≤◌, ◌<◌, ◌↔◌, ℕ, length, IsTrue};
+ghost use Rattle.std.specs.List.{AllWithin};
+ghost use Rattle.rbbi_model.specs.Ranges.{Has};
+ghost use Rattle.rbbi_sets.specs.Rising.{AreRising, IsNextRange};
+ghost use Rattle.rbbi_sets.specs.Covers.{covers, IsThroughout};
+
+use crate::CodeRange;
+
+/// Whether `left` covers each code point of `right`, or where `wanted` is false, none of them.
+///
+/// The pass goes through both lists once, and ends at the first range of `right` that decides.
+pub(crate) fn covers_alike(wanted: bool, left: &[CodeRange], right: &[CodeRange]) -> bool
+    requires left_rises { AreRising left.now }
+    requires right_rises { AreRising right.now }
+    ensures { IsTrue result ↔ ((c : ℕ) → Has right.now c → covers left.now c ≡ wanted) }
+{
+    let mut next = 0;
+    for range in right {
+        next = skip_to(left, next, range.low);
+        if !covers_range_alike(wanted, left, next, range.low, range.high) {
+            return false;
+        }
+    }
+    true
+}
+
+/// Whether the list covers each code point from `low` to `high`, or where `wanted` is false, none
+/// of them. `next` is the number of the first range that doesn't end before `low`.
+fn covers_range_alike(wanted: bool, ranges: &[CodeRange], next: usize, low: u32, high: u32) -> bool
+    requires rising { AreRising ranges.now }
+    requires within { next ≤ length ranges.now }
+    requires place { IsNextRange ranges.now low next }
+    requires ordered { low ≤ high }
+    ensures { IsTrue result ↔ IsThroughout wanted ranges.now low high }
+{
+    if next == ranges.len() {
+        return !wanted;
+    }
+    let range = ranges[next];
+    if wanted {
+        range.low <= low && high <= range.high
+    } else {
+        high < range.low
+    }
+}
+
+/// The number of the first range that doesn't end before `at`, where those before `from` do.
+fn skip_to(ranges: &[CodeRange], from: usize, at: u32) -> usize
+    requires rising { AreRising ranges.now }
+    requires within { from ≤ length ranges.now }
+    requires ended { AllWithin (λ range. range.high < at) ranges.now 0 from }
+    ensures within { result ≤ length ranges.now }
+    ensures place { IsNextRange ranges.now at result }
+{
+    let mut next = from;
+    while next < ranges.len() {
+        let range = ranges[next];
+        if at <= range.high {
+            return next;
+        }
+        next += 1;
+    }
+    next
+}

@@ -1,0 +1,65 @@
+-- What a script and a test file come to is determined, and so are verdicts. The laws of the lower crates are handed in.
+use Rattle.std.proofs.Common.{◌≡◌, ℕ, List, [], ◌∷◌, map, refl, ap, sym, subst, ◌∙◌}
+use Rattle.std.specs.Prelude.{Result, Ok, Err}
+use Rattle.rbbi_model.specs.Boundaries.{Boundary}
+use Rattle.rbbi_model.specs.Scripts.{Command}
+use Rattle.rbbi_script.specs.Meaning.{meaning}
+use Rattle.rbbi_script.specs.Laws.{HaveOneScript}
+use Rattle.rbbi_conform.specs.Tests.{Test}
+use Rattle.rbbi_conform.specs.declared.verdict.Verdict.{Verdict}
+use Rattle.rbbi_conform.specs.Verdicts.{IsVerdict}
+use Rattle.rbbi_conform.specs.Laws.{HaveOneTestList, HasOneVerdict}
+use Rattle.rbbi_tool.specs.Stages.{IsDetermined}
+use Rattle.rbbi_tool.specs.Basis.{Basis, AreBoundariesBy}
+use Rattle.rbbi_tool.specs.Scripts.{script_fault, script_stage, tests_fault, tests_stage}
+use Rattle.rbbi_tool.specs.Command.Conform.{AreVerdictsBy}
+
+-- answers that are the same have the same value or the same error, and are of one kind
+module _ {A E : Type 0} where
+  value_of : (a b : A) → (let this : Result A E = Ok a in this) ≡ Ok b → a ≡ b
+  value_of a b same = cc
+
+  error_of : (e f : E) → (let this : Result A E = Err e in this) ≡ Err f → e ≡ f
+  error_of e f same = cc
+
+  no_error : (a : A) (e : E) → (let this : Result A E = Ok a in this) ≡ Err e → ⊥
+  no_error a e same = cc
+
+-- what a script comes to is determined
+pub script_determined : HaveOneScript → (name bytes : List ℕ) → IsDetermined (List Command) (script_stage name bytes)
+script_determined law name bytes = record {
+  value = λ cs ds is is'.
+      let same = law bytes (Ok is.written) (Ok is'.written) is.read is'.read (λ e. no_error _ _ e) (λ e. no_error _ _ e) in
+      is.mean ∙ ap (map meaning) (value_of is.written is'.written same) ∙ sym is'.mean;
+  refusal = λ r s is is'.
+      let same = law bytes (Err is.error) (Err is'.error) is.refused is'.refused (λ e. is.not_memory (error_of _ _ e)) (λ e. is'.not_memory (error_of _ _ e)) in
+      is.is ∙ ap (script_fault name) (error_of is.error is'.error same) ∙ sym is'.is;
+  apart = λ cs r is is'.
+      no_error is.written is'.error
+      (law bytes (Ok is.written) (Err is'.error) is.read is'.refused (λ e. no_error _ _ e) (λ e. is'.not_memory (error_of _ _ e)));
+}
+
+-- what a test file comes to is determined
+pub tests_determined : HaveOneTestList → (name bytes : List ℕ) → IsDetermined (List Test) (tests_stage name bytes)
+tests_determined law name bytes = record {
+  value = λ ts us is is'. value_of ts us (law bytes (Ok ts) (Ok us) is is' (λ e. no_error _ _ e) (λ e. no_error _ _ e));
+  refusal = λ r s is is'.
+      let same = law bytes (Err is.error) (Err is'.error) is.refused is'.refused (λ e. is.not_memory (error_of _ _ e)) (λ e. is'.not_memory (error_of _ _ e)) in
+      is.is ∙ ap (tests_fault name) (error_of is.error is'.error same) ∙ sym is'.is;
+  apart = λ ts r is is'.
+      no_error ts is'.error (law bytes (Ok ts) (Err is'.error) is is'.refused (λ e. no_error _ _ e) (λ e. is'.not_memory (error_of _ _ e)));
+}
+
+-- tests have one list of verdicts, where each text has one list of boundaries
+pub same_verdicts : (basis : Basis)
+    → ((x : List ℕ) (these those : List Boundary) → AreBoundariesBy basis x these → AreBoundariesBy basis x those → these ≡ those)
+    → ((boundaries : List Boundary) (test : Test) → HasOneVerdict boundaries test)
+    → (tests : List Test) (these those : List Verdict) → AreVerdictsBy basis tests these → AreVerdictsBy basis tests those → these ≡ those
+same_verdicts basis boundaries law [] [] [] are are' = refl
+same_verdicts basis boundaries law [] [] (w ∷ those) are are' = absurd are'
+same_verdicts basis boundaries law [] (v ∷ these) those are are' = absurd are
+same_verdicts basis boundaries law (test ∷ tests) [] those are are' = absurd are
+same_verdicts basis boundaries law (test ∷ tests) (v ∷ these) [] are are' = absurd are'
+same_verdicts basis boundaries law (test ∷ tests) (v ∷ these) (w ∷ those) ((bs, by, is), are) ((bs', by', is'), are') =
+    let verdict = law bs' test v w (subst (λ (b : List Boundary). IsVerdict b test v) (boundaries test.text bs bs' by by') is) is' in
+    ap (λ x. x ∷ these) verdict ∙ ap (λ rest. w ∷ rest) (same_verdicts basis boundaries law tests these those are are')

@@ -1,0 +1,88 @@
+-- How much a run of the program reads: characters of its text, and bytes of its other files.
+use Rattle.std.specs.Prelude.{◌≡◌, ◌⊎◌, ℕ, ◌+◌, List, length, sum_by, take, drop}
+use Rattle.rbbi_model.specs.Tables.{Table}
+use Rattle.rbbi_model.specs.Compiled.{IsCompiled}
+use Rattle.rbbi_model.specs.Scripts as model
+use Rattle.rbbi_model.specs.Costs.{script_cost, breaks_cost}
+use Rattle.rbbi_script.specs.Reading.{RisesUpTo}
+use Rattle.rbbi_tool.specs.declared.words.command.Command.{Command}
+use Rattle.rbbi_tool.specs.declared.words.command.Command.TheVariants.{Breaks, Run}
+use Rattle.rbbi_tool.specs.declared.files.Role.{Role}
+use Rattle.rbbi_tool.specs.declared.files.Role.TheVariants.{Text}
+use Rattle.rbbi_tool.specs.declared.files.Source.{Source}
+use Rattle.rbbi_tool.specs.Stages.{Stage}
+use Rattle.rbbi_tool.specs.Words.{Request}
+use Rattle.rbbi_tool.specs.Files.{sources_of}
+use Rattle.rbbi_tool.specs.Reads.{bytes_of}
+use Rattle.rbbi_tool.specs.Texts.{text_stage}
+use Rattle.rbbi_tool.specs.Scripts.{script_stage}
+use Rattle.rbbi_tool.specs.Basis.{Basis, ByRules, ByTable, basis_stage}
+use Rattle.rbbi_tool.specs.Program.{nth}
+
+-- the bytes of a file that count: all, but none of a text, whose characters count as they are read
+abbrev pub counted : Role → List ℕ → ℕ
+counted Text bytes = 0
+counted role bytes = length bytes
+
+-- the bytes that count of the files that a request names to be read, as often as it names them
+abbrev pub named_bytes : (List ℕ → List ℕ) → Request → ℕ
+named_bytes held request = sum_by (λ source. counted source.role (held source.name)) (sources_of request)
+
+-- the table is compiled from the rules, or it is the one that was read
+abbrev pub IsTableOf : Table → Basis → Type 0
+IsTableOf table (ByRules rules) = IsCompiled table rules
+IsTableOf table (ByTable other) = other ≡ table
+
+-- There are a table and a text: so many bytes are read, and what listing all boundaries costs from the text's start.
+pub record ReadsForBreaks (basis : Stage Basis) (text : Stage (List ℕ)) (bytes before after : ℕ) : Type 0 where
+  pub by : Basis
+  pub table : Table
+  pub x : List ℕ
+  pub passes : basis.passes by
+  pub table_is : IsTableOf table by
+  pub text_is : text.passes x
+  pub reads : RisesUpTo (bytes + breaks_cost table x 0) before after
+
+-- There are a table, a text and commands: so many bytes are read, and what the commands cost over the text.
+pub record ReadsForScript (basis : Stage Basis) (text : Stage (List ℕ)) (script : Stage (List model.Command)) (bytes before after : ℕ) : Type 0 where
+  pub by : Basis
+  pub table : Table
+  pub x : List ℕ
+  pub commands : List model.Command
+  pub passes : basis.passes by
+  pub table_is : IsTableOf table by
+  pub text_is : text.passes x
+  pub script_is : script.passes commands
+  pub reads : RisesUpTo (bytes + script_cost table x commands) before after
+
+-- What a command reads, given the bytes of the property files and of the other files: at most so many bytes, or also what it costs
+-- to answer, where it comes to that. Of the other commands nothing is said.
+abbrev pub CommandReads : Command → Request → List (List ℕ) → List (List ℕ) → ℕ → ℕ → ℕ → Type 0
+CommandReads Breaks request handed files bytes before after =
+    RisesUpTo bytes before after
+    ⊎ ReadsForBreaks (basis_stage request.properties request.ignored request.by_table handed (nth files 0)) (text_stage (nth request.operands 1) (nth files 1))
+    bytes before after
+CommandReads Run request handed files bytes before after =
+    RisesUpTo bytes before after
+    ⊎ ReadsForScript (basis_stage request.properties request.ignored request.by_table handed (nth files 0)) (text_stage (nth request.operands 1) (nth files 1))
+    (script_stage (nth request.operands 2) (nth files 2)) bytes before after
+CommandReads command request handed files bytes before after = Unit {0}
+
+-- the bytes that count of what a command is given
+abbrev pub given_bytes : Command → List (List ℕ) → List (List ℕ) → ℕ
+given_bytes Breaks handed files = sum_by length handed + length (nth files 0)
+given_bytes Run handed files = sum_by length handed + length (nth files 0) + length (nth files 2)
+given_bytes command handed files = 0
+
+-- what a request reads of its files, given the bytes of all in order: those of the property files come first
+abbrev pub FilesReads : Request → List (List ℕ) → ℕ → ℕ → Type 0
+FilesReads request all before after =
+    let handed = take (length request.properties) all in
+    let files = drop (length request.properties) all in
+    CommandReads request.command request handed files (given_bytes request.command handed files) before after
+
+-- what a request reads over files that hold this
+abbrev pub RequestReads : Request → (List ℕ → List ℕ) → ℕ → ℕ → Type 0
+RequestReads request held before after =
+    let all = bytes_of held (sources_of request) in
+    CommandReads request.command request (take (length request.properties) all) (drop (length request.properties) all) (named_bytes held request) before after
