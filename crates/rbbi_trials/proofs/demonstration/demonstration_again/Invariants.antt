@@ -3,6 +3,3 @@ use Rattle.rbbi_trials.proofs.demonstration.demonstration_again.Given as goal
 -- a ledger of its own
 abbrev pub ghosts-summary : goal.ghosts-summary
 ghosts-summary g a = record { name = a.blank.name; parts = a.blank.parts }
-
-abbrev pub ghosts-summary-2 : goal.ghosts-summary-2
-ghosts-summary-2 g a = record { name = a.blank.name; parts = a.blank.parts }
