@@ -28,7 +28,7 @@ pub(crate) struct Answer {
 }
 
 /// The first boundary past a place.
-fn past(boundaries: &[Boundary], place: u32) -> Option<u32> {
+pub(crate) fn past(boundaries: &[Boundary], place: u32) -> Option<u32> {
     boundaries
         .iter()
         .map(|boundary| boundary.at)
@@ -36,7 +36,7 @@ fn past(boundaries: &[Boundary], place: u32) -> Option<u32> {
 }
 
 /// The last boundary before a place.
-fn before(boundaries: &[Boundary], place: u32) -> Option<u32> {
+pub(crate) fn before(boundaries: &[Boundary], place: u32) -> Option<u32> {
     let mut last = None;
     for boundary in boundaries {
         if boundary.at < place {

@@ -54,7 +54,7 @@ fn status_at(boundaries: &[Boundary], place: u32) -> u16 {
 }
 
 /// A text with other letters in place of some, which it has.
-fn spliced(
+pub(crate) fn spliced(
     alloc: Global,
     letters: &str,
     at: u32,
