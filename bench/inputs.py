@@ -256,6 +256,8 @@ FRONT = {
     'set': (big_set, 'one set of 270,000 letters'),
     'ranges': (lambda: repeat('a-z', '[', '];'), 'one set of 350,000 ranges'),
     'properties': (lambda: repeat('\\p{Lu}\\p{Nd}', '[', '];'), 'one set of 170,000 properties'),
+    'alternating': (lambda: repeat('\\p{Lu}-\\p{Lu}', '[\\p{L}', '];'),
+                    'one set that adds a property and takes it away 80,000 times'),
     'samename': (lambda: '$x=' + '\\p{L}' * 40000 + ';b;', '40,000 times \\p{L} in a sequence'),
     'names': (lambda: repeat('$ab', '$ab=[a-z];$x=', ';b;'), 'one sequence of 350,000 names'),
 }

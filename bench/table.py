@@ -143,22 +143,36 @@ def tables(bench):
 
 
 def loop(bench):
-    """The loop over one long segment: an edit at its start, and `last`, which scans it anew."""
+    """The loop over one long segment: `next` alone over the text in memory, against the bare loop over
+    the same table, and the scan of the text by pieces, where `last` scans it anew after an edit."""
     path, _, _ = bench.rules('words')
     text = inputs.make_text(bench.folder, 'letters', bench.sizes[-1])
+    yield segment(bench, path, text)
     few, many = (bench.file(f'last-{count}', 'replace 0 1 a\nlast\n' * count) for count in (1, 11))
-    line = Line('`run`, the scan of one long segment, against the bare loop over the same table',
-                bench.lacking(['run', path, bench.tiny(), few]), target='0.5 of the bare loop')
+    line = Line('`run`, words.rules: the scan of one long segment of a text by pieces',
+                bench.lacking(['run', path, bench.tiny(), few]))
     if not line.time:
         passed = bench.seconds(['run', path, text, many]) - bench.seconds(['run', path, text, few])
-        rate = 10 * bench.sizes[-1] / max(passed, 1e-9)
-        line.rate = rate_text(rate)
-        table = os.path.join(bench.folder, 'words.table')
-        bare = bare_rate(bench, table, text)
-        if bare:
-            line.what += f' ({rate_text(bare)})'
-            line.verdict = 'met' if rate >= bare / 2 else f'{rate / bare:.2f} of the bare loop'
+        line.rate = rate_text(10 * bench.sizes[-1] / max(passed, 1e-9))
     yield line
+
+
+def segment(bench, path, text):
+    """`Table::next` over one long segment, against the bare loop."""
+    line = Line('words.rules, letters in memory: `Table::next` over one long segment, alone',
+                target='0.5 of the bare loop')
+    line.verdict = bench.lacking_part(['scan', path, '0', text])
+    if line.verdict:
+        return line
+    few, many = ([bench.parts, 'scan', path, count, text] for count in ('1', '11'))
+    passed = bench.best(many).seconds - bench.best(few).seconds
+    rate = 10 * bench.sizes[-1] / max(passed, 1e-9)
+    line.rate = rate_text(rate)
+    bare = bare_rate(bench, os.path.join(bench.folder, 'words.table'), text)
+    if bare:
+        line.what += f' (the bare loop over the same table: {rate_text(bare)})'
+        line.verdict = 'met' if rate >= bare / 2 else f'{rate / bare:.2f} of the bare loop'
+    return line
 
 
 def bare_rate(bench, table, text):
