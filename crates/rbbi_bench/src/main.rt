@@ -1,7 +1,7 @@
 //! Measures calls that the program `rbbi` can't show alone.
 //!
-//! `PART FILE ROUNDS` makes one call so many times and prints what came of the last one, so that the
-//! times of two numbers of rounds give that of one call. README.md has the parts.
+//! `PART FILE ROUNDS` makes one call so many times and prints what came of the last one, so that
+//! the times of two numbers of rounds give that of one call. README.md has the parts.
 #![tactic(auto)]
 
 ghost use Rattle.std.specs.Prelude.{◌≡◌, ◌<◌, ◌≤◌, length, IfSome};

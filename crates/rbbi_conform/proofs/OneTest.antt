@@ -88,8 +88,10 @@ skipped_or_written line text marks skipped is = no_first is.sign is.rest (sym is
 
 same_line : (line : List ℕ) (number : ℕ) (these those : List Test) → LineWrites line number these → LineWrites line number those → these ≡ those
 same_line line number these those (inl (skipped, none)) (inl (skipped', none')) = none ∙ sym none'
-same_line line number these those (inl (skipped, none)) (inr (test, writes, numbered, is)) = absurd (skipped_or_written line test.text test.marks skipped writes)
-same_line line number these those (inr (test, writes, numbered, is)) (inl (skipped, none)) = absurd (skipped_or_written line test.text test.marks skipped writes)
+same_line line number these those (inl (skipped, none)) (inr (test, writes, numbered, is)) =
+    absurd (skipped_or_written line test.text test.marks skipped writes)
+same_line line number these those (inr (test, writes, numbered, is)) (inl (skipped, none)) =
+    absurd (skipped_or_written line test.text test.marks skipped writes)
 same_line line number these those (inr (test, writes, numbered, is)) (inr (test', writes', numbered', is')) =
     let same = same_marked line test.text test'.text test.marks test'.marks writes writes' in
     is ∙ ap (λ t. t ∷ []) (same_test test test' (numbered ∙ sym numbered') same.0 same.1) ∙ sym is'

@@ -22,7 +22,11 @@ impl Model for Test {
 
     ghost Value = { Test };
 
-    ghost view = { λ test. record { line = test.line; text = test.text; marks = test.marks.items } };
+    ghost view = { λ test. record {
+      line = test.line;
+      text = test.text;
+      marks = test.marks.items;
+    } };
 
     ghost invariant = { λ test. length test.marks.items ≡ length test.text };
 }

@@ -209,8 +209,8 @@ fn verdicts<L: Ledger>(
 
 #[test]
 fn verdicts_by_a_table(rt: HostRuntime) -> Result<(), Fail> {
-    let file =
-        "÷ 000D × 000A ÷ 0061 × 0308 ÷\n÷ 000D × 000A ÷ 0061 ÷ 0308 ÷\n÷ 0061 × 0062 ÷\n÷ 0061 ÷ 0062 ×\n÷ 000D ÷ 000A ÷\n×\n";
+    let file = "÷ 000D × 000A ÷ 0061 × 0308 ÷\n÷ 000D × 000A ÷ 0061 ÷ 0308 ÷\n\
+         ÷ 0061 × 0062 ÷\n÷ 0061 ÷ 0062 ×\n÷ 000D ÷ 000A ÷\n×\n";
     assert!(rt; file.len() <= 1000);
     let table = graphemes(&rt, rt.alloc())?;
     let shown = verdicts::<Brand>(&rt, &table, file.as_bytes(), Blank::new(1))?;

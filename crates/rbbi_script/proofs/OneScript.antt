@@ -68,8 +68,8 @@ bad_or_good line these bad (inl (skipped, none)) = bad.not_skipped skipped
 bad_or_good line these bad (inr (command, writes, is)) = bad.no_command (meaning command) writes
 
 -- among lines that write commands none is bad
-none_bad : (before : List (List ℕ)) (line : List ℕ) (after : List (List ℕ)) (commands : List Command) → LinesWrite (before ++ line ∷ after) commands → IsBad line
-    → ⊥
+none_bad : (before : List (List ℕ)) (line : List ℕ) (after : List (List ℕ)) (commands : List Command) → LinesWrite (before ++ line ∷ after) commands
+    → IsBad line → ⊥
 none_bad [] line after commands (first, rest, one, more, is) bad = bad_or_good line first bad one
 none_bad (l ∷ before) line after commands (first, rest, one, more, is) bad = none_bad before line after rest more bad
 

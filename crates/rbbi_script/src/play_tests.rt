@@ -171,7 +171,8 @@ fn scripts_over_texts(rt: HostRuntime) -> Result<(), Fail> {
         (
             WORDS,
             "can't 32.3.",
-            "following 2\nstatus\npreceding 10\nis 7\ncurrent\nreplace 3 1 -\nprevious\nnext\nstatus\nnext\nstatuses\ntext\ndelete 11 1",
+            "following 2\nstatus\npreceding 10\nis 7\ncurrent\nreplace 3 1 -\nprevious\nnext\n\
+             status\nnext\nstatuses\ntext\ndelete 11 1",
             "5\n200\n6\nno\n10\nok 11\ndone\n3\n200\n4\n0\ncan-t 32.3.\noutside\n",
         ),
         (

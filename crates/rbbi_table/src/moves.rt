@@ -71,7 +71,8 @@ pub(crate) fn moves_of(
 ) -> Result<Vec<u32>, AllocError>
     requires steps { AreSteps categories rows.now cells.now }
     requires small { length rows.now * (categories + 3) < 2 ^ 24 }
-    ensures { IfOk result (λ moves. AreMoves (rows_of categories rows.now cells.now []) moves.items) }
+    ensures { IfOk result (λ moves.
+        AreMoves (rows_of categories rows.now cells.now []) moves.items) }
 {
     let width = categories as usize;
     let mut moves = Vec::with_capacity(alloc, rows.len() * (width + HEAD))?;

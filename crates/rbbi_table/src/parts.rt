@@ -43,7 +43,11 @@ impl Model for RowHead {
 
     ghost Value = { RowHead };
 
-    ghost view = { λ head. record { accept = head.accept; fronts = head.fronts; list = head.list } };
+    ghost view = { λ head. record {
+      accept = head.accept;
+      fronts = head.fronts;
+      list = head.list;
+    } };
 
     ghost inverse = { λ head. record {
       accept = head.accept;

@@ -12,7 +12,8 @@ use Rattle.rbbi_tool.specs.declared.words.setting.Property.{Property}
 use Rattle.rbbi_tool.specs.declared.refusal.Refusal.{Refusal}
 use Rattle.rbbi_tool.specs.Stages.{Meets, Serves}
 use Rattle.rbbi_tool.specs.Rules.{rules_stage, rules_of_text_stage}
-use Rattle.rbbi_tool.specs.Basis.{categories_stage, sizes_stage, compiled_stage, compiled_text_stage, table_stage, basis_stage, Basis, ByRules, ByTable, AreBoundariesBy, GivesThem}
+use Rattle.rbbi_tool.specs.Basis.{categories_stage, sizes_stage, compiled_stage, compiled_text_stage, table_stage, basis_stage}
+use Rattle.rbbi_tool.specs.Basis.{Basis, ByRules, ByTable, AreBoundariesBy, GivesThem}
 
 -- a table of the rules of a text
 pub compiled_text_serves : (x : List ℕ) (rules : List Rule) (result : Result Table Refusal) → (rules_of_text_stage [] false x).passes rules

@@ -376,7 +376,8 @@ module _ (laws : Laws) where
   }
 
   -- what a command answers is settled
-  command_settled : (command : Command) (request : Request) (handed files : List (List ℕ)) → IsSettled Outcome AreAlike (command_stage command request handed files)
+  command_settled : (command : Command) (request : Request) (handed files : List (List ℕ))
+      → IsSettled Outcome AreAlike (command_stage command request handed files)
   command_settled Run request handed files =
       let script = script_stage (nth request.operands 2) (nth files 2) in
       settled AreAlike (command_stage Run request handed files) alike
@@ -385,7 +386,8 @@ module _ (laws : Laws) where
       (basis_determined request.properties request.ignored request.by_table handed (nth files 0))
       (λ basis. determined_both (text_stage (nth request.operands 1) (nth files 1)) (λ x. followed_by script (replies_stage basis x))
       (text_determined (nth request.operands 1) (nth files 1))
-      (λ x. determined_both script (replies_stage basis x) (script_determined laws.scripts (nth request.operands 2) (nth files 2)) (replies_determined basis x))))
+      (λ x. determined_both script (replies_stage basis x)
+      (script_determined laws.scripts (nth request.operands 2) (nth files 2)) (replies_determined basis x))))
   command_settled Conform request handed files =
       let tests = tests_stage (nth request.operands 1) (nth files 1) in
       settled AreAlike (command_stage Conform request handed files) alike

@@ -149,7 +149,8 @@ pub fn rbbi<F: Files, K: Sink, L: Ledger>(
 
     // 0 to 5 are the one outcome of the words and of what the files hold.
     ensures outcome { result ≤ 5 → WhereTold (F.contents files.old) (F.contents files.new)
-        (TakesOutcome (map string_bytes words.now.items) result (K.taken out.old) (K.taken out.new)) }
+        (TakesOutcome (map string_bytes words.now.items) result
+        (K.taken out.old) (K.taken out.new)) }
 
     // 6 and 7 come only with a fault that the files or the sink counted.
     ensures read_failed { result ≡ 6 → TakesFailedRead (map string_bytes words.now.items)
@@ -170,7 +171,8 @@ pub fn rbbi<F: Files, K: Sink, L: Ledger>(
         → ¬ SomeWriteFailed (map string_bytes words.now.items)
         (F.failed_writes files.old) (F.failed_writes files.new) → result ≢ 8
         → WhereTold (F.contents files.old) (F.contents files.new)
-        (TakesOutcome (map string_bytes words.now.items) result (K.taken out.old) (K.taken out.new)) }
+        (TakesOutcome (map string_bytes words.now.items) result
+        (K.taken out.old) (K.taken out.new)) }
 
     // Every file holds what it held, but for one that the outcome writes; and after 2 to 6 that one
     // too. No count falls, and no write is counted but of a file that the words name to be written.
@@ -179,7 +181,8 @@ pub fn rbbi<F: Files, K: Sink, L: Ledger>(
         (F.failed_writes files.old) (F.failed_writes files.new)) }
     ensures unwritten { 2 ≤ result → result ≤ 6 → F.contents files.new ≡ F.contents files.old }
     ensures others { IfSome (F.contents files.old) (λ _. OthersUnwritten
-        (map string_bytes words.now.items) (F.failed_writes files.old) (F.failed_writes files.new)) }
+        (map string_bytes words.now.items)
+        (F.failed_writes files.old) (F.failed_writes files.new)) }
     ensures reads { EachGoesOn (F.failed_reads files.old) (F.failed_reads files.new) }
     ensures writes { EachGoesOn (F.failed_writes files.old) (F.failed_writes files.new) }
     ensures faults { GoesOn (K.faults out.old) (K.faults out.new) }

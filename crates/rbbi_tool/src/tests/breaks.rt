@@ -67,7 +67,7 @@ const BOUNDARIES: &[(&[u8], &[u8], &str)] = &[
     (b"a / bc; ab / c;", b"abc", "0 0\n1 0\n2 0\n3 0\n"),
     // the cut is the last end of the front, and its statuses are those of the whole rule
     (b"a+ / b {3}; b;", b"aab", "0 0\n2 3\n3 0\n"),
-    // a repeat of what may match nothing; a single character that is chained into ends where it began
+    // a repeat of what may match nothing; a character that is chained into ends where it began
     (b"(a*)+;", b"aab", "0 0\n2 0\n3 0\n"),
     (b"!!chain; 'ab'; b{5};", b"abc", "0 0\n2 5\n3 0\n"),
     // 32 look-ahead rules

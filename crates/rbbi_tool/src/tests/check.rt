@@ -30,12 +30,13 @@ const COUNTS: &[(&[u8], &str)] = &[
     (b"\xEF\xBB\xBFa;", "rules 1 slashes 0 leaves 1\n"),
     (b"$x = [a-c]; $x $x;", "rules 1 slashes 0 leaves 2\n"),
     (
-        b"((((((((((((((((((((((((((((((((((((((((((((((((((((((((((((((((a))))))))))))))))))))))))))))))))))))))))))))))))))))))))))))))));",
+        b"((((((((((((((((((((((((((((((((((((((((((((((((((((((((((((((((a\
+          ))))))))))))))))))))))))))))))))))))))))))))))))))))))))))))))));",
         "rules 1 slashes 0 leaves 1\n",
     ),
     (
-        b"$a = x; $b = $a $a; $c = $b $b; $d = $c $c; $e = $d $d; $f = $e $e; $g = $f $f; $h = $g $g;
-$i = $h $h; $j = $i $i; $k = $j $j; $l = $k $k; $m = $l $l; $n = $m $m; $n;",
+        b"$a = x; $b = $a $a; $c = $b $b; $d = $c $c; $e = $d $d; $f = $e $e; $g = $f $f;
+$h = $g $g; $i = $h $h; $j = $i $i; $k = $j $j; $l = $k $k; $m = $l $l; $n = $m $m; $n;",
         "rules 1 slashes 0 leaves 8192\n",
     ),
 ];
@@ -99,8 +100,8 @@ const FAULTS: &[(&[u8], &str)] = &[
     (b"\xC3\xA9;\r\n\xC3\xA9\xC3\xA9{x};", "2:3: BadTag"),
     (b"\xEF\xBB\xBFa;\xC3\xA9", "1:4: Syntax"),
     (
-        b"$a = x; $b = $a $a; $c = $b $b; $d = $c $c; $e = $d $d; $f = $e $e; $g = $f $f; $h = $g $g;
-$i = $h $h; $j = $i $i; $k = $j $j; $l = $k $k; $m = $l $l; $n = $m $m; $o = $n $n;
+        b"$a = x; $b = $a $a; $c = $b $b; $d = $c $c; $e = $d $d; $f = $e $e; $g = $f $f;
+$h = $g $g; $i = $h $h; $j = $i $i; $k = $j $j; $l = $k $k; $m = $l $l; $n = $m $m; $o = $n $n;
 $o;",
         "3:1: TooManyLeaves",
     ),

@@ -27,8 +27,8 @@ const REPLIES: &[(&[u8], &[u8], &[u8], &str)] = &[
     (
         WORDS,
         b"can't 32.3.",
-        b"following 2\nstatus\npreceding 10\nis 7\ncurrent\nreplace 3 1 -\nprevious\nnext\nstatus\nnext
-statuses\ntext\ndelete 11 1",
+        b"following 2\nstatus\npreceding 10\nis 7\ncurrent\nreplace 3 1 -\nprevious\nnext
+status\nnext\nstatuses\ntext\ndelete 11 1",
         "5\n200\n6\nno\n10\nok 11\ndone\n3\n200\n4\n0\ncan-t 32.3.\noutside\n",
     ),
 ];

@@ -54,6 +54,7 @@ loop-number-preserved c =
           (get_or c.loop-number.flags.items position false) (get_or c.add_part_lasts.new.flags position false) c.loop-number.invariant.at
           (c.loop-number.invariant.flags position)
           (c.add_part_lasts.ensures c.args.rules.now.sets position
-          ∙ ap (λ flags. get_or flags position false || part_ends c.args.part position (rule_of c.args.rules.now.sets c.get-rule.result.now) c.loop-number.start)
+          ∙ ap (λ flags. get_or flags position false
+          || part_ends c.args.part position (rule_of c.args.rules.now.sets c.get-rule.result.now) c.loop-number.start)
           c.deref_mut.ensures.value);
     }

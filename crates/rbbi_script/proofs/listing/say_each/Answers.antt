@@ -31,8 +31,8 @@ loop-place-smaller g c =
 
 pub loop-place-preserved : goal.loop-place-preserved
 loop-place-preserved g c =
-    let here = subst (λ p. AreRead c.args.session.now c.loop-place.session p c.args.reply.now.items c.loop-place.reply.items c.args.steps.now c.loop-place.steps)
-    c.in-Some.is c.loop-place.invariant in
+    let here = subst (λ p. AreRead c.args.session.now c.loop-place.session p c.args.reply.now.items c.loop-place.reply.items
+    c.args.steps.now c.loop-place.steps) c.in-Some.is c.loop-place.invariant in
     let further = listed_further c.args.session.now c.loop-place.session c.in-Some.at c.status_list.result.now c.status_list.ensures c.args.reply.now.items
     c.loop-place.reply.items here.listed c.next-place.result c.next-place.new.self c.say_bound.new.reply.items c.in_ok-say_bound.ensures
     c.next-place.ensures.answers in

@@ -193,11 +193,13 @@ returns-in-Conform-clause-exact g c =
     let same : c.len.result ≡ length c.args.request.now.options.properties.items = omega (arith, c.len.ensures) in
     conform_answers (asked_by c.args.request.now) files c.split_at.result.0.now c.split_at.result.1.now c.file-source-in-Conform.result.now c.conform.result
     (c.split_at.ensures.front ∙ ap (λ n. take n files) same) (c.split_at.ensures.back ∙ ap (λ n. drop n files) same)
-    c.file-source-in-Conform.ensures c.word-tests_name.result.now c.file-tests.result.now c.word-tests_name.ensures c.file-tests.ensures c.in-Conform.is c.conform.ensures
+    c.file-source-in-Conform.ensures c.word-tests_name.result.now c.file-tests.result.now c.word-tests_name.ensures c.file-tests.ensures
+    c.in-Conform.is c.conform.ensures
 
 pub word-requires : goal.word-requires
 word-requires g c =
-    let count : length c.args.request.now.operands.now ≡ 1 = c.requires.count ∙ ap (λ k. length (operands_of k c.args.request.now.options.by_table)) c.in-Demo.is in
+    let count : length c.args.request.now.operands.now ≡ 1 =
+    c.requires.count ∙ ap (λ k. length (operands_of k c.args.request.now.options.by_table)) c.in-Demo.is in
     omega arith
 
 pub returns-in-Demo-clause-exact : goal.returns-in-Demo-clause-exact
@@ -233,7 +235,7 @@ pub returns-in-Run-clause-steps : goal.returns-in-Run-clause-steps
 returns-in-Run-clause-steps g c =
     let files = c.args.files.now in
     let same : c.len.result ≡ length c.args.request.now.options.properties.items = omega (arith, c.len.ensures) in
-    run_reads (asked_by c.args.request.now) files c.split_at.result.0.now c.split_at.result.1.now c.file-source-in-Run.result.now c.args.steps.now c.run.new.steps
-    (c.split_at.ensures.front ∙ ap (λ n. take n files) same) (c.split_at.ensures.back ∙ ap (λ n. drop n files) same)
+    run_reads (asked_by c.args.request.now) files c.split_at.result.0.now c.split_at.result.1.now c.file-source-in-Run.result.now
+    c.args.steps.now c.run.new.steps (c.split_at.ensures.front ∙ ap (λ n. take n files) same) (c.split_at.ensures.back ∙ ap (λ n. drop n files) same)
     c.file-source-in-Run.ensures c.word-played_name.result.now c.file-played.result.now c.word-script_name.result.now
     c.file-script.result.now c.word-played_name.ensures c.file-played.ensures c.word-script_name.ensures c.file-script.ensures c.in-Run.is c.run.ensures.steps

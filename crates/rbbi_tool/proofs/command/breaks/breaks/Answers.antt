@@ -24,7 +24,11 @@ returns-clause-exact g c =
       (
         x,
         c.in_ok-text.ensures.exact,
-        (table_boundaries table x, boundaries_given basis.0 table x basis.2 c.in_ok-text.ensures.text, c.printed.ensures ∙ ap printed c.in_ok-bytes.ensures.lines),
+        (
+          table_boundaries table x,
+          boundaries_given basis.0 table x basis.2 c.in_ok-text.ensures.text,
+          c.printed.ensures ∙ ap printed c.in_ok-bytes.ensures.lines,
+        ),
       ),
     )
 
