@@ -41,7 +41,7 @@ fn are_ranges(ranges: &[CatRange], want: Starts) -> bool {
 
 #[test]
 fn classes(rt: HostRuntime) -> Result<(), Fail> {
-    let rows: [(&str, u16, Starts); 7] = [
+    let rows: [(&str, u16, Starts); 11] = [
         ("a|b|a;", 3, &[(0, 0), (0x61, 1), (0x62, 2), (0x63, 0)]),
         (
             "[a-c]; [b-d];",
@@ -72,6 +72,22 @@ fn classes(rt: HostRuntime) -> Result<(), Fail> {
             "[\\uD7FF-\\uE000];",
             2,
             &[(0, 0), (0xD7FF, 1), (0xD800, 0), (0xE000, 1), (0xE001, 0)],
+        ),
+        (
+            "[\\u0000-\\U0010FFFF] | [^];",
+            2,
+            &[(0, 1), (0xD800, 0), (0xE000, 1)],
+        ),
+        (
+            "[\\uD7FF\\uE000]; \\uD7FF;",
+            3,
+            &[(0, 0), (0xD7FF, 1), (0xD800, 0), (0xE000, 2), (0xE001, 0)],
+        ),
+        ("[\\p{Cs} \\uE000];", 2, &[(0, 0), (0xE000, 1), (0xE001, 0)]),
+        (
+            "[^\\uD7FF \\uE000];",
+            2,
+            &[(0, 1), (0xD7FF, 0), (0xE001, 1)],
         ),
     ];
     for (text, count, starts) in rows {

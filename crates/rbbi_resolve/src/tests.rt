@@ -72,10 +72,42 @@ fn faults(rt: HostRuntime) -> Result<(), Fail> {
         ("$x = [[a]&[b]];", "5 EmptySet"),
         ("[\\p{Kind=Half}];", "0 EmptySet"),
         ("[$x];", "1 Undefined"),
+        ("[z-a] [];", "1 BadRange"),
         ("!!quoted_literals_only; [z-a] b;", "25 BadRange"),
         ("a* / b?;", "3 EmptyFront"),
+        ("[z-a]? / b;", "1 BadRange"),
         ("a / b*;", "2 EmptyRest"),
         ("$x / a?;", "0 Undefined"),
+        // names that are used before they are assigned
+        ("$late; $late = a;", "0 Undefined"),
+        ("$a = $a;", "5 Undefined"),
+        ("$a = $b; $b = c; $a;", "5 Undefined"),
+        ("[$late]; $late = [a];", "1 Undefined"),
+        ("[[a] - $late]; $late = [b];", "7 Undefined"),
+        // sections that aren't active
+        ("!!reverse; !!foo; !!forward; c;", "11 UnknownControl"),
+        (
+            "!!safe_forward; !!unquoted_literals; !!forward; c;",
+            "16 UnsupportedControl",
+        ),
+        (
+            "!!safe_reverse; $dictionary = [a]; !!forward; c;",
+            "16 Dictionary",
+        ),
+        ("!!reverse; $a = b; $a = c; !!forward; c;", "19 Redefined"),
+        ("!!reverse; $x; !!forward; c;", "11 Undefined"),
+        ("!!reverse; $a = b; [$a]; !!forward; c;", "20 NotASet"),
+        (
+            "!!reverse; \\p{NoSuchName}; !!forward; c;",
+            "11 UnknownProperty",
+        ),
+        ("!!reverse; [z-a]; !!forward; c;", "12 BadRange"),
+        ("!!reverse; []; !!forward; c;", "11 EmptySet"),
+        (
+            "!!quoted_literals_only; !!reverse; b; !!forward; 'c';",
+            "35 BareLiteral",
+        ),
+        ("!!reverse; b? / c; !!forward; c;", "14 EmptyFront"),
         ("!!reverse; a / b?; !!forward; c;", "13 EmptyRest"),
     ] {
         assert!(rt; text.len() < 1000);
@@ -88,7 +120,7 @@ fn faults(rt: HostRuntime) -> Result<(), Fail> {
 /// The rules of words.
 const WORDS: &str = "!!chain;\n!!quoted_literals_only;\n$ALetter = [A-Za-z];\n$Numeric = [0-9];\n\
 $Mid     = ['];\n$MidNum  = [.,];\n$ALetter {200};\n$Numeric {100};\n$ALetter $ALetter {200};\n\
-$ALetter $Mid $ALetter {200};\n$Numeric $Numeric {100};\n$Numeric $MidNum $Numeric {100};\n.;\n";
+$ALetter $Mid $ALetter {200};\n$Numeric $Numeric {100};\n$Numeric $MidNum $Numeric {100};\n.;";
 
 #[test]
 fn rules(rt: HostRuntime) -> Result<(), Fail> {
@@ -111,6 +143,7 @@ fn rules(rt: HostRuntime) -> Result<(), Fail> {
         ("$v = [ab] x; $v $v | $v+;", false, "1 0 6 2"),
         ("$unused = [a]; b / c;", false, "1 1 2 2"),
         ("!!reverse; b; !!forward; a;", false, "1 0 1 1"),
+        ("!!reverse; $v = [ab]; !!forward; $v;", false, "1 0 1 1"),
     ] {
         assert!(rt; text.len() < 1000);
         let found = outcome(rt.alloc(), text, ignore)?;
@@ -167,6 +200,54 @@ fn limits(rt: HostRuntime) -> Result<(), Fail> {
         (chain(alloc, "x", true, "", 14)?, "232 TooManyLeaves"),
         (chain(alloc, "x", true, "", 60)?, "1060 TooManyLeaves"),
     ] {
+        assert!(rt; text.as_str().len() < 100000);
+        let found = outcome(alloc, text.as_str(), false)?;
+        assert_eq!(rt; found.as_str(), want);
+    }
+    Ok(())
+}
+
+/// Limits that are passed together, or in a section that isn't active: the fault is that of the
+/// least number, wherever it stands, and any other fault comes before all of them.
+#[test]
+fn limits_together(rt: HostRuntime) -> Result<(), Fail> {
+    let alloc = rt.alloc();
+    for (before, text, behind, want) in [
+        ("", times(alloc, "a;", 4097)?, "!!x;", "8194 UnknownControl"),
+        ("", times(alloc, "abc;", 4097)?, "", "16384 TooManyRules"),
+        ("", times(alloc, "ab;", 4097)?, "", "12288 TooManyRules"),
+        (
+            times(alloc, "a/b;", 33)?.as_str(),
+            chain(alloc, "x", true, "", 14)?,
+            "",
+            "364 TooManyLeaves",
+        ),
+        (
+            "",
+            chain(alloc, "x+", false, "+", 128)?,
+            times(alloc, "a/b;", 33)?.as_str(),
+            "1974 TooManySlashes",
+        ),
+        (
+            "",
+            chain(alloc, "x+", true, "+", 128)?,
+            "",
+            "2498 TooManyLeaves",
+        ),
+        (
+            "!!reverse;",
+            times(alloc, "a;", 4097)?,
+            "!!forward;a;",
+            "1 0 1 1",
+        ),
+        (
+            "!!reverse;",
+            chain(alloc, "x+", false, "+", 128)?,
+            "!!forward;a;",
+            "1 0 1 1",
+        ),
+    ] {
+        let text = format!(in alloc; "{before}{}{behind}", text.as_str())?;
         assert!(rt; text.as_str().len() < 100000);
         let found = outcome(alloc, text.as_str(), false)?;
         assert_eq!(rt; found.as_str(), want);

@@ -66,8 +66,8 @@ fn texts_of_bytes(rt: HostRuntime) -> Result<(), Fail> {
 }
 
 /// What an edit answers.
-fn edited(plain: &mut PlainText, at: u32, remove: u32, insert: &str) -> &'static str {
-    match plain.replace(at, remove, insert) {
+fn edited<T: EditText>(text: &mut T, at: u32, remove: u32, insert: &str) -> &'static str {
+    match text.replace(at, remove, insert) {
         Ok(()) => "Ok",
         Err(EditErr::Outside) => "Outside",
         Err(EditErr::TooLong) => "TooLong",
@@ -226,5 +226,77 @@ fn edits_by_pieces(rt: HostRuntime) -> Result<(), Fail> {
             "at {at}"
         );
     }
+    Ok(())
+}
+
+/// Whether each 4,097th character of a text is this one.
+fn is_all<T: Chars, L: Ledger>(rt: &HostRuntime, text: &T, letter: char, blank: Blank) -> bool
+    requires name { blank.name ≡ L.name }
+    requires parts { blank.parts ≡ L.parts }
+    requires some { 0 < blank.parts }
+{
+    let mut steps = Steps::<L>::new(rt, blank);
+    for row in 0..4096 {
+        let i = row * 4097;
+        if i < text.len() && text.char_at(i, &mut steps) != letter {
+            return false;
+        }
+    }
+    true
+}
+
+/// As many letters `a` as a text may have, and so many more.
+fn letters(alloc: Global, more: usize) -> Result<String, AllocError> {
+    let row = "a".repeat(alloc, 4096)?;
+    let mut letters = row.repeat(alloc, 4096)?;
+    let rest = "a".repeat(alloc, more)?;
+    letters.push_str(&rest)?;
+    Ok(letters)
+}
+
+/// A text that is as long as a text may be stays where one character more is put in, and takes one
+/// in place of another.
+#[test]
+fn longest_plain_text(rt: HostRuntime) -> Result<(), Fail> {
+    let letters = letters(rt.alloc(), 0)?;
+    let mut text = PlainText::new(rt.alloc(), &letters)?;
+    assert_eq!(rt; edited(&mut text, 16_777_216, 0, "a"), "TooLong");
+    assert_eq!(rt; text.len(), 16_777_216);
+    assert!(rt; is_all::<PlainText, Brand>(&rt, &text, 'a', Blank::new(1)));
+    assert_eq!(rt; edited(&mut text, 0, 1, "b"), "Ok");
+    assert_eq!(rt; text.len(), 16_777_216);
+    Ok(())
+}
+
+#[test]
+fn longest_text_by_pieces(rt: HostRuntime) -> Result<(), Fail> {
+    let letters = letters(rt.alloc(), 0)?;
+    let mut text = Pieces::new(rt.alloc(), &letters)?;
+    assert_eq!(rt; edited(&mut text, 16_777_216, 0, "a"), "TooLong");
+    assert_eq!(rt; text.len(), 16_777_216);
+    assert!(rt; is_all::<Pieces, Brand>(&rt, &text, 'a', Blank::new(1)));
+    assert_eq!(rt; edited(&mut text, 0, 1, "b"), "Ok");
+    assert_eq!(rt; text.len(), 16_777_216);
+    Ok(())
+}
+
+/// One character more is no text.
+#[test]
+fn too_many_characters(rt: HostRuntime) -> Result<(), Fail> {
+    let alloc = rt.alloc();
+    let letters = letters(alloc, 1)?;
+    assert!(rt; matches!(PlainText::new(alloc, &letters), Err(TextErr::TooManyChars)));
+    assert!(rt; matches!(Pieces::new(alloc, &letters), Err(TextErr::TooManyChars)));
+    Ok(())
+}
+
+#[test]
+fn bytes_of_too_many_characters(rt: HostRuntime) -> Result<(), Fail> {
+    let alloc = rt.alloc();
+    let letters = letters(alloc, 1)?;
+    assert!(rt; letters.len() == 16_777_217);
+    let raw = raw_of(alloc, letters.as_bytes())?;
+    assert!(rt; matches!(PlainText::from_raw(alloc, &raw), Err(RawErr::TooManyChars)));
+    assert!(rt; matches!(Pieces::from_raw(alloc, &raw), Err(RawErr::TooManyChars)));
     Ok(())
 }

@@ -5,7 +5,7 @@ use crate::counted::Counted;
 use crate::tables::table_of;
 use rbbi_session::Session;
 use rbbi_table::Table;
-use rbbi_text::{Chars, EditErr, Pieces, PlainText, Steps};
+use rbbi_text::{Chars, EditErr, EditText, Pieces, PlainText, Steps};
 use std::alloc::{AllocError, Global};
 use std::marker::Brand;
 use std::sync::ledger::{Blank, Ledger};
@@ -136,14 +136,27 @@ fn runs_to_the_end(rt: HostRuntime) -> Result<(), Fail> {
     Ok(())
 }
 
+/// How many of each 4,097th character of a text are the letter `a`.
+fn letters_of<T: Chars, L: Ledger>(text: &T, steps: &mut Steps<L>) -> u32 {
+    let mut count = 0;
+    for row in 0..4096 {
+        let i = row * 4097;
+        if i < text.len() && text.char_at(i, steps) == 'a' {
+            count += 1;
+        }
+    }
+    count
+}
+
 /// Edits of a text that is as long as a text may be: whether an insertion at its end is refused as
-/// too long, the length then, and whether a letter in place of one is taken.
-fn edited_full<L: Ledger>(
+/// too long, the length and the letters `a` among 4,096 then, and whether a letter in place of one
+/// is taken.
+fn edited_full<T: EditText + Drop, L: Ledger>(
     rt: &HostRuntime,
     table: &Table,
-    text: Pieces,
+    text: T,
     blank: Blank,
-) -> Result<(bool, u32, bool), Fail>
+) -> Result<(bool, u32, u32, bool), Fail>
     requires name { blank.name ≡ L.name }
     requires parts { blank.parts ≡ L.parts }
     requires some { 0 < blank.parts }
@@ -155,18 +168,45 @@ fn edited_full<L: Ledger>(
         _ => false,
     };
     let len = session.text().len();
+    let letters = letters_of(session.text(), &mut steps);
     let taken = session.replace(0, 1, "b", &mut steps).is_ok();
-    Ok((refused, len, taken))
+    Ok((refused, len, letters, taken))
+}
+
+/// As many letters `a` as a text may have.
+fn longest(alloc: Global) -> Result<String, AllocError> {
+    let row = repeated(alloc, "a", 4096)?;
+    repeated(alloc, row.as_str(), 4096)
 }
 
 #[test]
 fn longest_text(rt: HostRuntime) -> Result<(), Fail> {
     let alloc = rt.alloc();
     let table = table_of(&rt, alloc, "a;")?;
-    let row = repeated(alloc, "a", 4096)?;
-    let letters = repeated(alloc, row.as_str(), 4096)?;
+    let letters = longest(alloc)?;
     let text = Pieces::new(alloc, letters.as_str())?;
-    let edited = edited_full::<Brand>(&rt, &table, text, Blank::new(1))?;
-    assert_eq!(rt; edited, (true, 16_777_216, true));
+    let edited = edited_full::<Pieces, Brand>(&rt, &table, text, Blank::new(1))?;
+    assert_eq!(rt; edited, (true, 16_777_216, 4096, true));
+    Ok(())
+}
+
+#[test]
+fn longest_plain_text(rt: HostRuntime) -> Result<(), Fail> {
+    let alloc = rt.alloc();
+    let table = table_of(&rt, alloc, "a;")?;
+    let letters = longest(alloc)?;
+    let text = PlainText::new(alloc, letters.as_str())?;
+    let edited = edited_full::<PlainText, Brand>(&rt, &table, text, Blank::new(1))?;
+    assert_eq!(rt; edited, (true, 16_777_216, 4096, true));
+    Ok(())
+}
+
+/// The last code point, by the table of a rule that names it.
+#[test]
+fn last_code_point(rt: HostRuntime) -> Result<(), Fail> {
+    let table = table_of(&rt, rt.alloc(), "\\U0010FFFF;")?;
+    for (c, category) in [('\u{10FFFF}', 1), ('\u{10FFFE}', 0), ('\0', 0)] {
+        assert_eq!(rt; table.category(c), category, "of {c:?}");
+    }
     Ok(())
 }

@@ -13,8 +13,7 @@ $Control = [\\p{GCB = Control}];
 $Extend  = [\\p{GCB = Extend}];
 $CR $LF;
 [^$Control $CR $LF] $Extend;
-.;
-";
+.;";
 
 /// An extract of the property file of these classes.
 pub(super) const CLASSES: &[u8] = b"# an extract
@@ -24,8 +23,7 @@ pub(super) const CLASSES: &[u8] = b"# an extract
 000B..000C    ; Control
 000E..001F    ; Control
 007F..009F    ; Control
-0300..036F    ; Extend  # combining diacritical marks
-";
+0300..036F    ; Extend  # combining diacritical marks";
 
 /// Rules, texts, and the boundaries.
 const BOUNDARIES: &[(&[u8], &[u8], &str)] = &[

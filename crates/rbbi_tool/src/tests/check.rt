@@ -1,5 +1,6 @@
 //! The command `check`.
 use super::first_wrong;
+use std::alloc::{AllocError, Global};
 use std::test::Fail;
 
 /// The rules of words: letters with one apostrophe between, digits with one point or comma between.
@@ -15,8 +16,7 @@ $ALetter $ALetter {200};
 $ALetter $Mid $ALetter {200};
 $Numeric $Numeric {100};
 $Numeric $MidNum $Numeric {100};
-.;
-";
+.;";
 
 /// Rule files, and their counts.
 const COUNTS: &[(&[u8], &str)] = &[
@@ -73,7 +73,7 @@ const FAULTS: &[(&[u8], &str)] = &[
     (b"$dictionary = [a]; .;", "1:1: Dictionary"),
     (b"!!quoted_literals_only; ab;", "1:25: BareLiteral"),
     (
-        b"(((((((((((((((((((((((((((((((((((((((((((((((((((((((((((((((((a;",
+        b"(((((((((((((((((((((((((((((((((((((((((((((((((((((((((((((((((a)))))))))))))))))))))))))))))))))))))))))))))))))))))))))))))))));",
         "1:65: TooDeep",
     ),
     (b"\\p{NoSuchName};", "1:1: UnknownProperty"),
@@ -132,5 +132,47 @@ fn faults(rt: HostRuntime) -> Result<(), Fail> {
         )?,
         None
     );
+    Ok(())
+}
+
+/// Variables from 0 on, a line each, of which each is the one before once or more, and the rule of
+/// the last.
+fn chain(alloc: Global, last: u32) -> Result<String, AllocError> {
+    let mut text = String::from_str(alloc, "$v0 = x+;\n")?;
+    for next in 1..=last {
+        let number = next - 1;
+        let line = format!(in alloc; "$v{next} = $v{number}+;\n")?;
+        text.push_str(line.as_str())?;
+    }
+    let rule = format!(in alloc; "$v{last};")?;
+    text.push_str(rule.as_str())?;
+    Ok(text)
+}
+
+/// Rule files at a limit, and past it.
+#[test]
+fn limits(rt: HostRuntime) -> Result<(), Fail> {
+    let alloc = rt.alloc();
+    for (rules, status, output) in [
+        (
+            "a;".repeat(alloc, 4096)?,
+            0,
+            "rules 4096 slashes 0 leaves 4096\n",
+        ),
+        ("a;".repeat(alloc, 4097)?, 3, "rules:1:8193: TooManyRules\n"),
+        (
+            "a/b;".repeat(alloc, 33)?,
+            3,
+            "rules:1:129: TooManySlashes\n",
+        ),
+        (chain(alloc, 127)?, 0, "rules 1 slashes 0 leaves 1\n"),
+        (chain(alloc, 128)?, 3, "rules:130:1: TooTall\n"),
+    ] {
+        let files = [("r.txt", rules.as_bytes())];
+        assert_eq!(rt;
+            first_wrong(&rt, &[("check r.txt", &files, status, output)])?,
+            None
+        );
+    }
     Ok(())
 }

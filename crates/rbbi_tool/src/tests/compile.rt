@@ -57,6 +57,22 @@ fn tables(rt: HostRuntime) -> Result<(), Fail> {
     Ok(())
 }
 
+/// A rule of 8,192 leaves, by names that are doubled.
+#[test]
+fn longest_rule(rt: HostRuntime) -> Result<(), Fail> {
+    let rules = b"$a = x; $b = $a $a; $c = $b $b; $d = $c $c; $e = $d $d; $f = $e $e; $g = $f $f;
+$h = $g $g; $i = $h $h; $j = $i $i; $k = $j $j; $l = $k $k; $m = $l $l; $n = $m $m; $n;";
+    let files = [("r.txt", rules.as_slice())];
+    assert_eq!(rt;
+        first_wrong(
+            &rt,
+            &[("compile r.txt b.tbl", &files, 3, "rules: TooManyRows\n")],
+        )?,
+        None
+    );
+    Ok(())
+}
+
 /// A literal of 254 different characters has 255 categories, and one more has too many.
 #[test]
 fn categories(rt: HostRuntime) -> Result<(), Fail> {
@@ -101,6 +117,8 @@ fn files(rt: HostRuntime) -> Result<(), Fail> {
     let (status, out) = run_words(&rt, "compile r.txt b.tbl", &mut files)?;
     assert_eq!(rt; status, 7);
     assert_eq!(rt; out.taken(), b"".as_slice());
+    assert_eq!(rt; files.calls(), 2);
+    assert_eq!(rt; out.calls(), 0);
     assert!(rt; holds(&files, "r.txt", b"a;"));
     assert!(rt; holds(&files, "x.txt", b"x"));
     Ok(())

@@ -37,6 +37,9 @@ const FORMS: &[&str] = &[
     "demo --table 5",
     "demo --ignore-dictionary 5",
     "demo --prop A=t.txt 5",
+    "check --prop A=t --prop A=t --prop A=t --prop A=t --prop A=t --prop A=t --prop A=t --prop A=t \
+     --prop A=t --prop A=t --prop A=t --prop A=t --prop A=t --prop A=t --prop A=t --prop A=t \
+     --prop A=t r.txt",
 ];
 
 #[test]
@@ -102,5 +105,76 @@ fn options(rt: HostRuntime) -> Result<(), Fail> {
             ),
         ],
     )?, None);
+    Ok(())
+}
+
+/// Property files, rule files, and the status and the output of `check`.
+const PROPERTY_FILES: &[(&[u8], &[u8], u8, &str)] = &[
+    (b"0061 ; x\n\xFF", b"a;", 5, "g.txt: NotUtf8 9\n"),
+    (b"0061 ; x\n\xFF", b"(", 5, "g.txt: NotUtf8 9\n"),
+    (b"0061 ; x\n\xFF", b"\xFF", 5, "g.txt: NotUtf8 9\n"),
+    (b"0061;x\n61;x\n", b"a;", 5, "g.txt:2: BadRow\n"),
+    (b"0061;x\n61;x\n", b"(", 5, "g.txt:2: BadRow\n"),
+    (b"0061;x\n61;x\n", b"\xFF", 5, "g.txt:2: BadRow\n"),
+    // UTF-8 comes before rows
+    (b"61;x\n\xFF", b"a;", 5, "g.txt: NotUtf8 5\n"),
+    (b"0061;x\n", b"(", 3, "rules:1:2: Syntax\n"),
+    (b"0061;x\n", b"\\p{A=x};", 0, "rules 1 slashes 0 leaves 1\n"),
+    (b"", b"\\p{A=x};", 3, "rules:1:1: UnknownProperty\n"),
+];
+
+#[test]
+fn property_files(rt: HostRuntime) -> Result<(), Fail> {
+    for row in PROPERTY_FILES {
+        let (rows, rules, status, output) = *row;
+        let files = [("g.txt", rows), ("r.txt", rules)];
+        assert_eq!(rt;
+            first_wrong(
+                &rt,
+                &[("check --prop A=g.txt r.txt", &files, status, output)]
+            )?,
+            None
+        );
+    }
+    Ok(())
+}
+
+/// How many bytes of a property file there are, at most one more than it may have, the rule file,
+/// the status and the output.
+const LONG_FILES: &[(usize, &[u8], u8, &str)] = &[
+    (8_388_608, b"a;", 0, "rules 1 slashes 0 leaves 1\n"),
+    (8_388_608, b"(", 3, "rules:1:2: Syntax\n"),
+    (8_388_609, b"a;", 5, "g.txt: TooLong\n"),
+    (8_388_609, b"(", 5, "g.txt: TooLong\n"),
+];
+
+/// Long property files, and a bad one with a rule file that is too long.
+#[test]
+fn long_property_files(rt: HostRuntime) -> Result<(), Fail> {
+    let line = "#".repeat(rt.alloc(), 4096)?;
+    let longest = line.repeat(rt.alloc(), 2049)?;
+    for row in LONG_FILES {
+        let (len, rules, status, output) = *row;
+        assert!(rt; len <= longest.len());
+        let files = [("g.txt", &longest.as_bytes()[..len]), ("r.txt", rules)];
+        assert_eq!(rt;
+            first_wrong(
+                &rt,
+                &[("check --prop A=g.txt r.txt", &files, status, output)]
+            )?,
+            None
+        );
+    }
+    let files = [
+        ("g.txt", b"61;x\n\xFF".as_slice()),
+        ("r.txt", longest.as_bytes()),
+    ];
+    assert_eq!(rt;
+        first_wrong(
+            &rt,
+            &[("check --prop A=g.txt r.txt", &files, 3, "rules: TooLong\n")],
+        )?,
+        None
+    );
     Ok(())
 }

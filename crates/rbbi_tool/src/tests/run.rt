@@ -1,8 +1,23 @@
 //! The command `run`.
 use super::check::WORDS;
 use super::compile::TABLE;
-use super::first_wrong;
+use super::{files_of, first_wrong, run_words};
 use std::test::Fail;
+
+/// A script of many kinds of commands.
+pub(super) const SCRIPT: &[u8] = b"following 2
+status
+preceding 10
+is 7
+current
+replace 3 1 -
+previous
+next
+status
+next
+statuses
+text
+delete 11 1";
 
 /// Rules, texts, scripts, and the replies.
 const REPLIES: &[(&[u8], &[u8], &[u8], &str)] = &[
@@ -25,10 +40,15 @@ const REPLIES: &[(&[u8], &[u8], &[u8], &str)] = &[
         "1\n2\nok 5\n0\n",
     ),
     (
+        b"a; a+b;",
+        b"aaaa",
+        b"following 0\nfollowing 1\ninsert 4 b\nfollowing 0",
+        "1\n2\nok 5\n5\n",
+    ),
+    (
         WORDS,
         b"can't 32.3.",
-        b"following 2\nstatus\npreceding 10\nis 7\ncurrent\nreplace 3 1 -\nprevious\nnext
-status\nnext\nstatuses\ntext\ndelete 11 1",
+        SCRIPT,
         "5\n200\n6\nno\n10\nok 11\ndone\n3\n200\n4\n0\ncan-t 32.3.\noutside\n",
     ),
 ];
@@ -90,6 +110,33 @@ fn by_table(rt: HostRuntime) -> Result<(), Fail> {
             )?,
             None
         );
+    }
+    Ok(())
+}
+
+/// A text that is as long as a text may be, and one of one character more.
+#[test]
+fn longest_text(rt: HostRuntime) -> Result<(), Fail> {
+    let alloc = rt.alloc();
+    let row = "a".repeat(alloc, 4096)?;
+    let mut text = row.repeat(alloc, 4096)?;
+    let script = b"insert 16777216 a\nreplace 0 1 b\nis 1\npreceding 16777216";
+    for (status, output) in [
+        (0, "toolong\nok 16777216\nyes\n16777215\n"),
+        (5, "t.txt: TooManyChars\n"),
+    ] {
+        let mut files = files_of(
+            &rt,
+            &[
+                ("b.tbl", &TABLE),
+                ("t.txt", text.as_bytes()),
+                ("s.txt", script),
+            ],
+        )?;
+        let (answered, out) = run_words(&rt, "run --table b.tbl t.txt s.txt", &mut files)?;
+        assert_eq!(rt; answered, status);
+        assert_eq!(rt; out.taken(), output.as_bytes());
+        text.push('a')?;
     }
     Ok(())
 }
