@@ -3,7 +3,7 @@ ghost use Rattle.std.specs.Prelude.{◌≡◌, length};
 ghost use Rattle.rbbi_model.specs.Answers.{Breaks, Characters};
 ghost use Rattle.rbbi_model.specs.Scripts.{Ask};
 ghost use Rattle.rbbi_model.specs.Lines.{escaped, reply_lines, boundary_lines};
-ghost use Rattle.rbbi_session.specs.Sessions.{boundaries_of};
+ghost use Rattle.rbbi_session.specs.Sessions.{boundaries_of, HasTrueRuns};
 ghost use Rattle.rbbi_script.specs.Saying.{Appends};
 ghost use Rattle.rbbi_script.specs.Performing.{Performs};
 ghost use Rattle.rbbi_script.specs.Reading.{RisesUpTo, IsPaid, listing_cost};
@@ -23,6 +23,7 @@ pub(crate) fn say_boundaries<T: EditText, L: Ledger>(
     ensures replies { Performs session.old (Ask Breaks) reply.old.items
         result session.new reply.new.items }
     ensures cost { IsPaid session.old (Ask Breaks) steps.old steps.new }
+    ensures are_true { HasTrueRuns session.new }
 {
     let cursor = session.current();
     let said = say_each(session, reply, steps);
