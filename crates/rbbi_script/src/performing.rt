@@ -26,8 +26,9 @@ use std::sync::ledger::Ledger;
 /// or, where an edit was refused for memory, as before it.
 ///
 /// Refused or not, the command reads at most its cost, and nothing where a kept run shows the
-/// answer or an edit is refused. The session's runs are left as the call that it makes leaves them.
-/// Refused or not, they are true of its text.
+/// answer or an edit is refused. The session's runs are left as the call that it makes leaves them;
+/// `breaks` makes many, one after another: from each boundary it goes on to the next, and at last
+/// it asks for the cursor's. Refused or not, the runs are true of the session's text.
 pub fn perform<T: EditText, L: Ledger>(
     session: &mut Session<'_, T>,
     command: &Command,
