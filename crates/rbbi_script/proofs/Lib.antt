@@ -6,6 +6,7 @@ pub mod Lines
 pub mod Says
 pub mod Performed
 pub mod Listed
+pub mod ListingRuns
 pub mod ListingCosts
 pub mod Recalled
 pub mod Played

@@ -74,18 +74,26 @@ falls : (len at : ℕ) (rest : List Boundary) → at ≤ len → AllByRecursion 
 falls len at [] within later = omega arith
 falls len at (b ∷ rest) within later = let past : at < b.at = later.0 in omega arith
 
+-- the session stands at the first boundary, and none was listed yet
+pub record IsBegun (old now : Session) (place : ℕ) (before : List ℕ) : Type 0 where
+  pub listed : AreListed old now (Some place) before before
+  pub none : listed.front ≡ []
+
 -- the list begins at the text's start
-pub listed_start : (old now : Session) (r : ℕ) (before : List ℕ) → Answers old First (Place r) now → AreListed old now (Some r) before before
+pub listed_start : (old now : Session) (r : ℕ) (before : List ℕ) → Answers old First (Place r) now → IsBegun old now r before
 listed_start old now r before answers =
     let zero_is : r ≡ 0 = cc (answers.replied) in
     record {
-      front = [];
-      rest = boundaries_of old;
-      whole = refl;
-      appended = sym (append-nil before);
-      text_is = ap (λ s. s.text) answers.moved.state_is;
-      table_is = answers.moved.table_is;
-      stands = (sym zero_is, ap (λ s. s.cursor) answers.moved.state_is ∙ sym zero_is);
+      listed = record {
+        front = [];
+        rest = boundaries_of old;
+        whole = refl;
+        appended = sym (append-nil before);
+        text_is = ap (λ s. s.text) answers.moved.state_is;
+        table_is = answers.moved.table_is;
+        stands = (sym zero_is, ap (λ s. s.cursor) answers.moved.state_is ∙ sym zero_is);
+      };
+      none = refl;
     }
 
 -- what a step of the list has: the boundary at the cursor and those behind it

@@ -1,6 +1,6 @@
--- What listing all boundaries reads.
-use Rattle.std.proofs.Common.{◌≡◌, ℕ, suc, zero, ◌+◌, ◌-◌, ◌≤◌, cond, ltb, eqb, List, [], ◌∷◌, ◌++◌, Option, Some, length, sym, refl, ap, ◌∙◌}
-use Rattle.std.proofs.Common.{⊎_elim, arith}
+-- What listing all boundaries reads, and what it asks of the kept runs.
+use Rattle.std.proofs.Common.{◌≡◌, ℕ, suc, zero, ◌+◌, ◌-◌, ◌≤◌, cond, ltb, eqb, List, [], ◌∷◌, ◌++◌, Option, Some, None, length, sym, refl, ap, ◌∙◌}
+use Rattle.std.proofs.Common.{subst, append-nil, ⊎_elim, arith}
 use Rattle.std.specs.Prelude.{sum_by, filter}
 use Rattle.std.proofs.lemmas.Bool.{cases_Bool, cond-true, cond-false, lt-ltb, ne_eqb}
 use Rattle.std.proofs.lemmas.List.Sums.{sum_by-append}
@@ -8,14 +8,15 @@ use Rattle.std.proofs.lemmas.List.Elements.{filter-append}
 use Rattle.rbbi_model.specs.Boundaries.{Boundary}
 use Rattle.rbbi_model.specs.Tables.{Table}
 use Rattle.rbbi_model.specs.Cover.{IsPlaceOf}
-use Rattle.rbbi_model.specs.Answers.{Next, IsBoundary, Breaks}
+use Rattle.rbbi_model.specs.Answers.{First, Next, IsBoundary, Breaks, Place}
 use Rattle.rbbi_model.specs.Scripts.{Ask}
 use Rattle.rbbi_model.specs.Costs.{forward_cost, last_cost, is_boundary_cost, question_cost}
-use Rattle.rbbi_session.specs.Sessions.{Session, boundaries_of}
+use Rattle.rbbi_session.specs.Sessions.{Session, boundaries_of, Answers}
 use Rattle.rbbi_session.specs.Asking.{Asks}
 use Rattle.rbbi_session.proofs.Answering.{none_past, place_within}
-use Rattle.rbbi_script.specs.Reading.{RisesUpTo, IsPaid, listing_cost}
-use Rattle.rbbi_script.proofs.Listed.{AreListed, IsFurther}
+use Rattle.rbbi_script.specs.Reading.{RisesUpTo, IsPaid, AreAskedOf, sent_by_nexts, listing_cost}
+use Rattle.rbbi_script.proofs.Listed.{AreListed, IsFurther, listed_start}
+use Rattle.rbbi_script.proofs.ListingRuns.{asked_of, nexts_more}
 
 module _ (table : Table) (x : List ℕ) where
   listing_parts : (done rest : List Boundary) → listing_cost table x (done ++ rest) ≡ listing_cost table x done + listing_cost table x rest
@@ -48,14 +49,21 @@ module _ (table : Table) (x : List ℕ) where
       ∙ ap (forward_cost table x) (let one : p ≡ suc p - 1 = omega arith in one)
       ∙ sym (cond-false (eqb (suc p) 0) 0 (forward_cost table x (suc p - 1)) (ne_eqb (suc p) 0 (λ none. omega (arith, none))))
 
--- the lines of the first boundaries were appended, and so much was read for them
+-- The lines of the first boundaries were appended, and so much was read for them. The session has gone on from each of them.
 pub record AreRead (old now : Session) (place : Option ℕ) (before after : List ℕ) (start steps : ℕ) : Type 0 where
   pub listed : AreListed old now place before after
   pub paid : RisesUpTo (listing_cost old.table old.state.text listed.front) start steps
+  pub asked : AreAskedOf old.table old.state.text (sent_by_nexts old.state.text listed.front) old.runs now.runs start steps
 
-pub read_none : (old now : Session) (place : Option ℕ) (before after : List ℕ) (start : ℕ) → AreListed old now place before after →
-    AreRead old now place before after start start
-read_none old now place before after start are = record { listed = are; paid = record { more = omega arith; cost = omega arith } }
+pub read_start : (old now : Session) (r : ℕ) (before : List ℕ) (start : ℕ) → Answers old First (Place r) now → now.runs ≡ old.runs →
+    AreRead old now (Some r) before before start start
+read_start old now r before start answers runs =
+    let begun = listed_start old now r before answers in
+    record {
+      listed = begun.listed;
+      paid = record { more = omega arith; cost = omega arith };
+      asked = subst (λ bs. AreAskedOf old.table old.state.text (sent_by_nexts old.state.text bs) old.runs now.runs start start) (sym begun.none) (runs, refl);
+    }
 
 pub read_further : (old now new : Session) (at : ℕ) (place : Option ℕ) (before reply after : List ℕ) (start middle steps : ℕ)
     (are : AreRead old now (Some at) before reply start middle) → IsFurther old now new at place before after are.listed.front →
@@ -74,6 +82,9 @@ read_further old now new at place before reply after start middle steps are furt
         more = omega (arith, are.paid.more, asked.more);
         cost = omega (arith, are.paid.cost, asked.cost, cost_is, front_is, listing_one old.table old.state.text further.here);
       };
+      asked = nexts_more old.table old.state.text are.listed.front further.listed.front further.here old.runs now.runs new.runs start middle steps further.more
+          are.asked
+          (asked_of old.table old.state.text further.here.at now new Next middle steps are.listed.table_is are.listed.text_is further.cursor asked);
     }
 
 -- what was read for the first boundaries is at most what all cost
@@ -84,6 +95,13 @@ read_all old now place before after start steps are =
     old.state.text are.listed.rest =
     ap (listing_cost old.table old.state.text) are.listed.whole ∙ listing_parts old.table old.state.text are.listed.front are.listed.rest in
     record { more = are.paid.more; cost = omega (arith, are.paid.cost, whole) }
+
+-- the session has gone on from all boundaries
+pub nexts_all : (old now : Session) (before after : List ℕ) (start steps : ℕ) → AreRead old now None before after start steps →
+    AreAskedOf old.table old.state.text (sent_by_nexts old.state.text (boundaries_of old)) old.runs now.runs start steps
+nexts_all old now before after start steps are =
+    subst (λ bs. AreAskedOf old.table old.state.text (sent_by_nexts old.state.text bs) old.runs now.runs start steps)
+    (sym (append-nil are.listed.front) ∙ ap (λ rest. are.listed.front ++ rest) (sym are.listed.stands) ∙ sym are.listed.whole) are.asked
 
 -- all boundaries were listed, and then the cursor's was found again
 pub breaks_paid : (old now new : Session) (cursor start middle steps : ℕ) → now.state.text ≡ old.state.text → now.table ≡ old.table →

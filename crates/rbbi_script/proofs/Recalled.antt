@@ -86,17 +86,17 @@ module _ (old new : Session) (before after : ℕ) (text : new.state.text ≡ old
       (shown_now old.table old.state.text (sent_by old.state.text old.state.cursor earlier) old.runs new.runs asked.runs)
 
   -- after a question that may be repeated, its answer is shown
-  recalls_question : (earlier : Question) → AsksRuns old earlier new before after → Recalls new (Some (Ask earlier))
-  recalls_question (Following p) asked = recalls_asked (Following p) asked
-  recalls_question (Preceding p) asked = recalls_asked (Preceding p) asked
-  recalls_question (IsBoundary p) asked = recalls_asked (IsBoundary p) asked
-  recalls_question earlier asked = λ question same kept. absurd (false≢true same)
+  recalls_question : {T E : Type 0} (earlier : Question) (r : Result T E) → AsksRuns old earlier r new before after → Recalls new (Some (Ask earlier))
+  recalls_question (Following p) r asked = recalls_asked (Following p) asked
+  recalls_question (Preceding p) r asked = recalls_asked (Preceding p) asked
+  recalls_question (IsBoundary p) r asked = recalls_asked (IsBoundary p) asked
+  recalls_question earlier r asked = λ question same kept. absurd (false≢true same)
 
 -- the answer of the command that was performed is shown, where it may be repeated
 pub recalls_performed : {T E : Type 0} (old new : Session) (command : Command) (r : Result T E) (before after : ℕ) →
     new.state ≡ (turn_of old command).state → new.table ≡ old.table → TurnsRuns old command r new before after → Recalls new (Some command)
 recalls_performed old new (Ask question) r before after state table runs =
-    recalls_question old new before after (ap (λ s. s.text) state) table question runs
+    recalls_question old new before after (ap (λ s. s.text) state) table question r runs
 recalls_performed old new command r before after state table runs = λ question same kept. absurd (false≢true same)
 
 both_hold : (a b : Bool) → (a && not b) ≡ true → (a ≡ true) × (b ≡ false)
@@ -105,18 +105,18 @@ both_hold true false is = (refl, refl)
 both_hold false b is = absurd (false≢true is)
 
 module _ (now new : Session) (before after : ℕ) where
-  asks_again : (earlier question : Question) → is_same_question earlier question ≡ true → AsksRuns now question new before after →
-      Asks now question new before after
-  asks_again (Following a) (Following b) same asked = asked
-  asks_again (Preceding a) (Preceding b) same asked = asked
-  asks_again (IsBoundary a) (IsBoundary b) same asked = asked
-  asks_again earlier question same asked = absurd (false≢true same)
+  asks_again : {T E : Type 0} (earlier question : Question) (r : Result T E) → is_same_question earlier question ≡ true →
+      AsksRuns now question r new before after → Asks now question new before after
+  asks_again (Following a) (Following b) r same asked = asked
+  asks_again (Preceding a) (Preceding b) r same asked = asked
+  asks_again (IsBoundary a) (IsBoundary b) r same asked = asked
+  asks_again earlier question r same asked = absurd (false≢true same)
 
   -- a question that is repeated reads nothing
   reads_nothing : {T E : Type 0} (former : Option Command) (command : Command) (r : Result T E) → Recalls now former → repeats former command ≡ true →
       is_unkept command (turn_of now command).reply ≡ false → TurnsRuns now command r new before after → after ≡ before
   reads_nothing (Some (Ask earlier)) (Ask question) r recalls again kept runs =
-      (asks_again earlier question again runs).again (recalls question again kept)
+      (asks_again earlier question r again runs).again (recalls question again kept)
   reads_nothing former command r recalls again kept runs = absurd (false≢true again)
 
   -- a command reads at most what it is charged

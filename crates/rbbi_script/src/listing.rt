@@ -3,10 +3,11 @@ ghost use Rattle.std.specs.Prelude.{◌≡◌, length};
 ghost use Rattle.rbbi_model.specs.Answers.{Breaks, Characters};
 ghost use Rattle.rbbi_model.specs.Scripts.{Ask};
 ghost use Rattle.rbbi_model.specs.Lines.{escaped, reply_lines, boundary_lines};
-ghost use Rattle.rbbi_session.specs.Sessions.{boundaries_of};
+ghost use Rattle.rbbi_session.specs.Sessions.{boundaries_of, HasTrueRuns};
 ghost use Rattle.rbbi_script.specs.Saying.{Appends};
 ghost use Rattle.rbbi_script.specs.Performing.{Performs};
 ghost use Rattle.rbbi_script.specs.Reading.{RisesUpTo, IsPaid, listing_cost};
+ghost use Rattle.rbbi_script.specs.Reading.{AsksNexts, ListsRuns};
 
 use crate::saying::{put, say_bound};
 use rbbi_session::Session;
@@ -23,6 +24,8 @@ pub(crate) fn say_boundaries<T: EditText, L: Ledger>(
     ensures replies { Performs session.old (Ask Breaks) reply.old.items
         result session.new reply.new.items }
     ensures cost { IsPaid session.old (Ask Breaks) steps.old steps.new }
+    ensures runs { ListsRuns session.old result session.new steps.old steps.new }
+    ensures are_true { HasTrueRuns session.new }
 {
     let cursor = session.current();
     let said = say_each(session, reply, steps);
@@ -42,6 +45,7 @@ fn say_each<T: EditText, L: Ledger>(
     ensures table { session.new.table ≡ session.old.table }
     ensures cost { RisesUpTo (listing_cost session.old.table session.old.state.text
         (boundaries_of session.old)) steps.old steps.new }
+    ensures runs { AsksNexts session.old result session.new steps.old steps.new }
 {
     let mut place = Some(session.first());
     while let Some(at) = place {

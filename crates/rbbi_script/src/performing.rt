@@ -1,7 +1,7 @@
 //! Commands performed by a session.
 ghost use Rattle.std.specs.Prelude.{◌≡◌, map};
 ghost use Rattle.rbbi_model.specs.Scripts as model;
-ghost use Rattle.rbbi_session.specs.Sessions.{place_reply, test_reply};
+ghost use Rattle.rbbi_session.specs.Sessions.{place_reply, test_reply, HasTrueRuns};
 ghost use Rattle.rbbi_script.specs.Meaning.{meaning};
 ghost use Rattle.rbbi_script.specs.Saying.{reply_of};
 ghost use Rattle.rbbi_script.specs.Performing.{Performs, Plays};
@@ -26,7 +26,9 @@ use std::sync::ledger::Ledger;
 /// or, where an edit was refused for memory, as before it.
 ///
 /// Refused or not, the command reads at most its cost, and nothing where a kept run shows the
-/// answer or an edit is refused. The session's runs are left as the call that it makes leaves them.
+/// answer or an edit is refused. The session's runs are left as the call that it makes leaves them;
+/// `breaks` makes many, one after another: from each boundary it goes on to the next, and at last
+/// it asks for the cursor's. Refused or not, the runs are true of the session's text.
 pub fn perform<T: EditText, L: Ledger>(
     session: &mut Session<'_, T>,
     command: &Command,
@@ -38,7 +40,10 @@ pub fn perform<T: EditText, L: Ledger>(
     ensures cost { IsPaid session.old (meaning command.now) steps.old steps.new }
     ensures runs { TurnsRuns session.old (meaning command.now) result session.new
         steps.old steps.new }
+    ensures are_true { HasTrueRuns session.new }
 {
+    // Where a command leaves the session as it is, its runs are what they were.
+    session.runs_are_true();
     match command {
         Command::First => say(Said::Place(session.first()), reply),
         Command::Last => say(Said::Place(session.last(steps)), reply),
@@ -60,7 +65,8 @@ pub fn perform<T: EditText, L: Ledger>(
 /// front of the lines was appended.
 ///
 /// Refused or not, at most the sum of the commands' costs is read. A question that repeats the one
-/// directly before it costs nothing, unless it is a `preceding` answered 0.
+/// directly before it costs nothing, unless it is a `preceding` answered 0. The session's runs are
+/// true of its text.
 pub fn play<T: EditText, L: Ledger>(
     session: &mut Session<'_, T>,
     commands: &Commands,
@@ -71,10 +77,12 @@ pub fn play<T: EditText, L: Ledger>(
         result session.new replies.new.items }
     ensures cost { RisesUpTo (commands_cost session.old.table session.old.state
         (map meaning commands.now)) steps.old steps.new }
+    ensures are_true { HasTrueRuns session.new }
 {
     for i in 0..commands.len() {
         perform(session, commands.get(i), replies, steps)?;
     }
+    session.runs_are_true();
     Ok(())
 }
 
@@ -109,6 +117,7 @@ fn edit<T: EditText, L: Ledger>(
     ensures cost { IsPaid session.old (model.Replace at remove text.now) steps.old steps.new }
     ensures runs { TurnsRuns session.old (model.Replace at remove text.now) result session.new
         steps.old steps.new }
+    ensures are_true { HasTrueRuns session.new }
 {
     match session.replace(at, remove, text.as_str(), steps) {
         Ok(()) => say(Said::Edited(session.text().len()), reply),

@@ -6,6 +6,7 @@ use Rattle.rbbi_model.specs.Searches.{table_boundaries}
 use Rattle.rbbi_model.specs.Runs.{Run}
 use Rattle.rbbi_model.specs.Answers.{Question, Reply, Place, Done, Yes, No, Outside, TooLong, Answer, answer}
 use Rattle.rbbi_model.specs.Scripts.{State, Refused, Accepted, edit, opened}
+use Rattle.rbbi_cache.specs.Kept.{AreTrueRuns}
 use Rattle.rbbi_text.specs.declared.error.EditErr.{EditErr}
 use Rattle.rbbi_text.specs.declared.error.EditErr.TheVariants as refused
 
@@ -18,6 +19,10 @@ pub record Session : Type 0 where
 -- the boundaries of the session's text by its table
 abbrev pub boundaries_of : Session → List Boundary
 boundaries_of session = table_boundaries session.table session.state.text
+
+-- each of the kept runs is true of the session's text as it is now
+abbrev pub HasTrueRuns : Session → Type 0
+HasTrueRuns session = AreTrueRuns session.table session.state.text session.runs
 
 -- the answer to the question by the boundaries of the session's text
 abbrev pub answer_of : Session → Question → Answer

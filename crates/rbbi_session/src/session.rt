@@ -6,6 +6,7 @@ ghost use Rattle.rbbi_model.specs.Answers as question;
 ghost use Rattle.rbbi_model.specs.Costs.{question_cost, forward_cost, preceding_cost};
 ghost use Rattle.rbbi_session.specs.Sessions.{boundaries_of, answer_of, IsOpened, MovesTo};
 ghost use Rattle.rbbi_session.specs.Sessions.{Answers, place_reply, test_reply, Replaces};
+ghost use Rattle.rbbi_session.specs.Sessions.{HasTrueRuns};
 ghost use Rattle.rbbi_session.specs.Questions.{Past, Back};
 ghost use Rattle.rbbi_session.specs.Asking.{IsAsked, Asks, EditReads};
 
@@ -70,6 +71,7 @@ impl<'a, T: EditText> Session<'a, T> {
     pub fn first(&mut self) -> u32
         ensures answers { Answers self.old question.First (Place result) self.new }
         ensures runs { self.new.runs ≡ self.old.runs }
+        ensures are_true { HasTrueRuns self.new }
     {
         self.here = start(self.table);
         0
@@ -79,6 +81,7 @@ impl<'a, T: EditText> Session<'a, T> {
     pub fn last<L: Ledger>(&mut self, steps: &mut Steps<L>) -> u32
         ensures answers { Answers self.old question.Last (Place result) self.new }
         ensures reads { Asks self.old question.Last self.new steps.old steps.new }
+        ensures are_true { HasTrueRuns self.new }
     {
         let len = self.text.len();
         if len == 0 {
@@ -92,6 +95,7 @@ impl<'a, T: EditText> Session<'a, T> {
     pub fn next<L: Ledger>(&mut self, steps: &mut Steps<L>) -> Option<u32>
         ensures answers { Answers self.old question.Next (place_reply result) self.new }
         ensures reads { Asks self.old question.Next self.new steps.old steps.new }
+        ensures are_true { HasTrueRuns self.new }
     {
         if self.here.at >= self.text.len() {
             return None;
@@ -103,6 +107,7 @@ impl<'a, T: EditText> Session<'a, T> {
     pub fn previous<L: Ledger>(&mut self, steps: &mut Steps<L>) -> Option<u32>
         ensures answers { Answers self.old question.Previous (place_reply result) self.new }
         ensures reads { Asks self.old question.Previous self.new steps.old steps.new }
+        ensures are_true { HasTrueRuns self.new }
     {
         if self.here.at == 0 {
             return None;
@@ -115,6 +120,7 @@ impl<'a, T: EditText> Session<'a, T> {
     pub fn following<L: Ledger>(&mut self, o: u32, steps: &mut Steps<L>) -> Option<u32>
         ensures answers { Answers self.old (question.Following o) (place_reply result) self.new }
         ensures reads { Asks self.old (question.Following o) self.new steps.old steps.new }
+        ensures are_true { HasTrueRuns self.new }
     {
         if o >= self.text.len() {
             self.last(steps);
@@ -128,6 +134,7 @@ impl<'a, T: EditText> Session<'a, T> {
     pub fn preceding<L: Ledger>(&mut self, o: u32, steps: &mut Steps<L>) -> Option<u32>
         ensures answers { Answers self.old (question.Preceding o) (place_reply result) self.new }
         ensures reads { Asks self.old (question.Preceding o) self.new steps.old steps.new }
+        ensures are_true { HasTrueRuns self.new }
     {
         if o == 0 {
             self.first();
@@ -141,6 +148,7 @@ impl<'a, T: EditText> Session<'a, T> {
     pub fn is_boundary<L: Ledger>(&mut self, o: u32, steps: &mut Steps<L>) -> bool
         ensures answers { Answers self.old (question.IsBoundary o) (test_reply result) self.new }
         ensures reads { Asks self.old (question.IsBoundary o) self.new steps.old steps.new }
+        ensures are_true { HasTrueRuns self.new }
     {
         if o == 0 {
             self.first();
@@ -186,6 +194,14 @@ impl<'a, T: EditText> Session<'a, T> {
         &self.text
     }
 
+    /// That each kept run is true of the text as it is now. Callers' proofs don't see what a session
+    /// keeps to itself, and this call shows it to them at any moment; it does nothing when it runs.
+    pub fn runs_are_true(&self)
+        ensures { HasTrueRuns self.now }
+    {
+        let _text = &self.text;
+    }
+
     /// Puts the characters of `insert` in place of `remove` characters from `at` on, and the cursor
     /// at 0.
     ///
@@ -202,6 +218,7 @@ impl<'a, T: EditText> Session<'a, T> {
         ensures edited { Replaces self.old at remove (chars insert.now) result self.new }
         ensures reads { EditReads self.old at remove (chars insert.now) result self.new
             steps.old steps.new }
+        ensures are_true { HasTrueRuns self.new }
     {
         // That the text is short enough for the cache is known of its length.
         let _short = self.text.len();
@@ -221,6 +238,7 @@ impl<'a, T: EditText> Session<'a, T> {
         ensures reads { IsAsked self.old (Past i)
             (forward_cost self.old.table self.old.state.text i)
             self.new steps.old steps.new }
+        ensures are_true { HasTrueRuns self.new }
     {
         self.table.valid();
         let Some(entry) = self.cache.after(self.table, &self.text, i, steps) else {
@@ -240,6 +258,7 @@ impl<'a, T: EditText> Session<'a, T> {
         ensures moved { MovesTo self.old result self.new }
         ensures reads { IsAsked self.old (Back o)
             (preceding_cost self.old.table self.old.state.text o) self.new steps.old steps.new }
+        ensures are_true { HasTrueRuns self.new }
     {
         self.table.valid();
         let Some(entry) = self.cache.before(self.table, &self.text, o, steps) else {

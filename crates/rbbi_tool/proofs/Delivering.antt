@@ -8,7 +8,7 @@ use Rattle.rbbi_io.specs.declared.error.WriteErr.{WriteErr}
 use Rattle.rbbi_io.specs.declared.error.WriteErr.TheVariants as write
 use Rattle.rbbi_io.specs.Answers.{WhereTold, OthersHold}
 use Rattle.rbbi_tool.specs.Refusals.{Written}
-use Rattle.rbbi_tool.specs.Delivery.{LeavesFile, FileFailed, EachHoldsOrIsFile}
+use Rattle.rbbi_tool.specs.Delivery.{HoldsFile, LeavesFile, FileFailed, EachHoldsOrIsFile}
 
 -- two names are the same, or they differ
 same_or_not : (a b : List ℕ) → (a ≡ b) ⊎ (a ≢ b)
@@ -49,3 +49,17 @@ pub each_left_told : {T : Type 0} (before now : Option (List ℕ → List ℕ)) 
     → WhereTold before now (EachHoldsOrIsFile same writes writes')
 each_left_told before now writes writes' file same result is told failed =
     subst (λ f. WhereTold before now (EachHoldsOrIsFile f writes writes')) is (told_left before now writes writes' file result told failed)
+
+-- a file that was written holds its bytes
+written_held : {T : Type 0} (before now : Option (List ℕ → List ℕ)) (file : Option Written) (done : T) → WhereTold before now (LeavesFile file (Ok done))
+    → WhereTold before now (HoldsFile file)
+written_held None now file done told = tt
+written_held (Some held) None file done told = told
+written_held (Some held) (Some held') None done told = told
+written_held (Some held) (Some held') (Some file) done told = told
+
+pub written_told : {T : Type 0} (before now : Option (List ℕ → List ℕ)) (file same : Option Written) (result : Result T WriteErr) (done : T)
+    → file ≡ same → result ≡ Ok done → WhereTold before now (LeavesFile file result) → WhereTold before now (HoldsFile same)
+written_told before now file same result done is written told =
+    subst (λ f. WhereTold before now (HoldsFile f)) is
+    (written_held before now file done (subst (λ r. WhereTold before now (LeavesFile file r)) written told))

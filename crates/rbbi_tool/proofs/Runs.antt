@@ -93,6 +93,19 @@ pub ordered : (words : List (List ℕ)) (contents : Option (List ℕ → List �
 ordered words contents here request asks asks' sources is before now made =
     subst (λ ss. IfSome contents (MakesSomeReads ss before now)) (is ∙ ap sources_of (same_request words here request asks' asks)) made
 
+-- a fact of what the names held and hold, from two such facts
+both_held : (before now : Option (List ℕ → List ℕ)) (P : (List ℕ → List ℕ) → Type 0) (Q R : (List ℕ → List ℕ) → (List ℕ → List ℕ) → Type 0)
+    → IfSome before P → WhereTold before now Q → ((held held' : List ℕ → List ℕ) → P held → Q held held' → R held held') → WhereTold before now R
+both_held None now P Q R p q both = tt
+both_held (Some held) None P Q R p q both = q
+both_held (Some held) (Some held') P Q R p q both = both held held' p q
+
+held_more : (before now : Option (List ℕ → List ℕ)) (Q R : (List ℕ → List ℕ) → (List ℕ → List ℕ) → Type 0)
+    → WhereTold before now Q → ((held held' : List ℕ → List ℕ) → Q held held' → R held held') → WhereTold before now R
+held_more None now Q R q more = tt
+held_more (Some held) None Q R q more = q
+held_more (Some held) (Some held') Q R q more = more held held' q
+
 -- the status of a fault
 fault_low : (subject : Subject) → (3 ≤ status_of_subject subject) × (status_of_subject subject ≤ 5)
 fault_low Rules = (omega arith, omega arith)
@@ -159,19 +172,22 @@ module _ (words : List (List ℕ)) (contents : Option (List ℕ → List ℕ)) (
       }
   is_answer (Err Memory) comes told = absurd (told.0 refl)
 
-  -- a front of an answer
-  front_of_answer : (n : ℕ) → IsAnswer words contents before now outcome → IfSome contents
-      (λ held. IsPartOfAnswer words held before now (take n outcome.bytes))
-  front_of_answer n answer =
-      ⊎_elim (λ six. failed contents (answer.read_failed six))
-      (λ other. all_told contents (λ held. IsOutcome words held outcome) (λ held. IsPartOfAnswer words held before now (take n outcome.bytes))
-      (answer.is other) (λ held is. inr (inl (outcome, is, (n, refl)))))
+  -- a front of an answer whose file is held
+  front_of_answer : (n : ℕ) (contents' : Option (List ℕ → List ℕ)) → IsAnswer words contents before now outcome
+      → WhereTold contents contents' (HoldsFile outcome.file)
+      → WhereTold contents contents' (λ held held'. IsPartOfAnswer words before now held held' (take n outcome.bytes))
+  front_of_answer n contents' answer holds =
+      ⊎_elim (λ six. failed contents contents' (answer.read_failed six) holds)
+      (λ other. both_held contents contents' (λ held. IsOutcome words held outcome) (HoldsFile outcome.file)
+      (λ held held'. IsPartOfAnswer words before now held held' (take n outcome.bytes))
+      (answer.is other) holds (λ held held' is file. inr (inl (outcome, is, (n, refl), file))))
       (six_or_not (cases_lt outcome.status 6))
     where
-      failed : (o : Option (List ℕ → List ℕ)) → TellsFailedRead words o before now outcome.bytes → IfSome o
-          (λ held. IsPartOfAnswer words held before now (take n outcome.bytes))
-      failed None tells = tt
-      failed (Some held) tells = inr (inr (outcome.bytes, tells, (n, refl)))
+      failed : (o o' : Option (List ℕ → List ℕ)) → TellsFailedRead words o before now outcome.bytes → WhereTold o o' (HoldsFile outcome.file)
+          → WhereTold o o' (λ held held'. IsPartOfAnswer words before now held held' (take n outcome.bytes))
+      failed None o' tells holds = tt
+      failed (Some held) None tells holds = holds
+      failed (Some held) (Some held') tells holds = inr (inr (outcome.bytes, tells, (n, refl)))
 
       six_or_not : (outcome.status < 6) ⊎ (6 ≤ outcome.status) → (outcome.status ≡ 6) ⊎ (outcome.status ≢ 6)
       six_or_not (inl low) = inr (λ six. omega arith)
@@ -182,31 +198,27 @@ takes_nothing : (taken : Option (List ℕ)) → Takes taken taken []
 takes_nothing None = refl
 takes_nothing (Some bytes) = ap Some (sym (append-nil bytes))
 
-module _ (words : List (List ℕ)) (contents : Option (List ℕ → List ℕ)) (before now : List ℕ → ℕ) (taken taken' : Option (List ℕ)) where
-  -- the sink took nothing, or a front of the answer
-  pub takes_no_part : taken' ≡ taken → IfSome contents (TakesPart words before now taken taken')
-  takes_no_part same =
-      always_told contents (TakesPart words before now taken taken') (λ held. ([], inl refl, subst (λ t. Takes taken t []) (sym same) (takes_nothing taken)))
+module _ (words : List (List ℕ)) (contents contents' : Option (List ℕ → List ℕ)) (before now : List ℕ → ℕ) (taken taken' : Option (List ℕ)) where
+  -- the sink took nothing, of files that still tell what they hold
+  pub takes_no_part : (Q : (List ℕ → List ℕ) → (List ℕ → List ℕ) → Type 0) → taken' ≡ taken → WhereTold contents contents' Q
+      → WhereTold contents contents' (TakesPart words before now taken taken')
+  takes_no_part Q same told =
+      held_more contents contents' Q (TakesPart words before now taken taken') told
+      (λ held held' q. ([], inl refl, subst (λ t. Takes taken t []) (sym same) (takes_nothing taken)))
 
-  pub takes_front : (outcome : Outcome) → IsAnswer words contents before now outcome → TakesFront taken taken' outcome.bytes
-      → IfSome contents (TakesPart words before now taken taken')
-  takes_front outcome answer front =
-      all_told contents (λ held. IsPartOfAnswer words held before now (take front.0 outcome.bytes)) (TakesPart words before now taken taken')
-      (front_of_answer words contents before now outcome front.0 answer)
-      (λ held is. (take front.0 outcome.bytes, is, front.2))
-
--- a fact of what the names held and hold, from two such facts
-both_held : (before now : Option (List ℕ → List ℕ)) (P : (List ℕ → List ℕ) → Type 0) (Q R : (List ℕ → List ℕ) → (List ℕ → List ℕ) → Type 0)
-    → IfSome before P → WhereTold before now Q → ((held held' : List ℕ → List ℕ) → P held → Q held held' → R held held') → WhereTold before now R
-both_held None now P Q R p q both = tt
-both_held (Some held) None P Q R p q both = q
-both_held (Some held) (Some held') P Q R p q both = both held held' p q
-
-held_more : (before now : Option (List ℕ → List ℕ)) (Q R : (List ℕ → List ℕ) → (List ℕ → List ℕ) → Type 0)
-    → WhereTold before now Q → ((held held' : List ℕ → List ℕ) → Q held held' → R held held') → WhereTold before now R
-held_more None now Q R q more = tt
-held_more (Some held) None Q R q more = q
-held_more (Some held) (Some held') Q R q more = more held held' q
+  -- the sink took nothing, or a front of the answer after its file was held
+  pub takes_front : (outcome : Outcome) (writes writes' : List ℕ → ℕ) → IsAnswer words contents before now outcome
+      → TakesFront taken taken' outcome.bytes → WhereTold contents contents' (EachHoldsOrIsFile outcome.file writes writes')
+      → (taken' ≡ taken) ⊎ WhereTold contents contents' (HoldsFile outcome.file)
+      → WhereTold contents contents' (TakesPart words before now taken taken')
+  takes_front outcome writes writes' answer front each file_first =
+      ⊎_elim
+      (λ same. takes_no_part (EachHoldsOrIsFile outcome.file writes writes') same each)
+      (λ holds.
+      held_more contents contents' (λ held held'. IsPartOfAnswer words before now held held' (take front.0 outcome.bytes))
+      (TakesPart words before now taken taken') (front_of_answer words contents before now outcome front.0 contents' answer holds)
+      (λ held held' is. (take front.0 outcome.bytes, is, front.2)))
+      file_first
 
 pub held_same : (before now : Option (List ℕ → List ℕ)) (words : List (List ℕ)) (writes writes' : List ℕ → ℕ) → now ≡ before
     → WhereTold before now (EachHolds words writes writes')
@@ -216,6 +228,12 @@ held_same before now words writes writes' same =
     at : (o : Option (List ℕ → List ℕ)) → WhereTold o o (EachHolds words writes writes')
     at None = tt
     at (Some held) = λ name. inl refl
+
+-- nothing was taken, and no file was written
+pub no_part_same : (before now : Option (List ℕ → List ℕ)) (words : List (List ℕ)) (reads reads' : List ℕ → ℕ) (taken taken' : Option (List ℕ))
+    → now ≡ before → taken' ≡ taken → WhereTold before now (TakesPart words reads reads' taken taken')
+no_part_same before now words reads reads' taken taken' same none =
+    takes_no_part words before now reads reads' taken taken' (EachHolds words reads reads') none (held_same before now words reads reads' same)
 
 module _ (words : List (List ℕ)) (contents contents' : Option (List ℕ → List ℕ)) (before now : List ℕ → ℕ) (outcome : Outcome)
     (answer : IsAnswer words contents before now outcome) where
@@ -292,6 +310,7 @@ pub record IsDelivered (words : List (List ℕ)) (contents contents' : Option (L
   pub holds : result ≤ 6 → WhereTold contents contents' (HoldsFile outcome.file)
   pub failed : result ≡ 7 → Rose faults faults' ⊎ FileFailed outcome.file writes writes'
   pub front : TakesFront taken taken' outcome.bytes
+  pub file_first : (taken' ≡ taken) ⊎ WhereTold contents contents' (HoldsFile outcome.file)
   pub each : WhereTold contents contents' (EachHoldsOrIsFile outcome.file writes writes')
   pub others : OnSome contents (OthersUncounted outcome.file writes writes')
 
@@ -318,8 +337,8 @@ module _ {words : List (List ℕ)} {contents contents' : Option (List ℕ → Li
   pub put_failed_of : result ≡ 7 → Rose faults faults' ⊎ SomeWriteFailed words writes writes'
   put_failed_of seven = ⊎_elim inl (λ failed. inr (write_failed words contents contents' reads reads' outcome d.answer writes writes' failed)) (d.failed seven)
 
-  pub front_of : 7 ≤ result → IfSome contents (TakesPart words reads reads' taken taken')
-  front_of high = takes_front words contents reads reads' taken taken' outcome d.answer d.front
+  pub front_of : 7 ≤ result → WhereTold contents contents' (TakesPart words reads reads' taken taken')
+  front_of high = takes_front words contents contents' reads reads' taken taken' outcome writes writes' d.answer d.front d.each d.file_first
 
   pub complete_of : NoReadFailed words reads reads' → ¬ Rose faults faults' → ¬ SomeWriteFailed words writes writes' → result ≢ 8
       → WhereTold contents contents' (TakesOutcome words result taken taken')
@@ -342,9 +361,10 @@ pub from_start : (words : List (List ℕ)) (k0 k1 k2 : Option (List ℕ → List
     (faults faults' : ℕ) (outcome : Outcome) (result : ℕ) → k1 ≡ k0 → EachStays r1 r2 → EachStays w0 w1
     → IsAnswer words k0 r0 r1 outcome → (result ≡ outcome.status) ⊎ ((result ≡ 7) ⊎ (result ≡ 8)) → (result ≤ 6 → Takes taken taken' outcome.bytes)
     → (result ≤ 6 → WhereTold k1 k2 (HoldsFile outcome.file)) → (result ≡ 7 → Rose faults faults' ⊎ FileFailed outcome.file w1 w2)
-    → TakesFront taken taken' outcome.bytes → WhereTold k1 k2 (EachHoldsOrIsFile outcome.file w1 w2) → OnSome k1 (OthersUncounted outcome.file w1 w2)
+    → TakesFront taken taken' outcome.bytes → (taken' ≡ taken) ⊎ WhereTold k1 k2 (HoldsFile outcome.file)
+    → WhereTold k1 k2 (EachHoldsOrIsFile outcome.file w1 w2) → OnSome k1 (OthersUncounted outcome.file w1 w2)
     → IsDelivered words k0 k2 r0 r2 w0 w2 taken taken' faults faults' outcome result
-from_start words k0 k1 k2 r0 r1 r2 w0 w1 w2 taken taken' faults faults' outcome result same reads writes answer status takes holds failed front each others =
+from_start words k0 k1 k2 r0 r1 r2 w0 w1 w2 taken taken' faults faults' outcome result same reads writes answer status takes holds failed front first each others =
     let reads_are : r1 ≡ r2 = λ i n. sym (reads n) i in
     let writes_are : w1 ≡ w0 = λ i n. writes n i in
     record {
@@ -354,6 +374,7 @@ from_start words k0 k1 k2 r0 r1 r2 w0 w1 w2 taken taken' faults faults' outcome 
       holds = λ low. subst (λ k. WhereTold k k2 (HoldsFile outcome.file)) same (holds low);
       failed = λ seven. subst (λ w. Rose faults faults' ⊎ FileFailed outcome.file w w2) writes_are (failed seven);
       front = front;
+      file_first = subst (λ k. (taken' ≡ taken) ⊎ WhereTold k k2 (HoldsFile outcome.file)) same first;
       each = subst (λ k. WhereTold k k2 (EachHoldsOrIsFile outcome.file w0 w2)) same
           (subst (λ w. WhereTold k1 k2 (EachHoldsOrIsFile outcome.file w w2)) writes_are each);
       others = subst (λ k. OnSome k (OthersUncounted outcome.file w0 w2)) same (subst (λ w. OnSome k1 (OthersUncounted outcome.file w w2)) writes_are others);

@@ -82,17 +82,17 @@ pub record IsAnswer (words : List (List ℕ)) (contents : Option (List ℕ → L
 abbrev pub IsFrontOf : List ℕ → List ℕ → Type 0
 IsFrontOf piece line = (n : ℕ) × (piece ≡ take n line)
 
--- nothing, or a front of what is answered, or of the line that tells a failed read
-abbrev pub IsPartOfAnswer : List (List ℕ) → (List ℕ → List ℕ) → (List ℕ → ℕ) → (List ℕ → ℕ) → List ℕ → Type 0
-IsPartOfAnswer words held before now piece =
+-- nothing; or a front of what is answered, where its file holds its bytes by now; or a front of the line that tells a failed read
+abbrev pub IsPartOfAnswer : List (List ℕ) → (List ℕ → ℕ) → (List ℕ → ℕ) → (List ℕ → List ℕ) → (List ℕ → List ℕ) → List ℕ → Type 0
+IsPartOfAnswer words before now held held' piece =
     (piece ≡ [])
-    ⊎ (((outcome : Outcome) × IsOutcome words held outcome × IsFrontOf piece outcome.bytes)
+    ⊎ (((outcome : Outcome) × IsOutcome words held outcome × IsFrontOf piece outcome.bytes × HoldsFile outcome.file held held')
     ⊎ ((line : List ℕ) × TellsFailedRead words (Some held) before now line × IsFrontOf piece line))
 
--- the sink took just a part of the answer
-abbrev pub TakesPart : List (List ℕ) → (List ℕ → ℕ) → (List ℕ → ℕ) → Option (List ℕ) → Option (List ℕ) → (List ℕ → List ℕ) → Type 0
-TakesPart words before now taken taken' held =
-    (piece : List ℕ) × IsPartOfAnswer words held before now piece × Takes taken taken' piece
+-- the sink took just a part of the answer, and nothing of it before the file that the answer writes was held
+abbrev pub TakesPart : List (List ℕ) → (List ℕ → ℕ) → (List ℕ → ℕ) → Option (List ℕ) → Option (List ℕ) → (List ℕ → List ℕ) → (List ℕ → List ℕ) → Type 0
+TakesPart words before now taken taken' held held' =
+    (piece : List ℕ) × IsPartOfAnswer words before now held held' piece × Takes taken taken' piece
 
 -- The status is that of the outcome, its bytes are all that the sink took, and its file holds its bytes.
 pub record TakesOutcome (words : List (List ℕ)) (status : ℕ) (taken taken' : Option (List ℕ)) (held held' : List ℕ → List ℕ) : Type 0 where

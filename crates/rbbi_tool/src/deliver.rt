@@ -27,8 +27,9 @@ fn write_file<F: Files>(file: &Option<Written>, files: &mut F) -> Result<(), Wri
     }
 }
 
-/// Writes the file of an output, if it has one, and then puts what goes out. The result is the exit
-/// status: that of the output, 7 where the write or a put failed, or 8 where memory ran out.
+/// Writes the file of an output, if it has one, and then puts what goes out; where the file isn't
+/// written, nothing goes out. The result is the exit status: that of the output, 7 where the write
+/// or a put failed, or 8 where memory ran out.
 pub(crate) fn deliver<F: Files, K: Sink>(output: &Output, files: &mut F, out: &mut K) -> u8
     requires { output.now.status ≤ 6 }
     ensures status { (result ≡ output.now.status) ⊎ ((result ≡ 7) ⊎ (result ≡ 8)) }
@@ -38,6 +39,9 @@ pub(crate) fn deliver<F: Files, K: Sink>(output: &Output, files: &mut F, out: &m
     ensures failed { result ≡ 7 → Rose (K.faults out.old) (K.faults out.new)
         ⊎ spec.FileFailed output.now.file (F.failed_writes files.old) (F.failed_writes files.new) }
     ensures front { TakesFront (K.taken out.old) (K.taken out.new) output.now.bytes }
+    ensures file_first { (K.taken out.new ≡ K.taken out.old)
+        ⊎ WhereTold (F.contents files.old) (F.contents files.new)
+        (spec.HoldsFile output.now.file) }
     ensures contents { WhereTold (F.contents files.old) (F.contents files.new)
         (spec.EachHoldsOrIsFile output.now.file
         (F.failed_writes files.old) (F.failed_writes files.new)) }

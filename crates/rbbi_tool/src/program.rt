@@ -116,7 +116,8 @@ fn answer<F: Files, L: Ledger>(
 ///
 /// The words are looked at first, then the files are read in the order of the words; then come the
 /// property files, then the rule file or the table file, then the text, and then the script or the
-/// tests. A file that the command writes is written before anything goes out.
+/// tests. A file that the command writes is written before anything goes out, so where the write
+/// fails, nothing goes out.
 pub fn rbbi<F: Files, K: Sink, L: Ledger>(
     alloc: Global,
     words: &Vec<String>,
@@ -160,8 +161,9 @@ pub fn rbbi<F: Files, K: Sink, L: Ledger>(
         ⊎ SomeWriteFailed (map string_bytes words.now.items)
         (F.failed_writes files.old) (F.failed_writes files.new) }
 
-    // After 7 and 8 a front of what was to go out was taken.
-    ensures front { 7 ≤ result → IfSome (F.contents files.old)
+    // After 7 and 8 nothing was taken, or a front of what was to go out, and that only where the
+    // file that the outcome writes holds its bytes: it is written before anything goes out.
+    ensures front { 7 ≤ result → WhereTold (F.contents files.old) (F.contents files.new)
         (TakesPart (map string_bytes words.now.items) (F.failed_reads files.old)
         (F.failed_reads files.new) (K.taken out.old) (K.taken out.new)) }
 

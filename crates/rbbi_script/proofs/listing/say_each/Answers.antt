@@ -1,7 +1,7 @@
 use Rattle.std.proofs.Common.{◌<◌, length, sym, subst}
 use Rattle.std.proofs.lemmas.Result.{err_from_is_err_and}
 use Rattle.rbbi_script.proofs.Listed.{AreListed, left_of, listed_further, listed_broken}
-use Rattle.rbbi_script.proofs.ListingCosts.{AreRead, read_further, read_all}
+use Rattle.rbbi_script.proofs.ListingCosts.{AreRead, read_start, read_further, read_all}
 use Rattle.rbbi_script.proofs.listing.say_each.Goals as goal
 
 pub returns-in_err-say_bound-clause-lines : goal.returns-in_err-say_bound-clause-lines
@@ -14,10 +14,20 @@ returns-in_err-say_bound-clause-lines g c =
     c.loop-place.invariant.listed)
     c.say_bound.new.reply.items c.in_err-say_bound.ensures)
 
+pub returns-in_err-say_bound-clause-runs : goal.returns-in_err-say_bound-clause-runs
+returns-in_err-say_bound-clause-runs g c =
+    let told = err_from_is_err_and c.from_residual.result c.from_residual.ensures.1 in
+    let are = c.loop-place.invariant in
+    rw told.1 (are.listed.front, are.listed.rest, are.listed.whole, are.asked)
+
 pub returns-in_err-say_bound-clause-cost : goal.returns-in_err-say_bound-clause-cost
 returns-in_err-say_bound-clause-cost g c =
     read_all c.args.session.now c.loop-place.session c.loop-place.place c.args.reply.now.items c.loop-place.reply.items c.args.steps.now c.loop-place.steps
     c.loop-place.invariant
+
+pub loop-place-init : goal.loop-place-init
+loop-place-init g c =
+    read_start c.args.session.now c.first.new.self c.first.result c.args.reply.now.items c.args.steps.now c.first.ensures.answers c.first.ensures.runs
 
 pub loop-place-smaller : goal.loop-place-smaller
 loop-place-smaller g c =

@@ -19,7 +19,8 @@ returns-in-Ok-clause-usage g c =
     (reads c.deliver.new.files) (writes c.args.files.now) (writes c.answer.new.files) (writes c.deliver.new.files) (g.K.Sink.taken c.args.out.now)
     (g.K.Sink.taken c.deliver.new.out) (g.K.Sink.faults c.args.out.now) (g.K.Sink.faults c.deliver.new.out) c.in-Ok.output c.deliver.result
     c.in-Ok.ensures.contents (λ name. c.deliver.ensures.reads name) c.in-Ok.ensures.writes c.in-Ok.ensures.answer c.deliver.ensures.status
-    c.deliver.ensures.taken c.deliver.ensures.held c.deliver.ensures.failed c.deliver.ensures.front c.deliver.ensures.contents c.deliver.ensures.others in
+    c.deliver.ensures.taken c.deliver.ensures.held c.deliver.ensures.failed c.deliver.ensures.front c.deliver.ensures.file_first
+    c.deliver.ensures.contents c.deliver.ensures.others in
     usage_of d
 
 pub returns-in-Ok-clause-outcome : goal.returns-in-Ok-clause-outcome
@@ -31,7 +32,8 @@ returns-in-Ok-clause-outcome g c =
     (reads c.deliver.new.files) (writes c.args.files.now) (writes c.answer.new.files) (writes c.deliver.new.files) (g.K.Sink.taken c.args.out.now)
     (g.K.Sink.taken c.deliver.new.out) (g.K.Sink.faults c.args.out.now) (g.K.Sink.faults c.deliver.new.out) c.in-Ok.output c.deliver.result
     c.in-Ok.ensures.contents (λ name. c.deliver.ensures.reads name) c.in-Ok.ensures.writes c.in-Ok.ensures.answer c.deliver.ensures.status
-    c.deliver.ensures.taken c.deliver.ensures.held c.deliver.ensures.failed c.deliver.ensures.front c.deliver.ensures.contents c.deliver.ensures.others in
+    c.deliver.ensures.taken c.deliver.ensures.held c.deliver.ensures.failed c.deliver.ensures.front c.deliver.ensures.file_first
+    c.deliver.ensures.contents c.deliver.ensures.others in
     outcome_of d
 
 pub returns-in-Ok-clause-read_failed : goal.returns-in-Ok-clause-read_failed
@@ -43,7 +45,8 @@ returns-in-Ok-clause-read_failed g c =
     (reads c.deliver.new.files) (writes c.args.files.now) (writes c.answer.new.files) (writes c.deliver.new.files) (g.K.Sink.taken c.args.out.now)
     (g.K.Sink.taken c.deliver.new.out) (g.K.Sink.faults c.args.out.now) (g.K.Sink.faults c.deliver.new.out) c.in-Ok.output c.deliver.result
     c.in-Ok.ensures.contents (λ name. c.deliver.ensures.reads name) c.in-Ok.ensures.writes c.in-Ok.ensures.answer c.deliver.ensures.status
-    c.deliver.ensures.taken c.deliver.ensures.held c.deliver.ensures.failed c.deliver.ensures.front c.deliver.ensures.contents c.deliver.ensures.others in
+    c.deliver.ensures.taken c.deliver.ensures.held c.deliver.ensures.failed c.deliver.ensures.front c.deliver.ensures.file_first
+    c.deliver.ensures.contents c.deliver.ensures.others in
     read_failed_of d
 
 pub returns-in-Ok-clause-put_failed : goal.returns-in-Ok-clause-put_failed
@@ -55,7 +58,8 @@ returns-in-Ok-clause-put_failed g c =
     (reads c.deliver.new.files) (writes c.args.files.now) (writes c.answer.new.files) (writes c.deliver.new.files) (g.K.Sink.taken c.args.out.now)
     (g.K.Sink.taken c.deliver.new.out) (g.K.Sink.faults c.args.out.now) (g.K.Sink.faults c.deliver.new.out) c.in-Ok.output c.deliver.result
     c.in-Ok.ensures.contents (λ name. c.deliver.ensures.reads name) c.in-Ok.ensures.writes c.in-Ok.ensures.answer c.deliver.ensures.status
-    c.deliver.ensures.taken c.deliver.ensures.held c.deliver.ensures.failed c.deliver.ensures.front c.deliver.ensures.contents c.deliver.ensures.others in
+    c.deliver.ensures.taken c.deliver.ensures.held c.deliver.ensures.failed c.deliver.ensures.front c.deliver.ensures.file_first
+    c.deliver.ensures.contents c.deliver.ensures.others in
     put_failed_of d
 
 pub returns-in-Ok-clause-front : goal.returns-in-Ok-clause-front
@@ -67,7 +71,8 @@ returns-in-Ok-clause-front g c =
     (reads c.deliver.new.files) (writes c.args.files.now) (writes c.answer.new.files) (writes c.deliver.new.files) (g.K.Sink.taken c.args.out.now)
     (g.K.Sink.taken c.deliver.new.out) (g.K.Sink.faults c.args.out.now) (g.K.Sink.faults c.deliver.new.out) c.in-Ok.output c.deliver.result
     c.in-Ok.ensures.contents (λ name. c.deliver.ensures.reads name) c.in-Ok.ensures.writes c.in-Ok.ensures.answer c.deliver.ensures.status
-    c.deliver.ensures.taken c.deliver.ensures.held c.deliver.ensures.failed c.deliver.ensures.front c.deliver.ensures.contents c.deliver.ensures.others in
+    c.deliver.ensures.taken c.deliver.ensures.held c.deliver.ensures.failed c.deliver.ensures.front c.deliver.ensures.file_first
+    c.deliver.ensures.contents c.deliver.ensures.others in
     front_of d
 
 pub returns-in-Ok-clause-complete : goal.returns-in-Ok-clause-complete
@@ -79,7 +84,8 @@ returns-in-Ok-clause-complete g c =
     (reads c.deliver.new.files) (writes c.args.files.now) (writes c.answer.new.files) (writes c.deliver.new.files) (g.K.Sink.taken c.args.out.now)
     (g.K.Sink.taken c.deliver.new.out) (g.K.Sink.faults c.args.out.now) (g.K.Sink.faults c.deliver.new.out) c.in-Ok.output c.deliver.result
     c.in-Ok.ensures.contents (λ name. c.deliver.ensures.reads name) c.in-Ok.ensures.writes c.in-Ok.ensures.answer c.deliver.ensures.status
-    c.deliver.ensures.taken c.deliver.ensures.held c.deliver.ensures.failed c.deliver.ensures.front c.deliver.ensures.contents c.deliver.ensures.others in
+    c.deliver.ensures.taken c.deliver.ensures.held c.deliver.ensures.failed c.deliver.ensures.front c.deliver.ensures.file_first
+    c.deliver.ensures.contents c.deliver.ensures.others in
     complete_of d
 
 pub returns-in-Ok-clause-contents : goal.returns-in-Ok-clause-contents
@@ -91,7 +97,8 @@ returns-in-Ok-clause-contents g c =
     (reads c.deliver.new.files) (writes c.args.files.now) (writes c.answer.new.files) (writes c.deliver.new.files) (g.K.Sink.taken c.args.out.now)
     (g.K.Sink.taken c.deliver.new.out) (g.K.Sink.faults c.args.out.now) (g.K.Sink.faults c.deliver.new.out) c.in-Ok.output c.deliver.result
     c.in-Ok.ensures.contents (λ name. c.deliver.ensures.reads name) c.in-Ok.ensures.writes c.in-Ok.ensures.answer c.deliver.ensures.status
-    c.deliver.ensures.taken c.deliver.ensures.held c.deliver.ensures.failed c.deliver.ensures.front c.deliver.ensures.contents c.deliver.ensures.others in
+    c.deliver.ensures.taken c.deliver.ensures.held c.deliver.ensures.failed c.deliver.ensures.front c.deliver.ensures.file_first
+    c.deliver.ensures.contents c.deliver.ensures.others in
     each_of d
 
 pub returns-in-Ok-clause-others : goal.returns-in-Ok-clause-others
@@ -103,5 +110,6 @@ returns-in-Ok-clause-others g c =
     (reads c.deliver.new.files) (writes c.args.files.now) (writes c.answer.new.files) (writes c.deliver.new.files) (g.K.Sink.taken c.args.out.now)
     (g.K.Sink.taken c.deliver.new.out) (g.K.Sink.faults c.args.out.now) (g.K.Sink.faults c.deliver.new.out) c.in-Ok.output c.deliver.result
     c.in-Ok.ensures.contents (λ name. c.deliver.ensures.reads name) c.in-Ok.ensures.writes c.in-Ok.ensures.answer c.deliver.ensures.status
-    c.deliver.ensures.taken c.deliver.ensures.held c.deliver.ensures.failed c.deliver.ensures.front c.deliver.ensures.contents c.deliver.ensures.others in
+    c.deliver.ensures.taken c.deliver.ensures.held c.deliver.ensures.failed c.deliver.ensures.front c.deliver.ensures.file_first
+    c.deliver.ensures.contents c.deliver.ensures.others in
     others_of_all d
