@@ -1,6 +1,6 @@
 -- Worked examples, which try the definitions that compute.
-use Rattle.std.proofs.Common.{◌≡◌, ℕ, ◌*◌, true, false, if◌then◌else◌, ◌==◌, slice_index, List, [], ◌∷◌, length, refl, inl, inr, ⊎_elim, arith}
-use Rattle.std.specs.Prelude.{codes, Option}
+use Rattle.std.proofs.Common.{◌≡◌, ℕ, ◌*◌, true, false, if◌then◌else◌, ◌==◌, slice_index, List, [], ◌∷◌, length, refl, inl, inr, arith}
+use Rattle.std.specs.Prelude.{codes}
 use Rattle.std.specs.Fmt.{digits}
 use lib.Utf8.{encode}
 use Rattle.rbbi_model.specs.Boundaries.{Boundary}
@@ -8,7 +8,6 @@ use Rattle.rbbi_model.specs.Tables.{Table}
 use Rattle.rbbi_model.specs.Searches.{search_end, look_end, found, table_boundaries}
 use Rattle.rbbi_model.specs.Answers.{Characters, Last, Next, Previous, Following, Preceding, IsBoundary, Current, Status, Statuses, Breaks}
 use Rattle.rbbi_model.specs.Scripts.{Accepted, Ask, Replace, ShowText, table_replies, replies_by, edit, opened}
-use Rattle.rbbi_model.specs.SetTrees.{SetTree, Add, Minus, Span, set_of, InSet}
 use Rattle.rbbi_model.specs.Runs.{is_anchor, Run, IsTrueRun, ShowsAfter, ShowsBefore}
 use Rattle.rbbi_model.specs.Costs.{forward_cost, tries, back_cost, script_cost}
 use Rattle.rbbi_model.specs.TableFile.{spelling}
@@ -200,21 +199,6 @@ shows_before_2 =
       short_of = omega arith;
       nearest = inl (omega arith);
     }
-
--- the set `[[ace][bdf] - [abc][def]]` holds `d`: what is added after the difference stays
-abbrev letters : ℕ → ℕ → SetTree
-letters low high = set_of false (record { join = Add; item = Span (record { low = low; high = high }) } ∷ [])
-
-abbrev d_to_f : SetTree
-d_to_f = set_of false (record { join = Add; item = letters 97 102 } ∷ record { join = Minus; item = letters 97 99 } ∷ record
-    { join = Add; item = letters 100 102 } ∷ [])
-
-d_in_set : (HasProperty : List ℕ → Option (List ℕ) → ℕ → Type 0) → InSet HasProperty d_to_f 100
-d_in_set HasProperty = inr (inr (omega arith, omega arith))
-
-a_not_in_set : (HasProperty : List ℕ → Option (List ℕ) → ℕ → Type 0) → InSet HasProperty d_to_f 97 → ⊥
-a_not_in_set HasProperty here =
-    ⊎_elim (λ left. left.1 (inr (omega arith, omega arith))) (λ right. ⊎_elim (λ none. absurd none) (λ within. omega (arith, within.0)) right) here
 
 -- in the reply to `text` a line end and a backslash are written with a backslash
 escapes : reply_lines (Characters (97 ∷ 10 ∷ 92 ∷ [])) ≡ 97 ∷ 92 ∷ 110 ∷ 92 ∷ 92 ∷ 10 ∷ []

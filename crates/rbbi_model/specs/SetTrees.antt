@@ -1,5 +1,5 @@
 -- What a set expression means.
-use Rattle.std.specs.Prelude.{◌≡◌, ℕ, ◌⊎◌, Bool, true, false, List, [], ◌∷◌, Option}
+use Rattle.std.specs.Prelude.{◌≡◌, ℕ, ◌⊎◌, Bool, true, false, List, Option}
 use Rattle.rbbi_model.specs.Words.{IsCodePoint}
 use Rattle.rbbi_model.specs.Ranges.{Range, InRange}
 
@@ -17,21 +17,6 @@ pub data SetTree : Type 0 where
   Property : (negated : Bool) (name : List ℕ) (value : Option (List ℕ)) → SetTree
   Joined : (left : SetTree) (join : Join) (part : SetTree) → SetTree
   Others : (set : SetTree) → SetTree
-
--- a part of a set, and how it joins the parts before it
-pub record SetPart : Type 0 where
-  pub join : Join
-  pub item : SetTree
-
--- the parts joined from the left to what stands there already
-abbrev pub joined_to : SetTree → List SetPart → SetTree
-joined_to left [] = left
-joined_to left (part ∷ parts) = joined_to (Joined left part.join part.item) parts
-
--- the set of these parts, or where it is negated, the others
-abbrev pub set_of : Bool → List SetPart → SetTree
-set_of false parts = joined_to Nothing parts
-set_of true parts = Others (joined_to Nothing parts)
 
 -- Add keeps what is in either, Both what is in both, Minus what is in the left one and not in the right one.
 abbrev pub InJoin : Join → Type 0 → Type 0 → Type 0

@@ -29,3 +29,4 @@ pub mod Ending
 pub mod Good
 pub mod RangesOf
 pub mod Existence
+mod WorkedSets
