@@ -248,6 +248,17 @@ def big_set():
     return padded(''.join(out) + '];')
 
 
+def operands(form, head='[', tail='];'):
+    """One set with as many operands as fit, each of the form with a character of its own. No two of
+    the characters are neighbours."""
+    out, room, code = [head], MIB - len((head + tail).encode('utf-8')), 0x10000
+    size = len(form.replace('@', chr(code)).encode('utf-8'))
+    while room >= size and code < 0x10FFFF:
+        out.append(form.replace('@', chr(code)))
+        room, code = room - size, code + 2
+    return padded(''.join(out) + tail)
+
+
 FRONT = {
     'statements': (lambda: repeat('a;'), '524,288 times `a;`'),
     'empty': (lambda: repeat(';', tail='a;'), 'a million empty statements'),
@@ -258,6 +269,14 @@ FRONT = {
     'properties': (lambda: repeat('\\p{Lu}\\p{Nd}', '[', '];'), 'one set of 170,000 properties'),
     'alternating': (lambda: repeat('\\p{Lu}-\\p{Lu}', '[\\p{L}', '];'),
                     'one set that adds a property and takes it away 80,000 times'),
+    'categories': (lambda: repeat('\\p{Lu}\\p{Ll}-\\p{Lu}\\p{Lu}-\\p{Ll}', '[\\p{L}', '];'),
+                   'one set that adds two properties and takes them away 33,000 times'),
+    'nested': (lambda: operands('[@]'), 'one set of 170,000 sets of one letter'),
+    'taken': (lambda: operands('-[@]', '[[\\p{L}]'), 'one set with 150,000 letters taken away'),
+    'met': (lambda: operands('&[^@]', '[[\\p{L}]'), 'one set that 130,000 others are met with'),
+    'differences': (lambda: operands('[\\p{L}-[@]]'),
+                    'one set of 75,000 sets that lack one letter'),
+    'lone': (lambda: repeat('[\\p{L}];'), '130,000 rules of one property, refused'),
     'samename': (lambda: '$x=' + '\\p{L}' * 40000 + ';b;', '40,000 times \\p{L} in a sequence'),
     'names': (lambda: repeat('$ab', '$ab=[a-z];$x=', ';b;'), 'one sequence of 350,000 names'),
 }

@@ -44,6 +44,21 @@ expression_has_none files (Some w) v summary (Some there) is kind_is same =
     let e : w ≡ v = cc in
     of_expression files w.kind summary there (ap (λ x. x.kind) e ∙ kind_is) same
 
+-- a name that is a set has its value
+of_set : (files : List File) (value : Option (List Range)) (there : contexts.Variable) → IsKindOf files (kind.Set value) there →
+    IsValue files (value_of_variable (Some there)) value
+of_set files value (contexts.Set tree) same = same
+of_set files value (contexts.Expression meaning height) same = absurd same
+
+of_present : (files : List File) (v : Variable) (value : Option (List Range)) (there : Option contexts.Variable) → v.kind ≡ kind.Set value →
+    Matches files (Some v) there → IsValue files (value_of_variable there) value
+of_present files v value None kind_is same = absurd same
+of_present files v value (Some there) kind_is same = of_set files value there (subst (λ k. IsKindOf files k there) kind_is same)
+
+pub set_has_value : (files : List File) (here : Option Variable) (v : Variable) (value : Option (List Range)) (there : Option contexts.Variable) →
+    Some v ≡ here → v.kind ≡ kind.Set value → Matches files here there → IsValue files (value_of_variable there) value
+set_has_value files here v value there is kind_is same = of_present files v value there kind_is (subst (λ h. Matches files h there) (sym is) same)
+
 -- the counts of a variable that is no set
 pub counts_of_expression : (files : List File) (here : Kind) (summary higher : Summary) (there : contexts.Variable) → here ≡ kind.Expression summary →
     ((a h : ℕ) (e : Bool) → Sums summary a h e → Sums higher a (h + 1) e) → IsKindOf files here there →

@@ -1,6 +1,7 @@
--- A range that is collected, and the whole at the end.
+-- Parts that are joined from the last to the first, and the whole at the end.
 use Rattle.std.proofs.Common.{◌≡◌, ℕ, Bool, true, false, ◌⊎◌, ◌↔◌, inl, inr, List, [], ◌∷◌, ◌++◌, Option, Some, None, option_map, ◌<◌, ◌≤◌, cond, leb, sym}
 use Rattle.std.proofs.Common.{ap, ◌∙◌, refl, subst, arith}
+use Rattle.std.proofs.lemmas.Bool.{false≢true}
 use Rattle.std.proofs.lemmas.Bool.Decides.{nat_tests}
 use Rattle.rbbi_model.specs.Ranges.{Range, Has, InRange}
 use Rattle.rbbi_model.specs.SetTrees as model
@@ -10,87 +11,259 @@ use Rattle.rbbi_tree.specs.declared.syntax.Join.{Join}
 use Rattle.rbbi_tree.specs.declared.syntax.Join.TheVariants.{Add, Both, Minus}
 use Rattle.rbbi_resolve.specs.declared.so_far.SoFar.{SoFar}
 use Rattle.rbbi_resolve.specs.SetValues.{HasProperty, HasMembers, IsValue, join_of, joined_to, signed, value_of_range}
-use Rattle.rbbi_resolve.specs.SetsSoFar.{IsSoFar, IsJoined}
+use Rattle.rbbi_resolve.specs.SetsSoFar.{IsSoFar, AreDecided, AreCodePoints, PutsIn, TakesOut}
+use Rattle.rbbi_sets.specs.Piles.{HasAny}
+use Rattle.rbbi_sets.proofs.Coverage.{has_or_not}
+use Rattle.rbbi_resolve.proofs.PropertySets.{members_are_code_points}
 use Rattle.rbbi_resolve.proofs.Ranges.{has-append}
 
--- the range joins what stands to its left
-pub collected : (files : List File) (left : Option model.SetTree) (old new : SoFar) (range : Range) →
-    new.set ≡ old.set → new.known ≡ old.known → new.added.items ≡ old.added.items ++ range ∷ [] →
-    IsSoFar files left old → IsSoFar files (joined_to Add (Some (model.Span range)) left) new
-collected files None old new range same known added so_far = known ∙ so_far
-collected files (Some tree) old new range same known added so_far =
+-- no part yet
+pub starts : (files : List File) (so_far : SoFar) → so_far.known ≡ true → so_far.decided ≡ [] → so_far.added ≡ [] → so_far.collected.items ≡ [] →
+    IsSoFar files (λ left. left) so_far
+starts files so_far known decided added collected =
     record {
-      known = known ∙ so_far.known;
-      rising = rw same so_far.rising;
-      members = λ c.
-          let joined = so_far.members c in
-          let split = has-append old.added.items (range ∷ []) c in
-          rw (same, added) (
-            λ h. elim h [
-              | inl g ↦ inl (joined.0 (inl g))
-              | inr g ↦ elim (split.0 g) [ inl k ↦ inl (joined.0 (inr k)) | inr k ↦ elim k [ inl r ↦ inr r | inr n ↦ absurd n ] ]
-            ],
-            λ h. elim h [
-              | inl g ↦ elim (joined.1 g) [ inl k ↦ inl k | inr k ↦ inr (split.1 (inl k)) ]
-              | inr r ↦ inr (split.1 (inr (inl r)))
-            ],
-          );
+      strict = refl;
+      spoiled = λ spoiled left. absurd (false≢true (sym spoiled ∙ known));
+      decided = λ k left points. (
+          left,
+          refl,
+          λ c. rw (decided, added, collected) (
+            λ h. inr (inr h, λ n. n),
+            λ h. elim h [ inl n ↦ absurd n | inr b ↦ elim b.0 [ inl n ↦ absurd n | inr t ↦ t ] ],
+          ),
+        );
     }
 
--- the set that was collected has the members of the parts
-pub gathered : (files : List File) (tree : model.SetTree) (so_far : SoFar) → so_far.added.items ≡ [] → IsJoined files tree so_far →
-    HasMembers files tree so_far.set
-gathered files tree so_far none joined =
+-- a part that is joined before those so far
+pub part_joins : (files : List File) (worth : Option model.SetTree → Option model.SetTree) (old new : SoFar) (join : Join) (item : model.SetTree) →
+    new.known ≡ old.known → AreCodePoints files item →
+    ((left whole : model.SetTree) → AreCodePoints files left → AreDecided files old (model.Joined left (join_of join) item) whole →
+    AreDecided files new left whole) →
+    IsSoFar files worth old → IsSoFar files (λ left. worth (joined_to join (Some item) left)) new
+part_joins files worth old new join item known points decides h =
     record {
-      rising = joined.rising;
-      members = λ c.
-          let both = rw none at (joined.members c) in
-          (λ h. both.0 (inl h), λ h. elim (both.1 h) [ inl g ↦ g | inr g ↦ absurd g ]);
+      strict = h.strict;
+      spoiled = λ spoiled left. h.spoiled (sym known ∙ spoiled) (joined_to join (Some item) left);
+      decided = λ k left left_points.
+          let before = h.decided (sym known ∙ k) (model.Joined left (join_of join) item) (joined_points files join left item left_points points) in
+          (before.0, before.1, decides left before.0 left_points before.2);
     }
+  where
+    joined_points : (files : List File) (join : Join) (left item : model.SetTree) → AreCodePoints files left → AreCodePoints files item →
+        AreCodePoints files (model.Joined left (join_of join) item)
+    joined_points files Add left item l i c h = elim h [ inl a ↦ l c a | inr b ↦ i c b ]
+    joined_points files Both left item l i c h = l c h.0
+    joined_points files Minus left item l i c h = l c h.0
+
+-- a part without a value leaves none
+pub spoils : (files : List File) (worth : Option model.SetTree → Option model.SetTree) (old new : SoFar) (join : Join) → new.known ≡ false →
+    IsSoFar files worth old → IsSoFar files (λ left. worth (joined_to join None left)) new
+spoils files worth old new join known h =
+    record {
+      strict = h.strict;
+      spoiled = λ spoiled left. h.strict;
+      decided = λ k left points. absurd (false≢true (sym known ∙ k));
+    }
+
+-- the same parts, with the same decided
+pub stays : (files : List File) (worth : Option model.SetTree → Option model.SetTree) (old new : SoFar) → new.known ≡ old.known →
+    ((left whole : model.SetTree) → AreDecided files old left whole → AreDecided files new left whole) →
+    IsSoFar files worth old → IsSoFar files worth new
+stays files worth old new known decides h =
+    record {
+      strict = h.strict;
+      spoiled = λ spoiled left. h.spoiled (sym known ∙ spoiled) left;
+      decided = λ k left points.
+          let before = h.decided (sym known ∙ k) left points in
+          (before.0, before.1, decides left before.0 before.2);
+    }
+
+-- a range that is collected joins what stands to its left
+pub collected : (files : List File) (worth : Option model.SetTree → Option model.SetTree) (old new : SoFar) (item : model.SetTree) (range : Range) →
+    HasMembers files item (range ∷ []) → new.decided ≡ old.decided → new.added ≡ old.added → new.known ≡ old.known →
+    new.collected.items ≡ old.collected.items ++ range ∷ [] →
+    IsSoFar files worth old → IsSoFar files (λ left. worth (joined_to Add (Some item) left)) new
+collected files worth old new item range is decided added known more =
+    part_joins files worth old new Add item known (λ c h. members_are_code_points 0 (range ∷ []) is.rising c ((is.members c).1 h))
+    (λ left whole points before c.
+    let split = has-append old.collected.items (range ∷ []) c in
+    rw (decided, added, more) (
+      λ w. elim ((before c).0 w) [
+        | inl a ↦ inl a
+        | inr b ↦ inr (
+              elim b.0 [
+                | inl k ↦ inl (split.1 (inl k))
+                | inr t ↦ elim t [ inl l ↦ inr l | inr r ↦ inl (split.1 (inr ((is.members c).1 r))) ]
+              ],
+              b.1,
+            )
+      ],
+      λ h. (before c).1 (elim h [
+        | inl a ↦ inl a
+        | inr b ↦ inr (
+              elim b.0 [
+                | inl k ↦ elim (split.0 k) [ inl m ↦ inl m | inr r ↦ inr (inr ((is.members c).0 r)) ]
+                | inr l ↦ inr (inl l)
+              ],
+              b.1,
+            )
+      ]),
+    ))
+
+-- a set that is put in joins what stands to its left
+pub put_joins : (files : List File) (worth : Option model.SetTree → Option model.SetTree) (old new : SoFar) (item : model.SetTree) (set : List Range) →
+    HasMembers files item set → PutsIn old new set → IsSoFar files worth old → IsSoFar files (λ left. worth (joined_to Add (Some item) left)) new
+put_joins files worth old new item set is puts =
+    part_joins files worth old new Add item puts.known (λ c h. members_are_code_points 0 set is.rising c ((is.members c).1 h)) (λ left whole points before c.
+    rw puts.collected (
+      λ w. elim ((before c).0 w) [
+        | inl a ↦ inl ((puts.added c).1 (inl a))
+        | inr b ↦ elim (has_or_not set c) [
+          | inl s ↦ inl ((puts.added c).1 (inr (s, b.1)))
+          | inr n ↦ inr (
+                elim b.0 [
+                  | inl k ↦ inl k
+                  | inr t ↦ elim t [ inl l ↦ inr l | inr i ↦ absurd (n ((is.members c).1 i)) ]
+                ],
+                λ d. elim ((puts.decided c).0 d) [ inl e ↦ b.1 e | inr r ↦ n r.0 ],
+              )
+        ]
+      ],
+      λ h. (before c).1 (elim h [
+        | inl a ↦ elim ((puts.added c).0 a) [ inl e ↦ inl e | inr r ↦ inr (inr (inr ((is.members c).0 r.0)), r.1) ]
+        | inr b ↦ inr (
+              elim b.0 [ inl k ↦ inl k | inr l ↦ inr (inl l) ],
+              λ d. b.1 ((puts.decided c).1 (inl d)),
+            )
+      ]),
+    ))
+
+-- a set that is taken out joins what stands to its left
+pub out_joins : (files : List File) (worth : Option model.SetTree → Option model.SetTree) (old new : SoFar) (item : model.SetTree) (set : List Range) →
+    HasMembers files item set → old.collected.items ≡ [] → TakesOut old new set → IsSoFar files worth old →
+    IsSoFar files (λ left. worth (joined_to Minus (Some item) left)) new
+out_joins files worth old new item set is none takes =
+    part_joins files worth old new Minus item takes.known (λ c h. members_are_code_points 0 set is.rising c ((is.members c).1 h))
+    (λ left whole points before c.
+    let e = takes.collected ∙ none in
+    let at = rw none at (before c) in
+    rw (e, takes.added) (
+      λ w. elim (at.0 w) [
+        | inl a ↦ inl a
+        | inr b ↦ elim b.0 [
+          | inl n ↦ absurd n
+          | inr t ↦ inr (inr t.0, λ d. elim ((takes.decided c).0 d) [ inl f ↦ b.1 f | inr r ↦ t.1 ((is.members c).0 r.0) ])
+        ]
+      ],
+      λ h. at.1 (elim h [
+        | inl a ↦ inl a
+        | inr b ↦ elim b.0 [
+          | inl n ↦ absurd n
+          | inr l ↦
+              let out : ¬ HasAny old.decided c = λ d. b.1 ((takes.decided c).1 (inl d)) in
+              inr (inr (l, λ i. b.1 ((takes.decided c).1 (inr ((is.members c).1 i, out)))), out)
+        ]
+      ]),
+    ))
+
+-- where those outside of a set are taken out, it joins what stands to its left by what both have
+pub both_joins : (files : List File) (worth : Option model.SetTree → Option model.SetTree) (old new : SoFar) (item : model.SetTree) (set others : List Range) →
+    HasMembers files item set → ((c : ℕ) → Has others c ↔ ((c ≤ 0x10FFFF) × ¬ Has set c)) → old.collected.items ≡ [] → TakesOut old new others →
+    IsSoFar files worth old → IsSoFar files (λ left. worth (joined_to Both (Some item) left)) new
+both_joins files worth old new item set others is outside none takes =
+    part_joins files worth old new Both item takes.known (λ c h. members_are_code_points 0 set is.rising c ((is.members c).1 h))
+    (λ left whole points before c.
+    let e = takes.collected ∙ none in
+    let at = rw none at (before c) in
+    rw (e, takes.added) (
+      λ w. elim (at.0 w) [
+        | inl a ↦ inl a
+        | inr b ↦ elim b.0 [
+          | inl n ↦ absurd n
+          | inr t ↦ inr (inr t.0, λ d. elim ((takes.decided c).0 d) [ inl f ↦ b.1 f | inr r ↦ ((outside c).0 r.0).1 ((is.members c).1 t.1) ])
+        ]
+      ],
+      λ h. at.1 (elim h [
+        | inl a ↦ inl a
+        | inr b ↦ elim b.0 [
+          | inl n ↦ absurd n
+          | inr l ↦
+              let out : ¬ HasAny old.decided c = λ d. b.1 ((takes.decided c).1 (inl d)) in
+              elim (has_or_not set c) [
+                | inl s ↦ inr (inr (l, (is.members c).0 s), out)
+                | inr n ↦ absurd (b.1 ((takes.decided c).1 (inr ((outside c).1 (points c l, n), out))))
+              ]
+        ]
+      ]),
+    ))
+
+-- the collected ranges are put in
+pub settles : (files : List File) (worth : Option model.SetTree → Option model.SetTree) (old between new : SoFar) (set : List Range) →
+    between.known ≡ old.known → between.decided ≡ old.decided → between.added ≡ old.added → between.collected.items ≡ [] →
+    ((c : ℕ) → Has set c ↔ Has old.collected.items c) → PutsIn between new set → IsSoFar files worth old → IsSoFar files worth new
+settles files worth old between new set known decided added none same puts =
+    stays files worth old new (puts.known ∙ known) (λ left whole before c.
+    let e = puts.collected ∙ none in
+    let adds = rw (added, decided) at (puts.added c) in
+    let decides = rw decided at (puts.decided c) in
+    rw e (
+      λ w. elim ((before c).0 w) [
+        | inl a ↦ inl (adds.1 (inl a))
+        | inr b ↦ elim (has_or_not set c) [
+          | inl s ↦ inl (adds.1 (inr (s, b.1)))
+          | inr n ↦ elim b.0 [
+            | inl k ↦ absurd (n ((same c).1 k))
+            | inr t ↦ inr (inr t, λ d. elim (decides.0 d) [ inl f ↦ b.1 f | inr r ↦ n r.0 ])
+          ]
+        ]
+      ],
+      λ h. (before c).1 (elim h [
+        | inl a ↦ elim (adds.0 a) [ inl f ↦ inl f | inr r ↦ inr (inl ((same c).0 r.0), r.1) ]
+        | inr b ↦ elim b.0 [ inl n ↦ absurd n | inr t ↦ inr (inr t, λ d. b.1 (decides.1 (inl d))) ]
+      ]),
+    ))
 
 -- the whole, or the others, is the value of the parts
-pub finished : (files : List File) (left : Option model.SetTree) (negated : Bool) (so_far : SoFar) (whole : List Range) →
-    so_far.known ≡ true → so_far.added.items ≡ [] → IsSoFar files left so_far →
-    ((tree : model.SetTree) → HasMembers files tree so_far.set → HasMembers files (signed negated tree) whole) →
-    IsValue files (option_map (signed negated) left) (Some whole)
-finished files None negated so_far whole known none is signs = cc
-finished files (Some tree) negated so_far whole known none is signs = signs tree (gathered files tree so_far none is)
+pub finished : (files : List File) (worth : Option model.SetTree → Option model.SetTree) (negated : Bool) (so_far : SoFar) (set whole : List Range) →
+    so_far.known ≡ true → so_far.collected.items ≡ [] → ((c : ℕ) → Has set c ↔ HasAny so_far.added c) → AreRising set → IsSoFar files worth so_far →
+    ((tree : model.SetTree) → HasMembers files tree set → HasMembers files (signed negated tree) whole) →
+    IsValue files (option_map (signed negated) (worth (Some model.Nothing))) (Some whole)
+finished files worth negated so_far set whole known none holds rising h signs =
+    let end = h.decided known model.Nothing (λ c n. absurd n) in
+    rw end.1 (signs end.0 (record {
+      rising = rising;
+      members = λ c.
+          let at = rw none at (end.2 c) in (
+            λ s. at.1 (inl ((holds c).0 s)),
+            λ w. elim (at.0 w) [ inl a ↦ (holds c).1 a | inr b ↦ elim b.0 [ inl n ↦ absurd n | inr n ↦ absurd n ] ],
+          );
+    }))
 
 -- where a part was faulty there is no value
-pub spoiled : (files : List File) (left : Option model.SetTree) (negated : Bool) (so_far : SoFar) →
-    so_far.known ≡ false → IsSoFar files left so_far → IsValue files (option_map (signed negated) left) None
-spoiled files None negated so_far known is = tt
-spoiled files (Some tree) negated so_far known is = let k = is.known in cc
-
--- one part for another with the same members
-in_join_along : (join : model.Join) (A : Type 0) (B : Type 0) (C : Type 0) → (B ↔ C) → model.InJoin join A B ↔ model.InJoin join A C
-in_join_along model.Add A B C e = (λ h. elim h [ inl a ↦ inl a | inr b ↦ inr (e.0 b) ], λ h. elim h [ inl a ↦ inl a | inr b ↦ inr (e.1 b) ])
-in_join_along model.Both A B C e = (λ h. (h.0, e.0 h.1), λ h. (h.0, e.1 h.1))
-in_join_along model.Minus A B C e = (λ h. (h.0, λ c. h.1 (e.1 c)), λ h. (h.0, λ b. h.1 (e.0 b)))
+pub spoiled : (files : List File) (worth : Option model.SetTree → Option model.SetTree) (negated : Bool) (so_far : SoFar) →
+    so_far.known ≡ false → IsSoFar files worth so_far → IsValue files (option_map (signed negated) (worth (Some model.Nothing))) None
+spoiled files worth negated so_far known h = rw (h.spoiled known (Some model.Nothing)) tt
 
 -- the range from a character to itself is the character
 only_itself : (c d : ℕ) → ((c ≤ d) × (d ≤ c)) ↔ (d ≡ c)
 only_itself c d = (λ h. omega (arith, h.0, h.1), λ e. (omega arith, omega arith))
 
-pub one_character : (files : List File) (join : Join) (c : ℕ) (left : Option model.SetTree) (so_far : SoFar) →
-    IsSoFar files (joined_to join (Some (model.Span (record { low = c; high = c }))) left) so_far →
-    IsSoFar files (joined_to join (Some (model.Character c)) left) so_far
-one_character files join c None so_far is = is
-one_character files join c (Some tree) so_far is =
+-- the range from a character to itself is the character
+pub of_character : (files : List File) (c : ℕ) → c ≤ 0x10FFFF → HasMembers files (model.Character c) (record { low = c; high = c } ∷ [])
+of_character files c bound =
     record {
-      known = is.known;
-      rising = is.rising;
-      members = λ d.
-          let both = is.members d in
-          let along = in_join_along (join_of join) (model.InSet (HasProperty files) tree d) ((c ≤ d) × (d ≤ c)) (d ≡ c) (only_itself c d) in
-          (λ h. along.0 (both.0 h), λ h. both.1 (along.1 h));
+      rising = (omega arith, omega arith, bound, tt);
+      members = λ d. let same = only_itself c d in (λ h. elim h [ inl i ↦ same.0 i | inr n ↦ absurd n ], λ e. inl (same.1 e));
     }
 
--- a part without a value leaves none
-pub spoils : (files : List File) (join : Join) (left item : Option model.SetTree) (value : Option (List Range)) (so_far : SoFar) →
-    value ≡ None → so_far.known ≡ false → IsValue files item value → IsSoFar files (joined_to join item left) so_far
-spoils files join left None value so_far none known is = known
-spoils files join left (Some tree) value so_far none known is = absurd (subst (IsValue files (Some tree)) none is)
+-- a range has its own members
+pub of_span : (files : List File) (low high : ℕ) → low ≤ high → high ≤ 0x10FFFF →
+    HasMembers files (model.Span (record { low = low; high = high })) (record { low = low; high = high } ∷ [])
+of_span files low high ordered bound =
+    record {
+      rising = (omega arith, ordered, bound, tt);
+      members = λ d. (λ h. elim h [ inl i ↦ i | inr n ↦ absurd n ], λ i. inl i);
+    }
 
 -- a range whose first character is greater than its last has no value
 pub value_of_falling : (first last : ℕ) → last < first → value_of_range first last ≡ None
@@ -103,3 +276,13 @@ pub value_of_rising : (first last : ℕ) → first ≤ last → value_of_range f
 value_of_rising first last rises =
     let e : leb first last ≡ true = grind (arith, nat_tests) in
     ap (λ b. cond b (Some (model.Span (record { low = first; high = last }))) None) e
+
+-- what a value says of its tree
+pub no_value : (files : List File) (item : Option model.SetTree) (value : Option (List Range)) → value ≡ None → IsValue files item value → item ≡ None
+no_value files None value none is = refl
+no_value files (Some tree) value none is = absurd (subst (IsValue files (Some tree)) none is)
+
+pub some_value : (files : List File) (item : Option model.SetTree) (value : Option (List Range)) (set : List Range) → value ≡ Some set →
+    IsValue files item value → (tree : model.SetTree) × (item ≡ Some tree) × HasMembers files tree set
+some_value files None value set some is = absurd (subst (IsValue files None) some is)
+some_value files (Some tree) value set some is = (tree, refl, subst (IsValue files (Some tree)) some is)

@@ -1,8 +1,6 @@
 //! The faults of expressions, and their counts.
-ghost use Rattle.std.specs.Prelude.{◌≡◌, ◌+◌, ℕ, List, Option, Some, None, IfOk, OnOk, IsTrue, ◌↔◌};
+ghost use Rattle.std.specs.Prelude.{◌≡◌, ◌+◌, ℕ, List, Option, Some, None, IfOk, OnOk};
 ghost use Rattle.std.specs.Prelude.{[], ◌∷◌};
-ghost use Rattle.rbbi_model.specs.Words.{IsSurrogate};
-ghost use Rattle.rbbi_model.specs.Ranges.{Has};
 ghost use Rattle.rbbi_model.specs.SetTrees as model;
 ghost use Rattle.rbbi_props.specs.Rows.{File};
 ghost use Rattle.rbbi_tree.specs.Trees.{name as named_atom, property as property_atom};
@@ -204,7 +202,7 @@ pub(crate) fn check_property(
 {
     let set = properties.set_of(alloc, negated, name, value)?;
     note_where(least, set.is_none(), place, 7);
-    let is_empty = is_empty_value(alloc, &set)?;
+    let is_empty = is_empty_value(&set);
     note_where(least, is_empty, place, 9);
     Ok(set)
 }
@@ -229,29 +227,18 @@ pub(crate) fn check_set(
     ensures same { properties.new ≡ properties.old }
 {
     let value = value_of_set(alloc, scope, properties, least, set)?;
-    let is_empty = is_empty_value(alloc, &value)?;
+    let is_empty = is_empty_value(&value);
     note_where(least, is_empty, place, 9);
     Ok(value)
 }
 
 /// Whether a set has a value and holds no character.
-fn is_empty_value(alloc: Global, value: &Option<CodeSet>) -> Result<bool, AllocError>
-    ensures { IfOk result (λ is_empty. (files : List File) (tree : Option model.SetTree)
-        → IsValue files tree value.now → is_empty ≡ is_empty_value files tree) }
+fn is_empty_value(value: &Option<CodeSet>) -> bool
+    ensures { (files : List File) (tree : Option model.SetTree)
+        → IsValue files tree value.now → result ≡ is_empty_value files tree }
 {
     match value {
-        Some(set) => {
-            let holds = holds_character(alloc, set)?;
-            Ok(!holds)
-        }
-        None => Ok(false),
+        Some(set) => !set.holds_character(),
+        None => false,
     }
-}
-
-/// Whether a set holds a character, and not surrogates alone.
-fn holds_character(alloc: Global, set: &CodeSet) -> Result<bool, AllocError>
-    ensures { IfOk result (λ holds. IsTrue holds ↔ ((c : ℕ) × Has set.now c × ¬ IsSurrogate c)) }
-{
-    let characters = set.without_surrogates(alloc)?;
-    Ok(characters.first().is_some())
 }

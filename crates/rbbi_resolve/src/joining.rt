@@ -1,12 +1,13 @@
-//! The value of the parts of a set, joined from the left.
-ghost use Rattle.std.specs.Prelude.{◌≡◌, ◌≤◌, List, [], option_map, IfOk, OnOk, Option, None, Some};
+//! The value of the parts of a set, joined from the last to the first.
+ghost use Rattle.std.specs.Prelude.{◌≡◌, ◌≤◌, List, [], ◌∷◌, option_map, IfOk, OnOk, Option, None, Some};
 ghost use Rattle.rbbi_model.specs.SetTrees as model;
 ghost use Rattle.rbbi_props.specs.Rows.{File};
+ghost use Rattle.rbbi_tree.specs.declared.syntax.Join as trees;
 ghost use Rattle.rbbi_resolve.specs.SetValues.{IsValue, HasMembers, joined_to, signed};
-ghost use Rattle.rbbi_resolve.specs.SetsSoFar.{IsSoFar};
+ghost use Rattle.rbbi_resolve.specs.SetsSoFar.{IsSoFar, PutsIn, TakesOut};
 
 use crate::so_far::SoFar;
-use rbbi_sets::{CodeRange, CodeSet};
+use rbbi_sets::{CodeRange, CodeSet, Pile};
 use rbbi_tree::Join;
 use std::alloc::{AllocError, Global};
 use std::mem;
@@ -14,18 +15,24 @@ use std::mem;
 impl SoFar {
     /// No parts.
     pub(crate) fn new(alloc: Global) -> SoFar
-        ensures { (files : List File) → IsSoFar files (Some model.Nothing) result }
+        ensures { (files : List File) → IsSoFar files (λ left. left) result }
     {
+        let decided = Pile::new(alloc);
+        let added = Pile::new(alloc);
+        let collected = Vec::new(alloc);
         SoFar {
-            set: CodeSet::empty(alloc),
-            added: Vec::new(alloc),
+            decided,
+            added,
+            collected,
             known: true,
         }
     }
 
     /// A part without a value: the whole has none.
     pub(crate) fn spoil(&mut self)
-        ensures { (files : List File) → IsSoFar files None self.new }
+        ensures { (files : List File) (worth : Option model.SetTree → Option model.SetTree)
+            (join : trees.Join) → IsSoFar files worth self.old →
+            IsSoFar files (λ left. worth (joined_to join None left)) self.new }
     {
         self.known = false;
     }
@@ -40,79 +47,101 @@ impl SoFar {
     ) -> Result<(), AllocError>
         requires ordered { low ≤ high }
         requires code_points { high ≤ 0x10FFFF }
-        ensures { OnOk result ((files : List File) (left : Option model.SetTree)
-            → IsSoFar files left self.old →
-            IsSoFar files (joined_to join
-            (Some (model.Span (record { low = low; high = high }))) left) self.new) }
+        ensures { OnOk result ((files : List File)
+            (worth : Option model.SetTree → Option model.SetTree) (tree : model.SetTree) →
+            IsSoFar files worth self.old
+            → HasMembers files tree (record { low = low; high = high } ∷ [])
+            → IsSoFar files (λ left. worth (joined_to join (Some tree) left)) self.new) }
     {
         match join {
             Join::Add => {
-                self.added.push(CodeRange { low, high })?;
+                self.collected.push(CodeRange { low, high })?;
                 Ok(())
             }
             Join::Both | Join::Minus => {
                 let range = CodeSet::range(alloc, low, high)?;
-                self.join(alloc, join, &range)
+                self.join(alloc, join, &range)?;
+                Ok(())
             }
         }
     }
 
     /// Joins a character.
     pub(crate) fn join_char(&mut self, alloc: Global, join: Join, c: char) -> Result<(), AllocError>
-        ensures { OnOk result ((files : List File) (left : Option model.SetTree)
-            → IsSoFar files left self.old →
-            IsSoFar files (joined_to join (Some (model.Character c)) left) self.new) }
+        ensures { OnOk result ((files : List File)
+            (worth : Option model.SetTree → Option model.SetTree) →
+            IsSoFar files worth self.old → IsSoFar files (λ left. worth (joined_to join
+            (Some (model.Character c)) left)) self.new) }
     {
         let code = c as u32;
         self.join_range(alloc, join, code, code)?;
         Ok(())
     }
 
-    /// Joins a set. Where that changes nothing, the set stays as it is and nothing is copied.
+    /// Joins a set.
     pub(crate) fn join(
         &mut self,
         alloc: Global,
         join: Join,
         item: &CodeSet,
     ) -> Result<(), AllocError>
-        ensures { OnOk result ((files : List File) (left : Option model.SetTree)
-            (tree : model.SetTree)
-            → IsSoFar files left self.old → HasMembers files tree item.now
-            → IsSoFar files (joined_to join (Some tree) left) self.new) }
+        ensures { OnOk result ((files : List File)
+            (worth : Option model.SetTree → Option model.SetTree) (tree : model.SetTree) →
+            IsSoFar files worth self.old → HasMembers files tree item.now →
+            IsSoFar files (λ left. worth (joined_to join (Some tree) left)) self.new) }
     {
         match join {
             Join::Add => {
-                if !self.set.holds_all(item) {
-                    self.set = self.set.union(alloc, item)?;
-                }
+                self.put_in(alloc, item)?;
+                Ok(())
             }
             Join::Both => {
                 self.settle(alloc)?;
-                if !item.holds_all(&self.set) {
-                    self.set = self.set.intersect(alloc, item)?;
-                }
+                let others = item.complement(alloc)?;
+                self.take_out(alloc, &others)?;
+                Ok(())
             }
             Join::Minus => {
                 self.settle(alloc)?;
-                if !self.set.holds_none(item) {
-                    self.set = self.set.minus(alloc, item)?;
-                }
+                self.take_out(alloc, item)?;
+                Ok(())
             }
         }
+    }
+
+    /// Decides that what of a set isn't decided about is in.
+    fn put_in(&mut self, alloc: Global, item: &CodeSet) -> Result<(), AllocError>
+        ensures { OnOk result (PutsIn self.old self.new item.now) }
+    {
+        let rest = self.decided.rest(alloc, item)?;
+        let copy = rest.clone()?;
+        self.added.add(alloc, copy)?;
+        self.decided.add(alloc, rest)?;
         Ok(())
     }
 
-    /// Joins the collected ranges to the set.
+    /// Decides that what of a set isn't decided about is out.
+    fn take_out(&mut self, alloc: Global, item: &CodeSet) -> Result<(), AllocError>
+        ensures { OnOk result (TakesOut self.old self.new item.now) }
+    {
+        let rest = self.decided.rest(alloc, item)?;
+        self.decided.add(alloc, rest)?;
+        Ok(())
+    }
+
+    /// Decides that the collected ranges are in.
     fn settle(&mut self, alloc: Global) -> Result<(), AllocError>
-        ensures same { OnOk result ((files : List File) (left : Option model.SetTree)
-            → IsSoFar files left self.old → IsSoFar files left self.new) }
-        ensures settled { OnOk result (self.new.added.items ≡ []) }
+        ensures same { OnOk result ((files : List File)
+            (worth : Option model.SetTree → Option model.SetTree) →
+            IsSoFar files worth self.old → IsSoFar files worth self.new) }
+        ensures settled { OnOk result (self.new.collected.items ≡ []) }
         ensures known { OnOk result (self.new.known ≡ self.old.known) }
     {
-        if !self.added.is_empty() {
-            let added = mem::replace(&mut self.added, Vec::new(alloc));
-            let added = CodeSet::from_ranges(alloc, added)?;
-            self.set = self.set.union(alloc, &added)?;
+        if !self.collected.is_empty() {
+            let none = Vec::new(alloc);
+            let collected = mem::replace(&mut self.collected, none);
+            let item = CodeSet::from_ranges(alloc, collected)?;
+            self.put_in(alloc, &item)?;
         }
         Ok(())
     }
@@ -123,16 +152,18 @@ impl SoFar {
         alloc: Global,
         negated: bool,
     ) -> Result<Option<CodeSet>, AllocError>
-        ensures { IfOk result (λ set. (files : List File) (left : Option model.SetTree)
-            → IsSoFar files left self → IsValue files (option_map (signed negated) left) set) }
+        ensures { IfOk result (λ set. (files : List File)
+            (worth : Option model.SetTree → Option model.SetTree) → IsSoFar files worth self →
+            IsValue files (option_map (signed negated) (worth (Some model.Nothing))) set) }
     {
         if !self.known {
             return Ok(None);
         }
         self.settle(alloc)?;
-        let SoFar { set, .. } = self;
-        let set = with_sign(alloc, negated, set)?;
-        Ok(Some(set))
+        let SoFar { added, .. } = self;
+        let held = added.into_set(alloc)?;
+        let whole = with_sign(alloc, negated, held)?;
+        Ok(Some(whole))
     }
 }
 

@@ -41,14 +41,15 @@ pub(crate) fn value_of_set(
     ensures same { properties.new ≡ properties.old }
 {
     let mut so_far = SoFar::new(alloc);
-    for part in &set.parts.items {
+    for i in (0..set.parts.items.len()).rev() {
+        let part = &set.parts.items[i];
         join_part(alloc, scope, properties, least, &mut so_far, part)?;
     }
     let value = so_far.finish(alloc, set.negated)?;
     Ok(value)
 }
 
-/// Joins a part to what stands to its left, and notes its faults.
+/// Joins a part that stands before those so far, and notes its faults.
 #[cycle(sets)]
 #[tactic(auto, using(crate::proofs::Noting::noted_parts_of_append))]
 fn join_part(
@@ -60,10 +61,10 @@ fn join_part(
     part: &SetPart,
 ) -> Result<(), AllocError>
     requires { IsScope properties.old scope.now }
-    ensures joined { OnOk result ((left : Option model.SetTree) →
-        IsSoFar properties.old left so_far.old
-        → IsSoFar properties.old (value_of_part properties.old
-        (value_of_name (context_of properties.old scope.now)) left (part_tree part.now))
+    ensures joined { OnOk result ((worth : Option model.SetTree → Option model.SetTree) →
+        IsSoFar properties.old worth so_far.old
+        → IsSoFar properties.old (λ left. worth (value_of_part properties.old
+        (value_of_name (context_of properties.old scope.now)) left (part_tree part.now)))
         so_far.new) }
     ensures noted { OnOk result (least.new ≡ noted_parts
         (context_of properties.old scope.now) least.old
@@ -71,11 +72,18 @@ fn join_part(
     ensures same { properties.new ≡ properties.old }
 {
     match &part.item {
-        SetItem::Char(c) => so_far.join_char(alloc, part.join, *c),
-        SetItem::Range(first, last) => {
-            join_span(alloc, least, so_far, part.place, part.join, *first, *last)
+        SetItem::Char(c) => {
+            so_far.join_char(alloc, part.join, *c)?;
+            Ok(())
         }
-        SetItem::Name(name) => join_name(alloc, scope, least, so_far, part.place, part.join, name),
+        SetItem::Range(first, last) => {
+            join_span(alloc, least, so_far, part.place, part.join, *first, *last)?;
+            Ok(())
+        }
+        SetItem::Name(name) => {
+            join_name(alloc, scope, least, so_far, part.place, part.join, name)?;
+            Ok(())
+        }
         SetItem::Prop {
             negated,
             name,
@@ -104,9 +112,10 @@ fn join_span(
     first: char,
     last: char,
 ) -> Result<(), AllocError>
-    ensures joined { OnOk result ((files : List File) (left : Option model.SetTree) →
-        IsSoFar files left so_far.old
-        → IsSoFar files (joined_to join (value_of_range first last) left) so_far.new) }
+    ensures joined { OnOk result ((files : List File)
+        (worth : Option model.SetTree → Option model.SetTree) → IsSoFar files worth so_far.old
+        → IsSoFar files (λ left. worth (joined_to join (value_of_range first last) left))
+        so_far.new) }
     ensures noted { OnOk result (least.new ≡ noted least.old
         (faults_where (nat_lt last first) place 8)) }
 {
@@ -128,12 +137,16 @@ fn join_value(
     join: Join,
     value: &Option<CodeSet>,
 ) -> Result<(), AllocError>
-    ensures { OnOk result ((files : List File) (left item : Option model.SetTree) →
-        IsSoFar files left so_far.old
-        → IsValue files item value.now → IsSoFar files (joined_to join item left) so_far.new) }
+    ensures { OnOk result ((files : List File)
+        (worth : Option model.SetTree → Option model.SetTree) (item : Option model.SetTree) →
+        IsSoFar files worth so_far.old → IsValue files item value.now
+        → IsSoFar files (λ left. worth (joined_to join item left)) so_far.new) }
 {
     match value {
-        Some(set) => so_far.join(alloc, join, set),
+        Some(set) => {
+            so_far.join(alloc, join, set)?;
+            Ok(())
+        }
         None => {
             so_far.spoil();
             Ok(())
@@ -151,18 +164,20 @@ fn join_name(
     join: Join,
     name: &Word,
 ) -> Result<(), AllocError>
-    ensures joined { OnOk result ((files : List File) (left : Option model.SetTree) →
-        IsScope files scope.now
-        → IsSoFar files left so_far.old
-        → IsSoFar files (joined_to join (value_of_name (context_of files scope.now) name.now) left)
-        so_far.new) }
+    ensures joined { OnOk result ((files : List File)
+        (worth : Option model.SetTree → Option model.SetTree) → IsScope files scope.now
+        → IsSoFar files worth so_far.old → IsSoFar files (λ left. worth (joined_to join
+        (value_of_name (context_of files scope.now) name.now) left)) so_far.new) }
     ensures noted { OnOk result ((files : List File) → IsScope files scope.now
         → least.new ≡ noted_parts (context_of files scope.now) least.old
         (Within place (set_name name.now) ∷ [])) }
 {
     match scope.variable(name) {
         Some(variable) => match &variable.kind {
-            Kind::Set(value) => join_value(alloc, so_far, join, value),
+            Kind::Set(value) => {
+                join_value(alloc, so_far, join, value)?;
+                Ok(())
+            }
             Kind::Expression(_) => {
                 note(least, place, 6);
                 so_far.spoil();

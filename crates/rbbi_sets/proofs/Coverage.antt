@@ -57,3 +57,10 @@ pub covers-at : (xs : List Range) (k : ℕ) (d : Range) (c : ℕ) → k < length
 covers-at [] k d c l a b = absurd (omega arith)
 covers-at (x ∷ xs) zero d c l a b = or_left _ _ (is_between-true x.low x.high c a b)
 covers-at (x ∷ xs) (suc k) d c l a b = or_right _ _ (covers-at xs k d c (omega arith) a b)
+
+-- a code point is in a set or not
+pub has_or_not : (ranges : List Range) (c : ℕ) → Has ranges c ⊎ ¬ Has ranges c
+has_or_not ranges c = by_test (covers ranges c) (Decides-covers ranges c) where
+  by_test : {P : Type 0} (b : Bool) → Decides b P → P ⊎ ¬ P
+  by_test true d = inl (d.0 refl)
+  by_test false d = inr (λ p. false≢true (d.1 p))

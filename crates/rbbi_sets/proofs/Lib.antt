@@ -2,7 +2,9 @@ pub mod Coverage
 pub mod Rise
 pub mod Joining
 pub mod Places
-pub mod Sweeping
+pub mod Cutting
+pub mod Merging
+pub mod Piling
 pub mod Alike
 pub mod Meanings
 pub mod Determined

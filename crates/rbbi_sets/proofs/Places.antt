@@ -78,3 +78,24 @@ code_point_left xs at next r h n =
     let d : Range = record { low = 0; high = 0 } in
     let inside = rising-range 0 xs r next d n in
     omega (arith, h.1 next d (omega arith) n, inside.1)
+
+-- with a range that ends before, all up to it do
+pub ended_through : (xs : List Range) (at number : ℕ) (d : Range) → AreRising xs → number < length xs → (get_or xs number d).high < at →
+    AllWithin (λ (range : Range). range.high < at) xs 0 (number + 1)
+ended_through xs at number d r n l k e z b =
+    elim (cases_eq k number) [
+      | inl same ↦ subst (λ (x : Range). x.high < at) (sym (ap (λ i. get_or xs i e) same ∙ get_or_default xs number e d n)) l
+      | inr other ↦
+          let inside = rising-range 0 xs r number e n in
+          let same : (get_or xs number e).high ≡ (get_or xs number d).high = ap (λ (x : Range). x.high) (get_or_default xs number e d n) in
+          omega (arith, rising-apart 0 xs r k number e (omega arith) n, inside.0, same, l)
+    ]
+
+-- where the ranges end before up to a number, and that of the number doesn't, it is the next
+pub next_found : (xs : List Range) (at next : ℕ) → AreRising xs → next ≤ length xs → AllWithin (λ (range : Range). range.high < at) xs 0 next →
+    ((d : Range) → next < length xs → at ≤ (get_or xs next d).high) → IsNextRange xs at next
+next_found xs at next r within h l =
+    elim (cases_eq next (length xs)) [
+      | inl none ↦ next_past xs at next h none
+      | inr some ↦ let d : Range = record { low = 0; high = 0 } in next_stays xs at next d r h (omega arith) (l d (omega arith))
+    ]

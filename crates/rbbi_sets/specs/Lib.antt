@@ -1,5 +1,5 @@
 pub mod Rising
 pub mod Covers
 pub mod Joins
-pub mod Operations
+pub mod Piles
 pub mod Laws

@@ -1,7 +1,8 @@
 //! One pass over two sets that tells whether the one covers all of the other, or nothing of it.
-ghost use Rattle.std.specs.Prelude.{◌≡◌, ◌≤◌, ◌<◌, ◌↔◌, ℕ, length, IsTrue};
+ghost use Rattle.std.specs.Prelude.{◌≡◌, ◌≤◌, ◌<◌, ◌↔◌, ◌+◌, ℕ, length, IsTrue, true, false};
+ghost use Rattle.std.specs.Prelude.{slice_index_or};
 ghost use Rattle.std.specs.List.{AllWithin};
-ghost use Rattle.rbbi_model.specs.Ranges.{Has};
+ghost use Rattle.rbbi_model.specs.Ranges.{Range, Has};
 ghost use Rattle.rbbi_sets.specs.Rising.{AreRising, IsNextRange};
 ghost use Rattle.rbbi_sets.specs.Covers.{covers, IsThroughout};
 
@@ -46,7 +47,10 @@ fn covers_range_alike(wanted: bool, ranges: &[CodeRange], next: usize, low: u32,
 }
 
 /// The number of the first range that doesn't end before `at`, where those before `from` do.
-fn skip_to(ranges: &[CodeRange], from: usize, at: u32) -> usize
+///
+/// It looks at ranges that lie further and further apart, and then searches between the last two,
+/// so a call takes the logarithm of the way that it goes.
+pub(crate) fn skip_to(ranges: &[CodeRange], from: usize, at: u32) -> usize
     requires rising { AreRising ranges.now }
     requires within { from ≤ length ranges.now }
     requires ended { AllWithin (λ range. range.high < at) ranges.now 0 from }
@@ -54,12 +58,34 @@ fn skip_to(ranges: &[CodeRange], from: usize, at: u32) -> usize
     ensures place { IsNextRange ranges.now at result }
 {
     let mut next = from;
-    while next < ranges.len() {
-        let range = ranges[next];
-        if at <= range.high {
-            return next;
+    let mut probe = from;
+    'steps: while is_ended(ranges, probe, at) {
+        next = probe + 1;
+        probe = next + (next - from).min(ranges.len() - next);
+    }
+    'halves: while next < probe {
+        let middle = next + (probe - next) / 2;
+        if is_ended(ranges, middle, at) {
+            next = middle + 1;
+        } else {
+            probe = middle;
         }
-        next += 1;
     }
     next
+}
+
+/// Whether there is a range of this number and it ends before `at`.
+fn is_ended(ranges: &[CodeRange], number: usize, at: u32) -> bool
+    requires rising { AreRising ranges.now }
+    requires within { number ≤ length ranges.now }
+    ensures ended { result ≡ true → (number < length ranges.now)
+        × AllWithin (λ range. range.high < at) ranges.now 0 (number + 1) }
+    ensures left { result ≡ false → (d : Range) → number < length ranges.now →
+        at ≤ (slice_index_or ranges.now number d).high }
+{
+    if number == ranges.len() {
+        return false;
+    }
+    let range = ranges[number];
+    range.high < at
 }

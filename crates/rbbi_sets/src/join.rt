@@ -1,5 +1,5 @@
 //! Ranges put at the end of a list that rises.
-ghost use Rattle.std.specs.Prelude.{◌≤◌, ◌&&◌, OnOk};
+ghost use Rattle.std.specs.Prelude.{◌≤◌, OnOk};
 ghost use Rattle.rbbi_sets.specs.Rising.{AreRising, BeginUpTo};
 ghost use Rattle.rbbi_sets.specs.Covers.{is_between};
 ghost use Rattle.rbbi_sets.specs.Joins.{Joins};
@@ -31,25 +31,4 @@ pub(crate) fn join_last(ranges: &mut Vec<CodeRange>, low: u32, high: u32) -> Res
     }
     ranges.push(CodeRange { low, high })?;
     Ok(())
-}
-
-/// The range where `kept` says so, and nothing otherwise.
-pub(crate) fn join_kept(
-    ranges: &mut Vec<CodeRange>,
-    kept: bool,
-    low: u32,
-    high: u32,
-) -> Result<(), AllocError>
-    requires range { low ≤ high }
-    requires code_points { high ≤ 0x10FFFF }
-    requires rising { AreRising ranges.old.items }
-    requires begin { BeginUpTo ranges.old.items low }
-    ensures { OnOk result (Joins ranges.old.items ranges.new.items
-        (λ c. kept && is_between low high c) low) }
-{
-    if kept {
-        join_last(ranges, low, high)
-    } else {
-        Ok(())
-    }
 }

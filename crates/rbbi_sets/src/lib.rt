@@ -1,15 +1,18 @@
 //! Sets of code points, as ranges that rise and neither overlap nor touch.
 #![tactic(auto)]
 
+mod cut;
 mod inclusion;
 mod join;
 mod laws;
+mod merge;
+mod pile;
 mod range;
 mod set;
-mod sweep;
 #[cfg(test)]
 mod tests;
 
 pub use laws::members_determine;
+pub use pile::Pile;
 pub use range::CodeRange;
 pub use set::CodeSet;

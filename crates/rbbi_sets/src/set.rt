@@ -7,9 +7,10 @@ ghost use Rattle.rbbi_sets.specs.Rising.{AreRising, IsRange};
 ghost use Rattle.rbbi_sets.specs.Covers.{covers};
 
 use crate::CodeRange;
+use crate::cut::cut;
 use crate::inclusion::covers_alike;
 use crate::join::join_last;
-use crate::sweep::{Operation, sweep};
+use crate::merge::merge;
 use std::alloc::{AllocError, Global};
 use std::marker::Model;
 
@@ -85,7 +86,11 @@ impl CodeSet {
             Has set c ↔ (Has self.now c ⊎ Has other.now c)) }
         ensures form { IfOk result (λ set. AreRising set) }
     {
-        let ranges = sweep(alloc, Operation::Union, &self.ranges, &other.ranges)?;
+        if other.first().is_none() {
+            let copy = self.ranges.as_slice().to_vec(alloc)?;
+            return Ok(CodeSet { ranges: copy });
+        }
+        let ranges = merge(alloc, &self.ranges, &other.ranges)?;
         Ok(CodeSet { ranges })
     }
 
@@ -95,8 +100,9 @@ impl CodeSet {
             Has set c ↔ (Has self.now c × Has other.now c)) }
         ensures form { IfOk result (λ set. AreRising set) }
     {
-        let ranges = sweep(alloc, Operation::Intersect, &self.ranges, &other.ranges)?;
-        Ok(CodeSet { ranges })
+        let others = self.minus(alloc, other)?;
+        let both = self.minus(alloc, &others)?;
+        Ok(both)
     }
 
     /// What is in this set and not in the other.
@@ -105,7 +111,7 @@ impl CodeSet {
             Has set c ↔ (Has self.now c × ¬ Has other.now c)) }
         ensures form { IfOk result (λ set. AreRising set) }
     {
-        let ranges = sweep(alloc, Operation::Minus, &self.ranges, &other.ranges)?;
+        let ranges = cut(alloc, &self.ranges, &other.ranges)?;
         Ok(CodeSet { ranges })
     }
 
@@ -115,7 +121,7 @@ impl CodeSet {
             Has set c ↔ ((c ≤ 0x10FFFF) × ¬ Has self.now c)) }
         ensures form { IfOk result (λ set. AreRising set) }
     {
-        let ranges = sweep(alloc, Operation::Minus, &WHOLE, &self.ranges)?;
+        let ranges = cut(alloc, &WHOLE, &self.ranges)?;
         Ok(CodeSet { ranges })
     }
 
@@ -125,7 +131,7 @@ impl CodeSet {
             Has set c ↔ (Has self.now c × ¬ IsSurrogate c)) }
         ensures form { IfOk result (λ set. AreRising set) }
     {
-        let ranges = sweep(alloc, Operation::Minus, &self.ranges, &SURROGATES)?;
+        let ranges = cut(alloc, &self.ranges, &SURROGATES)?;
         Ok(CodeSet { ranges })
     }
 
@@ -149,6 +155,18 @@ impl CodeSet {
         ensures { IsTrue result ↔ ((c : ℕ) → Has other.now c → ¬ Has self.now c) }
     {
         covers_alike(false, &self.ranges, &other.ranges)
+    }
+
+    /// Whether a character is in the set, and not surrogates (0xD800 to 0xDFFF) alone.
+    pub fn holds_character(&self) -> bool
+        ensures { IsTrue result ↔ ((c : ℕ) × Has self.now c × ¬ IsSurrogate c) }
+    {
+        for range in &self.ranges {
+            if range.low < 0xD800 || 0xDFFF < range.high {
+                return true;
+            }
+        }
+        false
     }
 
     /// The least code point, and None exactly where the set holds nothing.

@@ -3,7 +3,7 @@ ghost use Rattle.std.specs.Prelude.{IfOk};
 ghost use Rattle.std.specs.List.{All};
 ghost use Rattle.rbbi_sets.specs.Rising.{IsRange};
 
-use crate::{CodeRange, CodeSet, members_determine};
+use crate::{CodeRange, CodeSet, Pile, members_determine};
 use std::alloc::{AllocError, Global};
 use std::test::Fail;
 
@@ -235,5 +235,103 @@ fn members(rt: HostRuntime) -> Result<(), Fail> {
     assert!(rt; !empty.has(0));
     assert_eq!(rt; empty.first(), None);
     members_determine();
+    Ok(())
+}
+
+#[test]
+fn characters(rt: HostRuntime) -> Result<(), Fail> {
+    let cases: [(Pairs, bool); 7] = [
+        (&[], false),
+        (&[(0, 0)], true),
+        (&[(0xD800, 0xDFFF)], false),
+        (&[(0xD800, 0xD800), (0xD802, 0xDFFE)], false),
+        (&[(0xD7FF, 0xD800)], true),
+        (&[(0xDFFF, 0xE000)], true),
+        (&[(0xD900, 0xDA00), (LAST, LAST)], true),
+    ];
+    for (of, want) in &cases {
+        assert_eq!(rt; set_of(rt.alloc(), of)?.holds_character(), *want);
+    }
+    Ok(())
+}
+
+#[test]
+fn piles(rt: HostRuntime) -> Result<(), Fail> {
+    // Sets that come one after another, and what of each wasn't in the pile yet.
+    let cases: [(Pairs, Pairs); 7] = [
+        (&[(3, 4)], &[(3, 4)]),
+        (&[(1, 9)], &[(1, 2), (5, 9)]),
+        (&[(2, 8)], &[]),
+        (&[], &[]),
+        (
+            &[(0, 0), (20, 20), (30, 33), (40, 40)],
+            &[(0, 0), (20, 20), (30, 33), (40, 40)],
+        ),
+        (&[(22, 22)], &[(22, 22)]),
+        (
+            &[(0, LAST)],
+            &[(10, 19), (21, 21), (23, 29), (34, 39), (41, LAST)],
+        ),
+    ];
+    let mut pile = Pile::new(rt.alloc());
+    for (of, want) in &cases {
+        let set = set_of(rt.alloc(), of)?;
+        let rest = pile.rest(rt.alloc(), &set)?;
+        assert!(rt; is_list(&rest, want));
+        pile.add(rt.alloc(), rest)?;
+    }
+    assert!(rt; is_list(&pile.into_set(rt.alloc())?, &[(0, LAST)]));
+    let nothing = Pile::new(rt.alloc()).into_set(rt.alloc())?;
+    assert!(rt; is_list(&nothing, &[]));
+    Ok(())
+}
+
+#[test]
+fn far_ranges(rt: HostRuntime) -> Result<(), Fail> {
+    // Each even number below 2,000, and ranges that lie far apart in it.
+    let mut evens = Vec::new(rt.alloc());
+    for half in 0..1000 {
+        evens.push(CodeRange {
+            low: half * 2,
+            high: half * 2,
+        })?;
+    }
+    let evens = CodeSet::from_ranges(rt.alloc(), evens)?;
+    let cases: [(Pairs, bool, bool); 6] = [
+        (&[(0, 0), (1998, 1998)], true, false),
+        (
+            &[(0, 0), (1000, 1000), (1002, 1002), (1996, 1996)],
+            true,
+            false,
+        ),
+        (
+            &[(1, 1), (999, 999), (1997, 1997), (1999, 5000)],
+            false,
+            true,
+        ),
+        (&[(2, 2), (1999, 1999)], false, false),
+        (&[(1000, 1001)], false, false),
+        (&[(2000, 2000)], false, true),
+    ];
+    for (of, all, none) in &cases {
+        let set = set_of(rt.alloc(), of)?;
+        assert_eq!(rt; evens.holds_all(&set), *all);
+        assert_eq!(rt; evens.holds_none(&set), *none);
+    }
+    let cut = set_of(rt.alloc(), &[(0, 3), (1990, LAST)])?.minus(rt.alloc(), &evens)?;
+    assert!(rt;
+        is_list(
+            &cut,
+            &[
+                (1, 1),
+                (3, 3),
+                (1991, 1991),
+                (1993, 1993),
+                (1995, 1995),
+                (1997, 1997),
+                (1999, LAST)
+            ]
+        )
+    );
     Ok(())
 }

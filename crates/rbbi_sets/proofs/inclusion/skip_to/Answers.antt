@@ -1,12 +1,11 @@
--- At the first range that doesn't end before.
-use Rattle.std.proofs.Common.{◌≡◌, get_or, ap, ◌∙◌, arith}
-use Rattle.rbbi_model.specs.Ranges.{Range}
-use Rattle.rbbi_sets.proofs.Places.{next_stays}
+-- Where both searches meet.
+use Rattle.std.proofs.Common.{◌≡◌, subst, arith}
+use Rattle.rbbi_sets.proofs.Places.{next_found}
 use Rattle.rbbi_sets.proofs.inclusion.skip_to.Goals as goal
 
-pub returns-then-at-range-clause-place : goal.returns-then-at-range-clause-place
-returns-then-at-range-clause-place c =
-    let d = c.index-ranges-next.result in
-    let high : c.range.inside.high ≡ (get_or c.args.ranges.now c.loop-next.next d).high =
-    ap (λ (r : Range). r.high) (c.range.view_is ∙ c.index-ranges-next.is) in
-    next_stays c.args.ranges.now c.args.at c.loop-next.next d c.requires.rising c.loop-next.invariant.1 (omega arith) (omega (arith, high))
+pub returns-clause-place : goal.returns-clause-place
+returns-clause-place c =
+    let h = c.halves.invariant in
+    let met : c.halves.next ≡ c.halves.probe = omega (arith, h.0) in
+    next_found c.args.ranges.now c.args.at c.halves.next c.requires.rising (omega (arith, h.0, h.1)) h.2
+    (rw met h.3)

@@ -1,9 +1,10 @@
 use Rattle.std.proofs.Common.{◌∙◌}
-use Rattle.rbbi_resolve.proofs.SetJoins.{finished, spoiled}
+use Rattle.rbbi_resolve.proofs.SetJoins.{finished}
 use Rattle.rbbi_resolve.proofs.so_far.SoFar.finish.Goals as goal
 
 pub returns : goal.returns
 returns c =
-    λ files left so_far.
-    finished files left c.args.negated c.settle.new.self _ (c.in_ok-settle.ensures.known ∙ c.if-not-self.false) c.in_ok-settle.ensures.settled
-    (c.in_ok-settle.ensures.same files left so_far) (λ tree is. c.in_ok-set.ensures files tree is)
+    λ files worth h.
+    finished files worth c.args.negated c.settle.new.self c.in_ok-held.held c.in_ok-whole.whole (c.in_ok-settle.ensures.known ∙ c.if-not-self.false)
+    c.in_ok-settle.ensures.settled c.in_ok-held.ensures.members c.in_ok-held.ensures.form (c.in_ok-settle.ensures.same files worth h)
+    (λ tree is. c.in_ok-whole.ensures files tree is)

@@ -1,6 +1,8 @@
-use Rattle.rbbi_resolve.proofs.SetJoins.{one_character}
+use Rattle.std.proofs.Common.{arith}
+use Rattle.rbbi_model.specs.SetTrees as model
+use Rattle.rbbi_resolve.proofs.SetJoins.{of_character}
 use Rattle.rbbi_resolve.proofs.so_far.SoFar.join_char.Goals as goal
 
 pub returns : goal.returns
 returns c =
-    λ files left so_far. one_character files c.args.join c.args.c left c.join_range.new.self (c.in_ok-join_range.ensures files left so_far)
+    λ files worth h. c.in_ok-join_range.ensures files worth (model.Character c.args.c) h (of_character files c.args.c (omega arith))

@@ -1,0 +1,185 @@
+-- What holds while one list is cut out of another.
+use Rattle.std.proofs.Common.{◌≡◌, ℕ, ◌+◌, ◌<◌, ◌≤◌, Bool, true, false, not, ◌&&◌, ◌||◌, ◌⊎◌, List, [], ◌∷◌, length, get_or, refl, ap, sym, ◌∙◌, subst, inl, inr}
+use Rattle.std.proofs.Common.{ltb, arith}
+use Rattle.std.specs.List.{AllWithin}
+use Rattle.std.proofs.lemmas.Bool.{cases_lt, cases_eq, lt-ltb}
+use Rattle.std.proofs.lemmas.Bool.Decides.{nat_tests}
+use Rattle.rbbi_model.specs.Ranges.{Range}
+use Rattle.rbbi_sets.specs.Covers.{is_between, covers}
+use Rattle.rbbi_sets.specs.Joins.{Joins}
+use Rattle.rbbi_sets.specs.Rising.{AreRising, BeginUpTo, IsNextRange}
+use Rattle.rbbi_sets.proofs.Coverage.{is_between-true, is_between-below, is_between-above, covers-at}
+use Rattle.rbbi_sets.proofs.Rise.{begin-weaker, rising-range}
+use Rattle.rbbi_sets.proofs.Places.{covers-past, covers-gap, next_stays, next_moves}
+
+-- from one code point on, the list covers none before the hole, and all in it
+pub record IsHole (right : List Range) (from low high : ℕ) : Type 0 where
+  pub ordered : low ≤ high
+  pub past : from ≤ high
+  pub outside : (c : ℕ) → from ≤ c → c < low → covers right c ≡ false
+  pub inside : (c : ℕ) → low ≤ c → c ≤ high → c ≤ 0x10FFFF → covers right c ≡ true
+
+pub IsHole-range : (right : List Range) (from next : ℕ) (d : Range) → AreRising right → IsNextRange right from next → next < length right →
+    IsHole right from (get_or right next d).low (get_or right next d).high
+IsHole-range right from next d rises place more = record {
+  ordered = (rising-range 0 right rises next d more).0;
+  past = place.1 next d (omega arith) more;
+  outside = λ c l m. covers-gap right from next c d rises place more l m;
+  inside = λ c l m n. covers-at right next d c more l m;
+}
+
+pub IsHole-end : (right : List Range) (from next : ℕ) → IsNextRange right from next → next ≡ length right → from ≤ 0x110000 →
+    IsHole right from 0x110000 0x110000
+IsHole-end right from next place none bound = record {
+  ordered = omega arith;
+  past = bound;
+  outside = λ c l m. covers-past right from next c place none l;
+  inside = λ c l m n. absurd (omega arith);
+}
+
+-- the hole, whether a range is left or none
+pub IsHole-next : (right : List Range) (from next : ℕ) (hole : Range) → AreRising right → IsNextRange right from next → next ≤ length right → from ≤ 0x110000 →
+    ((d : Range) → next < length right → hole ≡ get_or right next d) →
+    (next ≡ length right → (hole.low ≡ 0x110000) × (hole.high ≡ 0x110000)) → IsHole right from hole.low hole.high
+IsHole-next right from next hole rises place within bound range end =
+    elim (cases_lt next (length right)) [
+      | inl more ↦ subst (λ (x : Range). IsHole right from x.low x.high) (sym (range hole more)) (IsHole-range right from next hole rises place more)
+      | inr none ↦
+          let e : next ≡ length right = omega arith in
+          rw ((end e).0, (end e).1) (IsHole-end right from next place e bound)
+    ]
+
+-- the kept ranges are right up to a code point, and each list stands at its first range that doesn't end before it
+pub record IsCut (left right kept : List Range) (next_left next_right at : ℕ) : Type 0 where
+  pub left_within : next_left ≤ length left
+  pub left_place : IsNextRange left at next_left
+  pub right_within : next_right ≤ length right
+  pub right_ended : AllWithin (λ (range : Range). range.high < at) right 0 next_right
+  pub bound : at ≤ 0x110000
+  pub rising : AreRising kept
+  pub begin : BeginUpTo kept at
+  pub below : (c : ℕ) → c < at → covers kept c ≡ (covers left c && not (covers right c))
+  pub above : (c : ℕ) → at ≤ c → covers kept c ≡ false
+
+pub IsCut-none : (left right kept : List Range) → kept ≡ [] → IsCut left right kept 0 0 0
+IsCut-none left right kept e =
+    subst (λ ranges. IsCut left right ranges 0 0 0) (sym e) (record {
+      left_within = omega arith;
+      left_place = (λ k d l m. absurd (omega arith), λ k d l m. omega arith);
+      right_within = omega arith;
+      right_ended = λ k d l m. absurd (omega arith);
+      bound = omega arith;
+      rising = tt;
+      begin = tt;
+      below = λ c l. absurd (omega arith);
+      above = λ c l. refl;
+    })
+
+or-false : (x y : Bool) → y ≡ false → (x || y) ≡ x
+or-false true y e = refl
+or-false false y e = e
+
+module _ (left right kept more : List Range) (next_left next_right after at low high : ℕ) (hole_low hole_high : ℕ) (d : Range)
+    (left_rises : AreRising left) (h : IsCut left right kept next_left next_right at) (inside : next_left < length left)
+    (high_is : high ≡ (get_or left next_left d).high) (low_from : at ≤ low) (low_in : (get_or left next_left d).low ≤ low)
+    (low_first : (c : ℕ) → at ≤ c → c < low → c < (get_or left next_left d).low) (ordered : low ≤ high)
+    (after_within : after ≤ length right) (place : IsNextRange right low after)
+    (hole : IsHole right low hole_low hole_high)
+    (joins : Joins kept more (λ c. is_between low high c && ltb c hole_low) low) where
+  high_bound : high ≤ 0x10FFFF
+  high_bound = omega (arith, high_is, (rising-range 0 left left_rises next_left d inside).1)
+
+  -- what is kept of the stretch
+  abbrev added : ℕ → Bool
+  added c = is_between low high c && ltb c hole_low
+
+  added-in : (c : ℕ) → low ≤ c → c ≤ high → c < hole_low → added c ≡ true
+  added-in c l m n = grind (arith, nat_tests)
+
+  added-before : (c : ℕ) → c < low → added c ≡ false
+  added-before c l = grind (arith, nat_tests)
+
+  added-after : (c : ℕ) → high < c → added c ≡ false
+  added-after c l = grind (arith, nat_tests)
+
+  added-hole : (c : ℕ) → hole_low ≤ c → added c ≡ false
+  added-hole c l = grind (arith, nat_tests)
+
+  not_added : (c : ℕ) → added c ≡ false → covers more c ≡ covers kept c
+  not_added c e = joins.members c ∙ or-false (covers kept c) (added c) e
+
+  and-not : (a b : Bool) → b ≡ true → (a && not b) ≡ false
+  and-not true b e = ap not e
+  and-not false b e = refl
+
+  below : (c : ℕ) → c ≤ hole_high → c ≤ high → covers more c ≡ (covers left c && not (covers right c))
+  below c m n =
+      elim (cases_lt c low) [
+        | inl before ↦
+            not_added c (added-before c before)
+            ∙ elim (cases_lt c at) [
+              | inl done ↦ h.below c done
+              | inr from ↦
+                  h.above c from ∙ sym (ap (λ b. b && not (covers right c)) (covers-gap left at next_left c d left_rises h.left_place inside from (low_first c from before)))
+            ]
+        | inr from ↦ elim (cases_lt c hole_low) [
+          | inl kept_here ↦
+              joins.members c
+              ∙ ap (λ b. covers kept c || b) (added-in c from n kept_here)
+              ∙ ap (λ b. b || true) (h.above c (omega arith))
+              ∙ sym (ap not (hole.outside c from kept_here))
+              ∙ sym (ap (λ b. b && not (covers right c)) (covers-at left next_left d c inside (omega arith) (omega (arith, high_is))))
+          | inr in_hole ↦
+              not_added c (added-hole c in_hole)
+              ∙ h.above c (omega arith)
+              ∙ sym (and-not (covers left c) (covers right c) (hole.inside c in_hole m (omega (arith, high_bound))))
+        ]
+      ]
+
+  above : (c : ℕ) → low ≤ c → (high < c) ⊎ (hole_low ≤ c) → covers more c ≡ false
+  above c l past =
+      elim past [
+        | inl behind ↦ not_added c (added-after c behind) ∙ h.above c (omega arith)
+        | inr in_hole ↦ not_added c (added-hole c in_hole) ∙ h.above c (omega arith)
+      ]
+
+  -- the hole ends in the range
+  pub IsCut-hole : hole_high < high → IsCut left right more next_left after (hole_high + 1)
+  IsCut-hole short = record {
+    left_within = h.left_within;
+    left_place = next_stays left (hole_high + 1) next_left d left_rises (λ k e z m. omega (arith, h.left_place.0 k e z m, low_from, hole.past)) inside
+        (omega (arith, high_is));
+    right_within = after_within;
+    right_ended = λ k e z m. omega (arith, place.0 k e z m, hole.past);
+    bound = omega (arith, high_bound);
+    rising = joins.rising;
+    begin = begin-weaker more low (hole_high + 1) (omega (arith, hole.past)) joins.begin;
+    below = λ c l. below c (omega arith) (omega arith);
+    above = λ c l. above c (omega (arith, hole.past)) (inr (omega (arith, hole.ordered)));
+  }
+
+  -- the range ends in the hole or before it
+  pub IsCut-range : high ≤ hole_high → IsCut left right more (next_left + 1) after (high + 1)
+  IsCut-range long = record {
+    left_within = omega arith;
+    left_place = next_moves left (high + 1) next_left d left_rises (λ k e z m. omega (arith, h.left_place.0 k e z m, low_from, ordered)) inside
+        (omega (arith, high_is)) (omega (arith, high_is));
+    right_within = after_within;
+    right_ended = λ k e z m. omega (arith, place.0 k e z m, ordered);
+    bound = omega (arith, high_bound);
+    rising = joins.rising;
+    begin = begin-weaker more low (high + 1) (omega (arith, ordered)) joins.begin;
+    below = λ c l. below c (omega arith) (omega arith);
+    above = λ c l. above c (omega (arith, ordered)) (inl (omega arith));
+  }
+
+-- no range of the left list is left
+pub IsCut-all : (left right kept : List Range) (next_left next_right at : ℕ) → IsCut left right kept next_left next_right at →
+    length left ≤ next_left → (c : ℕ) → covers kept c ≡ (covers left c && not (covers right c))
+IsCut-all left right kept next_left next_right at h none c =
+    elim (cases_lt c at) [
+      | inl before ↦ h.below c before
+      | inr from ↦
+          let e : next_left ≡ length left = omega (arith, h.left_within) in
+          h.above c from ∙ sym (ap (λ b. b && not (covers right c)) (covers-past left at next_left c h.left_place e from))
+    ]

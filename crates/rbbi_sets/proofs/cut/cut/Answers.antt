@@ -1,0 +1,97 @@
+-- A step of the pass, and its end.
+use Rattle.std.proofs.Common.{ap, sym, subst, ◌∙◌, arith}
+use Rattle.rbbi_model.specs.Ranges.{Range}
+use Rattle.rbbi_sets.proofs.Rise.{rising-range, begin-weaker}
+use Rattle.rbbi_sets.proofs.Cutting.{IsHole, IsHole-next, IsCut-hole, IsCut-range, IsCut-all}
+use Rattle.rbbi_sets.proofs.cut.cut.Goals as goal
+
+pub keep_before-requires-clause-range : goal.keep_before-requires-clause-range
+keep_before-requires-clause-range c =
+    let d = c.index-left-next_left.result in
+    let low = ap (λ (r : Range). r.low) (c.range.view_is ∙ c.index-left-next_left.is) in
+    let high = ap (λ (r : Range). r.high) (c.range.view_is ∙ c.index-left-next_left.is) in
+    let inside = rising-range 0 c.args.left.now c.requires.left_rises c.holes.next_left d (omega arith) in
+    let here = c.holes.invariant.left_place.1 c.holes.next_left d (omega arith) (omega arith) in
+    omega (arith, low, high, inside.0, here, c.max-low.ensures)
+
+pub keep_before-requires-clause-code_points : goal.keep_before-requires-clause-code_points
+keep_before-requires-clause-code_points c =
+    let d = c.index-left-next_left.result in
+    let high = ap (λ (r : Range). r.high) (c.range.view_is ∙ c.index-left-next_left.is) in
+    omega (arith, high, (rising-range 0 c.args.left.now c.requires.left_rises c.holes.next_left d (omega arith)).1)
+
+pub keep_before-requires-clause-begin : goal.keep_before-requires-clause-begin
+keep_before-requires-clause-begin c =
+    begin-weaker c.holes.kept.items c.holes.at c.max-low.result (omega (arith, c.max-low.ensures)) c.holes.invariant.begin
+
+pub holes-smaller-then-hole-range : goal.holes-smaller-then-hole-range
+holes-smaller-then-hole-range c =
+    let d = c.index-left-next_left.result in
+    let low = ap (λ (r : Range). r.low) (c.range.view_is ∙ c.index-left-next_left.is) in
+    let high = ap (λ (r : Range). r.high) (c.range.view_is ∙ c.index-left-next_left.is) in
+    let inside = rising-range 0 c.args.left.now c.requires.left_rises c.holes.next_left d (omega arith) in
+    let here = c.holes.invariant.left_place.1 c.holes.next_left d (omega arith) (omega arith) in
+    let place = c.skip_to-next_right.ensures.place in
+    let h = c.range_or_end-hole.ensures in
+    let hole : IsHole c.args.right.now c.max-low.result c.hole.inside.low c.hole.inside.high =
+    subst (λ (r : Range). IsHole c.args.right.now c.max-low.result r.low r.high) (sym c.hole.view_is)
+    (IsHole-next c.args.right.now c.max-low.result c.skip_to-next_right.result c.range_or_end-hole.result c.requires.right_rises place
+    c.skip_to-next_right.ensures.within (omega (arith, low, high, here, inside.0, inside.1, c.max-low.ensures)) h.range h.end) in
+    omega (arith, hole.past, c.max-low.ensures, c.holes.invariant.bound, high, inside.1)
+
+pub holes-preserved-then-hole-range : goal.holes-preserved-then-hole-range
+holes-preserved-then-hole-range c =
+    let d = c.index-left-next_left.result in
+    let low = ap (λ (r : Range). r.low) (c.range.view_is ∙ c.index-left-next_left.is) in
+    let high = ap (λ (r : Range). r.high) (c.range.view_is ∙ c.index-left-next_left.is) in
+    let inside = rising-range 0 c.args.left.now c.requires.left_rises c.holes.next_left d (omega arith) in
+    let here = c.holes.invariant.left_place.1 c.holes.next_left d (omega arith) (omega arith) in
+    let place = c.skip_to-next_right.ensures.place in
+    let h = c.range_or_end-hole.ensures in
+    let hole : IsHole c.args.right.now c.max-low.result c.hole.inside.low c.hole.inside.high =
+    subst (λ (r : Range). IsHole c.args.right.now c.max-low.result r.low r.high) (sym c.hole.view_is)
+    (IsHole-next c.args.right.now c.max-low.result c.skip_to-next_right.result c.range_or_end-hole.result c.requires.right_rises place
+    c.skip_to-next_right.ensures.within (omega (arith, low, high, here, inside.0, inside.1, c.max-low.ensures)) h.range h.end) in
+    IsCut-hole c.args.left.now c.args.right.now c.holes.kept.items c.keep_before.new.ranges.items c.holes.next_left c.holes.next_right
+    c.skip_to-next_right.result c.holes.at c.max-low.result c.range.inside.high c.hole.inside.low c.hole.inside.high d c.requires.left_rises
+    c.holes.invariant (omega arith) high (omega (arith, c.max-low.ensures)) (omega (arith, low, c.max-low.ensures))
+    (λ code l m. omega (arith, low, c.max-low.ensures)) (omega (arith, low, high, inside.0, here, c.max-low.ensures))
+    c.skip_to-next_right.ensures.within place hole c.in_ok-keep_before.ensures (omega arith)
+
+pub overflow_add-at-else-hole-range : goal.overflow_add-at-else-hole-range
+overflow_add-at-else-hole-range c =
+    let d = c.index-left-next_left.result in
+    let high = ap (λ (r : Range). r.high) (c.range.view_is ∙ c.index-left-next_left.is) in
+    omega (arith, high, (rising-range 0 c.args.left.now c.requires.left_rises c.holes.next_left d (omega arith)).1)
+
+pub holes-smaller : goal.holes-smaller
+holes-smaller c =
+    let d = c.index-left-next_left.result in
+    let low = ap (λ (r : Range). r.low) (c.range.view_is ∙ c.index-left-next_left.is) in
+    let high = ap (λ (r : Range). r.high) (c.range.view_is ∙ c.index-left-next_left.is) in
+    let inside = rising-range 0 c.args.left.now c.requires.left_rises c.holes.next_left d (omega arith) in
+    let here = c.holes.invariant.left_place.1 c.holes.next_left d (omega arith) (omega arith) in
+    omega (arith, here, high, inside.1)
+
+pub holes-preserved : goal.holes-preserved
+holes-preserved c =
+    let d = c.index-left-next_left.result in
+    let low = ap (λ (r : Range). r.low) (c.range.view_is ∙ c.index-left-next_left.is) in
+    let high = ap (λ (r : Range). r.high) (c.range.view_is ∙ c.index-left-next_left.is) in
+    let inside = rising-range 0 c.args.left.now c.requires.left_rises c.holes.next_left d (omega arith) in
+    let here = c.holes.invariant.left_place.1 c.holes.next_left d (omega arith) (omega arith) in
+    let place = c.skip_to-next_right.ensures.place in
+    let h = c.range_or_end-hole.ensures in
+    let hole : IsHole c.args.right.now c.max-low.result c.hole.inside.low c.hole.inside.high =
+    subst (λ (r : Range). IsHole c.args.right.now c.max-low.result r.low r.high) (sym c.hole.view_is)
+    (IsHole-next c.args.right.now c.max-low.result c.skip_to-next_right.result c.range_or_end-hole.result c.requires.right_rises place
+    c.skip_to-next_right.ensures.within (omega (arith, low, high, here, inside.0, inside.1, c.max-low.ensures)) h.range h.end) in
+    IsCut-range c.args.left.now c.args.right.now c.holes.kept.items c.keep_before.new.ranges.items c.holes.next_left c.holes.next_right
+    c.skip_to-next_right.result c.holes.at c.max-low.result c.range.inside.high c.hole.inside.low c.hole.inside.high d c.requires.left_rises
+    c.holes.invariant (omega arith) high (omega (arith, c.max-low.ensures)) (omega (arith, low, c.max-low.ensures))
+    (λ code l m. omega (arith, low, c.max-low.ensures)) (omega (arith, low, high, inside.0, here, c.max-low.ensures))
+    c.skip_to-next_right.ensures.within place hole c.in_ok-keep_before.ensures (omega arith)
+
+pub returns-clause-members : goal.returns-clause-members
+returns-clause-members c =
+    IsCut-all c.args.left.now c.args.right.now c.holes.kept.items c.holes.next_left c.holes.next_right c.holes.at c.holes.invariant (omega arith)

@@ -1,0 +1,82 @@
+//! One pass that takes one set away from another.
+ghost use Rattle.std.specs.Prelude.{◌≡◌, ◌≤◌, ◌<◌, ℕ, IfOk, OnOk, length, not, ◌&&◌, nat_lt};
+ghost use Rattle.std.specs.Prelude.{slice_index_or};
+ghost use Rattle.rbbi_model.specs.Ranges.{Range};
+ghost use Rattle.rbbi_sets.specs.Rising.{AreRising, BeginUpTo};
+ghost use Rattle.rbbi_sets.specs.Covers.{covers, is_between};
+ghost use Rattle.rbbi_sets.specs.Joins.{Joins};
+
+use crate::CodeRange;
+use crate::inclusion::skip_to;
+use crate::join::join_last;
+use std::alloc::{AllocError, Global};
+
+/// One past the last code point.
+const END: u32 = 0x11_0000;
+
+/// The code points of the left list that aren't in the right one.
+///
+/// The pass goes through the left list and finds by `skip_to` what of the right one lies in a
+/// range, so a long right list costs little where the left one is short.
+pub(crate) fn cut(
+    alloc: Global,
+    left: &[CodeRange],
+    right: &[CodeRange],
+) -> Result<Vec<CodeRange>, AllocError>
+    requires left_rises { AreRising left.now }
+    requires right_rises { AreRising right.now }
+    ensures members { IfOk result (λ ranges. (c : ℕ) →
+        covers ranges.items c ≡ (covers left.now c && not (covers right.now c))) }
+    ensures form { IfOk result (λ ranges. AreRising ranges.items) }
+{
+    let mut kept = Vec::new(alloc);
+    let mut next_left = 0;
+    let mut next_right = 0;
+    let mut at = 0;
+    'holes: while next_left < left.len() {
+        let range = left[next_left];
+        let low = range.low.max(at);
+        next_right = skip_to(right, next_right, low);
+        let hole = range_or_end(right, next_right);
+        keep_before(&mut kept, low, range.high, hole.low)?;
+        if hole.high < range.high {
+            at = hole.high + 1;
+        } else {
+            at = range.high + 1;
+            next_left += 1;
+        }
+    }
+    Ok(kept)
+}
+
+/// Adds the code points from `low` to `high` that lie before `end`.
+fn keep_before(ranges: &mut Vec<CodeRange>, low: u32, high: u32, end: u32) -> Result<(), AllocError>
+    requires range { low ≤ high }
+    requires code_points { high ≤ 0x10FFFF }
+    requires rising { AreRising ranges.old.items }
+    requires begin { BeginUpTo ranges.old.items low }
+    ensures { OnOk result (Joins ranges.old.items ranges.new.items
+        (λ c. is_between low high c && nat_lt c end) low) }
+{
+    if end <= low {
+        return Ok(());
+    }
+    join_last(ranges, low, high.min(end - 1))
+}
+
+/// The range of this number, or where there is none, one past the last code point.
+fn range_or_end(ranges: &[CodeRange], next: usize) -> CodeRange
+    requires within { next ≤ length ranges.now }
+    ensures range { (d : Range) → next < length ranges.now →
+        result ≡ slice_index_or ranges.now next d }
+    ensures end { next ≡ length ranges.now → (result.low ≡ 0x110000) × (result.high ≡ 0x110000) }
+{
+    if next < ranges.len() {
+        ranges[next]
+    } else {
+        CodeRange {
+            low: END,
+            high: END,
+        }
+    }
+}
