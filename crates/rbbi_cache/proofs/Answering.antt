@@ -1,18 +1,20 @@
 -- What a true run shows is the answer, statuses and all.
-use Rattle.std.proofs.Common.{◌≡◌, ℕ, ◌+◌, ◌≤◌, List, [], ◌∷◌, ◌++◌, eqb, map, sym, refl, ap, ◌∙◌, subst, ⊎_elim, arith}
+use Rattle.std.proofs.Common.{◌≡◌, ℕ, ◌+◌, ◌≤◌, Option, List, [], ◌∷◌, ◌++◌, length, eqb, map, sym, refl, ap, ◌∙◌, subst, ⊎_elim, arith}
+use Rattle.std.specs.Prelude.{unwrap_or}
 use Rattle.std.specs.List.{AllByRecursion}
 use Rattle.std.proofs.lemmas.Bool.{cases_eq, cond-false, ne_eqb}
 use Rattle.rbbi_model.specs.Boundaries.{Boundary}
 use Rattle.rbbi_model.specs.Tables.{Table}
 use Rattle.rbbi_model.specs.ValidTables.{IsValidTable}
 use Rattle.rbbi_model.specs.Searches.{fresh, table_boundaries}
-use Rattle.rbbi_model.specs.Runs.{Entry, Run, low, boundary_of, IsTrueRun}
+use Rattle.rbbi_model.specs.Runs.{Entry, Run, low, boundary_of, IsTrueRun, ShowsAfter, ShowsBefore}
 use Rattle.rbbi_model.proofs.FreshTrue.{fresh_true}
 use Rattle.rbbi_model.proofs.Shown.{shown_after, shown_before}
-use Rattle.rbbi_cache.specs.Kept.{IsBoundaryOf, IsFirstAfter, IsLastBefore, SomeRun}
+use Rattle.rbbi_cache.specs.Kept.{AreTrueRuns, IsBoundaryOf, IsFirstAfter, IsLastBefore, SomeRun}
 use Rattle.rbbi_cache.specs.Shown.{IsShownAfter, IsShownBefore}
 use Rattle.rbbi_cache.specs.Ready.{KeepsTrue}
 use Rattle.rbbi_cache.proofs.RunFacts as facts
+use Rattle.rbbi_cache.proofs.Keeping.{entry_within}
 use Rattle.rbbi_cache.proofs.Members.{SomeMember, member_stands, standing, member_kept, member_of_kept}
 
 module _ (table : Table) (valid : IsValidTable table) (x : List ℕ) where
@@ -65,6 +67,42 @@ module _ (table : Table) (valid : IsValidTable table) (x : List ℕ) where
   pub answer_before : (i : ℕ) (entry : Entry) (former now : List Run) → KeepsTrue table x (λ r. IsShownBefore x r i entry) former now → IsLastBefore table x i
       entry
   answer_before i entry former now keeps = is_last_before (keeps.0).first (first_true (λ r. IsShownBefore x r i entry) former now keeps) i entry (keeps.0).shows
+
+  -- what some true run shows is the answer
+  pub same_after : (i a : ℕ) (entry : Entry) (runs : List Run) → AreTrueRuns table x runs → SomeRun (λ r. ShowsAfter r i a) runs → IsFirstAfter table x i entry →
+      entry.at ≡ a
+  same_after i a entry [] are_true some first = absurd some
+  same_after i a entry (run ∷ runs) are_true some first =
+      ⊎_elim
+      (λ here. ap (λ (o : Option ℕ). unwrap_or o 0) (sym first.first ∙ shown_after table valid x run are_true.0 i a here))
+      (λ later. same_after i a entry runs are_true.1 later first)
+      some
+
+  pub same_before : (i a : ℕ) (entry : Entry) (runs : List Run) → AreTrueRuns table x runs → SomeRun (λ r. ShowsBefore x r i a) runs → IsLastBefore table x i
+      entry → entry.at ≡ a
+  same_before i a entry [] are_true some last = absurd some
+  same_before i a entry (run ∷ runs) are_true some last =
+      ⊎_elim
+      (λ here. ap (λ (o : Option ℕ). unwrap_or o 0) (sym last.last ∙ shown_before table valid x run are_true.0 i a here))
+      (λ later. same_before i a entry runs are_true.1 later last)
+      some
+
+  -- and it lies within the text
+  pub none_past_end : (i a : ℕ) (runs : List Run) → AreTrueRuns table x runs → length x ≤ i → SomeRun (λ r. ShowsAfter r i a) runs → ⊥
+  none_past_end i a [] are_true far some = some
+  none_past_end i a (run ∷ runs) are_true far some =
+      ⊎_elim
+      (λ here.
+      let within : here.entry.at ≤ length x = entry_within table valid x run are_true.0 here.before here.entry here.after here.whole in
+      omega (arith, within, here.at, here.past))
+      (λ later. none_past_end i a runs are_true.1 far later)
+      some
+
+-- no boundary lies before 0
+pub none_before_start : (x : List ℕ) (i a : ℕ) (runs : List Run) → i ≡ 0 → SomeRun (λ r. ShowsBefore x r i a) runs → ⊥
+none_before_start x i a [] start some = some
+none_before_start x i a (run ∷ runs) start some =
+    ⊎_elim (λ here. omega (arith, here.short_of)) (λ later. none_before_start x i a runs start later) some
 
 -- where no run is such a one, none is
 pub no_run : (Such : ℕ → Run → Type 0) (runs : List Run) → AllByRecursion (λ run. (a : ℕ) → Such a run → ⊥) runs → (a : ℕ) → SomeRun (Such a) runs → ⊥

@@ -10,6 +10,7 @@ use Rattle.rbbi_model.specs.Runs.{Entry, Run, boundary_of, farthest_look, Reache
 use Rattle.rbbi_cache.specs.Kept.{HaveLeastReaches, last_reach, HasLeastReaches, IsExtendedBy}
 use Rattle.rbbi_cache.specs.Scans.{Scan, IsScan}
 use Rattle.rbbi_cache.proofs.Lists.{all_join}
+use Rattle.rbbi_cache.proofs.Among.{among_more}
 use Rattle.rbbi_cache.proofs.Reached.{done_is}
 use Rattle.rbbi_cache.proofs.Paths.{reached_of}
 use Rattle.rbbi_cache.proofs.RunFacts as facts
@@ -113,4 +114,4 @@ module _ (table : Table) (valid : IsValidTable table) (x : List ℕ) (i : ℕ) (
       }
 
   pub extends : IsExtendedBy former (record { anchor = former.anchor; entries = former.entries ++ scan.found; leads = former.leads })
-  extends = record { anchor = refl; more = scan.found; entries = refl; leads = λ so. so }
+  extends = record { anchor = refl; entries = among_more former.entries scan.found; leads = λ so. so }

@@ -1,14 +1,13 @@
 -- What is kept after an answer.
-use Rattle.std.proofs.Common.{◌≡◌, ℕ, ◌-◌, ◌<◌, ◌≤◌, Bool, true, false, List, [], ◌∷◌, ◌++◌, length, length-take, length-drop, take, drop, map, sym, refl, ap}
-use Rattle.std.proofs.Common.{◌∙◌, subst, inr, ⊎_elim, arith}
+use Rattle.std.proofs.Common.{◌≡◌, ℕ, ◌-◌, ◌<◌, ◌≤◌, Bool, true, false, List, [], ◌∷◌, ◌++◌, length, map, sym, refl, ap, ◌∙◌, subst, inr, ⊎_elim, arith}
 use Rattle.std.specs.List.{AllByRecursion}
-use Rattle.std.proofs.lemmas.Bool.{cases_lt}
-use Rattle.std.proofs.lemmas.List.{append-nil, take-append-drop, take_all}
+use Rattle.std.proofs.lemmas.List.{append-nil}
 use Rattle.rbbi_model.specs.Tables.{Table}
 use Rattle.rbbi_model.specs.ValidTables.{IsValidTable}
+use Rattle.rbbi_model.specs.Lists.{IsRising}
 use Rattle.rbbi_model.specs.Searches.{fresh}
 use Rattle.rbbi_model.specs.Runs.{Entry, Run, IsAnchor, boundary_of, AreConsecutive, IsTrueRun}
-use Rattle.rbbi_cache.specs.Kept.{AreTrueRuns, IsExtendedBy, AreLeft, Added, Extended, Dropped, HasLeastReaches}
+use Rattle.rbbi_cache.specs.Kept.{AreTrueRuns, IsExtendedBy, AreLeft, Extended, HasLeastReaches, IsPutFirst}
 use Rattle.rbbi_cache.specs.Shown.{IsShownAfter, IsShownBefore}
 use Rattle.rbbi_cache.specs.Lists.{IsOrdered, HasAt}
 use Rattle.rbbi_cache.specs.Ready.{GoesOnAs, GoesOnAt, KeepsTrue}
@@ -16,12 +15,8 @@ use Rattle.rbbi_cache.proofs.Lists.{all_join, all_left, all_right, all_through}
 use Rattle.rbbi_cache.proofs.Reached.{first_member}
 use Rattle.rbbi_cache.proofs.RunFacts as facts
 use Rattle.rbbi_cache.proofs.RightPart.{entries_rise}
-
--- the one element of a list of length 1
-one : (l : List Run) → length l ≡ 1 → (r : Run) × (l ≡ r ∷ [])
-one [] is = absurd (omega arith)
-one (r ∷ []) is = (r, refl)
-one (r ∷ s ∷ l) is = absurd (omega arith)
+use Rattle.rbbi_cache.proofs.Among.{among_itself}
+use Rattle.rbbi_cache.proofs.PutFirst.{all_of_left}
 
 module _ (table : Table) (valid : IsValidTable table) (x : List ℕ) where
   anchor_within : (p : ℕ) → IsAnchor table x p → p ≤ length x
@@ -85,7 +80,7 @@ module _ (table : Table) (valid : IsValidTable table) (x : List ℕ) where
         ++ after) → KeepsTrue table x Shows former now
     keeps_used before run after whole shows now is =
         let is_true = (all_right (IsTrueRun table x) before (run ∷ after) (subst (AllByRecursion (IsTrueRun table x)) whole are_true)).0 in
-        keeps_extended before run after whole run (record { anchor = refl; more = []; entries = sym (append-nil run.entries); leads = λ so. so }) is_true shows
+        keeps_extended before run after whole run (record { anchor = refl; entries = among_itself run.entries; leads = λ so. so }) is_true shows
         (least_used former before run after whole is_true) now is
 
     -- The run with this number was used, and moved to the front.
@@ -96,26 +91,12 @@ module _ (table : Table) (valid : IsValidTable table) (x : List ℕ) where
         keeps_used at.before at.run at.after (sym view ∙ sym same ∙ at.whole) at.such now (moved at.before at.after at.run (sym same ∙ at.whole) at.number)
 
     -- A new run was put before the others.
-    pub keeps_added : length former ≤ 16 → (run : Run) → IsTrueRun table x run → Shows run → HasLeastReaches table x former run → (now : List Run) → now ≡ run
-        ∷ take 15 former → KeepsTrue table x Shows former now
-    keeps_added few run is_true shows least now is = (
-      record { first = run; rest = take 15 former; are = is; shows = shows; reaches = least; left = left },
-      subst (AllByRecursion (IsTrueRun table x)) (sym is) (
-        is_true,
-        all_left (IsTrueRun table x) (take 15 former) (drop 15 former) (subst (AllByRecursion (IsTrueRun table x)) (sym (take-append-drop 15
-            former)) are_true),
-      ),
+    pub keeps_added : (run : Run) → IsTrueRun table x run → Shows run → HasLeastReaches table x former run → (now : List Run) → IsPutFirst run former now →
+        KeepsTrue table x Shows former now
+    keeps_added run is_true shows least now put = (
+      record { first = run; rest = put.rest; are = put.are; shows = shows; reaches = least; left = put.left },
+      subst (AllByRecursion (IsTrueRun table x)) (sym put.are) (is_true, all_of_left (IsTrueRun table x) run former put.rest put.left are_true),
     )
-      where
-        left : AreLeft run former (take 15 former)
-        left =
-            ⊎_elim
-            (λ room. subst (AreLeft run former) (sym (take_all 15 former (omega arith))) (Added former room))
-            (λ full.
-            let last = one (drop 15 former) (omega (arith, length-drop 15 former)) in
-            let whole : former ≡ take 15 former ++ last.0 ∷ [] = sym (take-append-drop 15 former) ∙ ap (λ l. take 15 former ++ l) last.1 in
-            subst (λ l. AreLeft run l (take 15 former)) (sym whole) (Dropped (take 15 former) last.0 (omega (arith, length-take 15 former))))
-            (cases_lt (length former) 16)
 
   -- what the first run shows may be told in another way
   pub keeps_through : (Shows Shows' : Run → Type 0) → ((run : Run) → IsTrueRun table x run → Shows run → Shows' run) → (former now : List Run) → KeepsTrue
@@ -165,10 +146,17 @@ module _ (table : Table) (valid : IsValidTable table) (x : List ℕ) where
         let ready = so.1 former (record { before = before; after = after; whole = whole }) in
         keeps_extended (λ r. IsShownAfter r i entry) former are_true before run after whole goes.run so.0 ready.is_true ready.shows ready.reaches now is
 
-    pub keeps_beside : is_kept ≡ false → length former ≤ 16 → (now : List Run) → now ≡ spare ∷ take 15 gone → KeepsTrue table x (λ r. IsShownAfter r i entry)
-        former now
-    keeps_beside other few now is =
+    pub keeps_beside : is_kept ≡ false → (now : List Run) → IsPutFirst spare gone now → KeepsTrue table x (λ r. IsShownAfter r i entry) former now
+    keeps_beside other now put =
         let so = subst (λ b. GoesOnAs table x i run entry b goes.run spare) other goes.gone_on in
         let ready = so.1 former (record { before = before; after = after; whole = whole }) in
         let same : gone ≡ former = goes.whole ∙ ap (λ r. before ++ r ∷ after) so.0 ∙ sym whole in
-        keeps_added (λ r. IsShownAfter r i entry) former are_true few spare ready.is_true ready.shows ready.reaches now (is ∙ ap (λ l. spare ∷ take 15 l) same)
+        keeps_added (λ r. IsShownAfter r i entry) former are_true spare ready.is_true ready.shows ready.reaches now
+        (subst (λ l. IsPutFirst spare l now) same put)
+
+    -- the entries of the new run rise
+    pub beside_rises : is_kept ≡ false → IsRising (map (λ e. e.at) spare.entries)
+    beside_rises other =
+        let so = subst (λ b. GoesOnAs table x i run entry b goes.run spare) other goes.gone_on in
+        let ready = so.1 former (record { before = before; after = after; whole = whole }) in
+        entries_rise table valid x spare ready.is_true

@@ -23,6 +23,8 @@ pub mod RunLists
 pub mod Members
 pub mod Nearer
 pub mod Slots
+pub mod Among
+pub mod PutFirst
 pub mod Ready
 pub mod Begins
 pub mod Backward

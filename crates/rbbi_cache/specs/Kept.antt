@@ -1,5 +1,5 @@
 -- What the calls of a cache leave of the runs that it keeps.
-use Rattle.std.specs.Prelude.{◌≡◌, ℕ, ◌+◌, ◌<◌, max, ◌⊎◌, List, [], ◌∷◌, ◌++◌, length, drop, Some, IsTrue}
+use Rattle.std.specs.Prelude.{◌≡◌, ℕ, ◌+◌, ◌<◌, max, ◌⊎◌, List, [], ◌∷◌, ◌++◌, length, drop, Some, IsTrue, Contains}
 use Rattle.std.specs.List.{AllByRecursion}
 use Rattle.rbbi_model.specs.Tables.{Table}
 use Rattle.rbbi_model.specs.Boundaries.{Boundary}
@@ -21,19 +21,35 @@ most_runs = 16
 abbrev pub AreTrueRuns : Table → List ℕ → List Run → Type 0
 AreTrueRuns table x runs = AllByRecursion (IsTrueRun table x) runs
 
--- The later run has the anchor of the earlier one, begins with all its entries and their reaches, and leads where it led.
+-- each of the entries is one of the others, with its statuses and its reach
+abbrev pub AreAmong : List Entry → List Entry → Type 0
+AreAmong entries others = AllByRecursion (Contains others) entries
+
+-- The earlier run is extended by the later one: that has its anchor, has all its entries with their reaches, and leads where it led. So a
+-- run is extended by itself. One that was cut has let go of entries, and a run that has these isn't extended by it.
 pub record IsExtendedBy (earlier later : Run) : Type 0 where
   pub anchor : later.anchor ≡ earlier.anchor
-  pub more : List Entry
-  pub entries : later.entries ≡ earlier.entries ++ more
+  pub entries : AreAmong earlier.entries later.entries
   pub leads : IsTrue earlier.leads → IsTrue later.leads
 
+-- none of the runs is extended by the first
+abbrev pub NoneIsExtended : Run → List Run → Type 0
+NoneIsExtended first runs = AllByRecursion (λ run. ¬ IsExtendedBy run first) runs
+
 -- What is kept behind the first run is what was kept before, but for at most one run that is missing: one that the first run extends
--- (a run that is only used is extended by no entry), or, where 16 were kept, the last.
+-- (a run that is only used is extended by no entry), or, where 16 were kept and none is extended, the last. None is missing where none
+-- is extended and there was room.
 pub data AreLeft (first : Run) : List Run → List Run → Type 0 where
-  Added : (runs : List Run) → length runs < most_runs → AreLeft first runs runs
+  Added : (runs : List Run) → length runs < most_runs → NoneIsExtended first runs → AreLeft first runs runs
   Extended : (before after : List Run) (missing : Run) → IsExtendedBy missing first → AreLeft first (before ++ missing ∷ after) (before ++ after)
-  Dropped : (before : List Run) (missing : Run) → length before + 1 ≡ most_runs → AreLeft first (before ++ missing ∷ []) before
+  Dropped : (before : List Run) (missing : Run) → length before + 1 ≡ most_runs → NoneIsExtended first (before ++ missing ∷ []) →
+      AreLeft first (before ++ missing ∷ []) before
+
+-- the run stands first, and behind it what is left of the runs that were kept before
+pub record IsPutFirst (run : Run) (former now : List Run) : Type 0 where
+  pub rest : List Run
+  pub are : now ≡ run ∷ rest
+  pub left : AreLeft run former rest
 
 -- Each entry has the least reach that is allowed after one that reaches so far: as far as that one, and as the searches from the anchor
 -- up to the entry look.

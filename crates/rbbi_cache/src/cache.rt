@@ -95,7 +95,7 @@ impl Cache {
         ensures are_true { AreTrueRuns table.now (T.characters text.now) self.new.runs }
         ensures fit { self.new.slashes ≡ self.old.slashes }
         ensures shown { (a : ℕ) → SomeRun (λ run. ShowsAfter run i a) self.old.runs →
-            steps.new ≡ steps.old }
+            (steps.new ≡ steps.old) × MatchOption result ⊥ (λ entry. entry.at ≡ a) }
         ensures more { steps.old ≤ steps.new }
         ensures cost { i < length (T.characters text.now) →
             steps.new ≤ steps.old + forward_cost table.now (T.characters text.now) i }
@@ -134,7 +134,7 @@ impl Cache {
         ensures fit { self.new.slashes ≡ self.old.slashes }
         ensures shown { (a : ℕ) →
             SomeRun (λ run. ShowsBefore (T.characters text.now) run i a) self.old.runs →
-            steps.new ≡ steps.old }
+            (steps.new ≡ steps.old) × MatchOption result ⊥ (λ entry. entry.at ≡ a) }
         ensures more { steps.old ≤ steps.new }
         ensures cost { steps.new ≤ steps.old + preceding_cost table.now (T.characters text.now) i }
     {

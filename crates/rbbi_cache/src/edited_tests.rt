@@ -41,6 +41,41 @@ fn asked<L: Ledger>(
     Ok((here.at, there.at, reads.get() > 0))
 }
 
+/// How many runs are kept after an edit, and after a question whose run extends what the edit left
+/// of another run.
+fn kept_after<L: Ledger>(
+    rt: &HostRuntime,
+    table: &Table,
+    mut text: PlainText,
+    blank: Blank,
+) -> Result<(usize, usize), Fail>
+    requires name { blank.name ≡ L.name }
+    requires parts { blank.parts ≡ L.parts }
+    requires some { 0 < blank.parts }
+{
+    let mut steps = Steps::<L>::new(rt, blank);
+    let mut cache = Cache::new(rt.alloc(), table)?;
+    let _far = cache.after(table, &text, 600, &mut steps);
+    let _near = cache.after(table, &text, 8, &mut steps);
+    let _next = cache.after(table, &text, 11, &mut steps);
+    text.replace(6, 1, "")?;
+    cache.edited(table, &text, 6, 1, 0, &mut steps);
+    let left = cache.kept().len();
+    let _again = cache.after(table, &text, 10, &mut steps);
+    Ok((left, cache.kept().len()))
+}
+
+#[test]
+fn extended_runs_are_replaced(rt: HostRuntime) -> Result<(), Fail> {
+    let alloc = rt.alloc();
+    let table = table_of(&rt, alloc, &WORDS)?;
+    let words = repeated(alloc, "words ", 2000)?;
+    let text = PlainText::new(alloc, words.as_str())?;
+    let counts = kept_after::<Brand>(&rt, &table, text, Blank::new(1))?;
+    assert_eq!(rt; counts, (2, 2));
+    Ok(())
+}
+
 #[test]
 fn runs_that_move(rt: HostRuntime) -> Result<(), Fail> {
     let alloc = rt.alloc();

@@ -1,4 +1,5 @@
 //! Boundaries as they are kept.
+ghost use Rattle.std.specs.Prelude.{◌≡◌, IsTrue, ◌↔◌};
 
 use std::marker::Model;
 
@@ -21,4 +22,13 @@ impl Model for Entry {
     ghost view = { λ e. record { at = e.at; status = e.status; reach = e.reach } };
 
     ghost inverse = { λ e. record { at = e.at; status = e.status; reach = e.reach } };
+}
+
+impl Entry {
+    /// Whether it is the same boundary, with the same statuses and the same reach.
+    pub(crate) fn is_same(&self, other: &Entry) -> bool
+        ensures { IsTrue result ↔ (self.now ≡ other.now) }
+    {
+        self.at == other.at && self.status == other.status && self.reach == other.reach
+    }
 }

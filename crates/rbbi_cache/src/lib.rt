@@ -6,6 +6,7 @@ mod back;
 mod cache;
 mod edited;
 mod entry;
+mod extended;
 mod parts;
 mod run;
 mod run_list;

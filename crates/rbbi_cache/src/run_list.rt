@@ -1,12 +1,14 @@
 //! The kept runs, in slots that are made once.
-ghost use Rattle.std.specs.Prelude.{◌≡◌, ℕ, ◌+◌, ◌<◌, ◌≤◌, [], ◌∷◌, ◌++◌, take, length, List, IfOk};
+ghost use Rattle.std.specs.Prelude.{◌≡◌, ℕ, ◌+◌, ◌<◌, ◌≤◌, [], ◌∷◌, ◌++◌, map, length, List, IfOk};
+ghost use Rattle.rbbi_model.specs.Lists.{IsRising};
 ghost use Rattle.rbbi_model.specs.Words.{most_characters};
 ghost use Rattle.rbbi_model.specs.Runs as model;
 ghost use Rattle.rbbi_model.specs.Costs.{anchor_below, searches_cost};
-ghost use Rattle.rbbi_cache.specs.Kept.{AreTrueRuns};
+ghost use Rattle.rbbi_cache.specs.Kept.{AreTrueRuns, IsPutFirst};
 ghost use Rattle.rbbi_cache.specs.Lists.{HasAt, GoesOnFrom};
 ghost use Rattle.rbbi_cache.specs.Ready.{GoesOnAt};
 
+use crate::extended::find_extended;
 use crate::runs::{MOST_RUNS, put_first, to_front};
 use crate::search::go_on;
 use crate::{Entry, Run};
@@ -14,6 +16,7 @@ use rbbi_table::{Marks, Table};
 use rbbi_text::{Chars, Steps};
 use std::alloc::{AllocError, Global};
 use std::marker::Model;
+use std::mem;
 use std::sync::ledger::Ledger;
 
 /// A list of at most 16 runs, the most recently used first. It takes no memory after it was made.
@@ -65,13 +68,29 @@ impl RunList {
         to_front(&mut self.slots, k);
     }
 
-    /// Puts a new run before the others. Where there are 16, the last one goes. What comes back in
-    /// the new run's place isn't said.
+    /// Puts a new run before the others, in place of one that it extends. Where it extends none of
+    /// 16, the last one goes. What comes back in the new run's place isn't said.
     pub(crate) fn add(&mut self, run: &mut Run)
-        ensures added { self.new ≡ run.old ∷ take 15 self.old }
-        ensures few { length self.old ≤ 16 }
+        requires { IsRising (map (λ entry. entry.at) run.old.entries) }
+        ensures { IsPutFirst run.old self.old self.new }
     {
+        if let Some(k) = find_extended(self.as_slice(), run) {
+            self.replace(k, run);
+            return;
+        }
         self.count = put_first(&mut self.slots, self.count, run);
+    }
+
+    /// Puts a new run before the others, in place of the one with this number.
+    fn replace(&mut self, k: usize, run: &mut Run)
+        requires { k < length self.old }
+        ensures { (before after : List model.Run) (former : model.Run) →
+            self.old ≡ before ++ former ∷ after → length before ≡ k →
+            self.new ≡ run.old ∷ (before ++ after) }
+    {
+        let slot = &mut self.slots[k];
+        mem::swap(slot, run);
+        self.move_to_front(k);
     }
 
     /// Searches on from the last entry of the run with this number. What is found is added to the

@@ -1,4 +1,4 @@
-use Rattle.std.proofs.Common.{ℕ, sym, ap, ◌∙◌, subst, arith}
+use Rattle.std.proofs.Common.{ℕ, sym, refl, ap, ◌∙◌, subst, arith}
 use Rattle.std.specs.List.{AllByRecursion}
 use Rattle.rbbi_model.specs.Words.{most_characters}
 use Rattle.rbbi_model.specs.Runs.{ShowsAfter}
@@ -6,7 +6,7 @@ use Rattle.rbbi_cache.specs.Kept.{KeptRuns}
 use Rattle.rbbi_cache.specs.Shown.{IsShownAfter}
 use Rattle.rbbi_cache.specs.Lists.{IsOrdered}
 use Rattle.rbbi_cache.proofs.Keeping.{all_ordered, keeps_shown}
-use Rattle.rbbi_cache.proofs.Answering.{answer_after, no_run}
+use Rattle.rbbi_cache.proofs.Answering.{answer_after, same_after, none_past_end, no_run}
 use Rattle.rbbi_cache.proofs.cache.Cache.after.Goals as goal
 
 pub find_after-requires-clause-ordered : goal.find_after-requires-clause-ordered
@@ -40,6 +40,18 @@ returns-in-Some-clause-are_true g c =
     c.args.self.now.runs c.requires.are_true
     c.as_slice.result.now c.self.inside.runs c.as_slice.ensures.runs (ap (λ (s : KeptRuns). s.runs) c.self.view_is) c.in-Some.shown.run c.in-Some.ensures
     c.move_to_front.new.self c.move_to_front.ensures).1
+
+pub returns-in-Some-clause-shown : goal.returns-in-Some-clause-shown
+returns-in-Some-clause-shown g c a some = (
+  refl,
+  same_after c.args.table.now c.valid.ensures (g.T.Chars.characters c.args.text.now) c.args.i a c.in-Some.shown.entry c.args.self.now.runs
+      c.requires.are_true some (returns-in-Some-clause-answer g c).1,
+)
+
+pub returns-then-i-len-clause-shown : goal.returns-then-i-len-clause-shown
+returns-then-i-len-clause-shown g c a some =
+    absurd (none_past_end c.args.table.now c.valid.ensures (g.T.Chars.characters c.args.text.now) c.args.i a c.args.self.now.runs c.requires.are_true
+    (omega arith) some)
 
 pub returns-clause-answer : goal.returns-clause-answer
 returns-clause-answer g c = (

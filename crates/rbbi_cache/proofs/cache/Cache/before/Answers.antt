@@ -1,11 +1,11 @@
-use Rattle.std.proofs.Common.{ℕ, ◌-◌, inl, sym, ap, ◌∙◌, subst, arith}
+use Rattle.std.proofs.Common.{ℕ, ◌-◌, inl, sym, refl, ap, ◌∙◌, subst, arith}
 use Rattle.std.specs.List.{AllByRecursion}
 use Rattle.rbbi_model.specs.Runs.{ShowsBefore}
 use Rattle.rbbi_cache.specs.Kept.{KeptRuns}
 use Rattle.rbbi_cache.specs.Shown.{IsShownAfter, IsShownBefore}
 use Rattle.rbbi_cache.specs.Lists.{IsOrdered}
 use Rattle.rbbi_cache.proofs.Keeping.{all_ordered, keeps_shown, keeps_through, shown_last}
-use Rattle.rbbi_cache.proofs.Answering.{answer_before, no_run}
+use Rattle.rbbi_cache.proofs.Answering.{answer_before, same_before, none_before_start, no_run}
 use Rattle.rbbi_cache.proofs.TriedBack.{start_is_last_of_none, cost_past_end}
 use Rattle.rbbi_model.specs.Costs.{forward_cost}
 use Rattle.rbbi_cache.proofs.cache.Cache.before.Goals as goal
@@ -41,6 +41,24 @@ returns-in-Some-clause-are_true g c =
     c.in-Some.shown.entry) c.args.self.now.runs c.requires.are_true
     c.as_slice.result.now c.self.inside.runs c.as_slice.ensures.runs (ap (λ (s : KeptRuns). s.runs) c.self.view_is) c.in-Some.shown.run (c.in-Some.ensures
     (g.T.Chars.characters c.args.text.now) c.len-len.ensures.exact) c.move_to_front.new.self c.move_to_front.ensures).1
+
+pub returns-in-Some-clause-shown : goal.returns-in-Some-clause-shown
+returns-in-Some-clause-shown g c a some = (
+  refl,
+  same_before c.args.table.now c.valid.ensures (g.T.Chars.characters c.args.text.now) c.args.i a c.in-Some.shown.entry c.args.self.now.runs
+      c.requires.are_true some (returns-in-Some-clause-answer g c).1,
+)
+
+pub returns-then-i-eq0-clause-shown : goal.returns-then-i-eq0-clause-shown
+returns-then-i-eq0-clause-shown g c a some =
+    absurd (none_before_start (g.T.Chars.characters c.args.text.now) c.args.i a c.args.self.now.runs c.if-i-eq0.true some)
+
+pub returns-then-len-eq0-clause-shown : goal.returns-then-len-eq0-clause-shown
+returns-then-len-eq0-clause-shown g c a some =
+    let same = c.as_slice.ensures.runs ∙ ap (λ (s : KeptRuns). s.runs) c.self.view_is in
+    absurd (no_run (λ a r. ShowsBefore (g.T.Chars.characters c.args.text.now) r c.args.i a) c.args.self.now.runs (subst (AllByRecursion (λ r. (a : ℕ) →
+    ShowsBefore (g.T.Chars.characters c.args.text.now) r c.args.i a → ⊥)) same (c.in_default.ensures (g.T.Chars.characters c.args.text.now)
+    c.len-len.ensures.exact)) a some)
 
 pub returns-then-len-eq0-clause-answer : goal.returns-then-len-eq0-clause-answer
 returns-then-len-eq0-clause-answer g c =

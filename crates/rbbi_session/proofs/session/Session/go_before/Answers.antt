@@ -31,6 +31,6 @@ returns-clause-reads g c =
     (record {
       more = c.before-2.ensures.more;
       cost = c.before-2.ensures.cost;
-      again = λ shown. c.before-2.ensures.shown shown.0 shown.1;
+      again = λ shown. (c.before-2.ensures.shown shown.0 shown.1).0;
       runs = (c.in-Some.entry, c.in-Some.ensures.answer.1, c.in-Some.ensures.kept);
     })
