@@ -4,3 +4,4 @@ pub mod FailingCalls
 pub mod MemoryCalls
 pub mod NamedFiles
 pub mod Puts
+pub mod Readers

@@ -1,5 +1,6 @@
 pub mod Counts
 pub mod Answers
 pub mod Sinks
+pub mod Readers
 pub mod Memory
 pub mod Errors

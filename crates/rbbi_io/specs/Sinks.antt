@@ -8,3 +8,8 @@ Takes before now bytes = now ≡ option_map (λ taken. taken ++ bytes) before
 -- a sink took a front of these bytes, and nothing else
 abbrev pub TakesFront : Option (List ℕ) → Option (List ℕ) → List ℕ → Type 0
 TakesFront before now bytes = (n : ℕ) × (n ≤ length bytes) × Takes before now (take n bytes)
+
+-- a writer that is used as a sink, and how many of its puts failed
+pub record WriterWithFaults (W : Type 0) : Type 0 where
+  pub out : W
+  pub faults : ℕ

@@ -17,6 +17,6 @@ pub use error::{ReadErr, WriteErr};
 pub use files::Files;
 pub use mem_files::{CallKind, MemFiles};
 pub use mem_sink::MemSink;
-pub use real_files::RealFiles;
+pub use real_files::{RealFiles, read_at_most};
 pub use real_sink::RealSink;
 pub use sink::{Sink, put_all};

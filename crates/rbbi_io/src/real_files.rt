@@ -1,5 +1,9 @@
-//! The files of the system: an edge that is trusted, a few lines over std's files.
-ghost use Rattle.std.specs.Prelude.{◌≡◌, ◌<◌, ◌≤◌, ◌+◌, length, IfOk};
+//! The files of the system: an edge over std's files, where it is trusted that they are opened.
+ghost use Rattle.std.specs.Prelude.{◌≡◌, ◌≢◌, ◌<◌, ◌≤◌, ◌+◌, length, take, IfOk, IfSome, OnOk};
+ghost use Rattle.std.specs.Prelude.{IfErr, MatchResult};
+ghost use Rattle.std.specs.Io.KnownBytes.{Appends, Consumes, IsAtEnd, Keeps};
+ghost use Rattle.rbbi_io.specs.Answers.{AnswersRead};
+ghost use Rattle.rbbi_io.specs.Readers.{TakesAtMost};
 
 use crate::{Files, ReadErr, WriteErr};
 use rbbi_text::Raw;
@@ -50,11 +54,16 @@ fn zeros(alloc: Global, count: usize) -> Result<Vec<u8>, AllocError>
 }
 
 /// Reads into the start of the block, at most one byte more than `left`. It answers how many bytes
-/// there were, and 0 at the end of the file.
+/// there were, and 0 at the end of the file. It never refuses `TooLong`.
 fn read_some<F: Read>(file: &mut F, block: &mut [u8], left: u64) -> Result<usize, ReadErr>
     requires { 0 < length block.old }
     ensures within { IfOk result (λ count. count ≤ length block.new) }
     ensures most { IfOk result (λ count. count ≤ left + 1) }
+    ensures bytes { MatchResult result
+        (λ count. Consumes (F.remaining file.old) (F.remaining file.new) (take count block.new))
+        (λ _. Keeps (F.remaining file.old) (F.remaining file.new)) }
+    ensures end { IfOk result (λ count. count ≡ 0 → IsAtEnd (F.remaining file.new)) }
+    ensures refused { IfErr result (λ refusal. refusal ≢ ReadErr.TooLong) }
 {
     let wanted = left.min(block.len() as u64 - 1) as usize + 1;
     for _turn in 0..u64::MAX {
@@ -70,21 +79,24 @@ fn read_some<F: Read>(file: &mut F, block: &mut [u8], left: u64) -> Result<usize
     Err(ReadErr::Failed)
 }
 
-/// The bytes of a file that is open. It takes at most one byte more than `limit`.
-pub(crate) fn read_from<F: Read>(
-    alloc: Global,
-    file: &mut F,
-    limit: u64,
-) -> Result<Vec<u8>, ReadErr>
-    ensures { IfOk result (λ bytes. length bytes.items ≤ limit) }
+/// All bytes that a reader still has, at most `limit`. It takes at most one byte more than `limit`,
+/// whatever it answers.
+///
+/// Refuses `TooLong` only where the reader had more than `limit` bytes, and is `Ok` only where it
+/// had no more. Contracts see the bytes of readers that tell them. The files of the system do not,
+/// and are read by this function alone.
+pub fn read_at_most<F: Read>(alloc: Global, reader: &mut F, limit: u64) -> Result<Raw, ReadErr>
+    ensures within { IfOk result (λ bytes. length bytes ≤ limit) }
+    ensures answer { IfSome (F.remaining reader.old) (λ held. AnswersRead held limit result) }
+    ensures most { TakesAtMost (F.remaining reader.old) (F.remaining reader.new) (limit + 1) }
 {
     let mut block = zeros(alloc, BLOCK)?;
     let mut bytes = Vec::new(alloc);
     for _turn in 0..u64::MAX {
         let left = limit - bytes.len() as u64;
-        let count = read_some(file, block.as_mut_slice(), left)?;
+        let count = read_some(reader, block.as_mut_slice(), left)?;
         if count == 0 {
-            return Ok(bytes);
+            return Ok(Raw::new(bytes));
         }
         if count as u64 > left {
             return Err(ReadErr::TooLong);
@@ -100,17 +112,19 @@ fn read_file<R: std::rt::Files>(
     rt: &R,
     name: &str,
     limit: u64,
-) -> Result<Vec<u8>, ReadErr>
-    ensures { IfOk result (λ bytes. length bytes.items ≤ limit) }
+) -> Result<Raw, ReadErr>
+    ensures { IfOk result (λ bytes. length bytes ≤ limit) }
 {
     match File::open(rt, name) {
-        Ok(mut file) => read_from(alloc, &mut file, limit),
+        Ok(mut file) => read_at_most(alloc, &mut file, limit),
         Err(fault) => Err(refused_read(&fault)),
     }
 }
 
-/// Want of memory, or a fault.
-fn refused_read(fault: &io::Error) -> ReadErr {
+/// Want of memory, or a fault, and never that a file is too long.
+fn refused_read(fault: &io::Error) -> ReadErr
+    ensures { result ≢ ReadErr.TooLong }
+{
     if fault.kind() == ErrorKind::OutOfMemory {
         ReadErr::Memory
     } else {
@@ -120,7 +134,9 @@ fn refused_read(fault: &io::Error) -> ReadErr {
 
 /// Writes these bytes into a file that is open. Whatever goes wrong is a fault, since the file may
 /// then hold anything.
-pub(crate) fn write_to<W: Write>(file: &mut W, bytes: &[u8]) -> Result<(), WriteErr> {
+pub(crate) fn write_to<W: Write>(file: &mut W, bytes: &[u8]) -> Result<(), WriteErr>
+    ensures { OnOk result (Appends (W.contents file.old) (W.contents file.new) bytes.now) }
+{
     match file.write_all(bytes) {
         Ok(()) => Ok(()),
         Err(_) => Err(WriteErr::Failed),
@@ -156,7 +172,7 @@ impl<'a, R: std::rt::Files> Files for RealFiles<'a, R> {
         if let Err(ReadErr::Failed) = &outcome {
             self.failed_reads = self.failed_reads.saturating_add(1);
         }
-        Ok(Raw::new(outcome?))
+        outcome
     }
 
     fn write(&mut self, name: &str, bytes: &[u8]) -> Result<(), WriteErr> {

@@ -1,8 +1,10 @@
 //! Each public call once, calls that fail in mid-stream, and the system's files and writers.
 ghost use Rattle.std.specs.Prelude.{◌≡◌, ◌<◌};
 
-use crate::real_files::{read_from, write_to};
-use crate::{Files, MemFiles, MemSink, ReadErr, RealFiles, RealSink, Sink, WriteErr, put_all};
+use crate::real_files::write_to;
+use crate::{
+    Files, MemFiles, MemSink, ReadErr, RealFiles, RealSink, Sink, WriteErr, put_all, read_at_most,
+};
 use rbbi_text::{Raw, Steps};
 use std::alloc::{AllocError, Global};
 use std::fs::File;
@@ -190,10 +192,10 @@ fn open_files(rt: HostRuntime) -> Result<(), Fail> {
     ];
     for (answers, fault, wanted) in reads {
         let mut file = Told::new(alloc, answers, fault)?;
-        match read_from(alloc, &mut file, 4) {
-            Ok(bytes) => {
+        match read_at_most(alloc, &mut file, 4) {
+            Ok(raw) => {
                 assert_eq!(rt; wanted, "4");
-                assert_eq!(rt; bytes.as_slice(), b"xxxx".as_slice());
+                assert_eq!(rt; bytes_of(&rt, &raw)?.as_slice(), b"xxxx".as_slice());
             }
             Err(refusal) => assert_eq!(rt; refusal.label(), wanted),
         }
