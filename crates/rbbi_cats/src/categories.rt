@@ -34,12 +34,14 @@ pub struct Categories {
 impl Model for Categories {
     ghost use Rattle.rbbi_cats.specs.CategoryLists.{CategoryList};
     ghost use Rattle.rbbi_cats.specs.Lookups.{IsLookup};
+    ghost use Rattle.rbbi_model.specs.ValidTables.{AreValidRanges};
 
     ghost Value = { CategoryList };
 
     ghost view = { λ cats. record { count = cats.count; ranges = cats.ranges.items } };
 
-    ghost invariant = { λ cats. IsLookup cats.blocks.items cats.cells.items cats.ranges.items };
+    ghost invariant = { λ cats. IsLookup cats.blocks.items cats.cells.items cats.ranges.items
+        × AreValidRanges cats.count cats.ranges.items };
 }
 
 /// The categories of the rules: 0 for the code points that no leaf reads, and one for each class of
@@ -78,17 +80,19 @@ impl Categories {
         self.cells[self.blocks[at / 256] as usize * 256 + at % 256]
     }
 
-    /// The number of categories, category 0 counted.
+    /// The number of categories, category 0 counted: 1 to 255.
     pub fn count(&self) -> u16
-        ensures { result ≡ self.now.count }
+        ensures value { result ≡ self.now.count }
+        ensures form { AreValidRanges self.now.count self.now.ranges }
     {
         self.count
     }
 
     /// The ranges of the categories: the first starts at 0, starts rise, and neighbours have
-    /// different categories.
+    /// different categories, each below the number of categories.
     pub fn ranges(&self) -> &[CatRange]
-        ensures { result.now ≡ self.now.ranges }
+        ensures value { result.now ≡ self.now.ranges }
+        ensures form { AreValidRanges self.now.count result.now }
     {
         &self.ranges
     }

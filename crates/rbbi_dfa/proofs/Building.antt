@@ -62,12 +62,12 @@ module _
 
 -- what is wanted of positions and categories, and what is read off them, by the rules that they are those of
 pub AreOf-from_compilable : (rules : List Rule) (marks : PositionMarks) (cats : CategoryList) (categories slashes : ℕ) → AreCompilable rules marks cats →
-    categories ≡ cats.count → slashes ≡ count_by has_slash marks.rules →
+    AreValidRanges cats.count cats.ranges → categories ≡ cats.count → slashes ≡ count_by has_slash marks.rules →
     AreOf rules categories slashes cats.ranges marks
-AreOf-from_compilable rules marks cats categories slashes h is counted = record {
+AreOf-from_compilable rules marks cats categories slashes h form is counted = record {
   lawful = h.lawful;
   positions = subst (λ (n : ℕ). ArePositions rules n cats.ranges marks) (sym is) h.positions;
-  valid = subst (λ (n : ℕ). AreValidRanges n cats.ranges) (sym is) h.form;
+  valid = subst (λ (n : ℕ). AreValidRanges n cats.ranges) (sym is) form;
   classes = subst (λ (n : ℕ). AreClasses rules n cats.ranges) (sym is) h.classes;
   slashes_are = counted ∙ look_aheads_by_marks rules cats.count cats.ranges marks h.positions;
 }
@@ -77,7 +77,7 @@ pub AreReadable-from_of : (rules : List Rule) (categories slashes : ℕ) (ranges
 AreReadable-from_of rules categories slashes ranges marks of = record {
   few = omega (arith, of.positions.leaves, of.lawful.few_leaves);
   few_slashes = omega (arith, of.slashes_are, of.lawful.few_look_aheads);
-  readers = of.positions.rows;
+  category_count = of.positions.category_count;
   owners = owners_are rules categories ranges marks of.positions;
   small = marks_small rules categories ranges marks of.positions of.lawful slashes of.slashes_are;
 }

@@ -2,7 +2,6 @@
 use Rattle.std.specs.Prelude.{List, Result, Ok, Err}
 use Rattle.rbbi_model.specs.Rules.{Rule, AreLawful}
 use Rattle.rbbi_model.specs.Tables.{Table}
-use Rattle.rbbi_model.specs.ValidTables.{AreValidRanges}
 use Rattle.rbbi_model.specs.LeafSets.{HasLeafSets}
 use Rattle.rbbi_model.specs.Compiled.{AreClasses, HasStatusLists, IsCompiled, Needs}
 use Rattle.rbbi_cats.specs.CategoryLists.{CategoryList}
@@ -15,7 +14,6 @@ pub record AreCompilable (rules : List Rule) (marks : PositionMarks) (cats : Cat
   pub lawful : AreLawful rules
   pub positions : ArePositions rules cats.count cats.ranges marks
   pub classes : AreClasses rules cats.count cats.ranges
-  pub form : AreValidRanges cats.count cats.ranges
 
 -- there are more leaf sets that aren't empty, rows of the least table, or status lists than a table may have
 abbrev pub HasTooManySets : List Rule → Type 0

@@ -1,5 +1,5 @@
 -- Which row of bits, and which list of marks, is read off the marks of positions.
-use Rattle.std.specs.Prelude.{◌≡◌, ℕ, ◌*◌, ◌+◌, ◌<◌, ◌≤◌, Bool, false, ◌/◌, ◌&&◌, IsTrue, Option, Some, None, if◌then◌else◌, ◌↔◌, List, slice_index}
+use Rattle.std.specs.Prelude.{◌≡◌, ℕ, ◌+◌, ◌<◌, ◌≤◌, Bool, false, ◌/◌, ◌&&◌, IsTrue, Option, Some, None, if◌then◌else◌, ◌↔◌, List, slice_index}
 use Rattle.std.specs.Prelude.{slice_index_or, length}
 use Rattle.rbbi_positions.specs.PositionMarks.{RuleMark, PositionMarks, marked_follows, marked_reads, ArePositions}
 use Rattle.rbbi_model.specs.Rules.{Rule, largest_tag, look_aheads, AreLawful}
@@ -42,7 +42,7 @@ IsKindOf marks First = Unit {0}
 IsKindOf marks Chained = Unit {0}
 IsKindOf marks Last = Unit {0}
 IsKindOf marks (Follow before) = before < marks.leaves
-IsKindOf marks (Read category) = category * marks.words + marks.words ≤ length marks.readers
+IsKindOf marks (Read category) = category < marks.categories
 
 -- the position has a rule
 abbrev pub HasOwner : PositionMarks → ℕ → Type 0
@@ -81,12 +81,12 @@ pub record AreRowsOf (marks : PositionMarks) (categories slashes : ℕ) (rows : 
   pub fronts : AreMarkedIn marks Fronts rows.fronts
   pub tags : AreMarkedIn marks Tags rows.tags
 
--- The marks can be read for so many categories and look-ahead rules: they are few, each position has a rule, and the readers of each
--- category are there.
+-- The marks can be read for so many categories and look-ahead rules: they are few, each position has a rule, and the categories are
+-- those of the marks.
 pub record AreReadable (marks : PositionMarks) (categories slashes : ℕ) : Type 0 where
   pub few : marks.leaves ≤ 8192
   pub few_slashes : slashes ≤ 32
-  pub readers : length marks.readers ≡ categories * marks.words
+  pub category_count : marks.categories ≡ categories
   pub owners : (position : ℕ) → position < marks.leaves → HasOwner marks position
   pub small : AreSmallMarks marks slashes
 

@@ -16,10 +16,11 @@ pub record RuleMark : Type 0 where
   pub tag : Option ℕ
   pub slash : Option ℕ
 
--- The marks of positions. Rows of bits have `words` words of 64 bits each: row after row, for each position those that follow it, and
--- for each category the positions that read it.
+-- The marks of positions, for so many categories. Rows of bits have `words` words of 64 bits each: row after row, for each position
+-- those that follow it, and for each category the positions that read it.
 pub record PositionMarks : Type 0 where
   pub leaves : ℕ
+  pub categories : ℕ
   pub words : ℕ
   pub rules : List RuleMark
   pub owners : List ℕ
@@ -67,7 +68,7 @@ AreRuleMarks rules marks = (number : ℕ) (rule : Rule) (mark : RuleMark) → Is
 pub record ArePositions (rules : List Rule) (categories : ℕ) (ranges : List CategoryRange) (marks : PositionMarks) : Type 0 where
   pub leaves : marks.leaves ≡ sum_by leaves_of rules
   pub rule_count : length marks.rules ≡ length rules
-  pub rows : length marks.readers ≡ categories * marks.words
+  pub category_count : marks.categories ≡ categories
   pub rule_marks : AreRuleMarks rules marks.rules
   pub owner : (position : ℕ) → position < marks.leaves → IsOfRule rules position (slice_index marks.owners position)
   pub first : (position : ℕ) → position < marks.leaves → IsTrue (slice_index_or marks.firsts position false) ↔ IsFirst rules position
@@ -86,4 +87,4 @@ pub record IsWhole (marks : PositionMarks) : Type 0 where
   pub lasts : length marks.lasts ≡ marks.leaves
   pub front_lasts : length marks.front_lasts ≡ marks.leaves
   pub followers : length marks.followers ≡ marks.leaves * marks.words
-  pub readers : (n : ℕ) × (length marks.readers ≡ n * marks.words)
+  pub readers : length marks.readers ≡ marks.categories * marks.words

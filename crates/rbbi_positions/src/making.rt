@@ -1,7 +1,6 @@
 //! Positions of rules.
 ghost use Rattle.std.specs.Prelude.{IfOk};
 ghost use Rattle.rbbi_model.specs.Rules.{AreLawful};
-ghost use Rattle.rbbi_model.specs.ValidTables.{AreValidRanges};
 ghost use Rattle.rbbi_model.specs.Compiled.{AreClasses};
 ghost use Rattle.rbbi_resolve.specs.RuleLists.{rules_of};
 ghost use Rattle.rbbi_positions.specs.PositionMarks.{ArePositions};
@@ -23,7 +22,6 @@ use std::alloc::{AllocError, Global};
 pub fn positions(alloc: Global, rules: &Rules, cats: &Categories) -> Result<Positions, AllocError>
     requires lawful { AreLawful (rules_of rules.now) }
     requires classes { AreClasses (rules_of rules.now) cats.now.count cats.now.ranges }
-    requires form { AreValidRanges cats.now.count cats.now.ranges }
     ensures { IfOk result (λ marks. ArePositions
         (rules_of rules.now) cats.now.count cats.now.ranges marks) }
 {
@@ -41,6 +39,7 @@ pub fn positions(alloc: Global, rules: &Rules, cats: &Categories) -> Result<Posi
     let readers = readers_of(alloc, rules.sets(), &numbers, &codes, words)?;
     Ok(Positions {
         leaves: rules.leaves(),
+        categories: cats.count(),
         words,
         rules: marks,
         owners,

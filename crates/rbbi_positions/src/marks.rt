@@ -1,5 +1,5 @@
 //! Positions and their marks.
-ghost use Rattle.std.specs.Prelude.{◌≡◌, ◌<◌, ◌≤◌, ◌+◌, ◌*◌, false, Some, length, slice_get};
+ghost use Rattle.std.specs.Prelude.{◌≡◌, ◌<◌, ◌+◌, ◌*◌, false, Some, length, slice_get};
 ghost use Rattle.std.specs.Prelude.{slice_index, slice_index_or, slice_range};
 ghost use Rattle.std.specs.Option.{option_map};
 ghost use Rattle.rbbi_positions.specs.PositionMarks.{marked_follows, marked_reads};
@@ -17,6 +17,8 @@ use std::marker::Model;
 #[derive(Debug, Drop)]
 pub struct Positions {
     pub(crate) leaves: u32,
+    /// The number of categories, category 0 counted.
+    pub(crate) categories: u16,
     /// The words of a row.
     pub(crate) words: usize,
     pub(crate) rules: Vec<Mark>,
@@ -38,6 +40,7 @@ impl Model for Positions {
 
     ghost view = { λ p. record {
       leaves = p.leaves;
+      categories = p.categories;
       words = p.words;
       rules = p.rules.items;
       owners = p.owners.items;
@@ -50,6 +53,7 @@ impl Model for Positions {
 
     ghost invariant = { λ p. IsWhole (record {
       leaves = p.leaves;
+      categories = p.categories;
       words = p.words;
       rules = p.rules.items;
       owners = p.owners.items;
@@ -165,7 +169,7 @@ impl Positions {
 
     /// The row of the positions that read a category, in the form of `followers`.
     pub fn readers(&self, category: u16) -> &[u64]
-        requires { category * self.now.words + self.now.words ≤ length self.now.readers }
+        requires { category < self.now.categories }
         ensures { result.now ≡ slice_range self.now.readers (category * self.now.words)
             (category * self.now.words + self.now.words) }
     {
@@ -176,7 +180,7 @@ impl Positions {
     /// Whether the set of the position's leaf holds the code points of a category.
     pub fn reads(&self, leaf: u32, cat: u16) -> bool
         requires leaf { leaf < self.now.leaves }
-        requires category { cat * self.now.words + self.now.words ≤ length self.now.readers }
+        requires category { cat < self.now.categories }
         ensures { result ≡ marked_reads self.now leaf cat }
     {
         let word = self.readers[cat as usize * self.words + leaf as usize / 64];

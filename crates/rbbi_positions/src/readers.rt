@@ -3,7 +3,6 @@ ghost use Rattle.std.specs.Prelude.{◌≡◌, ◌+◌, ◌*◌, ◌<◌, ◌≤
 ghost use Rattle.std.specs.Prelude.{slice_index, vec_len};
 ghost use Rattle.std.specs.List.{AllByRecursion};
 ghost use Rattle.rbbi_model.specs.Ranges.{Has};
-ghost use Rattle.rbbi_model.specs.ValidTables.{AreValidRanges};
 ghost use Rattle.rbbi_resolve.specs.RuleTrees.{set_at};
 ghost use Rattle.rbbi_positions.specs.PositionMarks.{in_row};
 ghost use Rattle.rbbi_positions.specs.RuleTests.{AreCodesOf, ReadCode};
@@ -16,9 +15,9 @@ use std::alloc::{AllocError, Global};
 
 /// One code point of each category but 0, whose place has some number.
 pub(crate) fn codes_of(alloc: Global, cats: &Categories) -> Result<Vec<u32>, AllocError>
-    requires form { AreValidRanges cats.now.count cats.now.ranges }
-    requires used { HasEachCategory cats.now.count cats.now.ranges }
-    ensures { IfOk result (λ codes. AreCodesOf cats.now.count cats.now.ranges codes.items) }
+    requires { HasEachCategory cats.now.count cats.now.ranges }
+    ensures few { IfOk result (λ codes. length codes.items ≤ 255) }
+    ensures codes { IfOk result (λ codes. AreCodesOf cats.now.count cats.now.ranges codes.items) }
 {
     let mut codes = vec![in alloc; 0u32; cats.count() as usize]?;
     for range in cats.ranges() {

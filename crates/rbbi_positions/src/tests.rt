@@ -1,5 +1,5 @@
 //! Rule files whose positions were worked out by hand.
-ghost use Rattle.std.specs.Prelude.{◌≡◌, ◌*◌, ◌<◌, ◌≤◌, IfOk, length, chars};
+ghost use Rattle.std.specs.Prelude.{◌≡◌, ◌<◌, ◌≤◌, IfOk, length, chars};
 ghost use Rattle.rbbi_model.specs.Rules.{AreLawful};
 ghost use Rattle.rbbi_resolve.specs.RuleLists.{rules_of};
 
@@ -48,7 +48,7 @@ fn show_leaf(
     categories: u16,
 ) -> Result<(), AllocError>
     requires leaf { leaf < found.now.leaves }
-    requires rows { length found.now.readers ≡ categories * found.now.words }
+    requires categories { found.now.categories ≡ categories }
 {
     show_number(shown, alloc, leaf)?;
     shown.push_str(if found.is_first(leaf) { "^" } else { "" })?;
@@ -71,7 +71,7 @@ fn show_leaf(
 
 /// The positions in a short form, with spaces between them.
 fn show(alloc: Global, found: &Positions, categories: u16) -> Result<String, AllocError>
-    requires { length found.now.readers ≡ categories * found.now.words }
+    requires { found.now.categories ≡ categories }
 {
     let mut shown = String::new(alloc);
     for leaf in 0..found.leaves() {

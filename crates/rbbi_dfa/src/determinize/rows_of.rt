@@ -1,5 +1,5 @@
 //! The rows and lists of positions, read off their marks.
-ghost use Rattle.std.specs.Prelude.{◌≡◌, ◌<◌, ◌≤◌, ◌*◌, ◌+◌, ◌/◌, ◌⊎◌, ◌↔◌, ℕ, length, IfOk};
+ghost use Rattle.std.specs.Prelude.{◌≡◌, ◌<◌, ◌≤◌, ◌+◌, ◌/◌, ◌⊎◌, ◌↔◌, ℕ, length, IfOk};
 ghost use Rattle.std.specs.Prelude.{IsTrue};
 ghost use Rattle.rbbi_dfa.specs.BitRows.{Holds};
 ghost use Rattle.rbbi_dfa.specs.MarkedRows.{is_in_row, mark_in, IsKindOf, HasOwner, AreMarkedIn};
@@ -133,7 +133,7 @@ fn read_rows(
     positions: &Positions,
     categories: u16,
 ) -> Result<Vec<Vec<u64>>, AllocError>
-    requires readers { length positions.now.readers ≡ categories * positions.now.words }
+    requires categories { positions.now.categories ≡ categories }
     requires owners { (position : ℕ) → position < positions.now.leaves →
         HasOwner positions.now position }
     ensures { IfOk result (λ rows. AreRowsBy positions.now (λ category. RowKind.Read category)

@@ -42,6 +42,28 @@ overflow_add-result c = omega (
   c.in_ok-classes.ensures.few,
 )
 
+pub invariant_of-result : goal.invariant_of-result
+invariant_of-result c =
+    let list = c.args.rules.now in
+    let cuts = c.in_ok-cuts.cuts.items in
+    let classes = c.in_ok-classes.classes.items in
+    let sizes = c.in_ok-classes.sizes.items in
+    let numbers = c.in_ok-numbers.numbers.items in
+    let greatest = c.in_ok-numbers.greatest in
+    let ranges = c.in_ok-ranges.ranges.items in
+    let cut : AreCuts list.sets cuts = subst (λ (s : List (List Range)). AreCuts s cuts) c.sets-sets.ensures.value c.in_ok-cuts.ensures in
+    let small = cuts_small list.sets cuts cut (all_rising list.sets (subst (AllByRecursion IsLeafSet) refl c.sets-sets.ensures.form.sets)) in
+    let told : Tells list.sets cuts classes = subst (λ (s : List (List Range)). Tells s cuts classes) c.sets-sets.ensures.value
+    (rw c.deref.ensures.value at c.in_ok-classes.ensures.tells) in
+    let numbered : AreNumbers classes numbers greatest = rw c.deref-2.ensures.value at c.in_ok-numbers.ensures.numbers in
+    let are : AreRangesOf cuts classes numbers ranges = rw (c.deref-3.ensures.value, c.deref-4.ensures.value, c.deref-5.ensures.value) at c.in_ok-ranges.ensures
+    in
+    let long : length numbers ≡ length sizes = omega (arith, c.in_ok-numbers.ensures.many, c.len.ensures, c.in_ok-classes.sizes.ok) in (
+      rw c.deref-6.ensures.value at c.in_ok-blocks.ensures,
+      valid list.sets cuts classes sizes numbers ranges greatest cut small c.in_ok-classes.ensures.partition told long numbered are
+          c.in_ok-classes.ensures.few,
+    )
+
 pub returns : goal.returns
 returns c =
     let list = c.args.rules.now in

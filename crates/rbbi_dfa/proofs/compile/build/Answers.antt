@@ -13,7 +13,8 @@ automaton_of-requires-clause-readable c =
     let cats = c.args.cats.now in
     let rules = c.requires.0 in
     AreReadable-from_of rules c.count.result c.look_aheads-slashes.result cats.ranges marks
-    (AreOf-from_compilable rules marks cats c.count.result c.look_aheads-slashes.result c.requires.1 c.count.ensures c.look_aheads-slashes.ensures)
+    (AreOf-from_compilable rules marks cats c.count.result c.look_aheads-slashes.result c.requires.1 c.count.ensures.form
+    c.count.ensures.value c.look_aheads-slashes.ensures)
 
 pub returns-in_err-automaton : goal.returns-in_err-automaton
 returns-in_err-automaton c = λ rules h.
@@ -21,7 +22,8 @@ returns-in_err-automaton c = λ rules h.
     let cats = c.args.cats.now in
     BuildsTable-from_refused rules c.in_err-automaton.field-0.0 c.from_residual.result c.from_residual.ensures
     (λ e. c.in_err-automaton.ensures.too_many (ap Err e) rules cats.ranges
-    (AreOf-from_compilable rules marks cats c.count.result c.look_aheads-slashes.result h c.count.ensures c.look_aheads-slashes.ensures))
+    (AreOf-from_compilable rules marks cats c.count.result c.look_aheads-slashes.result h c.count.ensures.form
+    c.count.ensures.value c.look_aheads-slashes.ensures))
 
 pub least_table-requires-clause-determined : goal.least_table-requires-clause-determined
 least_table-requires-clause-determined c =
@@ -29,7 +31,8 @@ least_table-requires-clause-determined c =
     let cats = c.args.cats.now in
     let rules = c.requires.0 in
     c.in_ok-automaton.ensures.determined rules cats.ranges
-    (AreOf-from_compilable rules marks cats c.count.result c.look_aheads-slashes.result c.requires.1 c.count.ensures c.look_aheads-slashes.ensures)
+    (AreOf-from_compilable rules marks cats c.count.result c.look_aheads-slashes.result c.requires.1 c.count.ensures.form
+    c.count.ensures.value c.look_aheads-slashes.ensures)
 
 pub returns : goal.returns
 returns c = λ rules h.
@@ -37,9 +40,10 @@ returns c = λ rules h.
     let cats = c.args.cats.now in
     let automaton = c.in_ok-automaton.automaton in
     let of : AreOf rules c.count.result c.look_aheads-slashes.result cats.ranges marks =
-    AreOf-from_compilable rules marks cats c.count.result c.look_aheads-slashes.result h c.count.ensures c.look_aheads-slashes.ensures in
+    AreOf-from_compilable rules marks cats c.count.result c.look_aheads-slashes.result h c.count.ensures.form
+    c.count.ensures.value c.look_aheads-slashes.ensures in
     let is : automaton.categories ≡ c.count.result = c.in_ok-automaton.ensures.categories in
-    let same : c.in_ok-ranges.ranges ≡ cats.ranges = c.in_ok-ranges.ensures ∙ c.ranges-2.ensures in
+    let same : c.in_ok-ranges.ranges ≡ cats.ranges = c.in_ok-ranges.ensures ∙ c.ranges-2.ensures.value in
     BuildsTable-from_gives rules cats.ranges automaton (c.in_ok-automaton.ensures.determined rules cats.ranges of)
     (c.in_ok-automaton.ensures.marks rules cats.ranges of)
     (subst (λ (n : ℕ). AreValidRanges n cats.ranges) (sym is) of.valid)

@@ -21,11 +21,11 @@ returns c =
     let words : ℕ = (c.leaves-leaves.result + 63) / 64 in
     let wide : sum_by leaves_of rules ≤ 64 * words = omega (arith, c.leaves-leaves.ensures) in
     let codes : AreCodesOf c.args.cats.now.count c.args.cats.now.ranges c.deref-3.result.now =
-    subst (AreCodesOf c.args.cats.now.count c.args.cats.now.ranges) (sym c.deref-3.ensures.value) c.in_ok-codes.ensures in
+    subst (AreCodesOf c.args.cats.now.count c.args.cats.now.ranges) (sym c.deref-3.ensures.value) c.in_ok-codes.ensures.codes in
     record {
       leaves = c.leaves.ensures;
       rule_count = c.in_ok-marks.ensures.many;
-      rows = c.in_ok-readers.ensures.many ∙ ap (λ (n : ℕ). n * words) codes.many;
+      category_count = c.count.ensures.value;
       rule_marks = c.in_ok-marks.ensures.each;
       owner = λ position below. c.in_ok-owners.ensures.each.each position (omega (arith, below, c.leaves.ensures, c.in_ok-owners.ensures.many));
       first = λ position below.

@@ -11,18 +11,18 @@ loop-range-preserved c =
     let listed : slice_get c.ranges-range-items.result.now c.loop-range.range-index ≡ Some c.range-item.result =
     get_slice c.ranges-range-items.result.now c.loop-range.range-index c.range-item.result c.loop-range-test.true c.range-item.is in
     let is : slice_get c.args.cats.now.ranges c.loop-range.range-index ≡ Some range =
-    subst (λ (l : List CategoryRange). slice_get l c.loop-range.range-index ≡ Some c.range-item.result) c.ranges-range-items.ensures listed
+    subst (λ (l : List CategoryRange). slice_get l c.loop-range.range-index ≡ Some c.range-item.result) c.ranges-range-items.ensures.value listed
     ∙ ap (λ (r : CategoryRange). Some r) (sym c.range.view_is) in
     let few : range.category < c.args.cats.now.count =
-    (all_get (IsWithin c.args.cats.now.count) c.args.cats.now.ranges c.loop-range.range-index range is c.requires.form.within).1 in
+    (all_get (IsWithin c.args.cats.now.count) c.args.cats.now.ranges c.loop-range.range-index range is c.count.ensures.form.within).1 in
     record {
       many = omega (arith, c.loop-range.invariant.many, length-set c.loop-range.codes.items range.category range.start);
       starts = starts_more c.args.cats.now.ranges c.loop-range.codes.items c.loop-range.range-index range is (omega (arith, few, c.loop-range.invariant.many))
           c.loop-range.invariant.starts;
     }
 
-pub returns : goal.returns
-returns c =
-    starts_are_codes c.args.cats.now.count c.args.cats.now.ranges c.loop-range.codes.items c.loop-range.range-index c.requires.form c.requires.used
+pub returns-clause-codes : goal.returns-clause-codes
+returns-clause-codes c =
+    starts_are_codes c.args.cats.now.count c.args.cats.now.ranges c.loop-range.codes.items c.loop-range.range-index c.count.ensures.form c.requires
     c.loop-range.invariant.many
-    (omega (arith, ap length c.ranges-range-items.ensures, c.loop-range-test.false)) c.loop-range.invariant.starts
+    (omega (arith, ap length c.ranges-range-items.ensures.value, c.loop-range-test.false)) c.loop-range.invariant.starts
