@@ -25,13 +25,13 @@ starts files so_far known decided added collected =
       strict = refl;
       spoiled = λ spoiled left. absurd (false≢true (sym spoiled ∙ known));
       decided = λ k left points. (
-          left,
-          refl,
-          λ c. rw (decided, added, collected) (
-            λ h. inr (inr h, λ n. n),
-            λ h. elim h [ inl n ↦ absurd n | inr b ↦ elim b.0 [ inl n ↦ absurd n | inr t ↦ t ] ],
-          ),
-        );
+        left,
+        refl,
+        λ c. rw (decided, added, collected) (
+          λ h. inr (inr h, λ n. n),
+          λ h. elim h [ inl n ↦ absurd n | inr b ↦ elim b.0 [ inl n ↦ absurd n | inr t ↦ t ] ],
+        ),
+      );
     }
 
 -- a part that is joined before those so far
@@ -91,22 +91,22 @@ collected files worth old new item range is decided added known more =
       λ w. elim ((before c).0 w) [
         | inl a ↦ inl a
         | inr b ↦ inr (
-              elim b.0 [
-                | inl k ↦ inl (split.1 (inl k))
-                | inr t ↦ elim t [ inl l ↦ inr l | inr r ↦ inl (split.1 (inr ((is.members c).1 r))) ]
-              ],
-              b.1,
-            )
+          elim b.0 [
+            | inl k ↦ inl (split.1 (inl k))
+            | inr t ↦ elim t [ inl l ↦ inr l | inr r ↦ inl (split.1 (inr ((is.members c).1 r))) ]
+          ],
+          b.1,
+        )
       ],
       λ h. (before c).1 (elim h [
         | inl a ↦ inl a
         | inr b ↦ inr (
-              elim b.0 [
-                | inl k ↦ elim (split.0 k) [ inl m ↦ inl m | inr r ↦ inr (inr ((is.members c).0 r)) ]
-                | inr l ↦ inr (inl l)
-              ],
-              b.1,
-            )
+          elim b.0 [
+            | inl k ↦ elim (split.0 k) [ inl m ↦ inl m | inr r ↦ inr (inr ((is.members c).0 r)) ]
+            | inr l ↦ inr (inl l)
+          ],
+          b.1,
+        )
       ]),
     ))
 
@@ -121,20 +121,20 @@ put_joins files worth old new item set is puts =
         | inr b ↦ elim (has_or_not set c) [
           | inl s ↦ inl ((puts.added c).1 (inr (s, b.1)))
           | inr n ↦ inr (
-                elim b.0 [
-                  | inl k ↦ inl k
-                  | inr t ↦ elim t [ inl l ↦ inr l | inr i ↦ absurd (n ((is.members c).1 i)) ]
-                ],
-                λ d. elim ((puts.decided c).0 d) [ inl e ↦ b.1 e | inr r ↦ n r.0 ],
-              )
+            elim b.0 [
+              | inl k ↦ inl k
+              | inr t ↦ elim t [ inl l ↦ inr l | inr i ↦ absurd (n ((is.members c).1 i)) ]
+            ],
+            λ d. elim ((puts.decided c).0 d) [ inl e ↦ b.1 e | inr r ↦ n r.0 ],
+          )
         ]
       ],
       λ h. (before c).1 (elim h [
         | inl a ↦ elim ((puts.added c).0 a) [ inl e ↦ inl e | inr r ↦ inr (inr (inr ((is.members c).0 r.0)), r.1) ]
         | inr b ↦ inr (
-              elim b.0 [ inl k ↦ inl k | inr l ↦ inr (inl l) ],
-              λ d. b.1 ((puts.decided c).1 (inl d)),
-            )
+          elim b.0 [ inl k ↦ inl k | inr l ↦ inr (inl l) ],
+          λ d. b.1 ((puts.decided c).1 (inl d)),
+        )
       ]),
     ))
 

@@ -109,6 +109,19 @@ fn faults(rt: HostRuntime) -> Result<(), Fail> {
         ),
         ("!!reverse; b? / c; !!forward; c;", "14 EmptyFront"),
         ("!!reverse; a / b?; !!forward; c;", "13 EmptyRest"),
+        // of parts that differ the last one decides: a set and its value, each without the other
+        ("[[[a-c][d]-[a-d]a]-[a]];", "0 EmptySet"),
+        ("[[a]-[[a-c][d]-[a-d]a]];", "0 EmptySet"),
+        ("[[[a]&[b][a-c]&[b]]-[b]];", "0 EmptySet"),
+        ("[[b]-[[a]&[b][a-c]&[b]]];", "0 EmptySet"),
+        ("[[[a-d]&[b-e]-[c]]-[bd]];", "0 EmptySet"),
+        ("[[bd]-[[a-d]&[b-e]-[c]]];", "0 EmptySet"),
+        ("[[[a-d]-[c]&[b-e]c]-[b-d]];", "0 EmptySet"),
+        ("[[b-d]-[[a-d]-[c]&[b-e]c]];", "0 EmptySet"),
+        ("[[abd]&[^[a-d]-[c]]];", "0 EmptySet"),
+        // the first of many faults of a set
+        ("[[b-a]$x[z-y]];", "2 BadRange"),
+        ("[$y[b-a]-[$x]];", "1 Undefined"),
     ] {
         assert!(rt; text.len() < 1000);
         let found = outcome(rt.alloc(), text, false)?;
