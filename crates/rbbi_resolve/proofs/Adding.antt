@@ -1,5 +1,5 @@
 -- The sets of leaves, one after another.
-use Rattle.std.proofs.Common.{◌≡◌, ℕ, ◌+◌, ◌<◌, ◌≤◌, ◌⊎◌, ⊎_elim, inl, inr, Bool, false, true, not, Option, Some, None, List, [], ◌∷◌, ◌++◌, map, length}
+use Rattle.std.proofs.Common.{◌≡◌, ℕ, ◌+◌, ◌<◌, ◌≤◌, ⊎_elim, inl, inr, Bool, false, true, not, Option, Some, List, [], ◌∷◌, ◌++◌, map, length}
 use Rattle.std.proofs.Common.{drop, get_or, sym, refl, ap, ◌∙◌, subst, arith}
 use Rattle.std.specs.List.{AllZip}
 use Rattle.std.proofs.lemmas.List.{append_assoc, append-nil}
@@ -12,17 +12,13 @@ use Rattle.rbbi_props.specs.Rows.{File}
 use Rattle.rbbi_tree.specs.Trees as trees
 use Rattle.rbbi_tree.specs.Trees.{ExprTree, SeqTree, ItemTree, AtomTree, SetSyntax, no_alternatives, alternative, no_items, item, placed, property, expr_of}
 use Rattle.rbbi_tree.specs.Trees.{seq_of}
-use Rattle.rbbi_tree.specs.Values.{expr_tree, seq_tree, item_tree, expr_tree_out, seq_tree_out}
+use Rattle.rbbi_tree.specs.Values.{seq_tree, item_tree}
 use Rattle.rbbi_tree.specs.declared.syntax.Quant.{Quant}
-use Rattle.rbbi_tree.specs.declared.syntax.Expr.{Expr}
 use Rattle.rbbi_tree.specs.declared.syntax.Seq.{Seq}
 use Rattle.rbbi_tree.specs.declared.syntax.Item.{Item}
-use Rattle.rbbi_tree.specs.declared.syntax.Atom.TheViews.{out-Expr, out-Seq}
 use Rattle.rbbi_resolve.specs.SetValues.{HasMembers, IsValue, value_of_property, value_of_set}
 use Rattle.rbbi_resolve.specs.Emptiness.{holds_character}
 use Rattle.rbbi_resolve.specs.Contexts.{Context, value_of_name}
-use Rattle.rbbi_resolve.specs.Meanings.{IsLeafOf}
-use Rattle.rbbi_resolve.specs.RuleLists.{IsLeafSet}
 use Rattle.rbbi_resolve.specs.Parts.{Part, Outside, parts_of_expr, parts_of_seq, parts_of_item, parts_in_atom}
 use Rattle.rbbi_resolve.specs.Faults.{faults_of_parts, is_empty_value}
 use Rattle.rbbi_resolve.specs.Soundness.{AreSound}
@@ -30,7 +26,7 @@ use Rattle.rbbi_resolve.specs.OwnLeaves.{IsSetOfLeaf, AddsLeaves, set_or_nothing
 use Rattle.rbbi_resolve.proofs.PropertySets.{members_are_code_points}
 use Rattle.rbbi_resolve.proofs.Characters.{character_of}
 use Rattle.rbbi_resolve.proofs.Counting.{exprs_left, seqs_left}
-use Rattle.rbbi_resolve.proofs.Sound.{IsThere, faultless_first, faultless_second, faultless_part, known_there, set_there}
+use Rattle.rbbi_resolve.proofs.Sound.{faultless_first, faultless_second, faultless_part, known_there, set_there}
 
 -- the characters of a set that holds one are those of a leaf
 pub of_members : (files : List File) (tree : model.SetTree) (whole set : List Range) → HasMembers files tree whole → AreRising set →

@@ -1,5 +1,5 @@
 -- The trees of parts, one after another.
-use Rattle.std.proofs.Common.{◌≡◌, ℕ, zero, suc, ◌+◌, ◌<◌, ◌≤◌, inl, inr, Bool, Option, Some, None, unwrap_or, List, [], ◌∷◌, ◌++◌, map, length, slice_get}
+use Rattle.std.proofs.Common.{◌≡◌, ℕ, zero, suc, ◌+◌, ◌<◌, ◌≤◌, inl, inr, Option, Some, unwrap_or, List, [], ◌∷◌, ◌++◌, map, length, slice_get}
 use Rattle.std.proofs.Common.{sym, refl, ap, ◌∙◌, subst, arith}
 use Rattle.std.specs.List.{AllByRecursion, AllZip, Contains, flat_map}
 use Rattle.std.proofs.lemmas.Bool.{cases_lt}
@@ -13,7 +13,7 @@ use Rattle.rbbi_tree.specs.Trees.{StatementTree}
 use Rattle.rbbi_tree.specs.declared.syntax.Quant.{Quant}
 use Rattle.rbbi_tree.specs.declared.syntax.Quant.TheVariants as quant
 use Rattle.rbbi_resolve.specs.declared.rules.Tree.{Tree}
-use Rattle.rbbi_resolve.specs.Meanings.{Meaning, Leaf, Empty, Never, Then, Either, Repeat, Stands}
+use Rattle.rbbi_resolve.specs.Meanings.{Meaning, Leaf, Empty, Never, Then, Either, Stands}
 use Rattle.rbbi_resolve.specs.Expressions.{repeated}
 use Rattle.rbbi_resolve.specs.RuleTrees as trees
 use Rattle.rbbi_resolve.specs.RuleTrees.{tree_of, numbers_of, set_at}

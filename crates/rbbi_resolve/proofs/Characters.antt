@@ -1,10 +1,10 @@
 -- The test whether a set holds a character says whether it does.
-use Rattle.std.proofs.Common.{◌≡◌, ℕ, zero, suc, ◌+◌, ◌<◌, ◌≤◌, Bool, true, false, not, ◌&&◌, ◌||◌, eqb, leb, ◌⊎◌, ◌↔◌, inl, inr, List, Option, Some, None}
-use Rattle.std.proofs.Common.{IsTrue, Decides, sym, refl, ap, ◌∙◌, subst, arith, rules}
+use Rattle.std.proofs.Common.{◌≡◌, ℕ, zero, suc, ◌<◌, ◌≤◌, Bool, true, false, not, ◌&&◌, ◌||◌, eqb, leb, ◌⊎◌, ◌↔◌, inl, inr, List, Option, Some, None}
+use Rattle.std.proofs.Common.{IsTrue, sym, refl, ap, subst, arith}
 use Rattle.std.proofs.lemmas.Bool.{cases_lt}
 use Rattle.std.proofs.lemmas.Bool.Decides.{nat_tests}
-use Rattle.rbbi_model.specs.Words.{IsSurrogate, IsCodePoint}
-use Rattle.rbbi_model.specs.Ranges.{Range, Has, InRange}
+use Rattle.rbbi_model.specs.Words.{IsSurrogate}
+use Rattle.rbbi_model.specs.Ranges.{Range, Has}
 use Rattle.rbbi_model.specs.SetTrees as model
 use Rattle.rbbi_props.specs.Rows.{File}
 use Rattle.rbbi_resolve.specs.SetValues.{Passes, found, HasProperty, HasMembers, IsValue}

@@ -1,6 +1,6 @@
 -- What was read, before the first statement and behind the last.
-use Rattle.std.proofs.Common.{◌≡◌, ℕ, zero, suc, ◌+◌, ◌<◌, ◌≤◌, Bool, true, false, if◌then◌else◌, is_some, Option, Some, None, MatchOption, List, [], ◌∷◌}
-use Rattle.std.proofs.Common.{◌++◌, fold, take, drop, length, slice_get, sum_by, sym, refl, ap, ◌∙◌, subst, arith}
+use Rattle.std.proofs.Common.{◌≡◌, ℕ, zero, suc, ◌≤◌, Bool, true, false, if◌then◌else◌, is_some, Option, Some, None, MatchOption, List, [], ◌∷◌}
+use Rattle.std.proofs.Common.{◌++◌, drop, length, slice_get, sum_by, sym, refl, ap, ◌∙◌, subst, arith}
 use Rattle.std.proofs.lemmas.List.{drop_all}
 use Rattle.std.specs.HashMap.{get_by_text}
 use Rattle.rbbi_props.specs.Rows.{File}
@@ -11,9 +11,9 @@ use Rattle.rbbi_resolve.specs.declared.counts.Counts as declared
 use Rattle.rbbi_resolve.specs.Contexts.{Context, assigned_to, variable_of}
 use Rattle.rbbi_resolve.specs.Expressions.{variable_for}
 use Rattle.rbbi_resolve.specs.Faults.{noted}
-use Rattle.rbbi_resolve.specs.Files.{RuleMeaning, start, context_after, context_at, with_variable, faults_from, faults_of, rules_from, active_rules}
+use Rattle.rbbi_resolve.specs.Files.{RuleMeaning, start, context_at, with_variable, faults_from, faults_of, rules_from, active_rules}
 use Rattle.rbbi_resolve.specs.Counts.{counted, leaves_meant}
-use Rattle.rbbi_resolve.specs.Scopes.{Variables, IsUnassigned, IsDefinedBy, AreVariables}
+use Rattle.rbbi_resolve.specs.Scopes.{Variables, IsUnassigned, IsDefinedBy}
 use Rattle.rbbi_resolve.specs.Switchings.{AreSwitches}
 use Rattle.rbbi_resolve.specs.Countings.{AreCounting, slash_of}
 use Rattle.rbbi_resolve.specs.Readings.{IsReadTo}

@@ -1,10 +1,9 @@
 -- A file of characters without faults means lawful rules.
-use Rattle.std.proofs.Common.{◌≡◌, ℕ, ◌+◌, ◌<◌, ◌≤◌, ◌⊎◌, inl, inr, Bool, true, false, if◌then◌else◌, Option, Some, None, IfSome, List, [], ◌∷◌, ◌++◌, length}
+use Rattle.std.proofs.Common.{◌≡◌, ℕ, ◌≤◌, ◌⊎◌, inl, inr, Bool, true, false, if◌then◌else◌, Option, Some, None, IfSome, List, [], ◌∷◌, ◌++◌, length}
 use Rattle.std.proofs.Common.{sym, refl, ap, ◌∙◌, subst, arith}
 use Rattle.std.specs.Option.{option_map}
 use Rattle.std.specs.List.{AllByRecursion, AllZip}
-use Rattle.rbbi_model.specs.Words.{IsCodePoint}
-use Rattle.rbbi_model.specs.Ranges.{Range, Has}
+use Rattle.rbbi_model.specs.Ranges.{Range}
 use Rattle.rbbi_model.specs.SetTrees as sets
 use Rattle.rbbi_model.specs.Spelling as spelling
 use Rattle.rbbi_model.specs.Rules as model
@@ -37,7 +36,7 @@ use Rattle.rbbi_resolve.proofs.SoundFiles.{sound_after}
 use Rattle.rbbi_resolve.proofs.Steps.{meant}
 use Rattle.rbbi_resolve.proofs.Lawful.{HasRuleSets, lawful_rules, within_anywhere}
 use Rattle.rbbi_resolve.proofs.Earliest.{least_noted, none_noted}
-use Rattle.rbbi_resolve.proofs.Good.{IsWithin, IsGoodSet, IsGood, AreGood, good_expr, good_after}
+use Rattle.rbbi_resolve.proofs.Good.{IsWithin, IsGood, AreGood, good_expr, good_after}
 
 passes_within : (test : Option (ℕ → Bool)) (c : ℕ) → Passes test c → c ≤ 0x10FFFF
 passes_within None c p = absurd p

@@ -1,11 +1,9 @@
 -- In a file of characters without faults each leaf's set holds a character, and nothing past the last code point.
-use Rattle.std.proofs.Common.{◌≡◌, ℕ, zero, suc, ◌+◌, ◌<◌, ◌≤◌, ◌⊎◌, inl, inr, Bool, true, false, not, ◌&&◌, nat_le, is_some, is_none, if◌then◌else◌, Option}
-use Rattle.std.proofs.Common.{Some, None, IfSome, List, [], ◌∷◌, ◌++◌, encode_utf8_all, bytes_eq, codes, sym, refl, ap, ◌∙◌, subst, arith}
+use Rattle.std.proofs.Common.{◌≡◌, ℕ, ◌≤◌, Bool, true, false, not, nat_le, is_some, is_none, if◌then◌else◌, Option}
+use Rattle.std.proofs.Common.{Some, None, IfSome, List, [], ◌∷◌, ◌++◌, encode_utf8_all, bytes_eq, codes, refl, arith}
 use Rattle.std.specs.Option.{option_map}
 use Rattle.std.specs.List.{AllByRecursion}
-use Rattle.std.proofs.lemmas.Bool.Decides.{nat_tests}
-use Rattle.rbbi_model.specs.Words.{IsCharacter, IsSurrogate, IsCodePoint}
-use Rattle.rbbi_model.specs.Ranges.{InRange}
+use Rattle.rbbi_model.specs.Words.{IsCharacter}
 use Rattle.rbbi_model.specs.SetTrees as model
 use Rattle.rbbi_props.specs.Rows.{File}
 use Rattle.rbbi_tree.specs.Trees as trees
@@ -17,20 +15,19 @@ use Rattle.rbbi_tree.specs.Trees.{StatementTree, nothing, control, assign, rule}
 use Rattle.rbbi_tree.specs.declared.syntax.Quant.{Quant}
 use Rattle.rbbi_tree.specs.declared.syntax.Quant.TheVariants as quant
 use Rattle.rbbi_tree.specs.declared.syntax.Join.{Join}
-use Rattle.rbbi_resolve.specs.declared.fault.Fault.{Fault}
-use Rattle.rbbi_resolve.specs.SetValues.{HasProperty, found, join_of, joined_to, signed, value_of_property, value_of_range, value_of_set, value_of_parts}
+use Rattle.rbbi_resolve.specs.SetValues.{found, joined_to, signed, value_of_property, value_of_range, value_of_set, value_of_parts}
 use Rattle.rbbi_resolve.specs.SetValues.{value_of_part, value_of_item}
-use Rattle.rbbi_resolve.specs.Emptiness.{in_set, is_no_surrogate, any_below, holds_character}
+use Rattle.rbbi_resolve.specs.Emptiness.{holds_character}
 use Rattle.rbbi_resolve.specs.Meanings.{Meaning, Leaf, Empty, Never, Then, Either, Repeat}
 use Rattle.rbbi_resolve.specs.Contexts.{Variable, Set, Expression, Assigned, Context, assigned_to, variable_of, value_of_name, value_of_variable}
 use Rattle.rbbi_resolve.specs.Expressions.{leaf_of, word_of, meaning_of_variable, repeated, meaning_of_expr, meaning_of_seq, meaning_of_item, meaning_of_atom}
 use Rattle.rbbi_resolve.specs.Expressions.{height_of_expr, set_of_variable, set_of_atom, set_of_item, set_of_expr, variable_with, variable_for}
-use Rattle.rbbi_resolve.specs.Parts.{Outside, Within, parts_of_set, parts_of_expr, parts_of_seq, parts_of_item, parts_in_atom}
+use Rattle.rbbi_resolve.specs.Parts.{Outside, parts_of_set, parts_of_expr, parts_of_seq, parts_of_item, parts_in_atom}
 use Rattle.rbbi_resolve.specs.Faults.{faults_of_parts, is_empty_value}
-use Rattle.rbbi_resolve.specs.Files.{context_after, with_variable, faults_of_statement, faults_from, ends_active}
+use Rattle.rbbi_resolve.specs.Files.{context_after, faults_of_statement, ends_active}
 use Rattle.rbbi_resolve.specs.Soundness.{IsSound, AreSound}
 use Rattle.rbbi_resolve.specs.TextCharacters.{IsSetOfCharacters, ArePartsOfCharacters, IsPartOfCharacters, IsMemberOfCharacters, IsOfCharacters}
-use Rattle.rbbi_resolve.specs.TextCharacters.{IsSeqOfCharacters, IsItemOfCharacters, IsAtomOfCharacters, IsStatementOfCharacters, AreOfCharacters}
+use Rattle.rbbi_resolve.specs.TextCharacters.{IsSeqOfCharacters, IsItemOfCharacters, IsAtomOfCharacters, IsStatementOfCharacters}
 use Rattle.rbbi_resolve.proofs.Characters.{in_set_takes, character_held}
 use Rattle.rbbi_resolve.proofs.SoundFiles.{assigned_faultless}
 use Rattle.rbbi_resolve.proofs.Sound.{IsFaultless, faultless_part, faultless_first, faultless_second, IsThere, known_there, set_there}

@@ -1,12 +1,11 @@
 -- The rules that a file means are lawful.
-use Rattle.std.proofs.Common.{◌≡◌, ℕ, zero, suc, ◌+◌, ◌<◌, ◌≤◌, ◌⊎◌, inl, inr, Bool, true, false, not, ◌&&◌, ◌||◌, nat_lt, if◌then◌else◌, is_some, Option}
-use Rattle.std.proofs.Common.{Some, None, IfSome, IsSome, List, [], ◌∷◌, ◌++◌, map, length, filter, slice_get, sum_by, sym, refl, ap, ◌∙◌, subst, arith}
+use Rattle.std.proofs.Common.{◌≡◌, ℕ, ◌+◌, ◌≤◌, ◌⊎◌, inl, inr, Bool, true, false, ◌&&◌, ◌||◌, nat_lt, if◌then◌else◌, is_some, Option}
+use Rattle.std.proofs.Common.{Some, None, IfSome, IsSome, List, [], ◌∷◌, ◌++◌, length, sum_by, sym, refl, ap, ◌∙◌, subst, arith}
 use Rattle.std.specs.Option.{option_or, option_map, option_map_or}
 use Rattle.std.specs.List.{AllByRecursion, AllZip}
 use Rattle.std.proofs.lemmas.Bool.Decides.{nat_tests}
 use Rattle.std.proofs.lemmas.List.Sums.{sum_by-cons}
 use Rattle.std.proofs.lemmas.Slice.Zip.{AllZip-long}
-use Rattle.rbbi_model.specs.Ranges.{Range}
 use Rattle.rbbi_model.specs.Spelling as spelling
 use Rattle.rbbi_model.specs.Spelling.{Spells, joined, Star, Plus, Quest}
 use Rattle.rbbi_model.specs.Rules as model
@@ -15,12 +14,12 @@ use Rattle.rbbi_props.specs.Rows.{File}
 use Rattle.rbbi_tree.specs.Trees.{ExprTree, StatementTree, nothing, control, assign, rule}
 use Rattle.rbbi_tree.specs.WellMade.{AreWellMade, IsWellMade, IsWellMadeRest}
 use Rattle.rbbi_resolve.specs.declared.fault.Fault.{Fault}
-use Rattle.rbbi_resolve.specs.Meanings.{Meaning, Leaf, Empty, Never, Then, Either, Repeat, Stands, leaf_count, spells_empty, may_be_none}
+use Rattle.rbbi_resolve.specs.Meanings.{Meaning, Leaf, Empty, Never, Then, Either, Repeat, Stands, leaf_count, spells_empty}
 use Rattle.rbbi_resolve.specs.Contexts.{Context}
 use Rattle.rbbi_resolve.specs.Expressions.{meaning_of_expr}
 use Rattle.rbbi_resolve.specs.Parts.{parts_of_expr}
 use Rattle.rbbi_resolve.specs.Faults.{faults_where, faults_of_parts}
-use Rattle.rbbi_resolve.specs.Files.{RuleMeaning, start, context_after, faults_of_rest, faults_at_slash, faults_of_statement, faults_from, faults_of, rule_in}
+use Rattle.rbbi_resolve.specs.Files.{RuleMeaning, start, context_after, faults_of_rest, faults_at_slash, faults_of_statement, faults_from, rule_in}
 use Rattle.rbbi_resolve.specs.Files.{rules_from, active_rules}
 use Rattle.rbbi_resolve.specs.Counts.{counted, fault_at, no_rules_at, too_many_rules_at, too_many_leaves_at, too_many_slashes_at, too_tall_at}
 use Rattle.rbbi_resolve.specs.Counts as counts

@@ -1,7 +1,7 @@
 -- An expression that is one atom with no quantifier, or is not.
-use Rattle.std.proofs.Common.{◌≡◌, ℕ, ◌+◌, ◌<◌, Option, Some, None, List, [], ◌∷◌, map, length, slice_index_or, sym, refl, ap, ◌∙◌, subst, arith}
+use Rattle.std.proofs.Common.{◌≡◌, None, List, [], ◌∷◌, map, length, slice_index_or, sym, refl, ap, ◌∙◌, arith}
 use Rattle.std.proofs.lemmas.List.{length-map}
-use Rattle.rbbi_tree.specs.Trees.{ExprTree, SeqTree, ItemTree, AtomTree, no_alternatives, alternative, no_items, item, placed, expr_of, seq_of}
+use Rattle.rbbi_tree.specs.Trees.{SeqTree, ItemTree, no_alternatives, alternative, no_items, item, placed, expr_of, seq_of}
 use Rattle.rbbi_tree.specs.Values.{expr_tree, seq_tree, item_tree, atom_tree, expr_tree_out, seq_tree_out, item_tree_out}
 use Rattle.rbbi_tree.specs.declared.syntax.Expr.{Expr}
 use Rattle.rbbi_tree.specs.declared.syntax.Seq.{Seq}

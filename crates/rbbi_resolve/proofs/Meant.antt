@@ -1,17 +1,15 @@
 -- What names mean, by the expressions that their statements assign.
-use Rattle.std.proofs.Common.{◌≡◌, ℕ, ◌+◌, ◌<◌, ◌≤◌, Bool, true, false, nat_lt, if◌then◌else◌, Option, Some, None, MatchOption, unwrap_or, List, [], ◌∷◌}
-use Rattle.std.proofs.Common.{◌++◌, map, length, slice_get, encode_utf8_all, sym, refl, ap, ◌∙◌, subst, arith}
+use Rattle.std.proofs.Common.{◌≡◌, ℕ, ◌<◌, true, false, nat_lt, if◌then◌else◌, Option, Some, None, MatchOption, List, [], ◌∷◌}
+use Rattle.std.proofs.Common.{map, length, encode_utf8_all, sym, refl, ap, ◌∙◌, subst, arith}
 use Rattle.std.proofs.lemmas.Bool.Decides.{nat_tests}
 use Rattle.std.proofs.lemmas.Option.{slice_get_within}
 use Rattle.std.proofs.lemmas.List.{length-map}
 use Rattle.std.specs.HashMap.{get_by_text}
-use Rattle.rbbi_model.specs.Ranges.{Range}
 use Rattle.rbbi_model.specs.SetTrees as model
 use Rattle.rbbi_props.specs.Rows.{File}
 use Rattle.rbbi_tree.specs.Trees.{ExprTree, SeqTree, ItemTree, AtomTree, no_alternatives, alternative, no_items, item, placed, character, quoted, any, name}
 use Rattle.rbbi_tree.specs.Trees.{property, set, group, expr_of, seq_of}
-use Rattle.rbbi_tree.specs.Trees.{StatementTree}
-use Rattle.rbbi_tree.specs.Values.{statement_trees, statement_tree}
+use Rattle.rbbi_tree.specs.Values.{statement_trees}
 use Rattle.rbbi_tree.specs.declared.syntax.Quant.TheVariants as quant
 use Rattle.rbbi_resolve.specs.declared.scope.Scope.{Scope}
 use Rattle.rbbi_resolve.specs.declared.variables.Variable.{Variable}

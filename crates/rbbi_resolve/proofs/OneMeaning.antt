@@ -1,7 +1,6 @@
 -- A meaning stands for one tree at most, and a file for one list of rules.
-use Rattle.std.proofs.Common.{◌≡◌, ℕ, ◌↔◌, Bool, Option, Some, None, List, [], ◌∷◌, sym, refl, ap, ◌∙◌}
+use Rattle.std.proofs.Common.{◌≡◌, ℕ, Bool, Option, Some, None, List, [], ◌∷◌, sym, refl, ap, ◌∙◌}
 use Rattle.std.specs.List.{AllZip}
-use Rattle.rbbi_model.specs.Ranges.{Range, Has}
 use Rattle.rbbi_model.specs.Spelling as spelling
 use Rattle.rbbi_model.specs.Rules as model
 use Rattle.rbbi_sets.specs.Laws.{MembersDetermine}

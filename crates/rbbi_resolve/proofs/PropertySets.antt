@@ -1,10 +1,10 @@
 -- The values of properties, by what was found for them.
-use Rattle.std.proofs.Common.{◌≡◌, ℕ, ◌+◌, ◌≤◌, Bool, true, false, List, [], ◌∷◌, Option, Some, None, ◌⊎◌, inl, inr, arith}
-use Rattle.rbbi_model.specs.Ranges.{Range, Has, InRange}
-use Rattle.rbbi_sets.specs.Rising.{AreRising, AreRisingFrom}
+use Rattle.std.proofs.Common.{◌≡◌, ℕ, ◌+◌, ◌≤◌, Bool, false, List, [], ◌∷◌, Option, Some, None, inl, inr, arith}
+use Rattle.rbbi_model.specs.Ranges.{Range, Has}
+use Rattle.rbbi_sets.specs.Rising.{AreRisingFrom}
 use Rattle.rbbi_props.specs.Rows.{File}
 use Rattle.rbbi_props.specs.Lookups.{IsSetOf}
-use Rattle.rbbi_resolve.specs.SetValues.{found, value_of_property, IsValue, HasMembers}
+use Rattle.rbbi_resolve.specs.SetValues.{found, value_of_property, IsValue}
 
 -- what rising ranges hold is a code point
 pub members_are_code_points : (bound : ℕ) (set : List Range) → AreRisingFrom bound set → (c : ℕ) → Has set c → c ≤ 0x10FFFF

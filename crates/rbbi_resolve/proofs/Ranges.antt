@@ -1,6 +1,6 @@
 -- What a list of ranges holds that is joined from two.
-use Rattle.std.proofs.Common.{◌≡◌, ℕ, ◌⊎◌, ◌↔◌, inl, inr, List, [], ◌∷◌, ◌++◌}
-use Rattle.rbbi_model.specs.Ranges.{Range, Has, InRange}
+use Rattle.std.proofs.Common.{ℕ, ◌⊎◌, ◌↔◌, inl, inr, List, [], ◌∷◌, ◌++◌}
+use Rattle.rbbi_model.specs.Ranges.{Range, Has}
 
 pub has-append : (xs ys : List Range) (c : ℕ) → Has (xs ++ ys) c ↔ (Has xs c ⊎ Has ys c)
 has-append [] ys c = (λ h. inr h, λ h. elim h [ inl g ↦ absurd g | inr g ↦ g ])

@@ -1,29 +1,26 @@
 -- The active rules, one after another.
-use Rattle.std.proofs.Common.{◌≡◌, ℕ, ◌+◌, ◌<◌, ◌≤◌, inl, inr, Bool, Option, Some, None, IfSome, List, [], ◌∷◌, ◌++◌, map, length, drop, slice_get, sum_by}
+use Rattle.std.proofs.Common.{◌≡◌, ℕ, ◌+◌, ◌<◌, ◌≤◌, inl, inr, Option, Some, None, IfSome, List, [], ◌∷◌, ◌++◌, map, length, drop, slice_get}
 use Rattle.std.proofs.Common.{sym, refl, ap, ◌∙◌, subst, arith}
 use Rattle.std.specs.Option.{option_map, option_map_or}
 use Rattle.std.specs.List.{AllByRecursion, AllZip, Contains, flat_map}
 use Rattle.std.proofs.lemmas.Bool.{cases_lt}
-use Rattle.std.proofs.lemmas.List.{append_assoc, append-nil, length-append, drop_all}
+use Rattle.std.proofs.lemmas.List.{append_assoc, append-nil, drop_all}
 use Rattle.rbbi_model.specs.Ranges.{Range}
-use Rattle.rbbi_model.specs.Rules as model
-use Rattle.rbbi_model.specs.Rules.{look_aheads}
 use Rattle.rbbi_props.specs.Rows.{File}
 use Rattle.rbbi_tree.specs.Trees.{StatementTree}
 use Rattle.rbbi_resolve.specs.declared.rules.Tree.{Tree}
 use Rattle.rbbi_resolve.specs.declared.rules.Rule.{Rule}
 use Rattle.rbbi_resolve.specs.declared.switches.Switches.{Switches}
 use Rattle.rbbi_resolve.specs.Meanings.{Meaning, Stands}
-use Rattle.rbbi_resolve.specs.Contexts.{Context}
-use Rattle.rbbi_resolve.specs.Files.{RuleMeaning, start, context_after, context_at, rule_in, rules_from, active_rules}
+use Rattle.rbbi_resolve.specs.Files.{RuleMeaning, context_after, context_at, rule_in, rules_from, active_rules}
 use Rattle.rbbi_resolve.specs.Switchings.{AreSwitches}
 use Rattle.rbbi_resolve.specs.RuleTrees.{tree_of, numbers_of}
-use Rattle.rbbi_resolve.specs.RuleLists.{RuleList, rule_of, rules_of, numbers_of_rule, leaf_numbers, IsLeafSet, AreWellFormed}
-use Rattle.rbbi_resolve.specs.Builders.{HasLeafSets, IsPart, IsBuilt, IsBuilder, GoesOn}
+use Rattle.rbbi_resolve.specs.RuleLists.{rule_of, numbers_of_rule, AreWellFormed}
+use Rattle.rbbi_resolve.specs.Builders.{HasLeafSets, IsBuilt, GoesOn}
 use Rattle.rbbi_resolve.specs.Outcomes.{BothStand, IsRuleOf}
 use Rattle.rbbi_resolve.specs.RulesSoFar.{IsRest, IsRestBuilt, IsRuleBuilt, AreRulesTo, AreAllRules}
 use Rattle.rbbi_resolve.proofs.Steps.{left_here, context_next, rules_next}
-use Rattle.rbbi_resolve.proofs.Building.{part_more, goes_nowhere, goes_further, contains_left, contains_right, all_append}
+use Rattle.rbbi_resolve.proofs.Building.{part_more, contains_left, contains_right, all_append}
 use Rattle.rbbi_resolve.proofs.Lawful.{HasRuleSets}
 
 module _ (files : List File) where

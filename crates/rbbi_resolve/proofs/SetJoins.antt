@@ -1,16 +1,16 @@
 -- Parts that are joined from the last to the first, and the whole at the end.
-use Rattle.std.proofs.Common.{◌≡◌, ℕ, Bool, true, false, ◌⊎◌, ◌↔◌, inl, inr, List, [], ◌∷◌, ◌++◌, Option, Some, None, option_map, ◌<◌, ◌≤◌, cond, leb, sym}
+use Rattle.std.proofs.Common.{◌≡◌, ℕ, Bool, true, false, ◌↔◌, inl, inr, List, [], ◌∷◌, ◌++◌, Option, Some, None, option_map, ◌<◌, ◌≤◌, cond, leb, sym}
 use Rattle.std.proofs.Common.{ap, ◌∙◌, refl, subst, arith}
 use Rattle.std.proofs.lemmas.Bool.{false≢true}
 use Rattle.std.proofs.lemmas.Bool.Decides.{nat_tests}
-use Rattle.rbbi_model.specs.Ranges.{Range, Has, InRange}
+use Rattle.rbbi_model.specs.Ranges.{Range, Has}
 use Rattle.rbbi_model.specs.SetTrees as model
 use Rattle.rbbi_sets.specs.Rising.{AreRising}
 use Rattle.rbbi_props.specs.Rows.{File}
 use Rattle.rbbi_tree.specs.declared.syntax.Join.{Join}
 use Rattle.rbbi_tree.specs.declared.syntax.Join.TheVariants.{Add, Both, Minus}
 use Rattle.rbbi_resolve.specs.declared.so_far.SoFar.{SoFar}
-use Rattle.rbbi_resolve.specs.SetValues.{HasProperty, HasMembers, IsValue, join_of, joined_to, signed, value_of_range}
+use Rattle.rbbi_resolve.specs.SetValues.{HasMembers, IsValue, join_of, joined_to, signed, value_of_range}
 use Rattle.rbbi_resolve.specs.SetsSoFar.{IsSoFar, AreDecided, AreCodePoints, PutsIn, TakesOut}
 use Rattle.rbbi_sets.specs.Piles.{HasAny}
 use Rattle.rbbi_sets.proofs.Coverage.{has_or_not}

@@ -4,7 +4,7 @@ use Rattle.std.proofs.lemmas.List.{drop_more, drop_all}
 use Rattle.rbbi_model.specs.Ranges.{Range}
 use Rattle.rbbi_model.specs.SetTrees as model
 use Rattle.rbbi_props.specs.Rows.{File}
-use Rattle.rbbi_tree.specs.Trees.{PartsTree, SetSyntax, set_of, parts_of}
+use Rattle.rbbi_tree.specs.Trees.{set_of, parts_of}
 use Rattle.rbbi_tree.specs.Values.{set_tree, part_tree, set_tree_out, parts_tree_out}
 use Rattle.rbbi_tree.specs.declared.syntax.SetExpr.{SetExpr}
 use Rattle.rbbi_tree.specs.declared.syntax.SetPart.{SetPart}

@@ -1,35 +1,28 @@
 -- In a file without faults each set has a value, and each expression has parts.
-use Rattle.std.proofs.Common.{◌≡◌, ℕ, zero, suc, ◌+◌, ◌<◌, ◌≤◌, Bool, true, false, nat_lt, nat_le, is_some, is_none, if◌then◌else◌, Option, Some, None}
-use Rattle.std.proofs.Common.{IsSome, List, [], ◌∷◌, ◌++◌, length, drop, slice_get, encode_utf8_all, bytes_eq, not, ◌&&◌, codes, sym, refl, ap, ◌∙◌, subst}
+use Rattle.std.proofs.Common.{◌≡◌, ℕ, Bool, true, false, nat_lt, nat_le, is_some, is_none, if◌then◌else◌, Option, Some, None}
+use Rattle.std.proofs.Common.{List, [], ◌∷◌, ◌++◌, encode_utf8_all, sym, refl, ap, ◌∙◌}
 use Rattle.std.proofs.Common.{arith}
 use Rattle.std.specs.Option.{option_map}
-use Rattle.std.specs.List.{AllByRecursion}
 use Rattle.std.proofs.lemmas.Bool.Decides.{nat_tests}
 use Rattle.rbbi_model.specs.SetTrees as model
-use Rattle.rbbi_model.specs.Spelling.{Star, Plus, Quest}
 use Rattle.rbbi_props.specs.Rows.{File}
-use Rattle.rbbi_tree.specs.Trees as trees
 use Rattle.rbbi_tree.specs.Trees.{SetSyntax, PartsTree, PartTree, SetItemTree, set_of, no_parts, part, joined, set_character, set_range, set_name, set_property}
 use Rattle.rbbi_tree.specs.Trees.{set_within}
 use Rattle.rbbi_tree.specs.Trees.{ExprTree, SeqTree, ItemTree, AtomTree, no_alternatives, alternative, no_items, item, placed, character, quoted, any, name}
 use Rattle.rbbi_tree.specs.Trees.{property, set, group}
-use Rattle.rbbi_tree.specs.Trees.{StatementTree, nothing, control, assign, rule}
-use Rattle.rbbi_tree.specs.WellMade.{IsWellMadeExpr, AreWellMadeSeqs, AreWellMadeItems, IsWellMadeItem, IsWellMadeAtom, HasSeq, HasItem, AreWellMade}
-use Rattle.rbbi_tree.specs.WellMade.{IsWellMade}
+use Rattle.rbbi_tree.specs.WellMade.{IsWellMadeExpr, AreWellMadeSeqs, AreWellMadeItems, IsWellMadeItem, IsWellMadeAtom, HasSeq, HasItem}
 use Rattle.rbbi_tree.specs.declared.syntax.Quant.{Quant}
 use Rattle.rbbi_tree.specs.declared.syntax.Quant.TheVariants as quant
-use Rattle.rbbi_tree.specs.declared.syntax.Join.{Join}
-use Rattle.rbbi_resolve.specs.declared.fault.Fault.{Fault}
 use Rattle.rbbi_resolve.specs.SetValues.{found, join_of, joined_to, signed, value_of_property, value_of_range, value_of_set, value_of_parts, value_of_part}
 use Rattle.rbbi_resolve.specs.SetValues.{value_of_item}
-use Rattle.rbbi_resolve.specs.Meanings.{Meaning, Leaf, Empty, Never, Then, Either, Repeat}
-use Rattle.rbbi_resolve.specs.Contexts.{Variable, Set, Expression, Context, assigned_to, variable_of, value_of_name, value_of_variable}
+use Rattle.rbbi_resolve.specs.Meanings.{Meaning}
+use Rattle.rbbi_resolve.specs.Contexts.{Variable, Set, Expression, Context, variable_of, value_of_name, value_of_variable}
 use Rattle.rbbi_resolve.specs.Expressions.{leaf_of, word_of, meaning_of_variable, repeated, meaning_of_expr, meaning_of_seq, meaning_of_item, meaning_of_atom}
 use Rattle.rbbi_resolve.specs.Expressions.{height_of_expr, set_of_variable, set_of_atom, set_of_item, set_of_expr, variable_with, variable_for}
 use Rattle.rbbi_resolve.specs.Parts.{Part, Outside, Within, parts_of_set, parts_of_parts, parts_of_part, parts_in_item, parts_of_expr, parts_of_seq}
 use Rattle.rbbi_resolve.specs.Parts.{parts_of_item, parts_in_atom}
 use Rattle.rbbi_resolve.specs.Faults.{faults_where, faults_of_part, faults_of_parts, is_undefined, is_expression, is_not_a_set, is_unknown_property}
-use Rattle.rbbi_resolve.specs.Faults.{is_bad_range, is_empty_set, is_empty_value, is_bare_literal, place_of}
+use Rattle.rbbi_resolve.specs.Faults.{is_bad_range, is_empty_set, is_bare_literal, place_of}
 use Rattle.rbbi_resolve.specs.Soundness.{IsFull, IsSound, AreSound}
 use Rattle.rbbi_resolve.proofs.Noting.{faults_of_append}
 

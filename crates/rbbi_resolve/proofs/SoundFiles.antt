@@ -1,16 +1,14 @@
 -- A file without faults is sound at each statement.
-use Rattle.std.proofs.Common.{◌≡◌, ℕ, zero, suc, ◌+◌, Bool, true, false, is_some, if◌then◌else◌, not, ◌&&◌, ◌||◌, Option, Some, None, List, [], ◌∷◌, ◌++◌}
-use Rattle.std.proofs.Common.{fold, take, slice_get, bytes_eq, codes, encode_utf8_all, sym, refl, ap, ◌∙◌, subst, arith}
-use Rattle.std.specs.List.{AllByRecursion}
+use Rattle.std.proofs.Common.{◌≡◌, ℕ, zero, suc, Bool, true, false, is_some, if◌then◌else◌, not, ◌&&◌, Some, List, [], ◌∷◌, ◌++◌}
+use Rattle.std.proofs.Common.{fold, take, slice_get, bytes_eq, codes, encode_utf8_all, sym, subst}
 use Rattle.rbbi_props.specs.Rows.{File}
 use Rattle.rbbi_tree.specs.Trees.{ExprTree, StatementTree, nothing, control, assign, rule}
 use Rattle.rbbi_tree.specs.WellMade.{AreWellMade, IsWellMade}
-use Rattle.rbbi_resolve.specs.declared.fault.Fault.{Fault}
-use Rattle.rbbi_resolve.specs.Contexts.{Variable, Assigned, Context, assigned_to, variable_of}
+use Rattle.rbbi_resolve.specs.Contexts.{Assigned, Context, assigned_to, variable_of}
 use Rattle.rbbi_resolve.specs.Expressions.{variable_for}
 use Rattle.rbbi_resolve.specs.Parts.{parts_of_expr}
 use Rattle.rbbi_resolve.specs.Faults.{faults_where, faults_of_parts}
-use Rattle.rbbi_resolve.specs.Files.{start, context_after, context_at, with_variable, after_control, faults_of_statement, faults_from, faults_of}
+use Rattle.rbbi_resolve.specs.Files.{start, context_after, context_at, faults_of_statement, faults_from, faults_of}
 use Rattle.rbbi_resolve.specs.Soundness.{IsSound, AreSound}
 use Rattle.rbbi_resolve.proofs.Steps.{control_variables}
 use Rattle.rbbi_resolve.proofs.Sound.{first_empty, second_empty, sound_variable}

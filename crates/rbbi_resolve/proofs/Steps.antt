@@ -1,6 +1,6 @@
 -- From one statement of a rule file to the next.
-use Rattle.std.proofs.Common.{◌≡◌, ℕ, ◌+◌, ◌<◌, ◌≤◌, inl, inr, Bool, true, false, not, ◌&&◌, max, cond, nat_lt, is_some, if◌then◌else◌, Option, Some, None}
-use Rattle.std.proofs.Common.{MatchOption, List, [], ◌∷◌, ◌++◌, fold, take, drop, length, slice_get, codes, bytes_eq, encode_utf8_all, sym, refl, ap, ◌∙◌}
+use Rattle.std.proofs.Common.{◌≡◌, ℕ, ◌+◌, ◌≤◌, inl, inr, Bool, true, false, not, ◌&&◌, max, cond, nat_lt, is_some, if◌then◌else◌, Option, Some, None}
+use Rattle.std.proofs.Common.{MatchOption, List, [], ◌∷◌, ◌++◌, fold, take, drop, slice_get, codes, bytes_eq, encode_utf8_all, sym, refl, ap, ◌∙◌}
 use Rattle.std.proofs.Common.{subst, arith}
 use Rattle.std.proofs.lemmas.Bool.{cases_lt}
 use Rattle.std.proofs.lemmas.Bool.Decides.{nat_tests}
@@ -14,7 +14,7 @@ use Rattle.std.specs.Option.{option_map, option_map_or}
 use Rattle.rbbi_props.specs.Rows.{File}
 use Rattle.rbbi_tree.specs.declared.syntax.Expr.{Expr}
 use Rattle.rbbi_tree.specs.Values.{rest_tree}
-use Rattle.rbbi_tree.specs.Trees.{ExprTree, StatementTree, nothing, control, assign, rule}
+use Rattle.rbbi_tree.specs.Trees.{ExprTree, StatementTree, assign}
 use Rattle.rbbi_resolve.specs.declared.fault.Fault.{Fault}
 use Rattle.rbbi_resolve.specs.declared.switches.Switches.{Switches}
 use Rattle.rbbi_resolve.specs.declared.counts.Counts as declared
@@ -24,7 +24,7 @@ use Rattle.rbbi_resolve.specs.Contexts as contexts
 use Rattle.rbbi_resolve.specs.Contexts.{Context, assigned_to, variable_of}
 use Rattle.rbbi_resolve.specs.Expressions.{variable_for, meaning_of_expr, height_of_expr}
 use Rattle.rbbi_resolve.specs.Faults.{noted}
-use Rattle.rbbi_resolve.specs.Files.{start, ends_active, after_control, with_variable, context_after, context_at, faults_of_statement, faults_from, faults_of}
+use Rattle.rbbi_resolve.specs.Files.{start, ends_active, after_control, with_variable, context_after, context_at, faults_of_statement, faults_from}
 use Rattle.rbbi_resolve.specs.Files.{RuleMeaning, rule_in, rules_from, active_rules}
 use Rattle.rbbi_resolve.specs.Scopes.{Variables, IsKindOf, Matches, visible, Describes, IsUnassigned, IsDefinedBy, AreVariables}
 use Rattle.rbbi_resolve.specs.Switchings.{AreSwitches}

@@ -8,7 +8,7 @@ use Rattle.rbbi_resolve.specs.declared.rules.Tree.TheVariants as variants
 use Rattle.rbbi_resolve.specs.declared.rules.Tree.TheOpen.{Tree-F}
 use Rattle.rbbi_resolve.specs.declared.rules.Tree.TheViews.{out-Trees}
 use Rattle.rbbi_resolve.specs.declared.rules.Tree.TheFolds.{fold-roll-Tree}
-use Rattle.rbbi_resolve.specs.RuleTrees.{numbers_of, numbers_of_parts, numbers_step, numbers_of_parts_step, numbers_of_parts_out}
+use Rattle.rbbi_resolve.specs.RuleTrees.{numbers_of, numbers_step, numbers_of_parts_step, numbers_of_parts_out}
 
 flat_of_map : (ts : List Tree) → flat_map (λ (numbers : List ℕ). numbers) (map numbers_of ts) ≡ flat_map numbers_of ts
 flat_of_map [] = refl

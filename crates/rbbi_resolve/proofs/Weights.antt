@@ -1,5 +1,5 @@
 -- A number that falls from an expression to its parts and to those of its variables.
-use Rattle.std.proofs.Common.{◌≡◌, ℕ, zero, suc, ◌+◌, ◌<◌, ◌≤◌, Some, List, [], ◌∷◌, map, length, get_or, slice_get, sym, refl, ap, ◌∙◌, subst, arith}
+use Rattle.std.proofs.Common.{◌≡◌, ℕ, zero, suc, ◌+◌, ◌<◌, ◌≤◌, Some, List, [], ◌∷◌, map, length, get_or, slice_get, refl, ap, arith}
 use Rattle.rbbi_tree.specs.Trees.{ExprTree, SeqTree, ItemTree, AtomTree, no_alternatives, alternative, no_items, item, placed, character, quoted, any, name}
 use Rattle.rbbi_tree.specs.Trees.{property, set, group, expr_of, seq_of}
 use Rattle.rbbi_tree.specs.Trees.{StatementTree, nothing, control, assign, rule}

@@ -1,5 +1,5 @@
 -- The counts of a quoted sequence are those of its characters.
-use Rattle.std.proofs.Common.{◌≡◌, ℕ, ◌+◌, ◌<◌, ◌≤◌, Bool, true, false, eqb, List, [], ◌∷◌, length, refl, sym, arith, rules}
+use Rattle.std.proofs.Common.{◌≡◌, ℕ, ◌<◌, ◌≤◌, false, eqb, List, [], ◌∷◌, length, refl, sym, arith, rules}
 use Rattle.rbbi_resolve.specs.Meanings.{leaf_count, spells_empty}
 use Rattle.rbbi_resolve.specs.Expressions.{word_of, height_of_word}
 

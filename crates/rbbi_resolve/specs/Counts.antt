@@ -1,5 +1,5 @@
 -- The faults of the number and size of the active rules.
-use Rattle.std.specs.Prelude.{◌≡◌, ℕ, ◌+◌, Bool, nat_lt, Option, Some, None, option_map, is_some, List, [], ◌∷◌, filter, find, slice_get, if◌then◌else◌}
+use Rattle.std.specs.Prelude.{ℕ, ◌+◌, nat_lt, Option, Some, None, option_map, is_some, List, [], ◌∷◌, filter, find, slice_get, if◌then◌else◌}
 use Rattle.std.specs.Option.{option_or, option_map_or}
 use Rattle.rbbi_resolve.specs.declared.fault.Fault.{Fault}
 use Rattle.rbbi_resolve.specs.Meanings.{leaf_count}

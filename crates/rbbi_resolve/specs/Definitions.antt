@@ -1,5 +1,5 @@
 -- What the code finds of an expression that may be a set.
-use Rattle.std.specs.Prelude.{◌≡◌, Option, Some, None, List}
+use Rattle.std.specs.Prelude.{Option, Some, None, List}
 use Rattle.rbbi_model.specs.Ranges.{Range}
 use Rattle.rbbi_model.specs.SetTrees as model
 use Rattle.rbbi_props.specs.Rows.{File}

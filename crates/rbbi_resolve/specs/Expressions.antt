@@ -1,8 +1,7 @@
 -- What the expressions of a rule file mean, and how high they are, where these variables stand before them.
-use Rattle.std.specs.Prelude.{◌≡◌, ℕ, ◌+◌, Bool, true, false, nat_lt, max, Option, Some, None, option_and_then, option_map, List, [], ◌∷◌, map, length}
-use Rattle.std.specs.Prelude.{if◌then◌else◌}
+use Rattle.std.specs.Prelude.{ℕ, ◌+◌, max, Option, Some, None, List, [], ◌∷◌}
 use Rattle.rbbi_model.specs.SetTrees as model
-use Rattle.rbbi_model.specs.Spelling.{Repetition, Star, Plus, Quest}
+use Rattle.rbbi_model.specs.Spelling.{Star, Plus, Quest}
 use Rattle.rbbi_tree.specs.Trees.{ExprTree, SeqTree, ItemTree, AtomTree, no_alternatives, alternative, no_items, item, placed, character, quoted, any, name}
 use Rattle.rbbi_tree.specs.Trees.{property, set, group}
 use Rattle.rbbi_tree.specs.declared.syntax.Quant.{Quant}

@@ -1,10 +1,9 @@
 -- The faults of the parts of an expression, by the number of the kind of fault.
-use Rattle.std.specs.Prelude.{◌≡◌, ℕ, Bool, true, false, not, ◌&&◌, ◌||◌, nat_lt, nat_eq, is_none, Option, Some, None, List, [], ◌∷◌, ◌++◌, flat_map, fold}
+use Rattle.std.specs.Prelude.{ℕ, Bool, true, false, not, ◌&&◌, ◌||◌, nat_lt, nat_eq, is_none, Option, Some, None, List, [], ◌∷◌, ◌++◌, fold}
 use Rattle.std.specs.Prelude.{if◌then◌else◌}
 use Rattle.rbbi_model.specs.SetTrees as model
 use Rattle.rbbi_props.specs.Rows.{File}
-use Rattle.rbbi_tree.specs.Trees.{AtomTree, SetItemTree, character, quoted, any, name, property, set, group, set_character, set_range, set_name, set_property}
-use Rattle.rbbi_tree.specs.Trees.{set_within}
+use Rattle.rbbi_tree.specs.Trees.{character, name, property, set, set_range, set_name, set_property}
 use Rattle.rbbi_resolve.specs.declared.fault.Fault.{Fault}
 use Rattle.rbbi_resolve.specs.Contexts.{Variable, Set, Expression, Context, variable_of, value_of_name}
 use Rattle.rbbi_resolve.specs.Parts.{Part, Outside, Within}

@@ -1,12 +1,12 @@
 -- The faults and the active rules of a rule file.
-use Rattle.std.specs.Prelude.{◌≡◌, ℕ, ◌+◌, Bool, true, false, not, ◌&&◌, ◌||◌, nat_lt, max, Option, Some, None, option_map, is_some, List, [], ◌∷◌, ◌++◌}
-use Rattle.std.specs.Prelude.{filter, find, slice_get, fold, take, codes, bytes_eq, encode_utf8_all, if◌then◌else◌}
-use Rattle.std.specs.Option.{option_or, option_map_or}
+use Rattle.std.specs.Prelude.{ℕ, Bool, true, false, not, ◌&&◌, ◌||◌, max, Option, Some, None, option_map, is_some, List, [], ◌∷◌, ◌++◌}
+use Rattle.std.specs.Prelude.{fold, take, codes, bytes_eq, encode_utf8_all, if◌then◌else◌}
+use Rattle.std.specs.Option.{option_map_or}
 use Rattle.rbbi_props.specs.Rows.{File}
 use Rattle.rbbi_tree.specs.Trees.{ExprTree, StatementTree, nothing, control, assign, rule}
 use Rattle.rbbi_resolve.specs.declared.fault.Fault.{Fault}
-use Rattle.rbbi_resolve.specs.Meanings.{Meaning, leaf_count, spells_empty}
-use Rattle.rbbi_resolve.specs.Contexts.{Context, Assigned, variable_of}
+use Rattle.rbbi_resolve.specs.Meanings.{Meaning, spells_empty}
+use Rattle.rbbi_resolve.specs.Contexts.{Context, variable_of}
 use Rattle.rbbi_resolve.specs.Expressions.{meaning_of_expr, height_of_expr, variable_for}
 use Rattle.rbbi_resolve.specs.Parts.{parts_of_expr}
 use Rattle.rbbi_resolve.specs.Faults.{faults_where, faults_of_parts}

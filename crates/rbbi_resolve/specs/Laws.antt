@@ -1,5 +1,5 @@
 -- Laws of faults and meanings.
-use Rattle.std.specs.Prelude.{◌≡◌, ℕ, ◌⊎◌, Bool, Option, Some, None, List, []}
+use Rattle.std.specs.Prelude.{◌≡◌, ℕ, ◌⊎◌, Bool, Some, None, List, []}
 use Rattle.rbbi_model.specs.Rules as model
 use Rattle.rbbi_model.specs.Rules.{AreLawful}
 use Rattle.rbbi_props.specs.Rows.{File}

@@ -1,5 +1,5 @@
 -- What an expression means: a rule tree whose leaves are set expressions, with variables replaced.
-use Rattle.std.specs.Prelude.{◌≡◌, ℕ, ◌+◌, Bool, true, false, ◌&&◌, ◌||◌, List, [], ◌∷◌, ◌↔◌}
+use Rattle.std.specs.Prelude.{◌≡◌, ℕ, ◌+◌, Bool, true, false, ◌&&◌, ◌||◌, List, ◌↔◌}
 use Rattle.rbbi_model.specs.Words.{IsSurrogate}
 use Rattle.rbbi_model.specs.Ranges.{Range, Has}
 use Rattle.rbbi_model.specs.SetTrees.{SetTree, InSet}

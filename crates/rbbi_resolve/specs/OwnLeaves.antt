@@ -1,5 +1,5 @@
 -- The leaves of an expression that don't come from its variables, and their sets.
-use Rattle.std.specs.Prelude.{◌≡◌, ℕ, ◌+◌, Option, Some, List, [], ◌∷◌, ◌++◌, map, unwrap_or, slice_get}
+use Rattle.std.specs.Prelude.{◌≡◌, Option, List, [], ◌∷◌, ◌++◌, map, unwrap_or}
 use Rattle.std.specs.List.{AllZip}
 use Rattle.rbbi_model.specs.Ranges.{Range}
 use Rattle.rbbi_model.specs.SetTrees as model

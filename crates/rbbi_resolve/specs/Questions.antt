@@ -1,6 +1,5 @@
 -- What was found for the properties that were asked for.
 use Rattle.std.specs.Prelude.{◌≡◌, ℕ, Bool, Option, List, option_map, chars, string_bytes}
-use Rattle.rbbi_model.specs.SetTrees as model
 use Rattle.rbbi_props.specs.Rows.{File}
 use Rattle.rbbi_resolve.specs.declared.properties.Answer.{Answer}
 use Rattle.rbbi_resolve.specs.SetValues.{IsValue, value_of_property}

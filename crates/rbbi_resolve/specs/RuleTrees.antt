@@ -3,10 +3,8 @@ use Rattle.std.specs.Prelude.{◌≡◌, ℕ, List, [], ◌∷◌, map, unwrap_o
 use Rattle.std.specs.List.{flat_map}
 use Rattle.rbbi_model.specs.Ranges.{Range}
 use Rattle.rbbi_model.specs.Spelling as spelling
-use Rattle.rbbi_model.specs.Rules as model
 use Rattle.rbbi_tree.specs.declared.syntax.Quant.{Quant}
 use Rattle.rbbi_tree.specs.declared.syntax.Quant.TheVariants.{Once, Star, Plus, Quest}
-use Rattle.rbbi_resolve.specs.declared.rules.Rule.{Rule}
 use Rattle.rbbi_resolve.specs.declared.rules.Tree.{Tree}
 use Rattle.rbbi_resolve.specs.declared.rules.Trees.{Trees}
 use Rattle.rbbi_resolve.specs.declared.rules.Tree.TheOpen.{Tree-F, Trees-F}

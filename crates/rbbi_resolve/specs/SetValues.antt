@@ -1,6 +1,6 @@
 -- What the set expressions of a rule file are worth.
-use Rattle.std.specs.Prelude.{◌≡◌, ℕ, ◌≤◌, ◌↔◌, Bool, true, false, nat_le, IsTrue, Option, Some, None, option_map, is_some, List, [], ◌∷◌, encode_utf8_all}
-use Rattle.std.specs.Prelude.{bytes_eq, if◌then◌else◌}
+use Rattle.std.specs.Prelude.{ℕ, ◌↔◌, Bool, true, false, nat_le, IsTrue, Option, Some, None, option_map, is_some, List, encode_utf8_all}
+use Rattle.std.specs.Prelude.{if◌then◌else◌}
 use Rattle.rbbi_model.specs.Words.{IsCodePoint}
 use Rattle.rbbi_model.specs.Ranges.{Range, Has}
 use Rattle.rbbi_model.specs.SetTrees as model

@@ -1,5 +1,5 @@
 -- What the last parts of a set decide.
-use Rattle.std.specs.Prelude.{◌≡◌, ℕ, ◌⊎◌, ◌↔◌, Bool, true, false, Option, Some, None, List}
+use Rattle.std.specs.Prelude.{◌≡◌, ℕ, ◌⊎◌, ◌↔◌, true, false, Option, Some, None, List}
 use Rattle.rbbi_model.specs.Words.{IsCodePoint}
 use Rattle.rbbi_model.specs.Ranges.{Range, Has}
 use Rattle.rbbi_model.specs.SetTrees as model

@@ -1,5 +1,5 @@
 -- What holds of the variables of a file without faults.
-use Rattle.std.specs.Prelude.{◌≡◌, ℕ, Option, Some, None, List}
+use Rattle.std.specs.Prelude.{ℕ, Option, Some, None, List}
 use Rattle.rbbi_resolve.specs.Meanings.{Meaning, Leaf, Empty, Never, Then, Either, Repeat}
 use Rattle.rbbi_resolve.specs.Contexts.{Variable, Set, Expression, Context, assigned_to}
 

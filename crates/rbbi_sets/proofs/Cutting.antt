@@ -143,14 +143,19 @@ module _ (left right kept more : List Range) (next_left next_right after at low 
         | inr in_hole ↦ not_added c (added-hole c in_hole) ∙ h.above c (omega arith)
       ]
 
-  -- the hole ends in the range
-  pub IsCut-hole : hole_high < high → IsCut left right more next_left after (hole_high + 1)
-  IsCut-hole short = record {
+  -- the hole ends in the range: it is a range of the right list, which is done with
+  pub IsCut-hole : hole_high < high → after < length right → ((e : Range) → (get_or right after e).high ≡ hole_high) →
+      IsCut left right more next_left (after + 1) (hole_high + 1)
+  IsCut-hole short some ends = record {
     left_within = h.left_within;
     left_place = next_stays left (hole_high + 1) next_left d left_rises (λ k e z m. omega (arith, h.left_place.0 k e z m, low_from, hole.past)) inside
         (omega (arith, high_is));
-    right_within = after_within;
-    right_ended = λ k e z m. omega (arith, place.0 k e z m, hole.past);
+    right_within = omega arith;
+    right_ended = λ k e z m.
+        elim (cases_lt k after) [
+          | inl before ↦ omega (arith, place.0 k e z before, hole.past)
+          | inr last ↦ let same : k ≡ after = omega arith in rw same (omega (arith, ends e))
+        ];
     bound = omega (arith, high_bound);
     rising = joins.rising;
     begin = begin-weaker more low (hole_high + 1) (omega (arith, hole.past)) joins.begin;

@@ -41,6 +41,7 @@ pub(crate) fn cut(
         keep_before(&mut kept, low, range.high, hole.low)?;
         if hole.high < range.high {
             at = hole.high + 1;
+            next_right += 1;
         } else {
             at = range.high + 1;
             next_left += 1;

@@ -60,8 +60,9 @@ pub(crate) fn skip_to(ranges: &[CodeRange], from: usize, at: u32) -> usize
     let mut next = from;
     let mut probe = from;
     'steps: while is_ended(ranges, probe, at) {
+        let step = probe - from;
         next = probe + 1;
-        probe = next + (next - from).min(ranges.len() - next);
+        probe = next + step.min(ranges.len() - next);
     }
     'halves: while next < probe {
         let middle = next + (probe - next) / 2;

@@ -286,17 +286,22 @@ fn piles(rt: HostRuntime) -> Result<(), Fail> {
     Ok(())
 }
 
+/// Each even number below 2,000, as a range of its own.
+fn even_numbers(alloc: Global) -> Result<Vec<CodeRange>, AllocError>
+    ensures { IfOk result (λ ranges. All IsRange ranges.items) }
+{
+    let mut ranges = Vec::new(alloc);
+    for half in 0..1000 {
+        let low = half * 2;
+        ranges.push(CodeRange { low, high: low })?;
+    }
+    Ok(ranges)
+}
+
 #[test]
 fn far_ranges(rt: HostRuntime) -> Result<(), Fail> {
-    // Each even number below 2,000, and ranges that lie far apart in it.
-    let mut evens = Vec::new(rt.alloc());
-    for half in 0..1000 {
-        evens.push(CodeRange {
-            low: half * 2,
-            high: half * 2,
-        })?;
-    }
-    let evens = CodeSet::from_ranges(rt.alloc(), evens)?;
+    // A set of many ranges, and ranges that lie far apart in it.
+    let evens = CodeSet::from_ranges(rt.alloc(), even_numbers(rt.alloc())?)?;
     let cases: [(Pairs, bool, bool); 6] = [
         (&[(0, 0), (1998, 1998)], true, false),
         (

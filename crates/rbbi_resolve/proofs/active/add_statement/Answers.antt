@@ -1,4 +1,4 @@
-use Rattle.std.proofs.Common.{◌≡◌, ◌+◌, ◌<◌, ◌≤◌, ◌&&◌, not, true, false, Some, [], ◌∷◌, ◌++◌, length, slice_get, encode_utf8_all, if◌then◌else◌, sym, refl}
+use Rattle.std.proofs.Common.{◌≡◌, ◌&&◌, not, true, false, Some, [], ◌∷◌, ◌++◌, length, slice_get, if◌then◌else◌, sym, refl}
 use Rattle.std.proofs.Common.{ap, ◌∙◌, subst, arith}
 use Rattle.std.specs.Option.{option_map}
 use Rattle.std.specs.List.{AllZip}

@@ -1,7 +1,6 @@
 use Rattle.std.proofs.Common.{◌≡◌, ℕ, ◌+◌, Bool, nat_lt, length, if◌then◌else◌, false, true, [], ◌∷◌, refl, sym, ap, ◌∙◌, subst, arith, rules}
 use Rattle.rbbi_tree.specs.Trees.{placed, property, set, group}
 use Rattle.rbbi_tree.specs.Values.{atom_tree, set_tree, expr_tree, item_tree_out}
-use Rattle.rbbi_resolve.specs.Meanings.{leaf_count, spells_empty}
 use Rattle.rbbi_resolve.specs.Expressions.{meaning_of_item, height_of_item, meaning_of_atom, height_of_atom}
 use Rattle.rbbi_resolve.specs.Parts.{Outside, parts_of_item, parts_of_expr}
 use Rattle.rbbi_resolve.specs.Faults.{noted_parts}

@@ -1,4 +1,4 @@
-use Rattle.std.proofs.Common.{◌≡◌, ap, ◌∙◌}
+use Rattle.std.proofs.Common.{ap, ◌∙◌}
 use Rattle.rbbi_tree.specs.Values.{set_tree}
 use Rattle.rbbi_resolve.specs.Faults.{noted, faults_where}
 use Rattle.rbbi_resolve.specs.Scopes.{context_of}

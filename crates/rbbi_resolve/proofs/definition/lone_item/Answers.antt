@@ -1,7 +1,7 @@
-use Rattle.std.proofs.Common.{◌≡◌, Option, inl, inr, length, sym, ap, ◌∙◌, rules, arith}
+use Rattle.std.proofs.Common.{◌≡◌, Option, inl, inr, length, sym, ap, ◌∙◌, rules}
 use Rattle.rbbi_model.specs.SetTrees.{SetTree}
 use Rattle.rbbi_tree.specs.Trees.{alternative, no_alternatives, item, placed, no_items}
-use Rattle.rbbi_tree.specs.Values.{expr_tree, seq_tree, atom_tree}
+use Rattle.rbbi_tree.specs.Values.{atom_tree}
 use Rattle.rbbi_tree.specs.declared.syntax.Atom.TheViews.{out-Expr, out-Seq}
 use Rattle.rbbi_tree.specs.declared.syntax.Quant.{Quant}
 use Rattle.rbbi_resolve.specs.Expressions.{set_of_expr, set_of_item}

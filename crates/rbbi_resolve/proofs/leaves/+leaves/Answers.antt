@@ -1,16 +1,15 @@
-use Rattle.std.proofs.Common.{◌≡◌, ◌<◌, [], ◌∷◌, length, map, drop, sym, refl, ap, ◌∙◌, subst, arith, rules}
+use Rattle.std.proofs.Common.{◌≡◌, [], ◌∷◌, map, drop, sym, refl, ap, ◌∙◌, subst, arith}
 use Rattle.std.proofs.lemmas.List.{drop_all}
 use Rattle.rbbi_tree.specs.Trees.{expr_of, seq_of, placed, property, set, group}
 use Rattle.rbbi_tree.specs.Values.{expr_tree, seq_tree, item_tree, atom_tree, set_tree, expr_tree_out, seq_tree_out, item_tree_out}
 use Rattle.rbbi_resolve.specs.Parts.{Outside, parts_of_expr, parts_of_seq, parts_of_item}
 use Rattle.rbbi_resolve.specs.Faults.{faults_of_parts}
-use Rattle.rbbi_resolve.specs.Scopes.{IsScope, context_of}
-use Rattle.rbbi_resolve.specs.Soundness.{AreSound}
+use Rattle.rbbi_resolve.specs.Scopes.{context_of}
 use Rattle.rbbi_resolve.specs.OwnLeaves.{AddsLeaves, leaves_of_expr, leaves_of_seq, leaves_of_item}
 use Rattle.rbbi_resolve.proofs.ItemTrees.{atom_of_property, atom_of_set, atom_of_group}
 use Rattle.rbbi_resolve.proofs.Kept.{files_stay}
 use Rattle.rbbi_resolve.proofs.Sound.{faultless_first}
-use Rattle.rbbi_resolve.proofs.Adding.{IsAdding, adding_expr, adding_seq, property_leaf, set_leaf, no_leaves}
+use Rattle.rbbi_resolve.proofs.Adding.{adding_expr, adding_seq, property_leaf, set_leaf, no_leaves}
 use Rattle.rbbi_resolve.proofs.leaves.+leaves.Goals as goal
 
 pub add_leaves-loop-seq-init : goal.add_leaves-loop-seq-init

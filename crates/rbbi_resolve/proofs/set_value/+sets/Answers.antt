@@ -1,4 +1,4 @@
-use Rattle.std.proofs.Common.{◌≡◌, ◌-◌, is_none, refl, subst, sym, ap, ◌∙◌, arith, rules}
+use Rattle.std.proofs.Common.{◌≡◌, ◌-◌, is_none, subst, sym, ap, ◌∙◌, arith, rules}
 use Rattle.rbbi_tree.specs.Trees.{joined, set_character, set_range, set_name, set_property, set_within}
 use Rattle.rbbi_tree.specs.Values.{part_tree, set_tree, set_item_tree, part_tree_out}
 use Rattle.rbbi_tree.specs.declared.syntax.SetItem.TheViews.{out-SetPart}

@@ -1,5 +1,6 @@
 -- A step of the pass, and its end.
-use Rattle.std.proofs.Common.{ap, sym, subst, ◌∙◌, arith}
+use Rattle.std.proofs.Common.{◌<◌, length, inl, inr, ap, sym, subst, ◌∙◌, arith}
+use Rattle.std.proofs.lemmas.Bool.{cases_lt}
 use Rattle.rbbi_model.specs.Ranges.{Range}
 use Rattle.rbbi_sets.proofs.Rise.{rising-range, begin-weaker}
 use Rattle.rbbi_sets.proofs.Cutting.{IsHole, IsHole-next, IsCut-hole, IsCut-range, IsCut-all}
@@ -52,11 +53,18 @@ holes-preserved-then-hole-range c =
     subst (λ (r : Range). IsHole c.args.right.now c.max-low.result r.low r.high) (sym c.hole.view_is)
     (IsHole-next c.args.right.now c.max-low.result c.skip_to-next_right.result c.range_or_end-hole.result c.requires.right_rises place
     c.skip_to-next_right.ensures.within (omega (arith, low, high, here, inside.0, inside.1, c.max-low.ensures)) h.range h.end) in
+    let hole_high = ap (λ (r : Range). r.high) c.hole.view_is in
+    let some : c.skip_to-next_right.result < length c.args.right.now =
+    elim (cases_lt c.skip_to-next_right.result (length c.args.right.now)) [
+      | inl more ↦ more
+      | inr none ↦ absurd (omega (arith, hole_high, high, inside.1, (h.end (omega (arith, c.skip_to-next_right.ensures.within))).1))
+    ] in
     IsCut-hole c.args.left.now c.args.right.now c.holes.kept.items c.keep_before.new.ranges.items c.holes.next_left c.holes.next_right
     c.skip_to-next_right.result c.holes.at c.max-low.result c.range.inside.high c.hole.inside.low c.hole.inside.high d c.requires.left_rises
     c.holes.invariant (omega arith) high (omega (arith, c.max-low.ensures)) (omega (arith, low, c.max-low.ensures))
     (λ code l m. omega (arith, low, c.max-low.ensures)) (omega (arith, low, high, inside.0, here, c.max-low.ensures))
     c.skip_to-next_right.ensures.within place hole c.in_ok-keep_before.ensures (omega arith)
+    some (λ e. sym (hole_high ∙ ap (λ (r : Range). r.high) (h.range e some)))
 
 pub overflow_add-at-else-hole-range : goal.overflow_add-at-else-hole-range
 overflow_add-at-else-hole-range c =

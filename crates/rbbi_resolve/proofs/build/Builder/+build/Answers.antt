@@ -1,24 +1,22 @@
-use Rattle.std.proofs.Common.{◌≡◌, ◌+◌, ◌<◌, ◌≤◌, ℕ, List, [], ◌∷◌, ◌++◌, length, map, drop, slice_get, sym, refl, ap, ◌∙◌, subst, arith, rules}
+use Rattle.std.proofs.Common.{◌≡◌, ◌+◌, ◌<◌, [], ◌∷◌, ◌++◌, length, map, drop, sym, refl, ap, ◌∙◌, subst, arith, rules}
 use Rattle.std.proofs.lemmas.List.{drop_all, drop_more, append-nil, length-map}
 use Rattle.rbbi_model.specs.SetTrees as model
-use Rattle.rbbi_tree.specs.Trees.{ExprTree, expr_of, seq_of, placed, character, quoted, any, name, property, set, group, assign, no_alternatives, no_items}
+use Rattle.rbbi_tree.specs.Trees.{expr_of, seq_of, character, quoted, any, name, property, set}
 use Rattle.rbbi_tree.specs.Values.{statement_trees, expr_tree, seq_tree, item_tree, atom_tree, set_tree, expr_tree_out, seq_tree_out, item_tree_out}
-use Rattle.rbbi_resolve.specs.declared.scope.Scope.{Scope}
 use Rattle.rbbi_resolve.specs.SetValues.{value_of_set, value_of_property}
 use Rattle.rbbi_resolve.specs.Contexts.{value_of_name}
-use Rattle.rbbi_resolve.specs.Meanings.{Meaning, Leaf, Never}
+use Rattle.rbbi_resolve.specs.Meanings.{Leaf}
 use Rattle.rbbi_resolve.specs.Expressions.{meaning_of_expr, meaning_of_seq, meaning_of_item, meaning_of_atom}
-use Rattle.rbbi_resolve.specs.Files.{context_at}
 use Rattle.rbbi_resolve.specs.Scopes.{context_of}
 use Rattle.rbbi_resolve.specs.OwnLeaves.{set_or_nothing, leaves_of_expr, leaves_of_seq, leaves_of_item, leaves_of_atom}
-use Rattle.rbbi_resolve.specs.Builders.{StandFrom, IsBuilt, IsBuilder, IsReady, GoesOn}
+use Rattle.rbbi_resolve.specs.Builders.{StandFrom, IsBuilt, IsBuilder, IsReady}
 use Rattle.rbbi_resolve.proofs.Counting.{exprs_left, seqs_left}
-use Rattle.rbbi_resolve.proofs.ItemTrees.{atom_of_character, atom_of_quoted, atom_of_any, atom_of_name, atom_of_property, atom_of_set, atom_of_group}
-use Rattle.rbbi_resolve.proofs.Weights.{weight, weight_of, weight_more, weight_le, smaller_seq, smaller_item, size_of_expr, size_of_seq, size_of_item}
+use Rattle.rbbi_resolve.proofs.ItemTrees.{atom_of_character, atom_of_quoted, atom_of_any, atom_of_name, atom_of_property, atom_of_set}
+use Rattle.rbbi_resolve.proofs.Weights.{weight, weight_more, weight_le, smaller_seq, smaller_item, size_of_expr, size_of_seq, size_of_item}
 use Rattle.rbbi_resolve.proofs.Weights.{size_of_atom}
 use Rattle.rbbi_resolve.proofs.Building.{sequence_meaning, choice_meaning, AreBuilding, AreBuilt, Builds, building_turn, none_built, goes_nowhere, stand_low}
 use Rattle.rbbi_resolve.proofs.Building.{stand_first, leaf_built, never_built, repeated_built, choice_built, sequence_built, whole_built, other_built}
-use Rattle.rbbi_resolve.proofs.Meant.{IsNamed, named, unnamed, expr_means, seq_means, leaf_means}
+use Rattle.rbbi_resolve.proofs.Meant.{named, unnamed, expr_means, seq_means, leaf_means}
 use Rattle.rbbi_resolve.proofs.build.Builder.+build.Goals as goal
 
 pub definition-tree_of_expr-requires : goal.definition-tree_of_expr-requires

@@ -1,4 +1,4 @@
-use Rattle.std.proofs.Common.{◌<◌, refl, arith, subst, sym, ap, ◌∙◌, ◌≡◌, nat_lt, is_some, if◌then◌else◌}
+use Rattle.std.proofs.Common.{◌<◌, arith, subst, sym, ap, ◌∙◌, if◌then◌else◌}
 use Rattle.rbbi_resolve.specs.Summaries.{IsCapped}
 use Rattle.rbbi_resolve.specs.Countings.{one, slash_of, tall_of}
 use Rattle.rbbi_resolve.specs.Counts.{leaves_meant}

@@ -1,4 +1,4 @@
-use Rattle.std.proofs.Common.{◌≡◌, ◌+◌, ◌≤◌, ℕ, ◌∷◌, Bool, true, false, ◌&&◌, not, is_some, Some, None, List, bytes_eq, codes, encode_utf8_all, string_bytes}
+use Rattle.std.proofs.Common.{◌≡◌, ◌+◌, ℕ, true, false, ◌&&◌, not, is_some, Some, None, List, bytes_eq, codes, encode_utf8_all, string_bytes}
 use Rattle.std.proofs.Common.{sym, refl, ap, ◌∙◌, subst, arith}
 use Rattle.std.specs.Option.{option_copied}
 use Rattle.std.specs.HashMap.{get_by_text}
@@ -7,7 +7,7 @@ use Rattle.std.proofs.lemmas.Map.Text.{hash_map_updates_text}
 use Rattle.rbbi_tree.specs.Trees.{assign}
 use Rattle.rbbi_tree.specs.Values.{statement_trees, expr_tree}
 use Rattle.rbbi_resolve.specs.Contexts.{variable_of}
-use Rattle.rbbi_resolve.specs.Files.{context_at, context_after, with_variable}
+use Rattle.rbbi_resolve.specs.Files.{context_at}
 use Rattle.rbbi_resolve.specs.Faults.{faults_where, faults_of_parts, noted}
 use Rattle.rbbi_resolve.specs.Parts.{parts_of_expr}
 use Rattle.rbbi_resolve.specs.Scopes.{visible}

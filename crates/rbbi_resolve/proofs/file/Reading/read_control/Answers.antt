@@ -1,4 +1,4 @@
-use Rattle.std.proofs.Common.{◌≡◌, ◌+◌, ◌&&◌, not, encode_utf8_all, refl, ap, ◌∙◌, subst}
+use Rattle.std.proofs.Common.{◌≡◌, ◌&&◌, not, encode_utf8_all, refl, ap, ◌∙◌, subst}
 use Rattle.rbbi_tree.specs.Trees.{control}
 use Rattle.rbbi_tree.specs.Values.{statement_trees}
 use Rattle.rbbi_resolve.specs.Files.{after_control, context_at, is_supported, is_unsupported}

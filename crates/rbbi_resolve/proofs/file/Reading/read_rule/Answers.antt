@@ -1,4 +1,4 @@
-use Rattle.std.proofs.Common.{◌≡◌, ◌+◌, ◌∷◌, [], ◌++◌, true, false, is_some, if◌then◌else◌, sym, refl, ap, ◌∙◌, subst}
+use Rattle.std.proofs.Common.{◌≡◌, ◌+◌, ◌∷◌, [], ◌++◌, true, false, if◌then◌else◌, sym, refl, ap, ◌∙◌, subst}
 use Rattle.rbbi_tree.specs.Trees.{rule}
 use Rattle.rbbi_tree.specs.Values.{statement_trees, expr_tree, rest_tree}
 use Rattle.rbbi_resolve.specs.Files.{context_at}

@@ -1,4 +1,4 @@
-use Rattle.std.proofs.Common.{refl, sym, subst, rules}
+use Rattle.std.proofs.Common.{refl, rules}
 use Rattle.rbbi_resolve.proofs.SetJoins.{settles}
 use Rattle.rbbi_resolve.proofs.so_far.SoFar.settle.Goals as goal
 

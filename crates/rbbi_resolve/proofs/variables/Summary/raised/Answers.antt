@@ -1,4 +1,4 @@
-use Rattle.std.proofs.Common.{◌≡◌, ℕ, ◌+◌, sym, subst, arith}
+use Rattle.std.proofs.Common.{◌≡◌, ◌+◌, subst, arith}
 use Rattle.rbbi_resolve.specs.Summaries.{Sums}
 use Rattle.rbbi_resolve.proofs.variables.Summary.raised.Goals as goal
 

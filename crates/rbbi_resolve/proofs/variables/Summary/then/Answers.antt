@@ -1,4 +1,3 @@
-use Rattle.std.proofs.Common.{◌≡◌, Bool, true, false, ◌&&◌, refl, ap, sym, ◌∙◌, arith}
 use Rattle.rbbi_resolve.proofs.variables.Summary.then.Goals as goal
 use Rattle.rbbi_resolve.proofs.variables.Summary.then.Goals.{then-self, else-self}
 
