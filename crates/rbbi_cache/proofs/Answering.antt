@@ -69,8 +69,8 @@ module _ (table : Table) (valid : IsValidTable table) (x : List ℕ) where
   answer_before i entry former now keeps = is_last_before (keeps.0).first (first_true (λ r. IsShownBefore x r i entry) former now keeps) i entry (keeps.0).shows
 
   -- what some true run shows is the answer
-  pub same_after : (i a : ℕ) (entry : Entry) (runs : List Run) → AreTrueRuns table x runs → SomeRun (λ r. ShowsAfter r i a) runs → IsFirstAfter table x i entry →
-      entry.at ≡ a
+  pub same_after : (i a : ℕ) (entry : Entry) (runs : List Run) → AreTrueRuns table x runs → SomeRun (λ r. ShowsAfter r i a) runs → IsFirstAfter table x i
+      entry → entry.at ≡ a
   same_after i a entry [] are_true some first = absurd some
   same_after i a entry (run ∷ runs) are_true some first =
       ⊎_elim

@@ -15,7 +15,12 @@ returns-in-Some c =
 pub returns : goal.returns
 returns c =
     let of : List Run → List Run = λ l. c.args.run.now ∷ take (min c.self.inside.count 15) l in
-    let few : length c.args.self.now ≤ 16 = omega (arith, ap length c.self.view_is, length-take c.self.inside.count c.self.inside.slots.items, c.self.invariant.0) in
+    let few : length c.args.self.now ≤ 16 = omega (
+      arith,
+      ap length c.self.view_is,
+      length-take c.self.inside.count c.self.inside.slots.items,
+      c.self.invariant.0,
+    ) in
     put_before c.args.run.now c.args.self.now _ few (subst (NoneIsExtended c.args.run.now) c.as_slice.ensures.runs c.in_default.ensures)
     (ap (take c.put_first-self-inside.result) (refilled c.put_first-self-inside.new.runs c.self.inside.slots.items c.self.inside.slots.len (omega (
       arith,
