@@ -8,15 +8,14 @@ use Rattle.std.proofs.lemmas.List.{nil_from_length, take-map, length-map, length
 use Rattle.rbbi_model.specs.Words.{IsWord, IsCodePoint}
 use Rattle.rbbi_model.specs.Ranges.{Range, Has}
 use Rattle.rbbi_model.specs.Places.{has_bit}
-use Rattle.rbbi_model.specs.Spelling.{Tree, Leaf, Empty, Never, Then, Either, Repeat, Spells}
+use Rattle.rbbi_model.specs.Spelling.{Tree, Leaf, Spells}
 use Rattle.rbbi_model.specs.Rules.{Rule, LooksAhead, SpellsBoth, IsWordOf, IsFrontWordOf, IsLawfulTree, IsLawfulRule, AreLawful}
 use Rattle.rbbi_model.specs.Chains.{IsRule, IsPiece, EndsAt, Word, Chained, FrontEndsAt}
 use Rattle.rbbi_model.specs.Boundaries.{LookAheadEndsAt}
 use Rattle.rbbi_model.specs.Tables.{Table, CategoryRange, category_of, accept_of, fronts_of, step, row_along}
 use Rattle.rbbi_model.specs.ValidTables.{IsWay, AreFronted}
 use Rattle.rbbi_model.specs.Marks.{Marks, no_marks, look_ahead_number, marks_of}
-use Rattle.std.specs.Option.{option_map_or}
-use Rattle.rbbi_model.specs.LeafSets.{EndedBefore, Reads, all_sets, sets_of, sets_of_rule, first_position}
+use Rattle.rbbi_model.specs.LeafSets.{EndedBefore, Reads, all_sets, sets_of_rule, first_position}
 use Rattle.rbbi_positions.proofs.WalkLaws.{of_the_rule}
 use Rattle.rbbi_dfa.proofs.Spellings.{rule_stands, rule_sets_many}
 use Rattle.rbbi_model.proofs.RulesCover.{front_lies}
@@ -32,10 +31,7 @@ use Rattle.rbbi_dfa.proofs.WalkReading.{reads_up_to, same_rule, lawful_rule}
 use Rattle.rbbi_dfa.proofs.Words.{laws, IsSetOf, Ended, Unread, IsRowOf, Stop, Set, row_of_word}
 use Rattle.rbbi_dfa.proofs.WordMarks.{mark_completed, front_mark}
 use Rattle.rbbi_dfa.proofs.Determined.{set_word, each_row}
-
-all_join : {X : Type 0} (P : X → Type 0) (xs ys : List X) → AllByRecursion P xs → AllByRecursion P ys → AllByRecursion P (xs ++ ys)
-all_join P [] ys all all' = all'
-all_join P (x ∷ xs) ys all all' = (all.0, all_join P xs ys all.1 all')
+use Rattle.rbbi_dfa.proofs.LawfulLeaves.{each_rule_leaf}
 
 all_get : {X : Type 0} (P : X → Type 0) (xs : List X) (i : ℕ) → AllByRecursion P xs → i < length xs → (x : X) × (slice_get xs i ≡ Some x) × P x
 all_get P [] i all short = absurd (omega (arith, short))
@@ -46,22 +42,8 @@ all_get P (x ∷ xs) (suc i) all short = all_get P xs i all.1 (omega (arith, sho
 abbrev pub HoldsSome : List Range → Type 0
 HoldsSome set = (c : ℕ) × Has set c × IsCodePoint c
 
--- each leaf's set of a lawful tree, or rule, holds a code point
-each_leaf : (tree : Tree) → IsLawfulTree tree → AllByRecursion HoldsSome (sets_of tree)
-each_leaf (Leaf set) lawful = ((lawful.0.0, lawful.0.1, (lawful.1 lawful.0.0 lawful.0.1).0), tt)
-each_leaf Empty lawful = absurd lawful
-each_leaf Never lawful = absurd lawful
-each_leaf (Then first rest) lawful = all_join HoldsSome (sets_of first) (sets_of rest) (each_leaf first lawful.0) (each_leaf rest lawful.1)
-each_leaf (Either first rest) lawful = all_join HoldsSome (sets_of first) (sets_of rest) (each_leaf first lawful.0) (each_leaf rest lawful.1)
-each_leaf (Repeat repetition part) lawful = each_leaf part lawful
-
-rest_leaves : (rest : Option Tree) → IfSome rest IsLawfulTree → AllByRecursion HoldsSome (option_map_or sets_of rest [])
-rest_leaves None lawful = tt
-rest_leaves (Some tree) lawful = each_leaf tree lawful
-
-each_rule_leaf : (rule : Rule) → IsLawfulRule rule → AllByRecursion HoldsSome (sets_of_rule rule)
-each_rule_leaf rule lawful = all_join HoldsSome (sets_of rule.front) (option_map_or sets_of rule.rest []) (each_leaf rule.front lawful.front)
-    (rest_leaves rule.rest lawful.rest)
+leaf_holds : (set : List Range) → IsLawfulTree (Leaf set) → HoldsSome set
+leaf_holds set lawful = (lawful.0.0, lawful.0.1, (lawful.1 lawful.0.0 lawful.0.1).0)
 
 module _ (rules : List Rule) (lawful : AreLawful rules) where
   -- a position of a spelled list reads some code point
@@ -72,7 +54,8 @@ module _ (rules : List Rule) (lawful : AreLawful rules) where
       let at : first_position rules number + i ≡ p = omega (arith, own.from) in
       let many = rule_sets_many own.rule in
       let short : i < length (sets_of_rule own.rule) = omega (arith, own.from, own.to, many) in
-      let found = all_get HoldsSome (sets_of_rule own.rule) i (each_rule_leaf own.rule (lawful_rule rules number own.rule lawful.each own.is_rule)) short in (
+      let leaves = each_rule_leaf HoldsSome leaf_holds own.rule (lawful_rule rules number own.rule lawful.each own.is_rule) in
+      let found = all_get HoldsSome (sets_of_rule own.rule) i leaves short in (
         found.2.0,
         found.2.2,
         (

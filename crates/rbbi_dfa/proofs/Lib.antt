@@ -13,6 +13,7 @@ pub mod WordFollowers
 pub mod MarkLoops
 pub mod Joined
 pub mod Determined
+pub mod LawfulLeaves
 pub mod Leading
 pub mod Counting
 pub mod Valid
@@ -33,4 +34,5 @@ pub mod RuleNeeds
 pub mod Compiling
 pub mod Finishing
 pub mod Building
+pub mod NeededRows
 pub mod LookAheads

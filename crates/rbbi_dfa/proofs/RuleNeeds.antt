@@ -17,7 +17,7 @@ use Rattle.rbbi_dfa.specs.Categories.{AreUsed, AreWithin}
 use Rattle.rbbi_dfa.proofs.Grouping.{row_along-append, stop_along, alive}
 use Rattle.rbbi_dfa.proofs.Needed.{all_by_index, index_by_all}
 
-words_by_index : (P : List ℕ → Type 0) (xs : List (List ℕ)) → ((i : ℕ) → i < length xs → P (slice_index_or xs i [])) → AllByRecursion P xs
+pub words_by_index : (P : List ℕ → Type 0) (xs : List (List ℕ)) → ((i : ℕ) → i < length xs → P (slice_index_or xs i [])) → AllByRecursion P xs
 words_by_index P [] h = tt
 words_by_index P (x ∷ xs) h = (h 0 (omega arith), words_by_index P xs (λ i l. h (suc i) (omega arith)))
 
@@ -27,7 +27,7 @@ index_by_words P (x ∷ xs) h zero l = h.0
 index_by_words P (x ∷ xs) h (suc i) l = index_by_words P xs h.1 i (omega arith)
 
 -- a word for each number below count, in a list
-picked_words : (P : ℕ → List ℕ → Type 0) (count : ℕ) → ((i : ℕ) → i < count → (w : List ℕ) × P i w) → (ws : List (List ℕ)) × (length ws ≡ count) ×
+pub picked_words : (P : ℕ → List ℕ → Type 0) (count : ℕ) → ((i : ℕ) → i < count → (w : List ℕ) × P i w) → (ws : List (List ℕ)) × (length ws ≡ count) ×
     ((i : ℕ) → i < count → P i (slice_index_or ws i []))
 picked_words P zero f = ([], refl, λ i h. absurd (omega arith))
 picked_words P (suc count) f =

@@ -13,3 +13,4 @@ pub mod Refusals
 pub mod LeastTables
 pub mod Categories
 pub mod Builds
+pub mod NeededRows

@@ -5,9 +5,11 @@ mod automaton;
 mod compile;
 mod determinize;
 mod error;
+mod laws;
 mod least;
 mod minimize;
 mod table;
 
 pub use compile::build;
 pub use error::BuildErr;
+pub use laws::rows_are_needed;

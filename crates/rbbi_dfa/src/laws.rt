@@ -1,0 +1,14 @@
+//! Laws of compiled tables.
+ghost use Rattle.rbbi_dfa.specs.NeededRows.{RowsAreNeeded, ValidTablesHaveRows};
+
+use rbbi_model::marks_are_unique;
+
+/// A least table for the rules has more rows than a number from 2 on exactly where the rules tell
+/// so many words apart that each lead somewhere. So `build` refuses `TooManyRows` exactly where the
+/// least table has more than 4,095 rows. What the law wants of a table's parts, valid tables have.
+pub fn rows_are_needed()
+    ensures needed { RowsAreNeeded }
+    ensures valid { ValidTablesHaveRows }
+{
+    marks_are_unique();
+}
