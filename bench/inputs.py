@@ -6,6 +6,7 @@ with the smaller one.
 """
 import os
 import random
+import string
 
 BLOCK = 100_000
 SIZES = {'1 M': 1_000_000, '12 M': 12_000_000}
@@ -259,6 +260,20 @@ def operands(form, head='[', tail='];'):
     return padded(''.join(out) + tail)
 
 
+def variables():
+    """As many variables as fit, each a set of one property."""
+    letters = string.ascii_letters
+    names = (a + b + c for a in letters for b in letters for c in letters)
+    out, room = [], MIB - 2
+    for name in names:
+        statement = f'${name}=[\\p{{L}}];'
+        if room < len(statement):
+            break
+        out.append(statement)
+        room -= len(statement)
+    return padded(''.join(out) + 'b;')
+
+
 FRONT = {
     'statements': (lambda: repeat('a;'), '524,288 times `a;`'),
     'empty': (lambda: repeat(';', tail='a;'), 'a million empty statements'),
@@ -276,6 +291,8 @@ FRONT = {
     'met': (lambda: operands('&[^@]', '[[\\p{L}]'), 'one set that 130,000 others are met with'),
     'differences': (lambda: operands('[\\p{L}-[@]]'),
                     'one set of 75,000 sets that lack one letter'),
+    'cut': (lambda: repeat('&\\p{L}', '[\\p{L}', '];'), 'one set met with a property 170,000 times'),
+    'variables': (variables, '80,000 variables of one property'),
     'lone': (lambda: repeat('[\\p{L}];'), '130,000 rules of one property, refused'),
     'samename': (lambda: '$x=' + '\\p{L}' * 40000 + ';b;', '40,000 times \\p{L} in a sequence'),
     'names': (lambda: repeat('$ab', '$ab=[a-z];$x=', ';b;'), 'one sequence of 350,000 names'),
