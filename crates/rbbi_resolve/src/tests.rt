@@ -41,88 +41,92 @@ fn outcome(alloc: Global, text: &str, ignore_dictionary: bool) -> Result<String,
     }
 }
 
+/// Texts, and the least fault of each with its place.
+const FAULTS: &[(&str, &str)] = &[
+    ("$x = $y; $x = [z-a]; !!foo;", "5 Undefined"),
+    ("(a?) / b;", "5 EmptyFront"),
+    ("$x = [a-c]; $x = [d];", "12 Redefined"),
+    ("[z-a];", "1 BadRange"),
+    ("$dictionary = [a]; .;", "0 Dictionary"),
+    ("!!quoted_literals_only; ab;", "24 BareLiteral"),
+    ("\\p{NoSuchName};", "0 UnknownProperty"),
+    ("!!reverse; b;", "13 NoRules"),
+    // each fault where another comes first
+    ("!!foo; !!unquoted_literals;", "0 UnknownControl"),
+    ("[z-a]; !!foo;", "1 BadRange"),
+    ("a; !!LBCMNoChain;", "3 UnsupportedControl"),
+    ("!!x; $dictionary = [a];", "0 UnknownControl"),
+    ("$dictionary = [a]; $dictionary = $b;", "0 Dictionary"),
+    ("$a = $b; $a = c;", "5 Undefined"),
+    ("$b = [$b];", "6 Undefined"),
+    ("!!foo; $b;", "0 UnknownControl"),
+    ("c/$late; $late = b?;", "2 Undefined"),
+    ("$a = b; [$a];", "9 NotASet"),
+    ("$a = ([b]); [$a];", "13 NotASet"),
+    ("[z-a]; $a = b; [$a];", "1 BadRange"),
+    ("a [\\p{Kind=None}];", "3 UnknownProperty"),
+    ("[z-a] \\p{Kind};", "1 BadRange"),
+    ("[$x b-a];", "1 Undefined"),
+    ("a [];", "2 EmptySet"),
+    ("$x = [[a]&[b]];", "5 EmptySet"),
+    ("[\\p{Kind=Half}];", "0 EmptySet"),
+    ("[$x];", "1 Undefined"),
+    ("[z-a] [];", "1 BadRange"),
+    ("!!quoted_literals_only; [z-a] b;", "25 BadRange"),
+    ("a* / b?;", "3 EmptyFront"),
+    ("[z-a]? / b;", "1 BadRange"),
+    ("a / b*;", "2 EmptyRest"),
+    ("$x / a?;", "0 Undefined"),
+    // names that are used before they are assigned
+    ("$late; $late = a;", "0 Undefined"),
+    ("$a = $a;", "5 Undefined"),
+    ("$a = $b; $b = c; $a;", "5 Undefined"),
+    ("[$late]; $late = [a];", "1 Undefined"),
+    ("[[a] - $late]; $late = [b];", "7 Undefined"),
+    // sections that aren't active
+    ("!!reverse; !!foo; !!forward; c;", "11 UnknownControl"),
+    (
+        "!!safe_forward; !!unquoted_literals; !!forward; c;",
+        "16 UnsupportedControl",
+    ),
+    (
+        "!!safe_reverse; $dictionary = [a]; !!forward; c;",
+        "16 Dictionary",
+    ),
+    ("!!reverse; $a = b; $a = c; !!forward; c;", "19 Redefined"),
+    ("!!reverse; $x; !!forward; c;", "11 Undefined"),
+    ("!!reverse; $a = b; [$a]; !!forward; c;", "20 NotASet"),
+    (
+        "!!reverse; \\p{NoSuchName}; !!forward; c;",
+        "11 UnknownProperty",
+    ),
+    ("!!reverse; [z-a]; !!forward; c;", "12 BadRange"),
+    ("!!reverse; []; !!forward; c;", "11 EmptySet"),
+    (
+        "!!quoted_literals_only; !!reverse; b; !!forward; 'c';",
+        "35 BareLiteral",
+    ),
+    ("!!reverse; b? / c; !!forward; c;", "14 EmptyFront"),
+    ("!!reverse; a / b?; !!forward; c;", "13 EmptyRest"),
+    // of parts that differ the last one decides: a set and its value, each without the other
+    ("[[[a-c][d]-[a-d]a]-[a]];", "0 EmptySet"),
+    ("[[a]-[[a-c][d]-[a-d]a]];", "0 EmptySet"),
+    ("[[[a]&[b][a-c]&[b]]-[b]];", "0 EmptySet"),
+    ("[[b]-[[a]&[b][a-c]&[b]]];", "0 EmptySet"),
+    ("[[[a-d]&[b-e]-[c]]-[bd]];", "0 EmptySet"),
+    ("[[bd]-[[a-d]&[b-e]-[c]]];", "0 EmptySet"),
+    ("[[[a-d]-[c]&[b-e]c]-[b-d]];", "0 EmptySet"),
+    ("[[b-d]-[[a-d]-[c]&[b-e]c]];", "0 EmptySet"),
+    ("[[abd]&[^[a-d]-[c]]];", "0 EmptySet"),
+    // the first of many faults of a set
+    ("[[b-a]$x[z-y]];", "2 BadRange"),
+    ("[$y[b-a]-[$x]];", "1 Undefined"),
+];
+
 #[test]
 fn faults(rt: HostRuntime) -> Result<(), Fail> {
-    for (text, want) in [
-        ("$x = $y; $x = [z-a]; !!foo;", "5 Undefined"),
-        ("(a?) / b;", "5 EmptyFront"),
-        ("$x = [a-c]; $x = [d];", "12 Redefined"),
-        ("[z-a];", "1 BadRange"),
-        ("$dictionary = [a]; .;", "0 Dictionary"),
-        ("!!quoted_literals_only; ab;", "24 BareLiteral"),
-        ("\\p{NoSuchName};", "0 UnknownProperty"),
-        ("!!reverse; b;", "13 NoRules"),
-        // each fault where another comes first
-        ("!!foo; !!unquoted_literals;", "0 UnknownControl"),
-        ("[z-a]; !!foo;", "1 BadRange"),
-        ("a; !!LBCMNoChain;", "3 UnsupportedControl"),
-        ("!!x; $dictionary = [a];", "0 UnknownControl"),
-        ("$dictionary = [a]; $dictionary = $b;", "0 Dictionary"),
-        ("$a = $b; $a = c;", "5 Undefined"),
-        ("$b = [$b];", "6 Undefined"),
-        ("!!foo; $b;", "0 UnknownControl"),
-        ("c/$late; $late = b?;", "2 Undefined"),
-        ("$a = b; [$a];", "9 NotASet"),
-        ("$a = ([b]); [$a];", "13 NotASet"),
-        ("[z-a]; $a = b; [$a];", "1 BadRange"),
-        ("a [\\p{Kind=None}];", "3 UnknownProperty"),
-        ("[z-a] \\p{Kind};", "1 BadRange"),
-        ("[$x b-a];", "1 Undefined"),
-        ("a [];", "2 EmptySet"),
-        ("$x = [[a]&[b]];", "5 EmptySet"),
-        ("[\\p{Kind=Half}];", "0 EmptySet"),
-        ("[$x];", "1 Undefined"),
-        ("[z-a] [];", "1 BadRange"),
-        ("!!quoted_literals_only; [z-a] b;", "25 BadRange"),
-        ("a* / b?;", "3 EmptyFront"),
-        ("[z-a]? / b;", "1 BadRange"),
-        ("a / b*;", "2 EmptyRest"),
-        ("$x / a?;", "0 Undefined"),
-        // names that are used before they are assigned
-        ("$late; $late = a;", "0 Undefined"),
-        ("$a = $a;", "5 Undefined"),
-        ("$a = $b; $b = c; $a;", "5 Undefined"),
-        ("[$late]; $late = [a];", "1 Undefined"),
-        ("[[a] - $late]; $late = [b];", "7 Undefined"),
-        // sections that aren't active
-        ("!!reverse; !!foo; !!forward; c;", "11 UnknownControl"),
-        (
-            "!!safe_forward; !!unquoted_literals; !!forward; c;",
-            "16 UnsupportedControl",
-        ),
-        (
-            "!!safe_reverse; $dictionary = [a]; !!forward; c;",
-            "16 Dictionary",
-        ),
-        ("!!reverse; $a = b; $a = c; !!forward; c;", "19 Redefined"),
-        ("!!reverse; $x; !!forward; c;", "11 Undefined"),
-        ("!!reverse; $a = b; [$a]; !!forward; c;", "20 NotASet"),
-        (
-            "!!reverse; \\p{NoSuchName}; !!forward; c;",
-            "11 UnknownProperty",
-        ),
-        ("!!reverse; [z-a]; !!forward; c;", "12 BadRange"),
-        ("!!reverse; []; !!forward; c;", "11 EmptySet"),
-        (
-            "!!quoted_literals_only; !!reverse; b; !!forward; 'c';",
-            "35 BareLiteral",
-        ),
-        ("!!reverse; b? / c; !!forward; c;", "14 EmptyFront"),
-        ("!!reverse; a / b?; !!forward; c;", "13 EmptyRest"),
-        // of parts that differ the last one decides: a set and its value, each without the other
-        ("[[[a-c][d]-[a-d]a]-[a]];", "0 EmptySet"),
-        ("[[a]-[[a-c][d]-[a-d]a]];", "0 EmptySet"),
-        ("[[[a]&[b][a-c]&[b]]-[b]];", "0 EmptySet"),
-        ("[[b]-[[a]&[b][a-c]&[b]]];", "0 EmptySet"),
-        ("[[[a-d]&[b-e]-[c]]-[bd]];", "0 EmptySet"),
-        ("[[bd]-[[a-d]&[b-e]-[c]]];", "0 EmptySet"),
-        ("[[[a-d]-[c]&[b-e]c]-[b-d]];", "0 EmptySet"),
-        ("[[b-d]-[[a-d]-[c]&[b-e]c]];", "0 EmptySet"),
-        ("[[abd]&[^[a-d]-[c]]];", "0 EmptySet"),
-        // the first of many faults of a set
-        ("[[b-a]$x[z-y]];", "2 BadRange"),
-        ("[$y[b-a]-[$x]];", "1 Undefined"),
-    ] {
+    for row in FAULTS {
+        let (text, want) = *row;
         assert!(rt; text.len() < 1000);
         let found = outcome(rt.alloc(), text, false)?;
         assert_eq!(rt; found.as_str(), want, "in {text:?}");
