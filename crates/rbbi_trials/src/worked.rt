@@ -138,11 +138,11 @@ fn runs_to_the_end(rt: HostRuntime) -> Result<(), Fail> {
 
 /// How many of each 4,097th character of a text are the letter `a`.
 fn letters_of<T: Chars, L: Ledger>(text: &T, steps: &mut Steps<L>) -> u32 {
-    let mut count = 0;
+    let mut count: u32 = 0;
     for row in 0..4096 {
         let i = row * 4097;
         if i < text.len() && text.char_at(i, steps) == 'a' {
-            count += 1;
+            count = count.saturating_add(1);
         }
     }
     count

@@ -148,6 +148,14 @@ const LONG_FILES: &[(usize, &[u8], u8, &str)] = &[
     (8_388_609, b"(", 5, "g.txt: TooLong\n"),
 ];
 
+/// The first bytes, at most so many.
+fn front(bytes: &[u8], len: usize) -> &[u8] {
+    if len < bytes.len() {
+        return &bytes[..len];
+    }
+    bytes
+}
+
 /// Long property files, and a bad one with a rule file that is too long.
 #[test]
 fn long_property_files(rt: HostRuntime) -> Result<(), Fail> {
@@ -156,7 +164,7 @@ fn long_property_files(rt: HostRuntime) -> Result<(), Fail> {
     for row in LONG_FILES {
         let (len, rules, status, output) = *row;
         assert!(rt; len <= longest.len());
-        let files = [("g.txt", &longest.as_bytes()[..len]), ("r.txt", rules)];
+        let files = [("g.txt", front(longest.as_bytes(), len)), ("r.txt", rules)];
         assert_eq!(rt;
             first_wrong(
                 &rt,
