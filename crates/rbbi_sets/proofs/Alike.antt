@@ -106,6 +106,31 @@ IsAlike-more wanted left right done next after low high d r h inside low_is high
       ];
 }
 
+-- a range that both lists have
+pub IsAlike-same : (wanted : Bool) (left right : List Range) (done next low high : ℕ) (d : Range) → AreRising right → IsAlike wanted left right done next →
+    done < length right → low ≡ (get_or right done d).low → high ≡ (get_or right done d).high → next < length left →
+    ((e : Range) → (get_or left next e).low ≡ low) → ((e : Range) → (get_or left next e).high ≡ high) → wanted ≡ true →
+    IsAlike wanted left right (done + 1) (next + 1)
+IsAlike-same wanted left right done next low high d r h inside low_is high_is within same_low same_high is_wanted = record {
+  within = omega arith;
+  ended = λ i e l m k f z n.
+      let apart = rising-apart 0 right r done i e (omega arith) m in
+      let same : (get_or right done d).high ≡ (get_or right done e).high = ap (λ (x : Range). x.high) (get_or_default right done d e inside) in
+      elim (cases_eq k next) [
+        | inl last ↦ omega (arith, ap (λ j. (get_or left j f).high) last, same_high f, high_is, same, apart)
+        | inr before ↦ omega (arith, h.ended i e (omega arith) m k f z (omega arith))
+      ];
+  alike = λ i e l m.
+      elim (cases_eq i done) [
+        | inl last ↦
+            let is : get_or right done d ≡ get_or right i e = get_or_default right done d e inside ∙ ap (λ k. get_or right k e) (sym last) in
+            λ c from to.
+            covers-at left next d c within (omega (arith, same_low d, low_is, from, ap (λ (x : Range). x.low) is))
+            (omega (arith, same_high d, high_is, to, ap (λ (x : Range). x.high) is)) ∙ sym is_wanted
+        | inr before ↦ h.alike i e (omega arith) m
+      ];
+}
+
 -- where each range of a list is covered alike, each of its members is
 pub members-alike : (wanted : Bool) (left right : List Range) (c : ℕ) →
     ((i : ℕ) (d : Range) → i < length right → IsThroughout wanted left (get_or right i d).low (get_or right i d).high) →

@@ -1,15 +1,17 @@
 -- What holds while one list is cut out of another.
-use Rattle.std.proofs.Common.{◌≡◌, ℕ, ◌+◌, ◌<◌, ◌≤◌, Bool, true, false, not, ◌&&◌, ◌||◌, ◌⊎◌, List, [], ◌∷◌, length, get_or, refl, ap, sym, ◌∙◌, subst, inl, inr}
+use Rattle.std.proofs.Common.{◌≡◌, ℕ, ◌+◌, ◌<◌, ◌≤◌, Bool, true, false, not, ◌&&◌, ◌||◌, ◌⊎◌, List, [], ◌∷◌, ◌++◌, length, get_or, refl, ap, sym, ◌∙◌, subst, inl, inr}
 use Rattle.std.proofs.Common.{ltb, arith}
-use Rattle.std.specs.List.{AllWithin}
-use Rattle.std.proofs.lemmas.Bool.{cases_lt, cases_eq, lt-ltb}
+use Rattle.std.specs.List.{AllWithin, slice_range}
+use Rattle.std.proofs.lemmas.Bool.{cases_lt, cases_eq, lt-ltb, false≢true}
+use Rattle.std.proofs.lemmas.List.{get_or_default}
 use Rattle.std.proofs.lemmas.Bool.Decides.{nat_tests}
 use Rattle.rbbi_model.specs.Ranges.{Range}
 use Rattle.rbbi_sets.specs.Covers.{is_between, covers}
 use Rattle.rbbi_sets.specs.Joins.{Joins}
 use Rattle.rbbi_sets.specs.Rising.{AreRising, BeginUpTo, IsNextRange}
-use Rattle.rbbi_sets.proofs.Coverage.{is_between-true, is_between-below, is_between-above, covers-at}
-use Rattle.rbbi_sets.proofs.Rise.{begin-weaker, rising-range}
+use Rattle.rbbi_sets.proofs.Coverage.{is_between-true, is_between-below, is_between-above, covers-at, covers-append, covers-none}
+use Rattle.rbbi_sets.proofs.Rise.{begin-weaker, rising-range, rising-apart}
+use Rattle.rbbi_sets.proofs.Runs.{run-before, run-behind, run-within, kept-rising, kept-begin}
 use Rattle.rbbi_sets.proofs.Places.{covers-past, covers-gap, next_stays, next_moves}
 
 -- from one code point on, the list covers none before the hole, and all in it
@@ -78,6 +80,14 @@ IsCut-none left right kept e =
 or-false : (x y : Bool) → y ≡ false → (x || y) ≡ x
 or-false true y e = refl
 or-false false y e = e
+
+and-true : (x : Bool) → (x && true) ≡ x
+and-true true = refl
+and-true false = refl
+
+and_left-true : (x y : Bool) → (x && y) ≡ true → x ≡ true
+and_left-true true y e = refl
+and_left-true false y e = e
 
 module _ (left right kept more : List Range) (next_left next_right after at low high : ℕ) (hole_low hole_high : ℕ) (d : Range)
     (left_rises : AreRising left) (h : IsCut left right kept next_left next_right at) (inside : next_left < length left)
@@ -177,6 +187,100 @@ module _ (left right kept more : List Range) (next_left next_right after at low 
     below = λ c l. below c (omega arith) (omega arith);
     above = λ c l. above c (omega (arith, ordered)) (inl (omega arith));
   }
+
+-- the ranges from one to another, none of which a range of the right list cuts, are kept whole
+module _ (left right kept : List Range) (next_left last next_right after at low : ℕ) (hole_low hole_high : ℕ) (d : Range)
+    (left_rises : AreRising left) (h : IsCut left right kept next_left next_right at) (order : next_left ≤ last) (inside : last < length left)
+    (low_is : low ≡ (get_or left next_left d).low) (low_from : at ≤ low) (ends : (get_or left last d).high < hole_low)
+    (after_within : after ≤ length right) (place : IsNextRange right low after) (hole : IsHole right low hole_low hole_high) where
+  last_range : ((get_or left last d).low ≤ (get_or left last d).high) × ((get_or left last d).high ≤ 0x10FFFF)
+  last_range = rising-range 0 left left_rises last d inside
+
+  low_to : low ≤ (get_or left last d).high
+  low_to =
+      elim (cases_eq next_left last) [
+        | inl same ↦ omega (arith, low_is, last_range.0, ap (λ n. (get_or left n d).low) same)
+        | inr before ↦
+            omega (arith, low_is, last_range.0, rising-apart 0 left left_rises next_left last d (omega arith) inside,
+            (rising-range 0 left left_rises next_left d (omega arith)).0)
+      ]
+
+  -- what was kept ends with a gap before the run, since the code point before the run isn't in the left list
+  apart : (k : ℕ) (e : Range) → k < length kept → (get_or kept k e).high + 2 ≤ (get_or left next_left d).low
+  apart k e m =
+      let high = (get_or kept k e).high in
+      let covered : covers kept high ≡ true = covers-at kept k e high m (rising-range 0 kept h.rising k e m).0 (omega arith) in
+      elim (cases_lt high at) [
+        | inr from ↦ absurd (false≢true (sym (h.above high from) ∙ covered))
+        | inl done ↦
+            elim (cases_lt (high + 1) low) [
+              | inl gap ↦ omega (arith, low_is)
+              | inr touches ↦
+                  let there : covers left high ≡ true = and_left-true _ _ (sym (h.below high done) ∙ covered) in
+                  absurd (false≢true (sym (covers-none left high (λ j f n. beside j f n (omega arith))) ∙ there))
+            ]
+      ]
+    where
+      beside : (j : ℕ) (f : Range) → j < length left → (get_or kept k e).high + 1 ≡ low →
+          ((get_or kept k e).high < (get_or left j f).low) ⊎ ((get_or left j f).high < (get_or kept k e).high)
+      beside j f n is =
+          let here : (get_or left next_left d).low ≡ (get_or left next_left f).low = ap (λ (x : Range). x.low) (get_or_default left next_left d f (omega arith)) in
+          elim (cases_lt j next_left) [
+            | inl before ↦ inr (omega (arith, low_is, here, rising-apart 0 left left_rises j next_left f before (omega arith)))
+            | inr from ↦
+                elim (cases_eq j next_left) [
+                  | inl same ↦ inl (omega (arith, low_is, here, ap (λ n. (get_or left n f).low) same))
+                  | inr later ↦
+                      inl (omega (arith, low_is, here, rising-apart 0 left left_rises next_left j f (omega arith) n,
+                      (rising-range 0 left left_rises next_left f (omega arith)).0))
+                ]
+          ]
+
+  IsCut-run : IsCut left right (kept ++ slice_range left next_left (last + 1)) (last + 1) after ((get_or left last d).high + 1)
+  IsCut-run = record {
+    left_within = omega arith;
+    left_place = next_moves left ((get_or left last d).high + 1) last d left_rises
+        (λ k e z m. omega (arith, rising-apart 0 left left_rises k last e m inside, (rising-range 0 left left_rises last e inside).0,
+        ap (λ (x : Range). x.high) (get_or_default left last d e inside))) inside (omega arith) (omega arith);
+    right_within = after_within;
+    right_ended = λ k e z m. omega (arith, place.0 k e z m, low_to);
+    bound = omega (arith, last_range.1);
+    rising = kept-rising left next_left last d left_rises order inside kept h.rising apart;
+    begin = kept-begin left next_left last d left_rises order inside kept ((get_or left last d).high + 1)
+        (begin-weaker kept at ((get_or left last d).high + 1) (omega (arith, low_from, low_to)) h.begin) (omega (arith, last_range.0));
+    below = below;
+    above = λ c l.
+        covers-append kept (slice_range left next_left (last + 1)) c
+        ∙ or-false _ _ (run-behind left next_left last d left_rises order inside c (omega arith))
+        ∙ h.above c (omega (arith, low_from, low_to));
+  }
+    where
+      below : (c : ℕ) → c < (get_or left last d).high + 1 →
+          covers (kept ++ slice_range left next_left (last + 1)) c ≡ (covers left c && not (covers right c))
+      below c l =
+          covers-append kept (slice_range left next_left (last + 1)) c
+          ∙ elim (cases_lt c low) [
+            | inl before ↦
+                or-false _ _ (run-before left next_left last d left_rises order inside c (omega (arith, low_is)))
+                ∙ elim (cases_lt c at) [
+                  | inl done ↦ h.below c done
+                  | inr from ↦
+                      h.above c from
+                      ∙ sym (ap (λ b. b && not (covers right c)) (covers-gap left at next_left c d left_rises h.left_place (omega arith) from (omega (arith, low_is))))
+                ]
+            | inr from ↦
+                ap (λ b. b || covers (slice_range left next_left (last + 1)) c) (h.above c (omega (arith, low_from)))
+                ∙ sym (run-within left next_left last d left_rises order inside at c h.left_place.0 (omega (arith, low_from)) (omega arith))
+                ∙ sym (and-true _)
+                ∙ ap (λ b. covers left c && not b) (sym (hole.outside c from (omega (arith, ends))))
+          ]
+
+  -- the same where the code names the list, the number and the code point
+  pub IsCut-copied : (copied : List Range) (stop at_stop : ℕ) → copied ≡ kept ++ slice_range left next_left stop → stop ≡ last + 1 →
+      at_stop ≡ (get_or left last d).high + 1 → IsCut left right copied stop after at_stop
+  IsCut-copied copied stop at_stop copied_is stop_is at_is =
+      let slice_is : copied ≡ kept ++ slice_range left next_left (last + 1) = copied_is ∙ ap (λ n. kept ++ slice_range left next_left n) stop_is in
+      rw (slice_is, stop_is, at_is) IsCut-run
 
 -- no range of the left list is left
 pub IsCut-all : (left right kept : List Range) (next_left next_right at : ℕ) → IsCut left right kept next_left next_right at →

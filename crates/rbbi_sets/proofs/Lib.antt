@@ -2,6 +2,8 @@ pub mod Coverage
 pub mod Rise
 pub mod Joining
 pub mod Places
+pub mod Runs
+pub mod JoinedRuns
 pub mod Cutting
 pub mod Merging
 pub mod Piling

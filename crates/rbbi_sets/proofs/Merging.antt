@@ -1,13 +1,15 @@
 -- What holds while two lists are merged.
 use Rattle.std.proofs.Common.{◌≡◌, ℕ, ◌+◌, ◌<◌, ◌≤◌, Bool, true, false, ◌||◌, List, [], ◌∷◌, length, get_or, take, refl, ap, sym, ◌∙◌, subst, inl, inr, arith}
-use Rattle.std.proofs.lemmas.Bool.{cases_eq}
-use Rattle.std.proofs.lemmas.List.{take_all, get_or_default}
+use Rattle.std.proofs.lemmas.Bool.{cases_eq, cases_lt}
+use Rattle.std.specs.List.{slice_range}
+use Rattle.std.proofs.lemmas.List.{take_all}
 use Rattle.rbbi_model.specs.Ranges.{Range}
-use Rattle.rbbi_sets.specs.Covers.{is_between, covers}
-use Rattle.rbbi_sets.specs.Joins.{Joins}
+use Rattle.rbbi_sets.specs.Covers.{covers}
+use Rattle.rbbi_sets.specs.Joins.{JoinsRun}
 use Rattle.rbbi_sets.specs.Rising.{AreRising, BeginUpTo}
 use Rattle.rbbi_sets.proofs.Rise.{begin-weaker, rising-range, rising-apart}
-use Rattle.rbbi_sets.proofs.Sorting.{covers-take_more}
+use Rattle.rbbi_sets.proofs.Coverage.{covers-append}
+use Rattle.rbbi_sets.proofs.Runs.{take-split}
 
 -- no range of the joined list begins past a later one
 abbrev BeginBefore : List Range → List Range → ℕ → Type 0
@@ -54,34 +56,41 @@ IsMerged-swap left right joined next_left next_right h = record {
   right_begin = h.left_begin;
 }
 
--- the next range of the left list joins
-pub IsMerged-more : (left right joined more : List Range) (next_left next_right : ℕ) (d : Range) (low high : ℕ) → AreRising left → AreRising right →
-    IsMerged left right joined next_left next_right → next_left < length left → low ≡ (get_or left next_left d).low → high ≡ (get_or left next_left d).high →
-    ((e : Range) → next_right < length right → low ≤ (get_or right next_right e).low) →
-    Joins joined more (is_between low high) low → IsMerged left right more (next_left + 1) next_right
-IsMerged-more left right joined more next_left next_right d low high left_rises right_rises h inside low_is high_is first joins = record {
-  left_within = omega arith;
+-- a run of the left list joins
+pub IsMerged-run : (left right joined more : List Range) (next_left next_right after end : ℕ) → AreRising right →
+    IsMerged left right joined next_left next_right → ((e : Range) → next_right < length right → end ≤ (get_or right next_right e).low) →
+    JoinsRun joined more left next_left after end → IsMerged left right more after next_right
+IsMerged-run left right joined more next_left next_right after end right_rises h first joins = record {
+  left_within = joins.within;
   right_within = h.right_within;
   members = λ c.
       joins.members c
-      ∙ ap (λ b. b || is_between low high c) (h.members c)
-      ∙ or_between (covers (take next_left left) c) (covers (take next_right right) c) (is_between low high c)
-      ∙ ap (λ from. (covers (take next_left left) c || is_between from high c) || covers (take next_right right) c) low_is
-      ∙ ap (λ to. (covers (take next_left left) c || is_between (get_or left next_left d).low to c) || covers (take next_right right) c) high_is
-      ∙ ap (λ b. b || covers (take next_right right) c) (sym (covers-take_more left next_left d c inside));
+      ∙ ap (λ b. b || covers (slice_range left next_left after) c) (h.members c)
+      ∙ or_between (covers (take next_left left) c) (covers (take next_right right) c) (covers (slice_range left next_left after) c)
+      ∙ ap (λ b. b || covers (take next_right right) c)
+        (sym (ap (λ xs. covers xs c) (take-split next_left after left (omega (arith, joins.forward)))
+        ∙ covers-append (take next_left left) (slice_range left next_left after) c));
   rising = joins.rising;
-  left_begin = λ k e l m.
-      let same : (get_or left next_left e).low ≡ (get_or left next_left d).low = ap (λ (r : Range). r.low) (get_or_default left next_left e d inside) in
-      begin-weaker more low (get_or left k e).low (later left left_rises k next_left e (omega arith) m (omega (arith, same, low_is))) joins.begin;
-  right_begin = λ k e l m. begin-weaker more low (get_or right k e).low (later right right_rises k next_right e l m (first e (omega arith))) joins.begin;
+  left_begin = joins.later;
+  right_begin = λ k e l m. begin-weaker more end (get_or right k e).low (later k e l m (first e (omega arith))) joins.begin;
 }
   where
-    later : (xs : List Range) → AreRising xs → (k next : ℕ) (e : Range) → next ≤ k → k < length xs → low ≤ (get_or xs next e).low → low ≤ (get_or xs k e).low
-    later xs r k next e l m o =
-        elim (cases_eq k next) [
-          | inl same ↦ omega (arith, o, ap (λ i. (get_or xs i e).low) same)
-          | inr other ↦ omega (arith, o, rising-apart 0 xs r next k e (omega arith) m, (rising-range 0 xs r next e (omega arith)).0)
+    later : (k : ℕ) (e : Range) → next_right ≤ k → k < length right → end ≤ (get_or right next_right e).low → end ≤ (get_or right k e).low
+    later k e l m o =
+        elim (cases_eq k next_right) [
+          | inl same ↦ omega (arith, o, ap (λ i. (get_or right i e).low) same)
+          | inr other ↦ omega (arith, o, rising-apart 0 right right_rises next_right k e (omega arith) m, (rising-range 0 right right_rises next_right e (omega arith)).0)
         ]
+
+-- the next range of the one list begins no later than that of the other, or than the end where the other has none
+pub begins_first : (left right : List Range) (i j low : ℕ) (d : Range) → AreRising left → i < length left → j ≤ length right →
+    ((e : Range) → j < length right → (get_or left i e).low ≤ (get_or right j e).low) → ((e : Range) → j < length right → low ≡ (get_or right j e).low) →
+    (j ≡ length right → low ≡ 0x110000) → (get_or left i d).low ≤ low
+begins_first left right i j low d r inside within first next end =
+    elim (cases_lt j (length right)) [
+      | inl some ↦ omega (arith, first d some, next d some)
+      | inr none ↦ let inner = rising-range 0 left r i d inside in omega (arith, end (omega arith), inner.0, inner.1)
+    ]
 
 -- all ranges of both lists are joined
 pub IsMerged-all : (left right joined : List Range) (next_left next_right : ℕ) → IsMerged left right joined next_left next_right →

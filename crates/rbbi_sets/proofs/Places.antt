@@ -1,7 +1,7 @@
 -- What the number of the first range that doesn't end before a code point tells.
 use Rattle.std.proofs.Common.{◌≡◌, ℕ, ◌+◌, ◌<◌, ◌≤◌, false, List, length, get_or, ap, sym, ◌∙◌, subst, inl, inr, arith, ◌⊎◌}
 use Rattle.std.specs.List.{AllWithin}
-use Rattle.std.proofs.lemmas.Bool.{cases_order, cases_eq}
+use Rattle.std.proofs.lemmas.Bool.{cases_order, cases_eq, cases_lt}
 use Rattle.std.proofs.lemmas.List.{get_or_default}
 use Rattle.rbbi_model.specs.Ranges.{Range}
 use Rattle.rbbi_sets.specs.Covers.{covers}
@@ -98,4 +98,17 @@ next_found xs at next r within h l =
     elim (cases_eq next (length xs)) [
       | inl none ↦ next_past xs at next h none
       | inr some ↦ let d : Range = record { low = 0; high = 0 } in next_stays xs at next d r h (omega arith) (l d (omega arith))
+    ]
+
+-- a range that ends before lies before the next one
+pub passed : (xs : List Range) (at k next : ℕ) (d : Range) → IsNextRange xs at next → k < length xs → (get_or xs k d).high < at → k < next
+passed xs at k next d place n l =
+    elim (cases_lt k next) [ inl before ↦ before | inr from ↦ absurd (omega (arith, place.1 k d from n)) ]
+
+-- of two ranges the later one ends later
+pub ends_later : (xs : List Range) (i j : ℕ) (d : Range) → AreRising xs → i ≤ j → j < length xs → (get_or xs i d).high ≤ (get_or xs j d).high
+ends_later xs i j d r l n =
+    elim (cases_eq i j) [
+      | inl same ↦ omega (arith, ap (λ k. (get_or xs k d).high) same)
+      | inr other ↦ omega (arith, rising-apart 0 xs r i j d (omega arith) n, (rising-range 0 xs r j d n).0)
     ]

@@ -1,5 +1,5 @@
 //! One pass that takes one set away from another.
-ghost use Rattle.std.specs.Prelude.{◌≡◌, ◌≤◌, ◌<◌, ℕ, IfOk, OnOk, length, not, ◌&&◌, nat_lt};
+ghost use Rattle.std.specs.Prelude.{◌≡◌, ◌≤◌, ◌<◌, ◌+◌, ◌-◌, ℕ, IfOk, OnOk, length, not, ◌&&◌, nat_lt};
 ghost use Rattle.std.specs.Prelude.{slice_index_or};
 ghost use Rattle.rbbi_model.specs.Ranges.{Range};
 ghost use Rattle.rbbi_sets.specs.Rising.{AreRising, BeginUpTo};
@@ -9,6 +9,7 @@ ghost use Rattle.rbbi_sets.specs.Joins.{Joins};
 use crate::CodeRange;
 use crate::inclusion::skip_to;
 use crate::join::join_last;
+use crate::run::keep_run;
 use std::alloc::{AllocError, Global};
 
 /// One past the last code point.
@@ -17,7 +18,8 @@ const END: u32 = 0x11_0000;
 /// The code points of the left list that aren't in the right one.
 ///
 /// The pass goes through the left list and finds by `skip_to` what of the right one lies in a
-/// range, so a long right list costs little where the left one is short.
+/// range, so a long right list costs little where the left one is short. Ranges that no range of
+/// the right list cuts are copied as one run.
 pub(crate) fn cut(
     alloc: Global,
     left: &[CodeRange],
@@ -29,7 +31,7 @@ pub(crate) fn cut(
         covers ranges.items c ≡ (covers left.now c && not (covers right.now c))) }
     ensures form { IfOk result (λ ranges. AreRising ranges.items) }
 {
-    let mut kept = Vec::new(alloc);
+    let mut kept = Vec::with_capacity(alloc, left.len())?;
     let mut next_left = 0;
     let mut next_right = 0;
     let mut at = 0;
@@ -38,6 +40,11 @@ pub(crate) fn cut(
         let low = range.low.max(at);
         next_right = skip_to(right, next_right, low);
         let hole = range_or_end(right, next_right);
+        if low == range.low && range.high < hole.low {
+            next_left = keep_run(&mut kept, left, next_left, hole.low)?;
+            at = end_before(left, next_left);
+            continue;
+        }
         keep_before(&mut kept, low, range.high, hole.low)?;
         if hole.high < range.high {
             at = hole.high + 1;
@@ -66,7 +73,7 @@ fn keep_before(ranges: &mut Vec<CodeRange>, low: u32, high: u32, end: u32) -> Re
 }
 
 /// The range of this number, or where there is none, one past the last code point.
-fn range_or_end(ranges: &[CodeRange], next: usize) -> CodeRange
+pub(crate) fn range_or_end(ranges: &[CodeRange], next: usize) -> CodeRange
     requires within { next ≤ length ranges.now }
     ensures range { (d : Range) → next < length ranges.now →
         result ≡ slice_index_or ranges.now next d }
@@ -80,4 +87,14 @@ fn range_or_end(ranges: &[CodeRange], next: usize) -> CodeRange
             high: END,
         }
     }
+}
+
+/// One past the end of the range before the one with this number.
+fn end_before(ranges: &[CodeRange], next: usize) -> u32
+    requires rising { AreRising ranges.now }
+    requires within { (0 < next) × (next ≤ length ranges.now) }
+    ensures { (d : Range) → result ≡ (slice_index_or ranges.now (next - 1) d).high + 1 }
+{
+    let last = ranges[next - 1];
+    last.high + 1
 }

@@ -10,7 +10,8 @@ use crate::CodeRange;
 
 /// Whether `left` covers each code point of `right`, or where `wanted` is false, none of them.
 ///
-/// The pass goes through both lists once, and ends at the first range of `right` that decides.
+/// The pass goes through both lists once, and ends at the first range of `right` that decides. Lists
+/// that have many ranges in common are compared range by range.
 pub(crate) fn covers_alike(wanted: bool, left: &[CodeRange], right: &[CodeRange]) -> bool
     requires left_rises { AreRising left.now }
     requires right_rises { AreRising right.now }
@@ -18,12 +19,32 @@ pub(crate) fn covers_alike(wanted: bool, left: &[CodeRange], right: &[CodeRange]
 {
     let mut next = 0;
     for range in right {
-        next = skip_to(left, next, range.low);
-        if !covers_range_alike(wanted, left, next, range.low, range.high) {
-            return false;
+        if is_range_at(left, next, range.low, range.high) {
+            if !wanted {
+                return false;
+            }
+            next += 1;
+        } else {
+            next = skip_to(left, next, range.low);
+            if !covers_range_alike(wanted, left, next, range.low, range.high) {
+                return false;
+            }
         }
     }
     true
+}
+
+/// Whether the range with this number is that from `low` to `high`.
+fn is_range_at(ranges: &[CodeRange], number: usize, low: u32, high: u32) -> bool
+    ensures within { result ≡ true → number < length ranges.now }
+    ensures low { result ≡ true → (d : Range) → (slice_index_or ranges.now number d).low ≡ low }
+    ensures high { result ≡ true → (d : Range) → (slice_index_or ranges.now number d).high ≡ high }
+{
+    if number >= ranges.len() {
+        return false;
+    }
+    let range = ranges[number];
+    range.low == low && range.high == high
 }
 
 /// Whether the list covers each code point from `low` to `high`, or where `wanted` is false, none
@@ -54,6 +75,7 @@ pub(crate) fn skip_to(ranges: &[CodeRange], from: usize, at: u32) -> usize
     requires rising { AreRising ranges.now }
     requires within { from ≤ length ranges.now }
     requires ended { AllWithin (λ range. range.high < at) ranges.now 0 from }
+    ensures forward { from ≤ result }
     ensures within { result ≤ length ranges.now }
     ensures place { IsNextRange ranges.now at result }
 {

@@ -8,6 +8,7 @@ mod laws;
 mod merge;
 mod pile;
 mod range;
+mod run;
 mod set;
 #[cfg(test)]
 mod tests;

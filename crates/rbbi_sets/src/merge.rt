@@ -5,10 +5,12 @@ ghost use Rattle.rbbi_sets.specs.Rising.{AreRising};
 ghost use Rattle.rbbi_sets.specs.Covers.{covers};
 
 use crate::CodeRange;
-use crate::join::join_last;
+use crate::cut::range_or_end;
+use crate::run::join_run;
 use std::alloc::{AllocError, Global};
 
-/// The code points of either list.
+/// The code points of either list. Ranges of the one between two of the other are copied as one
+/// run.
 pub(crate) fn merge(
     alloc: Global,
     left: &[CodeRange],
@@ -20,18 +22,16 @@ pub(crate) fn merge(
         covers ranges.items c ≡ (covers left.now c || covers right.now c)) }
     ensures form { IfOk result (λ ranges. AreRising ranges.items) }
 {
-    let mut joined = Vec::new(alloc);
+    let mut joined = Vec::with_capacity(alloc, left.len())?;
     let mut next_left = 0;
     let mut next_right = 0;
     'joins: while next_left < left.len() || next_right < right.len() {
         if is_left_first(left, next_left, right, next_right) {
-            let range = left[next_left];
-            join_last(&mut joined, range.low, range.high)?;
-            next_left += 1;
+            let other = range_or_end(right, next_right);
+            next_left = join_run(&mut joined, left, next_left, other.low)?;
         } else {
-            let other = right[next_right];
-            join_last(&mut joined, other.low, other.high)?;
-            next_right += 1;
+            let other = range_or_end(left, next_left);
+            next_right = join_run(&mut joined, right, next_right, other.low)?;
         }
     }
     Ok(joined)

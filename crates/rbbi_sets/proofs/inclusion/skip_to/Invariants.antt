@@ -13,7 +13,7 @@ decreases-steps l = length l.ranges - l.next
 abbrev pub invariant-halves : goal.invariant-halves
 invariant-halves l =
     (l.next ≤ l.probe) × (l.probe ≤ length l.ranges) × AllWithin (λ range. range.high < l.at) l.ranges 0 l.next
-    × ((d : Range) → l.probe < length l.ranges → l.at ≤ (get_or l.ranges l.probe d).high)
+    × ((d : Range) → l.probe < length l.ranges → l.at ≤ (get_or l.ranges l.probe d).high) × (l.from ≤ l.next)
 
 abbrev pub decreases-halves : goal.decreases-halves
 decreases-halves l = l.probe - l.next
