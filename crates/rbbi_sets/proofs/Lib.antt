@@ -5,6 +5,7 @@ pub mod Places
 pub mod Runs
 pub mod JoinedRuns
 pub mod Cutting
+pub mod Between
 pub mod Merging
 pub mod Piling
 pub mod Alike

@@ -2,6 +2,7 @@
 #![tactic(auto)]
 
 mod cut;
+mod gaps;
 mod inclusion;
 mod join;
 mod laws;

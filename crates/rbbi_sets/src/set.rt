@@ -8,16 +8,12 @@ ghost use Rattle.rbbi_sets.specs.Covers.{covers};
 
 use crate::CodeRange;
 use crate::cut::cut;
+use crate::gaps::gaps;
 use crate::inclusion::covers_alike;
 use crate::join::join_last;
 use crate::merge::merge;
 use std::alloc::{AllocError, Global};
 use std::marker::Model;
-
-const WHOLE: [CodeRange; 1] = [CodeRange {
-    low: 0,
-    high: 0x10_FFFF,
-}];
 
 const SURROGATES: [CodeRange; 1] = [CodeRange {
     low: 0xD800,
@@ -121,7 +117,7 @@ impl CodeSet {
             Has set c ↔ ((c ≤ 0x10FFFF) × ¬ Has self.now c)) }
         ensures form { IfOk result (λ set. AreRising set) }
     {
-        let ranges = cut(alloc, &WHOLE, &self.ranges)?;
+        let ranges = gaps(alloc, &self.ranges)?;
         Ok(CodeSet { ranges })
     }
 
