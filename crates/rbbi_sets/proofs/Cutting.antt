@@ -1,15 +1,15 @@
 -- What holds while one list is cut out of another.
-use Rattle.std.proofs.Common.{◌≡◌, ℕ, ◌+◌, ◌<◌, ◌≤◌, Bool, true, false, not, ◌&&◌, ◌||◌, ◌⊎◌, List, [], ◌∷◌, ◌++◌, length, get_or, refl, ap, sym, ◌∙◌, subst, inl, inr}
+use Rattle.std.proofs.Common.{◌≡◌, ℕ, ◌+◌, ◌<◌, ◌≤◌, Bool, true, false, not, ◌&&◌, ◌||◌, ◌⊎◌, List, [], ◌++◌, length, get_or, refl, ap, sym, ◌∙◌, subst, inl, inr}
 use Rattle.std.proofs.Common.{ltb, arith}
 use Rattle.std.specs.List.{AllWithin, slice_range}
-use Rattle.std.proofs.lemmas.Bool.{cases_lt, cases_eq, lt-ltb, false≢true}
+use Rattle.std.proofs.lemmas.Bool.{cases_lt, cases_eq, false≢true}
 use Rattle.std.proofs.lemmas.List.{get_or_default}
 use Rattle.std.proofs.lemmas.Bool.Decides.{nat_tests}
 use Rattle.rbbi_model.specs.Ranges.{Range}
 use Rattle.rbbi_sets.specs.Covers.{is_between, covers}
 use Rattle.rbbi_sets.specs.Joins.{Joins}
 use Rattle.rbbi_sets.specs.Rising.{AreRising, BeginUpTo, IsNextRange}
-use Rattle.rbbi_sets.proofs.Coverage.{is_between-true, is_between-below, is_between-above, covers-at, covers-append, covers-none}
+use Rattle.rbbi_sets.proofs.Coverage.{covers-at, covers-append, covers-none}
 use Rattle.rbbi_sets.proofs.Rise.{begin-weaker, rising-range, rising-apart}
 use Rattle.rbbi_sets.proofs.Runs.{run-before, run-behind, run-within, kept-rising, kept-begin}
 use Rattle.rbbi_sets.proofs.Places.{covers-past, covers-gap, next_stays, next_moves}
@@ -201,8 +201,13 @@ module _ (left right kept : List Range) (next_left last next_right after at low 
       elim (cases_eq next_left last) [
         | inl same ↦ omega (arith, low_is, last_range.0, ap (λ n. (get_or left n d).low) same)
         | inr before ↦
-            omega (arith, low_is, last_range.0, rising-apart 0 left left_rises next_left last d (omega arith) inside,
-            (rising-range 0 left left_rises next_left d (omega arith)).0)
+            omega (
+              arith,
+              low_is,
+              last_range.0,
+              rising-apart 0 left left_rises next_left last d (omega arith) inside,
+              (rising-range 0 left left_rises next_left d (omega arith)).0,
+            )
       ]
 
   -- what was kept ends with a gap before the run, since the code point before the run isn't in the left list
@@ -231,8 +236,13 @@ module _ (left right kept : List Range) (next_left last next_right after at low 
                 elim (cases_eq j next_left) [
                   | inl same ↦ inl (omega (arith, low_is, here, ap (λ n. (get_or left n f).low) same))
                   | inr later ↦
-                      inl (omega (arith, low_is, here, rising-apart 0 left left_rises next_left j f (omega arith) n,
-                      (rising-range 0 left left_rises next_left f (omega arith)).0))
+                      inl (omega (
+                        arith,
+                        low_is,
+                        here,
+                        rising-apart 0 left left_rises next_left j f (omega arith) n,
+                        (rising-range 0 left left_rises next_left f (omega arith)).0,
+                      ))
                 ]
           ]
 
@@ -240,8 +250,12 @@ module _ (left right kept : List Range) (next_left last next_right after at low 
   IsCut-run = record {
     left_within = omega arith;
     left_place = next_moves left ((get_or left last d).high + 1) last d left_rises
-        (λ k e z m. omega (arith, rising-apart 0 left left_rises k last e m inside, (rising-range 0 left left_rises last e inside).0,
-        ap (λ (x : Range). x.high) (get_or_default left last d e inside))) inside (omega arith) (omega arith);
+        (λ k e z m. omega (
+          arith,
+          rising-apart 0 left left_rises k last e m inside,
+          (rising-range 0 left left_rises last e inside).0,
+          ap (λ (x : Range). x.high) (get_or_default left last d e inside),
+        )) inside (omega arith) (omega arith);
     right_within = after_within;
     right_ended = λ k e z m. omega (arith, place.0 k e z m, low_to);
     bound = omega (arith, last_range.1);

@@ -1,12 +1,12 @@
 -- What it leaves to join a range, and a run behind it.
-use Rattle.std.proofs.Common.{◌≡◌, ℕ, ◌+◌, ◌-◌, ◌<◌, ◌≤◌, Bool, true, false, ◌||◌, List, [], ◌∷◌, ◌++◌, length, get_or, refl, ap, sym, ◌∙◌, subst, inl, inr, arith}
+use Rattle.std.proofs.Common.{◌≡◌, ℕ, ◌+◌, ◌-◌, ◌<◌, ◌≤◌, Bool, true, false, ◌||◌, List, ◌++◌, length, get_or, refl, ap, sym, ◌∙◌, subst, inl, inr, arith}
 use Rattle.std.specs.List.{slice_range}
 use Rattle.std.proofs.lemmas.Bool.{cases_eq}
 use Rattle.std.proofs.lemmas.List.{append-nil, get_or_default}
 use Rattle.rbbi_model.specs.Ranges.{Range}
 use Rattle.rbbi_sets.specs.Covers.{is_between, covers}
 use Rattle.rbbi_sets.specs.Joins.{Joins, JoinsRun}
-use Rattle.rbbi_sets.specs.Rising.{AreRising, BeginUpTo}
+use Rattle.rbbi_sets.specs.Rising.{AreRising}
 use Rattle.rbbi_sets.proofs.Coverage.{covers-append}
 use Rattle.rbbi_sets.proofs.Rise.{begin-weaker, rising-range, rising-apart}
 use Rattle.rbbi_sets.proofs.Places.{ends_later}
@@ -32,8 +32,13 @@ module _ (old mid ranges : List Range) (next end low high : ℕ) (d : Range) (ri
 
   behind : (k : ℕ) (e : Range) → next + 1 ≤ k → k < length ranges → low ≤ (get_or ranges k e).low
   behind k e l m =
-      omega (arith, low_is, ap (λ (r : Range). r.low) (get_or_default ranges next d e inside), rising-apart 0 ranges rises next k e (omega arith) m,
-      (rising-range 0 ranges rises next e inside).0)
+      omega (
+        arith,
+        low_is,
+        ap (λ (r : Range). r.low) (get_or_default ranges next d e inside),
+        rising-apart 0 ranges rises next k e (omega arith) m,
+        (rising-range 0 ranges rises next e inside).0,
+      )
 
   -- the range alone
   pub JoinsRun-one : JoinsRun old mid ranges next (next + 1) end
@@ -51,9 +56,14 @@ module _ (old mid ranges : List Range) (next end low high : ℕ) (d : Range) (ri
       (ends : (get_or mid (length mid - 1) d).high ≡ high) where
     apart : (k : ℕ) (e : Range) → k < length mid → (get_or mid k e).high + 2 ≤ (get_or ranges (next + 1) d).low
     apart k e m =
-        omega (arith, ends_later mid k (length mid - 1) e joins.rising (omega arith) (omega arith),
-        ap (λ (r : Range). r.high) (get_or_default mid (length mid - 1) d e (omega arith)), ends, high_is,
-        rising-apart 0 ranges rises next (next + 1) d (omega arith) (omega arith))
+        omega (
+          arith,
+          ends_later mid k (length mid - 1) e joins.rising (omega arith) (omega arith),
+          ap (λ (r : Range). r.high) (get_or_default mid (length mid - 1) d e (omega arith)),
+          ends,
+          high_is,
+          rising-apart 0 ranges rises next (next + 1) d (omega arith) (omega arith),
+        )
 
     last_low : (get_or ranges last d).low ≤ (get_or ranges last d).high
     last_low = (rising-range 0 ranges rises last d last_inside).0
@@ -67,14 +77,18 @@ module _ (old mid ranges : List Range) (next end low high : ℕ) (d : Range) (ri
           ∙ ap (λ b. b || covers (slice_range ranges (next + 1) (last + 1)) c) (JoinsRun-one.members c)
           ∙ or_assoc (covers old c) (covers (slice_range ranges next (next + 1)) c) (covers (slice_range ranges (next + 1) (last + 1)) c)
           ∙ ap (λ b. covers old c || b)
-            (sym (ap (λ xs. covers xs c) (slice-split ranges next (next + 1) (last + 1) (omega arith) (omega arith))
-            ∙ covers-append (slice_range ranges next (next + 1)) (slice_range ranges (next + 1) (last + 1)) c));
+          (sym (ap (λ xs. covers xs c) (slice-split ranges next (next + 1) (last + 1) (omega arith) (omega arith))
+          ∙ covers-append (slice_range ranges next (next + 1)) (slice_range ranges (next + 1) (last + 1)) c));
       rising = kept-rising ranges (next + 1) last d rises order last_inside mid joins.rising apart;
       begin = kept-begin ranges (next + 1) last d rises order last_inside mid end JoinsRun-one.begin (omega (arith, last_low));
       later = λ k e l m.
           kept-begin ranges (next + 1) last d rises order last_inside mid (get_or ranges k e).low (JoinsRun-one.later k e (omega arith) m)
-          (omega (arith, rising-apart 0 ranges rises last k e (omega arith) m, (rising-range 0 ranges rises last e last_inside).0,
-          ap (λ (r : Range). r.low) (get_or_default ranges last d e last_inside)));
+          (omega (
+            arith,
+            rising-apart 0 ranges rises last k e (omega arith) m,
+            (rising-range 0 ranges rises last e last_inside).0,
+            ap (λ (r : Range). r.low) (get_or_default ranges last d e last_inside),
+          ));
     }
 
   -- the run up to a number, which may be empty

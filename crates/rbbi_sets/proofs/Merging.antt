@@ -1,5 +1,5 @@
 -- What holds while two lists are merged.
-use Rattle.std.proofs.Common.{◌≡◌, ℕ, ◌+◌, ◌<◌, ◌≤◌, Bool, true, false, ◌||◌, List, [], ◌∷◌, length, get_or, take, refl, ap, sym, ◌∙◌, subst, inl, inr, arith}
+use Rattle.std.proofs.Common.{◌≡◌, ℕ, ◌<◌, ◌≤◌, Bool, true, false, ◌||◌, List, [], length, get_or, take, refl, ap, sym, ◌∙◌, subst, inl, inr, arith}
 use Rattle.std.proofs.lemmas.Bool.{cases_eq, cases_lt}
 use Rattle.std.specs.List.{slice_range}
 use Rattle.std.proofs.lemmas.List.{take_all}
@@ -68,8 +68,8 @@ IsMerged-run left right joined more next_left next_right after end right_rises h
       ∙ ap (λ b. b || covers (slice_range left next_left after) c) (h.members c)
       ∙ or_between (covers (take next_left left) c) (covers (take next_right right) c) (covers (slice_range left next_left after) c)
       ∙ ap (λ b. b || covers (take next_right right) c)
-        (sym (ap (λ xs. covers xs c) (take-split next_left after left (omega (arith, joins.forward)))
-        ∙ covers-append (take next_left left) (slice_range left next_left after) c));
+      (sym (ap (λ xs. covers xs c) (take-split next_left after left (omega (arith, joins.forward)))
+      ∙ covers-append (take next_left left) (slice_range left next_left after) c));
   rising = joins.rising;
   left_begin = joins.later;
   right_begin = λ k e l m. begin-weaker more end (get_or right k e).low (later k e l m (first e (omega arith))) joins.begin;

@@ -1,5 +1,5 @@
 -- A run of ranges of a rising list, put at the end of another.
-use Rattle.std.proofs.Common.{◌≡◌, ℕ, ◌+◌, ◌-◌, ◌<◌, ◌≤◌, suc, zero, true, false, ◌||◌, List, [], ◌∷◌, ◌++◌, length, get_or, take, drop, refl, ap, sym, ◌∙◌, subst, inl, inr}
+use Rattle.std.proofs.Common.{◌≡◌, ℕ, ◌+◌, ◌-◌, ◌<◌, ◌≤◌, suc, zero, true, false, ◌||◌, List, [], ◌∷◌, ◌++◌, length, get_or, take, drop, refl, ap, sym, ◌∙◌, inl, inr}
 use Rattle.std.proofs.Common.{arith, Bool}
 use Rattle.std.proofs.lemmas.Bool.{cases_eq}
 use Rattle.std.specs.List.{slice_range, AllWithin}
@@ -74,8 +74,13 @@ module _ (xs : List Range) (i last : ℕ) (d : Range) (rises : AreRising xs) (or
             let here : i + k ≡ i = omega arith in
             omega (arith, ap (λ (r : Range). r.low) at.0, ap (λ n. (get_or xs n e).low) here, ap (λ (r : Range). r.low) (get_or_default xs i d e (omega arith)))
         | inr later ↦
-            omega (arith, ap (λ (r : Range). r.low) at.0, rising-apart 0 xs rises i (i + k) d (omega arith) at.2, (rising-range 0 xs rises i d (omega arith)).0,
-            ap (λ (r : Range). r.low) (get_or_default xs (i + k) e d at.2))
+            omega (
+              arith,
+              ap (λ (r : Range). r.low) at.0,
+              rising-apart 0 xs rises i (i + k) d (omega arith) at.2,
+              (rising-range 0 xs rises i d (omega arith)).0,
+              ap (λ (r : Range). r.low) (get_or_default xs (i + k) e d at.2),
+            )
       ]
 
   high-to : (k : ℕ) (e : Range) → k < length run → (get_or run k e).high ≤ (get_or xs last d).high
@@ -121,14 +126,18 @@ module _ (xs : List Range) (i last : ℕ) (d : Range) (rises : AreRising xs) (or
     where
       behind : covers (drop (last + 1) xs) c ≡ false
       behind = covers-none (drop (last + 1) xs) c (λ k e n.
-        let o : last + 1 + k < length xs = omega (arith, length-drop (last + 1) xs) in
-        inl (omega (arith, ap (λ (r : Range). r.low) (get_or-drop (last + 1) xs k e), rising-apart 0 xs rises last (last + 1 + k) e (omega arith) o,
-        ap (λ (r : Range). r.high) (get_or_default xs last d e inside))))
+          let o : last + 1 + k < length xs = omega (arith, length-drop (last + 1) xs) in
+          inl (omega (
+            arith,
+            ap (λ (r : Range). r.low) (get_or-drop (last + 1) xs k e),
+            rising-apart 0 xs rises last (last + 1 + k) e (omega arith) o,
+            ap (λ (r : Range). r.high) (get_or_default xs last d e inside),
+          )))
 
       before : covers (take i xs) c ≡ false
       before = covers-none (take i xs) c (λ k e n.
-        let o : k < i = omega (arith, length-take i xs) in
-        inr (omega (arith, ap (λ (r : Range). r.high) (get_or-take i xs k e o), ended k e (omega arith) o)))
+          let o : k < i = omega (arith, length-take i xs) in
+          inr (omega (arith, ap (λ (r : Range). r.high) (get_or-take i xs k e o), ended k e (omega arith) o)))
 
   -- the run may stand behind a list that ends with a gap before it
   pub kept-rising : (kept : List Range) → AreRising kept → ((k : ℕ) (e : Range) → k < length kept → (get_or kept k e).high + 2 ≤ (get_or xs i d).low) →

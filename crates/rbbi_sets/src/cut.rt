@@ -58,7 +58,12 @@ pub(crate) fn cut(
 }
 
 /// Adds the code points from `low` to `high` that lie before `end`.
-pub(crate) fn keep_before(ranges: &mut Vec<CodeRange>, low: u32, high: u32, end: u32) -> Result<(), AllocError>
+pub(crate) fn keep_before(
+    ranges: &mut Vec<CodeRange>,
+    low: u32,
+    high: u32,
+    end: u32,
+) -> Result<(), AllocError>
     requires range { low ≤ high }
     requires code_points { high ≤ 0x10FFFF }
     requires rising { AreRising ranges.old.items }

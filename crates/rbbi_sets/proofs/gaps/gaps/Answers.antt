@@ -1,5 +1,5 @@
 -- The gap before a range, and what lies behind the last one.
-use Rattle.std.proofs.Common.{length, ap, ◌∙◌, arith}
+use Rattle.std.proofs.Common.{ap, ◌∙◌, arith}
 use Rattle.rbbi_model.specs.Ranges.{Range}
 use Rattle.rbbi_sets.proofs.Rise.{rising-range}
 use Rattle.rbbi_sets.proofs.Between.{AreGaps-more, AreGaps-last, AreGaps-all}

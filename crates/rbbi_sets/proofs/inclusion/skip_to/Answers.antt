@@ -1,5 +1,5 @@
 -- Where both searches meet.
-use Rattle.std.proofs.Common.{◌≡◌, subst, arith}
+use Rattle.std.proofs.Common.{◌≡◌, arith}
 use Rattle.rbbi_sets.proofs.Places.{next_found}
 use Rattle.rbbi_sets.proofs.inclusion.skip_to.Goals as goal
 

@@ -1,4 +1,4 @@
-use Rattle.std.proofs.Common.{◌≡◌, length, ◌-◌, ◌≤◌, ◌<◌, get_or}
+use Rattle.std.proofs.Common.{length, ◌-◌, ◌≤◌, ◌<◌, get_or}
 use Rattle.std.specs.List.{AllWithin}
 use Rattle.rbbi_model.specs.Ranges.{Range}
 use Rattle.rbbi_sets.proofs.inclusion.skip_to.Given as goal

@@ -1,5 +1,5 @@
 -- A run of either list, and the end.
-use Rattle.std.proofs.Common.{◌≡◌, ℕ, ◌<◌, length, get_or, ap, ◌∙◌, arith}
+use Rattle.std.proofs.Common.{ap, ◌∙◌, arith}
 use Rattle.rbbi_model.specs.Ranges.{Range}
 use Rattle.rbbi_sets.proofs.Merging.{IsMerged-run, IsMerged-swap, begins_first}
 use Rattle.rbbi_sets.proofs.merge.merge.Goals as goal

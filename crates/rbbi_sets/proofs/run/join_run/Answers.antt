@@ -2,7 +2,7 @@
 use Rattle.std.proofs.Common.{◌≡◌, ◌-◌, List, length, get_or, ap, ◌∙◌, subst, arith}
 use Rattle.rbbi_model.specs.Ranges.{Range}
 use Rattle.rbbi_sets.proofs.Rise.{rising-range}
-use Rattle.rbbi_sets.proofs.Places.{ends_later, ended_through}
+use Rattle.rbbi_sets.proofs.Places.{ended_through}
 use Rattle.rbbi_sets.proofs.JoinedRuns.{JoinsRun-one, JoinsRun-more}
 use Rattle.rbbi_sets.proofs.run.join_run.Goals as goal
 

@@ -1,4 +1,4 @@
-use Rattle.std.proofs.Common.{ℕ, ◌⊎◌, length}
+use Rattle.std.proofs.Common.{◌⊎◌, length}
 use Rattle.rbbi_model.specs.Ranges.{Has}
 use Rattle.rbbi_sets.specs.Piles.{HasAny}
 use Rattle.rbbi_sets.proofs.Piling.{HoldTogether}

@@ -1,5 +1,5 @@
 -- All sets and nothing, a set that is made one with the later ones, and the end.
-use Rattle.std.proofs.Common.{◌≡◌, ◌-◌, [], ◌∷◌, ap, take, length, length-append, append-nil, subst, sym, ◌∙◌, arith, rules}
+use Rattle.std.proofs.Common.{◌≡◌, ◌-◌, [], ◌∷◌, ap, take, length, length-append, append-nil, subst, sym, ◌∙◌, arith}
 use Rattle.rbbi_sets.specs.Piles.{HasAny}
 use Rattle.rbbi_sets.specs.Rising.{AreRising}
 use Rattle.rbbi_sets.proofs.Piling.{hold_all, hold_joined, hold_alone}

@@ -1,7 +1,6 @@
 -- The set that holds all is one of the pile.
 use Rattle.std.proofs.Common.{◌∙◌, subst, arith}
 use Rattle.rbbi_model.specs.Ranges.{Has}
-use Rattle.rbbi_sets.specs.Piles.{HasAny}
 use Rattle.rbbi_sets.proofs.Piling.{any_at}
 use Rattle.rbbi_sets.proofs.pile.Pile.one_holds_all.Goals as goal
 

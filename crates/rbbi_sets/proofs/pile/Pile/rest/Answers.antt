@@ -1,7 +1,6 @@
 -- A set of the pile that has nothing of what is left, one that has some, and the end.
-use Rattle.std.proofs.Common.{◌≡◌, get_or, ap, sym, subst, ◌∙◌, arith}
-use Rattle.rbbi_model.specs.Ranges.{Range}
-use Rattle.rbbi_sets.proofs.Piling.{IsRest, IsRest-same, IsRest-less, IsRest-all}
+use Rattle.std.proofs.Common.{◌∙◌, arith}
+use Rattle.rbbi_sets.proofs.Piling.{IsRest-same, IsRest-less, IsRest-all}
 use Rattle.rbbi_sets.proofs.pile.Pile.rest.Goals as goal
 use Rattle.rbbi_sets.proofs.pile.Pile.rest.Goals.{then-not-holds_none+in_ok-rest-2, else-not-holds_none}
 

@@ -1,5 +1,4 @@
 use Rattle.std.proofs.Common.{◌∙◌, ◌≡◌, [], inl, inr, sym, subst, rules}
-use Rattle.rbbi_model.specs.Ranges.{Has}
 use Rattle.rbbi_sets.specs.Rising.{AreRising}
 use Rattle.rbbi_sets.proofs.Meanings.{union_members}
 use Rattle.rbbi_sets.proofs.set.CodeSet.union.Goals as goal
