@@ -9,6 +9,8 @@ mod merge;
 mod pile;
 mod range;
 mod set;
+mod shared;
+mod shelf;
 #[cfg(test)]
 mod tests;
 
@@ -16,3 +18,5 @@ pub use laws::members_determine;
 pub use pile::Pile;
 pub use range::CodeRange;
 pub use set::CodeSet;
+pub use shared::SharedSet;
+pub use shelf::Shelf;
