@@ -40,7 +40,7 @@ tails x y xs ys r e h c i =
       | inr later ↦ later
     ]
 
-range_is : (x y : Range) → x.low ≡ y.low → x.high ≡ y.high → x ≡ y
+pub range_is : (x y : Range) → x.low ≡ y.low → x.high ≡ y.high → x ≡ y
 range_is x y l h =
     let made : ℕ → ℕ → Range = λ a b. record { low = a; high = b } in
     ap (λ a. made a x.high) l ∙ ap (λ b. made y.low b) h

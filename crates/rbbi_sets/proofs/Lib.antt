@@ -13,3 +13,4 @@ pub mod Meanings
 pub mod Determined
 pub mod Sorting
 pub mod Search
+pub mod Chunks

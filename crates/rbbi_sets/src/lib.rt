@@ -11,6 +11,8 @@ mod pile;
 mod range;
 mod run;
 mod set;
+mod shared;
+mod shelf;
 #[cfg(test)]
 mod tests;
 
@@ -18,3 +20,5 @@ pub use laws::members_determine;
 pub use pile::Pile;
 pub use range::CodeRange;
 pub use set::CodeSet;
+pub use shared::SharedSet;
+pub use shelf::Shelf;

@@ -340,3 +340,24 @@ fn far_ranges(rt: HostRuntime) -> Result<(), Fail> {
     );
     Ok(())
 }
+
+#[test]
+fn shared_sets(rt: HostRuntime) -> Result<(), Fail> {
+    // Two sets in many chunks, of which they share all but one.
+    let mut shelf = crate::Shelf::new(rt.alloc());
+    let evens = CodeSet::from_ranges(rt.alloc(), even_numbers(rt.alloc())?)?;
+    let one = set_of(rt.alloc(), &[(501, 501)])?;
+    let more = evens.union(rt.alloc(), &one)?;
+    let kept = shelf.keep(rt.alloc(), &evens)?;
+    let kept_more = shelf.keep(rt.alloc(), &more)?.clone()?;
+    let alone = kept.to_set(rt.alloc())?;
+    assert!(rt; alone.ranges() == evens.ranges());
+    assert!(rt; kept_more.to_set(rt.alloc())?.ranges() == more.ranges());
+    let mut pile = Pile::new(rt.alloc());
+    pile.add(rt.alloc(), evens)?;
+    assert!(rt; kept.is_within(rt.alloc(), &pile)?);
+    assert!(rt; !kept_more.is_within(rt.alloc(), &pile)?);
+    pile.add(rt.alloc(), one)?;
+    assert!(rt; kept_more.is_within(rt.alloc(), &pile)?);
+    Ok(())
+}
