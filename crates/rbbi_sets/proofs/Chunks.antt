@@ -139,3 +139,26 @@ module _ {X : Type 0} (ranges_of : X → List Range) where
       flat_map ranges_of inside ≡ whole → AreWithin chunks pile i → (c : ℕ) → Has whole c → HasAny pile c
   within_all chunks pile i inside whole all same view before c h =
       before c (subst (λ ys. Has ys c) (sym (ap (flat_map ranges_of) (take_all i chunks all ∙ same) ∙ view)) h)
+
+  -- none of the chunks before this place has the code point
+  abbrev pub HaveNot : List X → ℕ → ℕ → Type 0
+  HaveNot chunks c i = ¬ Has (flat_map ranges_of (take i chunks)) c
+
+  pub have_not_more : (chunks : List X) (c i : ℕ) (chunk : X) → i < length chunks → chunk ≡ get_or chunks i chunk → ¬ Has (ranges_of chunk) c →
+      HaveNot chunks c i → HaveNot chunks c (i + 1)
+  have_not_more chunks c i chunk inside is out before h =
+      elim (has_either (flat_map ranges_of (take i chunks)) (ranges_of chunk) c (subst (λ ys. Has ys c) (sym (joined_more chunks i chunk inside is)) h)) [
+        | inl old ↦ before old
+        | inr new ↦ out new
+      ]
+
+  pub have_not_all : (chunks : List X) (c i : ℕ) (inside : List X) (whole : List Range) → length chunks ≤ i → chunks ≡ inside →
+      flat_map ranges_of inside ≡ whole → HaveNot chunks c i → ¬ Has whole c
+  have_not_all chunks c i inside whole all same view before h =
+      before (subst (λ ys. Has ys c) (sym (ap (flat_map ranges_of) (take_all i chunks all ∙ same) ∙ view)) h)
+
+  -- the set has what the chunk at a place has
+  pub has_in : (chunks : List X) (c i : ℕ) (chunk : X) (inside : List X) (whole : List Range) → i < length chunks → chunk ≡ get_or chunks i chunk →
+      chunks ≡ inside → flat_map ranges_of inside ≡ whole → Has (ranges_of chunk) c → Has whole c
+  has_in chunks c i chunk inside whole within is same view h =
+      subst (λ ys. Has ys c) (ap (flat_map ranges_of) same ∙ view) (has_at chunks i chunk c within (subst (λ x. Has (ranges_of x) c) is h))

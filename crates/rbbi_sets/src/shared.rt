@@ -1,5 +1,5 @@
 //! Sets that keep their ranges together.
-ghost use Rattle.std.specs.Prelude.{◌≡◌, ◌↔◌, ℕ, IfOk, IsTrue};
+ghost use Rattle.std.specs.Prelude.{◌≡◌, ◌↔◌, ℕ, IfOk, IfSome, IfNone, IsTrue};
 ghost use Rattle.std.specs.List.{flat_map};
 ghost use Rattle.std.specs.Rc.{rc_value};
 ghost use Rattle.rbbi_model.specs.Ranges.{Has};
@@ -53,6 +53,31 @@ impl SharedSet {
         }
         let set = CodeSet::from_ranges(alloc, ranges)?;
         Ok(set)
+    }
+
+    /// Whether the code point is in the set, by a search of each chunk.
+    pub fn has(&self, c: u32) -> bool
+        ensures { IsTrue result ↔ Has self.now c }
+    {
+        for chunk in self.chunks.as_slice() {
+            if chunk.as_ref().has(c) {
+                return true;
+            }
+        }
+        false
+    }
+
+    /// A member, and None exactly where the set holds nothing.
+    pub fn member(&self) -> Option<u32>
+        ensures some { IfSome result (λ c. Has self.now c) }
+        ensures none { IfNone result ((c : ℕ) → ¬ Has self.now c) }
+    {
+        for chunk in self.chunks.as_slice() {
+            if let Some(c) = chunk.as_ref().first() {
+                return Some(c);
+            }
+        }
+        None
     }
 
     /// Whether a pile has all of the set. Where it has, that is mostly found without memory.
