@@ -10,34 +10,16 @@ use Rattle.rbbi_model.specs.Ranges.{Range, Has}
 use Rattle.rbbi_sets.specs.Rising.{IsRange, AreRisingFrom, AreRising}
 use Rattle.rbbi_sets.specs.Piles.{HasAny}
 use Rattle.rbbi_sets.proofs.Coverage.{has_or_not}
-use Rattle.rbbi_sets.proofs.Determined.{members_determine_lem, range_is}
-use Rattle.rbbi_sets.proofs.Rise.{rising-range}
-
-rising-later : (from to : ℕ) (xs : List Range) → from ≤ to → AreRisingFrom to xs → AreRisingFrom from xs
-rising-later from to [] l h = tt
-rising-later from to (x ∷ xs) l h = (omega (arith, h.0), h.1, h.2, h.3)
-
-rising-drop : (bound i : ℕ) (xs : List Range) → AreRisingFrom bound xs → AreRisingFrom bound (drop i xs)
-rising-drop bound zero xs h = h
-rising-drop bound (suc i) [] h = tt
-rising-drop bound (suc i) (x ∷ xs) h = rising-drop bound i xs (rising-later bound (x.high + 2) xs (omega (arith, h.0, h.1)) h.3)
-
-rising-take : (bound i : ℕ) (xs : List Range) → AreRisingFrom bound xs → AreRisingFrom bound (take i xs)
-rising-take bound zero xs h = tt
-rising-take bound (suc i) [] h = tt
-rising-take bound (suc i) (x ∷ xs) h = (h.0, h.1, h.2, rising-take (x.high + 2) i xs h.3)
+use Rattle.rbbi_sets.proofs.Determined.{range_is}
+use Rattle.rbbi_sets.proofs.Runs.{rising-take, rising-weaker}
 
 -- a part of a set's ranges is that of a set
 pub rising-part : (xs : List Range) (from to : ℕ) → AreRising xs → AreRising (slice_range xs from to)
-rising-part xs from to h = rising-take 0 (to - from) (drop from xs) (rising-drop 0 from xs h)
-
--- a set of given ranges that rise is the list of them
-pub set_is : (set given whole : List Range) → given ≡ whole → AreRising whole → AreRising set → ((c : ℕ) → Has set c ↔ Has given c) → set ≡ whole
-set_is set given whole same rises form members = members_determine_lem set whole form rises (λ c. subst (λ ys. Has set c ↔ Has ys c) same (members c))
-
--- each of its ranges is one
-pub are_ranges : (xs : List Range) → AreRising xs → All IsRange xs
-are_ranges xs h = λ k d l. rising-range 0 xs h k d l
+rising-part xs from to h = rising-take 0 (to - from) (drop from xs) (rest from xs h) where
+  rest : (i : ℕ) (ys : List Range) → AreRising ys → AreRising (drop i ys)
+  rest zero ys h = h
+  rest (suc i) [] h = tt
+  rest (suc i) (y ∷ ys) h = rest i ys (rising-weaker 0 (y.high + 2) ys (omega arith) h.3)
 
 take_parts : (xs : List Range) (i m : ℕ) → take i xs ++ take m (drop i xs) ≡ take (i + m) xs
 take_parts xs i m =

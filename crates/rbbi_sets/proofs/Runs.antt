@@ -16,12 +16,12 @@ rising-drop bound i [] d h l = absurd (omega arith)
 rising-drop bound zero (x ∷ xs) d h l = (omega arith, h.1, h.2, h.3)
 rising-drop bound (suc i) (x ∷ xs) d h l = rising-drop (x.high + 2) i xs d h.3 (omega arith)
 
-rising-take : (bound n : ℕ) (xs : List Range) → AreRisingFrom bound xs → AreRisingFrom bound (take n xs)
+pub rising-take : (bound n : ℕ) (xs : List Range) → AreRisingFrom bound xs → AreRisingFrom bound (take n xs)
 rising-take bound zero xs h = tt
 rising-take bound (suc n) [] h = tt
 rising-take bound (suc n) (x ∷ xs) h = (h.0, h.1, h.2, rising-take (x.high + 2) n xs h.3)
 
-rising-weaker : (bound low : ℕ) (xs : List Range) → bound ≤ low → AreRisingFrom low xs → AreRisingFrom bound xs
+pub rising-weaker : (bound low : ℕ) (xs : List Range) → bound ≤ low → AreRisingFrom low xs → AreRisingFrom bound xs
 rising-weaker bound low [] l h = tt
 rising-weaker bound low (x ∷ xs) l h = (omega (arith, h.0), h.1, h.2, h.3)
 

@@ -76,6 +76,14 @@ impl CodeSet {
         Ok(CodeSet { ranges: joined })
     }
 
+    /// The set of ranges that have the form of a set.
+    pub(crate) fn from_rising(ranges: Vec<CodeRange>) -> CodeSet
+        requires { AreRising ranges.items }
+        ensures { result ≡ ranges.items }
+    {
+        CodeSet { ranges }
+    }
+
     /// What is in either set.
     pub fn union(&self, alloc: Global, other: &CodeSet) -> Result<CodeSet, AllocError>
         ensures members { IfOk result (λ set. (c : ℕ) →

@@ -51,8 +51,7 @@ impl SharedSet {
         for chunk in self.chunks.as_slice() {
             ranges.extend_from_slice(chunk.as_ref().ranges())?;
         }
-        let set = CodeSet::from_ranges(alloc, ranges)?;
-        Ok(set)
+        Ok(CodeSet::from_rising(ranges))
     }
 
     /// Whether the code point is in the set, by a search of each chunk.

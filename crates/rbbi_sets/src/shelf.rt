@@ -54,20 +54,11 @@ impl Shelf {
                 return Ok(copy);
             }
         }
-        let chunk = Rc::new(alloc, set_of(alloc, ranges)?)?;
+        let copy = Vec::from_slice(alloc, ranges)?;
+        let chunk = Rc::new(alloc, CodeSet::from_rising(copy))?;
         self.chunks.insert(hash, chunk.clone()?)?;
         Ok(chunk)
     }
-}
-
-/// The set of these ranges.
-fn set_of(alloc: Global, ranges: &[CodeRange]) -> Result<CodeSet, AllocError>
-    requires { AreRising ranges.now }
-    ensures { IfOk result (λ set. set ≡ ranges.now) }
-{
-    let copy = Vec::from_slice(alloc, ranges)?;
-    let set = CodeSet::from_ranges(alloc, copy)?;
-    Ok(set)
 }
 
 /// The number of the range with which the next chunk begins, or that of all ranges.

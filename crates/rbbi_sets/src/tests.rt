@@ -54,7 +54,7 @@ fn is_list(set: &CodeSet, want: &[(u32, u32)]) -> bool {
 
 #[test]
 fn operations(rt: HostRuntime) -> Result<(), Fail> {
-    let cases: [Case; 7] = [
+    let cases: [Case; 9] = [
         // Ranges that touch are one range.
         Case {
             left: &[(0x61, 0x63)],
@@ -104,6 +104,31 @@ fn operations(rt: HostRuntime) -> Result<(), Fail> {
             union: &[(1, 5)],
             intersect: &[],
             minus: &[(1, 1), (3, 3), (5, 5)],
+        },
+        // Ranges of the one that no range of the other comes between.
+        Case {
+            left: &[(1, 1), (3, 3), (5, 6), (8, 8), (20, 22), (24, 24)],
+            right: &[(10, 12), (14, 14), (24, 30)],
+            union: &[
+                (1, 1),
+                (3, 3),
+                (5, 6),
+                (8, 8),
+                (10, 12),
+                (14, 14),
+                (20, 22),
+                (24, 30),
+            ],
+            intersect: &[(24, 24)],
+            minus: &[(1, 1), (3, 3), (5, 6), (8, 8), (20, 22)],
+        },
+        // A range that holds the first of those of the other, and ends where the next one begins.
+        Case {
+            left: &[(0, 10), (30, 31)],
+            right: &[(2, 2), (4, 4), (11, 11), (13, 13), (15, 29)],
+            union: &[(0, 11), (13, 13), (15, 31)],
+            intersect: &[(2, 2), (4, 4)],
+            minus: &[(0, 1), (3, 3), (5, 10), (30, 31)],
         },
     ];
     for case in &cases {
