@@ -377,6 +377,19 @@ fn shared_sets(rt: HostRuntime) -> Result<(), Fail> {
     let kept_more = shelf.keep(rt.alloc(), &more)?.clone()?;
     let alone = kept.to_set(rt.alloc())?;
     assert!(rt; alone.ranges() == evens.ranges());
+    for (c, want) in [
+        (0, true),
+        (501, false),
+        (1000, true),
+        (1998, true),
+        (2000, false),
+    ] {
+        assert_eq!(rt; kept.has(c), want);
+    }
+    assert!(rt; kept_more.has(501));
+    assert!(rt; kept.member().is_some());
+    let nothing = shelf.keep(rt.alloc(), &CodeSet::empty(rt.alloc()))?;
+    assert_eq!(rt; nothing.member(), None);
     assert!(rt; kept_more.to_set(rt.alloc())?.ranges() == more.ranges());
     let mut pile = Pile::new(rt.alloc());
     pile.add(rt.alloc(), evens)?;
