@@ -4,10 +4,10 @@ use Rattle.std.proofs.Common.{sym, subst, ◌∙◌, arith, rules, Decides, eqb,
 use Rattle.std.specs.Prelude.{slice_range, true, false, Option, Some, None, is_some, IfSome, IsNone}
 use Rattle.std.proofs.lemmas.Bool.{false≢true}
 use Rattle.std.proofs.lemmas.Bool.Decides.{Decides-and, Decides-eqb}
-use Rattle.std.specs.List.{All, flat_map}
+use Rattle.std.specs.List.{flat_map}
 use Rattle.std.proofs.lemmas.List.{take-take, drop-take, take-append-drop, take_more, take_all, flat_map_more}
 use Rattle.rbbi_model.specs.Ranges.{Range, Has}
-use Rattle.rbbi_sets.specs.Rising.{IsRange, AreRisingFrom, AreRising}
+use Rattle.rbbi_sets.specs.Rising.{AreRising}
 use Rattle.rbbi_sets.specs.Piles.{HasAny}
 use Rattle.rbbi_sets.proofs.Coverage.{has_or_not}
 use Rattle.rbbi_sets.proofs.Determined.{range_is}

@@ -1,9 +1,7 @@
 -- A chunk that has the code point, one that hasn't, and the end.
-use Rattle.std.proofs.Common.{refl, sym, ap, ◌∙◌, subst, arith}
+use Rattle.std.proofs.Common.{refl, sym, ◌∙◌, arith}
 use Rattle.std.proofs.lemmas.Bool.{false≢true}
-use Rattle.std.specs.List.{flat_map}
 use Rattle.std.specs.Rc.{rc_value}
-use Rattle.rbbi_model.specs.Ranges.{Has}
 use Rattle.rbbi_sets.proofs.Chunks.{has_in, have_not_more, have_not_all}
 use Rattle.rbbi_sets.proofs.shared.SharedSet.has.Goals as goal
 
