@@ -4,7 +4,7 @@ use Rattle.std.proofs.Common.{arith, length-append, length-drop, append_assoc}
 use Rattle.std.specs.List.{AllByRecursion, flat_map}
 use Rattle.std.proofs.lemmas.List.{get_or-drop, drop-drop, drop_at}
 use Rattle.rbbi_model.specs.Tables.{Table}
-use Rattle.rbbi_model.specs.TableFile.{u16, u32, magic, range_bytes, list_bytes, row_bytes, spelling}
+use Rattle.rbbi_model.specs.TableFile.{u16, u32, range_bytes, list_bytes, row_bytes, spelling}
 use Rattle.rbbi_file.specs.Lengths.{u16_at, u32_at, HasMagic, lists_end, parts_end, rows_size, pairs_size}
 use Rattle.rbbi_file.specs.Fitting.{FitsList, Spell}
 use Rattle.rbbi_file.proofs.Sizes.{length_ranges, length_list, length_rows}
@@ -60,24 +60,8 @@ has_magic bytes table spelled = ap (λ (l : List ℕ). take 8 l) (spelled ∙ in
 pub ends_there : (bytes : List ℕ) (table : Table) → Spell bytes table → parts_end bytes ≡ length bytes
 ends_there bytes table spell =
     let fits = spell.fits in
-    let whole : bytes ≡ magic ++
-    (u16 table.categories ++
-    (u32 (length table.ranges) ++
-    (u16 (length table.lists) ++
-    (u16 (length table.rows) ++
-    (u16 table.slashes ++
-    (flat_map range_bytes table.ranges ++
-    (flat_map list_bytes table.lists ++ (row_bytes table.categories table.rows table.cells ++ table.safe)))))))) = spell.spelled
-    ∙ in_order table in
-    let at : (n : ℕ) → drop n bytes
-    ≡ drop n (magic ++ (u16 table.categories ++
-    (u32 (length table.ranges) ++
-    (u16 (length table.lists) ++
-    (u16 (length table.rows) ++
-    (u16 table.slashes ++
-    (flat_map range_bytes table.ranges ++
-    (flat_map list_bytes table.lists ++ (row_bytes table.categories table.rows table.cells ++ table.safe))))))))) =
-    λ n. ap (λ (l : List ℕ). drop n l) whole in
+    let whole = spell.spelled ∙ in_order table in
+    let at = λ (n : ℕ). ap (λ (l : List ℕ). drop n l) whole in
     let categories : u16_at bytes 8 ≡ table.categories = number_in_two bytes _ 8 table.categories fits.categories (at 8) in
     let ranges : u32_at bytes 10 ≡ length table.ranges = number_in_four bytes _ 10 (length table.ranges) fits.range_count (at 10) in
     let lists : u16_at bytes 14 ≡ length table.lists = number_in_two bytes _ 14 (length table.lists) fits.list_count (at 14) in
@@ -90,9 +74,8 @@ ends_there bytes table spell =
     ap (λ (n : ℕ). lists_end bytes n (20 + 6 * u32_at bytes 10)) lists ∙ lists_end_is bytes _ table.lists (20 + 6 * u32_at bytes 10) fits.lists lists_at in
     let rest_size : rows_size (u16_at bytes 16) (u16_at bytes 8) + pairs_size (u16_at bytes 8)
     ≡ length (row_bytes table.categories table.rows table.cells) + length table.safe =
-    ap (λ (n : ℕ). rows_size (u16_at bytes 16) n + pairs_size n) categories ∙ ap (λ (n : ℕ). rows_size n table.categories + pairs_size table.categories) rows
-    ∙ sym (ap (λ (n : ℕ). n + length table.safe) (length_rows table.categories table.rows table.cells spell.fitting.cells)
-    ∙ ap (λ (n : ℕ). rows_size (length table.rows) table.categories + n) spell.fitting.safe) in
+    (λ i. rows_size (rows i) (categories i) + pairs_size (categories i))
+    ∙ sym (λ i. length_rows table.categories table.rows table.cells spell.fitting.cells i + spell.fitting.safe i) in
     let behind_counts : length (drop 20 bytes) ≡ length (flat_map range_bytes table.ranges ++ tail) = ap length (at 20) in
     let over : 20 ≤ length bytes = omega (arith, ap length whole) in
     omega (

@@ -12,11 +12,7 @@ pub all_from_places : {X : Type 0} (P : X → Type 0) (d : X) (xs : List X) → 
 all_from_places P d [] at = tt
 all_from_places P d (x ∷ xs) at = (at zero (omega arith), all_from_places P d xs (λ i short. at (suc i) (omega (arith, short))))
 
--- and of one more item
-pub all_more : {X : Type 0} (P : X → Type 0) (xs : List X) (x : X) → AllByRecursion P xs → P x → AllByRecursion P (xs ++ x ∷ [])
-all_more P [] x all here = (here, tt)
-all_more P (y ∷ xs) x all here = (all.0, all_more P xs x all.1 here)
-
+-- and of one more item, or of all of another list
 pub all_joined : {X : Type 0} (P : X → Type 0) (xs ys : List X) → AllByRecursion P xs → AllByRecursion P ys → AllByRecursion P (xs ++ ys)
 all_joined P [] ys all also = also
 all_joined P (x ∷ xs) ys all also = (all.0, all_joined P xs ys all.1 also)

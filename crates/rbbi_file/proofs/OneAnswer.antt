@@ -16,37 +16,21 @@ use Rattle.rbbi_file.proofs.WholeFiles.{length_valid, same_valid, spell_valid, n
 -- parts have one first fault
 one_fault : (parts : Table) (one other : TableErr) → MakesTable parts (Err one) → MakesTable parts (Err other)
     → one ≢ table.Memory → other ≢ table.Memory → one ≡ other
+one_fault parts one table.Memory makes makes' known known' = absurd (known' refl)
+one_fault parts table.Memory other makes makes' known known' = absurd (known refl)
 one_fault parts table.BadRanges table.BadRanges makes makes' known known' = refl
-one_fault parts table.BadRanges table.BadLists makes makes' known known' = absurd (makes makes'.0)
-one_fault parts table.BadRanges table.BadRows makes makes' known known' = absurd (makes makes'.0)
-one_fault parts table.BadRanges table.BadFronts makes makes' known known' = absurd (makes makes'.0)
-one_fault parts table.BadRanges table.BadSafe makes makes' known known' = absurd (makes makes'.0)
-one_fault parts table.BadRanges table.Memory makes makes' known known' = absurd (known' refl)
-one_fault parts table.BadLists table.BadRanges makes makes' known known' = absurd (makes' makes.0)
+one_fault parts table.BadRanges other makes makes' known known' = absurd (makes makes'.0)
+one_fault parts one table.BadRanges makes makes' known known' = absurd (makes' makes.0)
 one_fault parts table.BadLists table.BadLists makes makes' known known' = refl
-one_fault parts table.BadLists table.BadRows makes makes' known known' = absurd (makes.1 makes'.1)
-one_fault parts table.BadLists table.BadFronts makes makes' known known' = absurd (makes.1 makes'.1)
-one_fault parts table.BadLists table.BadSafe makes makes' known known' = absurd (makes.1 makes'.1)
-one_fault parts table.BadLists table.Memory makes makes' known known' = absurd (known' refl)
-one_fault parts table.BadRows table.BadRanges makes makes' known known' = absurd (makes' makes.0)
-one_fault parts table.BadRows table.BadLists makes makes' known known' = absurd (makes'.1 makes.1)
+one_fault parts table.BadLists other makes makes' known known' = absurd (makes.1 makes'.1)
+one_fault parts one table.BadLists makes makes' known known' = absurd (makes'.1 makes.1)
 one_fault parts table.BadRows table.BadRows makes makes' known known' = refl
-one_fault parts table.BadRows table.BadFronts makes makes' known known' = absurd (makes.2 makes'.2)
-one_fault parts table.BadRows table.BadSafe makes makes' known known' = absurd (makes.2 makes'.2)
-one_fault parts table.BadRows table.Memory makes makes' known known' = absurd (known' refl)
-one_fault parts table.BadFronts table.BadRanges makes makes' known known' = absurd (makes' makes.0)
-one_fault parts table.BadFronts table.BadLists makes makes' known known' = absurd (makes'.1 makes.1)
-one_fault parts table.BadFronts table.BadRows makes makes' known known' = absurd (makes'.2 makes.2)
+one_fault parts table.BadRows other makes makes' known known' = absurd (makes.2 makes'.2)
+one_fault parts one table.BadRows makes makes' known known' = absurd (makes'.2 makes.2)
 one_fault parts table.BadFronts table.BadFronts makes makes' known known' = refl
 one_fault parts table.BadFronts table.BadSafe makes makes' known known' = absurd (makes.3 makes'.3)
-one_fault parts table.BadFronts table.Memory makes makes' known known' = absurd (known' refl)
-one_fault parts table.BadSafe table.BadRanges makes makes' known known' = absurd (makes' makes.0)
-one_fault parts table.BadSafe table.BadLists makes makes' known known' = absurd (makes'.1 makes.1)
-one_fault parts table.BadSafe table.BadRows makes makes' known known' = absurd (makes'.2 makes.2)
 one_fault parts table.BadSafe table.BadFronts makes makes' known known' = absurd (makes'.3 makes.3)
 one_fault parts table.BadSafe table.BadSafe makes makes' known known' = refl
-one_fault parts table.BadSafe table.Memory makes makes' known known' = absurd (known' refl)
-one_fault parts table.Memory other makes makes' known known' = absurd (known refl)
 
 bad_magic : (bytes : List ℕ) (error : TableErr) → SpellBadParts bytes error → HasMagic bytes
 bad_magic bytes error bad = has_magic bytes bad.parts bad.spelled.spelled
@@ -66,35 +50,29 @@ no_bad bytes t error reads bad = not_bad bytes bad.parts error bad.spelled bad.n
 -- bytes have one answer, but for want of memory
 pub one_answer_lem : (bytes : List ℕ) (one other : Result Table FileErr) → ReadsTable bytes one → ReadsTable bytes other
     → one ≢ Err Memory → other ≢ Err Memory → one ≡ other
+one_answer_lem bytes one (Err Memory) reads reads' known known' = absurd (known' refl)
+one_answer_lem bytes (Err Memory) other reads reads' known known' = absurd (known refl)
 one_answer_lem bytes (Ok t) (Ok t') reads reads' known known' = ap Ok (same_valid bytes t t' (spell_valid bytes t reads.0 reads.1) reads'.0 reads'.1)
 one_answer_lem bytes (Ok t) (Err BadMagic) reads reads' known known' = absurd (reads' (has_magic bytes t reads.1))
 one_answer_lem bytes (Ok t) (Err (Short at')) reads reads' known known' = absurd (omega (arith, length_valid bytes t reads.0 reads.1, reads'.1))
 one_answer_lem bytes (Ok t) (Err (Trailing at')) reads reads' known known' = absurd (omega (arith, length_valid bytes t reads.0 reads.1, reads'.1))
 one_answer_lem bytes (Ok t) (Err (Part error')) reads reads' known known' = absurd (no_bad bytes t error' reads reads')
-one_answer_lem bytes (Ok t) (Err Memory) reads reads' known known' = absurd (known' refl)
 one_answer_lem bytes (Err BadMagic) (Ok t') reads reads' known known' = absurd (reads (has_magic bytes t' reads'.1))
 one_answer_lem bytes (Err BadMagic) (Err BadMagic) reads reads' known known' = refl
-one_answer_lem bytes (Err BadMagic) (Err (Short at')) reads reads' known known' = absurd (reads reads'.0)
-one_answer_lem bytes (Err BadMagic) (Err (Trailing at')) reads reads' known known' = absurd (reads reads'.0)
 one_answer_lem bytes (Err BadMagic) (Err (Part error')) reads reads' known known' = absurd (reads (bad_magic bytes error' reads'))
-one_answer_lem bytes (Err BadMagic) (Err Memory) reads reads' known known' = absurd (known' refl)
+one_answer_lem bytes (Err BadMagic) (Err error') reads reads' known known' = absurd (reads reads'.0)
+one_answer_lem bytes (Err (Part error)) (Err BadMagic) reads reads' known known' = absurd (reads' (bad_magic bytes error reads))
+one_answer_lem bytes (Err error) (Err BadMagic) reads reads' known known' = absurd (reads' reads.0)
 one_answer_lem bytes (Err (Short at)) (Ok t') reads reads' known known' = absurd (omega (arith, reads.1, length_valid bytes t' reads'.0 reads'.1))
-one_answer_lem bytes (Err (Short at)) (Err BadMagic) reads reads' known known' = absurd (reads' reads.0)
 one_answer_lem bytes (Err (Short at)) (Err (Short at')) reads reads' known known' = ap (λ (n : ℕ). Err (Short n)) (reads.2 ∙ sym reads'.2)
 one_answer_lem bytes (Err (Short at)) (Err (Trailing at')) reads reads' known known' = absurd (omega (arith, reads.1, reads'.1))
 one_answer_lem bytes (Err (Short at)) (Err (Part error')) reads reads' known known' = absurd (omega (arith, reads.1, bad_end bytes error' reads'))
-one_answer_lem bytes (Err (Short at)) (Err Memory) reads reads' known known' = absurd (known' refl)
 one_answer_lem bytes (Err (Trailing at)) (Ok t') reads reads' known known' = absurd (omega (arith, reads.1, length_valid bytes t' reads'.0 reads'.1))
-one_answer_lem bytes (Err (Trailing at)) (Err BadMagic) reads reads' known known' = absurd (reads' reads.0)
 one_answer_lem bytes (Err (Trailing at)) (Err (Short at')) reads reads' known known' = absurd (omega (arith, reads.1, reads'.1))
 one_answer_lem bytes (Err (Trailing at)) (Err (Trailing at')) reads reads' known known' = ap (λ (n : ℕ). Err (Trailing n)) (reads.2 ∙ sym reads'.2)
 one_answer_lem bytes (Err (Trailing at)) (Err (Part error')) reads reads' known known' = absurd (omega (arith, reads.1, bad_end bytes error' reads'))
-one_answer_lem bytes (Err (Trailing at)) (Err Memory) reads reads' known known' = absurd (known' refl)
 one_answer_lem bytes (Err (Part error)) (Ok t') reads reads' known known' = absurd (no_bad bytes t' error reads' reads)
-one_answer_lem bytes (Err (Part error)) (Err BadMagic) reads reads' known known' = absurd (reads' (bad_magic bytes error reads))
 one_answer_lem bytes (Err (Part error)) (Err (Short at')) reads reads' known known' = absurd (omega (arith, bad_end bytes error reads, reads'.1))
 one_answer_lem bytes (Err (Part error)) (Err (Trailing at')) reads reads' known known' = absurd (omega (arith, bad_end bytes error reads, reads'.1))
 one_answer_lem bytes (Err (Part error)) (Err (Part error')) reads reads' known known' =
     ap (λ (e : TableErr). Err (Part e)) (same_fault bytes error error' reads reads')
-one_answer_lem bytes (Err (Part error)) (Err Memory) reads reads' known known' = absurd (known' refl)
-one_answer_lem bytes (Err Memory) other reads reads' known known' = absurd (known refl)

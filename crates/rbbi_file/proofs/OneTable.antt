@@ -34,13 +34,13 @@ split_all {X} f P split (a ∷ these) (b ∷ those) x y long all all' same =
     let here = split a b (flat_map f these ++ x) (flat_map f those ++ y) all.0 all'.0
     (sym (append_assoc (f a) (flat_map f these) x) ∙ same ∙ append_assoc (f b) (flat_map f those) y) in
     let rest = split_all f P split these those x y (omega (arith, long)) all.1 all'.1 here.1 in
-    (ap (λ (c : X). c ∷ these) here.0 ∙ ap (λ (cs : List X). b ∷ cs) rest.0, rest.1)
+    (λ i. here.0 i ∷ rest.0 i, rest.1)
 
 split_range : (a b : CategoryRange) (x y : List ℕ) → FitsRange a → FitsRange b → range_bytes a ++ x ≡ range_bytes b ++ y → (a ≡ b) × (x ≡ y)
 split_range a b x y fits fits' same =
     let start = split_u32 a.start b.start (u16 a.category ++ x) (u16 b.category ++ y) fits.0 fits'.0 same in
     let category = split_u16 a.category b.category x y fits.1 fits'.1 start.1 in
-    (ap (λ (n : ℕ). record { start = n; category = a.category }) start.0 ∙ ap (λ (n : ℕ). record { start = b.start; category = n }) category.0, category.1)
+    (λ i. record { start = start.0 i; category = category.0 i }, category.1)
 
 split_list : (a b : List ℕ) (x y : List ℕ) → FitsList a → FitsList b → list_bytes a ++ x ≡ list_bytes b ++ y → (a ≡ b) × (x ≡ y)
 split_list a b x y fits fits' same =
@@ -51,12 +51,8 @@ split_head : (a b : RowHead) (x y : List ℕ) → FitsHead a → FitsHead b → 
 split_head a b x y fits fits' same =
     let accept = split_u16 a.accept b.accept (u32 a.fronts ++ (u16 a.list ++ x)) (u32 b.fronts ++ (u16 b.list ++ y)) fits.0 fits'.0 same in
     let fronts = split_u32 a.fronts b.fronts (u16 a.list ++ x) (u16 b.list ++ y) fits.1 fits'.1 accept.1 in
-    let list = split_u16 a.list b.list x y fits.2 fits'.2 fronts.1 in (
-      ap (λ (n : ℕ). record { accept = n; fronts = a.fronts; list = a.list }) accept.0
-          ∙ ap (λ (n : ℕ). record { accept = b.accept; fronts = n; list = a.list }) fronts.0
-          ∙ ap (λ (n : ℕ). record { accept = b.accept; fronts = b.fronts; list = n }) list.0,
-      list.1,
-    )
+    let list = split_u16 a.list b.list x y fits.2 fits'.2 fronts.1 in
+    (λ i. record { accept = accept.0 i; fronts = fronts.0 i; list = list.0 i }, list.1)
 
 split_rows : (w : ℕ) (rows rows' : List RowHead) (cells cells' x y : List ℕ) → length rows ≡ length rows' → length cells ≡ length rows * w
     → length cells' ≡ length rows' * w → AllByRecursion FitsHead rows → AllByRecursion FitsHead rows' → AllByRecursion (λ cell. cell < 2 ^ 16) cells
@@ -81,9 +77,8 @@ split_rows w (a ∷ rows) (b ∷ rows') cells cells' x y long whole whole' heads
     let rest = split_rows w rows rows' (drop w cells) (drop w cells') x y many
     (omega (arith, whole, length-drop w cells)) (omega (arith, whole', length-drop w cells')) heads.1 heads'.1 (all_dropped P w cells small)
     (all_dropped P w cells' small') here.1 in (
-      ap (λ (h : RowHead). h ∷ rows) head.0 ∙ ap (λ (hs : List RowHead). b ∷ hs) rest.0,
-      sym (take-append-drop w cells) ∙ ap (λ (cs : List ℕ). cs ++ drop w cells) here.0 ∙ ap (λ (cs : List ℕ). take w cells' ++ cs) rest.1
-          ∙ take-append-drop w cells',
+      λ i. head.0 i ∷ rest.0 i,
+      sym (take-append-drop w cells) ∙ (λ i. here.0 i ++ rest.1 i) ∙ take-append-drop w cells',
       rest.2,
     )
 
@@ -102,76 +97,15 @@ in_order table = simp append_assoc
 pub same_table : (these those : Table) → these.categories ≡ those.categories → these.slashes ≡ those.slashes → these.ranges ≡ those.ranges
     → these.lists ≡ those.lists → these.rows ≡ those.rows → these.cells ≡ those.cells → these.safe ≡ those.safe → these ≡ those
 same_table these those categories slashes ranges lists rows cells safe =
-    ap (λ (x : ℕ). record {
-      categories = x;
-      slashes = these.slashes;
-      ranges = these.ranges;
-      lists = these.lists;
-      rows = these.rows;
-      cells =
-          these.cells;
-      safe = these.safe;
-    }) categories
-    ∙ ap (λ (x : ℕ). record {
-      categories = those.categories;
-      slashes = x;
-      ranges = these.ranges;
-      lists = these.lists;
-      rows = these.rows;
-      cells =
-          these.cells;
-      safe = these.safe;
-    }) slashes
-    ∙ ap (λ (x : List CategoryRange). record {
-      categories = those.categories;
-      slashes = those.slashes;
-      ranges = x;
-      lists = these.lists;
-      rows =
-          these.rows;
-      cells = these.cells;
-      safe = these.safe;
-    }) ranges
-    ∙ ap (λ (x : List (List ℕ)). record {
-      categories = those.categories;
-      slashes = those.slashes;
-      ranges = those.ranges;
-      lists = x;
-      rows =
-          these.rows;
-      cells = these.cells;
-      safe = these.safe;
-    }) lists
-    ∙ ap (λ (x : List RowHead). record {
-      categories = those.categories;
-      slashes = those.slashes;
-      ranges = those.ranges;
-      lists = those.lists;
-      rows =
-          x;
-      cells = these.cells;
-      safe = these.safe;
-    }) rows
-    ∙ ap (λ (x : List ℕ). record {
-      categories = those.categories;
-      slashes = those.slashes;
-      ranges = those.ranges;
-      lists = those.lists;
-      rows =
-          those.rows;
-      cells = x;
-      safe = these.safe;
-    }) cells
-    ∙ ap (λ (x : List ℕ). record {
-      categories = those.categories;
-      slashes = those.slashes;
-      ranges = those.ranges;
-      lists = those.lists;
-      rows =
-          those.rows;
-      cells = those.cells;
-      safe = x;
-    }) safe
+    λ i. record {
+      categories = categories i;
+      slashes = slashes i;
+      ranges = ranges i;
+      lists = lists i;
+      rows = rows i;
+      cells = cells i;
+      safe = safe i;
+    }
 
 -- two tables with one spelling are one
 pub one_table : (bytes : List ℕ) (these those : Table) → Spell bytes these → Spell bytes those → these ≡ those

@@ -1,39 +1,24 @@
 -- The numbers of a valid table fit the bytes that a table file has for them, and the file isn't long.
-use Rattle.std.proofs.Common.{◌≡◌, ℕ, ◌+◌, ◌*◌, ◌/◌, ◌%◌, ◌^◌, ◌<◌, ◌≤◌, List, [], ◌∷◌, ◌++◌, length, get_or, subst, arith, lit<, length-append}
-use Rattle.std.specs.List.{AllByRecursion, flat_map}
+use Rattle.std.proofs.Common.{ℕ, ◌+◌, ◌*◌, ◌^◌, ◌<◌, ◌≤◌, ◌++◌, length, get_or, refl, arith, lit<, length-append}
+use Rattle.std.specs.List.{flat_map}
 use Rattle.std.proofs.Math.Nat.{pow-le-pow_right}
-use Rattle.std.proofs.lemmas.Nat.{div_below, mul-le}
-use Rattle.rbbi_model.specs.Tables.{Table, CategoryRange, empty_head, step}
-use Rattle.rbbi_model.specs.ValidTables.{AreApart, IsWithin, IsValidList, IsValidTable}
+use Rattle.std.proofs.lemmas.Nat.{mul-le}
+use Rattle.rbbi_model.specs.Tables.{Table, empty_head}
+use Rattle.rbbi_model.specs.ValidTables.{IsWithin, IsValidList, IsValidTable}
 use Rattle.rbbi_model.specs.TableFile.{magic, counts, range_bytes, list_bytes, row_bytes, spelling}
 use Rattle.rbbi_file.specs.Lengths.{rows_size}
 use Rattle.rbbi_file.specs.Fitting.{FitsRange, FitsList, FitsHead, FitsBytes}
 use Rattle.rbbi_table.specs.Parts.{HasFittingParts}
+use Rattle.rbbi_table.proofs.RangeLemmas.{few_ranges}
+use Rattle.rbbi_table.proofs.RowLemmas.{steps_within}
 use Rattle.rbbi_file.proofs.Members.{all_so, all_from_places}
 use Rattle.rbbi_file.proofs.Sizes.{length_ranges, length_lists, length_rows}
-
--- starts rise, so there are no more ranges than code points from the first start on
-few_ranges : (categories : ℕ) (range : CategoryRange) (ranges : List CategoryRange) → AreApart (range ∷ ranges)
-    → AllByRecursion (IsWithin categories) (range ∷ ranges) → range.start + length (range ∷ ranges) ≤ 1114112
-few_ranges categories range [] apart within = omega (arith, within.0.0)
-few_ranges categories range (next ∷ ranges) apart within =
-    omega (arith, apart.0, few_ranges categories next ranges apart.2 within.1)
-
-pub range_count : (categories : ℕ) (ranges : List CategoryRange) → AreApart ranges → AllByRecursion (IsWithin categories) ranges → length ranges ≤ 1114112
-range_count categories [] apart within = omega arith
-range_count categories (range ∷ ranges) apart within = omega (arith, few_ranges categories range ranges apart within)
 
 -- each next row is one of the rows
 cell_below : (table : Table) → IsValidTable table → (i : ℕ) → i < length table.cells → get_or table.cells i 0 < 2 ^ 16
 cell_below table valid i short =
-    let categories : ℕ = table.categories in
-    let some : 0 < categories = omega (arith, valid.ranges.some_categories) in
-    let row : i / categories < length table.rows = div_below i categories (length table.rows) some (omega (arith, short, valid.well_formed.cells)) in
-    let category : i % categories < categories = omega (arith, some) in
-    let is : (i / categories) * categories + i % categories ≡ i = omega (arith, some) in
-    let below : step table (i / categories) (i % categories) < length table.rows = (valid.rows.each (i / categories) row).next (i % categories) category in
-    let here : get_or table.cells i 0 < length table.rows = subst (λ (n : ℕ). get_or table.cells n 0 < length table.rows) is below in
-    omega (arith, here, valid.rows.few)
+    let steps = steps_within table table.rows table.cells refl refl valid.well_formed.cells valid.rows in
+    omega (arith, steps.within i short, valid.rows.few)
 
 -- a front mask has at most 32 bits
 mask_below : (mask slashes : ℕ) → slashes ≤ 32 → mask < 2 ^ slashes → mask < 2 ^ 32
@@ -44,7 +29,7 @@ pub fits_valid : (table : Table) → IsValidTable table → FitsBytes table
 fits_valid table valid = record {
   categories = omega (arith, valid.ranges.few_categories);
   slashes = omega (arith, valid.rows.few_slashes);
-  range_count = omega (arith, range_count table.categories table.ranges valid.ranges.apart valid.ranges.within);
+  range_count = omega (arith, few_ranges table.categories table.ranges valid.ranges);
   list_count = omega (arith, valid.lists.few);
   row_count = omega (arith, valid.rows.few);
   ranges =
@@ -85,7 +70,7 @@ short_valid table valid =
       length-append (magic ++ counts table ++ flat_map range_bytes table.ranges) (flat_map list_bytes table.lists),
       length-append (magic ++ counts table) (flat_map range_bytes table.ranges),
       length_ranges table.ranges,
-      range_count categories table.ranges valid.ranges.apart valid.ranges.within,
+      few_ranges categories table.ranges valid.ranges,
       length_lists table.lists valid.lists.each,
       valid.lists.few,
       length_rows categories table.rows table.cells valid.well_formed.cells,

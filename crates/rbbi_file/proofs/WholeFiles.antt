@@ -49,10 +49,7 @@ spelled_parts bytes table g n r end small has whole are many_ranges many_lists r
     let start : ℕ = 20 + 6 * g in
     let counted : Stand bytes (counts table) 8 20 =
     are.stand
-    ∙ ap (λ (k : ℕ). u16 table.categories ++ u32 k ++ u16 n ++ u16 r ++ u16 table.slashes ++ drop 20 bytes) (sym many_ranges)
-    ∙ ap (λ (k : ℕ). u16 table.categories ++ u32 (length table.ranges) ++ u16 k ++ u16 r ++ u16 table.slashes ++ drop 20 bytes) (sym many_lists)
-    ∙ ap (λ (k : ℕ). u16 table.categories ++ u32 (length table.ranges) ++ u16 (length table.lists) ++ u16 k ++ u16 table.slashes ++ drop 20 bytes)
-    (sym rowed.many) in
+    ∙ (λ i. u16 table.categories ++ u32 (sym many_ranges i) ++ u16 (sym many_lists i) ++ u16 (sym rowed.many i) ++ u16 table.slashes ++ drop 20 bytes) in
     let parts : List ℕ = counts table ++ flat_map range_bytes table.ranges ++ flat_map list_bytes table.lists ++ row_bytes table.categories
     table.rows table.cells in
     let all : Stand bytes parts 8 w =
@@ -65,10 +62,9 @@ spelled_parts bytes table g n r end small has whole are many_ranges many_lists r
     ∙ ap (λ (l : List ℕ). magic ++ l) (all ∙ ap (λ (l : List ℕ). parts ++ l) (sym saved)) in
     let regroup : magic ++ (parts ++ table.safe) ≡ spelling table = simp append_assoc in
     let same_end : lists_end bytes n start ≡ lists_end bytes (u16_at bytes 14) (20 + 6 * u32_at bytes 10) =
-    ap (λ (k : ℕ). lists_end bytes k start) are.lists ∙ ap (λ (k : ℕ). lists_end bytes (u16_at bytes 14) (20 + 6 * k)) are.ranges in
+    (λ i. lists_end bytes (are.lists i) (20 + 6 * are.ranges i)) in
     let same_size : rows_size (u16_at bytes 16) (u16_at bytes 8) + pairs_size (u16_at bytes 8) ≡ rows_size r table.categories + pairs_size table.categories =
-    ap (λ (k : ℕ). rows_size k (u16_at bytes 8) + pairs_size (u16_at bytes 8)) (sym are.rows)
-    ∙ ap (λ (k : ℕ). rows_size r k + pairs_size k) (sym are.categories_are) in
+    (λ i. rows_size (sym are.rows i) (sym are.categories_are i) + pairs_size (sym are.categories_are i)) in
     let rest : length bytes ≡ w + pairs_size table.categories = omega (arith, whole, ends, same_end, same_size) in
     record {
       fitting = record {

@@ -1,5 +1,5 @@
 -- One more block of categories.
-use Rattle.std.proofs.Common.{◌≡◌, ℕ, ◌+◌, ◌-◌, ◌*◌, ◌/◌, ◌%◌, ◌<◌, ◌≤◌, ◌⊎◌, List, [], ◌∷◌, ◌++◌, length, take, drop, get_or, sym, refl, ap, ◌∙◌, subst}
+use Rattle.std.proofs.Common.{◌≡◌, ℕ, ◌+◌, ◌-◌, ◌*◌, ◌/◌, ◌%◌, ◌<◌, ◌≤◌, List, [], ◌∷◌, ◌++◌, length, take, drop, get_or, sym, ap, ◌∙◌}
 use Rattle.std.proofs.Common.{⊎_elim, arith}
 use Rattle.std.specs.Prelude.{slice_range}
 use Rattle.std.proofs.lemmas.Bool.{cases_eq, cases_lt}
@@ -7,7 +7,7 @@ use Rattle.std.proofs.lemmas.List.{get_or_append_left, get_or_push, length_push,
 use Rattle.rbbi_model.specs.Tables.{CategoryRange, category_of}
 use Rattle.rbbi_model.specs.ValidTables.{AreApart}
 use Rattle.rbbi_table.specs.Kept.{start_of, IsUpTo, Holds, in_block, AreFirstBlocks}
-use Rattle.rbbi_table.proofs.RangeLemmas.{category_held, no_range}
+use Rattle.rbbi_table.proofs.RangeLemmas.{category_held}
 
 -- the number of a block that was there before
 old_number : (numbers : List ℕ) (x block : ℕ) → block < length numbers → get_or (numbers ++ x ∷ []) block 0 ≡ get_or numbers block 0

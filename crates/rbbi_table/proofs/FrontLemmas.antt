@@ -1,13 +1,12 @@
 -- The rows that are reached while a look-ahead rule's front hasn't ended.
-use Rattle.std.proofs.Common.{◌≡◌, ◌≢◌, ℕ, suc, zero, ◌+◌, ◌-◌, ◌*◌, ◌<◌, ◌≤◌, ◌⊎◌, Bool, true, false, List, [], ◌∷◌, ◌++◌, length, take, get_or, sym, refl, ap}
+use Rattle.std.proofs.Common.{◌≡◌, ◌≢◌, ℕ, suc, ◌+◌, ◌*◌, ◌<◌, ◌≤◌, ◌⊎◌, Bool, false, List, [], ◌∷◌, ◌++◌, length, take, get_or, sym, ap}
 use Rattle.std.proofs.Common.{◌∙◌, subst, inl, inr, ⊎_elim, arith}
 use Rattle.std.specs.Prelude.{IsTrue}
-use Rattle.std.specs.List.{AllByRecursion}
 use Rattle.std.proofs.lemmas.Bool.{cases_Bool, cases_lt, false≢true}
 use Rattle.std.proofs.lemmas.List.{take-append-le, take_all, length_push}
 use Rattle.rbbi_model.specs.Places.{has_bit}
-use Rattle.rbbi_model.specs.Tables.{Table, RowHead, head_of, accept_of, fronts_of, step, row_along}
-use Rattle.rbbi_model.specs.ValidTables.{IsWay, IsPlain}
+use Rattle.rbbi_model.specs.Tables.{Table, RowHead, accept_of, fronts_of, step, row_along}
+use Rattle.rbbi_model.specs.ValidTables.{IsWay}
 use Rattle.rbbi_model.proofs.Cuts.{no_bit}
 use Rattle.rbbi_model.proofs.SearchFacts.{row_along_append}
 use Rattle.rbbi_table.specs.Parts.{rows_of, AreSteps}
@@ -16,7 +15,7 @@ use Rattle.rbbi_table.specs.Targets.{IsGathered, AddsTarget}
 use Rattle.rbbi_table.proofs.MoveLemmas.{steps_of, steps_long, steps_are, row_end}
 
 -- 0 has no bit
-no_bit_is : (n k : ℕ) → n ≡ 0 → has_bit n k ≡ false
+pub no_bit_is : (n k : ℕ) → n ≡ 0 → has_bit n k ≡ false
 no_bit_is n k none = ⊎_elim (λ is. absurd (no_bit n k none is)) (λ isnt. isnt) (cases_Bool (has_bit n k))
 
 -- the row is reached from row 1 through rows at which the front doesn't end, and it is such a row
@@ -132,13 +131,21 @@ passed_more table slash old new row keeps pass = record {
       pass.goes_on;
 }
 
--- what a cell of a row's next rows is
+-- a cell of a row's next rows is the next row by a category, and a row
+pub record IsCell (width : ℕ) (rows : List RowHead) (cells : List ℕ) (row i : ℕ) : Type 0 where
+  pub low : i < width
+  pub is : get_or (steps_of width cells row) i 0 ≡ step (rows_of width rows cells []) row i
+  pub within : step (rows_of width rows cells []) row i < length rows
+
 pub cell_is : (width : ℕ) (rows : List RowHead) (cells : List ℕ) (row i : ℕ) → AreSteps width rows cells → row < length rows →
-    i < length (steps_of width cells row) →
-    (i < width) × (get_or (steps_of width cells row) i 0 ≡ step (rows_of width rows cells []) row i) × (step (rows_of width rows cells []) row i < length rows)
+    i < length (steps_of width cells row) → IsCell width rows cells row i
 cell_is width rows cells row i steps within short =
     let low : i < width = omega (arith, short, steps_long width cells row (length rows) steps.all within) in
-    (low, steps_are width cells row i low, steps.within (row * width + i) (omega (arith, steps.all, low, row_end row (length rows) width within)))
+    record {
+      low = low;
+      is = steps_are width cells row i low;
+      within = steps.within (row * width + i) (omega (arith, steps.all, low, row_end row (length rows) width within));
+    }
 
 -- one more row in the queue
 pub walk_on : (table : Table) (slash : ℕ) (seen seen' : List Bool) (queue queue' : List ℕ) (target : ℕ) → IsWalk table slash seen queue →
@@ -156,25 +163,3 @@ walk_on table slash seen seen' queue queue' target walk long gathered adds reach
           (λ new. subst (λ r. IsReached table slash r) (sym new) reached)
           (adds.only i short);
     }
-
--- row 1 is reached by no step at all
-pub walk_start : (table : Table) (slash : ℕ) (seen : List Bool) (queue : List ℕ) → length seen ≡ length table.rows → 2 ≤ length table.rows → IsPlain
-    (head_of table 1) → IsGathered seen queue → AddsTarget [] 1 queue → IsWalk table slash seen queue
-walk_start table slash seen queue long some plain gathered adds = record {
-  long = long;
-  gathered = gathered;
-  start = adds.has;
-  reached = λ i short.
-      ⊎_elim
-      (λ old. absurd (omega (arith, old.0)))
-      (λ new. subst (λ r. IsReached table slash r) (sym new) (record {
-        within = omega (arith, some);
-        way = [];
-        is_way = tt;
-        leads = refl;
-        bits = λ earlier most. ap (λ w. has_bit (fronts_of table (row_along table 1 w)) slash) (take_all earlier [] (omega arith)) ∙
-            no_bit_is (fronts_of table 1) slash plain.1;
-        uncompleted = λ is. omega (arith, is, plain.0);
-      }))
-      (adds.only i short);
-}

@@ -1,12 +1,12 @@
 -- Status lists, number by number and list by list.
-use Rattle.std.proofs.Common.{◌≡◌, ℕ, suc, zero, ◌+◌, min, ◌<◌, ◌≤◌, ◌⊎◌, ◌↔◌, List, [], ◌∷◌, length, drop, get_or, sym, refl, ap, ◌∙◌, subst, inl, inr, ⊎_elim}
+use Rattle.std.proofs.Common.{◌≡◌, ℕ, ◌+◌, min, ◌<◌, ◌≤◌, ◌⊎◌, ◌↔◌, List, [], ◌∷◌, length, drop, get_or, sym, ap, subst, ⊎_elim}
 use Rattle.std.proofs.Common.{arith}
 use Rattle.std.proofs.lemmas.Bool.{cases_lt}
 use Rattle.std.proofs.lemmas.List.{drop_more, drop_all}
 use Rattle.std.specs.List.{AllByRecursion}
 use Rattle.rbbi_model.specs.Lists.{IsRising}
 use Rattle.rbbi_model.specs.Rules.{largest_tag}
-use Rattle.rbbi_model.specs.ValidTables.{IsValidList, IsBefore, AreInOrder, BeginsWithZeroAlone, AreValidLists}
+use Rattle.rbbi_model.specs.ValidTables.{IsValidList, IsBefore, AreInOrder, AreValidLists}
 
 -- the numbers rise from the one before them, and the last isn't too large
 abbrev pub RiseFrom : ℕ → List ℕ → Type 0
@@ -33,15 +33,6 @@ valid_where_rise (status ∷ statuses) some few = (
       let parts = is_rising status statuses rise in
       record { some = some; few = few; rising = parts.0; small = (parts.1, parts.2) },
 )
-
-pub rise_on : (previous : ℕ) (statuses : List ℕ) (i : ℕ) → i < length statuses →
-    RiseFrom previous (drop i statuses) ≡ RiseFrom previous (get_or statuses i 0 ∷ drop (i + 1) statuses)
-rise_on previous statuses i short = ap (λ l. RiseFrom previous l) (drop_more statuses i 0 short)
-
-pub before_on : (these those : List ℕ) (i : ℕ) → i < length these → i < length those →
-    IsBefore (drop i these) (drop i those) ≡ IsBefore (get_or these i 0 ∷ drop (i + 1) these) (get_or those i 0 ∷ drop (i + 1) those)
-before_on these those i this that =
-    ap (λ l. IsBefore l (drop i those)) (drop_more these i 0 this) ∙ ap (λ l. IsBefore (get_or these i 0 ∷ drop (i + 1) these) l) (drop_more those i 0 that)
 
 -- each of the lists is valid and comes behind the one before it
 abbrev pub ComeOn : List ℕ → List (List ℕ) → Type 0
@@ -70,14 +61,6 @@ valid_where_come_on (statuses ∷ lists) some few first = (
       let parts = in_order statuses lists on in
       record { some = some; few = few; each = (subst (λ l. IsValidList l) (sym first) zero_alone, parts.1); first = first; in_order = parts.0 },
 )
-
-pub first_is_zero : (lists : List (List ℕ)) → AreValidLists lists → get_or lists 0 [] ≡ 0 ∷ []
-first_is_zero [] valid = absurd valid.first
-first_is_zero (statuses ∷ lists) valid = valid.first
-
-pub come_on : (previous : List ℕ) (lists : List (List ℕ)) (i : ℕ) → i < length lists →
-    ComeOn previous (drop i lists) ≡ ComeOn previous (get_or lists i [] ∷ drop (i + 1) lists)
-come_on previous lists i short = ap (λ l. ComeOn previous l) (drop_more lists i [] short)
 
 nothing_before : (these : List ℕ) → IsBefore these [] → ⊥
 nothing_before [] before = before

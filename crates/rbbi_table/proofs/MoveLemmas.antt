@@ -1,12 +1,12 @@
 -- One more row's moves.
-use Rattle.std.proofs.Common.{◌≡◌, ℕ, ◌+◌, ◌-◌, ◌*◌, ◌<◌, ◌≤◌, List, [], ◌∷◌, ◌++◌, length, take, drop, map, get_or, sym, refl, ap, ◌∙◌, subst, ⊎_elim, arith}
+use Rattle.std.proofs.Common.{◌≡◌, ℕ, ◌+◌, ◌-◌, ◌*◌, ◌<◌, ◌≤◌, List, [], ◌∷◌, ◌++◌, length, take, drop, map, get_or, sym, ap, ◌∙◌, subst, ⊎_elim, arith}
 use Rattle.std.proofs.lemmas.Bool.{cases_eq}
 use Rattle.std.proofs.lemmas.List.{get_or_append_left, get_or-append_right, get_or-take, get_or-drop, get_or-map, length-take, length-drop, length-append}
 use Rattle.std.proofs.lemmas.List.{length-map}
 use Rattle.std.proofs.Math.Nat.{mul-le-mul_right}
-use Rattle.rbbi_model.specs.Tables.{RowHead, Table, empty_head, head_of, step}
+use Rattle.rbbi_model.specs.Tables.{RowHead, Table, empty_head}
 use Rattle.rbbi_table.specs.Parts.{rows_of, AreSteps}
-use Rattle.rbbi_table.specs.Kept.{stride, move_to, move_flags, row_moves, HasMoves, AreFirstMoves}
+use Rattle.rbbi_table.specs.Kept.{move_flags, row_moves, HasMoves, AreFirstMoves}
 
 -- the next rows of a row
 abbrev pub steps_of : ℕ → List ℕ → ℕ → List ℕ
@@ -40,22 +40,29 @@ module _ (categories : ℕ) (rows : List RowHead) (cells moves : List ℕ) (row 
   abbrev own : List ℕ
   own = steps_of categories cells row
 
-  -- the move to a row, in rows of this width
-  abbrev entry : ℕ → ℕ → ℕ
-  entry width next = next * width * 8 + move_flags (get_or rows next empty_head) next
+  abbrev head : RowHead
+  head = get_or rows row empty_head
 
-  abbrev more : ℕ → List ℕ
-  more width = map (λ next. entry width next) own ++ (get_or rows row empty_head).fronts ∷ (get_or rows row empty_head).list ∷
-      (get_or rows row empty_head).accept ∷ []
+  abbrev entry : ℕ → ℕ
+  entry next = next * (categories + 3) * 8 + move_flags (get_or rows next empty_head) next
+
+  abbrev moved : List ℕ
+  moved = map entry own
+
+  abbrev tail : List ℕ
+  tail = head.fronts ∷ head.list ∷ head.accept ∷ []
 
   long : length own ≡ categories
   long = steps_long categories cells row (length rows) steps.all within
 
-  old_row : (width r : ℕ) → r < row → HasMoves grid (moves ++ more width) r
-  old_row width r short =
+  long_moved : length moved ≡ categories
+  long_moved = length-map own entry ∙ long
+
+  old_row : (r : ℕ) → r < row → HasMoves grid (moves ++ (moved ++ tail)) r
+  old_row r short =
       let has = first.rows r short in
       let room = row_end r row (categories + 3) short in
-      let keep = λ (i : ℕ) (inside : i < length moves). get_or_append_left moves (more width) 0 i inside in
+      let keep = λ (i : ℕ) (inside : i < length moves). get_or_append_left moves (moved ++ tail) 0 i inside in
       record {
         each = λ category low. keep (r * (categories + 3) + category) (omega (arith, first.all, room, low)) ∙ has.each category low;
         fronts = keep (r * (categories + 3) + categories) (omega (arith, first.all, room)) ∙ has.fronts;
@@ -64,50 +71,39 @@ module _ (categories : ℕ) (rows : List RowHead) (cells moves : List ℕ) (row 
       }
 
   -- what stands k places behind the rows before
-  behind : (width k : ℕ) → get_or (moves ++ more width) (row * (categories + 3) + k) 0 ≡ get_or (more width) k 0
-  behind width k =
-      get_or-append_right moves (more width) (row * (categories + 3)) (row * (categories + 3) + k) 0 first.all (omega arith)
-      ∙ ap (λ n. get_or (more width) n 0) (let e : row * (categories + 3) + k - row * (categories + 3) ≡ k = omega arith in e)
+  behind : (k : ℕ) → get_or (moves ++ (moved ++ tail)) (row * (categories + 3) + k) 0 ≡ get_or (moved ++ tail) k 0
+  behind k =
+      get_or-append_right moves (moved ++ tail) (row * (categories + 3)) (row * (categories + 3) + k) 0 first.all (omega arith)
+      ∙ ap (λ n. get_or (moved ++ tail) n 0) (let e : row * (categories + 3) + k - row * (categories + 3) ≡ k = omega arith in e)
 
   -- what stands k places behind the moves of the row
-  head_at : (width k : ℕ) → get_or (more width) (categories + k) 0 ≡ get_or
-      ((get_or rows row empty_head).fronts ∷ (get_or rows row empty_head).list ∷ (get_or rows row empty_head).accept ∷ []) k 0
-  head_at width k =
-      let moved : List ℕ = map (λ next. entry width next) own in
-      let tail : List ℕ = (get_or rows row empty_head).fronts ∷ (get_or rows row empty_head).list ∷ (get_or rows row empty_head).accept ∷ [] in
-      get_or-append_right moved tail categories (categories + k) 0 (length-map own (λ next. entry width next) ∙ long) (omega arith)
+  head_at : (k place : ℕ) → place ≡ row * (categories + 3) + (categories + k) → get_or (moves ++ (moved ++ tail)) place 0 ≡ get_or tail k 0
+  head_at k place is =
+      ap (λ n. get_or (moves ++ (moved ++ tail)) n 0) is ∙ behind (categories + k)
+      ∙ get_or-append_right moved tail categories (categories + k) 0 long_moved (omega arith)
       ∙ ap (λ n. get_or tail n 0) (let e : categories + k - categories ≡ k = omega arith in e)
 
-  new_row : HasMoves grid (moves ++ more (categories + 3)) row
+  new_row : HasMoves grid (moves ++ (moved ++ tail)) row
   new_row = record {
     each = λ category low.
-        let moved : List ℕ = map (λ next. entry (categories + 3) next) own in
-        let inside : category < length own = omega (arith, long, low) in
-        behind (categories + 3) category
-        ∙ get_or_append_left moved _ 0 category (omega (arith, inside, length-map own (λ next. entry (categories + 3) next)))
-        ∙ get_or-map (λ next. entry (categories + 3) next) own category 0 0 inside
-        ∙ ap (λ next. entry (categories + 3) next) (steps_are categories cells row category low);
-    fronts = ap (λ n. get_or (moves ++ more (categories + 3)) n 0) (let e : row * (categories + 3) + categories ≡ row * (categories + 3) + (categories + 0) =
-        omega arith in e) ∙ behind (categories + 3) (categories + 0) ∙ head_at (categories + 3) 0;
-    list = ap (λ n. get_or (moves ++ more (categories + 3)) n 0) (let e : row * (categories + 3) + categories + 1 ≡ row * (categories + 3) + (categories + 1) =
-        omega arith in e) ∙ behind (categories + 3) (categories + 1) ∙ head_at (categories + 3) 1;
-    accept = ap (λ n. get_or (moves ++ more (categories + 3)) n 0) (let e : row * (categories + 3) + categories + 2 ≡ row * (categories + 3) +
-        (categories + 2) = omega arith in e) ∙ behind (categories + 3) (categories + 2) ∙ head_at (categories + 3) 2;
+        behind category
+        ∙ get_or_append_left moved tail 0 category (omega (arith, low, long_moved))
+        ∙ get_or-map entry own category 0 0 (omega (arith, long, low))
+        ∙ ap entry (steps_are categories cells row category low);
+    fronts = head_at 0 _ (omega arith);
+    list = head_at 1 _ (omega arith);
+    accept = head_at 2 _ (omega arith);
   }
 
-  more_moves : AreFirstMoves grid (moves ++ more (categories + 3)) (row + 1)
+  more_moves : AreFirstMoves grid (moves ++ (moved ++ tail)) (row + 1)
   more_moves = record {
-    all =
-        let moved : List ℕ = map (λ next. entry (categories + 3) next) own in
-        let one = length-append moves (more (categories + 3)) in
-        let two = length-append moved ((get_or rows row empty_head).fronts ∷ (get_or rows row empty_head).list ∷ (get_or rows row empty_head).accept ∷ []) in
-        omega (arith, one, two, length-map own (λ next. entry (categories + 3) next), long, first.all);
+    all = omega (arith, length-append moves (moved ++ tail), length-append moved tail, long_moved, first.all);
     rows = λ r short.
         ⊎_elim
-        (λ same. subst (λ n. HasMoves grid (moves ++ more (categories + 3)) n) (sym same) new_row)
-        (λ other. old_row (categories + 3) r (omega arith))
+        (λ same. subst (λ n. HasMoves grid (moves ++ (moved ++ tail)) n) (sym same) new_row)
+        (λ other. old_row r (omega arith))
         (cases_eq r row);
   }
 
-  pub push_moves : AreFirstMoves grid (moves ++ row_moves (length own + 3) rows own (get_or rows row empty_head)) (row + 1)
-  push_moves = subst (λ n. AreFirstMoves grid (moves ++ row_moves (n + 3) rows own (get_or rows row empty_head)) (row + 1)) (sym long) more_moves
+  pub push_moves : AreFirstMoves grid (moves ++ row_moves (length own + 3) rows own head) (row + 1)
+  push_moves = subst (λ n. AreFirstMoves grid (moves ++ row_moves (n + 3) rows own head) (row + 1)) (sym long) more_moves

@@ -1,7 +1,7 @@
 -- The bits of the first pairs.
-use Rattle.std.proofs.Common.{◌≡◌, ◌≢◌, ℕ, ◌+◌, ◌*◌, ◌/◌, ◌%◌, ◌<◌, ◌≤◌, ◌⊎◌, ◌↔◌, Bool, true, false, cond, eqb, IsTrue, List, [], length, get_or, sym, refl}
+use Rattle.std.proofs.Common.{◌≡◌, ◌≢◌, ℕ, ◌+◌, ◌*◌, ◌/◌, ◌<◌, ◌≤◌, ◌↔◌, true, cond, eqb, IsTrue, List, [], length, get_or, sym}
 use Rattle.std.proofs.Common.{ap, ◌∙◌, subst, ⊎_elim, arith}
-use Rattle.std.proofs.lemmas.Bool.{cases_eq, cases_lt, cond-true, cond-false, eq-eqb, ne_eqb, false≢true}
+use Rattle.std.proofs.lemmas.Bool.{cases_eq, cases_lt, cond-true, cond-false, eq-eqb, ne_eqb}
 use Rattle.rbbi_model.specs.Tables.{Table, RowHead, step}
 use Rattle.rbbi_model.specs.SafePairs.{IsSafePair, stored_bit}
 use Rattle.rbbi_table.specs.Parts.{rows_of, AreSteps}
@@ -32,10 +32,6 @@ safe_where_one table first second targets are = (
   ),
 )
 
--- rows before another take no more room than those before the next
-row_after : (row count width : ℕ) → row < count → row * width + width ≤ count * width
-row_after row count width short = row_end row count width short
-
 -- two pairs with one number are the same
 same_pair : (width first second first' second' : ℕ) → second < width → second' < width → first * width + second ≡ first' * width + second' → (first ≡ first') ×
     (second ≡ second')
@@ -44,8 +40,8 @@ same_pair width first second first' second' low low' is =
     (λ same. (same, omega (arith, is, ap (λ n. n * width) same)))
     (λ other.
     ⊎_elim
-    (λ less. absurd (omega (arith, is, row_after first first' width less, low, low')))
-    (λ most. absurd (omega (arith, is, row_after first' first width (let e : first' < first = omega arith in e), low, low')))
+    (λ less. absurd (omega (arith, is, row_end first first' width less, low, low')))
+    (λ most. absurd (omega (arith, is, row_end first' first width (let e : first' < first = omega arith in e), low, low')))
     (cases_lt first first'))
     (cases_eq first first')
 
@@ -97,9 +93,9 @@ pub targets_within : (width : ℕ) (rows : List RowHead) (cells : List ℕ) (cat
     (i : ℕ) → i < length targets → get_or targets i 0 * width + second < length cells
 targets_within width rows cells category second targets steps are low second_low i short =
     let from = are.only i short in
-    let place : from.0 * width + category < length cells = omega (arith, row_after from.0 (length rows) width from.1, low, steps.all) in
+    let place : from.0 * width + category < length cells = omega (arith, row_end from.0 (length rows) width from.1, low, steps.all) in
     let row : get_or targets i 0 < length rows = omega (arith, from.3, steps.within (from.0 * width + category) place) in
-    omega (arith, row_after (get_or targets i 0) (length rows) width row, second_low, steps.all)
+    omega (arith, row_end (get_or targets i 0) (length rows) width row, second_low, steps.all)
 
 pub all_pairs : (width : ℕ) (rows : List RowHead) (cells bytes : List ℕ) → length bytes ≡ (width * width + 7) / 8 →
     AreFirstPairs (rows_of width rows cells []) bytes (width * width) → ArePairsOf (rows_of width rows cells bytes)
@@ -107,7 +103,7 @@ all_pairs width rows cells bytes long pairs = record {
   all = long;
   pairs = record {
     exactly = λ first second first_low second_low. pairs.exactly first second first_low second_low
-        (omega (arith, row_after first width width first_low, second_low));
+        (omega (arith, row_end first width width first_low, second_low));
     filling = λ i past short. pairs.none i past;
   };
 }

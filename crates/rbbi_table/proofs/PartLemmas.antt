@@ -1,39 +1,52 @@
 -- A table whose parts are all valid, and the stored bits against those of the rows.
-use Rattle.std.proofs.Common.{◌≡◌, ◌≢◌, ℕ, suc, zero, ◌+◌, ◌*◌, ◌/◌, ◌%◌, ◌^◌, ◌<◌, ◌≤◌, ◌⊎◌, ◌↔◌, Bool, true, false, eqb, IsTrue, List, [], ◌∷◌, length}
-use Rattle.std.proofs.Common.{get_or, sym, refl, ap, ◌∙◌, subst, inl, inr, ⊎_elim, arith}
+use Rattle.std.proofs.Common.{◌≡◌, ℕ, suc, zero, ◌+◌, ◌*◌, ◌/◌, ◌%◌, ◌<◌, eqb, List, [], ◌∷◌, length}
+use Rattle.std.proofs.Common.{get_or, sym, ap, ◌∙◌, subst, ⊎_elim, arith}
 use Rattle.std.specs.List.{AllByRecursion}
 use Rattle.std.specs.Int.{bit_at}
-use Rattle.std.proofs.lemmas.Bool.{cases_Bool, cases_lt, false≢true, eqb-true, eq-eqb}
+use Rattle.std.proofs.lemmas.Bool.{cases_lt}
+use Rattle.std.proofs.lemmas.Bool.Decides.{nat_tests, same_from_decides}
 use Rattle.std.proofs.lemmas.List.{ext_get_or}
 use Rattle.std.proofs.lemmas.Nat.Bits.{same_from_bits_below, bit_at-lt}
 use Rattle.std.proofs.Math.Nat.{div-lt_iff_lt-mul}
 use Rattle.rbbi_model.specs.Places.{has_bit}
-use Rattle.rbbi_model.specs.Tables.{Table, RowHead}
-use Rattle.rbbi_model.specs.SafePairs.{IsSafePair, stored_bit}
+use Rattle.rbbi_model.specs.Tables.{Table}
+use Rattle.rbbi_model.specs.SafePairs.{stored_bit}
 use Rattle.rbbi_model.specs.ValidTables.{AreValidRanges, AreValidLists, AreValidRows, AreFronted, AreValidSafePairs, IsValidTable}
 use Rattle.rbbi_table.specs.Parts.{HasFittingParts, rows_of}
 use Rattle.rbbi_table.specs.Targets.{ArePairsOf}
 use Rattle.rbbi_table.specs.Kept.{AreBlocks, AreMoves, IsKept}
-use Rattle.rbbi_table.proofs.BitLemmas.{has_bit_is, below_two}
+use Rattle.rbbi_table.proofs.BitLemmas.{has_bit_is}
 
 pub all_bytes : (bytes : List ℕ) → ((i : ℕ) → get_or bytes i 0 < 256) → AllByRecursion (λ byte. byte < 256) bytes
 all_bytes [] small = tt
 all_bytes (byte ∷ bytes) small = (small zero, all_bytes bytes (λ i. small (suc i)))
 
-pub valid_table : (table : Table) → HasFittingParts table → ((i : ℕ) → get_or table.safe i 0 < 256) → AreValidRanges table.categories table.ranges →
-    AreValidLists table.lists → AreValidRows table → AreFronted table → AreValidSafePairs table → IsValidTable table
-valid_table table fitting small ranges lists rows fronts safe = record {
-  well_formed = record { cells = fitting.cells; safe = fitting.safe; bytes = all_bytes table.safe small };
-  ranges = ranges;
-  lists = lists;
-  rows = rows;
-  fronts = fronts;
-  safe = safe;
-}
+-- the parts of a table before its safe pairs are valid, and the bytes are those of the safe pairs of its rows
+pub record AreChecked (table : Table) (bytes : List ℕ) : Type 0 where
+  pub ranges : AreValidRanges table.categories table.ranges
+  pub lists : AreValidLists table.lists
+  pub rows : AreValidRows table
+  pub fronts : AreFronted table
+  pub pairs : ArePairsOf (rows_of table.categories table.rows table.cells bytes)
+  pub small : (i : ℕ) → get_or bytes i 0 < 256
+  pub stored : (i : ℕ) → get_or table.safe i 0 < 256
 
-pub kept_of : (table : Table) (numbers kept moves : List ℕ) → IsValidTable table → AreBlocks table.ranges numbers kept →
+-- the table is valid where these bytes are stored
+pub valid_table : {table : Table} {bytes : List ℕ} → HasFittingParts table → AreChecked table bytes → bytes ≡ table.safe → IsValidTable table
+valid_table {table} {bytes} fitting checked same =
+    let own = subst (λ (l : List ℕ). ArePairsOf (rows_of table.categories table.rows table.cells l)) same checked.pairs in
+    record {
+      well_formed = record { cells = fitting.cells; safe = fitting.safe; bytes = all_bytes table.safe checked.stored };
+      ranges = checked.ranges;
+      lists = checked.lists;
+      rows = checked.rows;
+      fronts = checked.fronts;
+      safe = record { exactly = own.pairs.exactly; filling = own.pairs.filling };
+    }
+
+pub kept_of : {table : Table} {numbers kept moves : List ℕ} → IsValidTable table → AreBlocks table.ranges numbers kept →
     AreMoves (rows_of table.categories table.rows table.cells []) moves → IsKept table numbers kept moves
-kept_of table numbers kept moves valid blocks own = record {
+kept_of valid blocks own = record {
   valid = valid;
   in_blocks = blocks;
   in_moves = record {
@@ -44,23 +57,12 @@ kept_of table numbers kept moves valid blocks own = record {
   };
 }
 
-same_bool : (a b : Bool) → (IsTrue a → IsTrue b) → (IsTrue b → IsTrue a) → a ≡ b
-same_bool true true to from = refl
-same_bool false false to from = refl
-same_bool true false to from = absurd (false≢true (to refl))
-same_bool false true to from = absurd (false≢true (from refl))
-
 same_bit : (m n k : ℕ) → has_bit m k ≡ has_bit n k → bit_at m k ≡ bit_at n k
 same_bit m n k is =
     let same : eqb (bit_at m k) 1 ≡ eqb (bit_at n k) 1 = sym (has_bit_is m k) ∙ is ∙ has_bit_is n k in
-    ⊎_elim
-    (λ none.
-    ⊎_elim
-    (λ also. none ∙ sym also)
-    (λ one. absurd (omega (arith, none, eqb-true (bit_at m k) 1 (same ∙ eq-eqb (bit_at n k) 1 one))))
-    (below_two (bit_at n k) (bit_at-lt n k)))
-    (λ one. one ∙ sym (eqb-true (bit_at n k) 1 (sym same ∙ eq-eqb (bit_at m k) 1 one)))
-    (below_two (bit_at m k) (bit_at-lt m k))
+    let low = bit_at-lt m k in
+    let low' = bit_at-lt n k in
+    grind (arith, nat_tests)
 
 -- lists of bytes with the same bits are the same
 same_bytes : (these those : List ℕ) → length these ≡ length those → ((i : ℕ) → get_or these i 0 < 256) → ((i : ℕ) → get_or those i 0 < 256) →
@@ -77,11 +79,12 @@ same_bytes these those long small small' bits =
     ap (λ n. has_bit (get_or those n 0) (i % 8)) byte ∙ ap (λ n. has_bit (get_or those k 0) n) bit)))
 
 -- the stored bytes are those of the rows where the stored bits are valid
-pub stored_are : (table : Table) (bytes : List ℕ) → 1 ≤ table.categories → HasFittingParts table → ((i : ℕ) → get_or bytes i 0 < 256) →
-    ((i : ℕ) → get_or table.safe i 0 < 256) → ArePairsOf (rows_of table.categories table.rows table.cells bytes) → AreValidSafePairs table → bytes ≡ table.safe
-stored_are table bytes some fitting small small' pairs stored =
+pub stored_are : {table : Table} {bytes : List ℕ} → HasFittingParts table → AreChecked table bytes → AreValidSafePairs table → bytes ≡ table.safe
+stored_are {table} {bytes} fitting checked stored =
+    let pairs = checked.pairs in
+    let some = checked.ranges.some_categories in
     let long : length bytes ≡ length table.safe = pairs.all ∙ sym fitting.safe in
-    same_bytes bytes table.safe long small small' (λ i short.
+    same_bytes bytes table.safe long checked.small checked.stored (λ i short.
     ⊎_elim
     (λ inside.
     let first : ℕ = i / table.categories in
@@ -91,19 +94,7 @@ stored_are table bytes some fitting small small' pairs stored =
     let first_low : first < table.categories = (div-lt_iff_lt-mul (let e : 0 < table.categories = omega arith in e)).1 inside in
     let own = pairs.pairs.exactly first second first_low low in
     let other = stored.exactly first second first_low low in
-    let same : stored_bit bytes (first * table.categories + second) ≡ stored_bit table.safe (first * table.categories + second) =
-    same_bool (stored_bit bytes (first * table.categories + second)) (stored_bit table.safe (first * table.categories + second)) (λ is. other.1 (own.0 is))
-    (λ is. own.1 (other.0 is)) in
-    subst (λ n. stored_bit bytes n ≡ stored_bit table.safe n) split same)
-    (λ past.
-    same_bool (stored_bit bytes i) (stored_bit table.safe i)
-    (λ is. absurd (pairs.pairs.filling i past short is))
-    (λ is. absurd (stored.filling i past (omega (arith, short, long)) is)))
+    subst (λ n. stored_bit bytes n ≡ stored_bit table.safe n) split (same_from_decides _ _ own other))
+    (λ past. same_from_decides {P = ⊥} _ _ (pairs.pairs.filling i past short, λ none. absurd none)
+    (stored.filling i past (omega (arith, short, long)), λ none. absurd none))
     (cases_lt i (table.categories * table.categories)))
-
--- bytes that are those of the rows are valid where they are stored
-pub pairs_valid : (table : Table) (bytes : List ℕ) → bytes ≡ table.safe → ArePairsOf (rows_of table.categories table.rows table.cells bytes) →
-    AreValidSafePairs table
-pairs_valid table bytes same pairs =
-    let own = subst (λ (l : List ℕ). ArePairsOf (rows_of table.categories table.rows table.cells l)) same pairs in
-    record { exactly = own.pairs.exactly; filling = own.pairs.filling }

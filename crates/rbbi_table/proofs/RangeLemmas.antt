@@ -1,11 +1,11 @@
 -- Ranges that rise: which of them holds a code point, and whether all of them are valid.
-use Rattle.std.proofs.Common.{◌≡◌, ◌≢◌, ℕ, suc, zero, ◌+◌, ◌<◌, ◌≤◌, ◌↔◌, leb, List, [], ◌∷◌, length, drop, get_or, sym, refl, ap, ◌∙◌, subst, arith}
+use Rattle.std.proofs.Common.{◌≡◌, ℕ, suc, zero, ◌+◌, ◌<◌, ◌≤◌, ◌↔◌, leb, List, [], ◌∷◌, length, drop, get_or, ap, ◌∙◌, subst, arith}
 use Rattle.std.proofs.lemmas.Bool.{cond-true, cond-false, le-leb, lt-leb}
 use Rattle.std.proofs.lemmas.List.{drop_more}
 use Rattle.std.specs.List.{AllByRecursion}
 use Rattle.rbbi_model.specs.Tables.{CategoryRange, category_from, category_of}
-use Rattle.rbbi_model.specs.ValidTables.{StartsAtZero, AreApart, IsWithin, AreValidRanges}
-use Rattle.rbbi_table.specs.Kept.{GoesOn, start_of, IsUpTo, Holds}
+use Rattle.rbbi_model.specs.ValidTables.{AreApart, IsWithin, AreValidRanges}
+use Rattle.rbbi_table.specs.Kept.{GoesOn, start_of, Holds}
 
 abbrev pub no_range : CategoryRange
 no_range = record { start = 0; category = 0 }
@@ -83,31 +83,17 @@ valid_where_go_on categories (range ∷ ranges) some few one starts within = (
       },
 )
 
-pub no_ranges_where_zero : (categories : ℕ) (ranges : List CategoryRange) → AreValidRanges categories ranges → ((get_or ranges 0 no_range).start ≡ 0) ×
-    ((get_or ranges 0 no_range).category < categories)
-no_ranges_where_zero categories [] valid = absurd valid.from_zero
-no_ranges_where_zero categories (range ∷ ranges) valid = (valid.from_zero, valid.within.0.1)
-
 -- one step along the ranges
 pub goes_on : (categories : ℕ) (previous : CategoryRange) (ranges : List CategoryRange) (i : ℕ) → i < length ranges →
     GoOn categories previous (drop i ranges) ≡ GoOn categories previous (get_or ranges i no_range ∷ drop (i + 1) ranges)
 goes_on categories previous ranges i short = ap (λ l. GoOn categories previous l) (drop_more ranges i no_range short)
 
-climb : (range : CategoryRange) (ranges : List CategoryRange) (k : ℕ) → AreApart (range ∷ ranges) → k < length (range ∷ ranges) →
-    range.start + k ≤ start_of (range ∷ ranges) k
-climb range ranges zero apart short = omega arith
-climb range [] (suc k) apart short = absurd (omega (arith, short))
-climb range (next ∷ ranges) (suc k) apart short = let further = climb next ranges k apart.2 (omega (arith, short)) in omega (arith, further, apart.0)
+few_from : (categories : ℕ) (range : CategoryRange) (ranges : List CategoryRange) → AreApart (range ∷ ranges) →
+    AllByRecursion (IsWithin categories) (range ∷ ranges) → range.start + length (range ∷ ranges) ≤ 1114112
+few_from categories range [] apart within = omega (arith, within.0.0)
+few_from categories range (next ∷ ranges) apart within = omega (arith, apart.0, few_from categories next ranges apart.2 within.1)
 
-start_small : (categories : ℕ) (ranges : List CategoryRange) (k : ℕ) → AllByRecursion (IsWithin categories) ranges → k < length ranges →
-    start_of ranges k ≤ 1114111
-start_small categories [] k within short = absurd (omega (arith, short))
-start_small categories (range ∷ ranges) zero within short = within.0.0
-start_small categories (range ∷ ranges) (suc k) within short = start_small categories ranges k within.1 (omega (arith, short))
-
--- there are no more ranges than code points
+-- starts rise, so there are no more ranges than code points
 pub few_ranges : (categories : ℕ) (ranges : List CategoryRange) → AreValidRanges categories ranges → length ranges ≤ 1114112
 few_ranges categories [] valid = omega arith
-few_ranges categories (range ∷ ranges) valid =
-    let last : ℕ = length ranges in
-    omega (arith, climb range ranges last valid.apart (omega arith), start_small categories (range ∷ ranges) last valid.within (omega arith))
+few_ranges categories (range ∷ ranges) valid = omega (arith, few_from categories range ranges valid.apart valid.within)

@@ -1,12 +1,12 @@
 -- What is checked of each row, and what it says of all.
-use Rattle.std.proofs.Common.{◌≡◌, ◌≢◌, ℕ, ◌+◌, ◌-◌, ◌*◌, ◌/◌, ◌%◌, ◌^◌, ◌<◌, ◌≤◌, ◌⊎◌, ◌↔◌, List, [], ◌∷◌, length, take, drop, get_or, sym, refl, ap, ◌∙◌}
+use Rattle.std.proofs.Common.{◌≡◌, ℕ, ◌+◌, ◌*◌, ◌/◌, ◌%◌, ◌<◌, ◌≤◌, ◌⊎◌, ◌↔◌, List, [], ◌∷◌, length, get_or, sym, refl, ap, ◌∙◌}
 use Rattle.std.proofs.Common.{subst, inl, inr, ⊎_elim, arith}
 use Rattle.std.proofs.lemmas.Bool.{cases_eq}
 use Rattle.std.proofs.Math.Nat.{div-lt_iff_lt-mul}
 use Rattle.rbbi_model.specs.Tables.{Table, RowHead, empty_head, head_of, accept_of, step, row_along}
 use Rattle.rbbi_model.specs.ValidTables.{IsValidRow, LeadsToZero, AreValidRows, IsPlain, IsWay, AreFronted}
 use Rattle.rbbi_table.specs.Parts.{rows_of, AreSteps}
-use Rattle.rbbi_table.specs.Rows.{IsValidHead, IsValidEntry}
+use Rattle.rbbi_table.specs.Rows.{IsValidEntry}
 use Rattle.rbbi_table.specs.Fronts.{IsFronted}
 use Rattle.rbbi_table.proofs.MoveLemmas.{steps_of, steps_long, steps_are}
 
@@ -83,21 +83,22 @@ entry_of table rows cells lists row same_rows same_cells same_lists =
 some_of_product : (count width i : ℕ) → i < count * width → 0 < width
 some_of_product count width i short = ⊎_elim (λ none. absurd (omega (arith, short, ap (λ n. count * n) none))) (λ other. omega arith) (cases_eq width 0)
 
--- the next rows of valid rows are rows
-pub steps_within : (table : Table) → length table.cells ≡ length table.rows * table.categories → AreValidRows table →
-    AreSteps table.categories table.rows table.cells
-steps_within table all valid = record {
-  all = all;
-  within = λ i short.
-      let place : i < length table.rows * table.categories = omega (arith, short, all) in
-      let some : 0 < table.categories = some_of_product (length table.rows) table.categories i place in
-      let row : ℕ = i / table.categories in
-      let category : ℕ = i % table.categories in
-      let low : category < table.categories = omega arith in
-      let split : row * table.categories + category ≡ i = omega arith in
-      let inside : row < length table.rows = (div-lt_iff_lt-mul some).1 place in
-      subst (λ n. get_or table.cells n 0 < length table.rows) split ((valid.each row inside).next category low);
-}
+-- the next rows of valid rows are rows, over lists that are the table's
+pub steps_within : (table : Table) (rows : List RowHead) (cells : List ℕ) → rows ≡ table.rows → cells ≡ table.cells →
+    length table.cells ≡ length table.rows * table.categories → AreValidRows table → AreSteps table.categories rows cells
+steps_within table rows cells same_rows same_cells all valid =
+    let width : ℕ = table.categories in
+    let steps : AreSteps width table.rows table.cells = record {
+      all = all;
+      within = λ i short.
+          let place : i < length table.rows * width = omega (arith, short, all) in
+          let some : 0 < width = some_of_product (length table.rows) width i place in
+          let split : i / width * width + i % width ≡ i = omega arith in
+          let inside : i / width < length table.rows = (div-lt_iff_lt-mul some).1 place in
+          subst (λ n. get_or table.cells n 0 < length table.rows) split ((valid.each (i / width) inside).next (i % width) (omega arith));
+    } in
+    subst (λ (rs : List RowHead). AreSteps width rs cells) (sym same_rows)
+    (subst (λ (cs : List ℕ). AreSteps width table.rows cs) (sym same_cells) steps)
 
 -- the front of one look-ahead rule, over lists that are the table's
 pub front_of : (table : Table) (rows : List RowHead) (cells : List ℕ) (slash : ℕ) → rows ≡ table.rows → cells ≡ table.cells →

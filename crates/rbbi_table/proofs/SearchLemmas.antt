@@ -1,9 +1,9 @@
 -- One search, character by character.
 use Rattle.std.proofs.Common.{◌≡◌, ◌≢◌, ℕ, suc, zero, ◌+◌, ◌-◌, ◌*◌, ◌/◌, ◌%◌, ◌<◌, ◌≤◌, ◌⊎◌, Bool, true, false, ◌&&◌, cond, ltb, eqb, List, Option, Some, None}
-use Rattle.std.proofs.Common.{length, take, drop, map, get_or, sym, refl, ap, ◌∙◌, subst, inl, inr, ⊎_elim, arith}
-use Rattle.std.specs.Prelude.{unwrap_or, IsTrue, IsSome}
-use Rattle.std.proofs.lemmas.Bool.{cases_Bool, cases_lt, cases_eq, cond-true, cond-false, and_from, and_parts, lt-ltb, ltb-true, eq-eqb, ne_eqb, false≢true}
-use Rattle.rbbi_model.specs.Places.{least_from, greatest_below, has_bit}
+use Rattle.std.proofs.Common.{length, take, drop, map, get_or, sym, refl, ap, ◌∙◌, inl, inr, ⊎_elim, arith}
+use Rattle.std.specs.Prelude.{unwrap_or, IsSome}
+use Rattle.std.proofs.lemmas.Bool.{cases_Bool, cases_lt, cases_eq, cond-true, cond-false, and_from, lt-ltb, ltb-true, false≢true}
+use Rattle.rbbi_model.specs.Places.{greatest_below, has_bit}
 use Rattle.rbbi_model.specs.Tables.{Table, accept_of, fronts_of, list_of, category_of, row_along, completes, stops}
 use Rattle.rbbi_model.specs.ValidTables.{IsValidTable}
 use Rattle.rbbi_model.specs.Searches.{Found, row_at, search_end, look_end, cut_place, longest_place, found_longest, found}
@@ -59,71 +59,57 @@ last_on test at place place' last cases q is =
     (λ no. no.1 ∙ last q (sym (cond-false (test (suc at)) (Some (suc at)) (greatest_below test (suc at)) no.0) ∙ is))
     cases
 
--- what a step says of the last end
-abbrev pub EndsOn : Table → ℕ → ℕ → ℕ → ℕ → ℕ → ℕ → ℕ → Type 0
-EndsOn table next at row' end end' end_row end_row' =
-    ((accept_of table next ≡ 1) × (end' ≡ suc at) × (end_row' ≡ row')) ⊎ ((accept_of table next ≢ 1) × (end' ≡ end) × (end_row' ≡ end_row))
-
-pub ended_on : (table : Table) (x : List ℕ) (s at row' end end' end_row end_row' : ℕ) → s ≤ at → row' ≡ row_at table x s (suc at) * stride table →
-    IsEnd table x s at end end_row →
-    EndsOn table (row_at table x s (suc at)) at row' end end' end_row end_row' → IsEnd table x s (suc at) end' end_row'
-ended_on table x s at row' end end' end_row end_row' from row_is ended on =
-    let next : ℕ = row_at table x s (suc at) in
-    let rest : Option ℕ = greatest_below (ends_at table x s) (suc at) in
-    ⊎_elim
-    (λ yes.
-    let holds : ends_at table x s (suc at) ≡ true = and_from (ltb s (suc at)) (eqb (accept_of table next) 1) (lt-ltb s (suc at) (omega arith))
-    (eq-eqb (accept_of table next) 1 yes.0) in
-    inr (
-      omega (arith, yes.1),
-      yes.2 ∙ row_is ∙ ap (λ q. row_at table x s q * stride table) (sym yes.1),
-      cond-true (ends_at table x s (suc at)) (Some (suc at)) rest holds ∙ ap (λ (q : ℕ). Some q) (sym yes.1),
-    ))
-    (λ no.
-    let fails : ends_at table x s (suc at) ≡ false = and_false (ltb s (suc at)) (eqb (accept_of table next) 1) (ne_eqb (accept_of table next) 1 no.0) in
-    let same : greatest_below (ends_at table x s) (suc (suc at)) ≡ rest = cond-false (ends_at table x s (suc at)) (Some (suc at)) rest fails in
-    ⊎_elim
-    (λ none. inl (no.1 ∙ none.0, no.2 ∙ none.1, same ∙ none.2))
-    (λ some. inr (
-      omega (arith, some.0, no.1),
-      no.2 ∙ some.1 ∙ ap (λ q. row_at table x s q * stride table) (sym no.1),
-      same ∙ some.2 ∙
-          ap (λ (q : ℕ). Some q) (sym no.1),
-    ))
-    ended)
-    on
+-- each front that ends at the row has the next place noted
+abbrev pub Noted : Table → ℕ → ℕ → List ℕ → List ℕ → Type 0
+Noted table row at places places' = (k : ℕ) → k < table.slashes → get_or places' k 0 ≡ cond (has_bit (fronts_of table row) k) (suc at) (get_or places k 0)
 
 module _ (table : Table) (x : List ℕ) (s : ℕ) where
+  -- some rule ends at the next place
+  pub ended_here : (at end end_row : ℕ) → s ≤ at → eqb (accept_of table (row_at table x s (suc at))) 1 ≡ true → end ≡ suc at →
+      end_row ≡ row_at table x s (suc at) * stride table → IsEnd table x s (suc at) end end_row
+  ended_here at end end_row from is end_is row_is =
+      let holds : ends_at table x s (suc at) ≡ true = and_from (ltb s (suc at)) (eqb (accept_of table (row_at table x s (suc at))) 1)
+      (lt-ltb s (suc at) (omega arith)) is in
+      inr (
+        omega (arith, end_is),
+        row_is ∙ ap (λ q. row_at table x s q * stride table) (sym end_is),
+        cond-true (ends_at table x s (suc at)) (Some (suc at)) (greatest_below (ends_at table x s) (suc at)) holds ∙ ap (λ (q : ℕ). Some q) (sym end_is),
+      )
+
+  -- none does
+  pub ended_before : (at end end_row : ℕ) → eqb (accept_of table (row_at table x s (suc at))) 1 ≡ false → IsEnd table x s at end end_row →
+      IsEnd table x s (suc at) end end_row
+  ended_before at end end_row isnt ended =
+      let fails : ends_at table x s (suc at) ≡ false = and_false (ltb s (suc at)) (eqb (accept_of table (row_at table x s (suc at))) 1) isnt in
+      let rest : Option ℕ = greatest_below (ends_at table x s) (suc at) in
+      let same : greatest_below (ends_at table x s) (suc (suc at)) ≡ rest = cond-false (ends_at table x s (suc at)) (Some (suc at)) rest fails in
+      ⊎_elim (λ none. inl (none.0, none.1, same ∙ none.2)) (λ some. inr (some.0, some.1, same ∙ some.2)) ended
+
   -- a step on to a row at which the search doesn't stop
   pub search_on : (at row row' end end' end_row end_row' : ℕ) (places places' : List ℕ) → IsSearch table x s at row end end_row places → at < length x →
-      row' ≡ row_at table x s (suc at) * stride table → stops table (row_at table x s (suc at)) ≡ false →
-      EndsOn table (row_at table x s (suc at)) at row' end end' end_row end_row' →
-      ((k : ℕ) → k < table.slashes → get_or places' k 0 ≡ cond (has_bit (fronts_of table (row_at table x s (suc at))) k) (suc at) (get_or places k 0)) →
-      IsSearch table x s (suc at) row' end' end_row' places'
-  search_on at row row' end end' end_row end_row' places places' searched short row_is going on noted =
-      let next : ℕ = row_at table x s (suc at) in
-      record {
-        from = omega (arith, searched.from);
-        to = omega arith;
-        row_is = row_is;
-        going = λ z past up_to.
-            ⊎_elim
-            (λ same. ap (λ q. stops table (row_at table x s q)) same ∙ going)
-            (λ other. searched.going z past (omega arith))
-            (cases_eq z (suc at));
-        ended = ended_on table x s at row' end end' end_row end_row' searched.from row_is searched.ended on;
-        fronts = λ k low.
-            let bit : Bool = has_bit (fronts_of table next) k in
-            last_on (front_at table x s k) at (get_or places k 0) (get_or places' k 0) (searched.fronts k low)
-            (⊎_elim
-            (λ is. inl (
-              and_from (ltb s (suc at)) bit (lt-ltb s (suc at) (omega (arith, searched.from))) is,
-              noted k low ∙
-                  cond-true bit (suc at) (get_or places k 0) is,
-            ))
-            (λ isnt. inr (and_false (ltb s (suc at)) bit isnt, noted k low ∙ cond-false bit (suc at) (get_or places k 0) isnt))
-            (cases_Bool bit));
-      }
+      row' ≡ row_at table x s (suc at) * stride table → stops table (row_at table x s (suc at)) ≡ false → IsEnd table x s (suc at) end' end_row' →
+      Noted table (row_at table x s (suc at)) at places places' → IsSearch table x s (suc at) row' end' end_row' places'
+  search_on at row row' end end' end_row end_row' places places' searched short row_is going ended noted = record {
+    from = omega (arith, searched.from);
+    to = omega arith;
+    row_is = row_is;
+    going = λ z past up_to.
+        ⊎_elim
+        (λ same. ap (λ q. stops table (row_at table x s q)) same ∙ going)
+        (λ other. searched.going z past (omega arith))
+        (cases_eq z (suc at));
+    ended = ended;
+    fronts = λ k low.
+        let bit : Bool = has_bit (fronts_of table (row_at table x s (suc at))) k in
+        last_on (front_at table x s k) at (get_or places k 0) (get_or places' k 0) (searched.fronts k low)
+        (⊎_elim
+        (λ is. inl (
+          and_from (ltb s (suc at)) bit (lt-ltb s (suc at) (omega (arith, searched.from))) is,
+          noted k low ∙ cond-true bit (suc at) (get_or places k 0) is,
+        ))
+        (λ isnt. inr (and_false (ltb s (suc at)) bit isnt, noted k low ∙ cond-false bit (suc at) (get_or places k 0) isnt))
+        (cases_Bool bit));
+  }
 
   -- a search ends at the first place at which it stops
   pub stops_first : (at row end end_row : ℕ) (places : List ℕ) → IsSearch table x s at row end end_row places → at < length x →
@@ -234,62 +220,7 @@ pub record IsDecoded (cell place : ℕ) (ends plain stop : Bool) : Type 0 where
 
 pub decoded : (cell place : ℕ) (ends plain stop : Bool) → cell ≡ place * 8 + (cond ends 1 0 + cond plain 0 2 + cond stop 4 0) → IsDecoded cell place ends plain
     stop
-decoded cell place true true true is = record {
-  place_is = omega (arith, is);
-  ends_is = omega (arith, is);
-  fronts_is = omega (arith, is);
-  stop_is =
-      omega (arith, is);
-}
-decoded cell place true true false is = record {
-  place_is = omega (arith, is);
-  ends_is = omega (arith, is);
-  fronts_is = omega (arith, is);
-  stop_is =
-      omega (arith, is);
-}
-decoded cell place true false true is = record {
-  place_is = omega (arith, is);
-  ends_is = omega (arith, is);
-  fronts_is = omega (arith, is);
-  stop_is =
-      omega (arith, is);
-}
-decoded cell place true false false is = record {
-  place_is = omega (arith, is);
-  ends_is = omega (arith, is);
-  fronts_is = omega (arith, is);
-  stop_is =
-      omega (arith, is);
-}
-decoded cell place false true true is = record {
-  place_is = omega (arith, is);
-  ends_is = omega (arith, is);
-  fronts_is = omega (arith, is);
-  stop_is =
-      omega (arith, is);
-}
-decoded cell place false true false is = record {
-  place_is = omega (arith, is);
-  ends_is = omega (arith, is);
-  fronts_is = omega (arith, is);
-  stop_is =
-      omega (arith, is);
-}
-decoded cell place false false true is = record {
-  place_is = omega (arith, is);
-  ends_is = omega (arith, is);
-  fronts_is = omega (arith, is);
-  stop_is =
-      omega (arith, is);
-}
-decoded cell place false false false is = record {
-  place_is = omega (arith, is);
-  ends_is = omega (arith, is);
-  fronts_is = omega (arith, is);
-  stop_is =
-      omega (arith, is);
-}
+decoded cell place ends plain stop is = record { place_is = grind arith; ends_is = grind arith; fronts_is = grind arith; stop_is = grind arith }
 
 -- a number that is 1 or 0 by a test
 pub one_means : (b : Bool) (n : ℕ) → n ≡ cond b 1 0 → n ≡ 1 → b ≡ true

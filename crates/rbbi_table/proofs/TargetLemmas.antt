@@ -1,14 +1,14 @@
 -- The rows that the first open rows lead to, and the rows that are gathered.
-use Rattle.std.proofs.Common.{◌≡◌, ◌≢◌, ℕ, suc, zero, ◌+◌, ◌*◌, ◌/◌, ◌%◌, ◌<◌, ◌≤◌, ◌⊎◌, Bool, true, false, cond, List, [], ◌∷◌, ◌++◌, length, get_or, set}
-use Rattle.std.proofs.Common.{replicate, slice_index, sym, refl, ap, ◌∙◌, subst, inl, inr, ⊎_elim, arith}
+use Rattle.std.proofs.Common.{◌≡◌, ℕ, suc, zero, ◌+◌, ◌<◌, ◌≤◌, Bool, true, false, cond, List, [], ◌∷◌, ◌++◌, length, get_or, set}
+use Rattle.std.proofs.Common.{replicate, slice_index, sym, refl, ap, ◌∙◌, subst, ⊎_elim, arith}
 use Rattle.std.specs.List.{count_by}
 use Rattle.std.proofs.lemmas.Bool.{cases_eq, false≢true}
-use Rattle.std.proofs.lemmas.List.{get_or-set_same, get_or-set_other, get_or_append_left, get_or_push, length_push, length-set, get_or-replicate}
+use Rattle.std.proofs.lemmas.List.{get_or-set_other, get_or_append_left, get_or_push, length_push, length-set, get_or-replicate}
 use Rattle.std.proofs.lemmas.List.{length-replicate}
 use Rattle.std.proofs.lemmas.List.Sums.{sum_by-set}
 use Rattle.rbbi_model.specs.Tables.{Table, step, accept_of}
 use Rattle.rbbi_model.specs.SafePairs.{IsOpen}
-use Rattle.rbbi_table.specs.Targets.{AreTargets, IsGathered, AddsTarget}
+use Rattle.rbbi_table.specs.Targets.{IsGathered, AddsTarget}
 
 -- these are the rows that open rows below a row lead to by the category
 pub record AreTargetsBelow (table : Table) (category : ℕ) (targets : List ℕ) (count : ℕ) : Type 0 where
@@ -58,29 +58,6 @@ pub none_gathered : (seen : List Bool) (targets : List ℕ) → ((i : ℕ) → i
 none_gathered seen targets unseen none nothing = record {
   each = λ target short is. absurd (false≢true (sym (unseen target short) ∙ is));
   count = ap length none ∙ sym nothing;
-}
-
--- a row that was seen is there already
-pub adds_nothing : (seen : List Bool) (targets : List ℕ) (target : ℕ) → target < length seen → IsGathered seen targets → get_or seen target false ≡ true →
-    AddsTarget targets target targets
-adds_nothing seen targets target short gathered is = record {
-  has = gathered.each target short is;
-  keeps = λ i within. (within, refl);
-  only = λ i within. inl (within, refl);
-}
-
--- one that wasn't comes behind the others
-pub adds_one : (targets : List ℕ) (target : ℕ) → AddsTarget targets target (targets ++ target ∷ [])
-adds_one targets target = record {
-  has = (length targets, omega (arith, length_push targets target), get_or_push targets target 0 (length targets) refl);
-  keeps = λ i within. (omega (arith, within, length_push targets target), get_or_append_left targets (target ∷ []) 0 i within);
-  only = λ i within.
-      ⊎_elim
-      (λ same. inr (ap (λ n. get_or (targets ++ target ∷ []) n 0) same ∙ get_or_push targets target 0 (length targets) refl))
-      (λ other.
-      let short : i < length targets = omega (arith, within, length_push targets target) in
-      inl (short, get_or_append_left targets (target ∷ []) 0 i short))
-      (cases_eq i (length targets));
 }
 
 pub gathers_one : (seen : List Bool) (targets : List ℕ) (target : ℕ) → target < length seen → IsGathered seen targets → get_or seen target false ≡ false →

@@ -1,8 +1,7 @@
-use Rattle.std.proofs.Common.{◌≡◌, ℕ, ◌+◌, ◌<◌, ◌≤◌, List, length, drop, get_or, set, ap, sym, ◌∙◌, subst, ⊎_elim, arith}
+use Rattle.std.proofs.Common.{◌≡◌, ℕ, ◌+◌, ◌<◌, List, length, get_or, set, ap, sym, ◌∙◌, ⊎_elim, arith}
 use Rattle.std.proofs.lemmas.Bool.{cases_eq}
 use Rattle.std.proofs.lemmas.List.{get_or_read, get_or-set_same, get_or-set_other}
 use Rattle.rbbi_model.specs.Tables.{CategoryRange, category_of}
-use Rattle.rbbi_table.specs.Kept.{start_of, IsUpTo, Holds}
 use Rattle.rbbi_table.proofs.RangeLemmas.{category_held, no_range}
 use Rattle.rbbi_table.proofs.blocks.fill.Goals as goal
 

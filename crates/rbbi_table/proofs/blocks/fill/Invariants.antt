@@ -1,4 +1,4 @@
-use Rattle.std.proofs.Common.{◌≡◌, ℕ, ◌+◌, ◌<◌, length, slice_index}
+use Rattle.std.proofs.Common.{◌≡◌, ℕ, ◌+◌, ◌<◌, slice_index}
 use Rattle.rbbi_model.specs.Tables.{category_of}
 use Rattle.rbbi_table.specs.Kept.{IsUpTo}
 use Rattle.rbbi_table.proofs.blocks.fill.Given as goal

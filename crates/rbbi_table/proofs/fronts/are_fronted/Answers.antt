@@ -1,7 +1,7 @@
-use Rattle.std.proofs.Common.{◌≡◌, ℕ, ◌+◌, ◌<◌, ◌↔◌, IsTrue, [], List, length, sym, subst, ⊎_elim, arith}
+use Rattle.std.proofs.Common.{sym, subst, ⊎_elim, arith}
 use Rattle.std.proofs.lemmas.Bool.{cases_eq}
-use Rattle.rbbi_model.specs.Tables.{Table, RowHead}
-use Rattle.rbbi_table.specs.Parts.{table_of, rows_of, AreSteps}
+use Rattle.rbbi_model.specs.Tables.{Table}
+use Rattle.rbbi_table.specs.Parts.{table_of}
 use Rattle.rbbi_table.specs.Fronts.{IsFronted}
 use Rattle.rbbi_table.proofs.Truth.{refuted, granted, fails}
 use Rattle.rbbi_table.proofs.RowLemmas.{steps_within, front_of, all_fronted}
@@ -9,9 +9,8 @@ use Rattle.rbbi_table.proofs.fronts.are_fronted.Goals as goal
 
 pub is_fronted-requires-clause-steps : goal.is_fronted-requires-clause-steps
 is_fronted-requires-clause-steps c =
-    let table : Table = table_of c.args.parts.now in
-    subst (λ (rs : List RowHead). AreSteps table.categories rs c.as_slice-cells.result.now) (sym c.as_slice-rows.ensures)
-    (subst (λ (cs : List ℕ). AreSteps table.categories table.rows cs) (sym c.as_slice-cells.ensures) (steps_within table c.requires.cells c.requires.rows))
+    steps_within (table_of c.args.parts.now) c.as_slice-rows.result.now c.as_slice-cells.result.now c.as_slice-rows.ensures c.as_slice-cells.ensures
+    c.requires.cells c.requires.rows
 
 pub returns-then-not-fronted : goal.returns-then-not-fronted
 returns-then-not-fronted c =

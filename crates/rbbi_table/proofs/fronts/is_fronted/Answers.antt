@@ -1,16 +1,33 @@
-use Rattle.std.proofs.Common.{◌≡◌, ℕ, ◌+◌, ◌-◌, ◌*◌, ◌<◌, ◌≤◌, [], List, length, get_or, ap, sym, ◌∙◌, subst, inl, inr, ⊎_elim, arith}
+use Rattle.std.proofs.Common.{◌≡◌, ℕ, ◌+◌, ◌-◌, [], List, length, get_or, ap, sym, ◌∙◌, subst, inl, inr, ⊎_elim, arith}
 use Rattle.std.proofs.lemmas.Bool.{cases_eq}
 use Rattle.std.proofs.lemmas.List.{get_or_read}
-use Rattle.std.proofs.lemmas.List.Sums.{count_by-le-length}
 use Rattle.rbbi_model.specs.Places.{has_bit}
-use Rattle.rbbi_model.specs.Tables.{Table, RowHead, empty_head, accept_of, fronts_of, step}
+use Rattle.rbbi_model.specs.Tables.{Table, RowHead, empty_head, accept_of, step}
 use Rattle.rbbi_table.specs.Parts.{rows_of}
-use Rattle.rbbi_table.specs.Targets.{IsGathered, AddsTarget}
+use Rattle.rbbi_table.specs.Targets.{AddsTarget}
 use Rattle.rbbi_table.proofs.Truth.{refuted, granted}
-use Rattle.rbbi_table.proofs.TargetLemmas.{gathers_none}
 use Rattle.rbbi_table.proofs.MoveLemmas.{steps_of, steps_long}
-use Rattle.rbbi_table.proofs.FrontLemmas.{IsReached, IsPassed, cell_is, walk_start, walk_on, reached_on, unfronted, fronted_by, passed_more}
+use Rattle.rbbi_table.proofs.FrontLemmas.{IsReached, IsPassed, IsCell, cell_is, walk_on, reached_on, unfronted, fronted_by, passed_more}
 use Rattle.rbbi_table.proofs.fronts.is_fronted.Goals as goal
+use Rattle.rbbi_table.proofs.fronts.is_fronted.Goals.{In-loop-cell, After-index-rows-cell}
+
+-- the row that the queue gave is reached
+reached : (c : In-loop-cell) → IsReached (rows_of c.args.width c.args.rows.now c.args.cells.now []) c.args.slash c.index.result.now
+reached c =
+    let inv = c.loop-cell.invariant in
+    subst (λ n. IsReached (rows_of c.args.width c.args.rows.now c.args.cells.now []) c.args.slash n) (sym inv.row)
+    (inv.walk.reached (c.loop-done.done + 1 - 1) (omega (arith, inv.short)))
+
+cell : (c : In-loop-cell) → IsCell c.args.width c.args.rows.now c.args.cells.now c.index.result.now c.loop-cell.cell-index
+cell c =
+    cell_is c.args.width c.args.rows.now c.args.cells.now c.index.result.now c.loop-cell.cell-index c.requires.steps (reached c).within c.loop-cell-test.true
+
+-- the head that is read is that of the next row
+head : (c : After-index-rows-cell) → IsCell c.args.width c.args.rows.now c.args.cells.now c.index.result.now c.loop-cell.cell-index → c.index-rows-cell.result
+    ≡ get_or c.args.rows.now (step (rows_of c.args.width c.args.rows.now c.args.cells.now []) c.index.result.now c.loop-cell.cell-index) empty_head
+head c at =
+    get_or_read c.args.rows.now (get_or (steps_of c.args.width c.args.cells.now c.index.result.now) c.loop-cell.cell-index 0) c.index-rows-cell.result
+    (omega (arith, at.is, at.within)) c.index-rows-cell.is empty_head ∙ ap (λ n. get_or c.args.rows.now n empty_head) at.is
 
 pub loop-done-preserved : goal.loop-done-preserved
 loop-done-preserved c =
@@ -18,10 +35,8 @@ loop-done-preserved c =
     let table : Table = rows_of c.args.width c.args.rows.now c.args.cells.now [] in
     let queue : List ℕ = c.loop-cell.queue.items in
     let done : ℕ = c.loop-done.done in
-    let one : done + 1 - 1 ≡ done = omega arith in
-    let row_is : c.index.result.now ≡ get_or queue done 0 = inv.row ∙ ap (λ n. get_or queue n 0) one in
-    let within : c.index.result.now < length c.args.rows.now = subst (λ n. n < length c.args.rows.now) (sym row_is)
-    (inv.walk.reached done (omega (arith, inv.short))).within in
+    let row_is : c.index.result.now ≡ get_or queue done 0 = inv.row ∙ ap (λ n. get_or queue n 0) (let e : done + 1 - 1 ≡ done = omega arith in e) in
+    let within = (subst (λ n. IsReached table c.args.slash n) (sym row_is) (inv.walk.reached done (omega (arith, inv.short)))).within in
     let long = steps_long c.args.width c.args.cells.now c.index.result.now (length c.args.rows.now) c.requires.steps.all within in
     record {
       walk = inv.walk;
@@ -36,46 +51,28 @@ loop-done-preserved c =
     }
 
 pub bounds-rows-cell : goal.bounds-rows-cell
-bounds-rows-cell c =
-    let inv = c.loop-cell.invariant in
-    let done : ℕ = c.loop-done.done in
-    let within : c.index.result.now < length c.args.rows.now = subst (λ n. n < length c.args.rows.now) (sym inv.row)
-    (inv.walk.reached (done + 1 - 1) (omega (arith, inv.short))).within in
-    let cell = cell_is c.args.width c.args.rows.now c.args.cells.now c.index.result.now c.loop-cell.cell-index c.requires.steps within c.loop-cell-test.true in
-    omega (arith, cell.1, cell.2)
+bounds-rows-cell c = let at = cell (goal.at.bounds-rows-cell c).In-loop-cell in omega (arith, at.is, at.within)
 
 pub returns-then-head-slash : goal.returns-then-head-slash
 returns-then-head-slash c =
-    let inv = c.loop-cell.invariant in
-    let table : Table = rows_of c.args.width c.args.rows.now c.args.cells.now [] in
-    let row : ℕ = c.index.result.now in
-    let i : ℕ = c.loop-cell.cell-index in
-    let reached : IsReached table c.args.slash row = subst (λ n. IsReached table c.args.slash n) (sym inv.row)
-    (inv.walk.reached (c.loop-done.done + 1 - 1) (omega (arith, inv.short))) in
-    let cell = cell_is c.args.width c.args.rows.now c.args.cells.now row i c.requires.steps reached.within c.loop-cell-test.true in
-    let next : ℕ = get_or (steps_of c.args.width c.args.cells.now row) i 0 in
-    let read = get_or_read c.args.rows.now next c.index-rows-cell.result (omega (arith, cell.1, cell.2)) c.index-rows-cell.is empty_head in
-    let accept : c.head.inside.accept ≡ accept_of table next = ap (λ (h : RowHead). h.accept) (c.head.view_is ∙ read) in
-    let completed : accept_of table (step table row i) ≡ c.args.slash + 2 = ap (λ n. accept_of table n) (sym cell.1) ∙ sym accept ∙ c.if-head-slash.true in
-    refuted (unfronted table c.args.slash row i reached cell.0 completed)
+    let h = goal.at.returns-then-head-slash c in
+    let at = cell h.In-loop-cell in
+    let is = c.head.view_is ∙ head h.After-index-rows-cell at in
+    refuted (unfronted (rows_of c.args.width c.args.rows.now c.args.cells.now []) c.args.slash c.index.result.now c.loop-cell.cell-index
+    (reached h.In-loop-cell) at.low (sym (ap (λ (r : RowHead). r.accept) is) ∙ c.if-head-slash.true))
 
 pub loop-cell-preserved-then-has_front : goal.loop-cell-preserved-then-has_front
 loop-cell-preserved-then-has_front c =
+    let h = goal.at.loop-cell-preserved-then-has_front c in
     let inv = c.loop-cell.invariant in
     let table : Table = rows_of c.args.width c.args.rows.now c.args.cells.now [] in
-    let queue : List ℕ = c.loop-cell.queue.items in
     let row : ℕ = c.index.result.now in
     let i : ℕ = c.loop-cell.cell-index in
-    let within : row < length c.args.rows.now = subst (λ n. n < length c.args.rows.now) (sym inv.row)
-    (inv.walk.reached (c.loop-done.done + 1 - 1) (omega (arith, inv.short))).within in
-    let cell = cell_is c.args.width c.args.rows.now c.args.cells.now row i c.requires.steps within c.loop-cell-test.true in
-    let next : ℕ = get_or (steps_of c.args.width c.args.cells.now row) i 0 in
-    let read = get_or_read c.args.rows.now next c.index-rows-cell.result (omega (arith, cell.1, cell.2)) c.index-rows-cell.is empty_head in
-    let accept : c.head.inside.accept ≡ accept_of table next = ap (λ (h : RowHead). h.accept) (c.head.view_is ∙ read) in
-    let fronts : c.head.inside.fronts ≡ fronts_of table next = ap (λ (h : RowHead). h.fronts) (c.head.view_is ∙ read) in
-    let passed : IsPassed table c.args.slash queue next = record {
-      uncompleted = λ is. c.if-head-slash.false (accept ∙ is);
-      goes_on = inl (ap (λ n. has_bit n c.args.slash) (sym fronts) ∙ sym c.has_front.ensures ∙ c.if-has_front.true);
+    let at = cell h.In-loop-cell in
+    let is = c.head.view_is ∙ head h.After-index-rows-cell at in
+    let passed : IsPassed table c.args.slash c.loop-cell.queue.items (step table row i) = record {
+      uncompleted = λ completed. c.if-head-slash.false (ap (λ (r : RowHead). r.accept) is ∙ completed);
+      goes_on = inl (ap (λ (r : RowHead). has_bit r.fronts c.args.slash) (sym is) ∙ sym c.has_front.ensures ∙ c.if-has_front.true);
     } in
     record {
       walk = inv.walk;
@@ -85,21 +82,19 @@ loop-cell-preserved-then-has_front c =
       passed = inv.passed;
       now = λ category low.
           ⊎_elim
-          (λ same. subst (λ n. IsPassed table c.args.slash queue n) (cell.1 ∙ ap (λ n. step table row n) (sym same)) passed)
+          (λ same. subst (λ n. IsPassed table c.args.slash c.loop-cell.queue.items (step table row n)) (sym same) passed)
           (λ other. inv.now category (omega arith))
           (cases_eq category i);
     }
 
 pub add_target-requires-in-loop-cell-clause-row : goal.add_target-requires-in-loop-cell-clause-row
 add_target-requires-in-loop-cell-clause-row c =
-    let inv = c.loop-cell.invariant in
-    let within : c.index.result.now < length c.args.rows.now = subst (λ n. n < length c.args.rows.now) (sym inv.row)
-    (inv.walk.reached (c.loop-done.done + 1 - 1) (omega (arith, inv.short))).within in
-    let cell = cell_is c.args.width c.args.rows.now c.args.cells.now c.index.result.now c.loop-cell.cell-index c.requires.steps within c.loop-cell-test.true in
-    omega (arith, cell.1, cell.2, inv.walk.long)
+    let at = cell (goal.at.add_target-requires-in-loop-cell-clause-row c).In-loop-cell in
+    omega (arith, at.is, at.within, c.loop-cell.invariant.walk.long)
 
 pub loop-cell-preserved : goal.loop-cell-preserved
 loop-cell-preserved c =
+    let h = goal.at.loop-cell-preserved c in
     let inv = c.loop-cell.invariant in
     let table : Table = rows_of c.args.width c.args.rows.now c.args.cells.now [] in
     let slash : ℕ = c.args.slash in
@@ -107,22 +102,16 @@ loop-cell-preserved c =
     let new : List ℕ = c.add_target-in-loop-cell.new.targets.items in
     let row : ℕ = c.index.result.now in
     let i : ℕ = c.loop-cell.cell-index in
-    let done : ℕ = c.loop-done.done in
-    let reached : IsReached table slash row = subst (λ n. IsReached table slash n) (sym inv.row) (inv.walk.reached (done + 1 - 1) (omega (arith, inv.short))) in
-    let cell = cell_is c.args.width c.args.rows.now c.args.cells.now row i c.requires.steps reached.within c.loop-cell-test.true in
-    let next : ℕ = get_or (steps_of c.args.width c.args.cells.now row) i 0 in
-    let read = get_or_read c.args.rows.now next c.index-rows-cell.result (omega (arith, cell.1, cell.2)) c.index-rows-cell.is empty_head in
-    let accept : c.head.inside.accept ≡ accept_of table next = ap (λ (h : RowHead). h.accept) (c.head.view_is ∙ read) in
-    let fronts : c.head.inside.fronts ≡ fronts_of table next = ap (λ (h : RowHead). h.fronts) (c.head.view_is ∙ read) in
-    let uncompleted = λ (is : accept_of table (step table row i) ≡ slash + 2). c.if-head-slash.false (accept ∙ ap (λ n. accept_of table n) cell.1 ∙ is) in
-    let bit = ap (λ n. has_bit (fronts_of table n) slash) (sym cell.1) ∙ ap (λ n. has_bit n slash) (sym fronts) ∙ sym c.has_front.ensures ∙
-    c.if-has_front.false in
-    let adds : AddsTarget queue (step table row i) new = subst (λ n. AddsTarget queue n new) cell.1 c.in_ok-add_target-2.ensures.adds in
-    let kept = adds.keeps (done + 1 - 1) (omega (arith, inv.short)) in
+    let at = cell h.In-loop-cell in
+    let is = c.head.view_is ∙ head h.After-index-rows-cell at in
+    let uncompleted = λ (completed : accept_of table (step table row i) ≡ slash + 2). c.if-head-slash.false (ap (λ (r : RowHead). r.accept) is ∙ completed) in
+    let bit = ap (λ (r : RowHead). has_bit r.fronts slash) (sym is) ∙ sym c.has_front.ensures ∙ c.if-has_front.false in
+    let adds : AddsTarget queue (step table row i) new = subst (λ n. AddsTarget queue n new) at.is c.in_ok-add_target-2.ensures.adds in
+    let kept = adds.keeps (c.loop-done.done + 1 - 1) (omega (arith, inv.short)) in
     record {
       walk = walk_on table slash c.loop-cell.seen.items c.add_target-in-loop-cell.new.seen.items queue new
           (step table row i) inv.walk c.in_ok-add_target-2.ensures.len c.in_ok-add_target-2.ensures.gathered adds
-          (reached_on table slash row i reached cell.0 cell.2 uncompleted bit);
+          (reached_on table slash row i (reached h.In-loop-cell) at.low at.within uncompleted bit);
       some = inv.some;
       short = omega (arith, kept.0);
       row = inv.row ∙ sym kept.1;
@@ -140,6 +129,5 @@ loop-cell-preserved c =
 pub returns : goal.returns
 returns c =
     let inv = c.loop-done.invariant in
-    let table : Table = rows_of c.args.width c.args.rows.now c.args.cells.now [] in
-    granted (fronted_by table c.args.slash c.loop-done.seen.items c.loop-done.queue.items inv.walk
+    granted (fronted_by (rows_of c.args.width c.args.rows.now c.args.cells.now []) c.args.slash c.loop-done.seen.items c.loop-done.queue.items inv.walk
     (λ i short category low. inv.passed i (omega (arith, short, c.loop-done-test.false, c.len.ensures, c.loop-done.queue.ok.0)) category low))

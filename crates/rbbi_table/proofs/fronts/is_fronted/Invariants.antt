@@ -1,4 +1,4 @@
-use Rattle.std.proofs.Common.{◌≡◌, ℕ, ◌+◌, ◌-◌, ◌<◌, ◌≤◌, [], length, get_or}
+use Rattle.std.proofs.Common.{◌≡◌, ℕ, ◌-◌, ◌<◌, ◌≤◌, [], length, get_or}
 use Rattle.rbbi_model.specs.Tables.{step}
 use Rattle.rbbi_table.specs.Parts.{rows_of}
 use Rattle.rbbi_table.proofs.FrontLemmas.{IsWalk, ArePassed, IsPassed}

@@ -1,7 +1,7 @@
-use Rattle.std.proofs.Common.{◌≡◌, ℕ, ◌+◌, ◌<◌, ◌≤◌, ◌↔◌, IsTrue, List, [], ◌∷◌, length, drop, get_or, ap, sym, ◌∙◌, subst, arith}
+use Rattle.std.proofs.Common.{◌≡◌, ℕ, ◌+◌, ◌≤◌, ◌↔◌, List, [], ◌∷◌, length, drop, get_or, sym, ◌∙◌, subst, arith}
 use Rattle.std.proofs.lemmas.List.{drop_more, get_or_read}
 use Rattle.rbbi_model.specs.ValidTables.{AreValidLists, IsValidList, IsBefore}
-use Rattle.rbbi_table.proofs.Truth.{refuted, granted, fails, some_items, item_is, items_end}
+use Rattle.rbbi_table.proofs.Truth.{granted, some_items, item_is, items_end}
 use Rattle.rbbi_table.proofs.ListLemmas.{ComeOn, valid_where_come_on, zero_alone_is}
 use Rattle.rbbi_table.proofs.lists.are_valid_lists.Goals as goal
 

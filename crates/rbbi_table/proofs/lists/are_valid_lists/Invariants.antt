@@ -1,4 +1,4 @@
-use Rattle.std.proofs.Common.{◌↔◌, length, drop}
+use Rattle.std.proofs.Common.{◌↔◌, drop}
 use Rattle.rbbi_model.specs.ValidTables.{AreValidLists}
 use Rattle.rbbi_table.proofs.ListLemmas.{ComeOn}
 use Rattle.rbbi_table.proofs.lists.are_valid_lists.Given as goal

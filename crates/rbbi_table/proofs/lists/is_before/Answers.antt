@@ -1,7 +1,5 @@
-use Rattle.std.proofs.Common.{◌≡◌, ℕ, ◌+◌, ◌<◌, ◌≤◌, ◌⊎◌, ◌↔◌, IsTrue, List, ◌∷◌, length, min, drop, get_or, ap, sym, ◌∙◌, subst, inl, inr, ⊎_elim, arith}
+use Rattle.std.proofs.Common.{ℕ, ◌<◌, length, get_or, inl, inr, ⊎_elim, arith}
 use Rattle.std.proofs.lemmas.Bool.{ltb-true, lt-ltb}
-use Rattle.std.proofs.lemmas.List.{drop_more}
-use Rattle.rbbi_model.specs.ValidTables.{IsBefore}
 use Rattle.rbbi_table.proofs.ListLemmas.{ending, both_more, both_back}
 use Rattle.rbbi_table.proofs.lists.is_before.Goals as goal
 

@@ -1,7 +1,6 @@
-use Rattle.std.proofs.Common.{◌≡◌, ℕ, ◌+◌, ◌<◌, ◌≤◌, ◌↔◌, IsTrue, List, ◌∷◌, length, drop, get_or, ap, sym, refl, ◌∙◌, subst, arith}
+use Rattle.std.proofs.Common.{ℕ, ◌+◌, ◌<◌, ◌≤◌, List, length, drop, get_or, sym, subst, arith}
 use Rattle.std.proofs.lemmas.Bool.{le-leb, leb-true}
 use Rattle.std.proofs.lemmas.List.{drop_more}
-use Rattle.rbbi_model.specs.ValidTables.{IsValidList}
 use Rattle.rbbi_table.proofs.Truth.{refuted, some_items, rest_item, items_end}
 use Rattle.rbbi_table.proofs.ListLemmas.{RiseFrom, valid_where_rise}
 use Rattle.rbbi_table.proofs.lists.is_valid_list.Goals as goal

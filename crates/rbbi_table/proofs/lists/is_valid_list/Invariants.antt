@@ -1,4 +1,4 @@
-use Rattle.std.proofs.Common.{◌↔◌, length, drop}
+use Rattle.std.proofs.Common.{◌↔◌, drop}
 use Rattle.rbbi_model.specs.ValidTables.{IsValidList}
 use Rattle.rbbi_table.proofs.ListLemmas.{RiseFrom}
 use Rattle.rbbi_table.proofs.lists.is_valid_list.Given as goal

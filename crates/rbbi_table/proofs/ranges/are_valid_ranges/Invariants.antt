@@ -1,4 +1,4 @@
-use Rattle.std.proofs.Common.{◌↔◌, length, drop}
+use Rattle.std.proofs.Common.{◌↔◌, drop}
 use Rattle.rbbi_model.specs.ValidTables.{AreValidRanges}
 use Rattle.rbbi_table.proofs.RangeLemmas.{GoOn}
 use Rattle.rbbi_table.proofs.ranges.are_valid_ranges.Given as goal

@@ -1,7 +1,7 @@
-use Rattle.std.proofs.Common.{◌≡◌, ℕ, ◌+◌, ◌<◌, List, length, get_or, ap, sym, ◌∙◌, subst, ⊎_elim, arith}
+use Rattle.std.proofs.Common.{◌≡◌, ◌<◌, List, length, get_or, ap, sym, ◌∙◌, subst, ⊎_elim, arith}
 use Rattle.std.proofs.lemmas.Bool.{cases_eq}
 use Rattle.std.proofs.lemmas.List.{get_or_read}
-use Rattle.rbbi_model.specs.Tables.{Table, RowHead, empty_head, head_of}
+use Rattle.rbbi_model.specs.Tables.{Table, RowHead, empty_head}
 use Rattle.rbbi_model.specs.ValidTables.{IsPlain}
 use Rattle.rbbi_table.specs.Parts.{table_of}
 use Rattle.rbbi_table.proofs.Truth.{refuted, granted, fails}

@@ -1,8 +1,8 @@
-use Rattle.std.proofs.Common.{◌≡◌, ℕ, ◌+◌, ◌*◌, ◌<◌, [], List, length, get_or, ap, sym, ◌∙◌, arith}
+use Rattle.std.proofs.Common.{◌≡◌, ℕ, [], get_or, ap, ◌∙◌, arith}
 use Rattle.std.proofs.lemmas.List.{get_or_read}
 use Rattle.rbbi_model.specs.Tables.{RowHead, empty_head}
 use Rattle.rbbi_table.specs.Parts.{rows_of}
-use Rattle.rbbi_table.proofs.TargetLemmas.{none_below, gathers_none, skip_closed, add_open}
+use Rattle.rbbi_table.proofs.TargetLemmas.{add_open}
 use Rattle.rbbi_table.proofs.safe.gather_targets.Goals as goal
 
 pub loop-row-preserved : goal.loop-row-preserved

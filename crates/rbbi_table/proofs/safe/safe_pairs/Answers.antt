@@ -1,4 +1,4 @@
-use Rattle.std.proofs.Common.{◌≡◌, ℕ, ◌+◌, ◌*◌, ◌/◌, ◌<◌, ◌↔◌, IsTrue, true, cond, eqb, [], List, Vec, Global, length, get_or, ap, sym, ◌∙◌, subst, arith}
+use Rattle.std.proofs.Common.{◌≡◌, ℕ, ◌+◌, ◌*◌, ◌<◌, ◌↔◌, IsTrue, true, cond, eqb, [], List, Vec, Global, length, get_or, ap, sym, subst, arith}
 use Rattle.rbbi_model.specs.Tables.{Table}
 use Rattle.rbbi_model.specs.SafePairs.{stored_bit}
 use Rattle.rbbi_table.specs.Parts.{rows_of}

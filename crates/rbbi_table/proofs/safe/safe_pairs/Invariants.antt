@@ -1,4 +1,4 @@
-use Rattle.std.proofs.Common.{◌≡◌, ℕ, ◌+◌, ◌*◌, ◌/◌, ◌<◌, [], length}
+use Rattle.std.proofs.Common.{◌≡◌, ◌+◌, ◌*◌, ◌/◌, [], length}
 use Rattle.rbbi_table.specs.Parts.{rows_of}
 use Rattle.rbbi_table.specs.Targets.{AreTargets}
 use Rattle.rbbi_table.proofs.PairLemmas.{AreFirstPairs}

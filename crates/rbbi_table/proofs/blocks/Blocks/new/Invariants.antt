@@ -1,4 +1,4 @@
-use Rattle.std.proofs.Common.{◌≡◌, ℕ, ◌+◌, ◌*◌, ◌<◌, ◌≤◌, length, slice_index}
+use Rattle.std.proofs.Common.{◌≡◌, ◌*◌, ◌≤◌, length}
 use Rattle.rbbi_table.specs.Kept.{IsUpTo, AreFirstBlocks}
 use Rattle.rbbi_table.proofs.blocks.Blocks.new.Given as goal
 
