@@ -39,11 +39,3 @@ module _ (failed : List (List ℕ × CallKind)) (name : List ℕ) where
   -- a write that failed counts for no other name
   pub failed_writes_of-other : (other : List ℕ) → other ≢ name → failed_writes_of (failed ++ (name, Write) ∷ []) other ≡ failed_writes_of failed other
   failed_writes_of-other other ne = count_by-passed_over _ failed (name, Write) (other_name name other (λ e. ne (sym e)))
-
-  -- a write that failed is no read
-  pub failed_reads_of-write : (other : List ℕ) → failed_reads_of (failed ++ (name, Write) ∷ []) other ≡ failed_reads_of failed other
-  failed_reads_of-write other = count_by-passed_over _ failed (name, Write) refl
-
-  -- a read that failed is no write
-  pub failed_writes_of-read : (other : List ℕ) → failed_writes_of (failed ++ (name, Read) ∷ []) other ≡ failed_writes_of failed other
-  failed_writes_of-read other = count_by-passed_over _ failed (name, Read) refl

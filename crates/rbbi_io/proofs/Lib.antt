@@ -1,4 +1,3 @@
-pub mod Counts
 pub mod FailedCalls
 pub mod FailingCalls
 pub mod MemoryCalls

@@ -7,5 +7,4 @@ pub mod SkipLemmas
 pub mod WellMadeLemmas
 pub mod LexingLemmas
 pub mod Totality
-pub mod TextLemmas
 pub mod WordLemmas

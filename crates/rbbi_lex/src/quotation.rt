@@ -7,8 +7,7 @@ use crate::character::{character_at, is_line_end, stands_at};
 use crate::escape::Escaped;
 use crate::spelled::Spelled;
 use crate::token::TokenKind;
-use crate::words::push_character;
-use rbbi_text::Word;
+use rbbi_text::{Word, push_character};
 use std::alloc::{AllocError, Global};
 
 /// The next character within quotes: `''` is one quote, and each other character but a line

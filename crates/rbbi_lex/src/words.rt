@@ -2,16 +2,8 @@
 ghost use Rattle.std.specs.Prelude.{◌≡◌, ◌++◌, [], ◌∷◌, ◌≤◌, length, slice_range, string_bytes};
 ghost use Rattle.std.specs.Prelude.{chars, IfOk, OnOk};
 
-use rbbi_text::Word;
+use rbbi_text::{Word, push_character};
 use std::alloc::{AllocError, Global};
-
-/// Adds a character at the end of a string.
-pub(crate) fn push_character(string: &mut String, c: char) -> Result<(), AllocError>
-    ensures { OnOk result
-        (chars (string_bytes string.new) ≡ chars (string_bytes string.old) ++ c ∷ []) }
-{
-    string.push(c)
-}
 
 /// The word that stands from one place to another.
 pub(crate) fn word_between(

@@ -169,46 +169,35 @@ module _ (table : Table) (rules : List Rule) (valid : IsValidTable table) (same 
 
   -- no look-ahead rule is completed there
 
+  -- past the end of the search the rows have accept number 0
+  none_after : completes table (row_at table x s (search_end table x s)) ≡ false → (q : ℕ) → search_end table x s < q → q ≤ length x →
+      accept_of table (row_at table x s q) ≡ 0
+  none_after isnt q after within =
+      let z : ℕ = search_end table x s in
+      ⊎_elim
+      (λ stopped.
+      ⊎_elim
+      (λ zero_row.
+      ap (λ r. accept_of table r) (stays_stopped table valid x s z q (omega arith) (eqb-true (row_at table x s z) 0 zero_row)) ∙ valid.rows.stop.0)
+      (λ completed. absurd (false≢true (sym isnt ∙ completed)))
+      (or_cases (eqb (row_at table x s z) 0) (completes table (row_at table x s z)) stopped))
+      (λ all. absurd (omega (arith, all)))
+      search_stops.1
+
   small_everywhere : completes table (row_at table x s (search_end table x s)) ≡ false → (q : ℕ) → s < q → q < length x + 1 →
       accept_of table (row_at table x s q) < 2
   small_everywhere isnt q past within =
       let z : ℕ = search_end table x s in
       ⊎_elim
       (λ is. subst (λ p. accept_of table (row_at table x s p) < 2) (sym is) (leb-false 2 (accept_of table (row_at table x s z)) isnt))
-      (⊎_elim
-      (λ before. small_before q past before)
-      (λ after.
-      ⊎_elim
-      (λ stopped.
-      ⊎_elim
-      (λ zero_row.
-      let row : row_at table x s q ≡ 0 = stays_stopped table valid x s z q (omega arith) (eqb-true (row_at table x s z) 0 zero_row) in
-      subst (λ r. accept_of table r < 2) (sym row) (omega (arith, valid.rows.stop.0)))
-      (λ completed. absurd (false≢true (sym isnt ∙ completed)))
-      (or_cases (eqb (row_at table x s z) 0) (completes table (row_at table x s z)) stopped))
-      (λ all. absurd (omega (arith, all)))
-      search_stops.1))
+      (⊎_elim (λ before. small_before q past before) (λ after. omega (arith, none_after isnt q after (omega arith))))
       (cases_order q z)
 
   -- past the end of the search no rule ends
   ends_within : completes table (row_at table x s (search_end table x s)) ≡ false → (q : ℕ) → s < q → q ≤ length x → accept_of table (row_at table x s q) ≡ 1 →
       q ≤ search_end table x s
   ends_within isnt q past within one =
-      let z : ℕ = search_end table x s in
-      ⊎_elim
-      (λ after.
-      ⊎_elim
-      (λ stopped.
-      ⊎_elim
-      (λ zero_row.
-      let row : row_at table x s q ≡ 0 = stays_stopped table valid x s z q (omega arith) (eqb-true (row_at table x s z) 0 zero_row) in
-      absurd (omega (arith, ap (λ r. accept_of table r) row, one, valid.rows.stop.0)))
-      (λ completed. absurd (false≢true (sym isnt ∙ completed)))
-      (or_cases (eqb (row_at table x s z) 0) (completes table (row_at table x s z)) stopped))
-      (λ all. absurd (omega (arith, all)))
-      search_stops.1)
-      (λ before. before)
-      (cases_lt z q)
+      ⊎_elim (λ after. absurd (omega (arith, none_after isnt q after within, one))) (λ before. before) (cases_lt (search_end table x s) q)
 
   module _ (isnt : completes table (row_at table x s (search_end table x s)) ≡ false) where
     quiet_everywhere : Quiet (length x + 1)

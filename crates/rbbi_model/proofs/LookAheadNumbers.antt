@@ -10,7 +10,7 @@ no_rule : (rule : Rule) → None ≡ Some rule → ⊥
 no_rule rule is = grind arith
 
 -- a look-ahead rule counts among those before a later one
-counts : (rules : List Rule) (number later : ℕ) (rule : Rule) → IsRule rules number rule → LooksAhead rule → number < later →
+pub counts : (rules : List Rule) (number later : ℕ) (rule : Rule) → IsRule rules number rule → LooksAhead rule → number < later →
     look_ahead_number rules number < look_ahead_number rules later
 counts [] number later rule is looks less = absurd (no_rule rule is)
 counts (r ∷ rs) number zero rule is looks less = absurd (omega (arith, less))

@@ -12,7 +12,7 @@ use Rattle.rbbi_model.proofs.Uniqueness.{same_tags}
 
 -- the bit as a number, and as a test
 
-bit_is_one : (n k : ℕ) → IsTrue (has_bit n k) → bit_at n k ≡ 1
+pub bit_is_one : (n k : ℕ) → IsTrue (has_bit n k) → bit_at n k ≡ 1
 bit_is_one n k is =
     ⊎_elim
     (λ none.
@@ -21,7 +21,7 @@ bit_is_one n k is =
     (λ some. omega arith)
     (cases_eq (bit_at n k) 0)
 
-one_is_bit : (n k : ℕ) → bit_at n k ≡ 1 → IsTrue (has_bit n k)
+pub one_is_bit : (n k : ℕ) → bit_at n k ≡ 1 → IsTrue (has_bit n k)
 one_is_bit n k one =
     let whole : bit_and n (2 ^ k) ≡ 1 * 2 ^ k = and_pow n k ∙ ap (λ b. b * 2 ^ k) one in
     ap not (ne_eqb (bit_and n (2 ^ k)) 0 (λ none. omega (arith, whole, none, pow_pos k)))

@@ -1,7 +1,7 @@
 -- A search depends on the characters that it reads alone.
 use Rattle.std.proofs.Common.{◌≡◌, ℕ, zero, suc, ◌+◌, ◌-◌, ◌<◌, ◌≤◌, ◌⊎◌, Bool, true, false, cond, ◌&&◌, ltb, eqb, List, Option, Some, None, length, take, drop}
 use Rattle.std.proofs.Common.{sym, refl, ap, ◌∙◌, subst, inl, inr, ⊎_elim, add-suc, arith}
-use Rattle.std.specs.Prelude.{slice_range, unwrap_or}
+use Rattle.std.specs.Prelude.{unwrap_or}
 use Rattle.std.proofs.lemmas.Bool.{cases_Bool, cases_order, cond-true, cond-false, false≢true, lt-ltb, ltb-true}
 use Rattle.std.proofs.lemmas.List.{take-take}
 use Rattle.rbbi_model.specs.Places.{least_from, greatest_below, has_bit}

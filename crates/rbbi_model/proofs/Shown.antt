@@ -19,10 +19,6 @@ use Rattle.rbbi_model.proofs.FreshTrue.{kept, dropped, fresh_true}
 
 -- members of joined lists
 
-in_left : (us vs : List ℕ) (k : ℕ) → Member us k → Member (us ++ vs) k
-in_left [] vs k here = absurd here
-in_left (u ∷ us) vs k here = ⊎_elim (λ is. inl is) (λ later. inr (in_left us vs k later)) here
-
 in_right : (us vs : List ℕ) (k : ℕ) → Member vs k → Member (us ++ vs) k
 in_right [] vs k here = here
 in_right (u ∷ us) vs k here = inr (in_right us vs k here)

@@ -8,7 +8,7 @@ use Rattle.rbbi_model.specs.Tables.{Table}
 use Rattle.rbbi_model.specs.Searches.{search_end, look_end, found, table_boundaries}
 use Rattle.rbbi_model.specs.Answers.{Characters, Last, Next, Previous, Following, Preceding, IsBoundary, Current, Status, Statuses, Breaks}
 use Rattle.rbbi_model.specs.Scripts.{Accepted, Ask, Replace, ShowText, table_replies, replies_by, edit, opened}
-use Rattle.rbbi_model.specs.Runs.{is_anchor, Run, IsTrueRun, ShowsAfter, ShowsBefore}
+use Rattle.rbbi_model.specs.Runs.{is_anchor, Entry, Run, IsTrueRun, ShowsAfter, ShowsBefore}
 use Rattle.rbbi_model.specs.Costs.{forward_cost, tries, back_cost, script_cost}
 use Rattle.rbbi_model.specs.TableFile.{spelling}
 use Rattle.rbbi_model.specs.Lines.{reply_lines, fault_line_at, fault_line_in, fault_line_within, rules_name, table_name, all_reply_lines, boundary_lines}
@@ -146,8 +146,11 @@ unfolding digits
 boundaries_of_aab = refl
 
 -- a run kept over `ab`: both boundaries past the anchor 0, each with how far the searches up to it have looked
+abbrev kept_at : ℕ → Entry
+kept_at place = record { at = place; status = 0; reach = 2 }
+
 abbrev run_ab : Run
-run_ab = record { anchor = 0; entries = record { at = 1; status = 0; reach = 2 } ∷ record { at = 2; status = 0; reach = 2 } ∷ []; leads = true }
+run_ab = record { anchor = 0; entries = kept_at 1 ∷ kept_at 2 ∷ []; leads = true }
 
 run_ab_true : IsTrueRun table_a ab run_ab
 run_ab_true =
@@ -166,39 +169,15 @@ run_ab_true =
 -- it shows the first boundary past 0, since it leads, that past 1, and the last one before 2
 shows_past_0 : ShowsAfter run_ab 0 1
 shows_past_0 =
-    record {
-      before = [];
-      entry = record { at = 1; status = 0; reach = 2 };
-      after = record { at = 2; status = 0; reach = 2 } ∷ [];
-      whole = refl;
-      at = refl;
-      past = omega arith;
-      nearest = inr (refl, refl, omega arith);
-    }
+    record { before = []; entry = kept_at 1; after = kept_at 2 ∷ []; whole = refl; at = refl; past = omega arith; nearest = inr (refl, refl, omega arith) }
 
 shows_past_1 : ShowsAfter run_ab 1 2
 shows_past_1 =
-    record {
-      before = record { at = 1; status = 0; reach = 2 } ∷ [];
-      entry = record { at = 2; status = 0; reach = 2 };
-      after = [];
-      whole = refl;
-      at = refl;
-      past = omega arith;
-      nearest = inl (omega arith);
-    }
+    record { before = kept_at 1 ∷ []; entry = kept_at 2; after = []; whole = refl; at = refl; past = omega arith; nearest = inl (omega arith) }
 
 shows_before_2 : ShowsBefore ab run_ab 2 1
 shows_before_2 =
-    record {
-      before = [];
-      entry = record { at = 1; status = 0; reach = 2 };
-      after = record { at = 2; status = 0; reach = 2 } ∷ [];
-      whole = refl;
-      at = refl;
-      short_of = omega arith;
-      nearest = inl (omega arith);
-    }
+    record { before = []; entry = kept_at 1; after = kept_at 2 ∷ []; whole = refl; at = refl; short_of = omega arith; nearest = inl (omega arith) }
 
 -- in the reply to `text` a line end and a backslash are written with a backslash
 escapes : reply_lines (Characters (97 ∷ 10 ∷ 92 ∷ [])) ≡ 97 ∷ 92 ∷ 110 ∷ 92 ∷ 92 ∷ 10 ∷ []

@@ -12,7 +12,7 @@ use Rattle.rbbi_model.specs.Rules.{Rule, LooksAhead, IsWordOf}
 use Rattle.rbbi_model.specs.Chains.{IsRule, EndsAt, Word, FrontEndsAt, IsTagAt, AreTags}
 use Rattle.rbbi_model.specs.Boundaries.{LookAheadEndsAt, IsNext, AreBoundaries}
 use Rattle.rbbi_model.specs.Unchained.{NoneChainedInto}
-use Rattle.rbbi_model.specs.Tables.{accept_of, step, row_along, row_after, category_of}
+use Rattle.rbbi_model.specs.Tables.{accept_of, fronts_of, list_of, step, row_along, row_after, category_of}
 use Rattle.rbbi_model.specs.SafePairs.{stored_bit, is_safe}
 use Rattle.rbbi_model.specs.ValidTables.{AreValidRanges, IsValidRow, IsWay, IsValidTable}
 use Rattle.rbbi_model.specs.Searches.{table_boundaries}
@@ -123,26 +123,28 @@ rules_give_ab = (refl, (omega arith, longest_in_ab, (omega arith, single_in_ab, 
 
 -- the table is valid
 
+-- every row leads to row 0, but row 1 also to row 2
+leads : (row category : ℕ) → row < 3 → category < 2 → (step table_a row category ≡ 0) ⊎ ((row ≡ 1) × (step table_a row category ≡ 2))
+leads zero zero r c = inl refl
+leads zero (suc zero) r c = inl refl
+leads (suc zero) zero r c = inl refl
+leads (suc zero) (suc zero) r c = inr (refl, refl)
+leads (suc (suc zero)) zero r c = inl refl
+leads (suc (suc zero)) (suc zero) r c = inl refl
+leads (suc (suc (suc row))) category r c = absurd (omega (arith, r))
+leads zero (suc (suc category)) r c = absurd (omega (arith, c))
+leads (suc zero) (suc (suc category)) r c = absurd (omega (arith, c))
+leads (suc (suc zero)) (suc (suc category)) r c = absurd (omega (arith, c))
+
+leads_to_0 : (row category : ℕ) → row < 3 → category < 2 → row ≢ 1 → step table_a row category ≡ 0
+leads_to_0 row category r c other = ⊎_elim (λ is. is) (λ from_1. absurd (other from_1.0)) (leads row category r c)
+
 open_leads : (first second from : ℕ) → first < 2 → second < 2 → from < 3 → step table_a (step table_a from first) second ≡ 0
-open_leads zero zero zero f s r = refl
-open_leads zero zero (suc zero) f s r = refl
-open_leads zero zero (suc (suc zero)) f s r = refl
-open_leads zero (suc zero) zero f s r = refl
-open_leads zero (suc zero) (suc zero) f s r = refl
-open_leads zero (suc zero) (suc (suc zero)) f s r = refl
-open_leads (suc zero) zero zero f s r = refl
-open_leads (suc zero) zero (suc zero) f s r = refl
-open_leads (suc zero) zero (suc (suc zero)) f s r = refl
-open_leads (suc zero) (suc zero) zero f s r = refl
-open_leads (suc zero) (suc zero) (suc zero) f s r = refl
-open_leads (suc zero) (suc zero) (suc (suc zero)) f s r = refl
-open_leads (suc (suc first)) second from f s r = absurd (omega (arith, f))
-open_leads zero (suc (suc second)) from f s r = absurd (omega (arith, s))
-open_leads (suc zero) (suc (suc second)) from f s r = absurd (omega (arith, s))
-open_leads zero zero (suc (suc (suc from))) f s r = absurd (omega (arith, r))
-open_leads zero (suc zero) (suc (suc (suc from))) f s r = absurd (omega (arith, r))
-open_leads (suc zero) zero (suc (suc (suc from))) f s r = absurd (omega (arith, r))
-open_leads (suc zero) (suc zero) (suc (suc (suc from))) f s r = absurd (omega (arith, r))
+open_leads first second from f s r =
+    ⊎_elim
+    (λ is. leads_to_0 (step table_a from first) second (omega arith) s (λ one. omega arith))
+    (λ is. leads_to_0 (step table_a from first) second (omega (arith, is.1)) s (λ one. omega (arith, is.1)))
+    (leads from first r f)
 
 all_safe : (first second : ℕ) → first < 2 → second < 2 → IsTrue (is_safe table_a first second)
 all_safe zero zero f s = refl
@@ -164,16 +166,7 @@ no_filling i low high is = four (i - 4) (omega arith) (subst (λ j. IsTrue (stor
     four (suc (suc (suc (suc j)))) short on = omega (arith, short)
 
 cell_within : (row category : ℕ) → row < 3 → category < 2 → step table_a row category < 3
-cell_within zero zero r c = omega arith
-cell_within zero (suc zero) r c = omega arith
-cell_within (suc zero) zero r c = omega arith
-cell_within (suc zero) (suc zero) r c = omega arith
-cell_within (suc (suc zero)) zero r c = omega arith
-cell_within (suc (suc zero)) (suc zero) r c = omega arith
-cell_within (suc (suc (suc row))) category r c = absurd (omega (arith, r))
-cell_within zero (suc (suc category)) r c = absurd (omega (arith, c))
-cell_within (suc zero) (suc (suc category)) r c = absurd (omega (arith, c))
-cell_within (suc (suc zero)) (suc (suc category)) r c = absurd (omega (arith, c))
+cell_within row category r c = ⊎_elim (λ is. omega arith) (λ is. omega (arith, is.1)) (leads row category r c)
 
 -- no look-ahead rule is completed anywhere
 pub small_accept : (row : ℕ) → accept_of table_a row ≤ 1
@@ -182,38 +175,24 @@ small_accept (suc zero) = omega arith
 small_accept (suc (suc zero)) = omega arith
 small_accept (suc (suc (suc row))) = omega arith
 
+bare_head : (row : ℕ) → (fronts_of table_a row ≡ 0) × (list_of table_a row ≡ 0)
+bare_head zero = (refl, refl)
+bare_head (suc zero) = (refl, refl)
+bare_head (suc (suc zero)) = (refl, refl)
+bare_head (suc (suc (suc row))) = (refl, refl)
+
 row_valid : (row : ℕ) → row < 3 → IsValidRow table_a row
-row_valid zero r = record {
-  accept = omega arith;
-  fronts = omega arith;
-  list = omega arith;
-  next = λ c short. cell_within 0 c (omega arith) short;
-  unended =
-      λ _. refl;
-  completed = λ many. absurd (omega (arith, many));
+row_valid row r = record {
+  accept = small_accept row;
+  fronts = omega (arith, (bare_head row).0);
+  list = omega (arith, (bare_head row).1);
+  next = λ c short. cell_within row c r short;
+  unended = λ _. (bare_head row).1;
+  completed = λ many. absurd (omega (arith, many, small_accept row));
 }
-row_valid (suc zero) r = record {
-  accept = omega arith;
-  fronts = omega arith;
-  list = omega arith;
-  next = λ c short. cell_within 1 c (omega arith) short;
-  unended = λ _. refl;
-  completed = λ many. absurd (omega (arith, many));
-}
-row_valid (suc (suc zero)) r = record {
-  accept = omega arith;
-  fronts = omega arith;
-  list = omega arith;
-  next = λ c short. cell_within 2 c (omega arith) short;
-  unended = λ _. refl;
-  completed = λ many. absurd (omega (arith, many));
-}
-row_valid (suc (suc (suc row))) r = absurd (omega (arith, r))
 
 stop_leads : (category : ℕ) → category < 2 → step table_a 0 category ≡ 0
-stop_leads zero short = refl
-stop_leads (suc zero) short = refl
-stop_leads (suc (suc category)) short = absurd (omega (arith, short))
+stop_leads category short = leads_to_0 0 category (omega arith) short (λ same. omega (arith, same))
 
 pub ranges_valid : AreValidRanges 2 table_a.ranges
 ranges_valid =

@@ -38,29 +38,3 @@ pub last_some : (p : ℕ → Bool) (xs : List ℕ) → position_or_len p xs < le
 last_some p xs l =
     let rest = split_cons p (after_first p xs) in
     ap last_part (split_some p xs l) ∙ last_cons (before_first p xs) (slice_split p (after_first p xs)) rest.0 rest.1 rest.2
-
-length-onto_first : (x : ℕ) (parts : List (List ℕ)) → length (onto_first x parts) ≤ length parts + 1
-length-onto_first x [] = omega arith
-length-onto_first x (part ∷ parts) = omega arith
-
-length-split : (p : ℕ → Bool) (xs : List ℕ) → length (slice_split p xs) ≤ length xs + 1
-length-split p [] = omega arith
-length-split p (x ∷ xs) = both (p x) (length-split p xs)
-  where
-    both : (b : Bool) → length (slice_split p xs) ≤ length xs + 1 →
-        length (cond b ([] ∷ slice_split p xs) (onto_first x (slice_split p xs))) ≤ length (x ∷ xs) + 1
-    both true short = omega arith
-    both false short = omega (arith, length-onto_first x (slice_split p xs))
-
-length-lines_of_parts : (parts : List (List ℕ)) → length (lines_of_parts parts) ≤ length parts
-length-lines_of_parts [] = omega arith
-length-lines_of_parts (x ∷ []) = both (eqb (length x) 0)
-  where
-    both : (b : Bool) → length (cond b [] (x ∷ [])) ≤ 1
-    both true = omega arith
-    both false = omega arith
-length-lines_of_parts (x ∷ y ∷ more) = omega (arith, length-lines_of_parts (y ∷ more))
-
--- a text has at most one line more than bytes
-pub length-lines : (xs : List ℕ) → length (lines xs) ≤ length xs + 1
-length-lines xs = omega (arith, length-lines_of_parts (slice_split (λ b. eqb b 10) xs), length-split (λ b. eqb b 10) xs)

@@ -1,11 +1,11 @@
 -- Pieces of a text: what stands where, and what an edit of some of them makes of all.
 use Rattle.std.proofs.Common.{◌≡◌, ℕ, zero, suc, ◌+◌, ◌-◌, ◌*◌, ◌/◌, ◌^◌, ◌<◌, ◌≤◌, min, List, [], ◌∷◌, ◌++◌, map, length, get_or, set, take, drop, refl}
 use Rattle.std.proofs.Common.{ap}
-use Rattle.std.proofs.Common.{sym, ◌∙◌, subst, arith, length-append, length-take, length-drop, append_assoc, append-nil, ⊎_elim}
+use Rattle.std.proofs.Common.{sym, ◌∙◌, subst, arith, length-append, length-take, length-drop, append_assoc, append-nil, ◌⊎◌, inl, inr, ⊎_elim}
 use Rattle.std.specs.List.{AllByRecursion}
 use Rattle.std.specs.Prelude.{Bool, true, false, MatchBool}
 use Rattle.std.proofs.lemmas.Bool.{cases_lt, false≢true}
-use Rattle.std.proofs.lemmas.List.{take-append-drop, drop_more, drop_all, take_at, drop_at, get_or-append_right}
+use Rattle.std.proofs.lemmas.List.{take-append-drop, drop_more, drop_all, take_at, drop_at, get_or-append_right, get_or_read}
 use Rattle.std.proofs.lemmas.List.{get_or_append_left, get_or-drop, get_or-take, get_or-map, ext_get_or, length-map, set_split, take_more, length-take-le}
 use Rattle.rbbi_model.specs.Words.{IsText, most_characters}
 use Rattle.rbbi_model.specs.Spelling.{joined}
@@ -158,25 +158,15 @@ pub ends_at : (ps : List (List ℕ)) (k : ℕ) → k < length ps → length (joi
 ends_at ps k short =
     omega (arith, start_is 0 ps k short, length_parted ps k, length_parted ps (k + 1), length_piece ps k short)
 
--- a place of the text that was found is in the piece or at its end
-pub found_within : (ps : List (List ℕ)) (k place : ℕ) → IsIn (starts_from 0 ps) k place → place ≤ length (joined ps) →
-    place ≤ get_or (starts_from 0 ps) k 0 + length (get_or ps k [])
-found_within ps k place found inside =
+-- the piece in which a place was found ends behind the place, or with the text
+found_before : (ps : List (List ℕ)) (k place : ℕ) → IsIn (starts_from 0 ps) k place →
+    (place < get_or (starts_from 0 ps) k 0 + length (get_or ps k [])) ⊎ (get_or (starts_from 0 ps) k 0 + length (get_or ps k []) ≡ length (joined ps))
+found_before ps k place found =
     let short : k < length ps = omega (arith, found.within, length-starts 0 ps) in
     ⊎_elim
     (λ (more : k + 1 < length ps).
-    omega (arith, found.ends (omega (arith, more, length-starts 0 ps)), start_is 0 ps (k + 1) more, ends_at ps k short))
-    (λ (none : length ps ≤ k + 1). omega (arith, inside, ends_at ps k short, length_parted ps (k + 1), length_behind ps (k + 1) none))
-    (cases_lt (k + 1) (length ps))
-
-pub found_inside : (ps : List (List ℕ)) (k place : ℕ) → IsIn (starts_from 0 ps) k place → place < length (joined ps) →
-    place < get_or (starts_from 0 ps) k 0 + length (get_or ps k [])
-found_inside ps k place found inside =
-    let short : k < length ps = omega (arith, found.within, length-starts 0 ps) in
-    ⊎_elim
-    (λ (more : k + 1 < length ps).
-    omega (arith, found.ends (omega (arith, more, length-starts 0 ps)), start_is 0 ps (k + 1) more, ends_at ps k short))
-    (λ (none : length ps ≤ k + 1). omega (arith, inside, ends_at ps k short, length_parted ps (k + 1), length_behind ps (k + 1) none))
+    inl (omega (arith, found.ends (omega (arith, more, length-starts 0 ps)), start_is 0 ps (k + 1) more, ends_at ps k short)))
+    (λ (none : length ps ≤ k + 1). inr (omega (arith, ends_at ps k short, length_parted ps (k + 1), length_behind ps (k + 1) none)))
     (cases_lt (k + 1) (length ps))
 
 -- the character at a place
@@ -190,33 +180,35 @@ character_in ps k place short begins inside =
     ∙ get_or-append_right (joined (take k ps)) (get_or ps k [] ++ joined (drop (k + 1) ps)) start place 0 long begins
     ∙ get_or_append_left (get_or ps k []) (joined (drop (k + 1) ps)) 0 (place - start) (omega (arith, begins, inside))
 
--- what stands before a place in a piece
-pub taken_in : (ps : List (List ℕ)) (k x : ℕ) → k < length ps → x ≤ length (get_or ps k []) → take (get_or (starts_from 0 ps) k 0 + x) (joined ps) ≡ joined
-    (take k ps) ++ take x (get_or ps k [])
-taken_in ps k x short within =
-    let p : List ℕ = get_or ps k [] in
-    let front : List ℕ = joined (take k ps) in
-    let back : List ℕ = joined (drop (k + 1) ps) in
-    let start : ℕ = get_or (starts_from 0 ps) k 0 in
-    let long : length (front ++ take x p) ≡ start + x = omega (arith, length-append front (take x p), length-take-le x p within, start_is 0 ps k short) in
-    let whole : joined ps ≡ (front ++ take x p) ++ (drop x p ++ back) =
-    parted ps k ∙ ap (λ (l : List ℕ). front ++ l) (piece_at ps k short ∙ ap (λ (l : List ℕ). l ++ back) (sym (take-append-drop x p)))
-    ∙ simp append_assoc in
-    ap (λ (l : List ℕ). take (start + x) l) whole ∙ take_at (front ++ take x p) (drop x p ++ back) (start + x) long
+-- what stands before a place in a piece, and from it on
+module _ (ps : List (List ℕ)) (k x : ℕ) (short : k < length ps) (within : x ≤ length (get_or ps k [])) where
+  p : List ℕ
+  p = get_or ps k []
 
--- and from it on
-pub dropped_in : (ps : List (List ℕ)) (k x : ℕ) → k < length ps → x ≤ length (get_or ps k []) → drop (get_or (starts_from 0 ps) k 0 + x) (joined ps) ≡ drop x
-    (get_or ps k []) ++ joined (drop (k + 1) ps)
-dropped_in ps k x short within =
-    let p : List ℕ = get_or ps k [] in
-    let front : List ℕ = joined (take k ps) in
-    let back : List ℕ = joined (drop (k + 1) ps) in
-    let start : ℕ = get_or (starts_from 0 ps) k 0 in
-    let long : length (front ++ take x p) ≡ start + x = omega (arith, length-append front (take x p), length-take-le x p within, start_is 0 ps k short) in
-    let whole : joined ps ≡ (front ++ take x p) ++ (drop x p ++ back) =
-    parted ps k ∙ ap (λ (l : List ℕ). front ++ l) (piece_at ps k short ∙ ap (λ (l : List ℕ). l ++ back) (sym (take-append-drop x p)))
-    ∙ simp append_assoc in
-    ap (λ (l : List ℕ). drop (start + x) l) whole ∙ drop_at (front ++ take x p) (drop x p ++ back) (start + x) long
+  front : List ℕ
+  front = joined (take k ps) ++ take x p
+
+  back : List ℕ
+  back = drop x p ++ joined (drop (k + 1) ps)
+
+  long : length front ≡ get_or (starts_from 0 ps) k 0 + x
+  unfolding front p
+  long = omega (arith, length-append (joined (take k ps)) (take x p), length-take-le x p within, start_is 0 ps k short)
+
+  whole : joined ps ≡ front ++ back
+  unfolding front back p
+  whole =
+      parted ps k ∙ ap (λ (l : List ℕ). joined (take k ps) ++ l) (piece_at ps k short ∙ ap (λ (l : List ℕ). l ++ joined (drop (k + 1) ps))
+      (sym (take-append-drop x p)))
+      ∙ simp append_assoc
+
+  pub taken_in : take (get_or (starts_from 0 ps) k 0 + x) (joined ps) ≡ joined (take k ps) ++ take x (get_or ps k [])
+  unfolding front p
+  taken_in = ap (λ (l : List ℕ). take (get_or (starts_from 0 ps) k 0 + x) l) whole ∙ take_at front back (get_or (starts_from 0 ps) k 0 + x) long
+
+  pub dropped_in : drop (get_or (starts_from 0 ps) k 0 + x) (joined ps) ≡ drop x (get_or ps k []) ++ joined (drop (k + 1) ps)
+  unfolding back p
+  dropped_in = ap (λ (l : List ℕ). drop (get_or (starts_from 0 ps) k 0 + x) l) whole ∙ drop_at front back (get_or (starts_from 0 ps) k 0 + x) long
 
 -- edits
 
@@ -458,8 +450,8 @@ found_here ps k place inside found = record {
   within_starts = found.within;
   begins = found.begins;
   next = found.ends;
-  at_most = found_within ps k place found inside;
-  inside = found_inside ps k place found;
+  at_most = ⊎_elim (λ less. omega (arith, less)) (λ whole. omega (arith, whole, inside)) (found_before ps k place found);
+  inside = λ within. ⊎_elim (λ less. less) (λ whole. omega (arith, whole, within)) (found_before ps k place found);
 }
 
 pub is_found : (ps : List (List ℕ)) (starts : List ℕ) (k place : ℕ) → AreWholeCut ps starts → place ≤ length (joined ps) → IsIn starts k place →
@@ -670,21 +662,40 @@ so_far_pieces ps last x so_far same text =
       all,
     )
 
--- the same is found in the same lists
-pub found_moved : (ps ps' : List (List ℕ)) (starts starts' : List ℕ) (k place : ℕ) → ps ≡ ps' → starts ≡ starts' → IsFound ps starts k place →
-    IsFound ps' starts' k place
-found_moved ps ps' starts starts' k place same same' found =
-    let P : List (List ℕ) → Type 0 = λ x. IsFound x starts k place in
-    let Q : List ℕ → Type 0 = λ x. IsFound ps' x k place in
-    subst Q same' (subst P same found)
+-- What an edit has read: the piece in which it begins, and where that starts.
+pub record IsRead (ps : List (List ℕ)) (starts : List ℕ) (first at start : ℕ) (piece : List ℕ) : Type 0 where
+  pub found : IsFound ps starts first at
+  pub start_is : start ≡ get_or starts first 0
+  pub piece_is : piece ≡ get_or ps first []
+  pub place : get_or starts first 0 + (at - start) ≡ at
+  pub small : length (get_or ps first []) ≤ 1024
 
-pub middle_moved : (ps ps' : List (List ℕ)) (starts starts' front front' w : List ℕ) (end : ℕ) (characters : List ℕ) (past : ℕ) → ps ≡ ps' →
-    starts ≡ starts' → front ≡ front' → IsMiddle ps starts front w end characters past → IsMiddle ps' starts' front' w end characters past
-middle_moved ps ps' starts starts' front front' w end characters past same same_starts same_front middle =
-    let P : List (List ℕ) → Type 0 = λ x. IsMiddle x starts front w end characters past in
-    let Q : List ℕ → Type 0 = λ x. IsMiddle ps' x front w end characters past in
-    let R : List ℕ → Type 0 = λ x. IsMiddle ps' starts' x w end characters past in
-    subst R same_front (subst Q same_starts (subst P same middle))
+pub is_read : (ps ps' : List (List ℕ)) (starts starts' : List ℕ) (first at start : ℕ) (piece : List ℕ) → AreWholeCut ps starts → ps' ≡ ps →
+    starts' ≡ starts → IsFound ps' starts' first at → start ≡ get_or starts first start → piece ≡ get_or ps first piece → IsRead ps starts first at start piece
+is_read ps ps' starts starts' first at start piece cut same same' found' start_at piece_at =
+    let P : List (List ℕ) → Type 0 = λ x. IsFound x starts' first at in
+    let Q : List ℕ → Type 0 = λ x. IsFound ps x first at in
+    let found : IsFound ps starts first at = subst Q same' (subst P same found') in
+    let start_is : start ≡ get_or starts first 0 = get_or_read starts first start found.within_starts start_at 0 in
+    record {
+      found = found;
+      start_is = start_is;
+      piece_is = get_or_read ps first piece found.within piece_at [];
+      place = omega (arith, start_is, found.begins);
+      small = filled_small ps first cut.whole.filled;
+    }
+
+-- what is made of the pieces that an edit touches, where that piece is read anew
+pub middle_read : {ps : List (List ℕ)} {starts : List ℕ} {first at start : ℕ} {piece : List ℕ} (ps' : List (List ℕ)) (starts' front w : List ℕ) (end : ℕ)
+    (characters piece' : List ℕ) (past : ℕ) → IsRead ps starts first at start piece → ps' ≡ ps → starts' ≡ starts → piece' ≡ get_or ps first piece' →
+    front ≡ take (at - start) piece' → IsMiddle ps' starts' front w end characters past →
+    IsMiddle ps starts (take (at - start) (get_or ps first [])) w end characters past
+middle_read {ps} {starts} {first} {at} {start} ps' starts' front w end characters piece' past r same same_starts piece_at front_is middle =
+    let P : List (List ℕ) → Type 0 = λ x. IsMiddle x starts' front w end characters past in
+    let Q : List ℕ → Type 0 = λ x. IsMiddle ps x front w end characters past in
+    let R : List ℕ → Type 0 = λ x. IsMiddle ps starts x w end characters past in
+    subst R (front_is ∙ ap (λ (l : List ℕ). take (at - start) l) (get_or_read ps first piece' r.found.within piece_at []))
+    (subst Q same_starts (subst P same middle))
 
 -- starts with new ones, part by part
 pub starts_made : (starts first_starts both all made new_starts : List ℕ) (first past behind removed added : ℕ) → first_starts ≡ take first starts →

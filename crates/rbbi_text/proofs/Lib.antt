@@ -1,3 +1,4 @@
 pub mod Characters
 pub mod Splices
 pub mod CutLemmas
+pub mod Lines

@@ -1,5 +1,5 @@
 -- What the calls that make or change a text answer, by cases on the answer.
-use Rattle.std.specs.Prelude.{◌≡◌, ◌<◌, ◌≤◌, ◌+◌, ℕ, List, length, Result, Ok, Err, IsUtf8, chars}
+use Rattle.std.specs.Prelude.{◌≡◌, ◌<◌, ◌≤◌, ◌+◌, ◌-◌, ℕ, List, length, Result, Ok, Err, IsUtf8, chars}
 use Rattle.rbbi_model.specs.Words.{most_characters}
 use Rattle.rbbi_model.specs.Scripts.{splice}
 use Rattle.rbbi_text.specs.Bytes.{IsNotUtf8At}
@@ -22,6 +22,13 @@ ReadsText bytes (Ok x) = IsUtf8 bytes × (x ≡ chars bytes) × (length (chars b
 ReadsText bytes (Err (raw.NotUtf8 at)) = IsNotUtf8At bytes at
 ReadsText bytes (Err raw.TooManyChars) = IsUtf8 bytes × (most_characters < length (chars bytes))
 ReadsText bytes (Err raw.Memory) = Unit {0}
+
+-- what is answered before a text of so many characters is edited: how many are added, or why it is not edited
+abbrev pub Allows : ℕ → ℕ → ℕ → ℕ → Result ℕ EditErr → Type 0
+Allows len at remove added (Ok count) = (at + remove ≤ len) × (len - remove + added ≤ most_characters) × (count ≡ added)
+Allows len at remove added (Err edit.Outside) = len < at + remove
+Allows len at remove added (Err edit.TooLong) = (at + remove ≤ len) × (most_characters < len - remove + added)
+Allows len at remove added (Err edit.Memory) = ⊥
 
 -- what an edit of a text answers, and the text that it leaves
 abbrev pub Replaces : {T : Type 0} → List ℕ → ℕ → ℕ → List ℕ → Result T EditErr → List ℕ → Type 0

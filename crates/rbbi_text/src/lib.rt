@@ -26,4 +26,4 @@ pub use pieces::Pieces;
 pub use plain::PlainText;
 pub use raw::Raw;
 pub use steps::Steps;
-pub use word::Word;
+pub use word::{Word, push_character};

@@ -12,8 +12,8 @@ ghost use Rattle.rbbi_text.specs.Answers.{TakesText, ReadsText};
 
 use crate::piece::{FULL, Piece, QUARTER, cut, pieces_of};
 use crate::places::{character, locate, push_starts, shift};
-use crate::plain::{MOST_CHARACTERS, count, put};
-use crate::{Chars, EditErr, EditText, Raw, RawErr, Steps, TextErr, utf8_text};
+use crate::plain::{added, put};
+use crate::{Chars, EditErr, EditText, Raw, RawErr, Steps, TextErr};
 use std::alloc::{AllocError, Global};
 use std::fmt;
 use std::marker::Model;
@@ -92,11 +92,7 @@ impl Pieces {
         requires { length raw.now ≤ most_bytes }
         ensures { ReadsText raw.now result }
     {
-        let text = match utf8_text(raw.uncounted()) {
-            Ok(text) => text,
-            Err(at) => return Err(RawErr::NotUtf8(at)),
-        };
-        match pieces_of(alloc, text)? {
+        match pieces_of(alloc, raw.text()?)? {
             Some(pieces) => Ok(text_of(alloc, pieces)?),
             None => Err(RawErr::TooManyChars),
         }
@@ -339,22 +335,12 @@ fn edit(
 
 impl EditText for Pieces {
     fn replace(&mut self, at: u32, remove: u32, insert: &str) -> Result<(), EditErr> {
-        let len = self.len as usize;
-        let start = at as usize;
-        let end = start + remove as usize;
-        if end > len {
-            return Err(EditErr::Outside);
-        }
-        let added = count(insert);
-        if added > MOST_CHARACTERS - (len - (end - start)) {
-            return Err(EditErr::TooLong);
-        }
-        let added = added as u32;
+        let added = added(self.len as usize, at, remove, insert)?;
         edit(
             self.alloc,
             &mut self.pieces,
             &mut self.starts,
-            start,
+            at as usize,
             remove,
             insert,
             added,

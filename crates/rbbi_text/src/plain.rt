@@ -14,9 +14,9 @@ ghost use Rattle.std.specs.List.{splice};
 ghost use Rattle.rbbi_model.specs.Words.{most_characters};
 ghost use Rattle.rbbi_text.specs.Bytes.{most_bytes};
 ghost use Rattle.rbbi_text.specs.Texts.{IsShortText};
-ghost use Rattle.rbbi_text.specs.Answers.{TakesText, ReadsText};
+ghost use Rattle.rbbi_text.specs.Answers.{TakesText, ReadsText, Allows};
 
-use crate::{Chars, EditErr, EditText, Raw, RawErr, Steps, TextErr, utf8_text};
+use crate::{Chars, EditErr, EditText, Raw, RawErr, Steps, TextErr};
 use std::alloc::{AllocError, Global};
 use std::fmt;
 use std::marker::Model;
@@ -91,11 +91,7 @@ impl PlainText {
         requires { length raw.now ≤ most_bytes }
         ensures { ReadsText raw.now result }
     {
-        let text = match utf8_text(raw.uncounted()) {
-            Ok(text) => text,
-            Err(at) => return Err(RawErr::NotUtf8(at)),
-        };
-        match decoded(alloc, text)? {
+        match decoded(alloc, raw.text()?)? {
             Some(items) => Ok(PlainText { items }),
             None => Err(RawErr::TooManyChars),
         }
@@ -115,11 +111,20 @@ impl Chars for PlainText {
     }
 }
 
-/// The number of characters of a string.
-pub(crate) fn count(text: &str) -> usize
-    ensures { result ≡ length (chars text.now) }
+/// How many characters a string adds to a text of `len` characters where it is put in place of
+/// `remove` from the place `at`, or why it may not be.
+pub(crate) fn added(len: usize, at: u32, remove: u32, insert: &str) -> Result<u32, EditErr>
+    requires { len ≤ most_characters }
+    ensures { Allows len at remove (length (chars insert.now)) result }
 {
-    text.chars().count()
+    if at as usize + remove as usize > len {
+        return Err(EditErr::Outside);
+    }
+    let added = insert.chars().count();
+    if added > MOST_CHARACTERS - (len - remove as usize) {
+        return Err(EditErr::TooLong);
+    }
+    Ok(added as u32)
 }
 
 /// Puts the characters of a string in place of those from one place to another. It takes all memory
@@ -141,16 +146,9 @@ pub(crate) fn put(
 
 impl EditText for PlainText {
     fn replace(&mut self, at: u32, remove: u32, insert: &str) -> Result<(), EditErr> {
-        let len = self.items.len();
+        let _added = added(self.items.len(), at, remove, insert)?;
         let start = at as usize;
-        let end = start + remove as usize;
-        if end > len {
-            return Err(EditErr::Outside);
-        }
-        if count(insert) > MOST_CHARACTERS - (len - (end - start)) {
-            return Err(EditErr::TooLong);
-        }
-        put(&mut self.items, start, end, insert)?;
+        put(&mut self.items, start, start + remove as usize, insert)?;
         Ok(())
     }
 }

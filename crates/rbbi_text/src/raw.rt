@@ -1,7 +1,9 @@
 //! The bytes of a file.
-ghost use Rattle.std.specs.Prelude.{◌≡◌, ◌+◌, length};
+ghost use Rattle.std.specs.Prelude.{◌≡◌, ◌+◌, ◌≤◌, length, IsUtf8, MatchResult};
+ghost use Rattle.rbbi_text.specs.Bytes.{most_bytes};
+ghost use Rattle.rbbi_text.specs.Answers.{ReadsText};
 
-use crate::Steps;
+use crate::{RawErr, Steps, utf8_text};
 use std::fmt;
 use std::marker::Model;
 use std::sync::ledger::Ledger;
@@ -45,10 +47,15 @@ impl Raw {
         self.bytes.as_slice()
     }
 
-    /// The bytes, for a text that is made of them. It counts nothing.
-    pub(crate) fn uncounted(&self) -> &[u8]
-        ensures { result.now ≡ self.now }
+    /// The text that the bytes spell in UTF-8, for a text that is made of it. It counts nothing.
+    pub(crate) fn text(&self) -> Result<&str, RawErr>
+        requires { length self.now ≤ most_bytes }
+        ensures { MatchResult result (λ text. IsUtf8 self.now × (text.now ≡ self.now))
+            (λ refusal. ReadsText self.now (Err refusal)) }
     {
-        self.bytes.as_slice()
+        match utf8_text(&self.bytes) {
+            Ok(text) => Ok(text),
+            Err(at) => Err(RawErr::NotUtf8(at)),
+        }
     }
 }

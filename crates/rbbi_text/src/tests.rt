@@ -287,13 +287,6 @@ fn too_many_characters(rt: HostRuntime) -> Result<(), Fail> {
     let letters = letters(alloc, 1)?;
     assert!(rt; matches!(PlainText::new(alloc, &letters), Err(TextErr::TooManyChars)));
     assert!(rt; matches!(Pieces::new(alloc, &letters), Err(TextErr::TooManyChars)));
-    Ok(())
-}
-
-#[test]
-fn bytes_of_too_many_characters(rt: HostRuntime) -> Result<(), Fail> {
-    let alloc = rt.alloc();
-    let letters = letters(alloc, 1)?;
     assert!(rt; letters.len() == 16_777_217);
     let raw = raw_of(alloc, letters.as_bytes())?;
     assert!(rt; matches!(PlainText::from_raw(alloc, &raw), Err(RawErr::TooManyChars)));

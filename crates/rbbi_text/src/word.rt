@@ -1,5 +1,6 @@
 //! Words: short texts that are kept whole.
-ghost use Rattle.std.specs.Prelude.{◌≡◌, IfOk, chars, encode_utf8_all};
+ghost use Rattle.std.specs.Prelude.{◌≡◌, ◌++◌, [], ◌∷◌, IfOk, OnOk, chars, encode_utf8_all};
+ghost use Rattle.std.specs.Prelude.{string_bytes};
 
 use std::alloc::{AllocError, Global};
 use std::marker::Model;
@@ -35,4 +36,12 @@ impl Word {
     {
         self.text.as_str()
     }
+}
+
+/// Adds a character at the end of a string.
+pub fn push_character(string: &mut String, c: char) -> Result<(), AllocError>
+    ensures { OnOk result
+        (chars (string_bytes string.new) ≡ chars (string_bytes string.old) ++ c ∷ []) }
+{
+    string.push(c)
 }

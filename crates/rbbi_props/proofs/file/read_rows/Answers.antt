@@ -4,7 +4,7 @@ use Rattle.std.proofs.lemmas.Iterator.Splits.{YieldsList-from_lines}
 use Rattle.std.proofs.lemmas.Iterator.Consumers.{YieldsList-turn, YieldsList-end}
 use Rattle.std.proofs.lemmas.List.{get_or_default}
 use Rattle.std.proofs.lemmas.Result.{err_from_is_err_and}
-use Rattle.rbbi_props.proofs.Pieces.{length-lines}
+use Rattle.rbbi_text.proofs.Lines.{length-lines}
 use Rattle.rbbi_props.proofs.Reading.{IsReading-none, IsReading-more, IsReading-all, IsLineCause-from_line}
 use Rattle.rbbi_props.proofs.file.read_rows.Goals as goal
 

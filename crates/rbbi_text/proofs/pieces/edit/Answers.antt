@@ -1,43 +1,26 @@
 use Rattle.std.proofs.Common.{◌≡◌, ℕ, ◌+◌, ◌-◌, ◌<◌, ◌≤◌, List, [], ◌++◌, length, get_or, take, drop, ap, ◌∙◌, chars, arith, length-take}
-use Rattle.std.proofs.lemmas.List.{get_or_read}
 use Rattle.rbbi_model.specs.Words.{most_characters}
 use Rattle.rbbi_model.specs.Spelling.{joined}
-use Rattle.rbbi_text.specs.Cuts.{IsFound, IsMiddle, moved, starts_with_new}
+use Rattle.rbbi_text.specs.Cuts.{moved, starts_with_new}
 use Rattle.rbbi_text.proofs.Characters.{IsText-chars}
-use Rattle.rbbi_text.proofs.CutLemmas.{found_moved, middle_moved, filled_small, behind_start, small_start, found_end, middle_short, edit_one, edit_many}
+use Rattle.rbbi_text.proofs.CutLemmas.{is_read, middle_read, behind_start, small_start, found_end, middle_short, edit_one, edit_many}
 use Rattle.rbbi_text.proofs.pieces.edit.Goals as goal
 
 pub fits-requires-clause-size : goal.fits-requires-clause-size
 fits-requires-clause-size c =
-    let ps : List (List ℕ) = c.args.pieces.now.items in
-    let starts : List ℕ = c.args.starts.now.items in
-    let first : ℕ = c.locate-first.result in
-    let w : List ℕ = chars c.args.insert.now in
-    let found : IsFound ps starts first c.args.place =
-    found_moved c.deref.result.now ps c.deref-2.result.now starts first c.args.place c.deref.ensures.value c.deref-2.ensures.value c.locate-first.ensures in
-    let start : c.index.result.now ≡ get_or starts first 0 = get_or_read starts first c.index.result.now found.within_starts c.index.ensures 0 in
-    let from : ℕ = c.args.place - c.index.result.now in
-    let piece : c.index-2.result.now ≡ get_or ps first [] = get_or_read ps first c.index-2.result.now found.within c.index-2.ensures [] in
-    let place : get_or starts first 0 + from ≡ c.args.place = omega (arith, start, found.begins) in
-    let small : length (get_or ps first []) ≤ 1024 = filled_small ps first c.requires.cut.whole.filled in
-    omega (arith, c.len-size.ensures, ap length piece, small)
+    let r = is_read c.args.pieces.now.items _ c.args.starts.now.items _ c.locate-first.result c.args.place c.index.result.now c.index-2.result.now
+    c.requires.cut c.deref.ensures.value c.deref-2.ensures.value c.locate-first.ensures c.index.ensures c.index-2.ensures in
+    omega (arith, c.len-size.ensures, ap length r.piece_is, r.small)
 
 pub edit_piece-requires-clause-behind : goal.edit_piece-requires-clause-behind
 edit_piece-requires-clause-behind c =
+    let r = is_read c.args.pieces.now.items _ c.args.starts.now.items _ c.locate-first.result c.args.place c.index.result.now c.index-2.result.now
+    c.requires.cut c.deref.ensures.value c.deref-2.ensures.value c.locate-first.ensures c.index.ensures c.index-2.ensures in
     let ps : List (List ℕ) = c.args.pieces.now.items in
     let starts : List ℕ = c.args.starts.now.items in
     let first : ℕ = c.locate-first.result in
-    let w : List ℕ = chars c.args.insert.now in
-    let found : IsFound ps starts first c.args.place =
-    found_moved c.deref.result.now ps c.deref-2.result.now starts first c.args.place c.deref.ensures.value c.deref-2.ensures.value c.locate-first.ensures in
-    let start : c.index.result.now ≡ get_or starts first 0 = get_or_read starts first c.index.result.now found.within_starts c.index.ensures 0 in
-    let from : ℕ = c.args.place - c.index.result.now in
-    let piece : c.index-2.result.now ≡ get_or ps first [] = get_or_read ps first c.index-2.result.now found.within c.index-2.ensures [] in
-    let place : get_or starts first 0 + from ≡ c.args.place = omega (arith, start, found.begins) in
-    let small : length (get_or ps first []) ≤ 1024 = filled_small ps first c.requires.cut.whole.filled in
-    let size : c.len-size.result ≡ length (get_or ps first []) = c.len-size.ensures ∙ ap length piece in
     let before : c.args.remove ≤ length (joined (take (first + 1) ps)) =
-    omega (arith, c.if-fits.ensures.0, size, found_end ps starts first c.args.place c.requires.cut found) in
+    omega (arith, c.if-fits.ensures.0, c.len-size.ensures, ap length r.piece_is, r.start_is, r.place, found_end ps starts first c.args.place c.requires.cut r.found) in
     behind_start ps starts (first + 1) c.args.remove c.requires.cut before
 
 pub edit_piece-requires-clause-small : goal.edit_piece-requires-clause-small
@@ -50,115 +33,62 @@ edit_piece-requires-clause-small c =
       c.requires.cut.whole.text.1,
     )
 
-pub returns-then-fits-clause-cut : goal.returns-then-fits-clause-cut
-returns-then-fits-clause-cut c =
+pub returns-then-fits : goal.returns-then-fits
+returns-then-fits c =
+    let r = is_read c.args.pieces.now.items _ c.args.starts.now.items _ c.locate-first.result c.args.place c.index.result.now c.index-2.result.now
+    c.requires.cut c.deref.ensures.value c.deref-2.ensures.value c.locate-first.ensures c.index.ensures c.index-2.ensures in
     let ps : List (List ℕ) = c.args.pieces.now.items in
-    let starts : List ℕ = c.args.starts.now.items in
     let first : ℕ = c.locate-first.result in
+    let starts : List ℕ = c.args.starts.now.items in
     let w : List ℕ = chars c.args.insert.now in
-    let found : IsFound ps starts first c.args.place =
-    found_moved c.deref.result.now ps c.deref-2.result.now starts first c.args.place c.deref.ensures.value c.deref-2.ensures.value c.locate-first.ensures in
-    let start : c.index.result.now ≡ get_or starts first 0 = get_or_read starts first c.index.result.now found.within_starts c.index.ensures 0 in
-    let from : ℕ = c.args.place - c.index.result.now in
-    let piece : c.index-2.result.now ≡ get_or ps first [] = get_or_read ps first c.index-2.result.now found.within c.index-2.ensures [] in
-    let place : get_or starts first 0 + from ≡ c.args.place = omega (arith, start, found.begins) in
-    let small : length (get_or ps first []) ≤ 1024 = filled_small ps first c.requires.cut.whole.filled in
-    let size : c.len-size.result ≡ length (get_or ps first []) = c.len-size.ensures ∙ ap length piece in
+    let size : c.len-size.result ≡ length (get_or ps first []) = c.len-size.ensures ∙ ap length r.piece_is in
     let few : length (joined ps) - c.args.remove + length w ≤ most_characters = omega (arith, c.requires.few, c.requires.added) in
-    (edit_one ps c.edit_piece.new.pieces.items starts c.edit_piece.new.starts.items w c.args.place c.args.remove first from c.requires.cut
-    (IsText-chars c.args.insert.now c.utf8.insert) few found.within place
+    let made = edit_one ps c.edit_piece.new.pieces.items starts c.edit_piece.new.starts.items w c.args.place c.args.remove first
+    (c.args.place - c.index.result.now) c.requires.cut (IsText-chars c.args.insert.now c.utf8.insert) few r.found.within r.place
     (omega (arith, size, c.if-fits.ensures.0)) (omega (arith, size, c.if-fits.ensures.1, c.requires.added))
     (λ more. omega (arith, size, c.if-fits.ensures.2 (omega (arith, more, c.len.ensures, c.args.pieces.now.ok.0)), c.requires.added))
     c.in_ok-edit_piece.ensures.pieces
-    (c.in_ok-edit_piece.ensures.starts ∙ ap (λ (n : ℕ). take (first + 1) starts ++ moved c.args.remove n (drop (first + 1) starts)) c.requires.added)).0
-
-pub returns-then-fits-clause-text : goal.returns-then-fits-clause-text
-returns-then-fits-clause-text c =
-    let ps : List (List ℕ) = c.args.pieces.now.items in
-    let starts : List ℕ = c.args.starts.now.items in
-    let first : ℕ = c.locate-first.result in
-    let w : List ℕ = chars c.args.insert.now in
-    let found : IsFound ps starts first c.args.place =
-    found_moved c.deref.result.now ps c.deref-2.result.now starts first c.args.place c.deref.ensures.value c.deref-2.ensures.value c.locate-first.ensures in
-    let start : c.index.result.now ≡ get_or starts first 0 = get_or_read starts first c.index.result.now found.within_starts c.index.ensures 0 in
-    let from : ℕ = c.args.place - c.index.result.now in
-    let piece : c.index-2.result.now ≡ get_or ps first [] = get_or_read ps first c.index-2.result.now found.within c.index-2.ensures [] in
-    let place : get_or starts first 0 + from ≡ c.args.place = omega (arith, start, found.begins) in
-    let small : length (get_or ps first []) ≤ 1024 = filled_small ps first c.requires.cut.whole.filled in
-    let size : c.len-size.result ≡ length (get_or ps first []) = c.len-size.ensures ∙ ap length piece in
-    let few : length (joined ps) - c.args.remove + length w ≤ most_characters = omega (arith, c.requires.few, c.requires.added) in
-    (edit_one ps c.edit_piece.new.pieces.items starts c.edit_piece.new.starts.items w c.args.place c.args.remove first from c.requires.cut
-    (IsText-chars c.args.insert.now c.utf8.insert) few found.within place
-    (omega (arith, size, c.if-fits.ensures.0)) (omega (arith, size, c.if-fits.ensures.1, c.requires.added))
-    (λ more. omega (arith, size, c.if-fits.ensures.2 (omega (arith, more, c.len.ensures, c.args.pieces.now.ok.0)), c.requires.added))
-    c.in_ok-edit_piece.ensures.pieces
-    (c.in_ok-edit_piece.ensures.starts ∙ ap (λ (n : ℕ). take (first + 1) starts ++ moved c.args.remove n (drop (first + 1) starts)) c.requires.added)).1
+    (c.in_ok-edit_piece.ensures.starts ∙ ap (λ (n : ℕ). take (first + 1) starts ++ moved c.args.remove n (drop (first + 1) starts)) c.requires.added) in
+    record { cut = made.0; text = made.1; err = tt; err_starts = tt }
 
 pub starts_with-requires-clause-few : goal.starts_with-requires-clause-few
 starts_with-requires-clause-few c =
+    let r = is_read c.args.pieces.now.items _ c.args.starts.now.items _ c.locate-first.result c.args.place c.index.result.now c.index-2.result.now
+    c.requires.cut c.deref.ensures.value c.deref-2.ensures.value c.locate-first.ensures c.index.ensures c.index-2.ensures in
+    let middle = middle_read _ _ _ (chars c.args.insert.now) (c.args.place + c.args.remove) c.in_ok-middle.middle.characters.items _
+    c.in_ok-middle.middle.past r c.deref-3.ensures.value c.deref-4.ensures.value c.index-3.ensures c.before-front.ensures c.in_ok-middle.ensures in
     let ps : List (List ℕ) = c.args.pieces.now.items in
     let starts : List ℕ = c.args.starts.now.items in
     let first : ℕ = c.locate-first.result in
-    let w : List ℕ = chars c.args.insert.now in
-    let found : IsFound ps starts first c.args.place =
-    found_moved c.deref.result.now ps c.deref-2.result.now starts first c.args.place c.deref.ensures.value c.deref-2.ensures.value c.locate-first.ensures in
-    let start : c.index.result.now ≡ get_or starts first 0 = get_or_read starts first c.index.result.now found.within_starts c.index.ensures 0 in
-    let from : ℕ = c.args.place - c.index.result.now in
-    let piece : c.index-2.result.now ≡ get_or ps first [] = get_or_read ps first c.index-2.result.now found.within c.index-2.ensures [] in
-    let place : get_or starts first 0 + from ≡ c.args.place = omega (arith, start, found.begins) in
-    let small : length (get_or ps first []) ≤ 1024 = filled_small ps first c.requires.cut.whole.filled in
-    let characters : List ℕ = c.in_ok-middle.middle.characters.items in
-    let past : ℕ = c.in_ok-middle.middle.past in
-    let piece3 : c.index-3.result.now ≡ get_or ps first [] = get_or_read ps first c.index-3.result.now found.within c.index-3.ensures [] in
-    let front : c.before-front.result.now ≡ take from (get_or ps first []) = c.before-front.ensures ∙ ap (λ (l : List ℕ). take from l) piece3 in
-    let middle : IsMiddle ps starts (take from (get_or ps first [])) w (c.args.place + c.args.remove) characters past =
-    middle_moved c.deref-3.result.now ps c.deref-4.result.now starts c.before-front.result.now (take from (get_or ps first [])) w
-    (c.args.place + c.args.remove) characters past
-    c.deref-3.ensures.value c.deref-4.ensures.value front c.in_ok-middle.ensures in
-    let same : joined c.in_ok-new.new.items ≡ characters = c.in_ok-new.ensures.same ∙ c.deref-5.ensures.value in
     let same_start : get_or c.deref-6.result.now first 0 ≡ get_or starts first 0 = ap (λ (l : List ℕ). get_or l first 0) c.deref-6.ensures.value in
-    let same_new : length (joined c.deref-7.result.now) ≡ length characters = ap (λ (l : List (List ℕ)). length (joined l)) c.deref-7.ensures.value
-    ∙ ap length same in
+    let same_new : length (joined c.deref-7.result.now) ≡ length c.in_ok-middle.middle.characters.items =
+    ap (λ (l : List (List ℕ)). length (joined l)) c.deref-7.ensures.value ∙ ap length (c.in_ok-new.ensures.same ∙ c.deref-5.ensures.value) in
     omega (
       arith,
       same_start,
       same_new,
-      small_start ps starts c.requires.cut first found.within_starts,
+      small_start ps starts c.requires.cut first r.found.within_starts,
       c.requires.few,
       c.requires.added,
       c.requires.inside,
       c.requires.cut.whole.text.1,
-      small,
-      length-take from (get_or ps first []),
-      middle_short ps starts (take from (get_or ps first [])) w (c.args.place + c.args.remove) characters past middle,
+      r.small,
+      length-take (c.args.place - c.index.result.now) (get_or ps first []),
+      middle_short _ _ _ _ _ _ _ middle,
     )
 
 pub starts_with-requires-clause-behind : goal.starts_with-requires-clause-behind
 starts_with-requires-clause-behind c =
-    let ps : List (List ℕ) = c.args.pieces.now.items in
-    let starts : List ℕ = c.args.starts.now.items in
-    let first : ℕ = c.locate-first.result in
-    let w : List ℕ = chars c.args.insert.now in
-    let found : IsFound ps starts first c.args.place =
-    found_moved c.deref.result.now ps c.deref-2.result.now starts first c.args.place c.deref.ensures.value c.deref-2.ensures.value c.locate-first.ensures in
-    let start : c.index.result.now ≡ get_or starts first 0 = get_or_read starts first c.index.result.now found.within_starts c.index.ensures 0 in
-    let from : ℕ = c.args.place - c.index.result.now in
-    let piece : c.index-2.result.now ≡ get_or ps first [] = get_or_read ps first c.index-2.result.now found.within c.index-2.ensures [] in
-    let place : get_or starts first 0 + from ≡ c.args.place = omega (arith, start, found.begins) in
-    let small : length (get_or ps first []) ≤ 1024 = filled_small ps first c.requires.cut.whole.filled in
-    let characters : List ℕ = c.in_ok-middle.middle.characters.items in
-    let past : ℕ = c.in_ok-middle.middle.past in
-    let piece3 : c.index-3.result.now ≡ get_or ps first [] = get_or_read ps first c.index-3.result.now found.within c.index-3.ensures [] in
-    let front : c.before-front.result.now ≡ take from (get_or ps first []) = c.before-front.ensures ∙ ap (λ (l : List ℕ). take from l) piece3 in
-    let middle : IsMiddle ps starts (take from (get_or ps first [])) w (c.args.place + c.args.remove) characters past =
-    middle_moved c.deref-3.result.now ps c.deref-4.result.now starts c.before-front.result.now (take from (get_or ps first [])) w
-    (c.args.place + c.args.remove) characters past
-    c.deref-3.ensures.value c.deref-4.ensures.value front c.in_ok-middle.ensures in
-    let same : joined c.in_ok-new.new.items ≡ characters = c.in_ok-new.ensures.same ∙ c.deref-5.ensures.value in
+    let r = is_read c.args.pieces.now.items _ c.args.starts.now.items _ c.locate-first.result c.args.place c.index.result.now c.index-2.result.now
+    c.requires.cut c.deref.ensures.value c.deref-2.ensures.value c.locate-first.ensures c.index.ensures c.index-2.ensures in
+    let middle = middle_read _ _ _ (chars c.args.insert.now) (c.args.place + c.args.remove) c.in_ok-middle.middle.characters.items _
+    c.in_ok-middle.middle.past r c.deref-3.ensures.value c.deref-4.ensures.value c.index-3.ensures c.before-front.ensures c.in_ok-middle.ensures in
     λ k behind short.
+    let starts : List ℕ = c.args.starts.now.items in
     let within : k < length starts = omega (arith, short, ap length c.deref-6.ensures.value) in
     let same_start : get_or c.deref-6.result.now k 0 ≡ get_or starts k 0 = ap (λ (l : List ℕ). get_or l k 0) c.deref-6.ensures.value in
-    omega (arith, same_start, behind_start ps starts past c.args.remove c.requires.cut (omega (arith, middle.behind)) k behind within)
+    omega
+    (arith, same_start, behind_start c.args.pieces.now.items starts _ c.args.remove c.requires.cut (omega (arith, middle.behind)) k behind within)
 
 pub starts_with-requires-clause-small : goal.starts_with-requires-clause-small
 starts_with-requires-clause-small c =
@@ -175,70 +105,26 @@ starts_with-requires-clause-small c =
       c.requires.cut.whole.text.1,
     )
 
-pub returns-clause-cut : goal.returns-clause-cut
-returns-clause-cut c =
+pub returns : goal.returns
+returns c =
+    let r = is_read c.args.pieces.now.items _ c.args.starts.now.items _ c.locate-first.result c.args.place c.index.result.now c.index-2.result.now
+    c.requires.cut c.deref.ensures.value c.deref-2.ensures.value c.locate-first.ensures c.index.ensures c.index-2.ensures in
+    let middle = middle_read _ _ _ (chars c.args.insert.now) (c.args.place + c.args.remove) c.in_ok-middle.middle.characters.items _
+    c.in_ok-middle.middle.past r c.deref-3.ensures.value c.deref-4.ensures.value c.index-3.ensures c.before-front.ensures c.in_ok-middle.ensures in
     let ps : List (List ℕ) = c.args.pieces.now.items in
-    let starts : List ℕ = c.args.starts.now.items in
     let first : ℕ = c.locate-first.result in
-    let w : List ℕ = chars c.args.insert.now in
-    let found : IsFound ps starts first c.args.place =
-    found_moved c.deref.result.now ps c.deref-2.result.now starts first c.args.place c.deref.ensures.value c.deref-2.ensures.value c.locate-first.ensures in
-    let start : c.index.result.now ≡ get_or starts first 0 = get_or_read starts first c.index.result.now found.within_starts c.index.ensures 0 in
-    let from : ℕ = c.args.place - c.index.result.now in
-    let piece : c.index-2.result.now ≡ get_or ps first [] = get_or_read ps first c.index-2.result.now found.within c.index-2.ensures [] in
-    let place : get_or starts first 0 + from ≡ c.args.place = omega (arith, start, found.begins) in
-    let small : length (get_or ps first []) ≤ 1024 = filled_small ps first c.requires.cut.whole.filled in
-    let characters : List ℕ = c.in_ok-middle.middle.characters.items in
+    let starts : List ℕ = c.args.starts.now.items in
     let past : ℕ = c.in_ok-middle.middle.past in
-    let piece3 : c.index-3.result.now ≡ get_or ps first [] = get_or_read ps first c.index-3.result.now found.within c.index-3.ensures [] in
-    let front : c.before-front.result.now ≡ take from (get_or ps first []) = c.before-front.ensures ∙ ap (λ (l : List ℕ). take from l) piece3 in
-    let middle : IsMiddle ps starts (take from (get_or ps first [])) w (c.args.place + c.args.remove) characters past =
-    middle_moved c.deref-3.result.now ps c.deref-4.result.now starts c.before-front.result.now (take from (get_or ps first [])) w
-    (c.args.place + c.args.remove) characters past
-    c.deref-3.ensures.value c.deref-4.ensures.value front c.in_ok-middle.ensures in
-    let same : joined c.in_ok-new.new.items ≡ characters = c.in_ok-new.ensures.same ∙ c.deref-5.ensures.value in
+    let w : List ℕ = chars c.args.insert.now in
     let few : length (joined ps) - c.args.remove + length w ≤ most_characters = omega (arith, c.requires.few, c.requires.added) in
-    let within : from ≤ length (get_or ps first []) = omega (arith, start, found.at_most) in
     let starts_are : c.in_ok-new_starts.new_starts.items ≡ starts_with_new starts first past c.in_ok-new.new.items c.args.remove (length w) =
     c.in_ok-new_starts.ensures ∙ ap (λ (s : List ℕ). starts_with_new s first past c.deref-7.result.now c.args.remove c.args.added) c.deref-6.ensures.value
     ∙ ap (λ (l : List (List ℕ)). starts_with_new starts first past l c.args.remove c.args.added) c.deref-7.ensures.value
     ∙ ap (λ (n : ℕ). starts_with_new starts first past c.in_ok-new.new.items c.args.remove n) c.requires.added in
-    (edit_many ps c.put_pieces.new.pieces.items c.in_ok-new.new.items starts c.put_pieces.new.starts.items characters w c.args.place c.args.remove first from
-    past
-    c.requires.cut (IsText-chars c.args.insert.now c.utf8.insert) few found.within place within middle same c.in_ok-new.ensures.some c.in_ok-new.ensures.filled
+    let made = edit_many ps c.put_pieces.new.pieces.items c.in_ok-new.new.items starts c.put_pieces.new.starts.items
+    c.in_ok-middle.middle.characters.items w c.args.place c.args.remove first (c.args.place - c.index.result.now) past c.requires.cut
+    (IsText-chars c.args.insert.now c.utf8.insert) few r.found.within r.place (omega (arith, r.start_is, r.found.at_most)) middle
+    (c.in_ok-new.ensures.same ∙ c.deref-5.ensures.value) c.in_ok-new.ensures.some c.in_ok-new.ensures.filled
     (λ enough. c.in_ok-new.ensures.all (omega (arith, enough, ap length c.deref-5.ensures.value)))
-    c.in_ok-put_pieces.ensures.pieces (c.in_ok-put_pieces.ensures.starts ∙ starts_are)).0
-
-pub returns-clause-text : goal.returns-clause-text
-returns-clause-text c =
-    let ps : List (List ℕ) = c.args.pieces.now.items in
-    let starts : List ℕ = c.args.starts.now.items in
-    let first : ℕ = c.locate-first.result in
-    let w : List ℕ = chars c.args.insert.now in
-    let found : IsFound ps starts first c.args.place =
-    found_moved c.deref.result.now ps c.deref-2.result.now starts first c.args.place c.deref.ensures.value c.deref-2.ensures.value c.locate-first.ensures in
-    let start : c.index.result.now ≡ get_or starts first 0 = get_or_read starts first c.index.result.now found.within_starts c.index.ensures 0 in
-    let from : ℕ = c.args.place - c.index.result.now in
-    let piece : c.index-2.result.now ≡ get_or ps first [] = get_or_read ps first c.index-2.result.now found.within c.index-2.ensures [] in
-    let place : get_or starts first 0 + from ≡ c.args.place = omega (arith, start, found.begins) in
-    let small : length (get_or ps first []) ≤ 1024 = filled_small ps first c.requires.cut.whole.filled in
-    let characters : List ℕ = c.in_ok-middle.middle.characters.items in
-    let past : ℕ = c.in_ok-middle.middle.past in
-    let piece3 : c.index-3.result.now ≡ get_or ps first [] = get_or_read ps first c.index-3.result.now found.within c.index-3.ensures [] in
-    let front : c.before-front.result.now ≡ take from (get_or ps first []) = c.before-front.ensures ∙ ap (λ (l : List ℕ). take from l) piece3 in
-    let middle : IsMiddle ps starts (take from (get_or ps first [])) w (c.args.place + c.args.remove) characters past =
-    middle_moved c.deref-3.result.now ps c.deref-4.result.now starts c.before-front.result.now (take from (get_or ps first [])) w
-    (c.args.place + c.args.remove) characters past
-    c.deref-3.ensures.value c.deref-4.ensures.value front c.in_ok-middle.ensures in
-    let same : joined c.in_ok-new.new.items ≡ characters = c.in_ok-new.ensures.same ∙ c.deref-5.ensures.value in
-    let few : length (joined ps) - c.args.remove + length w ≤ most_characters = omega (arith, c.requires.few, c.requires.added) in
-    let within : from ≤ length (get_or ps first []) = omega (arith, start, found.at_most) in
-    let starts_are : c.in_ok-new_starts.new_starts.items ≡ starts_with_new starts first past c.in_ok-new.new.items c.args.remove (length w) =
-    c.in_ok-new_starts.ensures ∙ ap (λ (s : List ℕ). starts_with_new s first past c.deref-7.result.now c.args.remove c.args.added) c.deref-6.ensures.value
-    ∙ ap (λ (l : List (List ℕ)). starts_with_new starts first past l c.args.remove c.args.added) c.deref-7.ensures.value
-    ∙ ap (λ (n : ℕ). starts_with_new starts first past c.in_ok-new.new.items c.args.remove n) c.requires.added in
-    (edit_many ps c.put_pieces.new.pieces.items c.in_ok-new.new.items starts c.put_pieces.new.starts.items characters w c.args.place c.args.remove first from
-    past
-    c.requires.cut (IsText-chars c.args.insert.now c.utf8.insert) few found.within place within middle same c.in_ok-new.ensures.some c.in_ok-new.ensures.filled
-    (λ enough. c.in_ok-new.ensures.all (omega (arith, enough, ap length c.deref-5.ensures.value)))
-    c.in_ok-put_pieces.ensures.pieces (c.in_ok-put_pieces.ensures.starts ∙ starts_are)).1
+    c.in_ok-put_pieces.ensures.pieces (c.in_ok-put_pieces.ensures.starts ∙ starts_are) in
+    record { cut = made.0; text = made.1; err = tt; err_starts = tt }
