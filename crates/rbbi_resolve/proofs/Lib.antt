@@ -9,6 +9,7 @@ pub mod Named
 pub mod Characters
 pub mod Counting
 pub mod Kept
+pub mod Memberships
 pub mod ItemTrees
 pub mod OneMeaning
 pub mod Earliest

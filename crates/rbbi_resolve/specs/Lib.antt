@@ -6,6 +6,7 @@ pub mod Contexts
 pub mod Expressions
 pub mod Parts
 pub mod Emptiness
+pub mod Memberships
 pub mod Faults
 pub mod Files
 pub mod Counts

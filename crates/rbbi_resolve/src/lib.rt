@@ -13,6 +13,7 @@ mod file;
 mod joining;
 mod laws;
 mod leaves;
+mod membership;
 mod outcome;
 mod properties;
 mod rule;
@@ -26,6 +27,7 @@ mod switches;
 mod tests;
 mod tree;
 mod variables;
+mod witness;
 
 pub use error::ResolveErr;
 pub use laws::{
