@@ -19,6 +19,7 @@ pub mod Steps
 pub mod Sound
 pub mod SoundFiles
 pub mod Adding
+pub mod LoneSets
 pub mod TreeValues
 pub mod Weights
 pub mod Building

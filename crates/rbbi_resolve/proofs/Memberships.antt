@@ -1,7 +1,6 @@
 -- Whether a character is in the value of a set, one part after another.
-use Rattle.std.proofs.Common.{◌≡◌, ℕ, ◌+◌, ◌<◌, ◌≤◌, Bool, true, false, not, ◌&&◌, leb, nat_lt, IsTrue, ◌↔◌, Option, Some, None, option_map, List, [], ◌∷◌}
+use Rattle.std.proofs.Common.{◌≡◌, ℕ, ◌+◌, ◌<◌, ◌≤◌, Bool, true, false, not, ◌&&◌, leb, IsTrue, ◌↔◌, Option, Some, None, option_map, List, [], ◌∷◌}
 use Rattle.std.proofs.Common.{◌++◌, map, length, drop, get_or, sym, refl, ap, ◌∙◌, subst, arith}
-use Rattle.std.proofs.lemmas.Bool.{false≢true}
 use Rattle.std.proofs.lemmas.Bool.Decides.{nat_tests}
 use Rattle.std.proofs.lemmas.List.{drop_all}
 use Rattle.rbbi_model.specs.Words.{IsCharacter}
@@ -17,7 +16,7 @@ use Rattle.rbbi_tree.specs.declared.syntax.SetPart.{SetPart}
 use Rattle.rbbi_tree.specs.declared.syntax.SetItem.TheViews.{out-SetExpr, out-SetPart}
 use Rattle.rbbi_resolve.specs.declared.fault.Fault.{Fault}
 use Rattle.rbbi_resolve.specs.Contexts.{Context, value_of_name}
-use Rattle.rbbi_resolve.specs.SetValues.{IsValue, HasMembers, joined_to, signed, value_of_set, value_of_parts, value_of_part, value_of_item}
+use Rattle.rbbi_resolve.specs.SetValues.{IsValue, joined_to, signed, value_of_set, value_of_parts, value_of_item}
 use Rattle.rbbi_resolve.specs.Emptiness.{in_set}
 use Rattle.rbbi_resolve.specs.Memberships.{is_in, after_join, with_sign}
 use Rattle.rbbi_resolve.specs.Parts.{Outside, parts_of_set, parts_of_part, parts_of_parts}

@@ -15,6 +15,7 @@ pub mod Refusals
 pub mod Summaries
 pub mod Scopes
 pub mod Definitions
+pub mod LoneSets
 pub mod Switchings
 pub mod RuleSums
 pub mod Readings

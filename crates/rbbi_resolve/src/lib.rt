@@ -15,6 +15,7 @@ mod laws;
 mod leaves;
 mod membership;
 mod outcome;
+mod own_leaves;
 mod properties;
 mod rule;
 mod rules;
