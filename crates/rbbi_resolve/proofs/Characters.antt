@@ -88,7 +88,7 @@ any_below_takes test (suc end) c below e =
 no_surrogate : (c : ℕ) → Tells (is_no_surrogate c) (¬ IsSurrogate c)
 no_surrogate c = tells_not _ (IsSurrogate c) (tells_and (leb 0xD800 c) (leb c 0xDFFF) (0xD800 ≤ c) (c ≤ 0xDFFF) (tells_le 0xD800 c) (tells_le c 0xDFFF))
 
-same_tests : (a b : Bool) → (a ≡ true → b ≡ true) → (b ≡ true → a ≡ true) → a ≡ b
+pub same_tests : (a b : Bool) → (a ≡ true → b ≡ true) → (b ≡ true → a ≡ true) → a ≡ b
 same_tests true b to back = sym (to refl)
 same_tests false true to back = back refl
 same_tests false false to back = refl

@@ -9,6 +9,7 @@ pub mod Named
 pub mod Characters
 pub mod Counting
 pub mod Kept
+pub mod Memberships
 pub mod ItemTrees
 pub mod OneMeaning
 pub mod Earliest
@@ -18,6 +19,7 @@ pub mod Steps
 pub mod Sound
 pub mod SoundFiles
 pub mod Adding
+pub mod LoneSets
 pub mod TreeValues
 pub mod Weights
 pub mod Building

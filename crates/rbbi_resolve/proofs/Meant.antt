@@ -20,7 +20,7 @@ use Rattle.rbbi_resolve.specs.Contexts.{Set, Expression, Context, assigned_to, v
 use Rattle.rbbi_resolve.specs.Expressions.{leaf_of, word_of, meaning_of_variable, meaning_of_expr, meaning_of_seq, meaning_of_item, meaning_of_atom}
 use Rattle.rbbi_resolve.specs.Expressions.{height_of_expr, set_of_variable, set_of_atom, set_of_item, set_of_expr, variable_with, variable_for}
 use Rattle.rbbi_resolve.specs.Files.{context_at}
-use Rattle.rbbi_resolve.specs.Scopes.{visible, Matches, IsUnassigned, IsDefinedBy, context_of}
+use Rattle.rbbi_resolve.specs.Scopes.{visible, Matches, IsKindOf, IsUnassigned, IsDefinedBy, context_of}
 use Rattle.rbbi_resolve.specs.OwnLeaves.{set_or_nothing}
 use Rattle.rbbi_resolve.specs.Builders.{IsAssigned, IsReady}
 use Rattle.rbbi_resolve.proofs.Building.{sequence_meaning, choice_meaning}
@@ -79,6 +79,8 @@ pub record IsNamed (files : List File) (scope : Scope) (word : List ℕ) (v : Va
   pub expr : ExprTree
   pub assigned : IsAssigned (statement_trees scope.statements.now) v.statement expr
   pub means : meaning_of_atom (context_of files scope) (name word) ≡ meaning_of_expr (context_at files (statement_trees scope.statements.now) v.statement) expr
+  pub kept : (e : ExprTree) → IsAssigned (statement_trees scope.statements.now) v.statement e →
+      IsKindOf files v.kind (variable_for (context_at files (statement_trees scope.statements.now) v.statement) e)
   pub low : v.statement < scope.limit
   pub inside : v.statement < length scope.statements.now
 
@@ -98,6 +100,11 @@ named files scope word v ready e =
       expr = d.expr;
       assigned = record { word = d.word; place = d.place; at = d.assigns };
       means = ap meaning_of_variable found ∙ variable_means k d.expr (set_of_expr k d.expr) refl;
+      kept = λ e is.
+          let at = d.assigns in
+          let other = is.at in
+          let same : d.expr ≡ e = cc in
+          subst (λ x. IsKindOf files v.kind (variable_for k x)) same d.kind;
       low = s.1;
       inside = omega arith;
     }

@@ -22,10 +22,10 @@ use Rattle.rbbi_resolve.proofs.Noting.{noted_parts_before}
 abbrev pub parts_in : SetExpr → List SetPart
 parts_in s = (out-Parts (out-SetExpr s).parts).items.items
 
-set_is : (s : SetExpr) → set_tree s ≡ set_of (out-SetExpr s).place (out-SetExpr s).negated (parts_of (map part_tree (parts_in s)))
+pub set_is : (s : SetExpr) → set_tree s ≡ set_of (out-SetExpr s).place (out-SetExpr s).negated (parts_of (map part_tree (parts_in s)))
 set_is s = set_tree_out s ∙ ap (set_of (out-SetExpr s).place (out-SetExpr s).negated) (parts_tree_out (out-SetExpr s).parts)
 
-parts_left : (items : List SetPart) (i : ℕ) (p : SetPart) → i < length items → p ≡ get_or items i p → parts_of (map part_tree (drop i items)) ≡ parts_of
+pub parts_left : (items : List SetPart) (i : ℕ) (p : SetPart) → i < length items → p ≡ get_or items i p → parts_of (map part_tree (drop i items)) ≡ parts_of
     (part_tree p ∷ map part_tree (drop (i + 1) items))
 parts_left items i p inside is = ap (λ ps. parts_of (map part_tree ps)) (drop_more items i p inside ∙ ap (λ q. q ∷ drop (i + 1) items) (sym is))
 

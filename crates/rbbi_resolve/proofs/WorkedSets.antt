@@ -1,5 +1,5 @@
 -- The worked set `[[ace][bdf]-[abc][def]]`, which tries what set expressions are worth.
-use Rattle.std.proofs.Common.{◌≡◌, ℕ, false, List, Option, inl, inr, refl, ⊎_elim, arith}
+use Rattle.std.proofs.Common.{ℕ, false, List, Option, inl, inr, refl, ⊎_elim, arith}
 use Rattle.std.specs.Prelude.{MatchOption}
 use Rattle.rbbi_model.specs.SetTrees as model
 use Rattle.rbbi_props.specs.Rows.{File}

@@ -6,6 +6,7 @@ pub mod Contexts
 pub mod Expressions
 pub mod Parts
 pub mod Emptiness
+pub mod Memberships
 pub mod Faults
 pub mod Files
 pub mod Counts
@@ -14,6 +15,7 @@ pub mod Refusals
 pub mod Summaries
 pub mod Scopes
 pub mod Definitions
+pub mod LoneSets
 pub mod Switchings
 pub mod RuleSums
 pub mod Readings

@@ -8,20 +8,21 @@ ghost use Rattle.rbbi_tree.specs.Trees.{ExprTree};
 ghost use Rattle.rbbi_tree.specs.Values.{statement_trees, expr_tree, seq_tree, item_tree};
 ghost use Rattle.rbbi_tree.specs.Values.{atom_tree};
 ghost use Rattle.rbbi_resolve.specs.Expressions.{word_of, meaning_of_expr, meaning_of_seq};
-ghost use Rattle.rbbi_resolve.specs.Expressions.{meaning_of_item, meaning_of_atom};
+ghost use Rattle.rbbi_resolve.specs.Expressions.{meaning_of_item, meaning_of_atom, variable_for};
 ghost use Rattle.rbbi_resolve.specs.Parts.{parts_of_expr};
 ghost use Rattle.rbbi_resolve.specs.Faults.{faults_of_parts};
-ghost use Rattle.rbbi_resolve.specs.Scopes.{context_of};
+ghost use Rattle.rbbi_resolve.specs.Scopes.{IsKindOf, context_of};
 ghost use Rattle.rbbi_resolve.specs.OwnLeaves.{leaves_of_expr, leaves_of_seq, leaves_of_item};
 ghost use Rattle.rbbi_resolve.specs.OwnLeaves.{leaves_of_atom};
 ghost use Rattle.rbbi_resolve.specs.Builders.{StandFrom, IsBuilt, IsBuilder, IsAssigned, GoesOn};
 ghost use Rattle.rbbi_resolve.specs.Builders.{IsReady};
 
-use crate::leaves::add_leaves;
+use crate::own_leaves::add_own_leaves;
 use crate::properties::Properties;
 use crate::rules::Tree;
 use crate::scope::Scope;
 use crate::tree::{in_choice, in_sequence, next_leaf, no_tree, repeated_tree};
+use crate::variables::Kind;
 use rbbi_sets::CodeSet;
 use rbbi_text::Word;
 use rbbi_tree::{Atom, Expr, Item, Seq, Statement, Statements};
@@ -64,18 +65,27 @@ impl<'a> Builder<'a> {
             (meaning_of_expr (context_of self.old.properties scope.now) (expr_tree expr.now))) }
         ensures same { self.new.properties ≡ self.old.properties }
     {
-        let mut next = self.add_own(alloc, scope, expr)?;
+        let mut next = self.add_own(alloc, scope, None, expr)?;
         let tree = self.tree_of_expr(alloc, scope, &mut next, expr)?;
         Ok(tree)
     }
 
-    /// Adds the sets of the own leaves of an expression, and tells the number of the first.
-    fn add_own(&mut self, alloc: Global, scope: &Scope, expr: &Expr) -> Result<usize, AllocError>
+    /// Adds the sets of the own leaves of an expression, and tells the number of the first. `kept`
+    /// is what a variable keeps of it, where it is assigned to one.
+    fn add_own(
+        &mut self,
+        alloc: Global,
+        scope: &Scope,
+        kept: Option<&Kind>,
+        expr: &Expr,
+    ) -> Result<usize, AllocError>
         requires ready { IsReady self.old.properties scope.now }
         requires builder { IsBuilder self.old.properties (statement_trees scope.now.statements.now)
             self.old.sets.items self.old.bases.items }
         requires faultless { faults_of_parts (context_of self.old.properties scope.now)
             (parts_of_expr (expr_tree expr.now)) ≡ [] }
+        requires kept { IfSome kept (λ kind. IsKindOf self.old.properties kind.now
+            (variable_for (context_of self.old.properties scope.now) (expr_tree expr.now))) }
         ensures on { OnOk result (GoesOn self.old.properties
             (statement_trees scope.now.statements.now)
             self.old.sets.items self.new.sets.items self.new.bases.items) }
@@ -89,7 +99,8 @@ impl<'a> Builder<'a> {
         ensures same { self.new.properties ≡ self.old.properties }
     {
         let base = self.sets.len();
-        add_leaves(alloc, scope, &mut self.properties, &mut self.sets, expr)?;
+        let properties = &mut self.properties;
+        add_own_leaves(alloc, scope, properties, &mut self.sets, kept, expr)?;
         if self.sets.len() > MOST_SETS {
             return Err(AllocError);
         }
@@ -98,12 +109,20 @@ impl<'a> Builder<'a> {
 
     /// The number of the first set of the own leaves of a statement, which are added where they
     /// aren't there yet.
-    fn base(&mut self, alloc: Global, scope: &Scope, expr: &Expr) -> Result<usize, AllocError>
+    fn base(
+        &mut self,
+        alloc: Global,
+        scope: &Scope,
+        kept: &Kind,
+        expr: &Expr,
+    ) -> Result<usize, AllocError>
         requires ready { IsReady self.old.properties scope.now }
         requires builder { IsBuilder self.old.properties (statement_trees scope.now.statements.now)
             self.old.sets.items self.old.bases.items }
         requires assigned { IsAssigned (statement_trees scope.now.statements.now) scope.now.limit
             (expr_tree expr.now) }
+        requires kept { IsKindOf self.old.properties kept.now
+            (variable_for (context_of self.old.properties scope.now) (expr_tree expr.now)) }
         ensures on { OnOk result (GoesOn self.old.properties
             (statement_trees scope.now.statements.now)
             self.old.sets.items self.new.sets.items self.new.bases.items) }
@@ -120,20 +139,25 @@ impl<'a> Builder<'a> {
         match self.bases[scope.limit] {
             Some(base) => Ok(base),
             None => {
-                let base = self.add_own(alloc, scope, expr)?;
+                let base = self.add_own(alloc, scope, Some(kept), expr)?;
                 self.bases[scope.limit] = Some(base);
                 Ok(base)
             }
         }
     }
 
-    /// The tree of the expression that the statement with the number `limit` assigns.
+    /// The tree of the expression that the statement with the number `limit` assigns. `kept` is what
+    /// its variable keeps of it.
     #[cycle(build)]
-    fn definition(&mut self, alloc: Global, scope: &Scope) -> Result<Tree, AllocError>
+    fn definition(&mut self, alloc: Global, scope: &Scope, kept: &Kind) -> Result<Tree, AllocError>
         requires ready { IsReady self.old.properties scope.now }
         requires builder { IsBuilder self.old.properties (statement_trees scope.now.statements.now)
             self.old.sets.items self.old.bases.items }
         requires inside { scope.now.limit < length scope.now.statements.now }
+        requires kept { (expr : ExprTree)
+            → IsAssigned (statement_trees scope.now.statements.now) scope.now.limit expr
+            → IsKindOf self.old.properties kept.now
+            (variable_for (context_of self.old.properties scope.now) expr) }
         ensures on { OnOk result (GoesOn self.old.properties
             (statement_trees scope.now.statements.now)
             self.old.sets.items self.new.sets.items self.new.bases.items) }
@@ -145,7 +169,7 @@ impl<'a> Builder<'a> {
     {
         match assigned(scope.statements, scope.limit) {
             Some(expr) => {
-                let mut next = self.base(alloc, scope, expr)?;
+                let mut next = self.base(alloc, scope, kept, expr)?;
                 let tree = self.tree_of_expr(alloc, scope, &mut next, expr)?;
                 Ok(tree)
             }
@@ -295,7 +319,7 @@ impl<'a> Builder<'a> {
                         limit: variable.statement,
                         quoted_only: scope.quoted_only,
                     };
-                    let tree = self.definition(alloc, &inner)?;
+                    let tree = self.definition(alloc, &inner, &variable.kind)?;
                     Ok(tree)
                 }
                 None => Ok(no_tree(alloc)),

@@ -24,6 +24,7 @@ use crate::properties::Properties;
 use crate::scope::Scope;
 use crate::set_value::value_of_set;
 use crate::variables::{Kind, Summary};
+use crate::witness::note_set;
 use rbbi_sets::CodeSet;
 use rbbi_text::Word;
 use rbbi_tree::{Atom, Expr, Item, Seq, SetExpr};
@@ -143,7 +144,7 @@ fn check_atom(
             Ok(Summary::leaf())
         }
         Atom::Set(set) => {
-            check_set(alloc, scope, properties, least, place, set)?;
+            note_set(alloc, scope, properties, least, place, set)?;
             Ok(Summary::leaf())
         }
         Atom::Group(inner) => {
@@ -207,7 +208,7 @@ pub(crate) fn check_property(
     Ok(set)
 }
 
-/// The value of a set that stands as an atom. Notes the faults in it, and where it holds no
+/// The value of a set that is assigned. Notes the faults in it, and where it holds no
 /// character.
 pub(crate) fn check_set(
     alloc: Global,
@@ -233,7 +234,7 @@ pub(crate) fn check_set(
 }
 
 /// Whether a set has a value and holds no character.
-fn is_empty_value(value: &Option<CodeSet>) -> bool
+pub(crate) fn is_empty_value(value: &Option<CodeSet>) -> bool
     ensures { (files : List File) (tree : Option model.SetTree)
         → IsValue files tree value.now → result ≡ is_empty_value files tree }
 {

@@ -111,7 +111,7 @@ fn check_lone_atom(
 }
 
 /// The one item of an expression that is a single atom with no quantifier.
-fn lone_item(expr: &Expr) -> Option<&Item>
+pub(crate) fn lone_item(expr: &Expr) -> Option<&Item>
     ensures lone { IfSome result (λ item. expr_tree expr.now
         ≡ alternative (item_of (placed item.now.place (atom_tree item.now.atom) Once) no_items)
         no_alternatives) }

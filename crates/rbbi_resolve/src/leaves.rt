@@ -162,7 +162,7 @@ fn add_any(alloc: Global, sets: &mut Vec<CodeSet>) -> Result<(), AllocError>
 }
 
 /// Adds the characters of a set that has a value and holds a character.
-fn add_value(
+pub(crate) fn add_value(
     alloc: Global,
     sets: &mut Vec<CodeSet>,
     value: &Option<CodeSet>,

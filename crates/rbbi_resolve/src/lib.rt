@@ -13,7 +13,9 @@ mod file;
 mod joining;
 mod laws;
 mod leaves;
+mod membership;
 mod outcome;
+mod own_leaves;
 mod properties;
 mod rule;
 mod rules;
@@ -26,6 +28,7 @@ mod switches;
 mod tests;
 mod tree;
 mod variables;
+mod witness;
 
 pub use error::ResolveErr;
 pub use laws::{

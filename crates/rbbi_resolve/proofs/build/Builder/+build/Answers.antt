@@ -94,6 +94,7 @@ tree_of_atom-definition-requires t c =
     } in
     let builder = c.requires.builder in
     let inside : v.statement < length scope.statements.now = n.inside in
+    let kept = n.kept in
     search rules
 
 pub tree_of_atom-returns-in-Char-clause-built : goal.tree_of_atom-returns-in-Char-clause-built

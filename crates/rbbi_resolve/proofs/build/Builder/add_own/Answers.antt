@@ -10,13 +10,13 @@ pub returns-clause-on : goal.returns-clause-on
 returns-clause-on c =
     let files = c.args.self.now.properties in
     let added : AddsLeaves files (leaves_of_expr (context_of files c.args.scope.now) (expr_tree c.args.expr.now)) c.args.self.now.sets.items
-    c.add_leaves.new.sets.items = c.in_ok-add_leaves.ensures.added (c.requires.ready.sound c.args.scope.now.limit) c.requires.faultless in
-    let few : length c.add_leaves.new.sets.items ≤ 4294967295 = omega (arith, c.add_leaves.new.sets.ok.0) in
+    c.add_own_leaves.new.sets.items = c.in_ok-add_own_leaves.ensures.added (c.requires.ready.sound c.args.scope.now.limit) c.requires.faultless in
+    let few : length c.add_own_leaves.new.sets.items ≤ 4294967295 = omega (arith, c.add_own_leaves.new.sets.ok.0) in
     record {
       more = added.more;
       is = added.is;
       builder =
-          builder_more files (statement_trees c.args.scope.now.statements.now) c.args.self.now.sets.items c.add_leaves.new.sets.items added.more
+          builder_more files (statement_trees c.args.scope.now.statements.now) c.args.self.now.sets.items c.add_own_leaves.new.sets.items added.more
           c.args.self.now.bases.items added.is few (sets_formed files _ added.more added.each) c.requires.builder;
     }
 
@@ -24,16 +24,16 @@ pub returns-clause-all : goal.returns-clause-all
 returns-clause-all c =
     let files = c.args.self.now.properties in
     let added : AddsLeaves files (leaves_of_expr (context_of files c.args.scope.now) (expr_tree c.args.expr.now)) c.args.self.now.sets.items
-    c.add_leaves.new.sets.items = c.in_ok-add_leaves.ensures.added (c.requires.ready.sound c.args.scope.now.limit) c.requires.faultless in
-    let long = added_length files c.args.self.now.sets.items c.add_leaves.new.sets.items _ added in
+    c.add_own_leaves.new.sets.items = c.in_ok-add_own_leaves.ensures.added (c.requires.ready.sound c.args.scope.now.limit) c.requires.faultless in
+    let long = added_length files c.args.self.now.sets.items c.add_own_leaves.new.sets.items _ added in
     omega (arith, c.len-base.ensures, c.args.self.now.sets.ok.0)
 
 pub returns-clause-stand : goal.returns-clause-stand
 returns-clause-stand c =
     let files = c.args.self.now.properties in
     let leaves = leaves_of_expr (context_of files c.args.scope.now) (expr_tree c.args.expr.now) in
-    let added : AddsLeaves files leaves c.args.self.now.sets.items c.add_leaves.new.sets.items =
-    c.in_ok-add_leaves.ensures.added (c.requires.ready.sound c.args.scope.now.limit) c.requires.faultless in
+    let added : AddsLeaves files leaves c.args.self.now.sets.items c.add_own_leaves.new.sets.items =
+    c.in_ok-add_own_leaves.ensures.added (c.requires.ready.sound c.args.scope.now.limit) c.requires.faultless in
     let base : c.len-base.result ≡ length c.args.self.now.sets.items = omega (arith, c.len-base.ensures, c.args.self.now.sets.ok.0) in
-    subst (λ n. StandFrom files c.add_leaves.new.sets.items n leaves) (sym base)
-    (stand_added files c.args.self.now.sets.items c.add_leaves.new.sets.items leaves added)
+    subst (λ n. StandFrom files c.add_own_leaves.new.sets.items n leaves) (sym base)
+    (stand_added files c.args.self.now.sets.items c.add_own_leaves.new.sets.items leaves added)

@@ -1,0 +1,79 @@
+//! The sets of the own leaves of expressions, where variables keep their values.
+ghost use Rattle.std.specs.Prelude.{◌≡◌, [], IfSome, IsTrue, OnOk};
+ghost use Rattle.rbbi_tree.specs.Values.{expr_tree};
+ghost use Rattle.rbbi_resolve.specs.Expressions.{variable_for};
+ghost use Rattle.rbbi_resolve.specs.Parts.{parts_of_expr};
+ghost use Rattle.rbbi_resolve.specs.Faults.{faults_of_parts};
+ghost use Rattle.rbbi_resolve.specs.Scopes.{IsScope, IsKindOf, context_of};
+ghost use Rattle.rbbi_resolve.specs.Soundness.{AreSound};
+ghost use Rattle.rbbi_resolve.specs.OwnLeaves.{AddsLeaves, leaves_of_expr};
+ghost use Rattle.rbbi_resolve.specs.LoneSets.{IsLoneSet};
+
+use crate::definition::lone_item;
+use crate::leaves::{add_leaves, add_value};
+use crate::properties::Properties;
+use crate::scope::Scope;
+use crate::variables::Kind;
+use rbbi_sets::CodeSet;
+use rbbi_tree::{Atom, Expr};
+use std::alloc::{AllocError, Global};
+
+/// Adds the sets of the own leaves of an expression without faults.
+///
+/// `kept` is what a variable keeps of it, where it is assigned to one. Where that is the value of
+/// its one own leaf, it isn't evaluated again.
+pub(crate) fn add_own_leaves(
+    alloc: Global,
+    scope: &Scope,
+    properties: &mut Properties,
+    sets: &mut Vec<CodeSet>,
+    kept: Option<&Kind>,
+    expr: &Expr,
+) -> Result<(), AllocError>
+    requires scope { IsScope properties.old scope.now }
+    requires kept { IfSome kept (λ kind. IsKindOf properties.old kind.now
+        (variable_for (context_of properties.old scope.now) (expr_tree expr.now))) }
+    ensures added { OnOk result (AreSound (context_of properties.old scope.now)
+        → faults_of_parts (context_of properties.old scope.now)
+        (parts_of_expr (expr_tree expr.now)) ≡ []
+        → AddsLeaves properties.old
+        (leaves_of_expr (context_of properties.old scope.now) (expr_tree expr.now)) sets.old.items
+        sets.new.items) }
+    ensures same { properties.new ≡ properties.old }
+{
+    if let Some(kind) = kept {
+        if let Some(value) = kept_value(kind, expr) {
+            add_value(alloc, sets, value)?;
+            return Ok(());
+        }
+    }
+    add_leaves(alloc, scope, properties, sets, expr)?;
+    Ok(())
+}
+
+/// The kept value of an expression that is a set or a property alone.
+fn kept_value<'a>(kind: &'a Kind, expr: &Expr) -> Option<&'a Option<CodeSet>>
+    ensures kept { IfSome result (λ value. kind.now ≡ Kind.Set value.now) }
+    ensures lone { IfSome result (λ value. IsLoneSet (expr_tree expr.now)) }
+{
+    match kind {
+        Kind::Set(value) => { if is_lone_set(expr) { Some(value) } else { None } }
+        Kind::Expression(_) => None,
+    }
+}
+
+/// Whether an expression is a set or a property alone.
+fn is_lone_set(expr: &Expr) -> bool
+    ensures { IsTrue result → IsLoneSet (expr_tree expr.now) }
+{
+    match lone_item(expr) {
+        Some(item) => match &item.atom {
+            Atom::Prop { .. } => true,
+            Atom::Set(_) => true,
+            Atom::Char { .. } | Atom::Quoted(_) | Atom::Any | Atom::Name(_) | Atom::Group(_) => {
+                false
+            }
+        },
+        None => false,
+    }
+}
