@@ -1,5 +1,6 @@
 -- What readers lost, over several reads, and what a read of all answers.
-use Rattle.std.proofs.Common.{◌≢◌, ◌≤◌, ◌+◌, ◌-◌, ℕ, List, ◌++◌, length, take, Option, Some, None, IfSome, Err, refl, sym, ◌∙◌, arith, length-append, length-take-le}
+use Rattle.std.proofs.Common.{◌≢◌, ◌≤◌, ◌+◌, ◌-◌, ℕ, List, ◌++◌, length, take, Option, Some, None, IfSome, Err}
+use Rattle.std.proofs.Common.{refl, sym, ◌∙◌, arith, length-append, length-take-le}
 use Rattle.std.specs.Io.KnownBytes.{Consumes, Keeps}
 use Rattle.std.proofs.KnownBytes.{Consumes-trans}
 use Rattle.rbbi_io.specs.Answers.{AnswersRead}

@@ -20,7 +20,8 @@ edit_piece-requires-clause-behind c =
     let starts : List ℕ = c.args.starts.now.items in
     let first : ℕ = c.locate-first.result in
     let before : c.args.remove ≤ length (joined (take (first + 1) ps)) =
-    omega (arith, c.if-fits.ensures.0, c.len-size.ensures, ap length r.piece_is, r.start_is, r.place, found_end ps starts first c.args.place c.requires.cut r.found) in
+    let end = found_end ps starts first c.args.place c.requires.cut r.found in
+    omega (arith, c.if-fits.ensures.0, c.len-size.ensures, ap length r.piece_is, r.start_is, r.place, end) in
     behind_start ps starts (first + 1) c.args.remove c.requires.cut before
 
 pub edit_piece-requires-clause-small : goal.edit_piece-requires-clause-small

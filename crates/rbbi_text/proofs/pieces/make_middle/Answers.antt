@@ -28,4 +28,5 @@ returns c =
     let both : c.extend_from_slice.new.self.items ≡ c.in_ok-characters.characters.items ++ get_or ps (last + 1) [] =
     c.in_ok-extend_from_slice.ensures.items ∙ ap (λ (l : List ℕ). c.in_ok-characters.characters.items ++ l) (c.as_slice.ensures ∙ next) in
     middle_two ps c.args.starts.now c.args.front.now (chars c.args.insert.now) c.args.end last c.in_ok-characters.characters.items
-    c.extend_from_slice.new.self.items c.requires.cut c.locate-last.ensures c.requires.inside (gathered_are _ _ _ _ _ _ _ c.in_ok-characters.ensures c.behind-back.ensures piece) more both
+    c.extend_from_slice.new.self.items c.requires.cut c.locate-last.ensures c.requires.inside
+    (gathered_are _ _ _ _ _ _ _ c.in_ok-characters.ensures c.behind-back.ensures piece) more both

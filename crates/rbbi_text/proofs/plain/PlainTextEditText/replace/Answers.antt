@@ -9,8 +9,9 @@ pub invariant_of-self-2 : goal.invariant_of-self-2
 invariant_of-self-2 c =
     let x = c.self.inside.items.items in
     let w = chars c.args.insert.now in
+    let long = length-splice x w c.args.at c.args.remove (omega (arith, c.in_ok-_added.ensures.0, c.len.ensures)) in
     let edited : c.put.new.items.items ≡ splice x c.args.at c.args.remove w = c.in_ok-put.ensures.ok ∙
     sym (append_assoc (take c.args.at x) w (drop (c.args.at + c.args.remove) x)) in (
       subst IsText (sym edited) (text-splice x w c.args.at c.args.remove c.self.invariant.0 (IsText-chars c.args.insert.now c.utf8.insert)),
-      omega (arith, ap length edited, length-splice x w c.args.at c.args.remove (omega (arith, c.in_ok-_added.ensures.0, c.len.ensures)), c.in_ok-_added.ensures.1, c.len.ensures),
+      omega (arith, ap length edited, long, c.in_ok-_added.ensures.1, c.len.ensures),
     )
