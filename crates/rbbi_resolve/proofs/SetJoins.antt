@@ -1,5 +1,5 @@
 -- Parts that are joined from the last to the first, and the whole at the end.
-use Rattle.std.proofs.Common.{◌≡◌, ℕ, Bool, true, false, ◌↔◌, inl, inr, List, [], ◌∷◌, ◌++◌, Option, Some, None, option_map, ◌<◌, ◌≤◌, cond, leb, sym}
+use Rattle.std.proofs.Common.{◌≡◌, ℕ, Bool, true, false, ◌↔◌, ◌⊎◌, inl, inr, List, [], ◌∷◌, ◌++◌, Option, Some, None, option_map, ◌<◌, ◌≤◌, cond, leb, sym}
 use Rattle.std.proofs.Common.{ap, ◌∙◌, refl, subst, arith}
 use Rattle.std.proofs.lemmas.Bool.{false≢true}
 use Rattle.std.proofs.lemmas.Bool.Decides.{nat_tests}
@@ -165,6 +165,32 @@ out_joins files worth old new item set is none takes =
         ]
       ]),
     ))
+
+-- a set all of which is decided about joins what stands to its left and decides nothing, where it is added or taken away
+pub already_joins : (files : List File) (worth : Option model.SetTree → Option model.SetTree) (so_far : SoFar) (join : Join) (item : model.SetTree)
+    (set : List Range) → HasMembers files item set → ((c : ℕ) → Has set c → HasAny so_far.decided c) → (join ≡ Add) ⊎ (join ≡ Minus) →
+    IsSoFar files worth so_far → IsSoFar files (λ left. worth (joined_to join (Some item) left)) so_far
+already_joins files worth so_far join item set is all either h =
+    elim either [
+      | inl adds ↦
+          rw adds (put_joins files worth so_far so_far item set is
+          (record { known = refl; collected = refl; added = same so_far.added; decided = same so_far.decided }) h)
+      | inr takes ↦
+          rw takes (part_joins files worth so_far so_far Minus item refl (λ c i. members_are_code_points 0 set is.rising c ((is.members c).1 i))
+          (λ left whole points before c. (
+            λ w. elim ((before c).0 w) [
+              | inl a ↦ inl a
+              | inr b ↦ elim b.0 [ inl k ↦ inr (inl k, b.1) | inr t ↦ inr (inr t.0, b.1) ]
+            ],
+            λ w. (before c).1 (elim w [
+              | inl a ↦ inl a
+              | inr b ↦ inr (elim b.0 [ inl k ↦ inl k | inr l ↦ inr (l, λ i. b.1 (all c ((is.members c).1 i))) ], b.1)
+            ]),
+          )) h)
+    ]
+  where
+    same : (sets : List (List Range)) (c : ℕ) → HasAny sets c ↔ (HasAny sets c ⊎ (Has set c × ¬ HasAny so_far.decided c))
+    same sets c = (λ a. inl a, λ w. elim w [ inl a ↦ a | inr r ↦ absurd (r.1 (all c r.0)) ])
 
 -- where those outside of a set are taken out, it joins what stands to its left by what both have
 pub both_joins : (files : List File) (worth : Option model.SetTree → Option model.SetTree) (old new : SoFar) (item : model.SetTree) (set others : List Range) →

@@ -1,5 +1,6 @@
 -- What was found for the properties that were asked for.
 use Rattle.std.specs.Prelude.{◌≡◌, ℕ, Bool, Option, List, option_map, chars, string_bytes}
+use Rattle.std.specs.Rc.{rc_value}
 use Rattle.rbbi_props.specs.Rows.{File}
 use Rattle.rbbi_resolve.specs.declared.properties.Answer.{Answer}
 use Rattle.rbbi_resolve.specs.SetValues.{IsValue, value_of_property}
@@ -14,4 +15,4 @@ pub record IsFor (answer : Answer) (negated : Bool) (word : List ℕ) (word_of_v
 abbrev pub IsAnswer : List File → Answer → Type 0
 IsAnswer files answer =
     IsValue files (value_of_property files answer.negated (chars (string_bytes answer.name)) (option_map (λ text. chars (string_bytes text)) answer.value))
-    answer.set
+    (rc_value answer.set)

@@ -1,6 +1,7 @@
 //! The faults of expressions, and their counts.
 ghost use Rattle.std.specs.Prelude.{◌≡◌, ◌+◌, ℕ, List, Option, Some, None, IfOk, OnOk};
 ghost use Rattle.std.specs.Prelude.{[], ◌∷◌};
+ghost use Rattle.std.specs.Rc.{rc_value};
 ghost use Rattle.rbbi_model.specs.SetTrees as model;
 ghost use Rattle.rbbi_props.specs.Rows.{File};
 ghost use Rattle.rbbi_tree.specs.Trees.{name as named_atom, property as property_atom};
@@ -29,6 +30,7 @@ use rbbi_sets::CodeSet;
 use rbbi_text::Word;
 use rbbi_tree::{Atom, Expr, Item, Seq, SetExpr};
 use std::alloc::{AllocError, Global};
+use std::rc::Rc;
 
 /// Notes the faults of an expression, and counts it.
 #[cycle(check)]
@@ -193,17 +195,18 @@ pub(crate) fn check_property(
     negated: bool,
     name: &Word,
     value: &Option<Word>,
-) -> Result<Option<CodeSet>, AllocError>
+) -> Result<Rc<Option<CodeSet>>, AllocError>
     ensures noted { OnOk result ((context : contexts.Context) → context.files ≡ properties.old
         → least.new ≡ noted_parts context least.old
         (Outside place (property_atom negated name.now value.now) ∷ [])) }
-    ensures value { IfOk result (λ set.
-        IsValue properties.old (value_of_property properties.old negated name.now value.now) set) }
+    ensures value { IfOk result (λ set. IsValue properties.old
+        (value_of_property properties.old negated name.now value.now) (rc_value set)) }
     ensures same { properties.new ≡ properties.old }
 {
     let set = properties.set_of(alloc, negated, name, value)?;
-    note_where(least, set.is_none(), place, 7);
-    let is_empty = is_empty_value(&set);
+    let found = set.as_ref();
+    note_where(least, found.is_none(), place, 7);
+    let is_empty = is_empty_value(found);
     note_where(least, is_empty, place, 9);
     Ok(set)
 }

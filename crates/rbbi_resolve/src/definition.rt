@@ -14,10 +14,10 @@ ghost use Rattle.rbbi_resolve.specs.Definitions.{AreSetOf, noted_if_set};
 
 use crate::check::{check_expr, check_property, check_set};
 use crate::fault::Fault;
-use crate::properties::{Properties, copy_of};
+use crate::properties::Properties;
 use crate::scope::Scope;
 use crate::variables::Kind;
-use rbbi_sets::CodeSet;
+use rbbi_sets::SharedSet;
 use rbbi_tree::{Atom, Expr, Item, Quant};
 use std::alloc::{AllocError, Global};
 
@@ -54,7 +54,7 @@ fn check_lone(
     properties: &mut Properties,
     least: &mut Option<Fault>,
     expr: &Expr,
-) -> Result<Option<Option<CodeSet>>, AllocError>
+) -> Result<Option<Option<SharedSet>>, AllocError>
     requires { IsScope properties.old scope.now }
     ensures noted { IfOk result (λ found. least.new ≡ noted_if_set
         (context_of properties.old scope.now) least.old
@@ -77,7 +77,7 @@ fn check_lone_atom(
     least: &mut Option<Fault>,
     place: u32,
     atom: &Atom,
-) -> Result<Option<Option<CodeSet>>, AllocError>
+) -> Result<Option<Option<SharedSet>>, AllocError>
     requires { IsScope properties.old scope.now }
     ensures noted { IfOk result (λ found. least.new ≡ noted_if_set
         (context_of properties.old scope.now) least.old
@@ -93,20 +93,32 @@ fn check_lone_atom(
             value,
         } => {
             let set = check_property(alloc, properties, least, place, *negated, name, value)?;
-            Ok(Some(set))
+            let kept = properties.keep(alloc, set.as_ref())?;
+            Ok(Some(kept))
         }
         Atom::Set(set) => {
             let value = check_set(alloc, scope, properties, least, place, set)?;
-            Ok(Some(value))
+            let kept = properties.keep(alloc, &value)?;
+            Ok(Some(kept))
         }
         Atom::Name(name) => match scope.variable(name) {
             Some(variable) => match &variable.kind {
-                Kind::Set(value) => Ok(Some(copy_of(alloc, value)?)),
+                Kind::Set(value) => Ok(Some(copy_of(value)?)),
                 Kind::Expression(_) => Ok(None),
             },
             None => Ok(None),
         },
         Atom::Char { .. } | Atom::Quoted(_) | Atom::Any | Atom::Group(_) => Ok(None),
+    }
+}
+
+/// A copy of a set that may be absent.
+fn copy_of(set: &Option<SharedSet>) -> Result<Option<SharedSet>, AllocError>
+    ensures { IfOk result (λ copy. copy ≡ set.now) }
+{
+    match set {
+        Some(set) => Ok(Some(set.clone()?)),
+        None => Ok(None),
     }
 }
 

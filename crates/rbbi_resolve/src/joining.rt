@@ -1,5 +1,6 @@
 //! The value of the parts of a set, joined from the last to the first.
 ghost use Rattle.std.specs.Prelude.{◌≡◌, ◌≤◌, List, [], ◌∷◌, option_map, IfOk, OnOk, Option, None, Some};
+ghost use Rattle.std.specs.Prelude.{true};
 ghost use Rattle.rbbi_model.specs.SetTrees as model;
 ghost use Rattle.rbbi_props.specs.Rows.{File};
 ghost use Rattle.rbbi_tree.specs.declared.syntax.Join as trees;
@@ -7,7 +8,7 @@ ghost use Rattle.rbbi_resolve.specs.SetValues.{IsValue, HasMembers, joined_to, s
 ghost use Rattle.rbbi_resolve.specs.SetsSoFar.{IsSoFar, PutsIn, TakesOut};
 
 use crate::so_far::SoFar;
-use rbbi_sets::{CodeRange, CodeSet, Pile};
+use rbbi_sets::{CodeRange, CodeSet, Pile, SharedSet};
 use rbbi_tree::Join;
 use std::alloc::{AllocError, Global};
 use std::mem;
@@ -106,6 +107,31 @@ impl SoFar {
                 self.take_out(alloc, item)?;
                 Ok(())
             }
+        }
+    }
+
+    /// Whether all of a set is decided about, and it is to be added or taken away, so that to join it
+    /// changes nothing.
+    pub(crate) fn has_decided(
+        &self,
+        alloc: Global,
+        join: Join,
+        value: &Option<SharedSet>,
+    ) -> Result<bool, AllocError>
+        ensures { IfOk result (λ decided. decided ≡ true → (files : List File)
+            (worth : Option model.SetTree → Option model.SetTree) (item : Option model.SetTree) →
+            IsSoFar files worth self.now → IsValue files item value.now →
+            IsSoFar files (λ left. worth (joined_to join item left)) self.now) }
+    {
+        match value {
+            Some(set) => match join {
+                Join::Add | Join::Minus => {
+                    let within = set.is_within(alloc, &self.decided)?;
+                    Ok(within)
+                }
+                Join::Both => Ok(false),
+            },
+            None => Ok(false),
         }
     }
 

@@ -100,7 +100,7 @@ fn add_leaves_of_item(
             value,
         } => {
             let set = properties.set_of(alloc, *negated, name, value)?;
-            add_value(alloc, sets, &set)?;
+            add_value(alloc, sets, set.as_ref())?;
             Ok(())
         }
         Atom::Set(set) => {

@@ -1,5 +1,6 @@
 //! The sets of properties, each looked up once.
 ghost use Rattle.std.specs.Prelude.{◌≡◌, IfOk, IfSome, IsTrue};
+ghost use Rattle.std.specs.Rc.{rc_value};
 ghost use Rattle.rbbi_props.specs.Lookups.{IsSetOf};
 ghost use Rattle.rbbi_resolve.specs.SetValues.{IsValue, value_of_property, found};
 ghost use Rattle.rbbi_resolve.specs.Questions.{IsFor, IsAnswer};
@@ -7,10 +8,11 @@ ghost use Rattle.std.specs.Prelude.{string_bytes, chars, option_map};
 
 use indexmap::IndexMap;
 use rbbi_props::PropTable;
-use rbbi_sets::CodeSet;
+use rbbi_sets::{CodeSet, SharedSet, Shelf};
 use rbbi_text::Word;
 use std::alloc::{AllocError, Global};
 use std::marker::Model;
+use std::rc::Rc;
 
 /// A property that was asked for, and what was found.
 #[derive(Debug, Drop)]
@@ -18,7 +20,7 @@ struct Answer {
     negated: bool,
     name: String,
     value: Option<String>,
-    set: Option<CodeSet>,
+    set: Rc<Option<CodeSet>>,
 }
 
 impl Answer {
@@ -47,12 +49,15 @@ fn is_text_of(text: &Option<String>, word: &Option<Word>) -> bool
 
 /// The sets of properties, by a table of property files and the database.
 ///
-/// What was found is kept, so that each property is looked up once however often it is written.
+/// What was found is kept, so that each property is looked up once however often it is written, and
+/// a use of it copies a pointer.
 #[derive(Drop)]
 pub(crate) struct Properties<'a> {
     table: &'a PropTable,
     /// What was found for each property so far, by a text that is made of its name and value.
     answers: IndexMap<String, Answer>,
+    /// The chunks of the sets of variables.
+    shelf: Shelf,
 }
 
 impl<'a> Model for Properties<'a> {
@@ -79,6 +84,7 @@ impl<'a> Properties<'a> {
         Properties {
             table,
             answers: IndexMap::new(alloc),
+            shelf: Shelf::new(alloc),
         }
     }
 
@@ -89,41 +95,58 @@ impl<'a> Properties<'a> {
         negated: bool,
         name: &Word,
         value: &Option<Word>,
-    ) -> Result<Option<CodeSet>, AllocError>
-        ensures value { IfOk result (λ set.
-            IsValue self.old (value_of_property self.old negated name.now value.now) set) }
+    ) -> Result<Rc<Option<CodeSet>>, AllocError>
+        ensures value { IfOk result (λ set. IsValue self.old
+            (value_of_property self.old negated name.now value.now) (rc_value set)) }
         ensures same { self.new ≡ self.old }
     {
         let key = key_of(alloc, negated, name, value)?;
-        if let Some(set) = self.kept(alloc, key.as_str(), negated, name, value)? {
-            return Ok(set);
+        if let Some(found) = self.found_before(key.as_str(), negated, name, value)? {
+            return Ok(found);
         }
         let answer = answer_for(alloc, self.table, negated, name, value)?;
-        let copy = copy_of(alloc, &answer.set)?;
+        let set = answer.set.clone()?;
         self.answers.insert(key, answer)?;
-        Ok(copy)
+        Ok(set)
     }
 
     /// What was found for a property before, if it was asked for under this key.
-    fn kept(
+    fn found_before(
         &self,
-        alloc: Global,
         key: &str,
         negated: bool,
         name: &Word,
         value: &Option<Word>,
-    ) -> Result<Option<Option<CodeSet>>, AllocError>
-        ensures { IfOk result (λ kept. IfSome kept (λ set.
-            IsValue self.now (value_of_property self.now negated name.now value.now) set)) }
+    ) -> Result<Option<Rc<Option<CodeSet>>>, AllocError>
+        ensures { IfOk result (λ found. IfSome found (λ set. IsValue self.now
+            (value_of_property self.now negated name.now value.now) (rc_value set))) }
     {
         match self.answers.get(key) {
             Some(answer) => {
                 if answer.is_for(negated, name, value) {
-                    let set = copy_of(alloc, &answer.set)?;
+                    let set = answer.set.clone()?;
                     Ok(Some(set))
                 } else {
                     Ok(None)
                 }
+            }
+            None => Ok(None),
+        }
+    }
+
+    /// The set of a variable, where it has one, with the chunks that it shares.
+    pub(crate) fn keep(
+        &mut self,
+        alloc: Global,
+        set: &Option<CodeSet>,
+    ) -> Result<Option<SharedSet>, AllocError>
+        ensures value { IfOk result (λ kept. kept ≡ set.now) }
+        ensures same { self.new ≡ self.old }
+    {
+        match set {
+            Some(set) => {
+                let kept = self.shelf.keep(alloc, set)?;
+                Ok(Some(kept))
             }
             None => Ok(None),
         }
@@ -162,18 +185,8 @@ fn answer_for(
         negated,
         name: String::from_str(alloc, name.as_str())?,
         value: text_of(alloc, value)?,
-        set,
+        set: Rc::new(alloc, set)?,
     })
-}
-
-/// A copy of a set that may be absent.
-pub(crate) fn copy_of(_alloc: Global, set: &Option<CodeSet>) -> Result<Option<CodeSet>, AllocError>
-    ensures { IfOk result (λ copy. copy ≡ set.now) }
-{
-    match set {
-        Some(set) => Ok(Some(set.clone()?)),
-        None => Ok(None),
-    }
 }
 
 /// A copy of a word that may be absent.

@@ -17,7 +17,7 @@ use crate::properties::Properties;
 use crate::scope::Scope;
 use crate::so_far::SoFar;
 use crate::variables::Kind;
-use rbbi_sets::CodeSet;
+use rbbi_sets::{CodeSet, SharedSet};
 use rbbi_text::Word;
 use rbbi_tree::{Join, SetExpr, SetItem, SetPart};
 use std::alloc::{AllocError, Global};
@@ -90,8 +90,9 @@ fn join_part(
             value,
         } => {
             let set = properties.set_of(alloc, *negated, name, value)?;
-            note_where(least, set.is_none(), part.place, 7);
-            join_value(alloc, so_far, part.join, &set)?;
+            let found = set.as_ref();
+            note_where(least, found.is_none(), part.place, 7);
+            join_value(alloc, so_far, part.join, found)?;
             Ok(())
         }
         SetItem::Set(inner) => {
@@ -175,7 +176,12 @@ fn join_name(
     match scope.variable(name) {
         Some(variable) => match &variable.kind {
             Kind::Set(value) => {
-                join_value(alloc, so_far, join, value)?;
+                let decided = so_far.has_decided(alloc, join, value)?;
+                if decided {
+                    return Ok(());
+                }
+                let set = whole_of(alloc, value)?;
+                join_value(alloc, so_far, join, &set)?;
                 Ok(())
             }
             Kind::Expression(_) => {
@@ -189,5 +195,15 @@ fn join_name(
             so_far.spoil();
             Ok(())
         }
+    }
+}
+
+/// The set of a variable by itself, where there is one.
+fn whole_of(alloc: Global, value: &Option<SharedSet>) -> Result<Option<CodeSet>, AllocError>
+    ensures { IfOk result (λ whole. whole ≡ value.now) }
+{
+    match value {
+        Some(set) => Ok(Some(set.to_set(alloc)?)),
+        None => Ok(None),
     }
 }

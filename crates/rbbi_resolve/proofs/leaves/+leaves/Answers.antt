@@ -66,8 +66,8 @@ add_leaves_of_item-returns-in_ok-add_value-in-Prop-clause-added t c =
     λ sound faultless.
     subst (λ i. AddsLeaves files (leaves_of_item k i) c.args.sets.now.items c.add_value.new.sets.items) (sym e)
     (property_leaf k files c.args.item.now.place c.in-Prop.negated c.in-Prop.name c.in-Prop.value c.args.item.now.quant c.args.sets.now.items
-    c.add_value.new.sets.items c.in_ok-set-in-Prop.set (files_stay files _ _)
-    (subst (λ i. faults_of_parts k (parts_of_item i) ≡ []) e faultless) c.in_ok-set-in-Prop.ensures.value
+    c.add_value.new.sets.items c.as_ref.result.now (files_stay files _ _)
+    (subst (λ i. faults_of_parts k (parts_of_item i) ≡ []) e faultless) (rw c.as_ref.ensures c.in_ok-set-in-Prop.ensures.value)
     (λ tree is filled. c.in_ok-add_value-in-Prop.ensures files tree is filled))
 
 pub add_leaves_of_item-returns-in_ok-add_value-in-Set-clause-added : goal.add_leaves_of_item-returns-in_ok-add_value-in-Set-clause-added

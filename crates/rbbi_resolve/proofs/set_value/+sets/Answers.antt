@@ -44,10 +44,10 @@ join_part-returns-in_ok-join_value-in-Prop-clause-noted t c =
     let e : part_tree p ≡ joined (out-SetPart p).place (out-SetPart p).join (set_property c.in-Prop.negated c.in-Prop.name c.in-Prop.value) = let i =
     c.in-Prop.is in part_tree_out p
     ∙ ap (joined (out-SetPart p).place (out-SetPart p).join) (ap set_item_tree i ∙ of_property c.in-Prop.negated c.in-Prop.name c.in-Prop.value) in
-    let n : c.note_where.new.least ≡ noted old (faults_where (is_none c.in_ok-set-in-Prop.set) (out-SetPart p).place 7) = search rules in
+    let n : c.note_where.new.least ≡ noted old (faults_where (is_none c.as_ref-found.result.now) (out-SetPart p).place 7) = search rules in
     n
     ∙ property_noted context c.args.properties.now old (out-SetPart p).place (out-SetPart p).join c.in-Prop.negated c.in-Prop.name c.in-Prop.value
-    c.in_ok-set-in-Prop.set (files_stay c.args.properties.now _ _) c.in_ok-set-in-Prop.ensures.value
+    c.as_ref-found.result.now (files_stay c.args.properties.now _ _) (rw c.as_ref-found.ensures c.in_ok-set-in-Prop.ensures.value)
     ∙ ap (λ q. noted_parts context old (parts_of_part q)) (sym e)
 
 pub join_part-returns-in_ok-join_value-in-Set-clause-noted : goal.join_part-returns-in_ok-join_value-in-Set-clause-noted
@@ -99,7 +99,7 @@ join_part-returns-in_ok-join_value-in-Prop-clause-joined t c =
     let e : part_tree p ≡ joined (out-SetPart p).place (out-SetPart p).join (set_property c.in-Prop.negated c.in-Prop.name c.in-Prop.value) =
     part_tree_out p ∙ ap (joined (out-SetPart p).place (out-SetPart p).join) (ap set_item_tree c.in-Prop.is ∙ of_property c.in-Prop.negated c.in-Prop.name c.in-Prop.value) in
     λ worth h. subst (λ q. IsSoFar files (λ left. worth (value_of_part files named left q)) c.join_value.new.so_far) (sym e)
-    (c.in_ok-join_value-in-Prop.ensures files worth _ h c.in_ok-set-in-Prop.ensures.value)
+    (c.in_ok-join_value-in-Prop.ensures files worth _ h (rw c.as_ref-found.ensures c.in_ok-set-in-Prop.ensures.value))
 
 pub join_part-returns-in_ok-join_value-in-Set-clause-joined : goal.join_part-returns-in_ok-join_value-in-Set-clause-joined
 join_part-returns-in_ok-join_value-in-Set-clause-joined t c =

@@ -8,6 +8,13 @@ pub returns-in_ok-join_value-in-Set-clause-joined : goal.returns-in_ok-join_valu
 returns-in_ok-join_value-in-Set-clause-joined c =
     λ files worth scope h.
     c.in_ok-join_value-in-Set.ensures files worth _ h
+    (rw c.in_ok-set-in-Set.ensures
+    (set_has_value files _ _ _ _ c.in-Some.ensures c.in-Set.is (scope.describes.same (encode_utf8_all c.args.name.now))))
+
+pub returns-then-decided-clause-joined : goal.returns-then-decided-clause-joined
+returns-then-decided-clause-joined c =
+    λ files worth scope h.
+    c.in_ok-decided-in-Set.ensures c.if-decided.true files worth _ h
     (set_has_value files _ _ _ _ c.in-Some.ensures c.in-Set.is (scope.describes.same (encode_utf8_all c.args.name.now)))
 
 pub returns-in-Expression-clause-joined : goal.returns-in-Expression-clause-joined
