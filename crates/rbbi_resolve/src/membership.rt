@@ -17,7 +17,7 @@ use crate::fault::{Fault, note, note_where};
 use crate::properties::Properties;
 use crate::scope::Scope;
 use crate::variables::Kind;
-use rbbi_sets::CodeSet;
+use rbbi_sets::{CodeSet, SharedSet};
 use rbbi_text::Word;
 use rbbi_tree::{Join, SetExpr, SetItem};
 use std::alloc::{AllocError, Global};
@@ -81,8 +81,9 @@ fn is_in_item(
             value,
         } => {
             let set = properties.set_of(alloc, *negated, name, value)?;
-            note_where(least, set.is_none(), place, 7);
-            Ok(is_in_value(&set, c))
+            let found = set.as_ref();
+            note_where(least, found.is_none(), place, 7);
+            Ok(is_in_value(found, c))
         }
         SetItem::Set(inner) => {
             let held = is_in_set(alloc, scope, properties, least, inner, c)?;
@@ -129,7 +130,7 @@ fn is_in_variable(
 {
     match scope.variable(name) {
         Some(variable) => match &variable.kind {
-            Kind::Set(value) => is_in_value(value, c),
+            Kind::Set(value) => is_in_shared(value, c),
             Kind::Expression(_) => {
                 note(least, place, 6);
                 None
@@ -144,6 +145,17 @@ fn is_in_variable(
 
 /// Whether a character is in a set that may have no value.
 fn is_in_value(value: &Option<CodeSet>, c: char) -> Option<bool>
+    ensures { (files : List File) (tree : Option model.SetTree) → IsValue files tree value.now
+        → result ≡ is_in files tree c }
+{
+    match value {
+        Some(set) => Some(set.has(c as u32)),
+        None => None,
+    }
+}
+
+/// Whether a character is in a variable's set, which may have no value.
+fn is_in_shared(value: &Option<SharedSet>, c: char) -> Option<bool>
     ensures { (files : List File) (tree : Option model.SetTree) → IsValue files tree value.now
         → result ≡ is_in files tree c }
 {

@@ -13,8 +13,9 @@ use crate::definition::lone_item;
 use crate::leaves::{add_leaves, add_value};
 use crate::properties::Properties;
 use crate::scope::Scope;
+use crate::set_value::whole_of;
 use crate::variables::Kind;
-use rbbi_sets::CodeSet;
+use rbbi_sets::{CodeSet, SharedSet};
 use rbbi_tree::{Atom, Expr};
 use std::alloc::{AllocError, Global};
 
@@ -43,7 +44,8 @@ pub(crate) fn add_own_leaves(
 {
     if let Some(kind) = kept {
         if let Some(value) = kept_value(kind, expr) {
-            add_value(alloc, sets, value)?;
+            let whole = whole_of(alloc, value)?;
+            add_value(alloc, sets, &whole)?;
             return Ok(());
         }
     }
@@ -52,12 +54,18 @@ pub(crate) fn add_own_leaves(
 }
 
 /// The kept value of an expression that is a set or a property alone.
-fn kept_value<'a>(kind: &'a Kind, expr: &Expr) -> Option<&'a Option<CodeSet>>
+fn kept_value<'a>(kind: &'a Kind, expr: &Expr) -> Option<&'a Option<SharedSet>>
     ensures kept { IfSome result (λ value. kind.now ≡ Kind.Set value.now) }
     ensures lone { IfSome result (λ value. IsLoneSet (expr_tree expr.now)) }
 {
     match kind {
-        Kind::Set(value) => { if is_lone_set(expr) { Some(value) } else { None } }
+        Kind::Set(value) => {
+            if is_lone_set(expr) {
+                Some(value)
+            } else {
+                None
+            }
+        }
         Kind::Expression(_) => None,
     }
 }

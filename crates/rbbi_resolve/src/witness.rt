@@ -16,7 +16,7 @@ use crate::properties::Properties;
 use crate::scope::Scope;
 use crate::set_value::value_of_set;
 use crate::variables::Kind;
-use rbbi_sets::CodeSet;
+use rbbi_sets::{CodeSet, SharedSet};
 use rbbi_text::Word;
 use rbbi_tree::{Join, SetExpr, SetItem};
 use std::alloc::{AllocError, Global};
@@ -129,7 +129,7 @@ fn candidate_of_item(
             value,
         } => {
             let set = properties.set_of(alloc, *negated, name, value)?;
-            Ok(first_of_value(&set))
+            Ok(first_of_value(set.as_ref()))
         }
         SetItem::Set(inner) => {
             let tried = candidate(alloc, scope, properties, inner)?;
@@ -142,9 +142,17 @@ fn candidate_of_item(
 fn first_of_variable(scope: &Scope, name: &Word) -> char {
     match scope.variable(name) {
         Some(variable) => match &variable.kind {
-            Kind::Set(value) => first_of_value(value),
+            Kind::Set(value) => member_of_variable(value),
             Kind::Expression(_) => ELSEWHERE,
         },
+        None => ELSEWHERE,
+    }
+}
+
+/// A member of a variable's set, where it is a character.
+fn member_of_variable(value: &Option<SharedSet>) -> char {
+    match value {
+        Some(set) => character_or_elsewhere(set.member()),
         None => ELSEWHERE,
     }
 }
@@ -152,10 +160,15 @@ fn first_of_variable(scope: &Scope, name: &Word) -> char {
 /// The first member of a set, where it is a character.
 fn first_of_value(value: &Option<CodeSet>) -> char {
     match value {
-        Some(set) => match set.first() {
-            Some(code) => char::from_u32(code).unwrap_or(ELSEWHERE),
-            None => ELSEWHERE,
-        },
+        Some(set) => character_or_elsewhere(set.first()),
+        None => ELSEWHERE,
+    }
+}
+
+/// The code point, where there is one and it is a character.
+fn character_or_elsewhere(code: Option<u32>) -> char {
+    match code {
+        Some(code) => char::from_u32(code).unwrap_or(ELSEWHERE),
         None => ELSEWHERE,
     }
 }

@@ -1,4 +1,5 @@
 use Rattle.std.proofs.Common.{◌≡◌, is_none, Some, refl, sym, ap, ◌∙◌, arith, rules}
+use Rattle.std.specs.Rc.{rc_value}
 use Rattle.rbbi_model.specs.SetTrees as model
 use Rattle.rbbi_tree.specs.Trees.{joined, set_property, set_within}
 use Rattle.rbbi_tree.specs.Values.{set_tree, set_item_tree}
@@ -43,10 +44,10 @@ is_in_item-returns-in_ok-set-in-Prop-clause-noted t c =
     let old = c.args.least.now in
     let e : set_item_tree c.args.item.now ≡ set_property c.in-Prop.negated c.in-Prop.name c.in-Prop.value = let i =
     c.in-Prop.is in ap set_item_tree i ∙ of_property c.in-Prop.negated c.in-Prop.name c.in-Prop.value in
-    let n : c.note_where.new.least ≡ noted old (faults_where (is_none c.in_ok-set-in-Prop.set) c.args.place 7) = search rules in
+    let n : c.note_where.new.least ≡ noted old (faults_where (is_none (rc_value c.in_ok-set-in-Prop.set)) c.args.place 7) = search rules in
     λ join.
     n
-    ∙ property_noted k files old c.args.place join c.in-Prop.negated c.in-Prop.name c.in-Prop.value c.in_ok-set-in-Prop.set (files_stay files _ _)
+    ∙ property_noted k files old c.args.place join c.in-Prop.negated c.in-Prop.name c.in-Prop.value (rc_value c.in_ok-set-in-Prop.set) (files_stay files _ _)
     c.in_ok-set-in-Prop.ensures.value
     ∙ ap (λ i. noted_parts k old (parts_of_part (joined c.args.place join i))) (sym e)
 

@@ -14,4 +14,4 @@ returns-in-Some-kept_value-clause-added c =
     λ sound faultless.
     kept_leaf k files c.in-Some.kind.now c.in-Some-kept_value.value.now e c.args.sets.now.items c.add_value.new.sets.items (files_stay files _ _)
     c.in-Some-kept_value.ensures.lone c.in-Some-kept_value.ensures.kept kept sound faultless
-    (λ tree is filled. c.in_ok-add_value.ensures files tree is filled)
+    (λ tree is filled. c.in_ok-add_value.ensures files tree (rw c.in_ok-whole.ensures is) filled)
