@@ -1,4 +1,4 @@
-use Rattle.rbbi_script.proofs.play_tests.scripts_over_texts.Given as goal
+use Rattle.rbbi_trials.proofs.played.scripts_over_texts.Given as goal
 
 -- a ledger of its own
 abbrev pub ghosts-replies : goal.ghosts-replies

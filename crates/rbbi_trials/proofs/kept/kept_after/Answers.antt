@@ -1,7 +1,7 @@
 use Rattle.std.proofs.Common.{[], length, ap, arith}
 use Rattle.std.specs.Str.{chars}
 use Rattle.std.proofs.lemmas.Str.{chars-nil}
-use Rattle.rbbi_cache.proofs.edited_tests.kept_after.Goals as goal
+use Rattle.rbbi_trials.proofs.kept.kept_after.Goals as goal
 
 pub edited-requires : goal.edited-requires
 edited-requires g c =
