@@ -90,8 +90,10 @@ pushed_anchor run entry =
     (record { anchor = run.anchor; entries = run.entries ++ entry ∷ []; leads = run.leads })
     (λ r. r.anchor ≡ run.anchor) (λ _. refl) (λ _. refl)
 
-pub past_found : (table : Table) (x : List ℕ) (at next : ℕ) → next ≡ (found table x at).at → at < length x → at < next
-past_found table x at next is short = omega (arith, is, (found_lies table x at short).0)
+-- up to a place there is less to search from the next entry on
+pub falls : (table : Table) (x : List ℕ) (i at here next : ℕ) → at ≡ here → at ≤ i → i < length x → next ≡ (found table x at).at →
+    i + 1 - next < i + 1 - here
+falls table x i at here next same up_to short is = omega (arith, (found_lies table x at (omega arith)).0)
 
 pub past_here : (table : Table) (x : List ℕ) (here next : Entry) → IsNextEntry table x here next → here.at < length x → here.at < next.at
 past_here table x here next is short = omega (arith, is.at, (found_lies table x here.at short).0)

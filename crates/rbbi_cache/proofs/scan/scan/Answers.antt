@@ -1,7 +1,7 @@
 use Rattle.std.proofs.Common.{sym, ap, ◌∙◌, subst, arith}
 use Rattle.rbbi_model.specs.Runs.{Entry, low}
 use Rattle.rbbi_cache.specs.Scans.{GoesOn}
-use Rattle.rbbi_cache.proofs.Goes.{goes_found, goes_skipped, pushed_anchor, past_found}
+use Rattle.rbbi_cache.proofs.Goes.{goes_found, goes_skipped, pushed_anchor, falls}
 use Rattle.rbbi_cache.proofs.scan.scan.Goals as goal
 
 pub loop-here-preserved-then-here-least : goal.loop-here-preserved-then-here-least
@@ -32,20 +32,10 @@ loop-here-preserved g c = (
 
 pub loop-here-smaller-then-here-least : goal.loop-here-smaller-then-here-least
 loop-here-smaller-then-here-least g c =
-    let within = c.requires.within in
-    omega (
-      arith,
-      ap (λ e. e.at) c.here.view_is,
-      past_found c.args.table.now (g.T.Chars.characters c.args.text.now) c.here.inside.at c.next-found.result.at
-          c.next-found.ensures.at (omega arith),
-    )
+    falls c.args.table.now (g.T.Chars.characters c.args.text.now) c.args.i c.here.inside.at c.loop-here.here.at c.next-found.result.at
+    (ap (λ e. e.at) c.here.view_is) (omega arith) c.requires.within c.next-found.ensures.at
 
 pub loop-here-smaller : goal.loop-here-smaller
 loop-here-smaller g c =
-    let within = c.requires.within in
-    omega (
-      arith,
-      ap (λ e. e.at) c.here.view_is,
-      past_found c.args.table.now (g.T.Chars.characters c.args.text.now) c.here.inside.at c.next-found.result.at
-          c.next-found.ensures.at (omega arith),
-    )
+    falls c.args.table.now (g.T.Chars.characters c.args.text.now) c.args.i c.here.inside.at c.loop-here.here.at c.next-found.result.at
+    (ap (λ e. e.at) c.here.view_is) (omega arith) c.requires.within c.next-found.ensures.at

@@ -20,23 +20,17 @@ scan-entry-requires-clause-anchor g c =
 
 pub slice_bounds-append-count : goal.slice_bounds-append-count
 slice_bounds-append-count g c =
-    omega (
-      arith,
-      ap length c.entries.ensures,
-      there_some c.args.table.now c.valid.ensures (g.T.Chars.characters c.args.text.now) c.args.i c.args.run.now c.requires.is_true c.args.from c.requires.from
-          c.anchor.result c.begin.new.self c.push.new.self c.anchor.ensures c.begin.ensures c.push.ensures c.scan-entry.result c.scan-entry.new.run c.args.steps.now
-          c.scan-entry.new.steps c.scan-entry.ensures.gone_on c.scan-entry.ensures.past,
-    )
+    let some = there_some c.args.table.now c.valid.ensures (g.T.Chars.characters c.args.text.now) c.args.i c.args.run.now c.requires.is_true c.args.from
+    c.requires.from c.anchor.result c.begin.new.self c.push.new.self c.anchor.ensures c.begin.ensures c.push.ensures c.scan-entry.result
+    c.scan-entry.new.run c.args.steps.now c.scan-entry.new.steps c.scan-entry.ensures.gone_on c.scan-entry.ensures.past in
+    omega (arith, ap length c.entries.ensures)
 
 pub slice_bounds-append-start : goal.slice_bounds-append-start
 slice_bounds-append-start g c =
-    omega (
-      arith,
-      ap length c.entries.ensures,
-      there_some c.args.table.now c.valid.ensures (g.T.Chars.characters c.args.text.now) c.args.i c.args.run.now c.requires.is_true c.args.from c.requires.from
-          c.anchor.result c.begin.new.self c.push.new.self c.anchor.ensures c.begin.ensures c.push.ensures c.scan-entry.result c.scan-entry.new.run c.args.steps.now
-          c.scan-entry.new.steps c.scan-entry.ensures.gone_on c.scan-entry.ensures.past,
-    )
+    let some = there_some c.args.table.now c.valid.ensures (g.T.Chars.characters c.args.text.now) c.args.i c.args.run.now c.requires.is_true c.args.from
+    c.requires.from c.anchor.result c.begin.new.self c.push.new.self c.anchor.ensures c.begin.ensures c.push.ensures c.scan-entry.result
+    c.scan-entry.new.run c.args.steps.now c.scan-entry.new.steps c.scan-entry.ensures.gone_on c.scan-entry.ensures.past in
+    omega (arith, ap length c.entries.ensures)
 
 pub returns-then-len-le-MOST_WITH_COPY-clause-gone_on : goal.returns-then-len-le-MOST_WITH_COPY-clause-gone_on
 returns-then-len-le-MOST_WITH_COPY-clause-gone_on g c =
