@@ -1,5 +1,5 @@
 -- Boundaries that were counted one by one.
-use Rattle.std.proofs.Common.{◌≡◌, ℕ, ◌+◌, ◌-◌, ◌<◌, ◌≤◌, [], ◌∷◌, Option, Some, None, length, sym, ap, ◌∙◌, subst, length-append, arith}
+use Rattle.std.proofs.Common.{◌≡◌, ℕ, ◌+◌, ◌-◌, ◌<◌, ◌≤◌, [], ◌∷◌, Option, Some, None, length, sym, ap, ◌∙◌, length-append, arith}
 use Rattle.rbbi_model.specs.Answers.{First, Next, Place}
 use Rattle.rbbi_session.specs.Sessions.{Session, place_reply, Answers}
 use Rattle.rbbi_session.proofs.Stepping.{HasCome, HasGoneOn, left_of, come_start, gone_on}

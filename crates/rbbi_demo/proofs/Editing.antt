@@ -1,12 +1,11 @@
 -- The edits that are drawn, and the places that are answered.
-use Rattle.std.proofs.Common.{◌≡◌, ◌<◌, ◌≤◌, ℕ, ◌+◌, ◌-◌, ◌%◌, List, [], ◌∷◌, ◌++◌, length, take, drop, min, Option, Some, None, refl, sym, ap, ◌∙◌, ltb}
+use Rattle.std.proofs.Common.{◌≡◌, ◌<◌, ◌≤◌, ℕ, ◌+◌, ◌-◌, ◌%◌, List, [], ◌∷◌, ◌++◌, length, take, drop, min, Option, Some, None, ap, ◌∙◌, ltb}
 use Rattle.std.proofs.Common.{cond, arith, length-append}
 use Rattle.std.proofs.lemmas.List.{length-take, length-drop}
 use Rattle.std.proofs.lemmas.Bool.{cond-false, le-ltb}
 use Rattle.std.specs.Prelude.{unwrap_or}
 use Rattle.rbbi_model.specs.Words.{IsText, most_characters}
-use Rattle.rbbi_model.specs.Boundaries.{Boundary}
-use Rattle.rbbi_model.specs.Answers.{Reply, Place, Done, Following, Preceding, Outside, TooLong, answer}
+use Rattle.rbbi_model.specs.Answers.{Reply, Following, Preceding, Outside, TooLong, answer}
 use Rattle.rbbi_model.specs.Scripts.{splice, edit, Edit, Refused, Accepted}
 use Rattle.rbbi_model.proofs.Texts.{text_append, text_take, text_drop}
 use Rattle.rbbi_session.specs.Sessions.{Session, boundaries_of, place_reply, Answers}
