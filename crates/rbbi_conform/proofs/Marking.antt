@@ -1,7 +1,7 @@
 -- Pairs of code points and marks, taken off one by one.
 use Rattle.std.proofs.Common.{◌≡◌, ℕ, ◌+◌, ◌*◌, ◌≤◌, Bool, List, [], ◌∷◌, ◌++◌, length, refl, ap, sym, subst, ◌∙◌, append_assoc, append-nil, length-append}
 use Rattle.std.proofs.Common.{arith}
-use Rattle.rbbi_conform.specs.Grammar.{before_comment, words_of, IsMark, IsCodePoint, ArePairs, WritesTest}
+use Rattle.rbbi_conform.specs.Grammar.{before_comment, words_of, IsMark, IsCodePoint, ArePairs}
 use Rattle.rbbi_conform.specs.Readings.{IsFirstWord, IsNoPair, IsPairOf, AreMarkedBy, AreUnmarked, IsMarkedOf, IsUnmarked}
 
 -- So many pairs were read, and these words are left.
