@@ -50,9 +50,6 @@ module _ {s t u : ℕ} {x : List ℕ} {at third removed c : ℕ} {inserted : Lis
       accepts x at removed inserted removed_within (omega arith)
 
   -- it isn't refused
-  pub not_outside : edit x at removed inserted ≡ Refused Outside → ⊥
-  not_outside refused = let accepted = edit_accepted in absurd cc
-
   pub not_too_long : edit x at removed inserted ≡ Refused TooLong → ⊥
   not_too_long refused = let accepted = edit_accepted in absurd cc
 

@@ -1,14 +1,12 @@
 -- What holds in the middle of the lines of a script, how a line keeps it, and what it gives at the end.
 use Rattle.std.proofs.Common.{◌≡◌, ℕ, ◌+◌, ◌≤◌, List, [], ◌∷◌, ◌++◌, length, take, drop, refl, ap, sym, subst, ◌∙◌, append_assoc, append-nil}
 use Rattle.std.proofs.lemmas.List.{take_all}
-use Rattle.std.specs.Prelude.{Result, Ok, Err, IsUtf8}
-use Rattle.rbbi_text.specs.Bytes.{file_lines}
 use Rattle.rbbi_text.proofs.Lines.{IsLineAt}
 use Rattle.rbbi_script.specs.declared.command.Command.{Command}
 use Rattle.rbbi_script.specs.declared.error.ScriptErr.{ScriptErr}
 use Rattle.rbbi_script.specs.declared.error.ScriptErr.TheVariants.{NotUtf8, BadLine, Memory}
 use Rattle.rbbi_script.specs.LineReadings.{RefusesLine}
-use Rattle.rbbi_script.specs.Files.{LineWrites, LinesWrite, IsFirstBadLine, RefusesLines, ReadsLines, ReadsScript}
+use Rattle.rbbi_script.specs.Files.{LineWrites, LinesWrite, RefusesLines}
 
 -- one line more
 pub LinesWrite-more : (lines : List (List ℕ)) (line : List ℕ) (commands these : List Command) → LinesWrite lines commands → LineWrites line these →
@@ -41,11 +39,3 @@ refused_line lines number line commands (BadLine bad) h here cause = record {
   bad = cause.0;
 }
 refused_line lines number line commands Memory h here cause = tt
-
--- the script of these lines
-pub script_of : (bytes : List ℕ) (lines : List (List ℕ)) (r : Result (List Command) ScriptErr) → IsUtf8 bytes → lines ≡ file_lines bytes →
-    ReadsLines lines r → ReadsScript bytes r
-script_of bytes lines (Ok commands) utf8 e h = (utf8, subst (λ ls. LinesWrite ls commands) e h)
-script_of bytes lines (Err (NotUtf8 at)) utf8 e h = absurd h
-script_of bytes lines (Err (BadLine line)) utf8 e h = (utf8, subst (λ ls. IsFirstBadLine ls line) e h)
-script_of bytes lines (Err Memory) utf8 e h = tt

@@ -42,14 +42,6 @@ module _ (old new : Session) (before after : ℕ) where
       asked_as old new before after (Past o) _ cost _ (sym (cond-true (ltb o n) (Past o) (sent_for_end old.state.text) holds))
       (sym (cond-true (ltb o n) cost (last_cost old.table old.state.text) holds)) asked
 
-  pub asks_following_end : (o : ℕ) → length old.state.text ≤ o → Asks old Last new before after → Asks old (Following o) new before after
-  asks_following_end o past asked =
-      let n : ℕ = length old.state.text in
-      let fails = le-ltb o n past in
-      asked_as old new before after (sent_for_end old.state.text) _ (last_cost old.table old.state.text) _
-      (sym (cond-false (ltb o n) (Past o) (sent_for_end old.state.text) fails))
-      (sym (cond-false (ltb o n) (forward_cost old.table old.state.text o) (last_cost old.table old.state.text) fails)) asked
-
   pub asks_whether : (o : ℕ) → 0 < o → o ≤ length old.state.text →
       IsAsked old (Past (o - 1)) (forward_cost old.table old.state.text (o - 1)) new before after → Asks old (IsBoundary o) new before after
   asks_whether zero some within asked = absurd (omega arith)
