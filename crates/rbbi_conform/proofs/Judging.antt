@@ -149,8 +149,3 @@ IsJudged-wrong table test last place h l wrong =
           differs = λ agrees. w.wrong (agrees ∙ next_alone table test here most j short place w.past w.up_to);
           least = λ i one below. agrees_on table test here most (place - 1) j short w.right (omega arith) i one (omega arith);
         }
-
--- the text's end
-pub IsJudged-end : (table : Table) (test : Test) (last : ℕ) → IsJudgedTo table test last → length test.text ≤ last → (i : ℕ) → 1 ≤ i → i ≤ length test.text →
-    Agrees (table_boundaries table test.text) test i
-IsJudged-end table test last h end i one within = h.judged.agreed i one (let e = h.at in omega arith)
