@@ -116,36 +116,50 @@ fn kept_after<L: Ledger>(
     Ok((left, cache.kept().len()))
 }
 
-/// In a text of letters `a` with the rule `aa;` no pair is safe, and its boundaries make eight
-/// runs: each search reads three characters and the last one two, and none is read once more.
-fn ask_caches<L: Ledger>(rt: &HostRuntime, blank: Blank) -> Result<(), Fail>
+/// What came of all that is asked: the first wrong row over words and over letters, how many runs
+/// are kept, and what is found and read on the way through a text.
+type Outcome = (Option<usize>, Option<usize>, (usize, usize), (u32, u32));
+
+/// Asks caches by the tables of three rule files. With the rule `aa;` no pair of a text of letters
+/// `a` is safe, and its boundaries make eight runs: each search reads three characters and the last
+/// one two, and none is read once more.
+fn ask_caches<L: Ledger>(
+    rt: &HostRuntime,
+    words: &Table,
+    letters: &Table,
+    pairs: &Table,
+    blank: Blank,
+) -> Result<Outcome, Fail>
     requires name { blank.name ≡ L.name }
     requires parts { blank.parts ≡ L.parts }
     requires some { 0 < blank.parts }
 {
-    let alloc = rt.alloc();
     let mut steps = Steps::<L>::new(rt, blank);
-    let table = table_of(rt, alloc, "[a-z]+; ' '+;")?;
-    let words = repeated(alloc, "words ", 2000)?;
-    let text = PlainText::new(alloc, words.as_str())?;
-    let wrong = first_wrong(alloc, &table, text, OVER_WORDS, &mut steps)?;
-    assert_eq!(rt; wrong, None);
-    let text = PlainText::new(alloc, words.as_str())?;
-    let counts = kept_after(alloc, &table, text, &mut steps)?;
-    assert_eq!(rt; counts, (2, 2));
-    let table = table_of(rt, alloc, "a; a+b;")?;
+    let alloc = rt.alloc();
+    let many = repeated(alloc, "words ", 2000)?;
+    let text = PlainText::new(alloc, many.as_str())?;
+    let over_words = first_wrong(alloc, words, text, OVER_WORDS, &mut steps)?;
     let text = PlainText::new(alloc, "aaab")?;
-    let wrong = first_wrong(alloc, &table, text, OVER_LETTERS, &mut steps)?;
-    assert_eq!(rt; wrong, None);
-    let table = table_of(rt, alloc, "aa;")?;
-    let letters = repeated(alloc, "aa", 2000)?;
-    let text = PlainText::new(alloc, letters.as_str())?;
-    let gone = go_through(alloc, &table, text, &mut steps)?;
-    assert_eq!(rt; gone, (2000, 5999));
-    Ok(())
+    let over_letters = first_wrong(alloc, letters, text, OVER_LETTERS, &mut steps)?;
+    let text = PlainText::new(alloc, many.as_str())?;
+    let kept = kept_after(alloc, words, text, &mut steps)?;
+    let many = repeated(alloc, "aa", 2000)?;
+    let text = PlainText::new(alloc, many.as_str())?;
+    let gone = go_through(alloc, pairs, text, &mut steps)?;
+    Ok((over_words, over_letters, kept, gone))
 }
 
 #[test]
 fn questions_of_a_cache(rt: HostRuntime) -> Result<(), Fail> {
-    ask_caches::<Brand>(&rt, Blank::new(1))
+    let alloc = rt.alloc();
+    let words = table_of(&rt, alloc, "[a-z]+; ' '+;")?;
+    let letters = table_of(&rt, alloc, "a; a+b;")?;
+    let pairs = table_of(&rt, alloc, "aa;")?;
+    let came = ask_caches::<Brand>(&rt, &words, &letters, &pairs, Blank::new(1))?;
+    let (over_words, over_letters, kept, gone) = came;
+    assert_eq!(rt; over_words, None);
+    assert_eq!(rt; over_letters, None);
+    assert_eq!(rt; kept, (2, 2));
+    assert_eq!(rt; gone, (2000, 5999));
+    Ok(())
 }
