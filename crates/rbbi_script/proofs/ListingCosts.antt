@@ -71,22 +71,24 @@ pub read_further : (old now new : Session) (at : ℕ) (place : Option ℕ) (befo
     (are : AreRead old now (Some at) before reply start middle) → IsFurther old now new at place before after are.listed.come.front →
     Asks now Next new middle steps → AreRead old new place before after start steps
 read_further old now new at place before reply after start middle steps are further asked =
-    let cost_is : question_cost now.table now.state.text now.state.cursor Next ≡ question_cost old.table old.state.text further.gone.from.here.at Next =
-    ap (λ t. question_cost t now.state.text now.state.cursor Next) are.listed.come.table_is
-    ∙ ap (λ x. question_cost old.table x now.state.cursor Next) are.listed.come.text_is
+    let come = are.listed.come in
+    let here : Boundary = further.gone.from.here in
+    let cost_is : question_cost now.table now.state.text now.state.cursor Next ≡ question_cost old.table old.state.text here.at Next =
+    ap (λ t. question_cost t now.state.text now.state.cursor Next) come.table_is
+    ∙ ap (λ x. question_cost old.table x now.state.cursor Next) come.text_is
     ∙ ap (λ c. question_cost old.table old.state.text c Next) further.gone.from.cursor in
-    let front_is : listing_cost old.table old.state.text further.gone.come.front ≡ listing_cost old.table old.state.text are.listed.come.front + listing_cost old.table
-    old.state.text (further.gone.from.here ∷ []) =
-    ap (listing_cost old.table old.state.text) further.gone.more ∙ listing_parts old.table old.state.text are.listed.come.front (further.gone.from.here ∷ []) in
+    let front_is : listing_cost old.table old.state.text further.gone.come.front ≡ listing_cost old.table old.state.text come.front
+    + listing_cost old.table old.state.text (here ∷ []) =
+    ap (listing_cost old.table old.state.text) further.gone.more ∙ listing_parts old.table old.state.text come.front (here ∷ []) in
     record {
       listed = record { come = further.gone.come; appended = further.appended };
       paid = record {
         more = omega (arith, are.paid.more, asked.more);
-        cost = omega (arith, are.paid.cost, asked.cost, cost_is, front_is, listing_one old.table old.state.text further.gone.from.here);
+        cost = omega (arith, are.paid.cost, asked.cost, cost_is, front_is, listing_one old.table old.state.text here);
       };
-      asked = nexts_more old.table old.state.text are.listed.come.front further.gone.come.front further.gone.from.here old.runs now.runs new.runs start middle steps further.gone.more
-          are.asked
-          (asked_of old.table old.state.text further.gone.from.here.at now new Next middle steps are.listed.come.table_is are.listed.come.text_is further.gone.from.cursor asked);
+      asked = nexts_more old.table old.state.text come.front further.gone.come.front here old.runs now.runs new.runs start middle steps
+          further.gone.more are.asked
+          (asked_of old.table old.state.text here.at now new Next middle steps come.table_is come.text_is further.gone.from.cursor asked);
     }
 
 -- what was read for the first boundaries is at most what all cost

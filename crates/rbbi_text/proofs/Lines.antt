@@ -1,6 +1,6 @@
 -- The lines of a text, one after another.
-use Rattle.std.proofs.Common.{◌≡◌, ℕ, suc, Bool, true, false, cond, eqb, ◌+◌, ◌<◌, ◌≤◌, List, [], ◌∷◌, ◌++◌, length, take, drop, get_or, Option, Some, refl, ap, sym}
-use Rattle.std.proofs.Common.{◌∙◌, drop-cons, add-one, length-append, Bor, arith}
+use Rattle.std.proofs.Common.{◌≡◌, ℕ, suc, Bool, true, false, cond, eqb, ◌+◌, ◌<◌, ◌≤◌, List, [], ◌∷◌, ◌++◌, length, take, drop, get_or, refl, ap, sym}
+use Rattle.std.proofs.Common.{Option, Some, ◌∙◌, drop-cons, add-one, length-append, Bor, arith}
 use Rattle.std.specs.List.{slice_split}
 use Rattle.std.specs.Iterator.{Yields}
 use Rattle.std.specs.Str.Iter.{lines_rest, lines_steps}

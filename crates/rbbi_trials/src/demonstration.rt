@@ -108,7 +108,12 @@ fn summary<L: Ledger>(
 {
     let mut steps = Steps::<L>::new(rt, blank);
     let summary = demo(rt.alloc(), table, count.min(1_000_000), &mut steps)?;
-    Ok((summary.boundaries, summary.edits, summary.sum, summary.chars))
+    Ok((
+        summary.boundaries,
+        summary.edits,
+        summary.sum,
+        summary.chars,
+    ))
 }
 
 /// By the rule `a;` each character is a segment.

@@ -18,10 +18,7 @@ use std::test::Fail;
 /// Rules, and the characters of their texts.
 const RULES: &[(&str, &[char])] = &[
     ("[a-z]+; ' '+;", &['a', 'b', 'z', ' ', ' ', '-']),
-    (
-        WORDS,
-        &['a', 'b', 'Z', '\'', '1', '2', '.', ',', ' ', '-'],
-    ),
+    (WORDS, &['a', 'b', 'Z', '\'', '1', '2', '.', ',', ' ', '-']),
     ("a+ / b; b;", &['a', 'a', 'a', 'b', 'c']),
     (
         "$W = [a-c]; $X = [\\u0308]; $D = [12];
