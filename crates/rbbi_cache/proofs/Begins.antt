@@ -30,12 +30,7 @@ module _ (table : Table) (valid : IsValidTable table) (x : List ℕ) (i : ℕ) w
       skipped = boundary_of table (record { at = p; status = 0; reach = 0 }) ∷ [];
       known = [];
       found = [];
-      here = record {
-        at =
-            p;
-        status = 0;
-        reach = 0;
-      };
+      here = record { at = p; status = 0; reach = 0 };
     }
 
     starts : IsScan table x p i at_anchor run
@@ -60,14 +55,19 @@ module _ (table : Table) (valid : IsValidTable table) (x : List ℕ) (i : ℕ) w
       pub anchor_more : before ≤ now
       anchor_more = omega (arith, gone_from_anchor.read)
 
-module _ (table : Table) (valid : IsValidTable table) (x : List ℕ) (i : ℕ) (former : Run) (is_true : IsTrueRun table x former) (from : Entry) (goes :
-    GoesOnFrom i from former)
-    (run : Run) (begun : run ≡ record { anchor = former.anchor; entries = from ∷ []; leads = true }) where
+module _ (table : Table) (valid : IsValidTable table) (x : List ℕ) (i : ℕ) (former : Run) (is_true : IsTrueRun table x former) (from : Entry)
+    (goes : GoesOnFrom i from former) (anchor : ℕ) (cleared run : Run) (anchor_same : anchor ≡ former.anchor)
+    (cleared_is : cleared ≡ record { anchor = anchor; entries = []; leads = true }) (run_is : run ≡ pushed cleared from) where
+  -- a run that begins at the anchor and takes the entry from which it goes on
+  begun : run ≡ record { anchor = former.anchor; entries = from ∷ []; leads = true }
+  begun =
+      let of : ℕ → Run = λ a. record { anchor = a; entries = from ∷ []; leads = true } in
+      run_is ∙ ap (λ r. pushed r from) cleared_is ∙ ap of anchor_same
+
   abbrev from_entry : Scan
   from_entry = record {
     done = is_true.consecutive.before ++ map (boundary_of table) goes.front;
-    skipped = is_true.consecutive.before ++ map (boundary_of
-        table) goes.front;
+    skipped = is_true.consecutive.before ++ map (boundary_of table) goes.front;
     known = from ∷ [];
     found = [];
     here = from;
@@ -151,13 +151,3 @@ module _ (table : Table) (valid : IsValidTable table) (x : List ℕ) (i : ℕ) (
       λ kept among. subst (IsReady table x i kept here) (sym is) (ready_beside table valid x i former is_true from goes from_entry refl here after
           before now gone_there past kept among),
     )
-
--- a run that begins at an anchor and takes the entry from which it goes on
-pub begun_with : (pushed_run begun : Run) (from : Entry) (anchor own : ℕ) → pushed_run ≡ pushed begun from → begun ≡ record {
-  anchor = anchor;
-  entries = [];
-  leads = true;
-} → anchor ≡ own → pushed_run ≡ record { anchor = own; entries = from ∷ []; leads = true }
-begun_with pushed_run begun from anchor own is at same =
-    let of : ℕ → Run = λ a. record { anchor = a; entries = from ∷ []; leads = true } in
-    is ∙ ap (λ r. pushed r from) at ∙ ap of same

@@ -1,11 +1,10 @@
 -- Where the entries of a run are cut into those that a test keeps and the others.
-use Rattle.std.proofs.Common.{◌≡◌, ℕ, zero, suc, ◌+◌, ◌-◌, ◌<◌, ◌≤◌, Bool, true, false, leb, ltb, List, [], ◌∷◌, ◌++◌, length, map, filter, get_or, take}
-use Rattle.std.proofs.Common.{drop, sym, refl, ap, ◌∙◌, subst, arith}
+use Rattle.std.proofs.Common.{◌≡◌, ℕ, zero, suc, ◌<◌, ◌≤◌, Bool, true, false, leb, ltb, List, [], ◌∷◌, ◌++◌, length, filter, get_or, take}
+use Rattle.std.proofs.Common.{drop, sym, ap, ◌∙◌, subst, arith}
 use Rattle.std.specs.List.{AllByRecursion}
 use Rattle.std.proofs.lemmas.Bool.{le-leb, lt-leb, lt-ltb, le-ltb}
 use Rattle.std.proofs.lemmas.List.{take-append-drop, append-nil}
 use Rattle.std.proofs.lemmas.List.Elements.{filter-append}
-use Rattle.std.proofs.Math.Seq.{take-length}
 use Rattle.rbbi_model.specs.Runs.{Entry, ReachesRise}
 use Rattle.rbbi_cache.proofs.Lists.{all_through, filter_all, filter_none}
 use Rattle.rbbi_cache.proofs.LeftPart.{reaches_after, reaches_tail}

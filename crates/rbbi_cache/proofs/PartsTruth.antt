@@ -1,21 +1,19 @@
 -- The parts by the first safe pair are those that an edit leaves, and they are true of the new text.
-use Rattle.std.proofs.Common.{◌≡◌, ℕ, zero, suc, ◌+◌, ◌-◌, ◌<◌, ◌≤◌, ◌⊎◌, Bool, true, false, cond, not, ◌&&◌, ◌||◌, eqb, leb, List, [], ◌∷◌, ◌++◌, length}
-use Rattle.std.proofs.Common.{map, filter, take, sym, refl, ap, ◌∙◌, subst, inl, inr, ⊎_elim, arith}
-use Rattle.std.specs.Prelude.{Option, Some, None, MatchOption, IfSome, IsTrue}
+use Rattle.std.proofs.Common.{◌≡◌, ℕ, zero, suc, ◌+◌, ◌-◌, ◌≤◌, true, false, not, ◌&&◌, ◌||◌, eqb, leb, List, [], ◌∷◌, length}
+use Rattle.std.proofs.Common.{filter, take, sym, refl, ap, ◌∙◌, subst, inl, inr, ⊎_elim, arith}
+use Rattle.std.specs.Prelude.{Option, Some, None, MatchOption}
 use Rattle.std.specs.List.{AllByRecursion}
-use Rattle.std.proofs.lemmas.Bool.{cases_Bool, cases_lt, cases_eq, cond-true, cond-false, le-leb, lt-leb, leb-true, leb-false, eq-eqb, ne_eqb, and_parts}
+use Rattle.std.proofs.lemmas.Bool.{cases_Bool, cases_lt, cases_eq, cond-true, cond-false, le-leb, lt-leb, leb-true, eq-eqb, ne_eqb}
 use Rattle.std.proofs.lemmas.Bool.{false≢true}
 use Rattle.rbbi_model.specs.Words.{most_characters}
 use Rattle.rbbi_model.specs.Tables.{Table}
 use Rattle.rbbi_model.specs.SafePairs.{is_safe}
 use Rattle.rbbi_model.specs.ValidTables.{IsValidTable}
-use Rattle.rbbi_model.specs.Runs.{Entry, Run, category_at, boundary_of, IsAnchor, IsTrueRun}
-use Rattle.rbbi_cache.specs.Lists.{IsOrdered}
+use Rattle.rbbi_model.specs.Runs.{Run, category_at, boundary_of, IsTrueRun}
 use Rattle.rbbi_cache.specs.Kept.{AreTrueRuns, most_runs}
-use Rattle.rbbi_cache.specs.Edits.{IsEdited, begins_pair, IsFirstPair, HasNoPair, left_part, moved_run, run_behind, goes_whole, IsRightPart, Whole, Behind}
+use Rattle.rbbi_cache.specs.Edits.{IsEdited, begins_pair, IsFirstPair, HasNoPair, left_part, moved_run, goes_whole, IsRightPart, Whole, Behind}
 use Rattle.rbbi_cache.specs.Edits.{Nothing, has_entries, AreParts, AreKeptAfter}
 use Rattle.rbbi_cache.specs.Parts.{IsPlaced, IsMovable, is_found_at, moves_whole, part_behind, right_part, all_parts}
-use Rattle.rbbi_cache.proofs.Lists.{all_through}
 use Rattle.rbbi_cache.proofs.Reached.{first_member}
 use Rattle.rbbi_cache.proofs.RunFacts.{all_by_splits, path_within}
 use Rattle.rbbi_cache.proofs.RunFacts as facts

@@ -52,17 +52,11 @@ pub none_follows : (next : ℕ → Boundary) (n most : ℕ) (here : Boundary) �
 none_follows next n zero here end = refl
 none_follows next n (suc most) here end = cond-false (ltb here.at n) (next here.at ∷ follow_by next n most (next here.at)) [] (le-ltb here.at n end)
 
--- at the text's end nothing follows
-pub reached_end : (table : Table) (x : List ℕ) (p : ℕ) (done : List Boundary) (here : Boundary) → Reached table x p done here → length x ≤ here.at →
-    fresh table x p ≡ done ++ here ∷ []
-reached_end table x p done here reached end =
-    reached.whole ∙ ap (λ bs. done ++ here ∷ bs) (none_follows (next_boundary table x) (length x) reached.most here end)
-
 max_zero : (a b : ℕ) → max a (max b 0) ≡ max a b
 max_zero a b = omega arith
 
 -- what stands before a member lies before it, and what stands behind it lies behind it
-rises_before : (done : List Boundary) (here : Boundary) (rest : List Boundary) → IsRising (places (done ++ here ∷ rest)) →
+pub rises_before : (done : List Boundary) (here : Boundary) (rest : List Boundary) → IsRising (places (done ++ here ∷ rest)) →
     AllByRecursion (λ b. b.at < here.at) done
 rises_before [] here rest rising = tt
 rises_before (b ∷ []) here rest rising = (rising.0, tt)

@@ -25,10 +25,6 @@ pub zero_alone : (lists : List (List ℕ)) → BeginsWithZeroAlone lists → sli
 zero_alone [] begins = absurd begins
 zero_alone (statuses ∷ lists) begins = begins
 
--- an entry at the anchor is the first member
-anchor_entry : ℕ → Entry
-anchor_entry p = record { at = p; status = 0; reach = 0 }
-
 module _ (table : Table) (valid : IsValidTable table) (x : List ℕ) (p i : ℕ) where
   pub first_is : boundary_of table (record { at = p; status = 0; reach = 0 }) ≡ first_member p
   first_is = λ j. record { at = p; statuses = zero_alone table.lists valid.lists.first j }

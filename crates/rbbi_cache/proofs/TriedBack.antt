@@ -84,10 +84,6 @@ module _ (table : Table) (valid : IsValidTable table) (x : List ℕ) (i : ℕ) w
             cost = ⊎_elim (λ zero. omega arith) (λ less. omega arith) (lies (2 * q + 1 - i));
           }
 
-  -- the next try is nearer to the start
-  pub tries_fall : (q : ℕ) → q ≢ 0 → ((q ≡ 0) ⊎ (q + 3 ≤ i)) → anchor_below table x (2 * q + 1 - i) < q
-  tries_fall q other far = ⊎_elim (λ zero. omega arith) (λ less. ⊎_elim (λ zero. absurd (other zero)) (λ apart. omega arith) far) (lies (2 * q + 1 - i))
-
   -- the last try settles, and all was read that the cost allows
   pub tried_last : (q read : ℕ) → 0 < i → Tried table x i q read → settles table x i q ≡ true → (read' : ℕ) → read' ≤ read + searches_cost table x q (i - 1) →
       read' ≤ back_cost table x i

@@ -1,15 +1,15 @@
 -- Walks over places in search of a safe pair.
-use Rattle.std.proofs.Common.{◌≡◌, ℕ, zero, suc, ◌+◌, ◌-◌, ◌<◌, ◌≤◌, max, ◌⊎◌, Bool, true, false, ◌&&◌, ◌||◌, eqb, leb, List, Option, Some, None, length}
+use Rattle.std.proofs.Common.{◌≡◌, ℕ, zero, suc, ◌+◌, ◌-◌, ◌<◌, ◌≤◌, max, Bool, true, false, ◌&&◌, ◌||◌, eqb, leb, List, Option, Some, None, length}
 use Rattle.std.proofs.Common.{get_or, sym, refl, ap, ◌∙◌, ⊎_elim, arith}
 use Rattle.std.specs.Prelude.{unwrap_or}
-use Rattle.std.proofs.lemmas.Bool.{cases_eq, cond-true, cond-false, ne_eqb, le-leb, lt-leb, or_right, and_from, cases_lt, false≢true}
+use Rattle.std.proofs.lemmas.Bool.{cases_eq, cond-true, cond-false, ne_eqb, le-leb, or_right, and_from, cases_lt, false≢true}
 use Rattle.rbbi_model.specs.Places.{greatest_below}
 use Rattle.rbbi_model.specs.Tables.{Table, category_of}
 use Rattle.rbbi_model.specs.SafePairs.{is_safe}
 use Rattle.rbbi_model.specs.Runs.{category_at, is_anchor}
 use Rattle.rbbi_model.specs.Costs.{anchor_below}
 use Rattle.rbbi_model.proofs.Found.{greatest_lies}
-use Rattle.rbbi_cache.specs.Edits.{begins_pair, IsFirstPair, HasNoPair, pair_places}
+use Rattle.rbbi_cache.specs.Edits.{begins_pair}
 
 -- the greatest place below another at which a test holds is the one with none between
 pub greatest_is : (test : ℕ → Bool) (high p : ℕ) → p < high → test p ≡ true → ((q : ℕ) → p < q → q < high → test q ≡ false) → greatest_below test high ≡ Some p
@@ -84,50 +84,3 @@ pub record WalksOn (table : Table) (x : List ℕ) (low place here : ℕ) : Type 
   pub from : low ≤ place
   pub category : here ≡ category_of table.ranges (get_or x place 0)
   pub none : (p : ℕ) → low ≤ p → p < place → begins_pair table x p ≡ false
-
-module _ (table : Table) (x : List ℕ) (low : ℕ) where
-  pub walk_on_starts : (here : ℕ) → here ≡ category_of table.ranges (get_or x low 0) → WalksOn table x low low here
-  walk_on_starts here is = record { from = omega arith; category = is; none = λ p from less. absurd (omega arith) }
-
-  no_room : (p : ℕ) → length x < p + 2 → begins_pair table x p ≡ false
-  no_room p short = ap (λ b. b && is_safe table (category_at table x p) (category_at table x (p + 1))) (lt-leb (p + 2) (length x) short)
-
-  module _ (place here next : ℕ) (walk : WalksOn table x low place here) (next_is : next ≡ category_of table.ranges (get_or x (place + 1) 0)) where
-    pair_on : is_safe table here next ≡ is_safe table (category_at table x place) (category_at table x (place + 1))
-    pair_on = ap (λ c. is_safe table c next) walk.category ∙ ap (is_safe table (category_at table x place)) next_is
-
-    pub walk_on_goes : is_safe table here next ≡ false → WalksOn table x low (place + 1) next
-    walk_on_goes fails =
-        let from = walk.from in
-        let here_no : begins_pair table x place ≡ false = ap (λ b. leb (place + 2) (length x) && b) (sym pair_on ∙ fails)
-        ∙ and_false (leb (place + 2) (length x)) in
-        record {
-          from = omega arith;
-          category = next_is;
-          none = λ p past less. ⊎_elim (λ is. ap (begins_pair table x) is ∙ here_no) (λ other. walk.none p past (omega arith)) (cases_eq p place);
-        }
-      where
-        and_false : (b : Bool) → b && false ≡ false
-        and_false true = refl
-        and_false false = refl
-
-    pub walk_on_ends : place + 1 < length x → place < low + pair_places → is_safe table here next ≡ true → IsFirstPair table x low place
-    walk_on_ends room near holds =
-        record {
-          from = walk.from;
-          near = near;
-          begins = and_from (leb (place + 2) (length x)) (is_safe table (category_at table x place) (category_at table x (place + 1)))
-              (le-leb (place + 2) (length x) (omega arith)) (sym pair_on ∙ holds);
-          none_before = walk.none;
-        }
-
-  -- up to the text's end, or as far as is looked, there is no pair
-  pub walk_on_fails : (place here : ℕ) → WalksOn table x low place here → ((length x ≤ place + 1) ⊎ (low + pair_places ≤ place)) → HasNoPair table x low
-  walk_on_fails place here walk end p from near =
-      ⊎_elim
-      (λ before. walk.none p from before)
-      (λ past. ⊎_elim (λ over. no_room p (omega arith)) (λ far. absurd (omega arith)) end)
-      (cases_lt p place)
-
-  pub no_pair_short : length x < low + 2 → HasNoPair table x low
-  no_pair_short short p from near = no_room p (omega arith)

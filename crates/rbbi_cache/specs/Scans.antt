@@ -23,10 +23,6 @@ pub record Scan : Type 0 where
   pub found : List Entry
   pub here : Entry
 
--- the entries that were known and found
-abbrev pub all_entries : Scan → List Entry
-all_entries scan = scan.known ++ scan.found
-
 -- there is no entry, or this is the last
 abbrev pub EndWith : List Entry → Entry → Type 0
 EndWith entries here = (entries ≡ []) ⊎ ((front : List Entry) × (entries ≡ front ++ here ∷ []))

@@ -18,8 +18,3 @@ mod shown;
 pub use cache::Cache;
 pub use entry::Entry;
 pub use run::{MOST_ENTRIES, Run};
-
-#[cfg(test)]
-mod edited_tests;
-#[cfg(test)]
-mod tests;

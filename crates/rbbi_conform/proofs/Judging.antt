@@ -1,7 +1,7 @@
 -- What a judge knows between two searches.
-use Rattle.std.proofs.Common.{◌≡◌, ◌≢◌, ℕ, zero, suc, ◌+◌, ◌-◌, ◌<◌, ◌≤◌, ◌⊎◌, inl, inr, Bool, true, false, cond, eqb, List, [], ◌∷◌, length, refl, ap, sym}
+use Rattle.std.proofs.Common.{◌≡◌, ◌≢◌, ℕ, zero, suc, ◌+◌, ◌-◌, ◌<◌, ◌≤◌, inl, inr, true, false, cond, eqb, List, [], ◌∷◌, length, refl, ap, sym}
 use Rattle.std.proofs.Common.{subst, ◌∙◌, arith}
-use Rattle.std.specs.Prelude.{is_some, Some, None, slice_index, ◌==◌}
+use Rattle.std.specs.Prelude.{is_some, Some, ◌==◌}
 use Rattle.std.proofs.lemmas.Bool.{lt-ltb, le-ltb, eq-eqb, cases_lt}
 use Rattle.std.proofs.lemmas.Bool.Decides.{nat_tests}
 use Rattle.rbbi_model.specs.Boundaries.{Boundary}
@@ -149,8 +149,3 @@ IsJudged-wrong table test last place h l wrong =
           differs = λ agrees. w.wrong (agrees ∙ next_alone table test here most j short place w.past w.up_to);
           least = λ i one below. agrees_on table test here most (place - 1) j short w.right (omega arith) i one (omega arith);
         }
-
--- the text's end
-pub IsJudged-end : (table : Table) (test : Test) (last : ℕ) → IsJudgedTo table test last → length test.text ≤ last → (i : ℕ) → 1 ≤ i → i ≤ length test.text →
-    Agrees (table_boundaries table test.text) test i
-IsJudged-end table test last h end i one within = h.judged.agreed i one (let e = h.at in omega arith)

@@ -1,8 +1,8 @@
 -- Pairs of code points and marks, taken off one by one.
 use Rattle.std.proofs.Common.{◌≡◌, ℕ, ◌+◌, ◌*◌, ◌≤◌, Bool, List, [], ◌∷◌, ◌++◌, length, refl, ap, sym, subst, ◌∙◌, append_assoc, append-nil, length-append}
 use Rattle.std.proofs.Common.{arith}
-use Rattle.rbbi_conform.specs.Grammar.{before_comment, words_of, IsMark, IsCodePoint, ArePairs, WritesTest}
-use Rattle.rbbi_conform.specs.Readings.{IsFirstWord, IsNoPair, IsPairOf, AreMarkedBy, AreUnmarked, IsMarkedOf, IsUnmarked}
+use Rattle.rbbi_conform.specs.Grammar.{words_of, IsCodePoint, ArePairs}
+use Rattle.rbbi_conform.specs.Readings.{IsFirstWord, IsNoPair, IsPairOf, AreMarkedBy, AreUnmarked}
 
 -- So many pairs were read, and these words are left.
 pub record IsMarking (words text : List ℕ) (marks : List Bool) (rest : List ℕ) : Type 0 where
@@ -79,33 +79,4 @@ IsMarking-end words text marks rest h none = record {
       (subst (λ m. ArePairs (words_of words) (text ++ []) m) (append-nil marks) (h.forth [] [] none));
   same = h.same;
   few = let f = h.few in omega arith;
-}
-
-no_first : (sign : List ℕ) (rest : List (List ℕ)) → [] ≡ sign ∷ rest → ⊥
-no_first sign rest e = cc
-
--- a line without words writes no test
-pub unmarked_empty : (line : List ℕ) → words_of (before_comment line) ≡ [] → IsUnmarked line
-unmarked_empty line none text marks h = no_first h.sign h.rest (sym none ∙ h.words)
-
--- nor does one whose first word is no mark
-pub unmarked_first : (line word rest : List ℕ) → IsFirstWord (before_comment line) word rest → ((mark : Bool) → ¬ IsMark word mark) → IsUnmarked line
-unmarked_first line word rest first none text marks h =
-    none h.mark (subst (λ w. IsMark w h.mark) (sym (head_of word h.sign (words_of rest) h.rest (sym first.words ∙ h.words))) h.first)
-  where
-    head_of : (w s : List ℕ) (ws r : List (List ℕ)) → w ∷ ws ≡ s ∷ r → w ≡ s
-    head_of w s ws r e = cc
-
--- nor one whose other words are no pairs
-pub unmarked_rest : (line word rest : List ℕ) → IsFirstWord (before_comment line) word rest → AreUnmarked rest → IsUnmarked line
-unmarked_rest line word rest first none text marks h =
-    none text marks (subst (λ ws. ArePairs ws text marks) (rest_of word h.sign (words_of rest) h.rest (sym first.words ∙ h.words)) h.pairs)
-
--- a mark and pairs are a test
-pub marked_line : (line word rest text : List ℕ) (marks : List Bool) (mark : Bool) → IsFirstWord (before_comment line) word rest →
-    length (before_comment line) ≤ length line → IsMark word mark → AreMarkedBy rest text marks → IsMarkedOf line text marks
-marked_line line word rest text marks mark first shorter is pairs = record {
-  writes = record { sign = word; mark = mark; rest = words_of rest; words = first.words; first = is; pairs = pairs.pairs };
-  same = pairs.same;
-  few = let f = pairs.few in let p = first.parts in omega arith;
 }

@@ -1,6 +1,6 @@
 -- What the calls that read parts of a line answer. Each pair of a code point and a mark takes six bytes or more.
-use Rattle.std.specs.Prelude.{◌≡◌, ℕ, ◌+◌, ◌*◌, ◌≤◌, Bool, List, [], ◌∷◌, length, Option, Some, None}
-use Rattle.rbbi_conform.specs.Grammar.{before_comment, words_of, IsMark, IsCodePoint, ArePairs, WritesTest}
+use Rattle.std.specs.Prelude.{◌≡◌, ℕ, ◌+◌, ◌*◌, ◌≤◌, Bool, List, ◌∷◌, length, Option, Some, None}
+use Rattle.rbbi_conform.specs.Grammar.{words_of, IsMark, IsCodePoint, ArePairs, WritesTest}
 
 -- the first word of the text, and what follows it
 pub record IsFirstWord (text word rest : List ℕ) : Type 0 where

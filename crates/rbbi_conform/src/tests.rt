@@ -1,16 +1,8 @@
-//! Test files line by line, and verdicts by a table that is worked by hand.
-ghost use Rattle.std.specs.Prelude.{◌≡◌, ◌<◌, ◌≤◌, length};
+//! Test files line by line.
 
-use crate::{Test, Tests, Verdict, judge, read_tests};
-use rbbi_table::{
-    ByteList, CellList, Marks, NumberList, NumberLists, Parts, RangeList, RangeRow, RowHead,
-    RowList, Table, TableErr,
-};
-use rbbi_text::{Chars, Steps};
+use crate::{Test, Tests, read_tests};
+use rbbi_text::Chars;
 use std::alloc::{AllocError, Global};
-use std::marker::Brand;
-use std::process::Abort;
-use std::sync::ledger::{Blank, Ledger};
 use std::test::Fail;
 
 /// The places at which a test marks a boundary, behind its line and its length.
@@ -123,97 +115,5 @@ fn bad_lines(rt: HostRuntime) -> Result<(), Fail> {
             }
         }
     }
-    Ok(())
-}
-
-/// Starts and categories: 1 control characters, 2 LF, 3 CR, 4 other characters, 5 combining marks.
-const RANGES: &[(u32, u16)] = &[
-    (0, 1),
-    (0xA, 2),
-    (0xB, 1),
-    (0xD, 3),
-    (0xE, 1),
-    (0x20, 4),
-    (0x7F, 1),
-    (0xA0, 4),
-    (0x300, 5),
-    (0x370, 4),
-    (0xD800, 0),
-    (0xE000, 4),
-];
-
-const CELLS: &[u16] = &[
-    0, 0, 0, 0, 0, 0, 0, 2, 2, 3, 4, 4, 0, 0, 0, 0, 0, 0, 0, 0, 2, 0, 0, 0, 0, 0, 0, 0, 0, 4,
-];
-
-/// The table of graphemes: CR with LF, and a character with the combining marks behind it.
-fn graphemes(rt: &impl Abort, alloc: Global) -> Result<Table, TableErr> {
-    let mut ranges = RangeList::new(alloc);
-    for (start, cat) in RANGES {
-        ranges.push(RangeRow {
-            start: *start,
-            cat: *cat,
-        })?;
-    }
-    let mut lists = NumberLists::new(alloc);
-    lists.push(NumberList::from_vec([0].to_vec(alloc)?))?;
-    let mut rows = RowList::new(alloc);
-    for accept in [0, 0, 1, 1, 1] {
-        rows.push(RowHead {
-            accept,
-            fronts: 0,
-            list: 0,
-        })?;
-    }
-    let parts = Parts {
-        categories: 6,
-        slashes: 0,
-        ranges,
-        lists,
-        rows,
-        cells: CellList::from_vec(CELLS.to_vec(alloc)?),
-        safe: ByteList::from_vec([0xFF, 0xFF, 0xEF, 0xDF, 0x07].to_vec(alloc)?),
-    };
-    assert_eq!(rt; parts.rows.len(), 5);
-    assert_eq!(rt; parts.cells.len(), 30);
-    assert_eq!(rt; parts.safe.len(), 5);
-    assert_eq!(rt; parts.categories, 6);
-    Table::from_parts(alloc, &parts)
-}
-
-/// The verdicts on the tests of a file by a table: `=`, or the place that differs.
-fn verdicts<L: Ledger>(
-    rt: &HostRuntime,
-    table: &Table,
-    file: &[u8],
-    blank: Blank,
-) -> Result<String, Fail>
-    requires name { blank.name ≡ L.name }
-    requires parts { blank.parts ≡ L.parts }
-    requires some { 0 < blank.parts }
-    requires small { length file.now ≤ 1000 }
-{
-    let alloc = rt.alloc();
-    let mut steps = Steps::<L>::new(rt, blank);
-    let mut marks = Marks::new(alloc, table)?;
-    let tests = read_tests(alloc, file)?;
-    let mut shown = String::new(alloc);
-    for i in 0..tests.len() {
-        match judge(table, tests.get(i), &mut marks, &mut steps) {
-            Verdict::Same => shown.push('=')?,
-            Verdict::Differs(place) => shown.push_str(&format!(in alloc; "{place}")?)?,
-        }
-    }
-    Ok(shown)
-}
-
-#[test]
-fn verdicts_by_a_table(rt: HostRuntime) -> Result<(), Fail> {
-    let file = "÷ 000D × 000A ÷ 0061 × 0308 ÷\n÷ 000D × 000A ÷ 0061 ÷ 0308 ÷\n\
-         ÷ 0061 × 0062 ÷\n÷ 0061 ÷ 0062 ×\n÷ 000D ÷ 000A ÷\n×\n";
-    assert!(rt; file.len() <= 1000);
-    let table = graphemes(&rt, rt.alloc())?;
-    let shown = verdicts::<Brand>(&rt, &table, file.as_bytes(), Blank::new(1))?;
-    assert_eq!(rt; shown.as_str(), "=3121=");
     Ok(())
 }

@@ -1,12 +1,11 @@
 -- The edits that are drawn, and the places that are answered.
-use Rattle.std.proofs.Common.{◌≡◌, ◌<◌, ◌≤◌, ℕ, ◌+◌, ◌-◌, ◌%◌, List, [], ◌∷◌, ◌++◌, length, take, drop, min, Option, Some, None, refl, sym, ap, ◌∙◌, ltb}
+use Rattle.std.proofs.Common.{◌≡◌, ◌<◌, ◌≤◌, ℕ, ◌+◌, ◌-◌, ◌%◌, List, [], ◌∷◌, ◌++◌, length, take, drop, min, Option, Some, None, ap, ◌∙◌, ltb}
 use Rattle.std.proofs.Common.{cond, arith, length-append}
 use Rattle.std.proofs.lemmas.List.{length-take, length-drop}
 use Rattle.std.proofs.lemmas.Bool.{cond-false, le-ltb}
 use Rattle.std.specs.Prelude.{unwrap_or}
 use Rattle.rbbi_model.specs.Words.{IsText, most_characters}
-use Rattle.rbbi_model.specs.Boundaries.{Boundary}
-use Rattle.rbbi_model.specs.Answers.{Reply, Place, Done, Following, Preceding, Outside, TooLong, answer}
+use Rattle.rbbi_model.specs.Answers.{Reply, Following, Preceding, Outside, TooLong, answer}
 use Rattle.rbbi_model.specs.Scripts.{splice, edit, Edit, Refused, Accepted}
 use Rattle.rbbi_model.proofs.Texts.{text_append, text_take, text_drop}
 use Rattle.rbbi_session.specs.Sessions.{Session, boundaries_of, place_reply, Answers}
@@ -51,9 +50,6 @@ module _ {s t u : ℕ} {x : List ℕ} {at third removed c : ℕ} {inserted : Lis
       accepts x at removed inserted removed_within (omega arith)
 
   -- it isn't refused
-  pub not_outside : edit x at removed inserted ≡ Refused Outside → ⊥
-  not_outside refused = let accepted = edit_accepted in absurd cc
-
   pub not_too_long : edit x at removed inserted ≡ Refused TooLong → ⊥
   not_too_long refused = let accepted = edit_accepted in absurd cc
 

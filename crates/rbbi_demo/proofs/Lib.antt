@@ -1,4 +1,3 @@
-mod OneCharacter
 mod Drawing
 mod Editing
 mod Counting

@@ -1,5 +1,5 @@
 -- Summaries by rules: they are determined, and a table that gives the boundaries gives them.
-use Rattle.std.proofs.Common.{◌≡◌, ℕ, zero, suc, ◌+◌, List, length, refl, sym, ap, ◌∙◌, subst}
+use Rattle.std.proofs.Common.{◌≡◌, ℕ, zero, suc, ◌+◌, List, length, sym, ap, ◌∙◌, subst}
 use Rattle.rbbi_model.specs.Words.{IsText}
 use Rattle.rbbi_model.specs.Rules.{Rule}
 use Rattle.rbbi_model.specs.Boundaries.{Boundary, AreBoundaries}

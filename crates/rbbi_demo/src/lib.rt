@@ -10,8 +10,6 @@ mod edit;
 mod generator;
 mod laws;
 mod summary;
-#[cfg(test)]
-mod tests;
 mod text;
 
 pub use demonstration::demo;

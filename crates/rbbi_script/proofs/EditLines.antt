@@ -88,8 +88,3 @@ pub deletes : (fields : List ℕ) (n : ℕ) (digits : List ℕ) (m : ℕ) → Is
     Writes (codes "delete " ++ fields) (Replace n m [])
 deletes fields n digits m place count =
     inr (inl (record { fields = fields; digits = digits; spelled = refl; place = place; count = count; none_inserted = refl }))
-
-pub replaces : (fields : List ℕ) (n : ℕ) (others : List ℕ) (m : ℕ) (text word : List ℕ) → IsField fields n others → IsField others m text →
-    Spells text word → Writes (codes "replace " ++ fields) (Replace n m word)
-replaces fields n others m text word place count spells =
-    inr (inr (record { fields = fields; others = others; text = text; spelled = refl; place = place; count = count; spells = spells }))

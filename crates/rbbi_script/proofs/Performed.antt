@@ -59,9 +59,6 @@ lines_parts table state commands others =
     ∙ flat_map-append reply_lines (replies_by edit (table_boundaries table) state commands)
     (replies_by edit (table_boundaries table) (state_after table state commands) others)
 
-pub none_played : (session : Session) (before : List ℕ) → ArePlayed session [] before session before
-none_played session before = record { appended = sym (append-nil before); state_is = refl; table_is = refl }
-
 -- one more command was performed
 pub one_more_played : (old : Session) (commands : List Command) (before : List ℕ) (session : Session) (middle : List ℕ) (command : Command) (new : Session)
     (after : List ℕ) →

@@ -1,13 +1,12 @@
 -- Commands that were performed in order, and what they read.
 use Rattle.std.proofs.Common.{◌≡◌, ℕ, ◌+◌, List, [], ◌∷◌, ◌++◌, Option, Some, None, Result, sym, refl, subst, arith}
-use Rattle.std.proofs.lemmas.Bool.{false≢true}
 use Rattle.rbbi_model.specs.Tables.{Table}
 use Rattle.rbbi_model.specs.Scripts.{Command, State}
 use Rattle.rbbi_model.specs.Costs.{command_cost, charge_by, costs_by}
 use Rattle.rbbi_session.specs.Sessions.{Session}
 use Rattle.rbbi_script.specs.Performing.{state_after, IsPerformed, ArePlayed}
 use Rattle.rbbi_script.specs.Reading.{RisesUpTo, IsPaid, TurnsRuns, table_turn, commands_cost}
-use Rattle.rbbi_script.proofs.Performed.{none_played, one_more_played}
+use Rattle.rbbi_script.proofs.Performed.{one_more_played}
 use Rattle.rbbi_script.proofs.Recalled.{Recalls, recalls_performed, charged}
 
 -- the last of the commands, or where there is none, the one before them
@@ -37,13 +36,6 @@ pub record ArePaid (old : Session) (commands : List Command) (before : List ℕ)
   pub played : ArePlayed old commands before now after
   pub paid : RisesUpTo (commands_cost old.table old.state commands) start steps
   pub recalls : Recalls now (last_after None commands)
-
-pub none_paid : (session : Session) (before : List ℕ) (start : ℕ) → ArePaid session [] before session before start start
-none_paid session before start = record {
-  played = none_played session before;
-  paid = record { more = omega arith; cost = omega arith };
-  recalls = λ question same kept. absurd (false≢true same);
-}
 
 module _ (old : Session) (commands : List Command) (before : List ℕ) (session : Session) (middle : List ℕ) (start here : ℕ)
     (are : ArePaid old commands before session middle start here) (command : Command) (new : Session) (steps : ℕ) where

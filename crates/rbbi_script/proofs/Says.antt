@@ -1,9 +1,9 @@
 -- Fronts of lines that were appended.
 use Rattle.std.proofs.Common.{◌≡◌, ℕ, suc, ◌<◌, length, take, drop, get_or, List, [], ◌∷◌, ◌++◌, Result, Ok, Err, ap, sym, ◌∙◌, append_assoc, append-nil}
-use Rattle.std.proofs.Common.{drop-cons, ◌+◌, arith}
+use Rattle.std.proofs.Common.{drop-cons, arith}
 use Rattle.std.specs.Prelude.{decimal}
 use Rattle.std.specs.List.{flat_map}
-use Rattle.std.proofs.lemmas.List.{take-append-drop, take_more}
+use Rattle.std.proofs.lemmas.List.{take-append-drop}
 use Rattle.std.proofs.lemmas.Grind.{flat_map-append}
 use Rattle.rbbi_model.specs.Lines.{joined_statuses}
 use Rattle.rbbi_script.specs.Saying.{next_status, AppendsFront, Appends}
@@ -42,14 +42,6 @@ joined_is status (next ∷ statuses) = ap (λ x. decimal status ++ 44 ∷ x) (jo
 pub joined_first : (list : List ℕ) → 0 < length list → joined_statuses list ≡ decimal (get_or list 0 0) ++ flat_map next_status (drop 1 list)
 joined_first [] l = absurd (omega arith)
 joined_first (status ∷ statuses) l = joined_is status statuses
-
--- one status more
-pub others_more : (statuses : List ℕ) (i d : ℕ) → i < length statuses → flat_map next_status (take (i + 1) statuses) ≡ flat_map next_status
-    (take i statuses) ++ next_status (get_or statuses i d)
-others_more statuses i d l =
-    ap (flat_map next_status) (take_more statuses i d l)
-    ∙ flat_map-append next_status (take i statuses) (get_or statuses i d ∷ [])
-    ∙ ap (λ x. flat_map next_status (take i statuses) ++ x) (append-nil (next_status (get_or statuses i d)))
 
 -- what is written of the numbers before one, of the one, and of those behind it
 pub flat_parts : (f : ℕ → List ℕ) (ns : List ℕ) (i d : ℕ) → i < length ns → flat_map f ns ≡ flat_map f (take i ns) ++

@@ -2,10 +2,10 @@
 use Rattle.std.proofs.Common.{◌≡◌, ◌≢◌, ℕ, Bool, true, false, ◌&&◌, lit<, ◌+◌, ◌<◌, ◌≤◌, List, [], ◌∷◌, ◌++◌, length, get_or, Option, Some, None, refl, ap}
 use Rattle.std.proofs.Common.{sym, subst, ◌∙◌, inl, inr, append_assoc, append-nil, length-append, drop, if◌then◌else◌, ◌==◌, arith}
 use Rattle.std.specs.Prelude.{encode_utf8, encode_utf8_all, IsUtf8, chars, codes}
-use Rattle.std.specs.Char.{InScalarRange, OutOfScalarRange, IsScalar, is_ascii_hexdigit}
+use Rattle.std.specs.Char.{InScalarRange, OutOfScalarRange, is_ascii_hexdigit}
 use Rattle.std.specs.List.{AllByRecursion, list_all}
-use Rattle.std.proofs.lemmas.Str.{encode_same, encode_ascii, encodes-chars, byte_from_char, length-encode, len_utf8_bounds, chars-append, chars_past_char}
-use Rattle.std.proofs.lemmas.Str.{chars-nil, IsUtf8-encode, IsUtf8-take, IsUtf8-drop, IsUtf8-past_char, IsCharBoundary-before_ascii}
+use Rattle.std.proofs.lemmas.Str.{encode_same, encode_ascii, encodes-chars, byte_from_char, length-encode, len_utf8_bounds}
+use Rattle.std.proofs.lemmas.Str.{IsUtf8-take, IsUtf8-drop, IsUtf8-past_char, IsCharBoundary-before_ascii}
 use Rattle.std.proofs.lemmas.Str.{IsCharBoundary-after_ascii}
 use Rattle.std.proofs.lemmas.List.{get_or-append-add}
 use Rattle.std.proofs.Math.Seq.{get_or-append_seam, take-append_seam, drop-append-add}
@@ -120,17 +120,6 @@ only_number text before after c e none number character = record {
     each other d others (inr (inr (inr (inr h)))) f =
         let same = same_cut 125 before after h.digits others none (no_brace h.digits d h.number) (ap (drop 2) (sym e ∙ at_number other others text d h f)) in
         (some_same d c (sym h.number ∙ ap (hexadecimal 1 6 0x10FFFF) (sym same.0) ∙ number), sym same.1)
-
--- a text that doesn't begin with `u{`
-pub no_number-start : (text : List ℕ) → ((r : List ℕ) → text ≢ codes "u{" ++ r) → IsNoNumberEscape text
-no_number-start text none s c rest h e = none (h.digits ++ 125 ∷ rest) (at_number s rest text c h e)
-
--- one in which no brace closes
-pub no_number-open : (text digits : List ℕ) → text ≡ codes "u{" ++ digits → HasNone 125 digits → IsNoNumberEscape text
-no_number-open text digits e none s c rest h f =
-    let same : digits ≡ h.digits ++ 125 ∷ rest = ap (drop 2) (sym e ∙ at_number s rest text c h f) in
-    none (length h.digits) (let long = ap length same in let l = length-append h.digits (125 ∷ rest) in omega arith)
-    (ap (λ t. get_or t (length h.digits) 0) same ∙ get_or-append_seam h.digits 125 rest 0)
 
 same_digits : (text before after : List ℕ) (e : text ≡ codes "u{" ++ (before ++ 125 ∷ after)) → HasNone 125 before →
     (s : List ℕ) (c : ℕ) (rest : List ℕ) (h : IsNumberEscape s c) → text ≡ s ++ rest → before ≡ h.digits
@@ -348,9 +337,3 @@ ascii_escape s c (inr (inr (inr (inr h)))) =
 pub utf8_left : (before after : List ℕ) (c : ℕ) (left : List ℕ) → IsUtf8 (before ++ 92 ∷ after) → IsOnlyEscape after c left → IsUtf8 left
 utf8_left before after c left utf8 escape =
     utf8_past escape.spelling left (ascii_escape escape.spelling c escape.is) (subst IsUtf8 escape.parts (utf8_after before after utf8))
-
--- a character more
-pub chars-push : (bs : List ℕ) (c : ℕ) → IsUtf8 bs → IsScalar c → chars (bs ++ encode_utf8 c) ≡ chars bs ++ c ∷ []
-chars-push bs c utf8 scalar =
-    chars-append bs (encode_utf8 c) utf8
-    ∙ ap (λ x. chars bs ++ x) (chars_past_char (encode_utf8 c) [] c (IsUtf8-encode c scalar) (sym (append-nil (encode_utf8 c))) ∙ ap (λ x. c ∷ x) chars-nil)

@@ -13,8 +13,6 @@ mod line;
 mod listing;
 mod performing;
 mod pieces;
-#[cfg(test)]
-mod play_tests;
 mod question;
 mod reader;
 mod saying;

@@ -2,4 +2,5 @@ pub mod Places
 pub mod Rises
 pub mod Reaching
 pub mod Answering
+pub mod Stepping
 mod Asked

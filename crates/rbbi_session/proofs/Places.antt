@@ -4,11 +4,7 @@ use Rattle.std.specs.List.{AllByRecursion}
 use Rattle.std.proofs.lemmas.Bool.{cond-true, cond-false, eq-eqb, ne_eqb}
 use Rattle.rbbi_model.specs.Boundaries.{Boundary}
 use Rattle.rbbi_model.specs.Answers.{first_place, last_place, statuses_at}
-
--- what holds for each of the boundaries and implies another thing
-pub all_through : (P Q : Boundary → Type 0) → ((b : Boundary) → P b → Q b) → (bs : List Boundary) → AllByRecursion P bs → AllByRecursion Q bs
-all_through P Q implies [] each = tt
-all_through P Q implies (b ∷ bs) each = (implies b each.0, all_through P Q implies bs each.1)
+pub use Rattle.rbbi_cache.proofs.Lists.{all_through}
 
 -- where the test fails at the first boundaries, it holds first behind them
 pub first_skips : (test : ℕ → Bool) (done rest : List Boundary) → AllByRecursion (λ b. test b.at ≡ false) done →
@@ -34,13 +30,6 @@ last_skips : (test : ℕ → Bool) (before : Option ℕ) (rest : List Boundary) 
 last_skips test before [] fails = refl
 last_skips test before (b ∷ rest) fails =
     ap (λ o. last_place test o rest) (cond-false (test b.at) (Some b.at) before fails.0) ∙ last_skips test before rest fails.1
-
--- where the test fails behind a boundary at which it holds, it holds last there
-pub last_takes : (test : ℕ → Bool) (before : Option ℕ) (done : List Boundary) (here : Boundary) (rest : List Boundary) → test here.at ≡ true →
-    AllByRecursion (λ b. test b.at ≡ false) rest → last_place test before (done ++ here ∷ rest) ≡ Some here.at
-last_takes test before [] here rest holds fails =
-    ap (λ o. last_place test o rest) (cond-true (test here.at) (Some here.at) before holds) ∙ last_skips test (Some here.at) rest fails
-last_takes test before (b ∷ done) here rest holds fails = last_takes test (cond (test b.at) (Some b.at) before) done here rest holds fails
 
 pub last_none : (test : ℕ → Bool) (bs : List Boundary) → AllByRecursion (λ b. test b.at ≡ false) bs → last_place test None bs ≡ None
 last_none test bs fails = last_skips test None bs fails

@@ -80,7 +80,7 @@ some_of [] b after each = each.0
 some_of (c ∷ before) b after each = some_of before b after each.1
 
 -- an entry that is a boundary has one of the status lists
-pub reached_entry : (table : Table) → IsValidTable table → (x : List ℕ) (entry : Entry) → IsBoundaryOf table x entry → IsReached table x entry.at entry.status
+reached_entry : (table : Table) → IsValidTable table → (x : List ℕ) (entry : Entry) → IsBoundaryOf table x entry → IsReached table x entry.at entry.status
 reached_entry table valid x entry is =
     let some : 1 ≤ length (statuses_of table entry.status) =
     some_of is.before (boundary_of table entry) is.after (subst (λ bs. AllByRecursion (λ b. 1 ≤ length b.statuses) bs) is.whole (all_some table valid x)) in
@@ -92,6 +92,10 @@ reached_entry table valid x entry is =
           ⊎_elim (λ within. within) (λ past. absurd (omega (arith, some, ap length (get_or_past table.lists entry.status [] past))))
           (cases_lt entry.status (length table.lists));
     }
+
+pub reached_inside : (table : Table) → IsValidTable table → (x : List ℕ) {inside entry : Entry} → inside ≡ entry → IsBoundaryOf table x entry →
+    IsReached table x inside.at inside.status
+reached_inside table valid x {entry = entry} same is = subst (λ e. IsReached table x e.at e.status) (sym same) (reached_entry table valid x entry is)
 
 place_behind : (done : List Boundary) (here : Boundary) (rest : List Boundary) → IsPlaceOf (done ++ here ∷ rest) here.at
 place_behind [] here rest = inl refl

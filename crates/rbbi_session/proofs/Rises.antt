@@ -1,5 +1,5 @@
 -- Lists of boundaries that rise.
-use Rattle.std.proofs.Common.{◌≡◌, ℕ, ◌-◌, ◌<◌, ◌≤◌, false, ltb, leb, eqb, List, [], ◌∷◌, ◌++◌, Some, sym, ap, ◌∙◌, ⊎_elim, arith}
+use Rattle.std.proofs.Common.{◌≡◌, ℕ, ◌-◌, ◌<◌, ◌≤◌, false, ltb, leb, eqb, List, [], ◌∷◌, Some, sym, ap, ◌∙◌, ⊎_elim, arith}
 use Rattle.std.specs.Prelude.{is_some}
 use Rattle.std.specs.List.{AllByRecursion}
 use Rattle.std.proofs.lemmas.Bool.{cases_Bool, cond-true, cond-false, ne_eqb, eqb-false, leb-true, leb-false, lt-leb, le-leb, le-ltb, lt-ltb}
@@ -9,25 +9,8 @@ use Rattle.rbbi_model.specs.Cover.{places, end_of, IsPlaceOf}
 use Rattle.rbbi_model.specs.Answers.{first_place, first_after, first_from, is_place_of}
 use Rattle.rbbi_model.proofs.Rising.{rising_tail}
 use Rattle.rbbi_model.proofs.Found.{some_same, none_some}
+pub use Rattle.rbbi_cache.proofs.Reached.{rises_before, rises_after, rising_right}
 use Rattle.rbbi_session.proofs.Places.{all_through, first_none, first_same}
-
--- what stands before a boundary lies before it
-pub rises_before : (done : List Boundary) (here : Boundary) (rest : List Boundary) → IsRising (places (done ++ here ∷ rest)) →
-    AllByRecursion (λ b. b.at < here.at) done
-rises_before [] here rest rising = tt
-rises_before (b ∷ []) here rest rising = (rising.0, tt)
-rises_before (b ∷ c ∷ done) here rest rising =
-    let further = rises_before (c ∷ done) here rest rising.1 in (omega (arith, rising.0, further.0), further)
-
--- what stands behind a boundary lies behind it
-pub rises_after : (b : Boundary) (rest : List Boundary) → IsRising (places (b ∷ rest)) → AllByRecursion (λ c. b.at < c.at) rest
-rises_after b [] rising = tt
-rises_after b (c ∷ rest) rising =
-    (rising.0, all_through (λ d. c.at < d.at) (λ d. b.at < d.at) (λ d less. omega (arith, less, rising.0)) rest (rises_after c rest rising.1))
-
-pub rising_right : (done rest : List Boundary) → IsRising (places (done ++ rest)) → IsRising (places rest)
-rising_right [] rest rising = rising
-rising_right (b ∷ done) rest rising = rising_right done rest (rising_tail b.at (places (done ++ rest)) rising)
 
 -- no boundary lies behind the last
 pub none_past_end : (bs : List Boundary) → IsRising (places bs) → AllByRecursion (λ b. b.at ≤ end_of bs) bs

@@ -6,7 +6,5 @@
 
 mod boundary;
 mod session;
-#[cfg(test)]
-mod tests;
 
 pub use session::Session;

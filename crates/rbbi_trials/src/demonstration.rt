@@ -94,29 +94,39 @@ fn rescanned<L: Ledger>(
     Ok((found, sum))
 }
 
-/// The demonstration of a number: the number of boundaries, the sum, and the length of the text.
+/// The demonstration of a number: the numbers of boundaries and edits, the sum, and the length of
+/// the text.
 fn summary<L: Ledger>(
     rt: &HostRuntime,
     table: &Table,
     count: u32,
     blank: Blank,
-) -> Result<(u64, u64, u32), Fail>
+) -> Result<(u64, u32, u64, u32), Fail>
     requires name { blank.name ≡ L.name }
     requires parts { blank.parts ≡ L.parts }
     requires some { 0 < blank.parts }
 {
     let mut steps = Steps::<L>::new(rt, blank);
     let summary = demo(rt.alloc(), table, count.min(1_000_000), &mut steps)?;
-    Ok((summary.boundaries, summary.sum, summary.chars))
+    Ok((
+        summary.boundaries,
+        summary.edits,
+        summary.sum,
+        summary.chars,
+    ))
 }
 
+/// By the rule `a;` each character is a segment.
 #[test]
 fn demonstration_by_rescans(rt: HostRuntime) -> Result<(), Fail> {
     let table = table_of(&rt, rt.alloc(), RULES)?;
     let (boundaries, sum) = rescanned::<Brand>(&rt, &table, 20_000, Blank::new(1))?;
-    let (found, added, _) = summary::<Brand>(&rt, &table, 20_000, Blank::new(1))?;
+    let (found, _, added, _) = summary::<Brand>(&rt, &table, 20_000, Blank::new(1))?;
     assert_eq!(rt; found, boundaries);
     assert_eq!(rt; added, sum);
+    let table = table_of(&rt, rt.alloc(), "a;")?;
+    let found = summary::<Brand>(&rt, &table, 250, Blank::new(1))?;
+    assert_eq!(rt; found, (250, 2, 144, 249));
     Ok(())
 }
 

@@ -14,6 +14,10 @@ mod demonstration;
 #[cfg(test)]
 mod draws;
 #[cfg(test)]
+mod kept;
+#[cfg(test)]
+mod played;
+#[cfg(test)]
 mod questions;
 #[cfg(test)]
 mod random;
@@ -23,5 +27,7 @@ mod rescans;
 mod searches;
 #[cfg(test)]
 mod tables;
+#[cfg(test)]
+mod verdicts;
 #[cfg(test)]
 mod worked;

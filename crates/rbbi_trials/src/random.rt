@@ -6,7 +6,7 @@ use crate::counted::Counted;
 use crate::draws::Draws;
 use crate::questions::Question;
 use crate::rescans::Rescans;
-use crate::tables::table_of;
+use crate::tables::{WORDS, table_of};
 use rbbi_session::Session;
 use rbbi_table::Table;
 use rbbi_text::{Chars, Pieces, Steps};
@@ -18,22 +18,7 @@ use std::test::Fail;
 /// Rules, and the characters of their texts.
 const RULES: &[(&str, &[char])] = &[
     ("[a-z]+; ' '+;", &['a', 'b', 'z', ' ', ' ', '-']),
-    (
-        "!!chain;
-!!quoted_literals_only;
-$ALetter = [A-Za-z];
-$Numeric = [0-9];
-$Mid     = ['];
-$MidNum  = [.,];
-$ALetter {200};
-$Numeric {100};
-$ALetter $ALetter {200};
-$ALetter $Mid $ALetter {200};
-$Numeric $Numeric {100};
-$Numeric $MidNum $Numeric {100};
-.;",
-        &['a', 'b', 'Z', '\'', '1', '2', '.', ',', ' ', '-'],
-    ),
+    (WORDS, &['a', 'b', 'Z', '\'', '1', '2', '.', ',', ' ', '-']),
     ("a+ / b; b;", &['a', 'a', 'a', 'b', 'c']),
     (
         "$W = [a-c]; $X = [\\u0308]; $D = [12];

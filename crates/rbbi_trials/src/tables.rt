@@ -16,6 +16,13 @@ use std::alloc::Global;
 use std::process::Abort;
 use std::test::Fail;
 
+/// The rules of words: letters with one apostrophe between, tagged 200, and digits with one point
+/// or comma between, tagged 100.
+pub(crate) const WORDS: &str = "!!chain; !!quoted_literals_only;
+$ALetter = [A-Za-z]; $Numeric = [0-9]; $Mid = [']; $MidNum = [.,];
+$ALetter {200}; $Numeric {100}; $ALetter $ALetter {200}; $ALetter $Mid $ALetter {200};
+$Numeric $Numeric {100}; $Numeric $MidNum $Numeric {100}; .;";
+
 /// The number of characters of a text.
 fn count_characters(text: &str) -> u32
     requires { length text.now ≤ 100000 }

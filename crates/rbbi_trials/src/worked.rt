@@ -18,6 +18,8 @@ enum Row {
     Following(u32, u32),
     /// Asks the same, of a place whose answer is kept: it must read nothing.
     Kept(u32, u32),
+    /// Asks the same, of a place whose answer isn't kept: it must read something.
+    Read(u32, u32),
     /// Puts a letter before the character with this number.
     Insert(u32, char, u32),
     /// Takes so many characters away, from a place on.
@@ -25,7 +27,7 @@ enum Row {
 }
 
 /// The word so many times.
-fn repeated(alloc: Global, word: &str, times: u32) -> Result<String, AllocError> {
+pub(crate) fn repeated(alloc: Global, word: &str, times: u32) -> Result<String, AllocError> {
     let mut text = String::new(alloc);
     for _ in 0..times {
         text.push_str(word)?;
@@ -55,7 +57,7 @@ const OVER_WORDS: &[&[Row]] = &[
     &[
         Row::Following(8, 11),
         Row::Delete(0, 5, 11995),
-        Row::Following(0, 1),
+        Row::Read(0, 1),
     ],
 ];
 
@@ -79,6 +81,10 @@ fn is_done<L: Ledger>(
         Row::Kept(place, wanted) => {
             let answer = session.following(place, steps);
             Ok(answer == Some(wanted) && session.text().reads() == 0)
+        }
+        Row::Read(place, wanted) => {
+            let answer = session.following(place, steps);
+            Ok(answer == Some(wanted) && session.text().reads() > 0)
         }
         Row::Insert(at, letter, wanted) => {
             let mut bytes = [0; 4];

@@ -1,6 +1,6 @@
-use Rattle.std.proofs.Common.{ap, ◌∙◌, sym, arith}
+use Rattle.std.proofs.Common.{arith}
 use Rattle.rbbi_cache.specs.Edits.{left_part}
-use Rattle.rbbi_cache.proofs.AddedParts.{left_out, put_in}
+use Rattle.rbbi_cache.proofs.AddedParts.{left_out}
 use Rattle.rbbi_cache.proofs.edited.add_left.Goals as goal
 
 pub returns-then-len-eq0-clause-added : goal.returns-then-len-eq0-clause-added

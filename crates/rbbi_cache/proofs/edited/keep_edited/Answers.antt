@@ -1,6 +1,6 @@
-use Rattle.std.proofs.Common.{◌≡◌, ℕ, List, length, take, filter, sym, ap, ◌∙◌, subst, arith}
+use Rattle.std.proofs.Common.{take, filter, sym, ap, ◌∙◌, subst, arith}
 use Rattle.std.proofs.lemmas.List.{take_all}
-use Rattle.rbbi_model.specs.Runs.{Run, IsTrueRun}
+use Rattle.rbbi_model.specs.Runs.{IsTrueRun}
 use Rattle.rbbi_cache.specs.Kept.{most_runs}
 use Rattle.rbbi_cache.specs.Edits.{has_entries}
 use Rattle.rbbi_cache.specs.Parts.{IsMovable, all_parts}

@@ -1,5 +1,4 @@
-use Rattle.std.proofs.Common.{◌≡◌, ◌≤◌, ℕ, List, take, filter, length}
-use Rattle.rbbi_model.specs.Runs.{Run}
+use Rattle.std.proofs.Common.{◌≡◌, ◌≤◌, take, filter}
 use Rattle.rbbi_cache.specs.Kept.{most_runs}
 use Rattle.rbbi_cache.specs.Edits.{has_entries}
 use Rattle.rbbi_cache.specs.Parts.{all_parts}

@@ -1,4 +1,4 @@
-use Rattle.std.proofs.Common.{◌≡◌, ◌+◌, ◌-◌, ap, ◌∙◌, subst, sym, arith}
+use Rattle.std.proofs.Common.{◌≡◌, ap, ◌∙◌, subst, sym, arith}
 use Rattle.rbbi_cache.specs.Parts.{CanMove}
 use Rattle.rbbi_cache.proofs.Appended.{all_at, moved_is, added, skipped}
 use Rattle.rbbi_cache.proofs.parts.append_moved.Goals as goal

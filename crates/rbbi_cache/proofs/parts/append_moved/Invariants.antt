@@ -1,5 +1,4 @@
-use Rattle.std.proofs.Common.{◌≡◌, ℕ, ◌++◌, take, map, filter, leb}
-use Rattle.rbbi_model.specs.Runs.{Entry, Run}
+use Rattle.std.proofs.Common.{◌≡◌, ◌++◌, take, map, filter, leb}
 use Rattle.rbbi_cache.specs.Edits.{moved_entry}
 use Rattle.rbbi_cache.proofs.parts.append_moved.Given as goal
 

@@ -1,4 +1,4 @@
-use Rattle.std.proofs.Common.{◌≡◌, ◌+◌, ◌-◌, ◌<◌, ◌⊎◌, not, ◌&&◌, eqb, ap, ◌∙◌, sym, inl, inr, arith}
+use Rattle.std.proofs.Common.{◌≡◌, ◌+◌, ◌-◌, ◌<◌, ◌⊎◌, not, ◌&&◌, eqb, inl, inr, arith}
 use Rattle.std.proofs.lemmas.Bool.Decides.{nat_tests}
 use Rattle.rbbi_cache.proofs.Copied.{other_is, zero_is, zero_can_move}
 use Rattle.rbbi_cache.proofs.parts.copy_moved.Goals as goal

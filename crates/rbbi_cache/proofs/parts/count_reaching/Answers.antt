@@ -1,6 +1,4 @@
-use Rattle.std.proofs.Common.{◌∙◌, ap, subst, sym, take, arith}
-use Rattle.std.specs.List.{AllByRecursion}
-use Rattle.std.proofs.Math.Seq.{take-length}
+use Rattle.std.proofs.Common.{ap, arith}
 use Rattle.rbbi_cache.proofs.Cuts.{reaching_first, reaching_others, past_at, none_past, up_to_all}
 use Rattle.rbbi_cache.proofs.parts.count_reaching.Goals as goal
 

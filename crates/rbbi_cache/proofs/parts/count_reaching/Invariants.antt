@@ -1,6 +1,5 @@
-use Rattle.std.proofs.Common.{ℕ, ◌≤◌, take}
+use Rattle.std.proofs.Common.{◌≤◌, take}
 use Rattle.std.specs.List.{AllByRecursion}
-use Rattle.rbbi_model.specs.Runs.{Entry}
 use Rattle.rbbi_cache.proofs.parts.count_reaching.Given as goal
 
 abbrev pub invariant-loop-k : goal.invariant-loop-k

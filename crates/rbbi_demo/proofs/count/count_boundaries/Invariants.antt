@@ -1,5 +1,6 @@
 use Rattle.std.proofs.Common.{length}
-use Rattle.rbbi_demo.proofs.Counting.{AreCounted, left_of}
+use Rattle.rbbi_session.proofs.Stepping.{left_of}
+use Rattle.rbbi_demo.proofs.Counting.{AreCounted}
 use Rattle.rbbi_demo.proofs.count.count_boundaries.Given as goal
 
 abbrev pub invariant-loop-place : goal.invariant-loop-place

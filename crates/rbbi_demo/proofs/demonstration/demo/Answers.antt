@@ -1,7 +1,5 @@
-use Rattle.std.proofs.Common.{◌≡◌, ◌/◌, ℕ, length, sym, ap, ◌∙◌, subst, arith}
-use Rattle.rbbi_session.specs.Sessions.{boundaries_of}
+use Rattle.std.proofs.Common.{◌≡◌, ◌/◌, ℕ, length, ap, ◌∙◌, arith}
 use Rattle.rbbi_demo.specs.Generator.{drawn_text, state_after}
-use Rattle.rbbi_demo.specs.Summaries.{edit_count}
 use Rattle.rbbi_demo.proofs.Demonstrating.{after_none, after_more, summed_up}
 use Rattle.rbbi_demo.proofs.demonstration.demo.Goals as goal
 

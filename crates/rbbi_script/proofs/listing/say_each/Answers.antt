@@ -1,6 +1,7 @@
 use Rattle.std.proofs.Common.{◌<◌, length, sym, subst}
 use Rattle.std.proofs.lemmas.Result.{err_from_is_err_and}
-use Rattle.rbbi_script.proofs.Listed.{AreListed, left_of, listed_further, listed_broken}
+use Rattle.rbbi_session.proofs.Stepping.{left_of}
+use Rattle.rbbi_script.proofs.Listed.{AreListed, listed_further, listed_broken}
 use Rattle.rbbi_script.proofs.ListingCosts.{AreRead, read_start, read_further, read_all}
 use Rattle.rbbi_script.proofs.listing.say_each.Goals as goal
 
@@ -18,7 +19,7 @@ pub returns-in_err-say_bound-clause-runs : goal.returns-in_err-say_bound-clause-
 returns-in_err-say_bound-clause-runs g c =
     let told = err_from_is_err_and c.from_residual.result c.from_residual.ensures.1 in
     let are = c.loop-place.invariant in
-    rw told.1 (are.listed.front, are.listed.rest, are.listed.whole, are.asked)
+    rw told.1 (are.listed.come.front, are.listed.come.rest, are.listed.come.whole, are.asked)
 
 pub returns-in_err-say_bound-clause-cost : goal.returns-in_err-say_bound-clause-cost
 returns-in_err-say_bound-clause-cost g c =
@@ -37,7 +38,7 @@ loop-place-smaller g c =
     c.loop-place.invariant.listed)
     c.next-place.result c.next-place.new.self c.say_bound.new.reply.items c.in_ok-say_bound.ensures c.next-place.ensures.answers in
     subst (λ p. left_of (length c.args.session.now.state.text) c.next-place.result < left_of (length c.args.session.now.state.text) p)
-    (sym c.in-Some.is) further.less
+    (sym c.in-Some.is) further.gone.less
 
 pub loop-place-preserved : goal.loop-place-preserved
 loop-place-preserved g c =

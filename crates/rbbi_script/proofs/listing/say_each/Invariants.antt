@@ -1,5 +1,5 @@
 use Rattle.std.proofs.Common.{length}
-use Rattle.rbbi_script.proofs.Listed.{left_of}
+use Rattle.rbbi_session.proofs.Stepping.{left_of}
 use Rattle.rbbi_script.proofs.ListingCosts.{AreRead}
 use Rattle.rbbi_script.proofs.listing.say_each.Given as goal
 

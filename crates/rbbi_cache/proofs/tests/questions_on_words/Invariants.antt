@@ -1,5 +1,0 @@
-use Rattle.rbbi_cache.proofs.tests.questions_on_words.Given as goal
-
--- a ledger of its own
-abbrev pub ghosts-ask : goal.ghosts-ask
-ghosts-ask g a = record { name = a.blank.name; parts = a.blank.parts }

@@ -1,0 +1,80 @@
+//! Scripts played over texts.
+ghost use Rattle.std.specs.Prelude.{◌≡◌, ◌<◌};
+
+use crate::tables::{WORDS, table_of};
+use rbbi_script::{Commands, play, read_script};
+use rbbi_session::Session;
+use rbbi_table::Table;
+use rbbi_text::{PlainText, Steps};
+use std::marker::Brand;
+use std::sync::ledger::{Blank, Ledger};
+use std::test::Fail;
+
+/// The replies to commands over a text.
+fn replies<L: Ledger>(
+    rt: &HostRuntime,
+    table: &Table,
+    text: PlainText,
+    commands: &Commands,
+    blank: Blank,
+) -> Result<Vec<u8>, Fail>
+    requires name { blank.name ≡ L.name }
+    requires parts { blank.parts ≡ L.parts }
+    requires some { 0 < blank.parts }
+{
+    let alloc = rt.alloc();
+    let mut steps = Steps::<L>::new(rt, blank);
+    let mut session = Session::open(alloc, table, text)?;
+    let mut lines = Vec::new(alloc);
+    play(&mut session, commands, &mut lines, &mut steps)?;
+    Ok(lines)
+}
+
+/// Rules, a text, a script and its replies.
+const ROWS: &[(&str, &str, &str, &str)] = &[
+    (
+        "a;",
+        "",
+        "breaks\nfollowing 0\npreceding 0\nis 0\nlast",
+        "0 0\ndone\ndone\nyes\n0\n",
+    ),
+    (
+        "ab{5}; a[b]{3}; ab;",
+        "ab",
+        "next\nstatus\nstatuses\nnext\nfirst\nstatuses",
+        "2\n5\n3,5\ndone\n0\n0\n",
+    ),
+    (
+        "a; a+b;",
+        "aaaa",
+        "following 0\nfollowing 1\ninsert 4 b\npreceding 5",
+        "1\n2\nok 5\n0\n",
+    ),
+    (
+        WORDS,
+        "can't 32.3.",
+        "following 2\nstatus\npreceding 10\nis 7\ncurrent\nreplace 3 1 -\nprevious\nnext\n\
+         status\nstatuses\nnext\nstatus\nstatuses\ntext\ndelete 11 1\nlast\nfirst",
+        "5\n200\n6\nno\n10\nok 11\ndone\n3\n\
+         200\n200\n4\n0\n0\ncan-t 32.3.\noutside\n11\n0\n",
+    ),
+    (
+        "a;",
+        "a\\\n\té\r",
+        "next\nbreaks\ncurrent\ntext",
+        "1\n0 0\n1 0\n2 0\n3 0\n4 0\n5 0\n6 0\n1\na\\\\\\n\\té\\r\n",
+    ),
+];
+
+#[test]
+fn scripts_over_texts(rt: HostRuntime) -> Result<(), Fail> {
+    for (rules, text, script, wanted) in ROWS {
+        assert!(rt; script.len() <= 1000);
+        let table = table_of(&rt, rt.alloc(), rules)?;
+        let text = PlainText::new(rt.alloc(), text)?;
+        let commands = read_script(rt.alloc(), script.as_bytes())?;
+        let lines = replies::<Brand>(&rt, &table, text, &commands, Blank::new(1))?;
+        assert_eq!(rt; lines.as_slice(), wanted.as_bytes(), "of {script:?}");
+    }
+    Ok(())
+}
