@@ -23,7 +23,7 @@ pub use chars::{Chars, EditText};
 pub use error::{EditErr, RawErr, TextErr};
 pub use numbers::{decimal, hexadecimal, number_of_characters};
 pub use pieces::Pieces;
-pub use plain::PlainText;
+pub use plain::{PlainText, count_characters};
 pub use raw::Raw;
 pub use steps::Steps;
 pub use word::Word;

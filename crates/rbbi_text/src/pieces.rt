@@ -12,7 +12,7 @@ ghost use Rattle.rbbi_text.specs.Answers.{TakesText, ReadsText};
 
 use crate::piece::{FULL, Piece, QUARTER, cut, pieces_of};
 use crate::places::{character, locate, push_starts, shift};
-use crate::plain::{MOST_CHARACTERS, count, put};
+use crate::plain::{MOST_CHARACTERS, count_characters, put};
 use crate::{Chars, EditErr, EditText, Raw, RawErr, Steps, TextErr, utf8_text};
 use std::alloc::{AllocError, Global};
 use std::fmt;
@@ -345,7 +345,7 @@ impl EditText for Pieces {
         if end > len {
             return Err(EditErr::Outside);
         }
-        let added = count(insert);
+        let added = count_characters(insert);
         if added > MOST_CHARACTERS - (len - (end - start)) {
             return Err(EditErr::TooLong);
         }

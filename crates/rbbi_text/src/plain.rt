@@ -115,9 +115,10 @@ impl Chars for PlainText {
     }
 }
 
-/// The number of characters of a string.
-pub(crate) fn count(text: &str) -> usize
-    ensures { result ≡ length (chars text.now) }
+/// The number of characters of a string, at most that of its bytes.
+pub fn count_characters(text: &str) -> usize
+    ensures exact { result ≡ length (chars text.now) }
+    ensures short { result ≤ length text.now }
 {
     text.chars().count()
 }
@@ -147,7 +148,7 @@ impl EditText for PlainText {
         if end > len {
             return Err(EditErr::Outside);
         }
-        if count(insert) > MOST_CHARACTERS - (len - (end - start)) {
+        if count_characters(insert) > MOST_CHARACTERS - (len - (end - start)) {
             return Err(EditErr::TooLong);
         }
         put(&mut self.items, start, end, insert)?;

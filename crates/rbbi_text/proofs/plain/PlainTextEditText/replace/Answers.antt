@@ -6,11 +6,11 @@ use Rattle.rbbi_text.proofs.Characters.{IsText-chars}
 use Rattle.rbbi_text.proofs.Splices.{length-splice, text-splice}
 use Rattle.rbbi_text.proofs.plain.PlainTextEditText.replace.Goals as goal
 
-pub returns-then-count-len : goal.returns-then-count-len
-returns-then-count-len c =
+pub returns-then-count_characters-len : goal.returns-then-count_characters-len
+returns-then-count_characters-len c =
     let within : c.args.at + c.args.remove ≤ length c.args.self.now = omega (arith, c.if-end-len.false, c.len-len.ensures, ap length c.self.view_is) in
     let long = length-splice c.args.self.now (chars c.args.insert.now) c.args.at c.args.remove within in
-    (within, omega (arith, long, c.if-count-len.true, c.count.ensures, c.len-len.ensures, ap length c.self.view_is), refl)
+    (within, omega (arith, long, c.if-count_characters-len.true, c.count_characters.ensures.exact, c.len-len.ensures, ap length c.self.view_is), refl)
 
 pub invariant_of-self-2 : goal.invariant_of-self-2
 invariant_of-self-2 c =
@@ -20,7 +20,7 @@ invariant_of-self-2 c =
     let edited : c.put.new.items.items ≡ splice x c.args.at c.args.remove w = c.in_ok-put.ensures.ok ∙
     sym (append_assoc (take c.args.at x) w (drop (c.args.at + c.args.remove) x)) in (
       subst IsText (sym edited) (text-splice x w c.args.at c.args.remove c.self.invariant.0 (IsText-chars c.args.insert.now c.utf8.insert)),
-      omega (arith, ap length edited, length-splice x w c.args.at c.args.remove within, c.if-count-len.false, c.count.ensures, c.len-len.ensures),
+      omega (arith, ap length edited, length-splice x w c.args.at c.args.remove within, c.if-count_characters-len.false, c.count_characters.ensures.exact, c.len-len.ensures),
     )
 
 pub returns : goal.returns
@@ -32,4 +32,4 @@ returns c =
     c.in_ok-put.ensures.ok ∙ sym (append_assoc (take c.args.at x) w (drop (c.args.at + c.args.remove) x)) in
     subst (λ y. (c.args.at + c.args.remove ≤ length y) × (length (splice y c.args.at c.args.remove w) ≤ most_characters) ×
     (c.put.new.items.items ≡ splice y c.args.at c.args.remove w)) c.self.view_is
-    (within, omega (arith, length-splice x w c.args.at c.args.remove within, c.if-count-len.false, c.count.ensures, c.len-len.ensures), edited)
+    (within, omega (arith, length-splice x w c.args.at c.args.remove within, c.if-count_characters-len.false, c.count_characters.ensures.exact, c.len-len.ensures), edited)
