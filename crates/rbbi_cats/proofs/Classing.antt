@@ -1,5 +1,5 @@
 -- The numbered ranges are the classes of code points that the sets don't tell apart.
-use Rattle.std.proofs.Common.{◌≡◌, ℕ, zero, suc, ◌+◌, ◌-◌, ◌≤◌, ◌<◌, ◌⊎◌, ◌↔◌, cond, List, [], ◌∷◌, ◌++◌, length, get_or, refl, ap, sym, ◌∙◌, subst, inl, inr}
+use Rattle.std.proofs.Common.{◌≡◌, ℕ, zero, suc, ◌+◌, ◌-◌, ◌≤◌, ◌<◌, ◌⊎◌, ◌↔◌, cond, List, [], ◌∷◌, length, get_or, refl, ap, sym, ◌∙◌, subst, inl, inr}
 use Rattle.std.proofs.Common.{arith}
 use Rattle.std.specs.Prelude.{Contains, flat_map}
 use Rattle.std.specs.List.{AllByRecursion}
@@ -49,7 +49,8 @@ alike_set (range ∷ set) c d ordered small none =
     let high : (d ≤ range.high) ⊎ (range.high < c) = elim (cases_lt range.high d) [
       | inl short ↦ elim (cases_lt range.high c) [
         | inl before ↦ inr before
-        | inr between ↦ absurd (none (range.high + 1) (Contains-append_left (ends_of range) (set_ends set) (range.high + 1) (ends.1 (omega (arith, short, small))))
+        | inr between ↦ absurd (none (range.high + 1) (Contains-append_left (ends_of range) (set_ends set) (range.high + 1)
+            (ends.1 (omega (arith, short, small))))
             (omega (arith, between)) (omega (arith, short)))
       ]
       | inr long ↦ inl long

@@ -349,7 +349,8 @@ all_put before classes members origins start sizes targets moving k e within h =
 pub record NextPut (before classes members origins start sizes targets : List ℕ) (moving k target : ℕ) : Type 0 where
   pub within : target < length sizes
   pub room : get_or sizes target 0 ≤ length classes
-  pub put : PutSoFar before (set classes (get_or members k 0) target) members origins start (set sizes target (get_or sizes target 0 + 1)) targets moving (k + 1)
+  pub put : PutSoFar before (set classes (get_or members k 0) target) members origins start (set sizes target (get_or sizes target 0 + 1))
+      targets moving (k + 1)
 
 pub next_put : {before classes members origins start sizes targets sizes' targets' : List ℕ} {moving k target : ℕ} →
     PutSoFar before classes members origins start sizes targets moving k → Targets moving targets sizes (get_or origins k 0) targets' sizes' target →

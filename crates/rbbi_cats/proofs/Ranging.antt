@@ -6,7 +6,6 @@ use Rattle.std.specs.List.{AllByRecursion}
 use Rattle.std.specs.List.Sorted.{IsStrictlyIncreasing}
 use Rattle.std.proofs.lemmas.Bool.{cases_eq, cases_lt, le-leb, lt-leb}
 use Rattle.std.proofs.lemmas.List.{get_or_default}
-use Rattle.std.proofs.lemmas.List.Kept.{AllPairs-from_increasing}
 use Rattle.rbbi_model.specs.Tables.{CategoryRange, category_from, category_of}
 use Rattle.rbbi_model.specs.ValidTables.{StartsAtZero, AreApart}
 use Rattle.rbbi_cats.proofs.Classing.{rises}

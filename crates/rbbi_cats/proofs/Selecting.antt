@@ -248,7 +248,8 @@ pub range_selected : {cuts : List ℕ} {ranges : List Range} {base members : Lis
     Added base members from i → AreRising ranges → k < length ranges → range ≡ get_or ranges k range →
     IsPoint (λ (x : ℕ). x < range.low) (λ (x : ℕ). range.low ≤ x) cuts from → IsPoint (λ (x : ℕ). x ≤ range.high) (λ (x : ℕ). range.high < x) cuts to →
     (from ≤ to → i ≡ to) → Selected cuts ranges members (k + 1)
-range_selected {cuts = cuts} {ranges = ranges} {base = base} {members = members} {k = k} {from = from} {to = to} {range = range} h added rise below is low high end =
+range_selected {cuts = cuts} {ranges = ranges} {base = base} {members = members} {k = k} {from = from} {to = to} {range = range}
+    h added rise below is low high end =
     let ordered = points_ordered cuts range.low range.high from to (range_ordered ranges k range rise below is) low high in
     one_selected cuts ranges base members k from to range below is (later_apart ranges k range rise is) low high h
     (subst (Added base members from) (end ordered) added)

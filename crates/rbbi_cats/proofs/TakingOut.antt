@@ -125,7 +125,8 @@ next_taken {classes = classes} {members = members} {sizes = sizes} {k = k} {orig
     let m = get_or members k 0 in
     let inside : m < length classes = omega (arith, stretches.within k below, h.many) in
     let origin_is : origin ≡ get_or classes m 0 = read classes m origin inside is in
-    let within : origin < length sizes = omega (arith, origin_is, next_in_class _ _ _ _ _ _ k stretches below h, partition.within m (stretches.within k below), many) in
+    let within : origin < length sizes =
+    omega (arith, origin_is, next_in_class _ _ _ _ _ _ k stretches below h, partition.within m (stretches.within k below), many) in
     record {
       within = within;
       some = omega (arith, h.sized origin within, counted classes m origin inside (sym origin_is));

@@ -1,4 +1,4 @@
-use Rattle.std.proofs.Common.{◌≡◌, ◌+◌, ℕ, List, ltb, leb, sym, subst, arith, rules}
+use Rattle.std.proofs.Common.{◌+◌, ℕ, List, ltb, leb, sym, subst, arith, rules}
 use Rattle.std.proofs.lemmas.List.Sorted.{IsPartitionPoint-from_clause, IsPartitionedBy-ltb, IsPartitionedBy-leb}
 use Rattle.rbbi_cats.proofs.Selecting.{Added, none_added, one_added, members_below, range_selected, cuts_rise, point_below, point_up_to}
 use Rattle.rbbi_cats.proofs.members.members_of.Goals as goal

@@ -1,4 +1,4 @@
-use Rattle.std.proofs.Common.{◌≡◌, ◌+◌, ℕ, get_or, set, sym, arith, subst}
+use Rattle.std.proofs.Common.{◌+◌, ℕ, get_or, set, sym, arith, subst}
 use Rattle.rbbi_cats.specs.declared.refine.TheConstants.{MOVING}
 use Rattle.rbbi_cats.proofs.Counts.{read}
 use Rattle.rbbi_cats.proofs.PuttingBack.{PutSoFar, next_put, all_put}

@@ -20,7 +20,14 @@ invariant_of-self-2 c =
     let edited : c.put.new.items.items ≡ splice x c.args.at c.args.remove w = c.in_ok-put.ensures.ok ∙
     sym (append_assoc (take c.args.at x) w (drop (c.args.at + c.args.remove) x)) in (
       subst IsText (sym edited) (text-splice x w c.args.at c.args.remove c.self.invariant.0 (IsText-chars c.args.insert.now c.utf8.insert)),
-      omega (arith, ap length edited, length-splice x w c.args.at c.args.remove within, c.if-count_characters-len.false, c.count_characters.ensures.exact, c.len-len.ensures),
+      omega (
+        arith,
+        ap length edited,
+        length-splice x w c.args.at c.args.remove within,
+        c.if-count_characters-len.false,
+        c.count_characters.ensures.exact,
+        c.len-len.ensures,
+      ),
     )
 
 pub returns : goal.returns
@@ -31,5 +38,14 @@ returns c =
     let edited : c.put.new.items.items ≡ splice x c.args.at c.args.remove w =
     c.in_ok-put.ensures.ok ∙ sym (append_assoc (take c.args.at x) w (drop (c.args.at + c.args.remove) x)) in
     subst (λ y. (c.args.at + c.args.remove ≤ length y) × (length (splice y c.args.at c.args.remove w) ≤ most_characters) ×
-    (c.put.new.items.items ≡ splice y c.args.at c.args.remove w)) c.self.view_is
-    (within, omega (arith, length-splice x w c.args.at c.args.remove within, c.if-count_characters-len.false, c.count_characters.ensures.exact, c.len-len.ensures), edited)
+    (c.put.new.items.items ≡ splice y c.args.at c.args.remove w)) c.self.view_is (
+      within,
+      omega (
+        arith,
+        length-splice x w c.args.at c.args.remove within,
+        c.if-count_characters-len.false,
+        c.count_characters.ensures.exact,
+        c.len-len.ensures,
+      ),
+      edited,
+    )
