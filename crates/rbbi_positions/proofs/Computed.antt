@@ -1,5 +1,5 @@
 -- What is computed of a tree is what the lists that it spells say.
-use Rattle.std.proofs.Common.{◌≡◌, ℕ, ◌+◌, Bool, true, false, ◌&&◌, ◌||◌, ◌⊎◌, ◌↔◌, List, [], ◌∷◌, ◌++◌, refl, ap, inl, inr, eqb, eq-eqb}
+use Rattle.std.proofs.Common.{◌≡◌, ℕ, ◌+◌, Bool, true, ◌&&◌, ◌||◌, ◌⊎◌, ◌↔◌, List, [], ◌∷◌, ◌++◌, ap, inl, inr, eqb, eq-eqb}
 use Rattle.std.proofs.lemmas.Bool.{eqb-true}
 use Rattle.std.proofs.lemmas.Bool.Decides.{Decides-and, Decides-or, Decides-eqb}
 use Rattle.rbbi_model.specs.Spelling.{Repetition, Star, Plus, Quest, Tree, Leaf, Empty, Never, Then, Either, Repeat}

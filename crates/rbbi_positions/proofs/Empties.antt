@@ -1,12 +1,12 @@
 -- Whether a tree spells the empty list, part by part.
-use Rattle.std.proofs.Common.{◌≡◌, ℕ, ◌+◌, ◌<◌, Bool, true, false, ◌&&◌, ◌||◌, List, [], ◌∷◌, length, get_or, drop, refl, ap, sym, ◌∙◌, subst, arith}
+use Rattle.std.proofs.Common.{◌≡◌, ℕ, ◌+◌, ◌<◌, true, false, ◌&&◌, ◌||◌, List, [], ◌∷◌, length, get_or, drop, refl, ap, sym, ◌∙◌, arith}
 use Rattle.std.proofs.Math.Bool.{and-true, or-false}
 use Rattle.std.proofs.lemmas.Bool.Decides.{Decides-and, Decides-or}
 use Rattle.std.specs.Prelude.{map}
 use Rattle.std.proofs.lemmas.List.{drop_all}
 use Rattle.std.proofs.Common.{drop-cons, suc, ◌≤◌}
 use Rattle.rbbi_model.specs.Spelling.{Tree, Leaf, Empty, Never, Then, Either, Repeat, sequence_of, choice_of}
-use Rattle.std.proofs.Common.{◌⊎◌, ◌↔◌, inl, inr}
+use Rattle.std.proofs.Common.{◌↔◌}
 use Rattle.rbbi_model.specs.Spelling.{Star, Plus, Quest}
 use Rattle.rbbi_model.specs.Rules.{leaf_count}
 use Rattle.rbbi_model.specs.LeafSets.{SpellsPositions}

@@ -1,4 +1,4 @@
-use Rattle.std.proofs.Common.{rules, [], ap, refl, arith}
+use Rattle.std.proofs.Common.{rules, [], arith}
 use Rattle.rbbi_model.specs.Rules.{leaf_count}
 use Rattle.rbbi_resolve.specs.RuleTrees.{tree_of}
 use Rattle.rbbi_resolve.specs.declared.rules.Tree.TheViews.{the_lemmas}

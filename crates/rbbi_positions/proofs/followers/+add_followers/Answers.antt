@@ -1,13 +1,11 @@
-use Rattle.std.proofs.Common.{rules, ◌≡◌, ◌≤◌, ◌<◌, ◌-◌, ℕ, ◌+◌, ◌*◌, ◌||◌, Bool, List, [], drop, take, length, Box, Global, sym, ap, ◌∙◌, refl, subst, arith}
+use Rattle.std.proofs.Common.{rules, ◌≡◌, ◌≤◌, ◌<◌, ◌-◌, ℕ, ◌+◌, ◌*◌, ◌||◌, Bool, List, [], take, length, sym, ap, ◌∙◌, subst, arith}
 use Rattle.std.proofs.Math.Bool.{or-false}
 use Rattle.std.specs.Vec.{with_items}
 use Rattle.std.specs.Prelude.{map}
 use Rattle.rbbi_model.specs.Ranges.{Range}
 use Rattle.rbbi_model.specs.Spelling.{Tree, sequence_of}
 use Rattle.rbbi_model.specs.Rules.{leaf_count}
-use Rattle.rbbi_tree.specs.declared.syntax.Quant.{Quant}
 use Rattle.rbbi_resolve.specs.declared.rules.Tree as code
-use Rattle.rbbi_resolve.specs.declared.rules.Tree.TheVariants.{Rep}
 use Rattle.rbbi_resolve.specs.RuleTrees.{tree_of}
 use Rattle.rbbi_resolve.specs.declared.rules.Tree.TheViews.{the_lemmas}
 use Rattle.rbbi_positions.specs.Rows.{row_bit}
@@ -93,7 +91,8 @@ lead-requires-clause-within t c = λ sets. omega (
   c.count-start.ensures sets,
   c.loop-i.invariant.at sets,
   c.loop-i.invariant.fits sets,
-  count_up_to (tree_of sets) c.in-Seq.parts.items.items _ _ c.loop-i-test.true (omega (arith, c.loop-i.auto.i, c.len-i.ensures, c.in-Seq.parts.items.ok.0)) c.index-part.ensures,
+  count_up_to (tree_of sets) c.in-Seq.parts.items.items _ _ c.loop-i-test.true
+      (omega (arith, c.loop-i.auto.i, c.len-i.ensures, c.in-Seq.parts.items.ok.0)) c.index-part.ensures,
 )
 
 pub loop-i-preserved : goal.loop-i-preserved
@@ -119,7 +118,8 @@ loop-i-preserved t c =
           (c.in_ok-add_followers-in-Seq.ensures sets position other short
           ∙ ap (λ row. in_row (length c.deref.result.now) c.loop-i.followers position other || goes part start position other (row_bit row other))
           c.deref.ensures.value) in
-          goes_on (tree_of sets) c.in-Seq.parts.items.items _ _ c.loop-i-test.true (omega (arith, c.loop-i.auto.i, c.len-i.ensures, c.in-Seq.parts.items.ok.0)) c.index-part.ensures
+          goes_on (tree_of sets) c.in-Seq.parts.items.items _ _ c.loop-i-test.true
+          (omega (arith, c.loop-i.auto.i, c.len-i.ensures, c.in-Seq.parts.items.ok.0)) c.index-part.ensures
           c.args.first start position other (row_bit c.loop-i.row.items other) (row_bit (with_items c.loop-i.row c.lead.new.row).items other)
           (in_row (length c.args.next.now) c.loop-i.followers position other) (in_row (length c.args.next.now) c.add_followers.new.followers position other)
           (let next = count_up_to (tree_of sets) c.in-Seq.parts.items.items _ _ c.loop-i-test.true

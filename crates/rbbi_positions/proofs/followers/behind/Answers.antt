@@ -1,4 +1,4 @@
-use Rattle.std.proofs.Common.{◌≡◌, Bool, ◌||◌, length, drop, sym, ap, ◌∙◌, arith}
+use Rattle.std.proofs.Common.{Bool, ◌||◌, sym, ap, ◌∙◌}
 use Rattle.rbbi_tree.specs.declared.syntax.Quant.{Quant}
 use Rattle.rbbi_resolve.specs.RuleTrees.{tree_of}
 use Rattle.rbbi_positions.specs.Rows.{row_bit}

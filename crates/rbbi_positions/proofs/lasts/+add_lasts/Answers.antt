@@ -56,7 +56,8 @@ add_lasts-requires t c = (
 
 pub returns-then-not-is_empty : goal.returns-then-not-is_empty
 returns-then-not-is_empty t c = λ sets position.
-    ends_end (tree_of sets) c.in-Seq.parts.items.items _ _ c.loop-i-test.true (omega (arith, c.loop-i.auto.i, c.len-i.ensures, c.in-Seq.parts.items.ok.0)) c.index-part.ensures
+    ends_end (tree_of sets) c.in-Seq.parts.items.items _ _ c.loop-i-test.true
+    (omega (arith, c.loop-i.auto.i, c.len-i.ensures, c.in-Seq.parts.items.ok.0)) c.index-part.ensures
     c.args.first (c.loop-i.start - c.count-start.result) position (get_or c.loop-i.flags position false) (get_or c.add_lasts.new.flags position false)
     (let next = count_up_to (tree_of sets) c.in-Seq.parts.items.items _ _ c.loop-i-test.true
     (omega (arith, c.loop-i.auto.i, c.len-i.ensures, c.in-Seq.parts.items.ok.0)) c.index-part.ensures in
@@ -72,7 +73,8 @@ loop-i-preserved t c = record {
       (omega (arith, c.loop-i.auto.i, c.len-i.ensures, c.in-Seq.parts.items.ok.0)) c.index-part.ensures in
       omega (arith, c.loop-i.invariant.fits sets, next);
   flags = λ sets position.
-      ends_on (tree_of sets) c.in-Seq.parts.items.items _ _ c.loop-i-test.true (omega (arith, c.loop-i.auto.i, c.len-i.ensures, c.in-Seq.parts.items.ok.0)) c.index-part.ensures
+      ends_on (tree_of sets) c.in-Seq.parts.items.items _ _ c.loop-i-test.true
+      (omega (arith, c.loop-i.auto.i, c.len-i.ensures, c.in-Seq.parts.items.ok.0)) c.index-part.ensures
       c.args.first (c.loop-i.start - c.count-start.result) position (get_or c.loop-i.flags position false) (get_or c.add_lasts.new.flags position false)
       (let next = count_up_to (tree_of sets) c.in-Seq.parts.items.items _ _ c.loop-i-test.true
       (omega (arith, c.loop-i.auto.i, c.len-i.ensures, c.in-Seq.parts.items.ok.0)) c.index-part.ensures in

@@ -1,4 +1,4 @@
-use Rattle.std.proofs.Common.{◌≡◌, ◌||◌, [], length, drop, ap, ◌∙◌, arith}
+use Rattle.std.proofs.Common.{◌||◌, [], length, ap, ◌∙◌, arith}
 use Rattle.rbbi_resolve.specs.RuleTrees.{tree_of}
 use Rattle.rbbi_positions.specs.Rows.{row_bit}
 use Rattle.rbbi_positions.specs.Trees.{begins}

@@ -1,4 +1,4 @@
-use Rattle.std.proofs.Common.{◌≡◌, ℕ, ◌+◌, ◌*◌, ◌<◌, ◌≤◌, ◌||◌, Bool, [], length, drop, sym, ap, ◌∙◌, subst, arith}
+use Rattle.std.proofs.Common.{◌≡◌, ℕ, ◌+◌, ◌*◌, ◌<◌, ◌≤◌, ◌||◌, Bool, [], length, sym, ap, ◌∙◌, subst, arith}
 use Rattle.rbbi_model.specs.Rules.{leaves_of}
 use Rattle.rbbi_resolve.specs.RuleLists.{rule_of}
 use Rattle.rbbi_positions.specs.PositionMarks.{in_row}

@@ -1,4 +1,4 @@
-use Rattle.std.proofs.Common.{◌≡◌, ◌||◌, false, [], length, drop, get_or, ap, ◌∙◌, arith}
+use Rattle.std.proofs.Common.{◌||◌, false, [], length, get_or, ap, ◌∙◌, arith}
 use Rattle.rbbi_resolve.specs.RuleLists.{rule_of}
 use Rattle.rbbi_positions.specs.RuleParts.{part_ends}
 use Rattle.rbbi_positions.proofs.RowWrites.{all_written}
