@@ -1,11 +1,12 @@
 -- The numbered ranges are the classes of code points that the sets don't tell apart.
-use Rattle.std.proofs.Common.{◌≡◌, ℕ, zero, suc, ◌+◌, ◌-◌, ◌≤◌, ◌<◌, ◌⊎◌, ◌↔◌, cond, List, [], ◌∷◌, ◌++◌, length, get_or, refl, ap, sym, ◌∙◌, subst, inl, inr}
+use Rattle.std.proofs.Common.{◌≡◌, ℕ, zero, suc, ◌+◌, ◌-◌, ◌≤◌, ◌<◌, ◌⊎◌, ◌↔◌, cond, List, [], ◌∷◌, length, get_or, refl, ap, sym, ◌∙◌, subst, inl, inr}
 use Rattle.std.proofs.Common.{arith}
 use Rattle.std.specs.Prelude.{Contains, flat_map}
 use Rattle.std.specs.List.{AllByRecursion}
 use Rattle.std.specs.List.Sorted.{IsStrictlyIncreasing}
 use Rattle.std.proofs.lemmas.Bool.{cases_lt, cases_eq, lt-ltb, le-ltb}
 use Rattle.std.proofs.lemmas.List.{get_or_default}
+use Rattle.std.proofs.lemmas.List.Elements.{Contains-append_left, Contains-append_right, Contains-append_cases}
 use Rattle.std.proofs.lemmas.List.Kept.{AllPairs-from_increasing}
 use Rattle.rbbi_model.specs.Words.{IsCodePoint, last_code_point}
 use Rattle.rbbi_model.specs.Ranges.{Range, Has}
@@ -17,62 +18,39 @@ use Rattle.rbbi_cats.specs.Numbers.{AreNumbers, AreRangesOf}
 use Rattle.rbbi_cats.specs.Partitions.{IsPartition}
 use Rattle.rbbi_cats.specs.Tells.{SomeHas, NoneTells, Tells}
 
--- membership by recursion
-abbrev In : List ℕ → ℕ → Type 0
-In [] n = ⊥
-In (m ∷ ms) n = (m ≡ n) ⊎ In ms n
+if_inside : (range : Range) → range.high < last_code_point → ends_of range ≡ range.low ∷ (range.high + 1) ∷ []
+if_inside range inside = ap (λ t. cond t (range.low ∷ (range.high + 1) ∷ []) (range.low ∷ [])) (lt-ltb range.high last_code_point inside)
 
-contains_in : (xs : List ℕ) (n : ℕ) → In xs n → Contains xs n
-contains_in [] n h = absurd h
-contains_in (x ∷ xs) n (inl e) = (0, omega arith, e)
-contains_in (x ∷ xs) n (inr h) = (let (k, below, e) = contains_in xs n h in (suc k, omega (arith, below), e))
-
-in_contains : (xs : List ℕ) (n : ℕ) → Contains xs n → In xs n
-in_contains [] n (k, below, e) = absurd (omega (arith, below))
-in_contains (x ∷ xs) n (zero, below, e) = inl e
-in_contains (x ∷ xs) n (suc k, below, e) = inr (in_contains xs n (k, omega (arith, below), e))
-
-in_first : (xs ys : List ℕ) (n : ℕ) → In xs n → In (xs ++ ys) n
-in_first [] ys n h = absurd h
-in_first (x ∷ xs) ys n (inl e) = inl e
-in_first (x ∷ xs) ys n (inr h) = inr (in_first xs ys n h)
-
-in_second : (xs ys : List ℕ) (n : ℕ) → In ys n → In (xs ++ ys) n
-in_second [] ys n h = h
-in_second (x ∷ xs) ys n h = inr (in_second xs ys n h)
+if_last : (range : Range) → last_code_point ≤ range.high → ends_of range ≡ range.low ∷ []
+if_last range last = ap (λ t. cond t (range.low ∷ (range.high + 1) ∷ []) (range.low ∷ [])) (le-ltb range.high last_code_point last)
 
 -- where membership may change at one range
-in_ends : (range : Range) → In (ends_of range) range.low × (range.high < last_code_point → In (ends_of range) (range.high + 1))
-in_ends range = elim (cases_lt range.high last_code_point) [
-  | inl inside ↦ subst (λ (l : List ℕ). In l range.low × (range.high < last_code_point → In l (range.high + 1))) (sym (if_inside range inside))
-      (inl refl, λ less. inr (inl refl))
-  | inr last ↦ subst (λ (l : List ℕ). In l range.low × (range.high < last_code_point → In l (range.high + 1))) (sym (if_last range last))
-      (inl refl, λ less. absurd (omega (arith, less, last)))
-]
-  where
-    if_inside : (range : Range) → range.high < last_code_point → ends_of range ≡ range.low ∷ (range.high + 1) ∷ []
-    if_inside range inside = ap (λ t. cond t (range.low ∷ (range.high + 1) ∷ []) (range.low ∷ [])) (lt-ltb range.high last_code_point inside)
-
-    if_last : (range : Range) → last_code_point ≤ range.high → ends_of range ≡ range.low ∷ []
-    if_last range last = ap (λ t. cond t (range.low ∷ (range.high + 1) ∷ []) (range.low ∷ [])) (le-ltb range.high last_code_point last)
+in_ends : (range : Range) → Contains (ends_of range) range.low × (range.high < last_code_point → Contains (ends_of range) (range.high + 1))
+in_ends range =
+    let P : List ℕ → Type 0 = λ ends. Contains ends range.low × (range.high < last_code_point → Contains ends (range.high + 1)) in
+    elim (cases_lt range.high last_code_point) [
+      | inl inside ↦ subst P (sym (if_inside range inside)) ((0, omega arith, refl), λ less. (1, omega arith, refl))
+      | inr last ↦ subst P (sym (if_last range last)) ((0, omega arith, refl), λ less. absurd (omega (arith, less, last)))
+    ]
 
 -- code points between which no range of the set starts or ends are alike
-alike_set : (set : List Range) (c d : ℕ) → c ≤ d → d ≤ last_code_point → ((e : ℕ) → In (set_ends set) e → c < e → e ≤ d → ⊥) → Has set c ↔ Has set d
+alike_set : (set : List Range) (c d : ℕ) → c ≤ d → d ≤ last_code_point → ((e : ℕ) → Contains (set_ends set) e → c < e → e ≤ d → ⊥) → Has set c ↔ Has set d
 alike_set [] c d ordered small none = (λ h. h, λ h. h)
 alike_set (range ∷ set) c d ordered small none =
-    let rest = alike_set set c d ordered small (λ e h. none e (in_second (ends_of range) (set_ends set) e h)) in
+    let rest = alike_set set c d ordered small (λ e h. none e (Contains-append_right (ends_of range) (set_ends set) e h)) in
     let ends = in_ends range in
     let low : (range.low ≤ c) ⊎ (d < range.low) = elim (cases_lt c range.low) [
       | inl behind ↦ elim (cases_lt d range.low) [
         | inl past ↦ inr past
-        | inr between ↦ absurd (none range.low (in_first (ends_of range) (set_ends set) range.low ends.0) behind between)
+        | inr between ↦ absurd (none range.low (Contains-append_left (ends_of range) (set_ends set) range.low ends.0) behind between)
       ]
       | inr from ↦ inl from
     ] in
     let high : (d ≤ range.high) ⊎ (range.high < c) = elim (cases_lt range.high d) [
       | inl short ↦ elim (cases_lt range.high c) [
         | inl before ↦ inr before
-        | inr between ↦ absurd (none (range.high + 1) (in_first (ends_of range) (set_ends set) (range.high + 1) (ends.1 (omega (arith, short, small))))
+        | inr between ↦ absurd (none (range.high + 1) (Contains-append_left (ends_of range) (set_ends set) (range.high + 1)
+            (ends.1 (omega (arith, short, small))))
             (omega (arith, between)) (omega (arith, short)))
       ]
       | inr long ↦ inl long
@@ -93,12 +71,12 @@ alike_set (range ∷ set) c d ordered small none =
       ],
     )
 
-alike_sets : (sets : List (List Range)) (c d : ℕ) → c ≤ d → d ≤ last_code_point → ((e : ℕ) → In (flat_map set_ends sets) e → c < e → e ≤ d → ⊥) →
+alike_sets : (sets : List (List Range)) (c d : ℕ) → c ≤ d → d ≤ last_code_point → ((e : ℕ) → Contains (flat_map set_ends sets) e → c < e → e ≤ d → ⊥) →
     NoneTells sets c d
 alike_sets [] c d ordered small none = tt
 alike_sets (set ∷ sets) c d ordered small none = (
-  alike_set set c d ordered small (λ e h. none e (in_first (set_ends set) (flat_map set_ends sets) e h)),
-  alike_sets sets c d ordered small (λ e h. none e (in_second (set_ends set) (flat_map set_ends sets) e h)),
+  alike_set set c d ordered small (λ e h. none e (Contains-append_left (set_ends set) (flat_map set_ends sets) e h)),
+  alike_sets sets c d ordered small (λ e h. none e (Contains-append_right (set_ends set) (flat_map set_ends sets) e h)),
 )
 
 -- the stretch of a code point
@@ -122,7 +100,7 @@ stretch_up_to cuts c (suc n) below from to =
 pub stretch_of : (cuts : List ℕ) (c : ℕ) → 1 ≤ length cuts → get_or cuts 0 0 ≡ 0 → (i : ℕ) × IsStretchOf cuts c i
 stretch_of cuts c some zero' = stretch_up_to cuts c (length cuts - 1) (omega (arith, some)) (omega (arith, zero')) (λ less. absurd (omega (arith, less, some)))
 
-rises : (cuts : List ℕ) → IsStrictlyIncreasing cuts → (i j : ℕ) → i < j → j < length cuts → get_or cuts i 0 < get_or cuts j 0
+pub rises : (cuts : List ℕ) → IsStrictlyIncreasing cuts → (i j : ℕ) → i < j → j < length cuts → get_or cuts i 0 < get_or cuts j 0
 rises cuts rising i j less below = AllPairs-from_increasing cuts rising i j 0 less below
 
 pub cuts_some : (sets : List (List Range)) (cuts : List ℕ) → AreCuts sets cuts → 1 ≤ length cuts
@@ -141,9 +119,9 @@ stretch_alike : (sets : List (List Range)) (cuts : List ℕ) (c i : ℕ) → Are
     NoneTells sets (get_or cuts i 0) c
 stretch_alike sets cuts c i h small s = alike_sets sets (get_or cuts i 0) c s.from small none
   where
-    none : (e : ℕ) → In (flat_map set_ends sets) e → get_or cuts i 0 < e → e ≤ c → ⊥
+    none : (e : ℕ) → Contains (flat_map set_ends sets) e → get_or cuts i 0 < e → e ≤ c → ⊥
     none e there less up_to =
-        let (k, below, is) = (h.exactly e).1 (contains_in (0 ∷ flat_map set_ends sets) e (inr there)) in
+        let (k, below, is) = (h.exactly e).1 (Contains-append_right (0 ∷ []) (flat_map set_ends sets) e there) in
         let is' : get_or cuts k 0 ≡ e = get_or_default cuts k 0 e below ∙ is in
         elim (cases_lt i k) [
           | inl later ↦ elim (cases_eq (i + 1) k) [
@@ -281,48 +259,44 @@ module _ (sets : List (List Range)) (cuts classes sizes numbers : List ℕ) (ran
           ((omega (arith, small k below, get_or_default cuts k 0 range.start below, is), omega (arith, e, numbered.small c)), all_within rs h)
 
 -- cuts are code points
-ends_small : (set : List Range) (bound e : ℕ) → AreRisingFrom bound set → In (set_ends set) e → e ≤ last_code_point
-ends_small [] bound e rise h = absurd h
-ends_small (range ∷ set) bound e rise h =
-    elim (in_either (ends_of range) (set_ends set) e h) [
-      | inl first ↦ first_small range e (omega (arith, rise.1, rise.2)) rise.2 first
-      | inr rest ↦ ends_small set (range.high + 2) e rise.3 rest
+ends_small : (range : Range) (e : ℕ) → range.low ≤ last_code_point → range.high ≤ last_code_point → Contains (ends_of range) e → e ≤ last_code_point
+ends_small range e low high h =
+    elim (cases_lt range.high last_code_point) [
+      | inl inside ↦ two_small range.low (range.high + 1) low (omega (arith, inside)) (subst (λ (l : List ℕ). Contains l e) (if_inside range inside) h)
+      | inr last ↦ two_small range.low range.low low low
+          (Contains-append_left (range.low ∷ []) (range.low ∷ []) e (subst (λ (l : List ℕ). Contains l e) (if_last range last) h))
     ]
   where
-    in_either : (xs ys : List ℕ) (n : ℕ) → In (xs ++ ys) n → In xs n ⊎ In ys n
-    in_either [] ys n h = inr h
-    in_either (x ∷ xs) ys n (inl e) = inl (inl e)
-    in_either (x ∷ xs) ys n (inr h) = elim (in_either xs ys n h) [ inl a ↦ inl (inr a) | inr b ↦ inr b ]
+    two_small : (a b : ℕ) → a ≤ last_code_point → b ≤ last_code_point → Contains (a ∷ b ∷ []) e → e ≤ last_code_point
+    two_small a b small small' (zero, below, is) = omega (arith, small, is)
+    two_small a b small small' (suc zero, below, is) = omega (arith, small', is)
+    two_small a b small small' (suc (suc k), below, is) = absurd (omega (arith, below))
 
-    first_small : (range : Range) (e : ℕ) → range.low ≤ last_code_point → range.high ≤ last_code_point → In (ends_of range) e → e ≤ last_code_point
-    first_small range e low high h = elim (cases_lt range.high last_code_point) [
-      | inl inside ↦ elim (subst (λ (l : List ℕ). In l e) (ap (λ t. cond t (range.low ∷ (range.high + 1) ∷ []) (range.low ∷ []))
-          (lt-ltb range.high last_code_point inside)) h) [
-            | inl a ↦ omega (arith, a, low)
-            | inr b ↦ elim b [ inl c ↦ omega (arith, c, inside) | inr d ↦ absurd d ]
-          ]
-      | inr last ↦ elim (subst (λ (l : List ℕ). In l e) (ap (λ t. cond t (range.low ∷ (range.high + 1) ∷ []) (range.low ∷ []))
-          (le-ltb range.high last_code_point last)) h) [
-            | inl a ↦ omega (arith, a, low)
-            | inr d ↦ absurd d
-          ]
+set_ends_small : (set : List Range) (bound e : ℕ) → AreRisingFrom bound set → Contains (set_ends set) e → e ≤ last_code_point
+set_ends_small [] bound e rise (k, below, is) = absurd (omega (arith, below))
+set_ends_small (range ∷ set) bound e rise h =
+    elim (Contains-append_cases (ends_of range) (set_ends set) e h) [
+      | inl first ↦ ends_small range e (omega (arith, rise.1, rise.2)) rise.2 first
+      | inr rest ↦ set_ends_small set (range.high + 2) e rise.3 rest
     ]
 
-all_ends_small : (sets : List (List Range)) (e : ℕ) → AllByRecursion AreRising sets → In (flat_map set_ends sets) e → e ≤ last_code_point
-all_ends_small [] e rise h = absurd h
+all_ends_small : (sets : List (List Range)) (e : ℕ) → AllByRecursion AreRising sets → Contains (flat_map set_ends sets) e → e ≤ last_code_point
+all_ends_small [] e rise (k, below, is) = absurd (omega (arith, below))
 all_ends_small (set ∷ sets) e rise h =
-    elim (in_either (set_ends set) (flat_map set_ends sets) e h) [ inl a ↦ ends_small set 0 e rise.0 a | inr b ↦ all_ends_small sets e rise.1 b ]
-  where
-    in_either : (xs ys : List ℕ) (n : ℕ) → In (xs ++ ys) n → In xs n ⊎ In ys n
-    in_either [] ys n h = inr h
-    in_either (x ∷ xs) ys n (inl e) = inl (inl e)
-    in_either (x ∷ xs) ys n (inr h) = elim (in_either xs ys n h) [ inl a ↦ inl (inr a) | inr b ↦ inr b ]
+    elim (Contains-append_cases (set_ends set) (flat_map set_ends sets) e h) [
+      | inl a ↦ set_ends_small set 0 e rise.0 a
+      | inr b ↦ all_ends_small sets e rise.1 b
+    ]
 
 pub cuts_small : (sets : List (List Range)) (cuts : List ℕ) → AreCuts sets cuts → AllByRecursion AreRising sets → (i : ℕ) → i < length cuts →
     get_or cuts i 0 ≤ last_code_point
 cuts_small sets cuts h rise i below =
-    elim (in_contains (0 ∷ flat_map set_ends sets) (get_or cuts i 0) ((h.exactly (get_or cuts i 0)).0
-    (i, below, get_or_default cuts i (get_or cuts i 0) 0 below))) [
-      | inl e ↦ omega (arith, e)
-      | inr there ↦ all_ends_small sets (get_or cuts i 0) rise there
+    let there = (h.exactly (get_or cuts i 0)).0 (i, below, get_or_default cuts i (get_or cuts i 0) 0 below) in
+    elim (Contains-append_cases (0 ∷ []) (flat_map set_ends sets) (get_or cuts i 0) there) [
+      | inl (k, first, e) ↦ none_else k (get_or cuts i 0) first e
+      | inr later ↦ all_ends_small sets (get_or cuts i 0) rise later
     ]
+  where
+    none_else : (k e : ℕ) → k < 1 → get_or {A = ℕ} (0 ∷ []) k e ≡ e → e ≤ last_code_point
+    none_else zero e first is = omega (arith, is)
+    none_else (suc k) e first is = absurd (omega (arith, first))

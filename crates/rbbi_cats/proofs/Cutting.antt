@@ -1,27 +1,19 @@
 -- The cuts of sets.
-use Rattle.std.proofs.Common.{◌≡◌, ◌++◌, ◌∷◌, [], ◌+◌, ℕ, List, Some, take, eqb, sym, ap, ◌∙◌, subst}
+use Rattle.std.proofs.Common.{◌≡◌, ◌++◌, ◌∷◌, ◌+◌, ℕ, List, Some, take, eqb, sym, ap, subst}
 use Rattle.std.specs.Prelude.{flat_map, slice_get, Contains}
 use Rattle.std.specs.List.{dedup}
 use Rattle.std.specs.List.Sorted.{IsStrictlyIncreasing, IsSorted, IsPermutation}
 use Rattle.std.specs.Ordering.{nat_cmp}
-use Rattle.std.proofs.lemmas.List.{take_more, append-nil}
-use Rattle.std.proofs.lemmas.Grind.{flat_map-append}
-use Rattle.std.proofs.lemmas.Option.{get_or_from_slice_get, slice_get_within}
 use Rattle.std.proofs.lemmas.Map.Keys.{IsStrictlyIncreasing-dedup}
 use Rattle.std.proofs.lemmas.List.Kept.{Contains-dedup_nat, Contains-from_dedup}
 use Rattle.std.proofs.lemmas.List.Sorted.{Contains-permutation}
 use Rattle.rbbi_model.specs.Ranges.{Range}
 use Rattle.rbbi_cats.specs.Cuts.{set_ends, AreCuts}
+use Rattle.rbbi_cats.proofs.Nexts.{flat_next}
 
 pub ends_more : (sets : List (List Range)) (i : ℕ) (set : List Range) → slice_get sets i ≡ Some set →
     (0 ∷ flat_map set_ends (take i sets)) ++ set_ends set ≡ 0 ∷ flat_map set_ends (take (i + 1) sets)
-ends_more sets i set at =
-    let more = take_more sets i set (slice_get_within sets i set at) in
-    let e : flat_map set_ends (take (i + 1) sets) ≡ flat_map set_ends (take i sets) ++ set_ends set =
-    ap (flat_map set_ends) (more ∙ ap (λ (s : List Range). take i sets ++ s ∷ []) (get_or_from_slice_get sets i set set at)) ∙
-    flat_map-append set_ends (take i sets) (set ∷ [])
-    ∙ ap (λ (l : List ℕ). flat_map set_ends (take i sets) ++ l) (append-nil (set_ends set)) in
-    ap (λ (l : List ℕ). 0 ∷ l) (sym e)
+ends_more sets i set at = ap (λ (l : List ℕ). 0 ∷ l) (sym (flat_next set_ends sets i set at))
 
 pub cuts_are : (sets : List (List Range)) (raw sorted cuts : List ℕ) → raw ≡ 0 ∷ flat_map set_ends sets → IsPermutation raw sorted → IsPermutation sorted raw →
     IsSorted nat_cmp sorted → cuts ≡ dedup eqb sorted → AreCuts sets cuts

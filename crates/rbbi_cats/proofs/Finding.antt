@@ -1,24 +1,28 @@
 -- The categories of the rules.
-use Rattle.std.proofs.Common.{◌≡◌, ◌≢◌, ℕ, suc, ◌-◌, ◌≤◌, ◌<◌, Bool, true, false, ◌||◌, eqb, List, [], ◌∷◌, length, get_or, subst, inl, inr, arith}
+use Rattle.std.proofs.Common.{◌≡◌, ℕ, suc, ◌+◌, ◌-◌, ◌≤◌, ◌<◌, Bool, true, false, ◌||◌, eqb, List, [], ◌∷◌, length, get_or, subst, inl, inr, arith}
 use Rattle.std.specs.Prelude.{map, AllPairs, Contains}
 use Rattle.std.specs.List.{AllByRecursion, IsDistinct, list_any}
 use Rattle.std.proofs.lemmas.List.Elements.{recursion_from_All}
 use Rattle.std.proofs.lemmas.Map.Steps.{length-le_from_distinct_below}
-use Rattle.std.proofs.lemmas.Bool.{cases_eq}
+use Rattle.std.proofs.lemmas.Bool.{cases_eq, ne_eqb}
 use Rattle.std.proofs.lemmas.List.{get_or_default, length-map}
-use Rattle.rbbi_model.specs.Words.{IsCodePoint}
+use Rattle.rbbi_model.specs.Words.{IsCodePoint, last_code_point}
 use Rattle.rbbi_model.specs.Ranges.{Range}
 use Rattle.rbbi_model.specs.Rules.{Rule}
 use Rattle.rbbi_model.specs.Tables.{CategoryRange, category_of}
+use Rattle.rbbi_model.specs.ValidTables.{AreValidRanges}
 use Rattle.rbbi_model.specs.Compiled.{AreAlike, AreClasses}
 use Rattle.rbbi_resolve.specs.RuleLists.{RuleList, rules_of, AreWellFormed, IsLeafSet}
 use Rattle.rbbi_sets.specs.Rising.{AreRising}
 use Rattle.rbbi_cats.specs.CategoryLists.{HasClasses, IsReadCodePoint}
-use Rattle.rbbi_cats.specs.Tells.{SomeHas, HasTold}
-use Rattle.rbbi_cats.proofs.Classing.{Classed}
+use Rattle.rbbi_cats.specs.Cuts.{AreCuts}
+use Rattle.rbbi_cats.specs.Numbers.{AreNumbers, AreRangesOf}
+use Rattle.rbbi_cats.specs.Partitions.{IsPartition}
+use Rattle.rbbi_cats.specs.Tells.{SomeHas, HasTold, Tells}
+use Rattle.rbbi_cats.proofs.Classing.{Classed, classed, valid, cuts_small}
 use Rattle.rbbi_cats.proofs.LeafSets.{read_is, alike_is}
 
-pub classes_are : (list : RuleList) (categories : ℕ) (ranges : List CategoryRange) → AreWellFormed list → Classed list.sets categories ranges →
+classes_are : (list : RuleList) (categories : ℕ) (ranges : List CategoryRange) → AreWellFormed list → Classed list.sets categories ranges →
     AreClasses (rules_of list) categories ranges
 classes_are list categories ranges w h = record {
   none = λ c code. (λ e read. (h.none c code).0 e ((read_is list c w).0 read), λ n. (h.none c code).1 (λ some. n ((read_is list c w).1 some)));
@@ -35,7 +39,7 @@ module _ (list : RuleList) (cuts : List ℕ) (w : AreWellFormed list) (small : (
       code : Contains cuts c → c ≤ 0x10FFFF
       code (k, below, e) = omega (arith, small k below, get_or_default cuts k 0 c below, e)
 
-  pub too_many : (count : ℕ) → HasTold list.sets cuts count → HasClasses (rules_of list) count
+  too_many : (count : ℕ) → HasTold list.sets cuts count → HasClasses (rules_of list) count
   too_many count h = record {
     codes = h.starts;
     many = h.many;
@@ -52,16 +56,13 @@ module _ (rules : List Rule) (categories : ℕ) (ranges : List CategoryRange) (h
   read_positive : (c : ℕ) → IsReadCodePoint rules c → 1 ≤ category_of ranges c
   read_positive c (code, read) = elim (cases_eq (category_of ranges c) 0) [ inl z ↦ absurd ((h.none c code).0 z read) | inr n ↦ omega (arith, n) ]
 
-  other_test : (a b : ℕ) → a ≢ b → eqb a b ≡ false
-  other_test a b n = grind arith
-
   places_below : (codes : List ℕ) → AllByRecursion (IsReadCodePoint rules) codes → (q : ℕ) → list_any (eqb q) (map place codes) ≡ true → q < categories - 1
   unfolding place
   places_below [] each q e = absurd (cc)
   places_below (c ∷ codes) (read, each) q e =
       elim (cases_eq q (place c)) [
         | inl same ↦ omega (arith, same, read_positive c read, within c read.0)
-        | inr other ↦ places_below codes each q (subst (λ (t : Bool). (t || list_any (eqb q) (map place codes)) ≡ true) (other_test q (place c) other) e)
+        | inr other ↦ places_below codes each q (subst (λ (t : Bool). (t || list_any (eqb q) (map place codes)) ≡ true) (ne_eqb q (place c) other) e)
       ]
 
   apart_from : (c : ℕ) → IsReadCodePoint rules c → (codes : List ℕ) → AllByRecursion (IsReadCodePoint rules) codes →
@@ -70,7 +71,7 @@ module _ (rules : List Rule) (categories : ℕ) (ranges : List CategoryRange) (h
   unfolding place
   apart_from c read [] each apart = tt
   apart_from c read (d ∷ codes) (read', each) (other, apart) = (
-    other_test (place c) (place d) (λ e. other ((h.alike c d read.0 read'.0).0 (omega (arith, e, read_positive c read, read_positive d read')))),
+    ne_eqb (place c) (place d) (λ e. other ((h.alike c d read.0 read'.0).0 (omega (arith, e, read_positive c read, read_positive d read')))),
     apart_from c read codes each apart,
   )
 
@@ -91,6 +92,26 @@ module _ (rules : List Rule) (categories : ℕ) (ranges : List CategoryRange) (h
       some_positive : (codes : List ℕ) → length codes ≡ count → 1 ≤ categories
       some_positive codes e = omega (arith, within 0 (omega arith))
 
-pub all_rising : (sets : List (List Range)) → AllByRecursion IsLeafSet sets → AllByRecursion AreRising sets
+all_rising : (sets : List (List Range)) → AllByRecursion IsLeafSet sets → AllByRecursion AreRising sets
 all_rising [] h = tt
 all_rising (set ∷ sets) (leaf, h) = (leaf.rising, all_rising sets h)
+
+-- What cuts and classes of the sets of these rules say of them. The calls give their facts of the sets as a list of the same sets.
+module _ {list : RuleList} {sets : List (List Range)} {cuts : List ℕ} (form : AreWellFormed list) (same : sets ≡ list.sets) (found : AreCuts sets cuts) where
+  cut : AreCuts list.sets cuts
+  cut = subst (λ (s : List (List Range)). AreCuts s cuts) same found
+
+  small : (i : ℕ) → i < length cuts → get_or cuts i 0 ≤ last_code_point
+  small = cuts_small list.sets cuts cut (all_rising list.sets form.sets)
+
+  pub has_classes : {count : ℕ} → HasTold sets cuts count → HasClasses (rules_of list) count
+  has_classes {count = count} told = too_many list cuts form small count (subst (λ (s : List (List Range)). HasTold s cuts count) same told)
+
+  pub partitioned : {classes sizes numbers : List ℕ} {greatest : ℕ} {ranges : List CategoryRange} → IsPartition classes sizes → Tells sets cuts classes →
+      AreNumbers classes numbers greatest → AreRangesOf cuts classes numbers ranges → length numbers ≡ length sizes → length sizes ≤ 255 →
+      AreClasses (rules_of list) (greatest + 1) ranges × AreValidRanges (greatest + 1) ranges
+  partitioned {classes = classes} partition tells numbered are long few =
+      let told = subst (λ (s : List (List Range)). Tells s cuts classes) same tells in (
+        classes_are list _ _ form (classed list.sets cuts classes _ _ _ _ cut small partition told long numbered are),
+        valid list.sets cuts classes _ _ _ _ cut small partition told long numbered are few,
+      )

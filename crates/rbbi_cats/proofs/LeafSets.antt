@@ -3,7 +3,7 @@ use Rattle.std.proofs.Common.{◌≡◌, ℕ, zero, suc, ◌<◌, ◌↔◌, Opt
 use Rattle.std.specs.Prelude.{map, flat_map, Contains}
 use Rattle.std.specs.List.{AllByRecursion, Any}
 use Rattle.std.specs.Option.{option_map, option_map_or}
-use Rattle.std.proofs.lemmas.List.{append-nil}
+use Rattle.std.proofs.lemmas.List.{append-nil, map-append}
 use Rattle.rbbi_model.specs.Ranges.{Range, Has}
 use Rattle.rbbi_model.specs.Spelling as spelling
 use Rattle.rbbi_model.specs.LeafSets.{sets_of, sets_of_rule, all_sets}
@@ -38,10 +38,6 @@ sets-repeated Star tree = refl
 sets-repeated Plus tree = refl
 sets-repeated Quest tree = refl
 
-map-append' : {A B : Type 0} (f : A → B) (xs ys : List A) → map f (xs ++ ys) ≡ map f xs ++ map f ys
-map-append' f [] ys = refl
-map-append' f (x ∷ xs) ys = ap (λ l. f x ∷ l) (map-append' f xs ys)
-
 module _ (sets : List (List Range)) where
   Named : Tree → Type 0
   Named tree = sets_of (tree_of sets tree) ≡ map (set_at sets) (numbers_of tree)
@@ -73,7 +69,7 @@ module _ (sets : List (List Range)) where
   named_parts (e ∷ es) =
       ap (λ (l : List (List Range)). l ++ flat_map sets_of (map (tree_of sets) (map (λ e. e.0) es))) e.1 ∙
       ap (λ (l : List (List Range)). map (set_at sets) (numbers_of e.0) ++ l) (named_parts es)
-      ∙ sym (map-append' (set_at sets) (numbers_of e.0) (flat_map (λ numbers. numbers) (map numbers_of (map (λ e. e.0) es))))
+      ∙ sym (map-append (set_at sets) (numbers_of e.0) (flat_map (λ numbers. numbers) (map numbers_of (map (λ e. e.0) es))))
 
   named_trees : (y : Trees-F ((t : Tree) × Named t) ((ts : Trees) × AreNamed ts)) →
       AreNamed (roll-Trees (map-Trees ((t : Tree) × Named t) ((ts : Trees) × AreNamed ts) Tree Trees (λ e. e.0) (λ e. e.0) y))
@@ -97,14 +93,14 @@ module _ (sets : List (List Range)) where
   named_rule rule =
       ap (λ (l : List (List Range)). l ++ option_map_or sets_of (option_map (tree_of sets) rule.rest) []) (named rule.front) ∙
       ap (λ (l : List (List Range)). map (set_at sets) (numbers_of rule.front) ++ l) (named_option rule.rest)
-      ∙ sym (map-append' (set_at sets) (numbers_of rule.front) (option_map_or numbers_of rule.rest []))
+      ∙ sym (map-append (set_at sets) (numbers_of rule.front) (option_map_or numbers_of rule.rest []))
 
   named_rules : (rules : List Rule) → flat_map sets_of_rule (map (rule_of sets) rules) ≡ map (set_at sets) (flat_map numbers_of_rule rules)
   named_rules [] = refl
   named_rules (rule ∷ rules) =
       ap (λ (l : List (List Range)). l ++ flat_map sets_of_rule (map (rule_of sets) rules)) (named_rule rule) ∙
       ap (λ (l : List (List Range)). map (set_at sets) (numbers_of_rule rule) ++ l) (named_rules rules)
-      ∙ sym (map-append' (set_at sets) (numbers_of_rule rule) (flat_map numbers_of_rule rules))
+      ∙ sym (map-append (set_at sets) (numbers_of_rule rule) (flat_map numbers_of_rule rules))
 
 pub all_sets_are : (list : RuleList) → all_sets (rules_of list) ≡ map (set_at list.sets) (leaf_numbers list)
 all_sets_are list = named_rules list.sets list.rules

@@ -1,3 +1,4 @@
+pub mod Nexts
 pub mod Counts
 pub mod TakingOut
 pub mod PuttingBack

@@ -1,11 +1,11 @@
 -- The classes get their numbers, stretch by stretch.
-use Rattle.std.proofs.Common.{◌≡◌, ◌≢◌, ℕ, zero, suc, ◌+◌, ◌≤◌, ◌<◌, ◌⊎◌, List, length, get_or, set, refl, ap, sym, ◌∙◌, inl, inr, arith, get_or-set_same}
+use Rattle.std.proofs.Common.{◌≡◌, ◌≢◌, ℕ, zero, ◌+◌, ◌≤◌, ◌<◌, ◌⊎◌, List, length, get_or, set, ap, sym, ◌∙◌, inl, inr, arith, get_or-set_same}
 use Rattle.std.proofs.Common.{get_or-set_other}
 use Rattle.std.specs.Prelude.{replicate}
 use Rattle.std.proofs.Math.ListN.{length-set}
 use Rattle.std.proofs.lemmas.Bool.{cases_eq, cases_lt}
 use Rattle.rbbi_cats.specs.Numbers.{AreNumbers}
-use Rattle.rbbi_cats.proofs.Counts.{one_if_same, one_if_other, count_of, count_of-cons, count_of-set, counted}
+use Rattle.rbbi_cats.proofs.Counts.{one_if_same, one_if_other, count_of, count_of-set, counted, all_zero, zero_at}
 
 -- the classes of the first so many stretches have their numbers
 pub record NumberedSoFar (classes numbers : List ℕ) (greatest count k : ℕ) : Type 0 where
@@ -18,15 +18,6 @@ pub record NumberedSoFar (classes numbers : List ℕ) (greatest count k : ℕ) :
   pub used : (number : ℕ) → 1 ≤ number → number ≤ greatest → (i : ℕ) × (i < k) × (get_or numbers (get_or classes i 0) 0 ≡ number)
   pub small : (c : ℕ) → get_or numbers c 0 ≤ greatest
   pub left : count_of numbers 0 + greatest ≡ count
-
-all_zero : (n : ℕ) → count_of (replicate n 0) 0 ≡ n
-all_zero zero = refl
-all_zero (suc n) = omega (arith, count_of-cons 0 (replicate n 0) 0, one_if_same 0 0 refl, all_zero n)
-
-zero_at : (n c : ℕ) → get_or {A = ℕ} (replicate n 0) c 0 ≡ 0
-zero_at zero c = refl
-zero_at (suc n) zero = refl
-zero_at (suc n) (suc c) = zero_at n c
 
 pub none_numbered : (classes numbers : List ℕ) (count : ℕ) → length numbers ≡ count → numbers ≡ replicate count 0 → NumberedSoFar classes numbers 0 count 0
 none_numbered classes numbers count many e = record {

@@ -155,7 +155,7 @@ sized_new classes sizes moving few within sized class below =
           ap (count_of classes) (sym same)
     ]
 
-pub decide : (before classes members origins start sizes targets sizes' targets' : List ℕ) (moving k origin target : ℕ) → origin < length start →
+decide : (before classes members origins start sizes targets sizes' targets' : List ℕ) (moving k origin target : ℕ) → origin < length start →
     length sizes < moving →
     PutSoFar before classes members origins start sizes targets moving k → Targets moving targets sizes origin targets' sizes' target →
     Decided before classes members origins start sizes' targets' moving k origin target
@@ -213,7 +213,7 @@ module _ (before classes members origins start sizes targets : List ℕ) (moving
     (m_is : m ≡ get_or members k 0) (origin_is : origin ≡ get_or origins k 0) (origin_within : origin < length start) (out : get_or before m 0 ≡ moving)
     (few : length sizes < moving)
     (h : Decided before classes members origins start sizes targets moving k origin target) where
-  pub target_within : target < length sizes
+  target_within : target < length sizes
   target_within =
       let T : ℕ → Type 0 = IsTarget start (length sizes) origin in
       elim (subst T h.target_is (h.targeted.decided origin origin_within (λ e. h.known (sym h.target_is ∙ e)))) [
@@ -304,7 +304,7 @@ module _ (before classes members origins start sizes targets : List ℕ) (moving
       IsTarget start grown c (get_or targets c 0)
   targeted_same grown e c t = subst (λ (n : ℕ). IsTarget start n c (get_or targets c 0)) (sym e) t
 
-  pub placed : PutSoFar before (set classes m target) members origins start (set sizes target (get_or sizes target 0 + 1)) targets moving (k + 1)
+  placed : PutSoFar before (set classes m target) members origins start (set sizes target (get_or sizes target 0 + 1)) targets moving (k + 1)
   placed =
       let long = length-set sizes target (get_or sizes target 0 + 1) in
       record {
@@ -326,7 +326,7 @@ module _ (before classes members origins start sizes targets : List ℕ) (moving
       }
 
 -- the count of the target's stretches has room
-pub room : (classes sizes : List ℕ) (target : ℕ) → AreSizes classes sizes → target < length sizes → get_or sizes target 0 ≤ length classes
+room : (classes sizes : List ℕ) (target : ℕ) → AreSizes classes sizes → target < length sizes → get_or sizes target 0 ≤ length classes
 room classes sizes target sized below = omega (arith, sized target below, count_of-le classes target)
 
 pub all_put : (before classes members origins start sizes targets : List ℕ) (moving k : ℕ) → k ≡ length members →
@@ -344,3 +344,23 @@ all_put before classes members origins start sizes targets moving k e within h =
   more = h.targeted.more;
   sized = h.placed.sized;
 }
+
+-- The next member's target is a class with room for it. Once the member is in it, one more is.
+pub record NextPut (before classes members origins start sizes targets : List ℕ) (moving k target : ℕ) : Type 0 where
+  pub within : target < length sizes
+  pub room : get_or sizes target 0 ≤ length classes
+  pub put : PutSoFar before (set classes (get_or members k 0) target) members origins start (set sizes target (get_or sizes target 0 + 1))
+      targets moving (k + 1)
+
+pub next_put : {before classes members origins start sizes targets sizes' targets' : List ℕ} {moving k target : ℕ} →
+    PutSoFar before classes members origins start sizes targets moving k → Targets moving targets sizes (get_or origins k 0) targets' sizes' target →
+    AreStretches before members → k < length members → get_or origins k 0 < length start → get_or before (get_or members k 0) 0 ≡ moving →
+    length sizes < moving → length sizes' < moving → NextPut before classes members origins start sizes' targets' moving k target
+next_put h next stretches inside below out few few' =
+    let decided = decide _ _ _ _ _ _ _ _ _ _ _ _ _ below few h next in
+    let within = target_within _ _ _ _ _ _ _ _ _ _ _ _ stretches inside refl refl below out few' decided in
+    record {
+      within = within;
+      room = room _ _ _ decided.placed.sized within;
+      put = placed _ _ _ _ _ _ _ _ _ _ _ _ stretches inside refl refl below out few' decided;
+    }

@@ -6,9 +6,9 @@ use Rattle.std.specs.List.{AllByRecursion}
 use Rattle.std.specs.List.Sorted.{IsStrictlyIncreasing}
 use Rattle.std.proofs.lemmas.Bool.{cases_eq, cases_lt, le-leb, lt-leb}
 use Rattle.std.proofs.lemmas.List.{get_or_default}
-use Rattle.std.proofs.lemmas.List.Kept.{AllPairs-from_increasing}
 use Rattle.rbbi_model.specs.Tables.{CategoryRange, category_from, category_of}
 use Rattle.rbbi_model.specs.ValidTables.{StartsAtZero, AreApart}
+use Rattle.rbbi_cats.proofs.Classing.{rises}
 use Rattle.rbbi_cats.specs.Numbers.{AreRangesOf}
 
 -- a further range doesn't count before its start
@@ -75,9 +75,6 @@ no_ranges cuts classes numbers = record {
   starts = tt;
   below = λ c bound. tt;
 }
-
-rises : (cuts : List ℕ) → IsStrictlyIncreasing cuts → (i j : ℕ) → i < j → j < length cuts → get_or cuts i 0 < get_or cuts j 0
-rises cuts rising i j less below = AllPairs-from_increasing cuts rising i j 0 less below
 
 pub range_kept : (cuts classes numbers : List ℕ) (ranges : List CategoryRange) (k : ℕ) → IsStrictlyIncreasing cuts → 0 < k → k < length cuts →
     number_of classes numbers (k - 1) ≡ number_of classes numbers k → RangesSoFar cuts classes numbers ranges k →

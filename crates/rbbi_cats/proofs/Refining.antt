@@ -18,10 +18,9 @@ record Stayed (before mid after members : List ℕ) (i : ℕ) : Type 0 where
   same_mid : get_or mid i 0 ≡ get_or before i 0
   same : get_or after i 0 ≡ get_or before i 0
 
-module _ (before mid after members origins start left grown : List ℕ) (moving : ℕ) (partition : IsPartition before start)
-    (stretches : AreStretches before members)
-    (long : length mid ≡ length before) (many : length left ≡ length start) (few : length start < moving)
-    (out : TakesOut before mid members origins left moving) (put : PutsBack mid after members origins left grown) where
+module _ {before mid after members origins start left grown : List ℕ} {moving : ℕ} (partition : IsPartition before start)
+    (stretches : AreStretches before members) (long : length mid ≡ length before) (many : length left ≡ length start)
+    (out : TakesOut before mid members origins left moving) (few : length start < moving) (put : PutsBack mid after members origins left grown) where
   Went : ℕ → Type 0
   Went i = Moved before after left (length grown) origins members i ⊎ Stayed before mid after members i
 

@@ -140,7 +140,7 @@ members_below cuts ranges members k from range below is h point j inside =
       ))
     ]
 
-pub one_selected : (cuts : List ℕ) (ranges : List Range) (base members : List ℕ) (k from to : ℕ) (range : Range) → k < length ranges →
+one_selected : (cuts : List ℕ) (ranges : List Range) (base members : List ℕ) (k from to : ℕ) (range : Range) → k < length ranges →
     range ≡ get_or ranges k range →
     ((r : ℕ) (d : Range) → k < r → r < length ranges → range.high < (get_or ranges r d).low) →
     IsPoint (λ c. c < range.low) (λ c. range.low ≤ c) cuts from → IsPoint (λ c. c ≤ range.high) (λ c. range.high < c) cuts to →
@@ -223,22 +223,33 @@ point_up_to cuts t point within h = record {
 }
 
 -- the end of a range is before the starts of the later ones
-pub later_apart : (ranges : List Range) (k : ℕ) (range : Range) → AreRising ranges → range ≡ get_or ranges k range → (r : ℕ) (d : Range) → k < r →
+later_apart : (ranges : List Range) (k : ℕ) (range : Range) → AreRising ranges → range ≡ get_or ranges k range → (r : ℕ) (d : Range) → k < r →
     r < length ranges → range.high < (get_or ranges r d).low
 later_apart ranges k range rise is r d less below =
     let first : get_or ranges k range ≡ get_or ranges k d = get_or_default ranges k range d (omega arith) in
     omega (arith, rising-apart 0 ranges rise k r d less below, ap (λ (x : Range). x.high) (is ∙ first))
 
-pub range_ordered : (ranges : List Range) (k : ℕ) (range : Range) → AreRising ranges → k < length ranges → range ≡ get_or ranges k range →
+range_ordered : (ranges : List Range) (k : ℕ) (range : Range) → AreRising ranges → k < length ranges → range ≡ get_or ranges k range →
     range.low ≤ range.high
 range_ordered ranges k range rise below is =
     omega (arith, (rising-range 0 ranges rise k range below).0, ap (λ (x : Range). x.high) is, ap (λ (x : Range). x.low) is)
 
 -- the members of a range reach no further than its end, so the points are in order
-pub points_ordered : (cuts : List ℕ) (low high from to : ℕ) → low ≤ high → IsPoint (λ (x : ℕ). x < low) (λ (x : ℕ). low ≤ x) cuts from →
+points_ordered : (cuts : List ℕ) (low high from to : ℕ) → low ≤ high → IsPoint (λ (x : ℕ). x < low) (λ (x : ℕ). low ≤ x) cuts from →
     IsPoint (λ (x : ℕ). x ≤ high) (λ (x : ℕ). high < x) cuts to → from ≤ to
 points_ordered cuts low high from to ordered first last =
     elim (cases_lt to from) [
       | inl wrong ↦ absurd (omega (arith, first.sooner to wrong, last.later to (omega arith) (omega (arith, first.within)), ordered))
       | inr right ↦ right
     ]
+
+-- the members by one more range
+pub range_selected : {cuts : List ℕ} {ranges : List Range} {base members : List ℕ} {k from to i : ℕ} {range : Range} → Selected cuts ranges base k →
+    Added base members from i → AreRising ranges → k < length ranges → range ≡ get_or ranges k range →
+    IsPoint (λ (x : ℕ). x < range.low) (λ (x : ℕ). range.low ≤ x) cuts from → IsPoint (λ (x : ℕ). x ≤ range.high) (λ (x : ℕ). range.high < x) cuts to →
+    (from ≤ to → i ≡ to) → Selected cuts ranges members (k + 1)
+range_selected {cuts = cuts} {ranges = ranges} {base = base} {members = members} {k = k} {from = from} {to = to} {range = range}
+    h added rise below is low high end =
+    let ordered = points_ordered cuts range.low range.high from to (range_ordered ranges k range rise below is) low high in
+    one_selected cuts ranges base members k from to range below is (later_apart ranges k range rise is) low high h
+    (subst (Added base members from) (end ordered) added)

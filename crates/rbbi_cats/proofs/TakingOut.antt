@@ -5,8 +5,8 @@ use Rattle.std.proofs.Math.ListN.{length-set}
 use Rattle.std.proofs.lemmas.List.{get_or_append_left}
 use Rattle.std.proofs.Math.Seq.{get_or-append_seam}
 use Rattle.std.proofs.lemmas.Bool.{cases_eq, cases_lt}
-use Rattle.rbbi_cats.specs.Partitions.{AreSizes, AreStretches, TakesOut}
-use Rattle.rbbi_cats.proofs.Counts.{one_if, one_if_same, one_if_other, count_of, count_of-set, counted}
+use Rattle.rbbi_cats.specs.Partitions.{AreSizes, AreStretches, IsPartition, TakesOut}
+use Rattle.rbbi_cats.proofs.Counts.{one_if, one_if_same, one_if_other, count_of, count_of-set, counted, read}
 
 -- the first so many members are out, and their former classes are the origins
 pub record TakenSoFar (before classes members origins sizes : List ℕ) (moving k : ℕ) : Type 0 where
@@ -32,7 +32,7 @@ pub next_apart : (members : List ℕ) (k : ℕ) → ((i j : ℕ) → i < j → j
     (j : ℕ) → j < k → get_or members j 0 ≢ get_or members k 0
 next_apart members k rising within j below e = absurd (omega (arith, rising j k below within, e))
 
-pub next_in_class : (before classes members origins sizes : List ℕ) (moving k : ℕ) → AreStretches before members → k < length members →
+next_in_class : (before classes members origins sizes : List ℕ) (moving k : ℕ) → AreStretches before members → k < length members →
     TakenSoFar before classes members origins sizes moving k →
     get_or classes (get_or members k 0) 0 ≡ get_or before (get_or members k 0) 0
 next_in_class before classes members origins sizes moving k stretches within h =
@@ -90,7 +90,7 @@ module _ (before classes members origins sizes : List ℕ) (moving k m origin : 
             get_or-set_other sizes origin class (get_or sizes origin 0 - 1) 0 other ∙ h.sized class inside ∙ omega (arith, counts, zero', gone)
       ]
 
-  pub one_more_taken : origin < length sizes → length sizes ≤ moving →
+  one_more_taken : origin < length sizes → length sizes ≤ moving →
       TakenSoFar before (set classes m moving) members (origins ++ origin ∷ []) (set sizes origin (get_or sizes origin 0 - 1)) moving (k + 1)
   one_more_taken origin_within few = record {
     many = length-set classes m moving ∙ h.many;
@@ -111,9 +111,24 @@ all_taken before classes members origins sizes moving k e h = record {
   sized = h.sized;
 }
 
--- the class of the next member has a stretch to lose
-pub some_left : (before classes members origins sizes : List ℕ) (moving k m origin : ℕ) → AreStretches before members → k < length members →
-    m ≡ get_or members k 0 →
-    origin ≡ get_or classes m 0 → origin < length sizes → TakenSoFar before classes members origins sizes moving k → 1 ≤ get_or sizes origin 0
-some_left before classes members origins sizes moving k m origin stretches within m_is origin_is few h =
-    omega (arith, h.sized origin few, counted classes m origin (omega (arith, m_is, stretches.within k within, h.many)) (sym origin_is))
+-- The next member's class has a stretch to lose. Once it is lost, one more is out.
+pub record NextTaken (before classes members origins sizes : List ℕ) (moving k origin : ℕ) : Type 0 where
+  pub within : origin < length sizes
+  pub some : 1 ≤ get_or sizes origin 0
+  pub taken : TakenSoFar before (set classes (get_or members k 0) moving) members (origins ++ origin ∷ []) (set sizes origin (get_or sizes origin 0 - 1)) moving
+      (k + 1)
+
+pub next_taken : {before start classes members origins sizes : List ℕ} {moving k origin : ℕ} → TakenSoFar before classes members origins sizes moving k →
+    IsPartition before start → length sizes ≡ length start → AreStretches before members → k < length members →
+    origin ≡ get_or classes (get_or members k 0) origin → length sizes ≤ moving → NextTaken before classes members origins sizes moving k origin
+next_taken {classes = classes} {members = members} {sizes = sizes} {k = k} {origin = origin} h partition many stretches below is few =
+    let m = get_or members k 0 in
+    let inside : m < length classes = omega (arith, stretches.within k below, h.many) in
+    let origin_is : origin ≡ get_or classes m 0 = read classes m origin inside is in
+    let within : origin < length sizes =
+    omega (arith, origin_is, next_in_class _ _ _ _ _ _ k stretches below h, partition.within m (stretches.within k below), many) in
+    record {
+      within = within;
+      some = omega (arith, h.sized origin within, counted classes m origin inside (sym origin_is));
+      taken = one_more_taken _ _ _ _ _ _ k m origin stretches below refl origin_is h within few;
+    }

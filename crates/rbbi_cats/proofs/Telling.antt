@@ -3,16 +3,16 @@ use Rattle.std.proofs.Common.{◌≡◌, ℕ, zero, suc, ◌+◌, ◌≤◌, ◌
 use Rattle.std.proofs.Common.{arith}
 use Rattle.std.specs.Prelude.{replicate, slice_get, Contains, AllPairs}
 use Rattle.std.specs.List.{AllByRecursion}
-use Rattle.std.proofs.lemmas.List.{take_more, get_or_default}
+use Rattle.std.proofs.lemmas.List.{get_or_default}
 use Rattle.std.proofs.lemmas.List.Kept.{AllPairs-cons}
 use Rattle.std.proofs.lemmas.List.Elements.{All-from_recursion}
-use Rattle.std.proofs.lemmas.Option.{get_or_from_slice_get, slice_get_within}
 use Rattle.std.proofs.lemmas.Bool.{cases_lt}
 use Rattle.rbbi_model.specs.Ranges.{Range, Has}
 use Rattle.rbbi_cats.specs.Partitions.{IsPartition, AreStretches, Refines}
 use Rattle.rbbi_cats.specs.Cuts.{AreMembers}
 use Rattle.rbbi_cats.specs.Tells.{SomeHas, NoneTells, Tells, HasTold}
-use Rattle.rbbi_cats.proofs.Counts.{count_of, count_of-cons, one_if_same}
+use Rattle.rbbi_cats.proofs.Nexts.{take_next}
+use Rattle.rbbi_cats.proofs.Counts.{count_of, all_zero, zero_at}
 
 -- whether a set holds a code point
 pub has_cases : (set : List Range) (c : ℕ) → Has set c ⊎ (¬ Has set c)
@@ -64,11 +64,6 @@ some_take (set ∷ sets) zero c h = absurd h
 some_take (set ∷ sets) (suc k) c (inl h) = inl h
 some_take (set ∷ sets) (suc k) c (inr h) = inr (some_take sets k c h)
 
--- the next set after the first so many
-next_set : (sets : List (List Range)) (k : ℕ) (set : List Range) → slice_get sets k ≡ Some set → take (k + 1) sets ≡ take k sets ++ set ∷ []
-next_set sets k set at = take_more sets k set (slice_get_within sets k set at) ∙
-    ap (λ (s : List Range). take k sets ++ s ∷ []) (get_or_from_slice_get sets k set set at)
-
 pub none_told : (sets : List (List Range)) (cuts classes : List ℕ) → length classes ≡ length cuts → classes ≡ replicate (length cuts) 0 →
     Tells (take 0 sets) cuts classes
 none_told sets cuts classes many e = record {
@@ -77,11 +72,6 @@ none_told sets cuts classes many e = record {
   none = λ i inside. (λ s h. h, λ n. at i inside);
 }
   where
-    zero_at : (n i : ℕ) → get_or {A = ℕ} (replicate n 0) i 0 ≡ 0
-    zero_at zero i = refl
-    zero_at (suc n) zero = refl
-    zero_at (suc n) (suc i) = zero_at n i
-
     at : (i : ℕ) → i < length cuts → get_or classes i 0 ≡ 0
     at i inside = ap (λ l. get_or l i 0) e ∙ zero_at (length cuts) i
 
@@ -93,15 +83,6 @@ one_class n classes sizes e d = subst (λ (s : List ℕ). IsPartition classes s)
   used = λ class some few. absurd (omega (arith, some, few));
 }))
   where
-    zero_at : (n i : ℕ) → get_or {A = ℕ} (replicate n 0) i 0 ≡ 0
-    zero_at zero i = refl
-    zero_at (suc n) zero = refl
-    zero_at (suc n) (suc i) = zero_at n i
-
-    all_zero : (n : ℕ) → count_of (replicate n 0) 0 ≡ n
-    all_zero zero = refl
-    all_zero (suc n) = omega (arith, count_of-cons 0 (replicate n 0) 0, one_if_same 0 0 refl, all_zero n)
-
     sized : (class : ℕ) → class < length (n ∷ []) → get_or (n ∷ []) class 0 ≡ count_of (replicate n 0) class
     sized zero below = sym (all_zero n)
     sized (suc class) below = absurd (omega (arith, below))
@@ -113,7 +94,7 @@ stretches_of cuts classes members set many h = record { rising = h.rising; withi
 pub told_more : (sets : List (List Range)) (cuts before after members : List ℕ) (k : ℕ) (set : List Range) → slice_get sets k ≡ Some set →
     AreMembers cuts set members → Refines before after members →
     Tells (take k sets) cuts before → Tells (take (k + 1) sets) cuts after
-told_more sets cuts before after members k set at m r h = subst (λ (s : List (List Range)). Tells s cuts after) (sym (next_set sets k set at)) (record {
+told_more sets cuts before after members k set at m r h = subst (λ (s : List (List Range)). Tells s cuts after) (sym (take_next sets k set at)) (record {
   many = r.many ∙ h.many;
   alike = λ i j inside inside'. (alike_there i j inside inside', alike_back i j inside inside');
   none = λ i inside. (none_there i inside, none_back i inside);

@@ -1,34 +1,24 @@
 //! Rule files whose categories were worked out by hand.
-ghost use Rattle.std.specs.Prelude.{◌≡◌, ◌<◌, ◌≤◌, IfOk, length, chars};
-ghost use Rattle.rbbi_model.specs.Rules.{AreLawful};
-ghost use Rattle.rbbi_resolve.specs.RuleLists.{rules_of};
+ghost use Rattle.std.specs.Prelude.{◌<◌, length};
 
-use crate::{CatRange, CatsErr, partition};
+use crate::{CatRange, Categories, CatsErr, partition};
 use rbbi_lex::lex;
 use rbbi_props::PropTable;
-use rbbi_resolve::{Rules, resolve};
+use rbbi_resolve::resolve;
+use rbbi_text::count_characters;
 use rbbi_tree::parse;
 use std::alloc::{AllocError, Global};
 use std::test::Fail;
 
-/// The number of characters of a text, at most that of its bytes.
-fn characters_in(text: &str) -> usize
-    ensures exact { result ≡ length (chars text.now) }
-    ensures short { result ≤ length text.now }
-{
-    text.chars().count()
-}
-
-/// The rules of a short file.
-fn rules_in(alloc: Global, text: &str) -> Result<Rules, Fail>
+/// The categories of the rules of a short file, or why they are refused.
+fn categories_in(alloc: Global, text: &str) -> Result<Result<Categories, CatsErr>, Fail>
     requires { length text.now < 1000 }
-    ensures { IfOk result (λ rules. AreLawful (rules_of rules)) }
 {
-    let end = characters_in(text) as u32;
+    let end = count_characters(text) as u32;
     let tokens = lex(alloc, text)?;
     let statements = parse(alloc, &tokens, end)?;
     let rules = resolve(alloc, &statements, end, &PropTable::new(alloc), false)?;
-    Ok(rules)
+    Ok(partition(alloc, &rules))
 }
 
 type Starts = &'static [(u32, u16)];
@@ -92,8 +82,7 @@ fn classes(rt: HostRuntime) -> Result<(), Fail> {
     ];
     for (text, count, starts) in rows {
         assert!(rt; text.len() < 1000);
-        let rules = rules_in(rt.alloc(), text)?;
-        let cats = partition(rt.alloc(), &rules)?;
+        let cats = categories_in(rt.alloc(), text)??;
         assert_eq!(rt; cats.count(), count, "in {text:?}");
         assert!(rt; are_ranges(cats.ranges(), starts), "in {text:?}");
     }
@@ -116,8 +105,7 @@ fn look_ups(rt: HostRuntime) -> Result<(), Fail> {
         (".;", '\u{E000}', 1),
     ] {
         assert!(rt; text.len() < 1000);
-        let rules = rules_in(rt.alloc(), text)?;
-        let cats = partition(rt.alloc(), &rules)?;
+        let cats = categories_in(rt.alloc(), text)??;
         assert_eq!(rt; cats.of(c), want, "of {c:?} in {text:?}");
     }
     Ok(())
@@ -139,13 +127,11 @@ fn literals(alloc: Global, count: u32) -> Result<String, AllocError> {
 fn most_categories(rt: HostRuntime) -> Result<(), Fail> {
     let text = literals(rt.alloc(), 254)?;
     assert!(rt; text.len() < 1000);
-    let rules = rules_in(rt.alloc(), text.as_str())?;
-    let cats = partition(rt.alloc(), &rules)?;
+    let cats = categories_in(rt.alloc(), text.as_str())??;
     assert_eq!(rt; cats.count(), 255);
     let text = literals(rt.alloc(), 255)?;
     assert!(rt; text.len() < 1000);
-    let rules = rules_in(rt.alloc(), text.as_str())?;
-    let refused = partition(rt.alloc(), &rules);
+    let refused = categories_in(rt.alloc(), text.as_str())?;
     assert!(rt; matches!(refused, Err(CatsErr::TooManyCategories)));
     Ok(())
 }

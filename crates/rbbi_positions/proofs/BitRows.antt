@@ -5,8 +5,10 @@ use Rattle.std.specs.Int.{bit_at}
 use Rattle.std.specs.Int.RustNames.{bit_or}
 use Rattle.std.proofs.lemmas.Bool.{cases_lt, eq-eqb, ne_eqb}
 use Rattle.std.proofs.lemmas.List.{get_or_past}
+use Rattle.std.proofs.lemmas.Nat.{pow_pos}
 use Rattle.std.proofs.lemmas.Nat.Bits.{and_pow, bit_at-lt, bit_at_or, bit_at-zero}
 use Rattle.rbbi_model.specs.Places.{has_bit}
+use Rattle.rbbi_cats.proofs.Counts.{zero_at}
 use Rattle.rbbi_positions.specs.Rows.{row_bit}
 
 -- a number below 2
@@ -14,10 +16,6 @@ below_two : (n : ℕ) → n < 2 → (n ≡ 0) ⊎ (n ≡ 1)
 below_two zero short = inl refl
 below_two (suc zero) short = inr refl
 below_two (suc (suc n)) short = absurd (omega (arith, short))
-
-pow_some : (k : ℕ) → 0 < 2 ^ k
-pow_some zero = omega arith
-pow_some (suc k) = omega (arith, pow_some k)
 
 times : (b p : ℕ) → 0 < p → b < 2 → not (eqb (b * p) 0) ≡ eqb b 1
 times b p some short =
@@ -28,7 +26,7 @@ times b p some short =
 
 -- a bit is set where the number divided by its value is odd
 pub has_bit_is : (n k : ℕ) → has_bit n k ≡ eqb (bit_at n k) 1
-has_bit_is n k = ap (λ m. not (eqb m 0)) (and_pow n k) ∙ times (bit_at n k) (2 ^ k) (pow_some k) (bit_at-lt n k)
+has_bit_is n k = ap (λ m. not (eqb m 0)) (and_pow n k) ∙ times (bit_at n k) (2 ^ k) (pow_pos k) (bit_at-lt n k)
 
 pub no_bit : (k : ℕ) → has_bit 0 k ≡ false
 no_bit k = has_bit_is 0 k ∙ ap (λ n. eqb n 1) (bit_at-zero k)
@@ -64,12 +62,7 @@ united row these those i a b d each position =
 
 -- a row of zeros
 pub blank : (n position : ℕ) → row_bit (replicate n 0) position ≡ false
-blank n position = ap (λ m. has_bit m (position % 64)) (zeros n (position / 64)) ∙ no_bit (position % 64)
-  where
-    zeros : (n k : ℕ) → get_or {A = ℕ} (replicate n 0) k 0 ≡ 0
-    zeros zero k = refl
-    zeros (suc n) zero = refl
-    zeros (suc n) (suc k) = zeros n k
+blank n position = ap (λ m. has_bit m (position % 64)) (zero_at n (position / 64)) ∙ no_bit (position % 64)
 
 pub blank_row : (row : List ℕ) (n position : ℕ) → row ≡ replicate n 0 → row_bit row position ≡ false
 blank_row row n position e = ap (λ r. row_bit r position) e ∙ blank n position

@@ -1,11 +1,12 @@
 -- The tree that a repetition stands for.
 use Rattle.std.proofs.Common.{◌≡◌, ℕ, Bool, List, Box, Global, refl, ap, sym, ◌∙◌}
+use Rattle.std.proofs.Math.Bool.{or_comm}
 use Rattle.std.specs.Prelude.{map}
 use Rattle.rbbi_model.specs.Ranges.{Range}
 use Rattle.rbbi_model.specs.Spelling as spelling
+use Rattle.rbbi_model.specs.Rules.{leaf_count}
 use Rattle.rbbi_positions.specs.Trees.{begins, goes}
 use Rattle.rbbi_positions.specs.Rounds.{behind_of}
-use Rattle.rbbi_positions.proofs.Parts.{or_swap}
 use Rattle.rbbi_tree.specs.declared.syntax.Quant.{Quant}
 use Rattle.rbbi_tree.specs.declared.syntax.Quant.TheVariants.{Once, Star, Plus, Quest}
 use Rattle.rbbi_resolve.specs.declared.rules.Tree.{Tree}
@@ -31,6 +32,12 @@ of_repeat measure same sets quant part = ap measure (tree_of_repeat sets quant p
     each Plus tree = same spelling.Plus tree
     each Quest tree = same spelling.Quest tree
 
+-- the part that is repeated, as it was lent, has the leaves of the repeat
+pub same_leaves : (sets : List (List Range)) (tree : Tree) (quant : Quant) (part : Box Tree Global) (inner : Tree) → tree ≡ Rep quant part →
+    inner ≡ part.value → leaf_count (tree_of sets inner) ≡ leaf_count (tree_of sets tree)
+same_leaves sets tree quant part inner is value =
+    ap (λ t. leaf_count (tree_of sets t)) value ∙ sym (ap (λ t. leaf_count (tree_of sets t)) is ∙ of_repeat leaf_count (λ repetition t. refl) sets quant part)
+
 pub tree_of_leaf : (sets : List (List Range)) (number : ℕ) → tree_of sets (Leaf number) ≡ spelling.Leaf (set_at sets number)
 tree_of_leaf sets number = ap (tree_of sets) (sym (rolls-Leaf number))
     ∙ fold-roll-Tree spelling.Tree (List spelling.Tree) (tree_step sets) trees_step (Tree-F.Leaf number)
@@ -49,6 +56,6 @@ tree_of_choice sets parts = ap (tree_of sets) (sym (rolls-Alt parts))
 pub goes_repeat : (quant : Quant) (part : spelling.Tree) (first position next : ℕ) (behind : Bool) →
     goes (repeated quant part) first position next behind ≡ goes part first position next (behind_of quant part first next behind)
 goes_repeat Once part first position next behind = refl
-goes_repeat Star part first position next behind = ap (goes part first position next) (or_swap (begins part first next) behind)
-goes_repeat Plus part first position next behind = ap (goes part first position next) (or_swap (begins part first next) behind)
+goes_repeat Star part first position next behind = ap (goes part first position next) (or_comm (begins part first next) behind)
+goes_repeat Plus part first position next behind = ap (goes part first position next) (or_comm (begins part first next) behind)
 goes_repeat Quest part first position next behind = refl

@@ -49,14 +49,14 @@ some_spelled (Repeat repetition part) first lawful =
     once Quest u = omega arith
 
 -- a sequence of two
-module _ (Front Rest : Lists) (some_front : Some Front) (some_rest : Some Rest) where
-  pub both_empty : Both Front Rest [] ↔ (Front [] × Rest [])
-  both_empty = (there, λ (f, r). ([], [], f, r, refl))
-    where
-      there : ((u : List ℕ) × (v : List ℕ) × Front u × Rest v × ([] ≡ u ++ v)) → Front [] × Rest []
-      there ([], v, f, r, e) = (f, subst Rest (sym e) r)
-      there (x ∷ u, v, f, r, e) = absurd (cc)
+pub both_empty : (Front Rest : Lists) → Both Front Rest [] ↔ (Front [] × Rest [])
+both_empty Front Rest = (there, λ (f, r). ([], [], f, r, refl))
+  where
+    there : ((u : List ℕ) × (v : List ℕ) × Front u × Rest v × ([] ≡ u ++ v)) → Front [] × Rest []
+    there ([], v, f, r, e) = (f, subst Rest (sym e) r)
+    there (x ∷ u, v, f, r, e) = absurd (cc)
 
+module _ (Front Rest : Lists) (some_front : Some Front) (some_rest : Some Rest) where
   pub both_begins : (position : ℕ) → Begins (Both Front Rest) position ↔ (Begins Front position ⊎ (Front [] × Begins Rest position))
   both_begins position = (there, back)
     where

@@ -1,5 +1,6 @@
 -- What is computed of a sequence or a choice, part by part.
 use Rattle.std.proofs.Common.{◌≡◌, ℕ, ◌+◌, ◌-◌, ◌<◌, ◌≤◌, Bool, true, false, ◌&&◌, ◌||◌, List, [], ◌∷◌, ◌++◌, length, get_or, set, eqb, take, drop, refl, ap}
+use Rattle.std.proofs.Math.Bool.{or-false, or_comm, and-false, or-true, or_assoc}
 use Rattle.std.proofs.Common.{sym, ◌∙◌, ⊎_elim, arith}
 use Rattle.std.specs.Prelude.{map}
 use Rattle.std.proofs.lemmas.List.{drop_all, take_all, map_more, get_or-set_same, get_or-set_other}
@@ -9,20 +10,6 @@ use Rattle.rbbi_model.specs.Rules.{leaf_count}
 use Rattle.rbbi_positions.specs.Trees.{spells_empty, begins, ends, leads, goes}
 use Rattle.rbbi_positions.proofs.Empties.{empty_sequence, next_part}
 
-pub or_none : (b : Bool) → (b || false) ≡ b
-or_none true = refl
-or_none false = refl
-
-pub or_assoc : (a b d : Bool) → ((a || b) || d) ≡ (a || (b || d))
-or_assoc true b d = refl
-or_assoc false b d = refl
-
-pub or_swap : (a b : Bool) → (a || b) ≡ (b || a)
-or_swap true true = refl
-or_swap true false = refl
-or_swap false true = refl
-or_swap false false = refl
-
 -- a sequence, with one part more in front
 pub count_cons : (part : Tree) (parts : List Tree) → leaf_count (sequence_of (part ∷ parts)) ≡ leaf_count part + leaf_count (sequence_of parts)
 count_cons part [] = omega arith
@@ -30,11 +17,7 @@ count_cons part (next ∷ parts) = refl
 
 pub begins_cons : (part : Tree) (parts : List Tree) (first p : ℕ) →
     begins (sequence_of (part ∷ parts)) first p ≡ (begins part first p || (spells_empty part && begins (sequence_of parts) (first + leaf_count part) p))
-begins_cons part [] first p = sym (ap (λ x. begins part first p || x) (and_none (spells_empty part)) ∙ or_none (begins part first p))
-  where
-    and_none : (b : Bool) → (b && false) ≡ false
-    and_none true = refl
-    and_none false = refl
+begins_cons part [] first p = sym (ap (λ x. begins part first p || x) (and-false (spells_empty part)) ∙ or-false (begins part first p))
 begins_cons part (next ∷ parts) first p = refl
 
 pub ends_cons : (part : Tree) (parts : List Tree) (first p : ℕ) →
@@ -47,7 +30,7 @@ pub goes_cons : (part : Tree) (parts : List Tree) (first p q : ℕ) (behind : Bo
     goes (sequence_of (part ∷ parts)) first p q
     behind ≡ (goes part first p q (leads (sequence_of parts) (first + leaf_count part) q behind) || goes (sequence_of parts) (first + leaf_count part) p q
     behind)
-goes_cons part [] first p q behind = sym (or_none (goes part first p q behind))
+goes_cons part [] first p q behind = sym (or-false (goes part first p q behind))
 goes_cons part (next ∷ parts) first p q behind = refl
 
 -- what may stand before a sequence, with one part more in front
@@ -96,11 +79,7 @@ pub ends_snoc : (parts : List Tree) (part : Tree) (first p : ℕ) →
     ends (sequence_of (parts ++ part ∷ [])) first
     p ≡ (ends part (first + leaf_count (sequence_of parts)) p || (spells_empty part && ends (sequence_of parts) first p))
 ends_snoc [] part first p = ap (λ (n : ℕ). ends part n p) (omega arith)
-    ∙ sym (ap (λ x. ends part (first + 0) p || x) (and_none (spells_empty part)) ∙ or_none (ends part (first + 0) p))
-  where
-    and_none : (b : Bool) → (b && false) ≡ false
-    and_none true = refl
-    and_none false = refl
+    ∙ sym (ap (λ x. ends part (first + 0) p || x) (and-false (spells_empty part)) ∙ or-false (ends part (first + 0) p))
 ends_snoc (front ∷ parts) part first p =
     ends_cons front (parts ++ part ∷ []) first p
     ∙ ap (λ x. x || (spells_empty (sequence_of (parts ++ part ∷ [])) && ends front first p)) (ends_snoc parts part (first + leaf_count front) p)
@@ -146,7 +125,7 @@ pub record OfChoice (test : Tree → ℕ → Bool) : Type 0 where
 
 pub choice_cons : (test : Tree → ℕ → Bool) → OfChoice test → (part : Tree) (parts : List Tree) (first : ℕ) →
     test (choice_of (part ∷ parts)) first ≡ (test part first || test (choice_of parts) (first + leaf_count part))
-choice_cons test of part [] first = sym (ap (λ x. test part first || x) (of.none (first + leaf_count part)) ∙ or_none (test part first))
+choice_cons test of part [] first = sym (ap (λ x. test part first || x) (of.none (first + leaf_count part)) ∙ or-false (test part first))
 choice_cons test of part (next ∷ parts) first = of.either part (choice_of (next ∷ parts)) first
 
 pub begins_of : (p : ℕ) → OfChoice (λ tree first. begins tree first p)
@@ -188,7 +167,7 @@ module _ {T : Type 0} (f : T → Tree) (parts : List T) (i : ℕ) (part : T) (be
       ap (λ l. before || begins (sequence_of l) start p) (next_part f parts i part below is)
       ∙ ap (λ x. before || x) (begins_cons (f part) (map f (drop (i + 1) parts)) start p)
       ∙ ap (λ x. before || (begins (f part) start p || (x && begins rest (start + leaf_count (f part)) p))) none
-      ∙ ap (λ x. before || x) (or_none (begins (f part) start p))
+      ∙ ap (λ x. before || x) (or-false (begins (f part) start p))
       )
 
   pub choice_on : (test : Tree → ℕ → Bool) → OfChoice test → (start count : ℕ) (before after : Bool) → count ≡ leaf_count (f part) →
@@ -237,7 +216,7 @@ module _ {T : Type 0} (f : T → Tree) (parts : List T) (i : ℕ) (part : T) (so
       ap (λ l. before || ends (sequence_of l) first p) part_more
       ∙ ap (λ x. before || x) (ends_snoc (map f (take (i - 1) parts)) (f part) first p)
       ∙ ap (λ x. before || (ends (f part) (first + leaf_count front) p || (x && ends front first p))) none
-      ∙ ap (λ x. before || x) (or_none (ends (f part) (first + leaf_count front) p))
+      ∙ ap (λ x. before || x) (or-false (ends (f part) (first + leaf_count front) p))
       )
 
   pub goes_on : (first start p q : ℕ) (behind behind' before after : Bool) → start ≡ first + leaf_count (sequence_of (map f (take (i - 1) parts))) →
@@ -247,7 +226,7 @@ module _ {T : Type 0} (f : T → Tree) (parts : List T) (i : ℕ) (part : T) (so
       let front = sequence_of (map f (take (i - 1) parts)) in
       ap (λ x. x || goes front first p q behind') new ∙ ap (λ x. (before || goes (f part) start p q behind) || goes front first p q x) led
       ∙ or_assoc before (goes (f part) start p q behind) (goes front first p q (leads (f part) start q behind))
-      ∙ ap (λ x. before || x) (or_swap (goes (f part) start p q behind) (goes front first p q (leads (f part) start q behind)))
+      ∙ ap (λ x. before || x) (or_comm (goes (f part) start p q behind) (goes front first p q (leads (f part) start q behind)))
       ∙ ap (λ n. before || (goes front first p q (leads (f part) n q behind) || goes (f part) n p q behind)) at
       ∙ sym (
       ap (λ l. before || goes (sequence_of l) first p q behind) part_more
@@ -274,11 +253,7 @@ pub flag_set : (flags : List Bool) (first p : ℕ) → first < length flags → 
 flag_set flags first p below =
     ⊎_elim
     (λ same. ap (λ n. get_or (set flags first true) n false) same ∙ get_or-set_same flags first true false below
-    ∙ sym (ap (λ x. get_or flags p false || x) (eq-eqb p first same) ∙ or_true (get_or flags p false)))
+    ∙ sym (ap (λ x. get_or flags p false || x) (eq-eqb p first same) ∙ or-true (get_or flags p false)))
     (λ other. get_or-set_other flags first p true false other
-    ∙ sym (ap (λ x. get_or flags p false || x) (ne_eqb p first other) ∙ or_none (get_or flags p false)))
+    ∙ sym (ap (λ x. get_or flags p false || x) (ne_eqb p first other) ∙ or-false (get_or flags p false)))
     (cases_eq p first)
-  where
-    or_true : (b : Bool) → (b || true) ≡ true
-    or_true true = refl
-    or_true false = refl

@@ -4,6 +4,7 @@ use Rattle.std.proofs.Common.{length-append}
 use Rattle.std.specs.Prelude.{map, flat_map, sum_by, slice_get, IsTrue}
 use Rattle.std.proofs.lemmas.Bool.{cases_eq}
 use Rattle.std.proofs.lemmas.List.Sums.{sum_by-cons}
+use Rattle.std.proofs.lemmas.Option.{slice_get_within}
 use Rattle.rbbi_model.specs.Ranges.{Has}
 use Rattle.rbbi_model.specs.Rules.{leaves_of}
 use Rattle.rbbi_model.specs.LeafSets.{all_sets, Reads}
@@ -17,7 +18,7 @@ use Rattle.rbbi_positions.specs.PositionMarks.{in_row, ReadsCategory}
 use Rattle.rbbi_positions.specs.RuleTests.{AreCodesOf}
 use Rattle.rbbi_positions.specs.Readers.{AreReaders}
 use Rattle.rbbi_positions.proofs.Codes.{all_get}
-use Rattle.rbbi_positions.proofs.RuleFacts.{get_below, leaves_are_numbers}
+use Rattle.rbbi_positions.proofs.RuleFacts.{leaves_are_numbers}
 
 -- the rules have as many leaves as numbers
 pub leaves_total : (list : RuleList) → length (leaf_numbers list) ≡ sum_by leaves_of (rules_of list)
@@ -58,7 +59,7 @@ module _ (list : RuleList) (categories : ℕ) (ranges : List CategoryRange) (num
 
   is_read : (position c : ℕ) → Reads (rules_of list) position c → IsRead (rules_of list) c
   is_read position c (set, is, has) =
-      (position, set, get_below (all_sets (rules_of list)) position set is, slice_at (all_sets (rules_of list)) position set is, has)
+      (position, set, slice_get_within (all_sets (rules_of list)) position set is, slice_at (all_sets (rules_of list)) position set is, has)
 
   pub reads_are : (position category : ℕ) → position < sum_by leaves_of (rules_of list) → category < categories →
       IsTrue (in_row words rows category position) ↔ ReadsCategory (rules_of list) ranges position category

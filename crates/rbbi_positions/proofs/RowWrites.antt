@@ -1,14 +1,19 @@
 -- Rows of bits, one after another, of which one is written.
 use Rattle.std.proofs.Common.{◌≡◌, ◌≢◌, ℕ, ◌+◌, ◌-◌, ◌*◌, ◌/◌, ◌%◌, ◌<◌, ◌≤◌, ◌||◌, ◌&&◌, eqb, List, ◌++◌, length, get_or, take, drop, sym, ap, ◌∙◌, ⊎_elim}
-use Rattle.std.proofs.Common.{arith, length-take-le}
+use Rattle.std.proofs.Math.Bool.{or-false}
+use Rattle.std.proofs.Common.{Vec, Global, arith, length-take-le}
+use Rattle.std.specs.Vec.{with_items}
 use Rattle.std.proofs.lemmas.Bool.{cases_eq, cases_order, eq-eqb, ne_eqb}
-use Rattle.std.proofs.lemmas.List.{get_or-take, get_or-drop, get_or_append_left, get_or-append_right}
+use Rattle.std.proofs.lemmas.List.{get_or-take, get_or-drop, get_or_append_left, get_or-append_right, take_at}
 use Rattle.std.proofs.lemmas.Nat.{mul-le}
 use borrow.Rule.Slice.PartMut.{put_mid, mid_of, post_of}
 use Rattle.rbbi_model.specs.Places.{has_bit}
 use Rattle.rbbi_positions.specs.Rows.{row_bit}
 use Rattle.rbbi_positions.specs.PositionMarks.{in_row}
-use Rattle.rbbi_positions.proofs.Parts.{or_none}
+
+-- the items of a list that a call wrote as a whole
+pub all_written : {A : Type 0} (v : Vec A Global) (old new : List A) → old ≡ v.items → length new ≡ length old → (with_items v new).items ≡ new
+all_written v old new same long = take_at new (drop (length new) v.items) v.len (omega (arith, v.ok.0, ap length same, long))
 
 -- the end of a row
 pub row_end : (this w : ℕ) → (this + 1) * w ≡ this * w + w
@@ -80,5 +85,5 @@ module _ (w row k : ℕ) (rows new : List ℕ) (same : k ≡ w) (many : length n
       ∙ ap (λ x. in_row w rows row position || (x && row_bit other position)) (eq-eqb this row here)))
       (λ apart.
       row_kept this position below apart
-      ∙ sym (ap (λ x. in_row w rows this position || (x && row_bit other position)) (ne_eqb this row apart) ∙ or_none (in_row w rows this position)))
+      ∙ sym (ap (λ x. in_row w rows this position || (x && row_bit other position)) (ne_eqb this row apart) ∙ or-false (in_row w rows this position)))
       (cases_eq this row)

@@ -1,11 +1,12 @@
 -- Rules one after another: their leaves, and what some rule of the first ones passes.
 use Rattle.std.proofs.Common.{◌≡◌, ℕ, zero, suc, ◌+◌, ◌-◌, ◌<◌, ◌≤◌, Bool, ◌||◌, Option, None, Some, List, [], ◌∷◌, ◌++◌, length, take, replicate, get_or}
-use Rattle.std.proofs.Common.{⊎_elim, append_assoc, refl, ap, sym, ◌∙◌, subst, arith, length-append}
-use Rattle.std.specs.Prelude.{map, flat_map, sum_by, slice_get}
+use Rattle.std.proofs.Math.Bool.{or-false, or_assoc}
+use Rattle.std.proofs.Common.{⊎_elim, refl, ap, sym, ◌∙◌, subst, arith, length-append}
+use Rattle.std.specs.Prelude.{sum_by, slice_get}
 use Rattle.std.specs.Option.{option_map, option_map_or}
-use Rattle.std.proofs.lemmas.List.{take_all, length-map, append-nil, get_or_append_left, get_or-append_right, get_or-replicate, length-replicate}
+use Rattle.std.proofs.lemmas.List.{take_all, length-map, get_or_append_left, get_or-append_right, get_or-replicate, length-replicate}
 use Rattle.std.proofs.lemmas.Bool.{cases_lt}
-use Rattle.std.proofs.lemmas.List.Sums.{sum_by-cons}
+use Rattle.std.proofs.lemmas.List.Sums.{sum_by-append, sum_by-cons}
 use Rattle.rbbi_model.specs.Ranges.{Range}
 use Rattle.rbbi_model.specs.Spelling as spelling
 use Rattle.rbbi_model.specs.Rules as model
@@ -15,10 +16,11 @@ use Rattle.rbbi_resolve.specs.declared.rules.Rule.{Rule}
 use Rattle.rbbi_resolve.specs.declared.rules.Tree.{Tree}
 use Rattle.rbbi_resolve.specs.RuleTrees.{set_at, tree_of}
 use Rattle.rbbi_resolve.specs.RuleLists.{RuleList, rule_of, rules_of, numbers_of_rule, leaf_numbers}
+use Rattle.std.proofs.lemmas.Option.{slice_get-map}
+use Rattle.rbbi_cats.proofs.Nexts.{take_next}
 use Rattle.rbbi_cats.proofs.LeafSets.{all_sets_are}
 use Rattle.rbbi_positions.specs.RuleTests.{some_rule, AreOwners}
 use Rattle.rbbi_positions.specs.FollowPositions.{IsOfRule}
-use Rattle.rbbi_positions.proofs.Parts.{or_none, or_assoc}
 
 -- the leaves of a rule
 pub leaves_none : (sets : List (List Range)) (rule : Rule) → rule.rest ≡ None → leaves_of (rule_of sets rule) ≡ leaf_count (tree_of sets rule.front)
@@ -71,26 +73,6 @@ leaves_are_numbers sets rule =
 pub leaves_alike : (sets others : List (List Range)) (rule : Rule) → leaves_of (rule_of sets rule) ≡ leaves_of (rule_of others rule)
 leaves_alike sets others rule = leaves_are_numbers sets rule ∙ sym (leaves_are_numbers others rule)
 
--- lists up to a member and with it
-pub take_get : {X : Type 0} (xs : List X) (n : ℕ) (x : X) → slice_get xs n ≡ Some x → take (suc n) xs ≡ take n xs ++ x ∷ []
-take_get [] n x is = absurd (cc)
-take_get (y ∷ xs) zero x is = (let same : y ≡ x = cc in ap (λ z. z ∷ []) same)
-take_get (y ∷ xs) (suc n) x is = ap (λ l. y ∷ l) (take_get xs n x is)
-
-pub map_get : {X Y : Type 0} (f : X → Y) (xs : List X) (n : ℕ) (x : X) → slice_get xs n ≡ Some x → slice_get (map f xs) n ≡ Some (f x)
-map_get f [] n x is = absurd (cc)
-map_get f (y ∷ xs) zero x is = (let same : y ≡ x = cc in ap (λ z. Some (f z)) same)
-map_get f (y ∷ xs) (suc n) x is = map_get f xs n x is
-
-pub get_below : {X : Type 0} (xs : List X) (n : ℕ) (x : X) → slice_get xs n ≡ Some x → n < length xs
-get_below [] n x is = absurd (cc)
-get_below (y ∷ xs) zero x is = omega arith
-get_below (y ∷ xs) (suc n) x is = omega (arith, get_below xs n x is)
-
-sum_snoc : (rules : List model.Rule) (rule : model.Rule) → sum_by leaves_of (rules ++ rule ∷ []) ≡ sum_by leaves_of rules + leaves_of rule
-sum_snoc [] rule = omega (arith, sum_by-cons leaves_of rule [])
-sum_snoc (first ∷ rules) rule = omega (arith, sum_snoc rules rule, sum_by-cons leaves_of first (rules ++ rule ∷ []), sum_by-cons leaves_of first rules)
-
 sum_within : (rules : List model.Rule) (number : ℕ) (rule : model.Rule) → slice_get rules number ≡ Some rule →
     sum_by leaves_of (take number rules) + leaves_of rule ≤ sum_by leaves_of rules
 sum_within [] number rule is = absurd (cc)
@@ -100,7 +82,7 @@ sum_within (first ∷ rules) (suc number) rule is =
 
 some_snoc : (test : model.Rule → ℕ → Bool) (rules : List model.Rule) (rule : model.Rule) (first : ℕ) →
     some_rule test (rules ++ rule ∷ []) first ≡ (some_rule test rules first || test rule (first + sum_by leaves_of rules))
-some_snoc test [] rule first = or_none (test rule first) ∙ ap (test rule) (omega arith)
+some_snoc test [] rule first = or-false (test rule first) ∙ ap (test rule) (omega arith)
 some_snoc test (front ∷ rules) rule first =
     ap (λ x. test front first || x) (some_snoc test rules rule (first + leaves_of front))
     ∙ sym (or_assoc (test front first) (some_rule test rules (first + leaves_of front)) (test rule ((first + leaves_of front) + sum_by leaves_of rules)))
@@ -109,16 +91,17 @@ some_snoc test (front ∷ rules) rule first =
 -- a rule of a list, by its number
 module _ (list : RuleList) (number : ℕ) (rule : Rule) (is : slice_get list.rules number ≡ Some rule) where
   pub rule_is : slice_get (rules_of list) number ≡ Some (rule_of list.sets rule)
-  rule_is = map_get (rule_of list.sets) list.rules number rule is
+  rule_is = slice_get-map (rule_of list.sets) list.rules number ∙ ap (option_map (rule_of list.sets)) is
 
   pub taken : take (number + 1) (rules_of list) ≡ take number (rules_of list) ++ rule_of list.sets rule ∷ []
-  taken = (let e : number + 1 ≡ suc number = omega arith in ap (λ n. take n (rules_of list)) e
-      ∙ take_get (rules_of list) number (rule_of list.sets rule) rule_is)
+  taken = take_next (rules_of list) number (rule_of list.sets rule) rule_is
 
   pub first_next : (sets : List (List Range)) →
       first_position (rules_of list) (number + 1) ≡ first_position (rules_of list) number + leaves_of (rule_of sets rule)
-  first_next sets = ap (sum_by leaves_of) taken ∙ sum_snoc (take number (rules_of list)) (rule_of list.sets rule)
-      ∙ ap (λ n. first_position (rules_of list) number + n) (leaves_alike list.sets sets rule)
+  first_next sets =
+      let front = take number (rules_of list) in
+      let here = rule_of list.sets rule in
+      omega (arith, ap (sum_by leaves_of) taken, sum_by-append leaves_of front (here ∷ []), sum_by-cons leaves_of here [], leaves_alike list.sets sets rule)
 
   pub first_within : (sets : List (List Range)) → first_position (rules_of list) number + leaves_of (rule_of sets rule) ≤ sum_by leaves_of (rules_of list)
   first_within sets = omega (arith, sum_within (rules_of list) number (rule_of list.sets rule) rule_is, leaves_alike list.sets sets rule)
@@ -134,16 +117,6 @@ module _ (list : RuleList) (number : ℕ) (rule : Rule) (is : slice_get list.rul
 
 pub all_taken : (list : RuleList) (number : ℕ) → length list.rules ≤ number → take number (rules_of list) ≡ rules_of list
 all_taken list number past = take_all number (rules_of list) (omega (arith, past, length-map list.rules (rule_of list.sets)))
-
--- what rules have one after another, with one rule more
-pub flat_next : {X Y : Type 0} (f : X → List Y) (xs : List X) (n : ℕ) (x : X) → slice_get xs n ≡ Some x →
-    flat_map f (take (n + 1) xs) ≡ flat_map f (take n xs) ++ f x
-flat_next {X} {Y} f xs n x is = (let e : n + 1 ≡ suc n = omega arith in ap (λ m. flat_map f (take m xs)) e ∙ ap (flat_map f) (take_get xs n x is)
-    ∙ snoc (take n xs))
-  where
-    snoc : (ys : List X) → flat_map f (ys ++ x ∷ []) ≡ flat_map f ys ++ f x
-    snoc [] = append-nil (f x)
-    snoc (y ∷ ys) = ap (λ l. f y ++ l) (snoc ys) ∙ sym (append_assoc (f y) (flat_map f ys) (f x))
 
 -- the owners of the positions of one rule more
 pub owners_more : (rules : List model.Rule) (number count : ℕ) (rule : model.Rule) (owners : List ℕ) → slice_get rules number ≡ Some rule →

@@ -7,3 +7,4 @@ pub mod RuleTests
 pub mod RuleParts
 pub mod Rounds
 pub mod Rows
+pub mod KeptMarks

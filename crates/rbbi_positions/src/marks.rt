@@ -38,31 +38,11 @@ impl Model for Positions {
 
     ghost Value = { PositionMarks };
 
-    ghost view = { λ p. record {
-      leaves = p.leaves;
-      categories = p.categories;
-      words = p.words;
-      rules = p.rules.items;
-      owners = p.owners.items;
-      firsts = p.firsts.items;
-      lasts = p.lasts.items;
-      front_lasts = p.front_lasts.items;
-      followers = p.followers.items;
-      readers = p.readers.items;
-    } };
+    ghost use Rattle.rbbi_positions.specs.KeptMarks.{kept_marks};
 
-    ghost invariant = { λ p. IsWhole (record {
-      leaves = p.leaves;
-      categories = p.categories;
-      words = p.words;
-      rules = p.rules.items;
-      owners = p.owners.items;
-      firsts = p.firsts.items;
-      lasts = p.lasts.items;
-      front_lasts = p.front_lasts.items;
-      followers = p.followers.items;
-      readers = p.readers.items;
-    }) };
+    ghost view = { kept_marks };
+
+    ghost invariant = { λ p. IsWhole (kept_marks p) };
 }
 
 impl Positions {

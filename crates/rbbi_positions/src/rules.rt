@@ -6,7 +6,7 @@ ghost use Rattle.rbbi_model.specs.Rules.{leaves_of, AreLawful};
 ghost use Rattle.rbbi_resolve.specs.RuleLists.{rule_of, rules_of};
 ghost use Rattle.rbbi_positions.specs.PositionMarks.{in_row};
 ghost use Rattle.rbbi_positions.specs.Rows.{row_bit};
-ghost use Rattle.rbbi_positions.specs.RuleTests.{some_rule, rule_begins, rule_ends, rule_goes};
+ghost use Rattle.rbbi_positions.specs.RuleTests.{some_rule, rule_begins, rule_goes};
 ghost use Rattle.rbbi_positions.specs.RuleTests.{AreOwners};
 ghost use Rattle.rbbi_positions.specs.RuleParts.{part_ends};
 
@@ -47,22 +47,6 @@ pub(crate) fn firsts_of(alloc: Global, rules: &Rules, words: usize) -> Result<Ve
     Ok(row)
 }
 
-/// Sets the flags of the positions that some list of the rule ends with. A rest isn't empty.
-fn add_rule_lasts(rule: &Rule, first: usize, flags: &mut [bool])
-    requires few { length flags.old ≤ 8192 }
-    requires within { (sets : List (List Range)) →
-        first + leaves_of (rule_of sets rule.now) ≤ length flags.old }
-    ensures { (sets : List (List Range)) (position : ℕ) →
-        slice_index_or flags.new position false
-        ≡ (slice_index_or flags.old position false
-        || rule_ends position (rule_of sets rule.now) first) }
-{
-    match &rule.rest {
-        None => add_lasts(&rule.front, first, flags),
-        Some(rest) => add_lasts(rest, first + count(&rule.front), flags),
-    }
-}
-
 /// What of a rule is looked at.
 #[derive(Clone, Copy, Debug)]
 pub(crate) enum Part {
@@ -72,7 +56,8 @@ pub(crate) enum Part {
     Whole,
 }
 
-/// Sets the flags of the positions that some list of this part of the rule ends with.
+/// Sets the flags of the positions that some list of this part of the rule ends with. A rest isn't
+/// empty.
 fn add_part_lasts(rule: &Rule, part: Part, first: usize, flags: &mut [bool])
     requires few { length flags.old ≤ 8192 }
     requires within { (sets : List (List Range)) →
@@ -84,7 +69,10 @@ fn add_part_lasts(rule: &Rule, part: Part, first: usize, flags: &mut [bool])
 {
     match part {
         Part::Front => add_lasts(&rule.front, first, flags),
-        Part::Whole => add_rule_lasts(rule, first, flags),
+        Part::Whole => match &rule.rest {
+            None => add_lasts(&rule.front, first, flags),
+            Some(rest) => add_lasts(rest, first + count(&rule.front), flags),
+        },
     }
 }
 

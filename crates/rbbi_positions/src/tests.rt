@@ -1,35 +1,28 @@
 //! Rule files whose positions were worked out by hand.
-ghost use Rattle.std.specs.Prelude.{◌≡◌, ◌<◌, ◌≤◌, IfOk, length, chars};
-ghost use Rattle.rbbi_model.specs.Rules.{AreLawful};
-ghost use Rattle.rbbi_resolve.specs.RuleLists.{rules_of};
+ghost use Rattle.std.specs.Prelude.{◌≡◌, ◌<◌, IfOk, length};
 
 use crate::{Positions, positions};
 use rbbi_cats::partition;
 use rbbi_lex::lex;
 use rbbi_props::PropTable;
-use rbbi_resolve::{Rules, resolve};
+use rbbi_resolve::resolve;
+use rbbi_text::count_characters;
 use rbbi_tree::parse;
 use std::alloc::{AllocError, Global};
 use std::test::Fail;
 
-/// The number of characters of a text, at most that of its bytes.
-fn characters_in(text: &str) -> usize
-    ensures exact { result ≡ length (chars text.now) }
-    ensures short { result ≤ length text.now }
-{
-    text.chars().count()
-}
-
-/// The rules of a short file.
-fn rules_in(alloc: Global, text: &str) -> Result<Rules, Fail>
+/// The positions of the rules of a short file, and the number of their categories.
+fn positions_in(alloc: Global, text: &str) -> Result<(Positions, u16), Fail>
     requires { length text.now < 1000 }
-    ensures { IfOk result (λ rules. AreLawful (rules_of rules)) }
+    ensures { IfOk result (λ found. found.0.categories ≡ found.1) }
 {
-    let end = characters_in(text) as u32;
+    let end = count_characters(text) as u32;
     let tokens = lex(alloc, text)?;
     let statements = parse(alloc, &tokens, end)?;
     let rules = resolve(alloc, &statements, end, &PropTable::new(alloc), false)?;
-    Ok(rules)
+    let cats = partition(alloc, &rules)?;
+    let found = positions(alloc, &rules, &cats)?;
+    Ok((found, cats.count()))
 }
 
 /// Adds a number.
@@ -104,10 +97,8 @@ fn marks(rt: HostRuntime) -> Result<(), Fail> {
         ("a; bc;", "0^$/:1> 1^:2>2 2$/:3>"),
     ] {
         assert!(rt; text.len() < 1000);
-        let rules = rules_in(rt.alloc(), text)?;
-        let cats = partition(rt.alloc(), &rules)?;
-        let found = positions(rt.alloc(), &rules, &cats)?;
-        let shown = show(rt.alloc(), &found, cats.count())?;
+        let (found, categories) = positions_in(rt.alloc(), text)?;
+        let shown = show(rt.alloc(), &found, categories)?;
         assert_eq!(rt; shown.as_str(), want, "in {text:?}");
     }
     Ok(())
@@ -115,9 +106,7 @@ fn marks(rt: HostRuntime) -> Result<(), Fail> {
 
 #[test]
 fn rules(rt: HostRuntime) -> Result<(), Fail> {
-    let rules = rules_in(rt.alloc(), "!!chain; a; ^b {7}; c/d {3};")?;
-    let cats = partition(rt.alloc(), &rules)?;
-    let found = positions(rt.alloc(), &rules, &cats)?;
+    let (found, _categories) = positions_in(rt.alloc(), "!!chain; a; ^b {7}; c/d {3};")?;
     assert_eq!(rt; found.leaves(), 4);
     assert_eq!(rt; found.rules(), 3);
     for (leaf, rule) in [(0, 0), (1, 1), (2, 2), (3, 2)] {

@@ -1,5 +1,6 @@
 //! The text that the bytes of a file spell.
 ghost use Rattle.std.specs.Prelude.{◌≡◌, ◌≤◌, length, IsUtf8, MatchResult};
+ghost use Rattle.std.specs.Str.{chars};
 ghost use Rattle.rbbi_text.specs.Bytes.{most_bytes, IsNotUtf8At, without_mark};
 
 /// The most bytes that are read at once: more than any file that is taken has. So each place, byte
@@ -28,4 +29,12 @@ pub fn without_mark(text: &str) -> &str
     ensures no_longer { length result.now ≤ length text.now }
 {
     text.strip_prefix('\u{FEFF}').unwrap_or(text)
+}
+
+/// The number of characters of a string, at most that of its bytes.
+pub fn count_characters(text: &str) -> usize
+    ensures exact { result ≡ length (chars text.now) }
+    ensures short { result ≤ length text.now }
+{
+    text.chars().count()
 }

@@ -12,16 +12,10 @@ put_back-requires-clause-classes c =
 
 pub returns-clause-partition : goal.returns-clause-partition
 returns-clause-partition c =
-    on_ok_weaker c.put_back.result (partitioned c.args.classes.now.items c.take_out.new.classes.items c.put_back.new.classes.items c.args.members.now
-    c.in_ok-origins.origins.items c.args.sizes.now.items
-    c.take_out.new.sizes.items c.put_back.new.sizes.items MOVING c.requires.partition c.requires.stretches c.take_out.ensures.many_classes
-    c.take_out.ensures.many_sizes
-    (omega (arith, c.args.sizes.now.small)) c.in_ok-origins.ensures.out) (rw c.deref.ensures.value at c.put_back.ensures)
+    on_ok_weaker c.put_back.result (partitioned c.requires.partition c.requires.stretches c.take_out.ensures.many_classes c.take_out.ensures.many_sizes
+    c.in_ok-origins.ensures.out (omega (arith, c.args.sizes.now.small))) (rw c.deref.ensures.value at c.put_back.ensures)
 
 pub returns-clause-refines : goal.returns-clause-refines
 returns-clause-refines c =
-    on_ok_weaker c.put_back.result (refined c.args.classes.now.items c.take_out.new.classes.items c.put_back.new.classes.items c.args.members.now
-    c.in_ok-origins.origins.items c.args.sizes.now.items
-    c.take_out.new.sizes.items c.put_back.new.sizes.items MOVING c.requires.partition c.requires.stretches c.take_out.ensures.many_classes
-    c.take_out.ensures.many_sizes
-    (omega (arith, c.args.sizes.now.small)) c.in_ok-origins.ensures.out) (rw c.deref.ensures.value at c.put_back.ensures)
+    on_ok_weaker c.put_back.result (refined c.requires.partition c.requires.stretches c.take_out.ensures.many_classes c.take_out.ensures.many_sizes
+    c.in_ok-origins.ensures.out (omega (arith, c.args.sizes.now.small))) (rw c.deref.ensures.value at c.put_back.ensures)

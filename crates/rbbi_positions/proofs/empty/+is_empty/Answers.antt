@@ -10,29 +10,25 @@ use Rattle.rbbi_positions.proofs.empty.+is_empty.Goals as goal
 pub returns-then-not-is_empty : goal.returns-then-not-is_empty
 returns-then-not-is_empty t c = λ sets.
     let rest = spells_empty (sequence_of (map (tree_of sets) (drop (c.loop-part.part-index + 1) c.deref-part-items.result.now))) in
-    sym (c.loop-part.invariant sets ∙ sequence_step (tree_of sets) c.deref-part-items.result.now c.loop-part.part-index c.part-item.result
-    c.loop-part-test.true c.part-item.is
+    sym (c.loop-part.invariant sets ∙ sequence_step (tree_of sets) _ _ _ c.loop-part-test.true c.part-item.is
     ∙ ap (λ test. test && rest) (sym (c.if-not-is_empty.ensures sets)))
 
 pub loop-part-preserved : goal.loop-part-preserved
 loop-part-preserved t c = λ sets.
     let rest = spells_empty (sequence_of (map (tree_of sets) (drop (c.loop-part.part-index + 1) c.deref-part-items.result.now))) in
-    c.loop-part.invariant sets ∙ sequence_step (tree_of sets) c.deref-part-items.result.now c.loop-part.part-index c.part-item.result c.loop-part-test.true
-    c.part-item.is
+    c.loop-part.invariant sets ∙ sequence_step (tree_of sets) _ _ _ c.loop-part-test.true c.part-item.is
     ∙ ap (λ test. test && rest) (sym (c.if-not-is_empty.ensures sets))
 
 pub returns-then-is_empty : goal.returns-then-is_empty
 returns-then-is_empty t c = λ sets.
     let rest = spells_empty (choice_of (map (tree_of sets) (drop (c.loop-part-2.part-index + 1) c.deref-part-items-in-Alt.result.now))) in
-    sym (c.loop-part-2.invariant sets ∙ choice_step (tree_of sets) c.deref-part-items-in-Alt.result.now c.loop-part-2.part-index
-    c.part-item-in-loop-part-2.result c.loop-part-2-test.true c.part-item-in-loop-part-2.is
+    sym (c.loop-part-2.invariant sets ∙ choice_step (tree_of sets) _ _ _ c.loop-part-2-test.true c.part-item-in-loop-part-2.is
     ∙ ap (λ test. test || rest) (sym (c.if-is_empty.ensures sets)))
 
 pub loop-part-2-preserved : goal.loop-part-2-preserved
 loop-part-2-preserved t c = λ sets.
     let rest = spells_empty (choice_of (map (tree_of sets) (drop (c.loop-part-2.part-index + 1) c.deref-part-items-in-Alt.result.now))) in
-    c.loop-part-2.invariant sets ∙ choice_step (tree_of sets) c.deref-part-items-in-Alt.result.now c.loop-part-2.part-index c.part-item-in-loop-part-2.result
-    c.loop-part-2-test.true c.part-item-in-loop-part-2.is
+    c.loop-part-2.invariant sets ∙ choice_step (tree_of sets) _ _ _ c.loop-part-2-test.true c.part-item-in-loop-part-2.is
     ∙ ap (λ test. test || rest) (sym (c.if-is_empty.ensures sets))
 
 pub returns-after-loop-part : goal.returns-after-loop-part

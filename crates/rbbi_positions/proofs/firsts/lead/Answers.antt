@@ -1,9 +1,9 @@
 use Rattle.std.proofs.Common.{rules, ◌≡◌, Bool, ◌&&◌, ◌||◌, length, sym, ap, ◌∙◌}
+use Rattle.std.proofs.Math.Bool.{or_comm}
 use Rattle.rbbi_resolve.specs.RuleTrees.{tree_of}
 use Rattle.rbbi_positions.specs.Rows.{row_bit}
 use Rattle.rbbi_positions.specs.Trees.{spells_empty, begins}
 use Rattle.rbbi_positions.proofs.BitRows.{blank_row}
-use Rattle.rbbi_positions.proofs.Parts.{or_swap}
 use Rattle.rbbi_positions.proofs.firsts.lead.Goals as goal
 use Rattle.rbbi_positions.proofs.firsts.lead.Goals.{then-not-is_empty, else-not-is_empty}
 
@@ -19,4 +19,4 @@ returns c = λ sets position.
           ∙ sym (ap (λ x. x && old) (sym (c.is_empty.ensures sets) ∙ w.if-not-is_empty.true))
       | else-not-is_empty w ↦ ap (λ r. row_bit r position) w.row-is ∙ sym (ap (λ x. x && old) (sym (c.is_empty.ensures sets) ∙ w.if-not-is_empty.false))
     ] in
-    c.add_firsts.ensures sets position ∙ ap (λ x. x || first) kept ∙ or_swap (empty && old) first
+    c.add_firsts.ensures sets position ∙ ap (λ x. x || first) kept ∙ or_comm (empty && old) first

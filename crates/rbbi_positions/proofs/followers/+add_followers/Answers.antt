@@ -1,22 +1,20 @@
-use Rattle.std.proofs.Common.{rules, ◌≡◌, ◌≤◌, ◌<◌, ◌-◌, ℕ, ◌+◌, ◌*◌, ◌||◌, Bool, List, [], drop, take, length, Box, Global, sym, ap, ◌∙◌, refl, subst, arith}
+use Rattle.std.proofs.Common.{rules, ◌≡◌, ◌≤◌, ◌<◌, ◌-◌, ℕ, ◌+◌, ◌*◌, ◌||◌, Bool, List, [], take, length, sym, ap, ◌∙◌, subst, arith}
+use Rattle.std.proofs.Math.Bool.{or-false}
 use Rattle.std.specs.Vec.{with_items}
-use Rattle.std.proofs.lemmas.List.{take_at}
 use Rattle.std.specs.Prelude.{map}
 use Rattle.rbbi_model.specs.Ranges.{Range}
 use Rattle.rbbi_model.specs.Spelling.{Tree, sequence_of}
 use Rattle.rbbi_model.specs.Rules.{leaf_count}
-use Rattle.rbbi_tree.specs.declared.syntax.Quant.{Quant}
 use Rattle.rbbi_resolve.specs.declared.rules.Tree as code
-use Rattle.rbbi_resolve.specs.declared.rules.Tree.TheVariants.{Rep}
 use Rattle.rbbi_resolve.specs.RuleTrees.{tree_of}
 use Rattle.rbbi_resolve.specs.declared.rules.Tree.TheViews.{the_lemmas}
 use Rattle.rbbi_positions.specs.Rows.{row_bit}
 use Rattle.rbbi_positions.specs.PositionMarks.{in_row}
 use Rattle.rbbi_positions.specs.Trees.{goes, leads}
 use Rattle.rbbi_positions.specs.Rounds.{behind_of}
-use Rattle.rbbi_positions.proofs.Folds.{of_repeat, tree_of_leaf, tree_of_sequence, tree_of_repeat, goes_repeat}
-use Rattle.rbbi_positions.proofs.Parts.{count_choice, count_up_to, goes_on, choice_on, goes_of, choice_done, whole, none_left, or_none}
-use Rattle.rbbi_positions.proofs.RowWrites.{row_within, rows_within}
+use Rattle.rbbi_positions.proofs.Folds.{same_leaves, tree_of_leaf, tree_of_sequence, tree_of_repeat, goes_repeat}
+use Rattle.rbbi_positions.proofs.Parts.{count_choice, count_up_to, goes_on, choice_on, goes_of, choice_done, whole, none_left}
+use Rattle.rbbi_positions.proofs.RowWrites.{all_written, row_within, rows_within}
 use Rattle.rbbi_positions.proofs.followers.+add_followers.Goals as goal
 
 pub unite_row-requires : goal.unite_row-requires
@@ -49,25 +47,15 @@ loop-i-init t c =
 
 pub count-start-requires : goal.count-start-requires
 count-start-requires t c =
-    λ sets. omega (
-      arith,
-      c.requires.within sets,
-      c.requires.short,
-      c.loop-i.invariant.fits sets,
-      count_up_to (tree_of sets) c.in-Seq.parts.items.items
-          c.loop-i.i c.index-part.result.now c.loop-i-test.true (omega (arith, c.loop-i.auto.i, c.len-i.ensures, c.in-Seq.parts.items.ok.0))
-          c.index-part.ensures,
-    )
+    λ sets. let next = count_up_to (tree_of sets) c.in-Seq.parts.items.items _ _ c.loop-i-test.true
+    (omega (arith, c.loop-i.auto.i, c.len-i.ensures, c.in-Seq.parts.items.ok.0)) c.index-part.ensures in
+    omega (arith, c.requires.within sets, c.requires.short, c.loop-i.invariant.fits sets, next)
 
 pub overflow_sub-start : goal.overflow_sub-start
 overflow_sub-start t c =
-    omega (
-      arith,
-      c.count-start.ensures [],
-      c.loop-i.invariant.at [],
-      count_up_to (tree_of []) c.in-Seq.parts.items.items c.loop-i.i c.index-part.result.now
-          c.loop-i-test.true (omega (arith, c.loop-i.auto.i, c.len-i.ensures, c.in-Seq.parts.items.ok.0)) c.index-part.ensures,
-    )
+    let next = count_up_to (tree_of []) c.in-Seq.parts.items.items _ _ c.loop-i-test.true
+    (omega (arith, c.loop-i.auto.i, c.len-i.ensures, c.in-Seq.parts.items.ok.0)) c.index-part.ensures in
+    omega (arith, c.count-start.ensures [], c.loop-i.invariant.at [], next)
 
 pub add_followers-requires : goal.add_followers-requires
 add_followers-requires t c =
@@ -75,15 +63,9 @@ add_followers-requires t c =
     let ends = λ (sets : List (List Range)).
     let here : (c.loop-i.start - c.count-start.result) + leaf_count (tree_of sets c.index-part.result.now) ≤ c.args.first + leaf_count
     (tree_of sets c.args.tree.now) =
-    omega (
-      arith,
-      c.count-start.ensures sets,
-      c.loop-i.invariant.at sets,
-      c.loop-i.invariant.fits sets,
-      count_up_to (tree_of sets) c.in-Seq.parts.items.items
-          c.loop-i.i c.index-part.result.now c.loop-i-test.true (omega (arith, c.loop-i.auto.i, c.len-i.ensures, c.in-Seq.parts.items.ok.0))
-          c.index-part.ensures,
-    ) in
+    let next = count_up_to (tree_of sets) c.in-Seq.parts.items.items _ _ c.loop-i-test.true
+    (omega (arith, c.loop-i.auto.i, c.len-i.ensures, c.in-Seq.parts.items.ok.0)) c.index-part.ensures in
+    omega (arith, c.count-start.ensures sets, c.loop-i.invariant.at sets, c.loop-i.invariant.fits sets, next) in
     here in (
       search (rules, the_lemmas),
       (
@@ -109,32 +91,23 @@ lead-requires-clause-within t c = λ sets. omega (
   c.count-start.ensures sets,
   c.loop-i.invariant.at sets,
   c.loop-i.invariant.fits sets,
-  count_up_to (tree_of sets) c.in-Seq.parts.items.items c.loop-i.i c.index-part.result.now c.loop-i-test.true
+  count_up_to (tree_of sets) c.in-Seq.parts.items.items _ _ c.loop-i-test.true
       (omega (arith, c.loop-i.auto.i, c.len-i.ensures, c.in-Seq.parts.items.ok.0)) c.index-part.ensures,
 )
 
 pub loop-i-preserved : goal.loop-i-preserved
 loop-i-preserved t c =
     let wide : length c.deref.result.now ≡ length c.args.next.now = ap length c.deref.ensures.value ∙ c.loop-i.invariant.many in
-    let written : (with_items c.loop-i.row c.lead.new.row).items ≡ c.lead.new.row =
-    take_at c.lead.new.row (drop (length c.lead.new.row) c.loop-i.row.items) c.loop-i.row.len
-    (omega (arith, c.loop-i.row.ok.0, c.deref_mut.ensures.len, c.lead.auto.row)) in
+    let written = all_written c.loop-i.row _ c.lead.new.row c.deref_mut.ensures.value c.lead.auto.row in
     let start : ℕ = c.loop-i.start - c.count-start.result in
     record {
       many = ap length written ∙ c.lead.auto.row ∙ ap length c.deref_mut.ensures.value ∙ c.loop-i.invariant.many;
-      at = λ sets. omega (
-        arith,
-        c.count-start.ensures sets,
-        c.loop-i.invariant.at sets,
-        count_up_to (tree_of sets) c.in-Seq.parts.items.items c.loop-i.i
-            c.index-part.result.now c.loop-i-test.true (omega (arith, c.loop-i.auto.i, c.len-i.ensures, c.in-Seq.parts.items.ok.0)) c.index-part.ensures,
-      );
-      fits = λ sets. omega (
-        arith,
-        c.loop-i.invariant.fits sets,
-        count_up_to (tree_of sets) c.in-Seq.parts.items.items c.loop-i.i c.index-part.result.now c.loop-i-test.true
-            (omega (arith, c.loop-i.auto.i, c.len-i.ensures, c.in-Seq.parts.items.ok.0)) c.index-part.ensures,
-      );
+      at = λ sets. let next = count_up_to (tree_of sets) c.in-Seq.parts.items.items _ _ c.loop-i-test.true
+          (omega (arith, c.loop-i.auto.i, c.len-i.ensures, c.in-Seq.parts.items.ok.0)) c.index-part.ensures in
+          omega (arith, c.count-start.ensures sets, c.loop-i.invariant.at sets, next);
+      fits = λ sets. let next = count_up_to (tree_of sets) c.in-Seq.parts.items.items _ _ c.loop-i-test.true
+          (omega (arith, c.loop-i.auto.i, c.len-i.ensures, c.in-Seq.parts.items.ok.0)) c.index-part.ensures in
+          omega (arith, c.loop-i.invariant.fits sets, next);
       rows = λ sets position other below.
           let part : Tree = tree_of sets c.index-part.result.now in
           let short : other < 64 * length c.deref.result.now = omega (arith, below, wide) in
@@ -145,17 +118,13 @@ loop-i-preserved t c =
           (c.in_ok-add_followers-in-Seq.ensures sets position other short
           ∙ ap (λ row. in_row (length c.deref.result.now) c.loop-i.followers position other || goes part start position other (row_bit row other))
           c.deref.ensures.value) in
-          goes_on (tree_of sets) c.in-Seq.parts.items.items c.loop-i.i c.index-part.result.now c.loop-i-test.true
+          goes_on (tree_of sets) c.in-Seq.parts.items.items _ _ c.loop-i-test.true
           (omega (arith, c.loop-i.auto.i, c.len-i.ensures, c.in-Seq.parts.items.ok.0)) c.index-part.ensures
           c.args.first start position other (row_bit c.loop-i.row.items other) (row_bit (with_items c.loop-i.row c.lead.new.row).items other)
           (in_row (length c.args.next.now) c.loop-i.followers position other) (in_row (length c.args.next.now) c.add_followers.new.followers position other)
-          (omega (
-            arith,
-            c.count-start.ensures sets,
-            c.loop-i.invariant.at sets,
-            count_up_to (tree_of sets) c.in-Seq.parts.items.items c.loop-i.i
-                c.index-part.result.now c.loop-i-test.true (omega (arith, c.loop-i.auto.i, c.len-i.ensures, c.in-Seq.parts.items.ok.0)) c.index-part.ensures,
-          ))
+          (let next = count_up_to (tree_of sets) c.in-Seq.parts.items.items _ _ c.loop-i-test.true
+          (omega (arith, c.loop-i.auto.i, c.len-i.ensures, c.in-Seq.parts.items.ok.0)) c.index-part.ensures in
+          omega (arith, c.count-start.ensures sets, c.loop-i.invariant.at sets, next))
           (ap (λ row. row_bit row other) written ∙ c.lead.ensures sets other ∙ ap (λ row. leads part start other (row_bit row other)) c.deref_mut.ensures.value)
           new ∙ c.loop-i.invariant.rows sets position other below;
     }
@@ -166,59 +135,30 @@ add_followers-requires-in-loop-part t c = (
   (
     omega (arith, c.requires.short),
     (
-      λ sets. omega (
-        arith,
-        c.requires.within sets,
-        c.loop-part.invariant.fits sets,
-        count_choice (tree_of sets) c.deref-part-items.result.now
-            c.loop-part.part-index c.part-item.result c.loop-part-test.true c.part-item.is,
-      ),
+      λ sets. omega (arith, c.requires.within sets, c.loop-part.invariant.fits sets, count_choice (tree_of sets) _ _ _ c.loop-part-test.true c.part-item.is),
       λ sets. rows_within (c.loop-part.start + leaf_count (tree_of sets c.part-item.result)) (c.args.first + leaf_count (tree_of sets c.args.tree.now))
           (length c.args.next.now) (length c.loop-part.followers)
-          (omega (
-            arith,
-            c.loop-part.invariant.fits sets,
-            count_choice (tree_of sets) c.deref-part-items.result.now c.loop-part.part-index c.part-item.result
-                c.loop-part-test.true c.part-item.is,
-          )) (omega (arith, c.requires.rows sets, c.loop-part.auto.followers)),
+          (let next = count_choice (tree_of sets) _ _ _ c.loop-part-test.true c.part-item.is in
+          omega (arith, c.loop-part.invariant.fits sets, next)) (omega (arith, c.requires.rows sets, c.loop-part.auto.followers)),
     ),
   ),
 )
 
 pub count-start-requires-in-loop-part : goal.count-start-requires-in-loop-part
 count-start-requires-in-loop-part t c =
-    λ sets. omega (
-      arith,
-      c.requires.within sets,
-      c.requires.short,
-      c.loop-part.invariant.fits sets,
-      count_choice (tree_of sets) c.deref-part-items.result.now
-          c.loop-part.part-index c.part-item.result c.loop-part-test.true c.part-item.is,
-    )
+    λ sets. omega (arith, c.requires.within sets, c.loop-part.invariant.fits sets, count_choice (tree_of sets) _ _ _ c.loop-part-test.true c.part-item.is)
 
 pub overflow_add-start-in-loop-part : goal.overflow_add-start-in-loop-part
 overflow_add-start-in-loop-part t c =
-    omega (
-      arith,
-      c.requires.within [],
-      c.requires.short,
-      c.loop-part.invariant.fits [],
-      c.count-start-in-loop-part.ensures [],
-      count_choice (tree_of [])
-          c.deref-part-items.result.now c.loop-part.part-index c.part-item.result c.loop-part-test.true c.part-item.is,
-    )
+    let next = count_choice (tree_of []) _ _ _ c.loop-part-test.true c.part-item.is in
+    omega (arith, c.requires.within [], c.requires.short, c.loop-part.invariant.fits [], c.count-start-in-loop-part.ensures [], next)
 
 pub loop-part-preserved : goal.loop-part-preserved
 loop-part-preserved t c = record {
-  fits = λ sets. omega (
-    arith,
-    c.loop-part.invariant.fits sets,
-    c.count-start-in-loop-part.ensures sets,
-    count_choice (tree_of sets) c.deref-part-items.result.now
-        c.loop-part.part-index c.part-item.result c.loop-part-test.true c.part-item.is,
-  );
+  fits = λ sets. let next = count_choice (tree_of sets) _ _ _ c.loop-part-test.true c.part-item.is in
+      omega (arith, c.loop-part.invariant.fits sets, c.count-start-in-loop-part.ensures sets, next);
   rows = λ sets position other below.
-      choice_on (tree_of sets) c.deref-part-items.result.now c.loop-part.part-index c.part-item.result c.loop-part-test.true c.part-item.is
+      choice_on (tree_of sets) _ _ _ c.loop-part-test.true c.part-item.is
       (λ tree first. goes tree first position other (row_bit c.args.next.now other)) (goes_of position other (row_bit c.args.next.now other)) c.loop-part.start
       c.count-start-in-loop-part.result
       (in_row (length c.args.next.now) c.loop-part.followers position other)
@@ -226,11 +166,6 @@ loop-part-preserved t c = record {
       (c.count-start-in-loop-part.ensures sets) (c.in_ok-add_followers-in-Alt.ensures sets position other below)
       ∙ c.loop-part.invariant.rows sets position other below;
 }
-
-same_leaves : (sets : List (List Range)) (tree : code.Tree) (quant : Quant) (part : Box code.Tree Global) (inner : code.Tree) → tree ≡ Rep quant part →
-    inner ≡ part.value → leaf_count (tree_of sets inner) ≡ leaf_count (tree_of sets tree)
-same_leaves sets tree quant part inner is value =
-    ap (λ t. leaf_count (tree_of sets t)) value ∙ sym (ap (λ t. leaf_count (tree_of sets t)) is ∙ of_repeat leaf_count (λ repetition t. refl) sets quant part)
 
 pub behind-requires-clause-within : goal.behind-requires-clause-within
 behind-requires-clause-within t c =
@@ -273,7 +208,7 @@ returns-after-loop-i t c = λ sets position other below.
     let now : Bool = in_row (length c.args.next.now) c.loop-i.followers position other in
     sym (ap (λ x. now || x)
     (none_left (λ tree. goes tree c.args.first position other (row_bit c.loop-i.row.items other)) (tree_of sets) c.in-Seq.parts.items.items c.loop-i.i
-    c.loop-i-test.false) ∙ or_none now)
+    c.loop-i-test.false) ∙ or-false now)
     ∙ c.loop-i.invariant.rows sets position other below
 
 pub returns-after-loop-part : goal.returns-after-loop-part
@@ -281,7 +216,7 @@ returns-after-loop-part t c = λ sets position other below.
     let now : Bool = in_row (length c.args.next.now) c.loop-part.followers position other in
     sym (ap (λ x. now || x)
     (choice_done (λ tree. goes tree c.loop-part.start position other (row_bit c.args.next.now other)) (tree_of sets) c.deref-part-items.result.now
-    c.loop-part.part-index c.loop-part-test.false) ∙ or_none now)
+    c.loop-part.part-index c.loop-part-test.false) ∙ or-false now)
     ∙ c.loop-part.invariant.rows sets position other below
 
 pub returns-in_ok-add_followers-in-Rep : goal.returns-in_ok-add_followers-in-Rep

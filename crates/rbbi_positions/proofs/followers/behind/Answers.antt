@@ -1,11 +1,10 @@
-use Rattle.std.proofs.Common.{◌≡◌, Bool, ◌||◌, length, drop, sym, ap, ◌∙◌, arith}
-use Rattle.std.specs.Vec.{with_items}
-use Rattle.std.proofs.lemmas.List.{take_at}
+use Rattle.std.proofs.Common.{Bool, ◌||◌, sym, ap, ◌∙◌}
 use Rattle.rbbi_tree.specs.declared.syntax.Quant.{Quant}
 use Rattle.rbbi_resolve.specs.RuleTrees.{tree_of}
 use Rattle.rbbi_positions.specs.Rows.{row_bit}
 use Rattle.rbbi_positions.specs.Trees.{begins}
 use Rattle.rbbi_positions.specs.Rounds.{behind_of}
+use Rattle.rbbi_positions.proofs.RowWrites.{all_written}
 use Rattle.rbbi_positions.proofs.followers.behind.Goals as goal
 use Rattle.rbbi_positions.proofs.followers.behind.Goals.{in-Once, in-Quest, in-Star, in-Plus}
 
@@ -18,16 +17,12 @@ returns-clause-bits c = λ sets position.
       | in-Once w ↦ ap (λ row. row_bit row.items position) w.row-is ∙ ap (λ row. row_bit row position) same ∙ sym (ap quants w.in-Once.is)
       | in-Quest w ↦ ap (λ row. row_bit row.items position) w.row-is ∙ ap (λ row. row_bit row position) same ∙ sym (ap quants w.in-Quest.is)
       | in-Star w ↦
-          let written : (with_items c.in_ok-row.row w.add_firsts.new.row).items ≡ w.add_firsts.new.row =
-          take_at w.add_firsts.new.row (drop (length w.add_firsts.new.row) c.in_ok-row.row.items) c.in_ok-row.row.len
-          (omega (arith, c.in_ok-row.row.ok.0, w.deref_mut.ensures.len, w.add_firsts.auto.row)) in
+          let written = all_written c.in_ok-row.row _ w.add_firsts.new.row w.deref_mut.ensures.value w.add_firsts.auto.row in
           ap (λ row. row_bit row.items position) w.row-is ∙ ap (λ row. row_bit row position) written ∙ w.add_firsts.ensures sets position
           ∙ ap (λ row. row_bit row position || begins (tree_of sets c.args.part.now) c.args.first position) (w.deref_mut.ensures.value ∙ same)
           ∙ sym (ap quants w.in-Star.is)
       | in-Plus w ↦
-          let written : (with_items c.in_ok-row.row w.add_firsts-in-Plus.new.row).items ≡ w.add_firsts-in-Plus.new.row =
-          take_at w.add_firsts-in-Plus.new.row (drop (length w.add_firsts-in-Plus.new.row) c.in_ok-row.row.items) c.in_ok-row.row.len
-          (omega (arith, c.in_ok-row.row.ok.0, w.deref_mut-in-Plus.ensures.len, w.add_firsts-in-Plus.auto.row)) in
+          let written = all_written c.in_ok-row.row _ w.add_firsts-in-Plus.new.row w.deref_mut-in-Plus.ensures.value w.add_firsts-in-Plus.auto.row in
           ap (λ row. row_bit row.items position) w.row-is ∙ ap (λ row. row_bit row position) written ∙ w.add_firsts-in-Plus.ensures sets position
           ∙ ap (λ row. row_bit row position || begins (tree_of sets c.args.part.now) c.args.first position) (w.deref_mut-in-Plus.ensures.value ∙ same)
           ∙ sym (ap quants w.in-Plus.is)

@@ -1,4 +1,5 @@
 use Rattle.std.proofs.Common.{rules, ◌≡◌, ◌≤◌, ◌-◌, ◌||◌, false, List, [], length, get_or, sym, ap, ◌∙◌, refl, arith}
+use Rattle.std.proofs.Math.Bool.{or-false}
 use Rattle.std.specs.Prelude.{map}
 use Rattle.rbbi_model.specs.Ranges.{Range}
 use Rattle.rbbi_model.specs.Spelling.{sequence_of}
@@ -6,8 +7,8 @@ use Rattle.rbbi_model.specs.Rules.{leaf_count}
 use Rattle.rbbi_resolve.specs.RuleTrees.{tree_of}
 use Rattle.rbbi_resolve.specs.declared.rules.Tree.TheViews.{the_lemmas}
 use Rattle.rbbi_positions.specs.Trees.{ends}
-use Rattle.rbbi_positions.proofs.Folds.{of_repeat, tree_of_leaf, tree_of_sequence}
-use Rattle.rbbi_positions.proofs.Parts.{count_choice, count_up_to, ends_on, ends_end, choice_on, ends_of, choice_done, whole, none_left, flag_set, or_none}
+use Rattle.rbbi_positions.proofs.Folds.{same_leaves, of_repeat, tree_of_leaf, tree_of_sequence}
+use Rattle.rbbi_positions.proofs.Parts.{count_choice, count_up_to, ends_on, ends_end, choice_on, ends_of, choice_done, whole, none_left, flag_set}
 use Rattle.rbbi_positions.proofs.lasts.+add_lasts.Goals as goal
 
 pub bounds-flags-first : goal.bounds-flags-first
@@ -32,83 +33,52 @@ loop-i-init t c =
 
 pub count-start-requires : goal.count-start-requires
 count-start-requires t c =
-    λ sets. omega (
-      arith,
-      c.requires.within sets,
-      c.requires.few,
-      c.loop-i.invariant.fits sets,
-      count_up_to (tree_of sets) c.in-Seq.parts.items.items c.loop-i.i
-          c.index-part.result.now c.loop-i-test.true (omega (arith, c.loop-i.auto.i, c.len-i.ensures, c.in-Seq.parts.items.ok.0)) c.index-part.ensures,
-    )
+    λ sets. let next = count_up_to (tree_of sets) c.in-Seq.parts.items.items _ _ c.loop-i-test.true
+    (omega (arith, c.loop-i.auto.i, c.len-i.ensures, c.in-Seq.parts.items.ok.0)) c.index-part.ensures in
+    omega (arith, c.requires.within sets, c.requires.few, c.loop-i.invariant.fits sets, next)
 
 pub overflow_sub-start : goal.overflow_sub-start
 overflow_sub-start t c =
-    omega (
-      arith,
-      c.count-start.ensures [],
-      c.loop-i.invariant.at [],
-      count_up_to (tree_of []) c.in-Seq.parts.items.items c.loop-i.i c.index-part.result.now
-          c.loop-i-test.true (omega (arith, c.loop-i.auto.i, c.len-i.ensures, c.in-Seq.parts.items.ok.0)) c.index-part.ensures,
-    )
+    let next = count_up_to (tree_of []) c.in-Seq.parts.items.items _ _ c.loop-i-test.true
+    (omega (arith, c.loop-i.auto.i, c.len-i.ensures, c.in-Seq.parts.items.ok.0)) c.index-part.ensures in
+    omega (arith, c.count-start.ensures [], c.loop-i.invariant.at [], next)
 
 pub add_lasts-requires : goal.add_lasts-requires
 add_lasts-requires t c = (
   search (rules, the_lemmas),
   (
     omega (arith, c.requires.few),
-    λ sets. omega (
-      arith,
-      c.requires.within sets,
-      c.count-start.ensures sets,
-      c.loop-i.invariant.at sets,
-      c.loop-i.invariant.fits sets,
-      count_up_to
-          (tree_of sets) c.in-Seq.parts.items.items c.loop-i.i c.index-part.result.now c.loop-i-test.true
-          (omega (arith, c.loop-i.auto.i, c.len-i.ensures, c.in-Seq.parts.items.ok.0)) c.index-part.ensures,
-    ),
+    λ sets. let next = count_up_to (tree_of sets) c.in-Seq.parts.items.items _ _ c.loop-i-test.true
+        (omega (arith, c.loop-i.auto.i, c.len-i.ensures, c.in-Seq.parts.items.ok.0)) c.index-part.ensures in
+        omega (arith, c.requires.within sets, c.count-start.ensures sets, c.loop-i.invariant.at sets, c.loop-i.invariant.fits sets, next),
   ),
 )
 
 pub returns-then-not-is_empty : goal.returns-then-not-is_empty
 returns-then-not-is_empty t c = λ sets position.
-    ends_end (tree_of sets) c.in-Seq.parts.items.items c.loop-i.i c.index-part.result.now c.loop-i-test.true
+    ends_end (tree_of sets) c.in-Seq.parts.items.items _ _ c.loop-i-test.true
     (omega (arith, c.loop-i.auto.i, c.len-i.ensures, c.in-Seq.parts.items.ok.0)) c.index-part.ensures
     c.args.first (c.loop-i.start - c.count-start.result) position (get_or c.loop-i.flags position false) (get_or c.add_lasts.new.flags position false)
-    (omega (
-      arith,
-      c.count-start.ensures sets,
-      c.loop-i.invariant.at sets,
-      count_up_to (tree_of sets) c.in-Seq.parts.items.items c.loop-i.i
-          c.index-part.result.now c.loop-i-test.true (omega (arith, c.loop-i.auto.i, c.len-i.ensures, c.in-Seq.parts.items.ok.0)) c.index-part.ensures,
-    ))
+    (let next = count_up_to (tree_of sets) c.in-Seq.parts.items.items _ _ c.loop-i-test.true
+    (omega (arith, c.loop-i.auto.i, c.len-i.ensures, c.in-Seq.parts.items.ok.0)) c.index-part.ensures in
+    omega (arith, c.count-start.ensures sets, c.loop-i.invariant.at sets, next))
     (sym (c.is_empty.ensures sets) ∙ c.if-not-is_empty.true) (c.add_lasts.ensures sets position) ∙ c.loop-i.invariant.flags sets position
 
 pub loop-i-preserved : goal.loop-i-preserved
 loop-i-preserved t c = record {
-  at = λ sets. omega (
-    arith,
-    c.count-start.ensures sets,
-    c.loop-i.invariant.at sets,
-    count_up_to (tree_of sets) c.in-Seq.parts.items.items c.loop-i.i
-        c.index-part.result.now c.loop-i-test.true (omega (arith, c.loop-i.auto.i, c.len-i.ensures, c.in-Seq.parts.items.ok.0)) c.index-part.ensures,
-  );
-  fits = λ sets. omega (
-    arith,
-    c.loop-i.invariant.fits sets,
-    count_up_to (tree_of sets) c.in-Seq.parts.items.items c.loop-i.i c.index-part.result.now c.loop-i-test.true
-        (omega (arith, c.loop-i.auto.i, c.len-i.ensures, c.in-Seq.parts.items.ok.0)) c.index-part.ensures,
-  );
+  at = λ sets. let next = count_up_to (tree_of sets) c.in-Seq.parts.items.items _ _ c.loop-i-test.true
+      (omega (arith, c.loop-i.auto.i, c.len-i.ensures, c.in-Seq.parts.items.ok.0)) c.index-part.ensures in
+      omega (arith, c.count-start.ensures sets, c.loop-i.invariant.at sets, next);
+  fits = λ sets. let next = count_up_to (tree_of sets) c.in-Seq.parts.items.items _ _ c.loop-i-test.true
+      (omega (arith, c.loop-i.auto.i, c.len-i.ensures, c.in-Seq.parts.items.ok.0)) c.index-part.ensures in
+      omega (arith, c.loop-i.invariant.fits sets, next);
   flags = λ sets position.
-      ends_on (tree_of sets) c.in-Seq.parts.items.items c.loop-i.i c.index-part.result.now c.loop-i-test.true
+      ends_on (tree_of sets) c.in-Seq.parts.items.items _ _ c.loop-i-test.true
       (omega (arith, c.loop-i.auto.i, c.len-i.ensures, c.in-Seq.parts.items.ok.0)) c.index-part.ensures
       c.args.first (c.loop-i.start - c.count-start.result) position (get_or c.loop-i.flags position false) (get_or c.add_lasts.new.flags position false)
-      (omega (
-        arith,
-        c.count-start.ensures sets,
-        c.loop-i.invariant.at sets,
-        count_up_to (tree_of sets) c.in-Seq.parts.items.items c.loop-i.i
-            c.index-part.result.now c.loop-i-test.true (omega (arith, c.loop-i.auto.i, c.len-i.ensures, c.in-Seq.parts.items.ok.0)) c.index-part.ensures,
-      ))
+      (let next = count_up_to (tree_of sets) c.in-Seq.parts.items.items _ _ c.loop-i-test.true
+      (omega (arith, c.loop-i.auto.i, c.len-i.ensures, c.in-Seq.parts.items.ok.0)) c.index-part.ensures in
+      omega (arith, c.count-start.ensures sets, c.loop-i.invariant.at sets, next))
       (sym (c.is_empty.ensures sets) ∙ c.if-not-is_empty.false) (c.add_lasts.ensures sets position) ∙ c.loop-i.invariant.flags sets position;
 }
 
@@ -117,44 +87,25 @@ add_lasts-requires-in-loop-part t c = (
   search (rules, the_lemmas),
   (
     omega (arith, c.requires.few),
-    λ sets. omega (
-      arith,
-      c.requires.within sets,
-      c.loop-part.invariant.fits sets,
-      count_choice (tree_of sets) c.deref-part-items.result.now c.loop-part.part-index c.part-item.result c.loop-part-test.true c.part-item.is,
-    ),
+    λ sets. omega (arith, c.requires.within sets, c.loop-part.invariant.fits sets, count_choice (tree_of sets) _ _ _ c.loop-part-test.true c.part-item.is),
   ),
 )
 
 pub count-start-requires-in-loop-part : goal.count-start-requires-in-loop-part
-count-start-requires-in-loop-part t c = λ sets. omega (
-  arith,
-  c.requires.within sets,
-  c.requires.few,
-  c.loop-part.invariant.fits sets,
-  count_choice (tree_of sets) c.deref-part-items.result.now c.loop-part.part-index c.part-item.result c.loop-part-test.true c.part-item.is,
-)
+count-start-requires-in-loop-part t c =
+    λ sets. omega (arith, c.requires.within sets, c.loop-part.invariant.fits sets, count_choice (tree_of sets) _ _ _ c.loop-part-test.true c.part-item.is)
 
 pub overflow_add-start-in-loop-part : goal.overflow_add-start-in-loop-part
-overflow_add-start-in-loop-part t c = omega (
-  arith,
-  c.requires.within [],
-  c.requires.few,
-  c.loop-part.invariant.fits [],
-  c.count-start-in-loop-part.ensures [],
-  count_choice (tree_of []) c.deref-part-items.result.now c.loop-part.part-index c.part-item.result c.loop-part-test.true c.part-item.is,
-)
+overflow_add-start-in-loop-part t c =
+    let next = count_choice (tree_of []) _ _ _ c.loop-part-test.true c.part-item.is in
+    omega (arith, c.requires.within [], c.requires.few, c.loop-part.invariant.fits [], c.count-start-in-loop-part.ensures [], next)
 
 pub loop-part-preserved : goal.loop-part-preserved
 loop-part-preserved t c = record {
-  fits = λ sets. omega (
-    arith,
-    c.loop-part.invariant.fits sets,
-    c.count-start-in-loop-part.ensures sets,
-    count_choice (tree_of sets) c.deref-part-items.result.now c.loop-part.part-index c.part-item.result c.loop-part-test.true c.part-item.is,
-  );
+  fits = λ sets. let next = count_choice (tree_of sets) _ _ _ c.loop-part-test.true c.part-item.is in
+      omega (arith, c.loop-part.invariant.fits sets, c.count-start-in-loop-part.ensures sets, next);
   flags = λ sets position.
-      choice_on (tree_of sets) c.deref-part-items.result.now c.loop-part.part-index c.part-item.result c.loop-part-test.true c.part-item.is
+      choice_on (tree_of sets) _ _ _ c.loop-part-test.true c.part-item.is
       (λ tree first. ends tree first position) (ends_of position) c.loop-part.start c.count-start-in-loop-part.result
       (get_or c.loop-part.flags position false) (get_or c.add_lasts-in-loop-part.new.flags position false) (c.count-start-in-loop-part.ensures sets)
       (c.add_lasts-in-loop-part.ensures sets position)
@@ -166,13 +117,7 @@ add_lasts-requires-in-Rep t c = (
   search (rules, the_lemmas),
   (
     omega (arith, c.requires.few),
-    λ sets. omega (
-      arith,
-      c.requires.within sets,
-      ap (λ tree. leaf_count (tree_of sets tree)) c.in-Rep.is,
-      of_repeat leaf_count (λ repetition tree. refl) sets c.in-Rep.field-0 c.in-Rep.part,
-      ap (λ tree. leaf_count (tree_of sets tree)) c.deref.ensures,
-    ),
+    λ sets. omega (arith, c.requires.within sets, same_leaves sets _ _ _ _ c.in-Rep.is c.deref.ensures),
   ),
 )
 
@@ -187,14 +132,14 @@ pub returns-after-loop-i : goal.returns-after-loop-i
 returns-after-loop-i t c = λ sets position.
     sym (ap (λ x. get_or c.loop-i.flags position false || x)
     (none_left (λ tree. ends tree c.args.first position) (tree_of sets) c.in-Seq.parts.items.items c.loop-i.i c.loop-i-test.false)
-    ∙ or_none (get_or c.loop-i.flags position false))
+    ∙ or-false (get_or c.loop-i.flags position false))
     ∙ c.loop-i.invariant.flags sets position
 
 pub returns-after-loop-part : goal.returns-after-loop-part
 returns-after-loop-part t c = λ sets position.
     sym (ap (λ x. get_or c.loop-part.flags position false || x)
     (choice_done (λ tree. ends tree c.loop-part.start position) (tree_of sets) c.deref-part-items.result.now c.loop-part.part-index c.loop-part-test.false)
-    ∙ or_none (get_or c.loop-part.flags position false))
+    ∙ or-false (get_or c.loop-part.flags position false))
     ∙ c.loop-part.invariant.flags sets position
 
 pub returns-in-Rep : goal.returns-in-Rep

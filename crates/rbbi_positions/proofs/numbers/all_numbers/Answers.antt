@@ -1,6 +1,6 @@
 use Rattle.std.proofs.Common.{◌++◌, sym, ap, ◌∙◌}
 use Rattle.rbbi_resolve.specs.RuleLists.{numbers_of_rule}
-use Rattle.rbbi_positions.proofs.RuleFacts.{flat_next}
+use Rattle.rbbi_cats.proofs.Nexts.{flat_next}
 use Rattle.rbbi_positions.proofs.numbers.all_numbers.Goals as goal
 
 pub loop-number-preserved : goal.loop-number-preserved

@@ -1,15 +1,13 @@
-use Rattle.std.proofs.Common.{◌≡◌, ℕ, ◌+◌, ◌*◌, ◌<◌, ◌≤◌, ◌||◌, Bool, false, [], length, drop, Result, Ok, Err, sym, ap, ◌∙◌, subst, arith}
+use Rattle.std.proofs.Common.{◌≡◌, ℕ, ◌+◌, ◌*◌, ◌<◌, ◌≤◌, ◌||◌, Bool, false, [], length, Result, Ok, Err, sym, ap, ◌∙◌, subst, arith}
+use Rattle.std.proofs.Math.Bool.{or_assoc}
 use Rattle.std.specs.Prelude.{OnOk}
-use Rattle.std.specs.Vec.{with_items}
-use Rattle.std.proofs.lemmas.List.{take_at}
 use Rattle.rbbi_model.specs.Rules.{leaf_count, leaves_of}
 use Rattle.rbbi_resolve.specs.RuleTrees.{tree_of}
 use Rattle.rbbi_resolve.specs.RuleLists.{rule_of}
 use Rattle.rbbi_positions.specs.Rows.{row_bit}
 use Rattle.rbbi_positions.specs.PositionMarks.{in_row}
 use Rattle.rbbi_positions.specs.Trees.{begins, goes}
-use Rattle.rbbi_positions.proofs.Parts.{or_assoc}
-use Rattle.rbbi_positions.proofs.RowWrites.{rows_within}
+use Rattle.rbbi_positions.proofs.RowWrites.{all_written, rows_within}
 use Rattle.rbbi_positions.proofs.RuleFacts.{leaves_some, of_none, of_some}
 use Rattle.rbbi_positions.proofs.rules.add_rule_followers.Goals as goal
 
@@ -51,9 +49,7 @@ add_firsts-requires-clause-within c =
 pub add_followers-requires-in-Some-2-clause-rows : goal.add_followers-requires-in-Some-2-clause-rows
 add_followers-requires-in-Some-2-clause-rows c =
     let copied = c.in_ok-row-in-Some.ensures.items_if_clones_equal (λ x y e. e) in
-    let written : (with_items c.in_ok-row-in-Some.row c.add_firsts.new.row).items ≡ c.add_firsts.new.row =
-    take_at c.add_firsts.new.row (drop (length c.add_firsts.new.row) c.in_ok-row-in-Some.row.items) c.in_ok-row-in-Some.row.len
-    (omega (arith, c.in_ok-row-in-Some.row.ok.0, c.deref_mut.ensures.len, c.add_firsts.auto.row)) in
+    let written = all_written c.in_ok-row-in-Some.row _ c.add_firsts.new.row c.deref_mut.ensures.value c.add_firsts.auto.row in
     let wide : length c.deref.result.now ≡ length c.args.none.now = ap length (c.deref.ensures.value ∙ written) ∙ c.add_firsts.auto.row
     ∙ ap length (c.deref_mut.ensures.value ∙ copied) in
     λ sets.
@@ -80,9 +76,7 @@ returns-in-None c =
 pub returns-in_ok-row-in-Some : goal.returns-in_ok-row-in-Some
 returns-in_ok-row-in-Some c =
     let copied = c.in_ok-row-in-Some.ensures.items_if_clones_equal (λ x y e. e) in
-    let written : (with_items c.in_ok-row-in-Some.row c.add_firsts.new.row).items ≡ c.add_firsts.new.row =
-    take_at c.add_firsts.new.row (drop (length c.add_firsts.new.row) c.in_ok-row-in-Some.row.items) c.in_ok-row-in-Some.row.len
-    (omega (arith, c.in_ok-row-in-Some.row.ok.0, c.deref_mut.ensures.len, c.add_firsts.auto.row)) in
+    let written = all_written c.in_ok-row-in-Some.row _ c.add_firsts.new.row c.deref_mut.ensures.value c.add_firsts.auto.row in
     let wide : length c.deref.result.now ≡ length c.args.none.now = ap length (c.deref.ensures.value ∙ written) ∙ c.add_firsts.auto.row
     ∙ ap length (c.deref_mut.ensures.value ∙ copied) in
     on_ok c.add_followers-in-Some-2.result

@@ -1,58 +1,33 @@
-use Rattle.std.proofs.Common.{◌≡◌, ◌||◌, [], length, drop, ap, ◌∙◌, arith}
-use Rattle.std.specs.Vec.{with_items}
-use Rattle.std.proofs.lemmas.List.{take_at}
+use Rattle.std.proofs.Common.{◌||◌, [], length, ap, ◌∙◌, arith}
 use Rattle.rbbi_resolve.specs.RuleTrees.{tree_of}
 use Rattle.rbbi_positions.specs.Rows.{row_bit}
 use Rattle.rbbi_positions.specs.Trees.{begins}
 use Rattle.rbbi_positions.specs.RuleTests.{rule_begins}
+use Rattle.rbbi_positions.proofs.RowWrites.{all_written}
 use Rattle.rbbi_positions.proofs.RuleFacts.{first_next, first_within, some_next}
 use Rattle.rbbi_positions.proofs.rules.firsts_of.Goals as goal
 
 pub add_firsts-requires-clause-within : goal.add_firsts-requires-clause-within
 add_firsts-requires-clause-within c =
-    λ sets. omega (
-      arith,
-      c.requires.wide,
-      c.loop-number.invariant.at,
-      c.loop-number.invariant.many,
-      ap length c.deref_mut.ensures.value,
-      first_within
-          c.args.rules.now c.loop-number.number c.get-rule.result.now c.get-rule.ensures sets,
-    )
+    λ sets. omega (arith, c.loop-number.invariant.many, ap length c.deref_mut.ensures.value, first_within c.args.rules.now _ _ c.get-rule.ensures sets)
 
 pub count_of_rule-start-requires : goal.count_of_rule-start-requires
 count_of_rule-start-requires c =
-    λ sets. omega (arith, first_within c.args.rules.now c.loop-number.number c.get-rule.result.now c.get-rule.ensures sets, c.requires.wide, c.requires.few)
+    λ sets. omega (arith, first_within c.args.rules.now _ _ c.get-rule.ensures sets, c.requires.wide, c.requires.few)
 
 pub overflow_add-start : goal.overflow_add-start
 overflow_add-start c =
-    omega (
-      arith,
-      c.loop-number.invariant.at,
-      c.count_of_rule-start.ensures [],
-      first_within c.args.rules.now c.loop-number.number c.get-rule.result.now
-          c.get-rule.ensures [],
-      c.requires.wide,
-      c.requires.few,
-    )
+    omega (arith, c.count_of_rule-start.ensures [], first_within c.args.rules.now _ _ c.get-rule.ensures [], c.requires.wide, c.requires.few)
 
 pub loop-number-preserved : goal.loop-number-preserved
 loop-number-preserved c =
-    let written : (with_items c.loop-number.row c.add_firsts.new.row).items ≡ c.add_firsts.new.row =
-    take_at c.add_firsts.new.row (drop (length c.add_firsts.new.row) c.loop-number.row.items) c.loop-number.row.len
-    (omega (arith, c.loop-number.row.ok.0, c.deref_mut.ensures.len, c.add_firsts.auto.row)) in
+    let written = all_written c.loop-number.row _ c.add_firsts.new.row c.deref_mut.ensures.value c.add_firsts.auto.row in
     record {
       many = ap length written ∙ c.add_firsts.auto.row ∙ ap length c.deref_mut.ensures.value ∙ c.loop-number.invariant.many;
-      at = omega (
-        arith,
-        c.loop-number.invariant.at,
-        c.count_of_rule-start.ensures [],
-        first_next c.args.rules.now c.loop-number.number c.get-rule.result.now
-            c.get-rule.ensures [],
-      );
+      at = omega (arith, c.loop-number.invariant.at, c.count_of_rule-start.ensures [], first_next c.args.rules.now _ _ c.get-rule.ensures []);
       bits = λ position.
           ap (λ row. row_bit row position) written
-          ∙ some_next c.args.rules.now c.loop-number.number c.get-rule.result.now c.get-rule.ensures (rule_begins position) c.loop-number.start
+          ∙ some_next c.args.rules.now _ _ c.get-rule.ensures (rule_begins position) c.loop-number.start
           (row_bit c.loop-number.row.items position) (row_bit c.add_firsts.new.row position) c.loop-number.invariant.at
           (c.loop-number.invariant.bits position)
           (c.add_firsts.ensures c.args.rules.now.sets position

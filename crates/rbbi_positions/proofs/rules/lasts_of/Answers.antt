@@ -1,56 +1,31 @@
-use Rattle.std.proofs.Common.{◌≡◌, ◌||◌, false, [], length, drop, get_or, ap, ◌∙◌, arith}
-use Rattle.std.specs.Vec.{with_items}
-use Rattle.std.proofs.lemmas.List.{take_at}
+use Rattle.std.proofs.Common.{◌||◌, false, [], length, get_or, ap, ◌∙◌, arith}
 use Rattle.rbbi_resolve.specs.RuleLists.{rule_of}
 use Rattle.rbbi_positions.specs.RuleParts.{part_ends}
+use Rattle.rbbi_positions.proofs.RowWrites.{all_written}
 use Rattle.rbbi_positions.proofs.RuleFacts.{first_next, first_within, some_next}
 use Rattle.rbbi_positions.proofs.rules.lasts_of.Goals as goal
 
 pub add_part_lasts-requires-clause-within : goal.add_part_lasts-requires-clause-within
 add_part_lasts-requires-clause-within c =
-    λ sets. omega (
-      arith,
-      c.requires.all,
-      c.loop-number.invariant.at,
-      c.loop-number.invariant.many,
-      ap length c.deref_mut.ensures.value,
-      first_within
-          c.args.rules.now c.loop-number.number c.get-rule.result.now c.get-rule.ensures sets,
-    )
+    λ sets. omega (arith, c.loop-number.invariant.many, ap length c.deref_mut.ensures.value, first_within c.args.rules.now _ _ c.get-rule.ensures sets)
 
 pub count_of_rule-start-requires : goal.count_of_rule-start-requires
 count_of_rule-start-requires c =
-    λ sets. omega (arith, first_within c.args.rules.now c.loop-number.number c.get-rule.result.now c.get-rule.ensures sets, c.requires.all, c.requires.few)
+    λ sets. omega (arith, first_within c.args.rules.now _ _ c.get-rule.ensures sets, c.requires.all, c.requires.few)
 
 pub overflow_add-start : goal.overflow_add-start
 overflow_add-start c =
-    omega (
-      arith,
-      c.loop-number.invariant.at,
-      c.count_of_rule-start.ensures [],
-      first_within c.args.rules.now c.loop-number.number c.get-rule.result.now
-          c.get-rule.ensures [],
-      c.requires.all,
-      c.requires.few,
-    )
+    omega (arith, c.count_of_rule-start.ensures [], first_within c.args.rules.now _ _ c.get-rule.ensures [], c.requires.all, c.requires.few)
 
 pub loop-number-preserved : goal.loop-number-preserved
 loop-number-preserved c =
-    let written : (with_items c.loop-number.flags c.add_part_lasts.new.flags).items ≡ c.add_part_lasts.new.flags =
-    take_at c.add_part_lasts.new.flags (drop (length c.add_part_lasts.new.flags) c.loop-number.flags.items) c.loop-number.flags.len
-    (omega (arith, c.loop-number.flags.ok.0, c.deref_mut.ensures.len, c.add_part_lasts.auto.flags)) in
+    let written = all_written c.loop-number.flags _ c.add_part_lasts.new.flags c.deref_mut.ensures.value c.add_part_lasts.auto.flags in
     record {
       many = ap length written ∙ c.add_part_lasts.auto.flags ∙ ap length c.deref_mut.ensures.value ∙ c.loop-number.invariant.many;
-      at = omega (
-        arith,
-        c.loop-number.invariant.at,
-        c.count_of_rule-start.ensures [],
-        first_next c.args.rules.now c.loop-number.number c.get-rule.result.now
-            c.get-rule.ensures [],
-      );
+      at = omega (arith, c.loop-number.invariant.at, c.count_of_rule-start.ensures [], first_next c.args.rules.now _ _ c.get-rule.ensures []);
       flags = λ position.
           ap (λ flags. get_or flags position false) written
-          ∙ some_next c.args.rules.now c.loop-number.number c.get-rule.result.now c.get-rule.ensures (part_ends c.args.part position) c.loop-number.start
+          ∙ some_next c.args.rules.now _ _ c.get-rule.ensures (part_ends c.args.part position) c.loop-number.start
           (get_or c.loop-number.flags.items position false) (get_or c.add_part_lasts.new.flags position false) c.loop-number.invariant.at
           (c.loop-number.invariant.flags position)
           (c.add_part_lasts.ensures c.args.rules.now.sets position
