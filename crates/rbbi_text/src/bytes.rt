@@ -1,5 +1,6 @@
 //! The text that the bytes of a file spell.
 ghost use Rattle.std.specs.Prelude.{◌≡◌, ◌≤◌, length, IsUtf8, MatchResult};
+ghost use Rattle.std.specs.Str.{chars};
 ghost use Rattle.rbbi_text.specs.Bytes.{most_bytes, IsNotUtf8At, without_mark};
 
 /// The most bytes that are read at once: more than any file that is taken has. So each place, byte
@@ -28,4 +29,12 @@ pub fn without_mark(text: &str) -> &str
     ensures no_longer { length result.now ≤ length text.now }
 {
     text.strip_prefix('\u{FEFF}').unwrap_or(text)
+}
+
+/// The number of characters of a text.
+pub fn count_characters(text: &str) -> u32
+    requires { length text.now ≤ most_bytes }
+    ensures { result ≡ length (chars text.now) }
+{
+    text.chars().count() as u32
 }

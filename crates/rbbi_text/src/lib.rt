@@ -18,7 +18,7 @@ mod steps;
 mod tests;
 mod word;
 
-pub use bytes::{MOST_BYTES, utf8_text, without_mark};
+pub use bytes::{MOST_BYTES, count_characters, utf8_text, without_mark};
 pub use chars::{Chars, EditText};
 pub use error::{EditErr, RawErr, TextErr};
 pub use numbers::{decimal, hexadecimal, number_of_characters};
