@@ -1,4 +1,4 @@
-use Rattle.rbbi_tool.proofs.tests.run_into.Given as goal
+use Rattle.rbbi.proofs.tests.run_into.Given as goal
 
 -- a ledger of its own
 abbrev pub ghosts-status_of : goal.ghosts-status_of

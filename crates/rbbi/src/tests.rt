@@ -8,18 +8,24 @@ mod conform;
 mod demo;
 mod faults;
 mod forms;
+mod limits;
 mod run;
 
-use crate::rbbi;
 use rbbi_io::{MemFiles, MemSink};
 use rbbi_text::Steps;
+use rbbi_tool::rbbi;
 use std::alloc::AllocError;
 use std::marker::Brand;
 use std::sync::ledger::{Blank, Ledger};
+use std::test::Fail;
 
 /// A run: its words, with spaces between them, the files that there are, and the exit status and
 /// the output that it must have.
 type Row<'a> = (&'a str, &'a [(&'a str, &'a [u8])], u8, &'a str);
+
+/// Runs of the same words over files of these names: what the files hold, the exit status and the
+/// output.
+type Table<'a> = (&'a str, &'a [&'a str], &'a [(&'a [&'a [u8]], u8, &'a str)]);
 
 /// These words, without the spaces between them.
 fn split(rt: &HostRuntime, words: &str) -> Result<Vec<String>, AllocError> {
@@ -77,15 +83,66 @@ fn run_words(
     Ok((status, out))
 }
 
-/// The number of the first row, from 0, that hasn't the exit status or the output that it must
-/// have.
-fn first_wrong(rt: &HostRuntime, rows: &[Row]) -> Result<Option<usize>, AllocError> {
-    for (i, (words, held, status, output)) in rows.iter().enumerate() {
-        let mut files = files_of(rt, held)?;
-        let (answered, out) = run_words(rt, words, &mut files)?;
-        if answered != *status || out.taken() != output.as_bytes() {
+/// Whether a run has the exit status and the output that it must have.
+fn is_right(
+    rt: &HostRuntime,
+    words: &str,
+    files: &mut MemFiles,
+    status: u8,
+    output: &str,
+) -> Result<bool, AllocError> {
+    let (answered, out) = run_words(rt, words, files)?;
+    Ok(answered == status && out.taken() == output.as_bytes())
+}
+
+/// The number of the first row of a table, from 0, that isn't right.
+fn first_wrong(rt: &HostRuntime, table: Table) -> Result<Option<usize>, AllocError> {
+    let (words, names, rows) = table;
+    for (i, (contents, status, output)) in rows.iter().enumerate() {
+        let mut files = MemFiles::new(rt.alloc());
+        for (name, bytes) in names.iter().zip(*contents) {
+            files.add(name, bytes)?;
+        }
+        if !is_right(rt, words, &mut files, *status, output)? {
             return Ok(Some(i));
         }
     }
     Ok(None)
+}
+
+const TABLES: &[Table] = &[
+    breaks::BOUNDARIES,
+    breaks::BY_PROPERTIES,
+    check::COUNTS,
+    check::WITHOUT_DICTIONARY,
+    check::FAULTS,
+    compile::TABLES,
+    conform::VERDICTS,
+    conform::BY_TABLE,
+    forms::PROPERTY_FILES,
+    run::REPLIES,
+    run::BY_TABLE,
+];
+
+#[test]
+fn tables(rt: HostRuntime) -> Result<(), Fail> {
+    for table in TABLES {
+        let (words, _, _) = *table;
+        assert_eq!(rt; first_wrong(&rt, *table)?, None, "of {words}");
+    }
+    Ok(())
+}
+
+#[test]
+fn rows(rt: HostRuntime) -> Result<(), Fail> {
+    for rows in [demo::SUMMARIES, forms::OPTIONS] {
+        for (words, held, status, output) in rows {
+            let mut files = files_of(&rt, held)?;
+            assert!(rt;
+                is_right(&rt, words, &mut files, *status, output)?,
+                "of {words}"
+            );
+        }
+    }
+    Ok(())
 }
