@@ -3,25 +3,16 @@
 
 ghost use Rattle.std.specs.Prelude.{◌≡◌, ◌<◌};
 
-use rbbi_io::{RealFiles, RealSink};
+#[cfg(test)]
+mod tests;
+
+use rbbi_io::{RealFiles, RealSink, words};
 use rbbi_text::Steps;
 use rbbi_tool::rbbi;
-use std::alloc::Global;
-use std::io::ErrorKind;
+use std::io::{self, ErrorKind};
 use std::marker::Brand;
 use std::process::ExitCode;
-use std::rt::Env;
 use std::sync::ledger::{Blank, Ledger};
-use std::{env, io};
-
-/// The words after the program's name.
-fn words<R: Env + AllocGlobal>(rt: &R) -> io::Result<Vec<String>> {
-    let mut words = Vec::new(rt.alloc());
-    for word in env::args(rt)?.skip(1) {
-        words.push(word)?;
-    }
-    Ok(words)
-}
 
 /// Runs the top call with a counter of its own. It counts nothing at run time.
 fn run<L: Ledger>(rt: &HostRuntime, words: &Vec<String>, blank: Blank) -> u8

@@ -11,25 +11,15 @@ mod parts;
 mod rules;
 
 use parts::{measure_categories, measure_places, measure_positions, measure_scan};
-use rbbi_io::{Files, RealFiles};
+use rbbi_io::{Files, RealFiles, words};
 use rbbi_text::{Raw, Steps};
 use std::alloc::Global;
+use std::io;
 use std::marker::Brand;
-use std::rt::Env;
 use std::sync::ledger::{Blank, Ledger};
-use std::{env, io};
 
 /// The most bytes of a file that is measured.
 const MOST_BYTES: u64 = 100_663_296;
-
-/// The words after the program's name.
-fn words<R: Env + AllocGlobal>(rt: &R) -> io::Result<Vec<String>> {
-    let mut words = Vec::new(rt.alloc());
-    for word in env::args(rt)?.skip(1) {
-        words.push(word)?;
-    }
-    Ok(words)
-}
 
 /// All bytes of a file, or nothing where it can't be read.
 fn read<R: std::rt::Files>(alloc: Global, files: &mut RealFiles<'_, R>, name: &str) -> Option<Raw>

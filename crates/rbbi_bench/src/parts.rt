@@ -3,7 +3,7 @@
 ghost use Rattle.std.specs.Prelude.{◌≡◌, ◌<◌, ◌≤◌, length, IfSome};
 ghost use Rattle.rbbi_text.specs.Bytes.{most_bytes};
 
-use crate::rules::{rules_of, table_of};
+use crate::rules::{categories_of, rules_of, table_of};
 use rbbi_cats::partition;
 use rbbi_positions::positions;
 use rbbi_table::{Marks, Table};
@@ -30,10 +30,7 @@ pub(crate) fn measure_categories(alloc: Global, bytes: &[u8], rounds: u32) -> Op
 pub(crate) fn measure_positions(alloc: Global, bytes: &[u8], rounds: u32) -> Option<u64>
     requires { length bytes.now ≤ most_bytes }
 {
-    let rules = rules_of(alloc, bytes)?;
-    let Ok(cats) = partition(alloc, &rules) else {
-        return None;
-    };
+    let (rules, cats) = categories_of(alloc, bytes)?;
     let mut count = 0;
     for _ in 0..rounds {
         let Ok(marks) = positions(alloc, &rules, &cats) else {

@@ -14,7 +14,7 @@ use std::test::Fail;
 fn categories_in(alloc: Global, text: &str) -> Result<Result<Categories, CatsErr>, Fail>
     requires { length text.now < 1000 }
 {
-    let end = count_characters(text) as u32;
+    let end = count_characters(text);
     let tokens = lex(alloc, text)?;
     let statements = parse(alloc, &tokens, end)?;
     let rules = resolve(alloc, &statements, end, &PropTable::new(alloc), false)?;

@@ -1,8 +1,10 @@
-//! Files and sinks: where bytes come from and go to, with counts of the faults that they had.
+//! Files and sinks: where bytes come from and go to, with counts of the faults that they had; and the
+//! words of the command line.
 //!
 //! A refusal for a fault is tied to a count, so that no code above can invent one.
 #![tactic(auto)]
 
+mod command_line;
 mod error;
 mod files;
 mod mem_files;
@@ -13,6 +15,7 @@ mod sink;
 #[cfg(test)]
 mod tests;
 
+pub use command_line::words;
 pub use error::{ReadErr, WriteErr};
 pub use files::Files;
 pub use mem_files::{CallKind, MemFiles};

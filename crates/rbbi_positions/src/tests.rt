@@ -16,7 +16,7 @@ fn positions_in(alloc: Global, text: &str) -> Result<(Positions, u16), Fail>
     requires { length text.now < 1000 }
     ensures { IfOk result (λ found. found.0.categories ≡ found.1) }
 {
-    let end = count_characters(text) as u32;
+    let end = count_characters(text);
     let tokens = lex(alloc, text)?;
     let statements = parse(alloc, &tokens, end)?;
     let rules = resolve(alloc, &statements, end, &PropTable::new(alloc), false)?;

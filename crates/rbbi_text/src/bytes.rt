@@ -31,10 +31,10 @@ pub fn without_mark(text: &str) -> &str
     text.strip_prefix('\u{FEFF}').unwrap_or(text)
 }
 
-/// The number of characters of a string, at most that of its bytes.
-pub fn count_characters(text: &str) -> usize
-    ensures exact { result ≡ length (chars text.now) }
-    ensures short { result ≤ length text.now }
+/// The number of characters of a text.
+pub fn count_characters(text: &str) -> u32
+    requires { length text.now ≤ most_bytes }
+    ensures { result ≡ length (chars text.now) }
 {
-    text.chars().count()
+    text.chars().count() as u32
 }

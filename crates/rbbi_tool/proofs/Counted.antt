@@ -1,27 +1,27 @@
 -- The bytes that count of the files that a request names, and what a command reads of them.
 use Rattle.std.proofs.Common.{◌≡◌, ℕ, ◌+◌, ◌<◌, ◌≤◌, Bool, true, false, List, [], ◌∷◌, ◌++◌, length, map, take, drop, get_or, refl, sym, ap, ◌∙◌}
 use Rattle.std.proofs.Common.{subst, inl, inr, ⊎_elim, arith}
-use Rattle.std.specs.Prelude.{◌⊎◌, sum_by, Option, Some, None, IfSome, Result, Ok, Err}
+use Rattle.std.specs.Prelude.{◌⊎◌, sum_by, Option, IfSome}
 use Rattle.std.proofs.lemmas.List.Sums.{sum_by-append, sum_by-cons, sum_by_more, sum_by-take-le}
 use Rattle.rbbi_model.specs.Tables.{Table}
-use Rattle.rbbi_model.specs.Compiled.{IsCompiled}
+use Rattle.rbbi_model.specs.Scripts as model
+use Rattle.rbbi_model.specs.Costs.{script_cost, breaks_cost}
 use Rattle.rbbi_script.specs.Reading.{RisesUpTo}
 use Rattle.rbbi_tool.specs.declared.words.command.Command.{Command}
 use Rattle.rbbi_tool.specs.declared.words.command.Command.TheVariants.{Check, Compile, Breaks, Run, Conform, Demo}
 use Rattle.rbbi_tool.specs.declared.words.setting.Property.{Property}
-use Rattle.rbbi_tool.specs.declared.refusal.Refusal.{Refusal}
 use Rattle.rbbi_tool.specs.declared.files.Source.{Source}
-use Rattle.rbbi_tool.specs.Stages.{Meets, Serves}
+use Rattle.rbbi_tool.specs.Stages.{Stage}
 use Rattle.rbbi_tool.specs.Words.{Request, Asks, operands_of}
 use Rattle.rbbi_tool.specs.Files.{property_source, operand_sources, sources_of}
-use Rattle.rbbi_tool.specs.Reads.{bytes_of, AreRead}
+use Rattle.rbbi_tool.specs.Reads.{bytes_of, AreRead, MakesSomeReads}
 use Rattle.rbbi_tool.specs.Texts.{text_stage}
 use Rattle.rbbi_tool.specs.Scripts.{script_stage}
-use Rattle.rbbi_tool.specs.Basis.{ByRules, ByTable, compiled_stage, table_stage, basis_stage}
+use Rattle.rbbi_tool.specs.Basis.{Basis, IsTableOf, basis_stage}
 use Rattle.rbbi_tool.specs.Program.{nth}
-use Rattle.rbbi_tool.specs.Steps.{counted, named_bytes, IsTableOf, ReadsForBreaks, ReadsForScript, CommandReads, given_bytes, FilesReads, RequestReads}
+use Rattle.rbbi_tool.specs.Steps.{counted, named_bytes, ReadsForBreaks, ReadsForScript, CommandReads, given_bytes, FilesReads, RequestReads, ReadsInOrder}
 use Rattle.rbbi_tool.proofs.Forms.{same_request}
-use Rattle.rbbi_tool.proofs.Reading.{all_told}
+use Rattle.rbbi_tool.proofs.Reading.{all_told, always_told}
 
 -- the bytes of one more property file
 pub handed_more : (handed : List (List ℕ)) (i begun steps steps' : ℕ) (bytes : List ℕ) → i < length handed → bytes ≡ get_or handed i bytes →
@@ -39,35 +39,41 @@ pub rises_further : (most more begun steps : ℕ) → RisesUpTo most begun steps
 rises_further most more begun steps paid less = record { more = paid.more; cost = omega (arith, paid.cost, less) }
 
 -- and then some more
+pub rises_by : (first second begun steps steps' : ℕ) → RisesUpTo first begun steps → steps' ≡ steps + second → RisesUpTo (first + second) begun steps'
+rises_by first second begun steps steps' paid read = record { more = omega (arith, paid.more, read); cost = omega (arith, paid.cost, read) }
+
 pub rises_twice : (first second begun steps steps' : ℕ) → RisesUpTo first begun steps → RisesUpTo second steps steps' →
     RisesUpTo (first + second) begun steps'
 rises_twice first second begun steps steps' paid paid' =
     record { more = omega (arith, paid.more, paid'.more); cost = omega (arith, paid.cost, paid'.cost) }
 
-module _ (properties : List Property) (ignored : Bool) (handed : List (List ℕ)) (bytes : List ℕ) where
-  -- the table is compiled from the rules of a rule file
-  pub rules_table : (by_table : Bool) (result : Result Table Refusal) → by_table ≡ false
-      → Serves IsCompiled (compiled_stage properties ignored handed bytes) result
-      → Serves IsTableOf (basis_stage properties ignored by_table handed bytes) result
-  rules_table by_table result is served =
-      subst (λ b. Serves IsTableOf (basis_stage properties ignored b handed bytes) result) (sym is) (serve result served)
-    where
-      serve : (result : Result Table Refusal) → Serves IsCompiled (compiled_stage properties ignored handed bytes) result
-          → Serves IsTableOf (basis_stage properties ignored false handed bytes) result
-      serve (Ok table) (rules, mean, compiled) = (ByRules rules, (rules, mean, refl), compiled)
-      serve (Err r) refused = ⊎_elim inl (λ is. inr (inl is)) refused
+module _ (basis : Stage Basis) (text : Stage (List ℕ)) (bytes before between after : ℕ) (by : Basis) (table : Table) (x : List ℕ)
+    (passes : basis.passes by) (table_is : IsTableOf table by) (text_is : text.passes x) (paid : RisesUpTo bytes before between) where
+  -- what is read for all boundaries, and for the replies to a script
+  pub listing_reads : RisesUpTo (breaks_cost table x 0) between after → RisesUpTo bytes before after ⊎ ReadsForBreaks basis text bytes before after
+  listing_reads cost = inr (record {
+    by = by;
+    table = table;
+    x = x;
+    passes = passes;
+    table_is = table_is;
+    text_is = text_is;
+    reads = rises_twice bytes (breaks_cost table x 0) before between after paid cost;
+  })
 
-  -- the table is the one that is read
-  pub read_table : (by_table : Bool) (read : List ℕ) (result : Result Table Refusal) → by_table ≡ true → read ≡ bytes
-      → Meets (λ table. table) (table_stage read) result → Serves IsTableOf (basis_stage properties ignored by_table handed bytes) result
-  read_table by_table read result is same met =
-      subst (λ b. Serves IsTableOf (basis_stage properties ignored b handed bytes) result) (sym is)
-      (serve result (subst (λ b. Meets (λ table. table) (table_stage b) result) same met))
-    where
-      serve : (result : Result Table Refusal) → Meets (λ table. table) (table_stage bytes) result
-          → Serves IsTableOf (basis_stage properties ignored true handed bytes) result
-      serve (Ok table) met = (ByTable table, (table, met, refl), refl)
-      serve (Err r) refused = ⊎_elim inl (λ is. inr (inl is)) refused
+  pub replies_read : (script : Stage (List model.Command)) (commands : List model.Command) → script.passes commands
+      → RisesUpTo (script_cost table x commands) between after → RisesUpTo bytes before after ⊎ ReadsForScript basis text script bytes before after
+  replies_read script commands script_is cost = inr (record {
+    by = by;
+    table = table;
+    x = x;
+    commands = commands;
+    passes = passes;
+    table_is = table_is;
+    text_is = text_is;
+    script_is = script_is;
+    reads = rises_twice bytes (script_cost table x commands) before between after paid cost;
+  })
 
 module _ (request : Request) (all handed back : List (List ℕ)) (source : List ℕ) (before after : ℕ)
     (handed_is : handed ≡ take (length request.properties) all) (back_is : back ≡ drop (length request.properties) all)
@@ -133,14 +139,9 @@ command_reads_none Run request handed files bytes steps = inl (record { more = o
 command_reads_none Conform request handed files bytes steps = tt
 command_reads_none Demo request handed files bytes steps = tt
 
--- a fact of what the files hold
-always : {H : Type 0} (o : Option H) (P : H → Type 0) → ((h : H) → P h) → IfSome o P
-always None P all = tt
-always (Some h) P all = all h
-
 pub reads_none : (contents : Option (List ℕ → List ℕ)) (request : Request) (steps : ℕ) → IfSome contents (λ held. RequestReads request held steps steps)
 reads_none contents request steps =
-    always contents (λ held. RequestReads request held steps steps)
+    always_told contents (λ held. RequestReads request held steps steps)
     (λ held.
     let all = bytes_of held (sources_of request) in
     command_reads_none request.command request (take (length request.properties) all) (drop (length request.properties) all) (named_bytes held request) steps)
@@ -246,6 +247,17 @@ module _ (held : List ℕ → List ℕ) where
 
     files_reads : (before after : ℕ) → FilesReads request (bytes_of held (sources_of request)) before after → RequestReads request held before after
     files_reads before after reads = named_reads request.command before after refl reads
+
+-- no file is read
+pub reads_nothing : (words : List (List ℕ)) (contents : Option (List ℕ → List ℕ)) (reads : List ℕ → ℕ) (steps : ℕ)
+    → ReadsInOrder words contents reads reads steps steps
+reads_nothing words contents reads steps = record {
+  unread = λ none name. refl;
+  order = λ request asks.
+      always_told contents (MakesSomeReads (sources_of request) reads reads)
+      (λ held. (0, record { few = omega arith; within = λ k source less. absurd (omega arith); others = λ name differs. refl }));
+  steps = λ request asks. reads_none contents request steps;
+}
 
 -- what is read of the files that were read in order
 pub reads_told : (words : List (List ℕ)) (contents : Option (List ℕ → List ℕ)) (here request : Request) → Asks words request → Asks words here →

@@ -9,28 +9,6 @@ use Rattle.rbbi_model.specs.Tables.{Table, accept_of, empty_head, list_of, compl
 use Rattle.rbbi_model.specs.ValidTables.{IsValidTable}
 use Rattle.rbbi_model.specs.Searches.{row_at, search_end, cut_place, longest_place, found_longest, found, next_boundary, follow_by, table_boundaries}
 
-module _ (table : Table) (valid : IsValidTable table) where
-  list_within : (row : ℕ) → list_of table row < length table.lists
-  list_within row =
-      ⊎_elim
-      (λ is. (valid.rows.each row is).list)
-      (λ past. omega (arith, valid.lists.some, ap (λ head. head.list) (get_or_past table.rows row empty_head past)))
-      (cases_lt row (length table.rows))
-
-  longest_within : (x : List ℕ) (s : ℕ) (place : Option ℕ) → (found_longest table x s place).list < length table.lists
-  longest_within x s None = omega (arith, valid.lists.some)
-  longest_within x s (Some q) = list_within (row_at table x s q)
-
-  -- what a search finds has one of the status lists
-  pub found_within : (x : List ℕ) (s : ℕ) → (found table x s).list < length table.lists
-  found_within x s =
-      let z : ℕ = search_end table x s in
-      let last : ℕ = row_at table x s z in
-      cond_both (completes table last) (record { at = cut_place table x s z (accept_of table last - 2); list = list_of table last })
-      (found_longest table x s (longest_place table x s z)) (λ f. f.list < length table.lists)
-      (λ _. list_within last)
-      (λ _. longest_within x s (longest_place table x s z))
-
 -- the boundaries that follow one at this place, at most so many
 abbrev pub following : Table → List ℕ → ℕ → ℕ → List Boundary
 following table x most at = follow_by (next_boundary table x) (length x) most (record { at = at; statuses = [] })

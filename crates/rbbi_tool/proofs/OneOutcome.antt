@@ -48,7 +48,7 @@ use Rattle.rbbi_tool.specs.declared.refusal.Subject.TheVariants as subject
 use Rattle.rbbi_tool.specs.declared.refusal.Place.TheVariants.{Whole, Byte, Row}
 use Rattle.rbbi_tool.specs.declared.refusal.Refusal.{Refusal}
 use Rattle.rbbi_tool.specs.declared.refusal.Refusal.TheVariants.{Fault}
-use Rattle.rbbi_tool.specs.Stages.{followed_by, gives, IsDetermined}
+use Rattle.rbbi_tool.specs.Stages.{Stage, followed_by, gives, IsDetermined}
 use Rattle.rbbi_tool.specs.Refusals.{Outcome, refused, printed}
 use Rattle.rbbi_tool.specs.Words.{Request}
 use Rattle.rbbi_tool.specs.Files.{length_stage, lengths_stage, sources_of}
@@ -271,7 +271,12 @@ module _ (laws : Laws) where
     apart = λ rules r means is. meaning_excludes files ignored statements rules (length x) is.error is.place means is.holds is.placed;
   }
 
-  -- what a rule file comes to is determined
+  -- what the text of rules comes to is determined, and what a rule file comes to
+  text_determined : (files : List rows.File) (ignored : Bool) (x : List ℕ) → IsDetermined (List Rule) (rules_of_text_stage files ignored x)
+  text_determined files ignored x =
+      determined_both (tokens_stage x) (λ ts. followed_by (statements_stage x ts) (meaning_stage files ignored x)) (tokens_determined x)
+      (λ ts. determined_both (statements_stage x ts) (meaning_stage files ignored x) (statements_determined x ts) (meaning_determined files ignored x))
+
   rules_determined : (properties : List Property) (ignored : Bool) (handed : List (List ℕ)) (bytes : List ℕ)
       → IsDetermined (List Rule) (rules_stage properties ignored handed bytes)
   rules_determined properties ignored handed bytes =
@@ -280,24 +285,19 @@ module _ (laws : Laws) where
       (λ _.
       determined_both (rule_text_stage bytes) (rules_of_text_stage files ignored)
       (record { value = λ x y is is'. is.1 ∙ sym is'.1; refusal = not_utf8_once subject.Rules bytes; apart = λ x r is (at, wrong, told). wrong.not_utf8 is.0 })
-      (λ x.
-      determined_both (tokens_stage x) (λ ts. followed_by (statements_stage x ts) (meaning_stage files ignored x)) (tokens_determined x)
-      (λ ts. determined_both (statements_stage x ts) (meaning_stage files ignored x) (statements_determined x ts) (meaning_determined files ignored x))))
+      (text_determined files ignored))
+
+  -- what the table of rules comes to is determined
+  table_of_determined : (stage : Stage (List Rule)) → IsDetermined (List Rule) stage
+      → IsDetermined (List Rule) (followed_by stage (λ rules. followed_by (limits_stage rules) (λ _. gives rules)))
+  table_of_determined stage is =
+      determined_both stage (λ rules. followed_by (limits_stage rules) (λ _. gives rules)) is
+      (λ rules. determined_both (limits_stage rules) (λ _. gives rules) (limits_determined rules) (λ _. gives_determined rules))
 
   compiled_determined : (properties : List Property) (ignored : Bool) (handed : List (List ℕ)) (bytes : List ℕ)
       → IsDetermined (List Rule) (compiled_stage properties ignored handed bytes)
   compiled_determined properties ignored handed bytes =
-      determined_both (rules_stage properties ignored handed bytes) (λ rules. followed_by (limits_stage rules) (λ _. gives rules))
-      (rules_determined properties ignored handed bytes)
-      (λ rules. determined_both (limits_stage rules) (λ _. gives rules) (limits_determined rules) (λ _. gives_determined rules))
-
-  -- what the text of built-in rules comes to is determined
-  compiled_text_determined : (x : List ℕ) → IsDetermined (List Rule) (compiled_text_stage x)
-  compiled_text_determined x =
-      determined_both (rules_of_text_stage [] false x) (λ rules. followed_by (limits_stage rules) (λ _. gives rules))
-      (determined_both (tokens_stage x) (λ ts. followed_by (statements_stage x ts) (meaning_stage [] false x)) (tokens_determined x)
-      (λ ts. determined_both (statements_stage x ts) (meaning_stage [] false x) (statements_determined x ts) (meaning_determined [] false x)))
-      (λ rules. determined_both (limits_stage rules) (λ _. gives rules) (limits_determined rules) (λ _. gives_determined rules))
+      table_of_determined (rules_stage properties ignored handed bytes) (rules_determined properties ignored handed bytes)
 
   -- what a table file comes to is determined
   err_same : (e f : FileErr) → (let this : Result Table FileErr = Err e in this) ≡ Err f → e ≡ f
@@ -399,8 +399,8 @@ module _ (laws : Laws) where
       let word : List ℕ = nth request.operands 0 in
       settled AreAlike (command_stage Demo request handed files) alike
       (determined_both (number_stage word) (λ count. followed_by (compiled_text_stage (chars demo_rules)) (summary_stage count)) (number_determined word)
-      (λ count. determined_both (compiled_text_stage (chars demo_rules)) (summary_stage count) (compiled_text_determined (chars demo_rules))
-      (summary_determined count)))
+      (λ count. determined_both (compiled_text_stage (chars demo_rules)) (summary_stage count)
+      (table_of_determined (rules_of_text_stage [] false (chars demo_rules)) (text_determined [] false (chars demo_rules))) (summary_determined count)))
   command_settled Check request handed files =
       settled AreAlike (command_stage Check request handed files) alike
       (determined_both (rules_stage request.properties request.ignored handed (nth files 0)) (λ rules. gives (printed (counts_line rules)))

@@ -67,6 +67,10 @@ pub all_told : {H : Type 0} (o : Option H) (P R : H → Type 0) → IfSome o P �
 all_told None P R p all = tt
 all_told (Some h) P R p all = all h p
 
+pub always_told : {H : Type 0} (o : Option H) (P : H → Type 0) → ((h : H) → P h) → IfSome o P
+always_told None P all = tt
+always_told (Some h) P all = all h
+
 module _ {sources : List Source} {contents contents' : Option (List ℕ → List ℕ)} {before now writes writes' : List ℕ → ℕ} {i : ℕ} {bytes : List (List ℕ)}
     (so_far : ReadsSoFar sources contents contents' before now writes writes' i bytes) (source : Source) (inside : i < length sources)
     (is : source ≡ get_or sources i source) where

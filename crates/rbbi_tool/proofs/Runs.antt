@@ -23,14 +23,9 @@ use Rattle.rbbi_tool.specs.Causes.{NamesToWrite, IsWrittenBy, ComesTo, Tells, Is
 use Rattle.rbbi_tool.specs.Causes.{TakesOutcome, TakesFailedRead}
 use Rattle.rbbi_tool.specs.Causes.{EachHolds, SomeWriteFailed, OthersUnwritten}
 use Rattle.rbbi_tool.proofs.Forms.{same_request}
-use Rattle.rbbi_tool.proofs.Reading.{all_told}
+use Rattle.rbbi_tool.proofs.Reading.{all_told, always_told}
 use Rattle.rbbi_tool.proofs.Faults.{IsFault, command_fault}
 use Rattle.rbbi_tool.proofs.Commands.{command_told}
-
--- a fact of what the files hold
-always_told : {H : Type 0} (o : Option H) (P : H → Type 0) → ((h : H) → P h) → IfSome o P
-always_told None P all = tt
-always_told (Some h) P all = all h
 
 module _ (words : List (List ℕ)) (contents : Option (List ℕ → List ℕ)) (before now : List ℕ → ℕ) (request : Request) (asks : Asks words request) where
   -- reading the files ends the run
@@ -297,10 +292,6 @@ module _ (words : List (List ℕ)) (contents contents' : Option (List ℕ → Li
       all_told contents (λ _. OthersUncounted outcome.file writes writes') (λ _. OthersUnwritten words writes writes') stay
       (λ held others. others_of outcome.file writes writes' answer.file others)
 
-  -- after a status from 2 on no file was written
-  pub unwritten : 2 ≤ outcome.status → (outcome.file ≡ None → contents' ≡ contents) → contents' ≡ contents
-  unwritten two same = same (answer.no_file two)
-
 -- What writing and putting an outcome leaves: before are the files, counts and sink of the run's start.
 pub record IsDelivered (words : List (List ℕ)) (contents contents' : Option (List ℕ → List ℕ)) (reads reads' writes writes' : List ℕ → ℕ)
     (taken taken' : Option (List ℕ)) (faults faults' : ℕ) (outcome : Outcome) (result : ℕ) : Type 0 where
@@ -319,6 +310,16 @@ module _ {words : List (List ℕ)} {contents contents' : Option (List ℕ → Li
     (d : IsDelivered words contents contents' reads reads' writes writes' taken taken' faults faults' outcome result) where
   same_status : result ≤ 6 → result ≡ outcome.status
   same_status low = ⊎_elim (λ is. is) (λ other. absurd (⊎_elim (λ seven. omega arith) (λ eight. omega arith) other)) d.status
+
+  pub statuses_of : result ≤ 8
+  statuses_of = ⊎_elim (λ is. omega (arith, d.answer.low)) (λ other. ⊎_elim (λ seven. omega arith) (λ eight. omega arith) other) d.status
+
+  pub no_form_of : AreNoForm words → (result ≡ 2) ⊎ ((result ≡ 7) ⊎ (result ≡ 8))
+  no_form_of none = ⊎_elim (λ is. inl (is ∙ d.answer.form none)) inr d.status
+
+  -- after a status from 2 to 6 no file was written
+  pub unwritten_of : (outcome.file ≡ None → contents' ≡ contents) → 2 ≤ result → result ≤ 6 → contents' ≡ contents
+  unwritten_of same two six = same (d.answer.no_file (omega (arith, same_status six)))
 
   pub usage_of : result ≡ 2 → AreNoForm words × Takes taken taken' usage_line
   usage_of two =

@@ -172,8 +172,9 @@ some_words IgnoreDictionary = omega arith
 some_words ByTable = omega arith
 
 -- an option is no longer than the words that it begins
-pub words_left : (words : List (List ℕ)) (s : Setting) (at : ℕ) → at ≤ length words → drop at words ≡ spelled s ++ drop (length (spelled s)) (drop at words)
-    → at + length (spelled s) ≤ length words
-words_left words s at inside next =
-    let long = ap length next ∙ length-append (spelled s) (drop (length (spelled s)) (drop at words)) in
-    omega (arith, length-drop at words)
+pub words_left : (words behind : List (List ℕ)) (s : Setting) (at : ℕ) → at ≤ length words → behind ≡ drop at words
+    → behind ≡ spelled s ++ drop (length (spelled s)) behind
+    → (drop at words ≡ spelled s ++ drop (length (spelled s)) (drop at words)) × (at + length (spelled s) ≤ length words)
+words_left words behind s at inside is next =
+    let long = ap length next ∙ length-append (spelled s) (drop (length (spelled s)) behind) in
+    (subst (λ w. w ≡ spelled s ++ drop (length (spelled s)) w) is next, omega (arith, long, ap length is, length-drop at words))

@@ -31,27 +31,6 @@ module _ {A B : Type 0} (first : Stage A) (next : A → Stage B) where
   goes_on view a (Ok v) passed met = (a, passed, met)
   goes_on view a (Err refusal) passed met = stops_next a refusal passed met
 
-  -- two determined stages in a row are determined
-  pub determined_both : IsDetermined A first → ((a : A) → IsDetermined B (next a)) → IsDetermined B (followed_by first next)
-  determined_both one each = record {
-    value = λ b c (a, passed, is) (a', passed', is').
-        (each a').value b c (subst (λ v. (next v).passes b) (one.value a a' passed passed') is) is';
-    refusal = λ r s either other.
-        ⊎_elim
-        (λ is. ⊎_elim (λ is'. one.refusal r s is is') (λ (a', passed', is'). absurd (one.apart a' r passed' is)) other)
-        (λ (a, passed, is).
-        ⊎_elim
-        (λ is'. absurd (one.apart a s passed is'))
-        (λ (a', passed', is'). (each a').refusal r s (subst (λ v. (next v).refuses r) (one.value a a' passed passed') is) is')
-        other)
-        either;
-    apart = λ b r (a, passed, is) either.
-        ⊎_elim
-        (λ is'. one.apart a r passed is')
-        (λ (a', passed', is'). (each a').apart b r (subst (λ v. (next v).passes b) (one.value a a' passed passed') is) is')
-        either;
-  }
-
   -- of a determined stage and a settled one the row is settled
   pub settled_both : (R : B → B → Type 0) → IsDetermined A first → ((a : A) → first.passes a → IsSettled B R (next a)) → IsSettled B R (followed_by first next)
   settled_both R one each = record {
@@ -72,3 +51,9 @@ module _ {A B : Type 0} (first : Stage A) (next : A → Stage B) where
         (λ (a', passed', is'). (each a' passed').apart b r (subst (λ v. (next v).passes b) (one.value a a' passed passed') is) is')
         either;
   }
+
+  -- two determined stages in a row are determined
+  pub determined_both : IsDetermined A first → ((a : A) → IsDetermined B (next a)) → IsDetermined B (followed_by first next)
+  determined_both one each =
+      let both = settled_both (λ b c. b ≡ c) one (λ a _. settled (λ b c. b ≡ c) (next a) (λ b c same. same) (each a)) in
+      record { value = both.value; refusal = both.refusal; apart = both.apart }

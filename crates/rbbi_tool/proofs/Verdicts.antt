@@ -10,10 +10,10 @@ use Rattle.rbbi_conform.specs.Tests.{Test}
 use Rattle.rbbi_conform.specs.declared.verdict.Verdict.{Verdict}
 use Rattle.rbbi_conform.specs.declared.verdict.Verdict.TheVariants.{Same, Differs}
 use Rattle.rbbi_conform.specs.Verdicts.{IsVerdict}
-use Rattle.rbbi_tool.specs.Basis.{Basis, GivesThem}
+use Rattle.rbbi_tool.specs.Basis.{Basis}
 use Rattle.rbbi_tool.specs.Command.Conform.{AreVerdictsBy, is_passed, test_lines, differing_lines, passed_count, failed_count}
 use Rattle.rbbi_tool.specs.Judging.{AreVerdictsIn, TellsVerdicts}
-use Rattle.rbbi_tool.proofs.BasisLemmas.{boundaries_given}
+use Rattle.rbbi_tool.proofs.BasisLemmas.{GivesThem, boundaries_given}
 
 -- What verdicts on the tests that are left come to behind those so far.
 pub record AreJudgedTo (table : Table) (tests : List Test) (lines : List ℕ) (passed failed i : ℕ) : Type 0 where

@@ -5,7 +5,7 @@ use Rattle.rbbi_model.specs.Boundaries.{Boundary, AreBoundaries}
 use Rattle.rbbi_model.specs.Tables.{Table}
 use Rattle.rbbi_model.specs.ValidTables.{IsValidTable}
 use Rattle.rbbi_model.specs.Searches.{table_boundaries}
-use Rattle.rbbi_model.specs.Compiled.{GivesBoundaries}
+use Rattle.rbbi_model.specs.Compiled.{IsCompiled}
 use Rattle.rbbi_model.specs.TableFile.{spelling}
 use Rattle.rbbi_cats.specs.CategoryLists.{HasClasses}
 use Rattle.rbbi_dfa.specs.declared.error.BuildErr.{BuildErr}
@@ -82,10 +82,10 @@ abbrev pub AreBoundariesBy : Basis → List ℕ → List Boundary → Type 0
 AreBoundariesBy (ByRules rules) x boundaries = AreBoundaries rules x boundaries
 AreBoundariesBy (ByTable table) x boundaries = boundaries ≡ table_boundaries table x
 
--- the table gives the boundaries
-abbrev pub GivesThem : Table → Basis → Type 0
-GivesThem table (ByRules rules) = GivesBoundaries table rules
-GivesThem table (ByTable other) = other ≡ table
+-- the table is compiled from the rules, or it is the one that was read
+abbrev pub IsTableOf : Table → Basis → Type 0
+IsTableOf table (ByRules rules) = IsCompiled table rules
+IsTableOf table (ByTable other) = other ≡ table
 
 -- what a rule file gives, or a table file
 abbrev pub basis_stage : List Property → Bool → Bool → List (List ℕ) → List ℕ → Stage Basis

@@ -1,21 +1,21 @@
 -- How much a run of the program reads: characters of its text, and bytes of its other files.
-use Rattle.std.specs.Prelude.{◌≡◌, ◌⊎◌, ℕ, ◌+◌, List, length, sum_by, take, drop}
+use Rattle.std.specs.Prelude.{◌≡◌, ◌⊎◌, ℕ, ◌+◌, List, Option, IfSome, length, sum_by, take, drop}
 use Rattle.rbbi_model.specs.Tables.{Table}
-use Rattle.rbbi_model.specs.Compiled.{IsCompiled}
 use Rattle.rbbi_model.specs.Scripts as model
 use Rattle.rbbi_model.specs.Costs.{script_cost, breaks_cost}
+use Rattle.rbbi_io.specs.Counts.{EachStays}
 use Rattle.rbbi_script.specs.Reading.{RisesUpTo}
 use Rattle.rbbi_tool.specs.declared.words.command.Command.{Command}
 use Rattle.rbbi_tool.specs.declared.words.command.Command.TheVariants.{Breaks, Run}
 use Rattle.rbbi_tool.specs.declared.files.Role.{Role}
 use Rattle.rbbi_tool.specs.declared.files.Role.TheVariants.{Text}
 use Rattle.rbbi_tool.specs.Stages.{Stage}
-use Rattle.rbbi_tool.specs.Words.{Request}
+use Rattle.rbbi_tool.specs.Words.{Request, Asks, AreNoForm}
 use Rattle.rbbi_tool.specs.Files.{sources_of}
-use Rattle.rbbi_tool.specs.Reads.{bytes_of}
+use Rattle.rbbi_tool.specs.Reads.{bytes_of, MakesSomeReads}
 use Rattle.rbbi_tool.specs.Texts.{text_stage}
 use Rattle.rbbi_tool.specs.Scripts.{script_stage}
-use Rattle.rbbi_tool.specs.Basis.{Basis, ByRules, ByTable, basis_stage}
+use Rattle.rbbi_tool.specs.Basis.{Basis, IsTableOf, basis_stage}
 use Rattle.rbbi_tool.specs.Program.{nth}
 
 -- the bytes of a file that count: all, but none of a text, whose characters count as they are read
@@ -26,11 +26,6 @@ counted role bytes = length bytes
 -- the bytes that count of the files that a request names to be read, as often as it names them
 abbrev pub named_bytes : (List ℕ → List ℕ) → Request → ℕ
 named_bytes held request = sum_by (λ source. counted source.role (held source.name)) (sources_of request)
-
--- the table is compiled from the rules, or it is the one that was read
-abbrev pub IsTableOf : Table → Basis → Type 0
-IsTableOf table (ByRules rules) = IsCompiled table rules
-IsTableOf table (ByTable other) = other ≡ table
 
 -- There are a table and a text: so many bytes are read, and what listing all boundaries costs from the text's start.
 pub record ReadsForBreaks (basis : Stage Basis) (text : Stage (List ℕ)) (bytes before after : ℕ) : Type 0 where
@@ -85,3 +80,10 @@ abbrev pub RequestReads : Request → (List ℕ → List ℕ) → ℕ → ℕ �
 RequestReads request held before after =
     let all = bytes_of held (sources_of request) in
     CommandReads request.command request (take (length request.properties) all) (drop (length request.properties) all) (named_bytes held request) before after
+
+-- What a run reads. Where the words are of no form it reads no file; else it reads the files of the request in order, and of them
+-- what the request reads.
+pub record ReadsInOrder (words : List (List ℕ)) (contents : Option (List ℕ → List ℕ)) (reads reads' : List ℕ → ℕ) (before after : ℕ) : Type 0 where
+  pub unread : AreNoForm words → EachStays reads reads'
+  pub order : (request : Request) → Asks words request → IfSome contents (MakesSomeReads (sources_of request) reads reads')
+  pub steps : (request : Request) → Asks words request → IfSome contents (λ held. RequestReads request held before after)

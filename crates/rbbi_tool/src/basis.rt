@@ -4,13 +4,11 @@ ghost use Rattle.std.specs.Prelude.{◌≡◌, ◌+◌, ◌≤◌, length, chars
 ghost use Rattle.rbbi_text.specs.Bytes.{most_bytes};
 ghost use Rattle.rbbi_model.specs.Rules.{AreLawful};
 ghost use Rattle.rbbi_model.specs.Compiled.{AreClasses, IsCompiled};
-ghost use Rattle.rbbi_model.specs.ValidTables.{AreValidRanges};
 ghost use Rattle.rbbi_resolve.specs.RuleLists.{rules_of};
 ghost use Rattle.rbbi_script.specs.Reading.{RisesUpTo};
 ghost use Rattle.rbbi_tool.specs.Stages.{Meets, Serves};
 ghost use Rattle.rbbi_tool.specs.Properties.{AreHanded};
 ghost use Rattle.rbbi_tool.specs.Basis as spec;
-ghost use Rattle.rbbi_tool.specs.Steps.{IsTableOf};
 
 use crate::refusal::{Place, Refusal, Subject, fault};
 use crate::rules::{rules_from, rules_of_text};
@@ -31,7 +29,6 @@ fn categories_of(alloc: Global, rules: &Rules) -> Result<Categories, Refusal>
     ensures exact { Meets (λ _. tt) (spec.categories_stage (rules_of rules.now)) result }
     ensures classes { IfOk result (λ cats.
         AreClasses (rules_of rules.now) cats.count cats.ranges) }
-    ensures form { IfOk result (λ cats. AreValidRanges cats.count cats.ranges) }
 {
     match rbbi_cats::partition(alloc, rules) {
         Ok(cats) => Ok(cats),
@@ -49,7 +46,6 @@ fn categories_of(alloc: Global, rules: &Rules) -> Result<Categories, Refusal>
 fn built(alloc: Global, rules: &Rules, cats: &Categories) -> Result<Table, Refusal>
     requires lawful { AreLawful (rules_of rules.now) }
     requires classes { AreClasses (rules_of rules.now) cats.now.count cats.now.ranges }
-    requires form { AreValidRanges cats.now.count cats.now.ranges }
     ensures exact { Meets (λ _. tt) (spec.sizes_stage (rules_of rules.now)) result }
     ensures compiled { IfOk result (λ table. IsCompiled table (rules_of rules.now)) }
 {
@@ -61,36 +57,24 @@ fn built(alloc: Global, rules: &Rules, cats: &Categories) -> Result<Table, Refus
     }
 }
 
-/// The table of a rule file. Its fault is the first of the property files, of the rule file, of the
-/// number of its categories, and of the size of its table.
-pub(crate) fn compiled<L: Ledger>(
-    alloc: Global,
-    options: &Options,
-    handed: &[Raw],
-    bytes: &Raw,
-    steps: &mut Steps<L>,
-) -> Result<Table, Refusal>
-    requires handed { AreHanded options.now.properties.items handed.now }
-    requires short { length bytes.now ≤ most_bytes }
-    ensures exact { Serves IsCompiled (spec.compiled_stage options.now.properties.items
-        options.now.ignored handed.now bytes.now) result }
-    ensures steps { RisesUpTo (sum_by length handed.now + length bytes.now) steps.old steps.new }
+/// The table of rules. Its fault is the first of the number of its categories, and of its size.
+pub(crate) fn table_of(alloc: Global, rules: &Rules) -> Result<Table, Refusal>
+    requires { AreLawful (rules_of rules.now) }
+    ensures exact { Meets (λ _. tt) (spec.limits_stage (rules_of rules.now)) result }
+    ensures compiled { IfOk result (λ table. IsCompiled table (rules_of rules.now)) }
 {
-    let rules = rules_from(alloc, options, handed, bytes, steps)?;
-    let cats = categories_of(alloc, &rules)?;
-    built(alloc, &rules, &cats)
+    let cats = categories_of(alloc, rules)?;
+    built(alloc, rules, &cats)
 }
 
-/// The table of the rules of a text, without property files. Its fault is the first of the text, of
-/// the number of its categories, and of the size of its table.
+/// The table of the rules of a text, without property files.
 pub(crate) fn compiled_text(alloc: Global, text: &str) -> Result<Table, Refusal>
     requires { length text.now ≤ most_bytes }
     ensures { Serves IsCompiled (spec.compiled_text_stage (chars text.now)) result }
 {
     let props = PropTable::new(alloc);
     let rules = rules_of_text(alloc, text, &props, false)?;
-    let cats = categories_of(alloc, &rules)?;
-    built(alloc, &rules, &cats)
+    table_of(alloc, &rules)
 }
 
 /// The table that the bytes of a table file spell.
@@ -111,7 +95,8 @@ fn read(alloc: Global, bytes: &[u8]) -> Result<Table, Refusal>
     }
 }
 
-/// The table that boundaries come by: read from a table file, or compiled from a rule file.
+/// The table that boundaries come by: read from a table file, or compiled from a rule file, whose
+/// fault is the first of the property files, of the rules, and of their table.
 pub(crate) fn basis<L: Ledger>(
     alloc: Global,
     options: &Options,
@@ -121,15 +106,13 @@ pub(crate) fn basis<L: Ledger>(
 ) -> Result<Table, Refusal>
     requires handed { AreHanded options.now.properties.items handed.now }
     requires short { length bytes.now ≤ most_bytes }
-    ensures exact { Serves spec.GivesThem (spec.basis_stage options.now.properties.items
-        options.now.ignored options.now.by_table handed.now bytes.now) result }
-    ensures table { Serves IsTableOf (spec.basis_stage options.now.properties.items
+    ensures table { Serves spec.IsTableOf (spec.basis_stage options.now.properties.items
         options.now.ignored options.now.by_table handed.now bytes.now) result }
     ensures steps { RisesUpTo (sum_by length handed.now + length bytes.now) steps.old steps.new }
 {
     if options.by_table {
         return read(alloc, bytes.bytes(steps));
     }
-    rbbi_model::same_marks_give_the_boundaries();
-    compiled(alloc, options, handed, bytes, steps)
+    let rules = rules_from(alloc, options, handed, bytes, steps)?;
+    table_of(alloc, &rules)
 }

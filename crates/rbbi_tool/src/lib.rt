@@ -21,8 +21,6 @@ mod refusal;
 mod rules;
 mod scripts;
 mod sources;
-#[cfg(test)]
-mod tests;
 mod texts;
 mod words;
 

@@ -8,8 +8,8 @@ ghost use Rattle.rbbi_io.specs.Sinks.{Takes};
 ghost use Rattle.rbbi_tool.specs.Words.{Request, Asks, AreNoForm};
 ghost use Rattle.rbbi_tool.specs.Files.{sources_of};
 ghost use Rattle.rbbi_tool.specs.Reads.{MakesSomeReads};
-ghost use Rattle.rbbi_tool.specs.Steps.{RequestReads};
-ghost use Rattle.rbbi_tool.specs.Causes.{ComesTo, Tells, IsAnswer, NoReadFailed};
+ghost use Rattle.rbbi_tool.specs.Steps.{RequestReads, ReadsInOrder};
+ghost use Rattle.rbbi_tool.specs.Causes.{ComesTo, Tells, NoReadFailed};
 ghost use Rattle.rbbi_tool.specs.Causes.{TakesOutcome, TakesFailedRead, TakesPart};
 ghost use Rattle.rbbi_tool.specs.Causes.{EachHolds, SomeWriteFailed, OthersUnwritten};
 
@@ -34,15 +34,8 @@ fn run<F: Files, L: Ledger>(
 ) -> Result<Output, Refusal>
     ensures comes { ComesTo (map string_bytes words.now.items) (F.contents files.old)
         (F.failed_reads files.old) (F.failed_reads files.new) result }
-    ensures unread { AreNoForm (map string_bytes words.now.items)
-        → EachStays (F.failed_reads files.old) (F.failed_reads files.new) }
-    ensures order { (request : Request) → Asks (map string_bytes words.now.items) request
-        → IfSome (F.contents files.old) (MakesSomeReads (sources_of request)
-        (F.failed_reads files.old) (F.failed_reads files.new)) }
-    ensures steps { (request : Request) → Asks (map string_bytes words.now.items) request
-        → IfSome (F.contents files.old)
-        (λ held. RequestReads request held steps.old steps.new) }
-
+    ensures reading { ReadsInOrder (map string_bytes words.now.items) (F.contents files.old)
+        (F.failed_reads files.old) (F.failed_reads files.new) steps.old steps.new }
     ensures contents { F.contents files.new ≡ F.contents files.old }
     ensures reads { EachGoesOn (F.failed_reads files.old) (F.failed_reads files.new) }
     ensures writes { EachStays (F.failed_writes files.old) (F.failed_writes files.new) }
@@ -71,32 +64,6 @@ fn told(alloc: Global, ended: Result<Output, Refusal>) -> Result<Output, AllocEr
             })
         }
     }
-}
-
-/// What is answered to the words over the files. No file is written.
-fn answer<F: Files, L: Ledger>(
-    alloc: Global,
-    words: &Vec<String>,
-    files: &mut F,
-    steps: &mut Steps<L>,
-) -> Result<Output, AllocError>
-    ensures answer { IfOk result (IsAnswer (map string_bytes words.now.items) (F.contents files.old)
-        (F.failed_reads files.old) (F.failed_reads files.new)) }
-    ensures unread { AreNoForm (map string_bytes words.now.items)
-        → EachStays (F.failed_reads files.old) (F.failed_reads files.new) }
-    ensures order { (request : Request) → Asks (map string_bytes words.now.items) request
-        → IfSome (F.contents files.old) (MakesSomeReads (sources_of request)
-        (F.failed_reads files.old) (F.failed_reads files.new)) }
-    ensures steps { (request : Request) → Asks (map string_bytes words.now.items) request
-        → IfSome (F.contents files.old)
-        (λ held. RequestReads request held steps.old steps.new) }
-
-    ensures contents { F.contents files.new ≡ F.contents files.old }
-    ensures reads { EachGoesOn (F.failed_reads files.old) (F.failed_reads files.new) }
-    ensures writes { EachStays (F.failed_writes files.old) (F.failed_writes files.new) }
-{
-    let ended = run(alloc, words, files, steps);
-    told(alloc, ended)
 }
 
 /// Runs the command that the words ask for, over the files, and puts what it answers into `out`.
@@ -189,7 +156,8 @@ pub fn rbbi<F: Files, K: Sink, L: Ledger>(
     ensures writes { EachGoesOn (F.failed_writes files.old) (F.failed_writes files.new) }
     ensures faults { GoesOn (K.faults out.old) (K.faults out.new) }
 {
-    match answer(alloc, words, files, steps) {
+    let ended = run(alloc, words, files, steps);
+    match told(alloc, ended) {
         Ok(output) => deliver(&output, files, out),
         Err(AllocError) => 8,
     }

@@ -20,7 +20,7 @@ use crate::words::Options;
 use rbbi_lex::Tokens;
 use rbbi_props::PropTable;
 use rbbi_resolve::Rules;
-use rbbi_text::{Raw, Steps, utf8_text, without_mark};
+use rbbi_text::{Raw, Steps, count_characters, utf8_text, without_mark};
 use rbbi_tree::Statements;
 use std::alloc::Global;
 use std::sync::ledger::Ledger;
@@ -75,14 +75,6 @@ fn tokens_of(alloc: Global, text: &str) -> Result<Tokens, Refusal>
         Ok(tokens) => Ok(tokens),
         Err(error) => Err(told(alloc, text, error.label(), error.place())),
     }
-}
-
-/// The number of characters of a text.
-fn count_characters(text: &str) -> u32
-    requires { length text.now ≤ most_bytes }
-    ensures { result ≡ length (chars text.now) }
-{
-    text.chars().count() as u32
 }
 
 /// The statements of the tokens of the text.

@@ -1,6 +1,5 @@
 //! Tables of rules that are given as text.
-ghost use Rattle.std.specs.Prelude.{◌≡◌, ◌≤◌, length, IfOk};
-ghost use Rattle.std.specs.Str.{chars};
+ghost use Rattle.std.specs.Prelude.{◌≤◌, length, IfOk};
 ghost use Rattle.rbbi_model.specs.Rules.{AreLawful};
 ghost use Rattle.rbbi_resolve.specs.RuleLists.{rules_of};
 
@@ -11,6 +10,7 @@ use rbbi_positions::positions;
 use rbbi_props::PropTable;
 use rbbi_resolve::{Rules, resolve};
 use rbbi_table::Table;
+use rbbi_text::count_characters;
 use rbbi_tree::parse;
 use std::alloc::Global;
 use std::process::Abort;
@@ -22,14 +22,6 @@ pub(crate) const WORDS: &str = "!!chain; !!quoted_literals_only;
 $ALetter = [A-Za-z]; $Numeric = [0-9]; $Mid = [']; $MidNum = [.,];
 $ALetter {200}; $Numeric {100}; $ALetter $ALetter {200}; $ALetter $Mid $ALetter {200};
 $Numeric $Numeric {100}; $Numeric $MidNum $Numeric {100}; .;";
-
-/// The number of characters of a text.
-fn count_characters(text: &str) -> u32
-    requires { length text.now ≤ 100000 }
-    ensures { result ≡ length (chars text.now) }
-{
-    text.chars().count() as u32
-}
 
 /// The rules of a text without property files.
 fn rules_of(alloc: Global, text: &str) -> Result<Rules, Fail>

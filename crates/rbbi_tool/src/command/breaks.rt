@@ -74,6 +74,7 @@ pub(crate) fn breaks<L: Ledger>(
 {
     let table = basis(alloc, options, handed, source, steps)?;
     let text = text_of(alloc, name, text)?;
+    rbbi_model::same_marks_give_the_boundaries();
     let bytes = lines_of(alloc, &table, &text, steps)?;
     Ok(Output::printed(bytes))
 }

@@ -7,10 +7,11 @@ ghost use Rattle.rbbi_tool.specs.Properties.{AreHanded};
 ghost use Rattle.rbbi_tool.specs.Command.Compile.{compile_stage};
 
 use super::{Output, Written};
-use crate::basis::compiled;
+use crate::basis::table_of;
 use crate::lines::joined;
 use crate::name::Name;
 use crate::refusal::Refusal;
+use crate::rules::rules_from;
 use crate::words::Options;
 use itoa::Buffer;
 use rbbi_table::Table;
@@ -64,7 +65,8 @@ pub(crate) fn compile<L: Ledger>(
     ensures { Meets (λ output. output) (compile_stage options.now.properties.items
         options.now.ignored handed.now rules.now name.now) result }
 {
-    let table = compiled(alloc, options, handed, rules, steps)?;
+    let rules = rules_from(alloc, options, handed, rules, steps)?;
+    let table = table_of(alloc, &rules)?;
     let name = Name::new(alloc, name)?;
     let bytes = rbbi_file::write_table(alloc, &table)?;
     let line = numbers_line(alloc, &table)?;

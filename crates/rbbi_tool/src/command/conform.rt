@@ -149,6 +149,7 @@ pub(crate) fn conform<L: Ledger>(
 {
     let table = basis(alloc, options, handed, source, steps)?;
     let tests = tests_of(alloc, name, tests, steps)?;
+    rbbi_model::same_marks_give_the_boundaries();
     let report = report_of(alloc, &table, &tests, steps)?;
     Ok(output_of(alloc, report)?)
 }

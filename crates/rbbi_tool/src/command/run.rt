@@ -94,6 +94,7 @@ pub(crate) fn run<L: Ledger>(
     let text = pieces_of(alloc, name, text)?;
     let commands = commands_of(alloc, script_name, script, steps)?;
     insert_texts(&commands);
+    rbbi_model::same_marks_give_the_boundaries();
     rbbi_model::table_replies_are_those_of_the_rules();
     let replies = replies_of(alloc, &table, text, &commands, steps)?;
     Ok(Output::printed(replies))

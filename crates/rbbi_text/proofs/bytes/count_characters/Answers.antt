@@ -2,5 +2,5 @@ use Rattle.std.proofs.Common.{rules}
 use Rattle.std.proofs.lemmas.Str.{chars_from_encodes}
 use Rattle.rbbi_text.proofs.bytes.count_characters.Goals as goal
 
-pub returns-clause-exact : goal.returns-clause-exact
-returns-clause-exact c = search (rules, chars_from_encodes)
+pub returns : goal.returns
+returns c = search (rules, chars_from_encodes)

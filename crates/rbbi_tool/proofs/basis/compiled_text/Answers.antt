@@ -1,9 +1,9 @@
-use Rattle.std.proofs.Common.{false, inl, inr, ⊎_elim, subst}
+use Rattle.std.proofs.Common.{[], false, inl, inr, ⊎_elim, subst}
 use Rattle.std.specs.Prelude.{chars}
 use Rattle.std.proofs.lemmas.Result.{err_from_is_err_and}
 use Rattle.rbbi_resolve.specs.RuleLists.{rules_of}
 use Rattle.rbbi_tool.specs.Rules.{rules_of_text_stage}
-use Rattle.rbbi_tool.proofs.BasisLemmas.{compiled_text_serves}
+use Rattle.rbbi_tool.proofs.BasisLemmas.{rules_serve}
 use Rattle.rbbi_tool.proofs.basis.compiled_text.Goals as goal
 
 pub returns-in_err-rules : goal.returns-in_err-rules
@@ -15,7 +15,7 @@ returns-in_err-rules c =
 
 pub returns : goal.returns
 returns c =
-    compiled_text_serves (chars c.args.text.now) (rules_of c.in_ok-rules.rules) c.built.result
-    (subst (λ files. (rules_of_text_stage files false (chars c.args.text.now)).passes (rules_of c.in_ok-rules.rules)) c.new-props.ensures
-    c.in_ok-rules.ensures.exact)
-    c.in_ok-cats.ensures.exact c.built.ensures.exact c.built.ensures.compiled
+    let x = chars c.args.text.now in
+    rules_serve (rules_of_text_stage [] false x) (rules_of c.in_ok-rules.rules) c.table_of.result
+    (subst (λ files. (rules_of_text_stage files false x).passes (rules_of c.in_ok-rules.rules)) c.new-props.ensures c.in_ok-rules.ensures.exact)
+    c.table_of.ensures.exact c.table_of.ensures.compiled

@@ -1,115 +1,48 @@
-use Rattle.std.proofs.Common.{sym, subst}
+use Rattle.std.proofs.Common.{◌∙◌, sym, subst}
 use Rattle.std.specs.Prelude.{IfSome}
+use Rattle.rbbi_io.specs.Counts.{EachGoesOn}
 use Rattle.rbbi_tool.specs.Files.{sources_of}
 use Rattle.rbbi_tool.specs.Reads.{MakesSomeReads}
-use Rattle.rbbi_tool.proofs.Runs.{from_start, usage_of, outcome_of, read_failed_of, put_failed_of, front_of, complete_of, each_of, others_of_all}
+use Rattle.rbbi_tool.proofs.Runs.{is_answer, from_start, statuses_of, usage_of, no_form_of, outcome_of, read_failed_of, put_failed_of, front_of}
+use Rattle.rbbi_tool.proofs.Runs.{complete_of, each_of, unwritten_of, others_of_all}
 use Rattle.rbbi_tool.proofs.program.rbbi.Goals as goal
 
-pub returns-in-Ok-clause-order : goal.returns-in-Ok-clause-order
-returns-in-Ok-clause-order g c = λ request asks.
-    subst (λ now. IfSome (g.F.Files.contents c.args.files.now) (MakesSomeReads (sources_of request) (g.F.Files.failed_reads c.args.files.now) now))
-    (λ i name. sym (c.deliver.ensures.reads name) i) (c.in-Ok.ensures.order request asks)
+pub deliver-requires : goal.deliver-requires
+deliver-requires g c = (is_answer _ _ _ _ c.in-Ok.output c.run-ended.result c.run-ended.ensures.comes c.in-Ok.ensures).low
 
-pub returns-in-Ok-clause-usage : goal.returns-in-Ok-clause-usage
-returns-in-Ok-clause-usage g c =
+pub returns-in-Ok : goal.returns-in-Ok
+returns-in-Ok g c =
     let held = g.F.Files.contents in
     let reads = g.F.Files.failed_reads in
     let writes = g.F.Files.failed_writes in
-    let d = from_start _ (held c.args.files.now) (held c.answer.new.files) (held c.deliver.new.files) (reads c.args.files.now) (reads c.answer.new.files)
-    (reads c.deliver.new.files) (writes c.args.files.now) (writes c.answer.new.files) (writes c.deliver.new.files) (g.K.Sink.taken c.args.out.now)
-    (g.K.Sink.taken c.deliver.new.out) (g.K.Sink.faults c.args.out.now) (g.K.Sink.faults c.deliver.new.out) c.in-Ok.output c.deliver.result
-    c.in-Ok.ensures.contents (λ name. c.deliver.ensures.reads name) c.in-Ok.ensures.writes c.in-Ok.ensures.answer c.deliver.ensures.status
-    c.deliver.ensures.taken c.deliver.ensures.held c.deliver.ensures.failed c.deliver.ensures.front c.deliver.ensures.file_first
-    c.deliver.ensures.contents c.deliver.ensures.others in
-    usage_of d
-
-pub returns-in-Ok-clause-outcome : goal.returns-in-Ok-clause-outcome
-returns-in-Ok-clause-outcome g c =
-    let held = g.F.Files.contents in
-    let reads = g.F.Files.failed_reads in
-    let writes = g.F.Files.failed_writes in
-    let d = from_start _ (held c.args.files.now) (held c.answer.new.files) (held c.deliver.new.files) (reads c.args.files.now) (reads c.answer.new.files)
-    (reads c.deliver.new.files) (writes c.args.files.now) (writes c.answer.new.files) (writes c.deliver.new.files) (g.K.Sink.taken c.args.out.now)
-    (g.K.Sink.taken c.deliver.new.out) (g.K.Sink.faults c.args.out.now) (g.K.Sink.faults c.deliver.new.out) c.in-Ok.output c.deliver.result
-    c.in-Ok.ensures.contents (λ name. c.deliver.ensures.reads name) c.in-Ok.ensures.writes c.in-Ok.ensures.answer c.deliver.ensures.status
-    c.deliver.ensures.taken c.deliver.ensures.held c.deliver.ensures.failed c.deliver.ensures.front c.deliver.ensures.file_first
-    c.deliver.ensures.contents c.deliver.ensures.others in
-    outcome_of d
-
-pub returns-in-Ok-clause-read_failed : goal.returns-in-Ok-clause-read_failed
-returns-in-Ok-clause-read_failed g c =
-    let held = g.F.Files.contents in
-    let reads = g.F.Files.failed_reads in
-    let writes = g.F.Files.failed_writes in
-    let d = from_start _ (held c.args.files.now) (held c.answer.new.files) (held c.deliver.new.files) (reads c.args.files.now) (reads c.answer.new.files)
-    (reads c.deliver.new.files) (writes c.args.files.now) (writes c.answer.new.files) (writes c.deliver.new.files) (g.K.Sink.taken c.args.out.now)
-    (g.K.Sink.taken c.deliver.new.out) (g.K.Sink.faults c.args.out.now) (g.K.Sink.faults c.deliver.new.out) c.in-Ok.output c.deliver.result
-    c.in-Ok.ensures.contents (λ name. c.deliver.ensures.reads name) c.in-Ok.ensures.writes c.in-Ok.ensures.answer c.deliver.ensures.status
-    c.deliver.ensures.taken c.deliver.ensures.held c.deliver.ensures.failed c.deliver.ensures.front c.deliver.ensures.file_first
-    c.deliver.ensures.contents c.deliver.ensures.others in
-    read_failed_of d
-
-pub returns-in-Ok-clause-put_failed : goal.returns-in-Ok-clause-put_failed
-returns-in-Ok-clause-put_failed g c =
-    let held = g.F.Files.contents in
-    let reads = g.F.Files.failed_reads in
-    let writes = g.F.Files.failed_writes in
-    let d = from_start _ (held c.args.files.now) (held c.answer.new.files) (held c.deliver.new.files) (reads c.args.files.now) (reads c.answer.new.files)
-    (reads c.deliver.new.files) (writes c.args.files.now) (writes c.answer.new.files) (writes c.deliver.new.files) (g.K.Sink.taken c.args.out.now)
-    (g.K.Sink.taken c.deliver.new.out) (g.K.Sink.faults c.args.out.now) (g.K.Sink.faults c.deliver.new.out) c.in-Ok.output c.deliver.result
-    c.in-Ok.ensures.contents (λ name. c.deliver.ensures.reads name) c.in-Ok.ensures.writes c.in-Ok.ensures.answer c.deliver.ensures.status
-    c.deliver.ensures.taken c.deliver.ensures.held c.deliver.ensures.failed c.deliver.ensures.front c.deliver.ensures.file_first
-    c.deliver.ensures.contents c.deliver.ensures.others in
-    put_failed_of d
-
-pub returns-in-Ok-clause-front : goal.returns-in-Ok-clause-front
-returns-in-Ok-clause-front g c =
-    let held = g.F.Files.contents in
-    let reads = g.F.Files.failed_reads in
-    let writes = g.F.Files.failed_writes in
-    let d = from_start _ (held c.args.files.now) (held c.answer.new.files) (held c.deliver.new.files) (reads c.args.files.now) (reads c.answer.new.files)
-    (reads c.deliver.new.files) (writes c.args.files.now) (writes c.answer.new.files) (writes c.deliver.new.files) (g.K.Sink.taken c.args.out.now)
-    (g.K.Sink.taken c.deliver.new.out) (g.K.Sink.faults c.args.out.now) (g.K.Sink.faults c.deliver.new.out) c.in-Ok.output c.deliver.result
-    c.in-Ok.ensures.contents (λ name. c.deliver.ensures.reads name) c.in-Ok.ensures.writes c.in-Ok.ensures.answer c.deliver.ensures.status
-    c.deliver.ensures.taken c.deliver.ensures.held c.deliver.ensures.failed c.deliver.ensures.front c.deliver.ensures.file_first
-    c.deliver.ensures.contents c.deliver.ensures.others in
-    front_of d
-
-pub returns-in-Ok-clause-complete : goal.returns-in-Ok-clause-complete
-returns-in-Ok-clause-complete g c =
-    let held = g.F.Files.contents in
-    let reads = g.F.Files.failed_reads in
-    let writes = g.F.Files.failed_writes in
-    let d = from_start _ (held c.args.files.now) (held c.answer.new.files) (held c.deliver.new.files) (reads c.args.files.now) (reads c.answer.new.files)
-    (reads c.deliver.new.files) (writes c.args.files.now) (writes c.answer.new.files) (writes c.deliver.new.files) (g.K.Sink.taken c.args.out.now)
-    (g.K.Sink.taken c.deliver.new.out) (g.K.Sink.faults c.args.out.now) (g.K.Sink.faults c.deliver.new.out) c.in-Ok.output c.deliver.result
-    c.in-Ok.ensures.contents (λ name. c.deliver.ensures.reads name) c.in-Ok.ensures.writes c.in-Ok.ensures.answer c.deliver.ensures.status
-    c.deliver.ensures.taken c.deliver.ensures.held c.deliver.ensures.failed c.deliver.ensures.front c.deliver.ensures.file_first
-    c.deliver.ensures.contents c.deliver.ensures.others in
-    complete_of d
-
-pub returns-in-Ok-clause-contents : goal.returns-in-Ok-clause-contents
-returns-in-Ok-clause-contents g c =
-    let held = g.F.Files.contents in
-    let reads = g.F.Files.failed_reads in
-    let writes = g.F.Files.failed_writes in
-    let d = from_start _ (held c.args.files.now) (held c.answer.new.files) (held c.deliver.new.files) (reads c.args.files.now) (reads c.answer.new.files)
-    (reads c.deliver.new.files) (writes c.args.files.now) (writes c.answer.new.files) (writes c.deliver.new.files) (g.K.Sink.taken c.args.out.now)
-    (g.K.Sink.taken c.deliver.new.out) (g.K.Sink.faults c.args.out.now) (g.K.Sink.faults c.deliver.new.out) c.in-Ok.output c.deliver.result
-    c.in-Ok.ensures.contents (λ name. c.deliver.ensures.reads name) c.in-Ok.ensures.writes c.in-Ok.ensures.answer c.deliver.ensures.status
-    c.deliver.ensures.taken c.deliver.ensures.held c.deliver.ensures.failed c.deliver.ensures.front c.deliver.ensures.file_first
-    c.deliver.ensures.contents c.deliver.ensures.others in
-    each_of d
-
-pub returns-in-Ok-clause-others : goal.returns-in-Ok-clause-others
-returns-in-Ok-clause-others g c =
-    let held = g.F.Files.contents in
-    let reads = g.F.Files.failed_reads in
-    let writes = g.F.Files.failed_writes in
-    let d = from_start _ (held c.args.files.now) (held c.answer.new.files) (held c.deliver.new.files) (reads c.args.files.now) (reads c.answer.new.files)
-    (reads c.deliver.new.files) (writes c.args.files.now) (writes c.answer.new.files) (writes c.deliver.new.files) (g.K.Sink.taken c.args.out.now)
-    (g.K.Sink.taken c.deliver.new.out) (g.K.Sink.faults c.args.out.now) (g.K.Sink.faults c.deliver.new.out) c.in-Ok.output c.deliver.result
-    c.in-Ok.ensures.contents (λ name. c.deliver.ensures.reads name) c.in-Ok.ensures.writes c.in-Ok.ensures.answer c.deliver.ensures.status
-    c.deliver.ensures.taken c.deliver.ensures.held c.deliver.ensures.failed c.deliver.ensures.front c.deliver.ensures.file_first
-    c.deliver.ensures.contents c.deliver.ensures.others in
-    others_of_all d
+    let start = c.args.files.now in
+    let ran = c.run-ended.new.files in
+    let end = c.deliver.new.files in
+    let before = c.run-ended.ensures in
+    let after = c.deliver.ensures in
+    let answer = is_answer _ _ _ _ c.in-Ok.output c.run-ended.result before.comes c.in-Ok.ensures in
+    let d = from_start _ (held start) (held ran) (held end) (reads start) (reads ran) (reads end) (writes start) (writes ran) (writes end)
+    (g.K.Sink.taken c.args.out.now) (g.K.Sink.taken c.deliver.new.out) (g.K.Sink.faults c.args.out.now) (g.K.Sink.faults c.deliver.new.out) c.in-Ok.output
+    c.deliver.result before.contents (λ name. after.reads name) before.writes answer after.status after.taken after.held after.failed after.front
+    after.file_first after.contents after.others in
+    record {
+      statuses = statuses_of d;
+      usage = usage_of d;
+      no_form = no_form_of d;
+      unread = λ none name. after.reads name ∙ before.reading.unread none name;
+      order = λ request asks.
+          subst (λ now. IfSome (held start) (MakesSomeReads (sources_of request) (reads start) now)) (λ i name. sym (after.reads name) i)
+          (before.reading.order request asks);
+      steps = before.reading.steps;
+      outcome = outcome_of d;
+      read_failed = read_failed_of d;
+      put_failed = put_failed_of d;
+      front = front_of d;
+      complete = complete_of d;
+      contents = each_of d;
+      unwritten = unwritten_of d (λ none. after.same none ∙ before.contents);
+      others = others_of_all d;
+      reads = subst (λ now. EachGoesOn (reads start) now) (λ i name. sym (after.reads name) i) before.reads;
+      writes = subst (λ w. EachGoesOn w (writes end)) (λ i name. before.writes name i) after.writes;
+      faults = after.faults;
+    }

@@ -1,11 +1,11 @@
-use Rattle.std.proofs.Common.{◌∙◌, subst}
+use Rattle.std.proofs.Common.{◌∙◌, List, ℕ, subst}
 use Rattle.std.proofs.lemmas.Result.{err_from_is_err_and}
 use Rattle.rbbi_tool.specs.Stages.{Meets}
 use Rattle.rbbi_tool.specs.Requests.{asked_by}
 use Rattle.rbbi_tool.specs.Program.{files_stage}
 use Rattle.rbbi_tool.specs.Steps.{FilesReads}
 use Rattle.rbbi_tool.proofs.Runs.{ends_run, command_ends, ordered}
-use Rattle.rbbi_tool.proofs.Counted.{reads_none, reads_told}
+use Rattle.rbbi_tool.proofs.Counted.{reads_nothing, reads_none, reads_told}
 use Rattle.rbbi_tool.proofs.program.run.Goals as goal
 
 pub returns-in_err-all-clause-comes : goal.returns-in_err-all-clause-comes
@@ -23,34 +23,34 @@ returns-clause-comes g c =
     (subst (λ bytes. Meets (λ outcome. outcome) (files_stage (asked_by c.in-Some.request) bytes) c.output_of.result) c.deref-2.ensures.value
     c.output_of.ensures.exact)
 
-pub returns-in_err-all-clause-order : goal.returns-in_err-all-clause-order
-returns-in_err-all-clause-order g c = λ request asks.
+pub returns-in_err-request-clause-reading : goal.returns-in_err-request-clause-reading
+returns-in_err-request-clause-reading g c = reads_nothing _ _ _ c.args.steps.now
+
+pub returns-in_default-clause-reading : goal.returns-in_default-clause-reading
+returns-in_default-clause-reading g c = reads_nothing _ _ _ c.args.steps.now
+
+pub returns-in_err-sources-clause-reading : goal.returns-in_err-sources-clause-reading
+returns-in_err-sources-clause-reading g c = reads_nothing _ _ _ c.args.steps.now
+
+pub returns-in_err-all-clause-reading : goal.returns-in_err-all-clause-reading
+returns-in_err-all-clause-reading g c =
     let here = rw c.in-Some.is at c.in_ok-request.ensures in
     let sources = c.deref.ensures.value ∙ c.in_ok-sources.ensures in
-    ordered _ _ _ request asks here c.deref.result.now sources _ _ c.in_err-all.ensures.order
+    record {
+      unread = λ none. absurd (none c.in-Some.request here);
+      order = λ request asks. ordered _ _ _ request asks here c.deref.result.now sources _ _ c.in_err-all.ensures.order;
+      steps = λ request asks. reads_none _ request c.args.steps.now;
+    }
 
-pub returns-clause-order : goal.returns-clause-order
-returns-clause-order g c = λ request asks.
+pub returns-clause-reading : goal.returns-clause-reading
+returns-clause-reading g c =
     let here = rw c.in-Some.is at c.in_ok-request.ensures in
     let sources = c.deref.ensures.value ∙ c.in_ok-sources.ensures in
-    ordered _ _ _ request asks here c.deref.result.now sources _ _ c.in_ok-all.ensures.order
-
-pub returns-in_err-request-clause-steps : goal.returns-in_err-request-clause-steps
-returns-in_err-request-clause-steps g c = λ request asks. reads_none _ request c.args.steps.now
-
-pub returns-in_default-clause-steps : goal.returns-in_default-clause-steps
-returns-in_default-clause-steps g c = λ request asks. reads_none _ request c.args.steps.now
-
-pub returns-in_err-sources-clause-steps : goal.returns-in_err-sources-clause-steps
-returns-in_err-sources-clause-steps g c = λ request asks. reads_none _ request c.args.steps.now
-
-pub returns-in_err-all-clause-steps : goal.returns-in_err-all-clause-steps
-returns-in_err-all-clause-steps g c = λ request asks. reads_none _ request c.args.steps.now
-
-pub returns-clause-steps : goal.returns-clause-steps
-returns-clause-steps g c = λ request asks.
-    let here = rw c.in-Some.is at c.in_ok-request.ensures in
-    reads_told _ _ (asked_by c.in-Some.request) request asks here c.deref.result.now c.in_ok-all.all.items c.args.steps.now c.output_of.new.steps
-    (c.deref.ensures.value ∙ c.in_ok-sources.ensures) c.in_ok-all.ensures.read
-    (subst (λ bytes. FilesReads (asked_by c.in-Some.request) bytes c.args.steps.now c.output_of.new.steps) c.deref-2.ensures.value
-    c.output_of.ensures.steps)
+    let Reads = λ (bytes : List (List ℕ)). FilesReads (asked_by c.in-Some.request) bytes c.args.steps.now c.output_of.new.steps in
+    record {
+      unread = λ none. absurd (none c.in-Some.request here);
+      order = λ request asks. ordered _ _ _ request asks here c.deref.result.now sources _ _ c.in_ok-all.ensures.order;
+      steps = λ request asks.
+          reads_told _ _ (asked_by c.in-Some.request) request asks here c.deref.result.now c.in_ok-all.all.items c.args.steps.now c.output_of.new.steps
+          sources c.in_ok-all.ensures.read (subst Reads c.deref-2.ensures.value c.output_of.ensures.steps);
+    }

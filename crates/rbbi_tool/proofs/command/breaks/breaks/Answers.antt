@@ -1,22 +1,20 @@
-use Rattle.std.proofs.Common.{◌+◌, length, inl, inr, ⊎_elim, ap, ◌∙◌}
-use Rattle.std.specs.Prelude.{sum_by}
+use Rattle.std.proofs.Common.{inl, inr, ⊎_elim, ap, ◌∙◌}
 use Rattle.std.proofs.lemmas.Result.{err_from_is_err_and}
 use Rattle.rbbi_model.specs.Searches.{table_boundaries}
-use Rattle.rbbi_model.specs.Costs.{breaks_cost}
 use Rattle.rbbi_tool.specs.Refusals.{printed}
-use Rattle.rbbi_tool.proofs.BasisLemmas.{boundaries_given}
-use Rattle.rbbi_tool.proofs.Counted.{rises_twice}
+use Rattle.rbbi_tool.proofs.BasisLemmas.{gives_them, boundaries_given}
+use Rattle.rbbi_tool.proofs.Counted.{listing_reads}
 use Rattle.rbbi_tool.proofs.command.breaks.breaks.Goals as goal
 
 pub returns-in_err-text-clause-exact : goal.returns-in_err-text-clause-exact
 returns-in_err-text-clause-exact g c =
     let p = err_from_is_err_and c.from_residual-in_err-text.result c.from_residual-in_err-text.ensures.1 in
-    let basis = c.in_ok-table.ensures.exact in
+    let basis = c.in_ok-table.ensures.table in
     rw (p.1, p.2) (⊎_elim inl (λ is. inr (inr (basis.0, basis.1, inl is))) c.in_err-text.ensures.exact)
 
 pub returns-clause-exact : goal.returns-clause-exact
 returns-clause-exact g c =
-    let basis = c.in_ok-table.ensures.exact in
+    let basis = c.in_ok-table.ensures.table in
     let table = c.in_ok-table.table in
     let x = c.in_ok-text.text in (
       basis.0,
@@ -26,7 +24,7 @@ returns-clause-exact g c =
         c.in_ok-text.ensures.exact,
         (
           table_boundaries table x,
-          boundaries_given basis.0 table x basis.2 c.in_ok-text.ensures.text,
+          boundaries_given basis.0 table x (gives_them c.same_marks_give_the_boundaries.ensures basis.0 table basis.2) c.in_ok-text.ensures.text,
           c.printed.ensures ∙ ap printed c.in_ok-bytes.ensures.lines,
         ),
       ),
@@ -35,27 +33,9 @@ returns-clause-exact g c =
 pub returns-in_err-bytes-clause-steps : goal.returns-in_err-bytes-clause-steps
 returns-in_err-bytes-clause-steps g c =
     let basis = c.in_ok-table.ensures.table in
-    inr (record {
-      by = basis.0;
-      table = c.in_ok-table.table;
-      x = c.in_ok-text.text;
-      passes = basis.1;
-      table_is = basis.2;
-      text_is = c.in_ok-text.ensures.exact;
-      reads = rises_twice (sum_by length c.args.handed.now + length c.args.source.now) (breaks_cost c.in_ok-table.table c.in_ok-text.text 0)
-          c.args.steps.now c.basis.new.steps c.lines_of.new.steps c.basis.ensures.steps c.lines_of.ensures.steps;
-    })
+    listing_reads _ _ _ _ c.basis.new.steps _ basis.0 _ _ basis.1 basis.2 c.in_ok-text.ensures.exact c.basis.ensures.steps c.lines_of.ensures.steps
 
 pub returns-clause-steps : goal.returns-clause-steps
 returns-clause-steps g c =
     let basis = c.in_ok-table.ensures.table in
-    inr (record {
-      by = basis.0;
-      table = c.in_ok-table.table;
-      x = c.in_ok-text.text;
-      passes = basis.1;
-      table_is = basis.2;
-      text_is = c.in_ok-text.ensures.exact;
-      reads = rises_twice (sum_by length c.args.handed.now + length c.args.source.now) (breaks_cost c.in_ok-table.table c.in_ok-text.text 0)
-          c.args.steps.now c.basis.new.steps c.lines_of.new.steps c.basis.ensures.steps c.lines_of.ensures.steps;
-    })
+    listing_reads _ _ _ _ c.basis.new.steps _ basis.0 _ _ basis.1 basis.2 c.in_ok-text.ensures.exact c.basis.ensures.steps c.lines_of.ensures.steps

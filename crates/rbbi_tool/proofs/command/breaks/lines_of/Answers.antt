@@ -3,7 +3,8 @@ use Rattle.rbbi_model.specs.Boundaries.{start}
 use Rattle.rbbi_model.specs.Lines.{boundary_line}
 use Rattle.rbbi_model.specs.Tables.{statuses_of}
 use Rattle.rbbi_model.specs.Searches.{next_boundary}
-use Rattle.rbbi_tool.proofs.Listing.{found_within, listed_start, listed_more, all_listed}
+use Rattle.rbbi_session.proofs.Reaching.{found_within}
+use Rattle.rbbi_tool.proofs.Listing.{listed_start, listed_more, all_listed}
 use Rattle.rbbi_tool.proofs.Searched.{searched_none, searched_more, all_searched}
 use Rattle.rbbi_tool.proofs.command.breaks.lines_of.Goals as goal
 

@@ -1,8 +1,22 @@
-use Rattle.std.proofs.Common.{inl, inr, ⊎_elim}
+use Rattle.std.proofs.Common.{refl, inl, inr, ⊎_elim}
 use Rattle.std.proofs.lemmas.Result.{err_from_is_err_and}
+use Rattle.rbbi_resolve.specs.RuleLists.{rules_of}
 use Rattle.rbbi_tool.proofs.command.compile.compile.Goals as goal
+
+pub returns-in_err-rules : goal.returns-in_err-rules
+returns-in_err-rules g c =
+    let p = err_from_is_err_and c.from_residual-in_err-rules.result c.from_residual-in_err-rules.ensures.1 in
+    rw (p.1, p.2) (⊎_elim inl (λ is. inr (inl (inl is))) c.in_err-rules.ensures.exact)
 
 pub returns-in_err-table : goal.returns-in_err-table
 returns-in_err-table g c =
-    let p = err_from_is_err_and c.from_residual.result c.from_residual.ensures.1 in
-    rw (p.1, p.2) (⊎_elim inl (λ is. inr (inl is)) c.in_err-table.ensures.exact)
+    let p = err_from_is_err_and c.from_residual-in_err-table.result c.from_residual-in_err-table.ensures.1 in
+    rw (p.1, p.2) (⊎_elim inl (λ is. inr (inl (inr (rules_of c.in_ok-rules.rules, c.in_ok-rules.ensures.exact, inl is)))) c.in_err-table.ensures.exact)
+
+pub returns : goal.returns
+returns g c =
+    let rules = rules_of c.in_ok-rules.rules in (
+      rules,
+      (rules, c.in_ok-rules.ensures.exact, (tt, c.in_ok-table.ensures.exact, refl)),
+      record { table = c.in_ok-table.table; compiled = c.in_ok-table.ensures.compiled; is = cc },
+    )

@@ -19,16 +19,15 @@ returns-in_default c = λ settings rest reading.
 pub options-preserved : goal.options-preserved
 options-preserved c =
     let words : List (List ℕ) = map string_bytes c.args.words.now in
-    let s : Setting = c.in-Some.setting in
+    let long = length-map c.args.words.now string_bytes in
     let found = rw c.in-Some.is at c.in_ok-setting.ensures in
-    let next : drop c.options.at words ≡ spelled s ++ drop (length (spelled s)) (drop c.options.at words) =
-    subst (λ w. w ≡ spelled s ++ drop (length (spelled s)) w) c.behind-in-options.ensures found.1 in
-    let long = words_left words s c.options.at (omega (arith, length-map c.args.words.now string_bytes, c.options.invariant.within)) next in
+    let left = words_left words _ c.in-Some.setting c.options.at (omega (arith, long, c.options.invariant.within)) c.behind-in-options.ensures found.1 in
+    let s : Setting = c.in-Some.setting in
     let pushed : c.push.new.self.items ≡ c.options.list.items ++ s ∷ [] = c.in_ok-push.ensures.items in
     let at : c.options.at + c.words-at.result ≡ c.options.at + length (spelled s) = ap (λ n. c.options.at + n) c.words-at.ensures in
     record {
-      within = omega (arith, length-map c.args.words.now string_bytes, at);
-      are = words_push words c.options.list.items s c.options.at c.options.invariant.are next
+      within = omega (arith, long, at, left.1);
+      are = words_push words c.options.list.items s c.options.at c.options.invariant.are left.0
           ∙ ap (λ n. flat_map spelled (c.options.list.items ++ s ∷ []) ++ drop n words) (sym at)
           ∙ ap (λ ss. flat_map spelled ss ++ drop (c.options.at + c.words-at.result) words) (sym pushed);
       each = subst (AllByRecursion IsSetting) (sym pushed) (settings_push c.options.list.items s c.options.invariant.each found.0);
@@ -37,12 +36,10 @@ options-preserved c =
 pub options-smaller : goal.options-smaller
 options-smaller c =
     let words : List (List ℕ) = map string_bytes c.args.words.now in
-    let s : Setting = c.in-Some.setting in
+    let long = length-map c.args.words.now string_bytes in
     let found = rw c.in-Some.is at c.in_ok-setting.ensures in
-    let next : drop c.options.at words ≡ spelled s ++ drop (length (spelled s)) (drop c.options.at words) =
-    subst (λ w. w ≡ spelled s ++ drop (length (spelled s)) w) c.behind-in-options.ensures found.1 in
-    let long = words_left words s c.options.at (omega (arith, length-map c.args.words.now string_bytes, c.options.invariant.within)) next in
-    omega (arith, some_words s, c.words-at.ensures, length-map c.args.words.now string_bytes)
+    let left = words_left words _ c.in-Some.setting c.options.at (omega (arith, long, c.options.invariant.within)) c.behind-in-options.ensures found.1 in
+    omega (arith, some_words c.in-Some.setting, c.words-at.ensures, long, left.1)
 
 pub returns : goal.returns
 returns c = (

@@ -1,0 +1,90 @@
+//! The command `compile`.
+use super::{Table, files_of, run_words};
+use rbbi_io::MemFiles;
+use std::test::Fail;
+
+/// The table file of the rules `a;`.
+pub(super) const TABLE: &[u8] = &[
+    0x52, 0x42, 0x42, 0x49, 0x54, 0x42, 0x4C, 0x01, 2, 0, 3, 0, 0, 0, 1, 0, 3, 0, 0, 0, 0, 0, 0, 0,
+    0, 0, 0x61, 0, 0, 0, 1, 0, 0x62, 0, 0, 0, 0, 0, 1, 0, 0, 0, 0, 0, 0, 0, 0, 0, 0, 0, 0, 0, 0, 0,
+    0, 0, 0, 0, 0, 0, 0, 0, 0, 0, 0, 0, 2, 0, 1, 0, 0, 0, 0, 0, 0, 0, 0, 0, 0, 0, 0x0F,
+];
+
+/// Rules, the exit status, and the output.
+pub(super) const TABLES: Table = (
+    "compile r.txt b.tbl",
+    &["r.txt"],
+    &[
+        (
+            &[b"[a-z]+; ' '+;"],
+            0,
+            "categories 3 rows 4 lists 1 slashes 0 safe 7\n",
+        ),
+        (
+            &[b"a+ / b; b;"],
+            0,
+            "categories 3 rows 5 lists 1 slashes 1 safe 7\n",
+        ),
+        (
+            &[b"a;"],
+            0,
+            "categories 2 rows 3 lists 1 slashes 0 safe 4\n",
+        ),
+        (
+            &[b"(a|b)*a(a|b)(a|b)(a|b)(a|b)(a|b)(a|b)(a|b)(a|b)(a|b)(a|b);"],
+            0,
+            "categories 3 rows 2049 lists 1 slashes 0 safe 5\n",
+        ),
+        (
+            &[b"(a|b)*a(a|b)(a|b)(a|b)(a|b)(a|b)(a|b)(a|b)(a|b)(a|b)(a|b)(a|b)(a|b)(a|b);"],
+            3,
+            "rules: TooManyRows\n",
+        ),
+        (
+            &[b"(a|b)*a(a|b)(a|b)(a|b)(a|b)(a|b)(a|b)(a|b)(a|b)(a|b)(a|b)(a|b)(a|b)(a|b)(a|b);"],
+            3,
+            "rules: TooManySets\n",
+        ),
+        (&[b"[z-a];"], 3, "rules:1:2: BadRange\n"),
+        (&[b""], 3, "rules:1:1: NoRules\n"),
+        // a rule of 8,192 leaves, by names that are doubled
+        (
+            &[
+                b"$a = x; $b = $a $a; $c = $b $b; $d = $c $c; $e = $d $d; $f = $e $e; $g = $f $f;
+$h = $g $g; $i = $h $h; $j = $i $i; $k = $j $j; $l = $k $k; $m = $l $l; $n = $m $m; $n;",
+            ],
+            3,
+            "rules: TooManyRows\n",
+        ),
+    ],
+);
+
+/// Whether the file of this name holds these bytes.
+fn holds(files: &MemFiles, name: &str, bytes: &[u8]) -> bool {
+    match files.get(name) {
+        Some(held) => held == bytes,
+        None => false,
+    }
+}
+
+/// The table file is written before the line, and not at all behind a fault.
+#[test]
+fn files(rt: HostRuntime) -> Result<(), Fail> {
+    let mut files = files_of(&rt, &[("r.txt", b"a;")])?;
+    run_words(&rt, "compile r.txt b.tbl", &mut files)?;
+    assert_eq!(rt; files.get("b.tbl"), Some(TABLE));
+    let mut files = files_of(&rt, &[("r.txt", b"(")])?;
+    run_words(&rt, "compile r.txt b.tbl", &mut files)?;
+    assert_eq!(rt; files.get("b.tbl"), None);
+    // a write that fails ends the run before anything goes out, and leaves the other files
+    let mut files = files_of(&rt, &[("r.txt", b"a;"), ("x.txt", b"x")])?;
+    files.fail_at(2)?;
+    let (status, out) = run_words(&rt, "compile r.txt b.tbl", &mut files)?;
+    assert_eq!(rt; status, 7);
+    assert_eq!(rt; out.taken(), b"".as_slice());
+    assert_eq!(rt; files.calls(), 2);
+    assert_eq!(rt; out.calls(), 0);
+    assert!(rt; holds(&files, "r.txt", b"a;"));
+    assert!(rt; holds(&files, "x.txt", b"x"));
+    Ok(())
+}

@@ -1,0 +1,137 @@
+//! Files at a limit, and past it.
+use super::compile::TABLE;
+use super::{files_of, is_right, run_words};
+use std::alloc::{AllocError, Global};
+use std::test::Fail;
+
+/// Variables from 0 on, a line each, of which each is the one before once or more, and the rule of
+/// the last.
+fn chain(alloc: Global, last: u32) -> Result<String, AllocError> {
+    let mut text = String::from_str(alloc, "$v0 = x+;\n")?;
+    for next in 1..=last {
+        let number = next - 1;
+        let line = format!(in alloc; "$v{next} = $v{number}+;\n")?;
+        text.push_str(line.as_str())?;
+    }
+    let rule = format!(in alloc; "$v{last};")?;
+    text.push_str(rule.as_str())?;
+    Ok(text)
+}
+
+/// Rule files at a limit, and past it.
+#[test]
+fn rule_files(rt: HostRuntime) -> Result<(), Fail> {
+    let alloc = rt.alloc();
+    for (rules, status, output) in [
+        (
+            "a;".repeat(alloc, 4096)?,
+            0,
+            "rules 4096 slashes 0 leaves 4096\n",
+        ),
+        ("a;".repeat(alloc, 4097)?, 3, "rules:1:8193: TooManyRules\n"),
+        (
+            "a/b;".repeat(alloc, 33)?,
+            3,
+            "rules:1:129: TooManySlashes\n",
+        ),
+        (chain(alloc, 127)?, 0, "rules 1 slashes 0 leaves 1\n"),
+        (chain(alloc, 128)?, 3, "rules:130:1: TooTall\n"),
+    ] {
+        let mut files = files_of(&rt, &[("r.txt", rules.as_bytes())])?;
+        assert!(rt;
+            is_right(&rt, "check r.txt", &mut files, status, output)?,
+            "{output}"
+        );
+    }
+    Ok(())
+}
+
+/// A literal of 254 different characters has 255 categories, and one more has too many.
+#[test]
+fn categories(rt: HostRuntime) -> Result<(), Fail> {
+    for (last, status) in [(0x4EFD, 0), (0x4EFE, 3)] {
+        let mut rules = String::new(rt.alloc());
+        for c in '\u{4E00}'..='\u{4EFE}' {
+            if c as u32 <= last {
+                rules.push(c)?;
+            }
+        }
+        rules.push(';')?;
+        let mut files = files_of(&rt, &[("r.txt", rules.as_bytes())])?;
+        let (answered, out) = run_words(&rt, "compile r.txt b.tbl", &mut files)?;
+        assert_eq!(rt; answered, status);
+        if status == 3 {
+            assert_eq!(rt; out.taken(), b"rules: TooManyCategories\n".as_slice());
+        }
+    }
+    Ok(())
+}
+
+/// How many bytes of a property file there are, at most one more than it may have, the rule file,
+/// the status and the output.
+const LONG_FILES: &[(usize, &[u8], u8, &str)] = &[
+    (8_388_608, b"a;", 0, "rules 1 slashes 0 leaves 1\n"),
+    (8_388_608, b"(", 3, "rules:1:2: Syntax\n"),
+    (8_388_609, b"a;", 5, "g.txt: TooLong\n"),
+    (8_388_609, b"(", 5, "g.txt: TooLong\n"),
+];
+
+/// The first bytes, at most so many.
+fn front(bytes: &[u8], len: usize) -> &[u8] {
+    if len < bytes.len() {
+        return &bytes[..len];
+    }
+    bytes
+}
+
+/// Long property files, and a bad one with a rule file that is too long.
+#[test]
+fn property_files(rt: HostRuntime) -> Result<(), Fail> {
+    let words = "check --prop A=g.txt r.txt";
+    let line = "#".repeat(rt.alloc(), 4096)?;
+    let longest = line.repeat(rt.alloc(), 2049)?;
+    for row in LONG_FILES {
+        let (len, rules, status, output) = *row;
+        assert!(rt; len <= longest.len());
+        let held = [("g.txt", front(longest.as_bytes(), len)), ("r.txt", rules)];
+        let mut files = files_of(&rt, &held)?;
+        assert!(rt;
+            is_right(&rt, words, &mut files, status, output)?,
+            "of {len}: {output}"
+        );
+    }
+    let held = [
+        ("g.txt", b"61;x\n\xFF".as_slice()),
+        ("r.txt", longest.as_bytes()),
+    ];
+    let mut files = files_of(&rt, &held)?;
+    assert!(rt; is_right(&rt, words, &mut files, 3, "rules: TooLong\n")?);
+    Ok(())
+}
+
+/// A text that is as long as a text may be, and one of one character more.
+#[test]
+fn longest_text(rt: HostRuntime) -> Result<(), Fail> {
+    let alloc = rt.alloc();
+    let row = "a".repeat(alloc, 4096)?;
+    let mut text = row.repeat(alloc, 4096)?;
+    let script = b"insert 16777216 a\nreplace 0 1 b\nis 1\npreceding 16777216";
+    for (status, output) in [
+        (0, "toolong\nok 16777216\nyes\n16777215\n"),
+        (5, "t.txt: TooManyChars\n"),
+    ] {
+        let held = [
+            ("b.tbl", TABLE),
+            ("t.txt", text.as_bytes()),
+            ("s.txt", script.as_slice()),
+        ];
+        let mut files = files_of(&rt, &held)?;
+        let words = "run --table b.tbl t.txt s.txt";
+        assert!(rt;
+            is_right(&rt, words, &mut files, status, output)?,
+            "{output}"
+        );
+        text.push('a')?;
+    }
+    Ok(())
+}
