@@ -59,13 +59,7 @@ fn kept_value<'a>(kind: &'a Kind, expr: &Expr) -> Option<&'a Option<SharedSet>>
     ensures lone { IfSome result (λ value. IsLoneSet (expr_tree expr.now)) }
 {
     match kind {
-        Kind::Set(value) => {
-            if is_lone_set(expr) {
-                Some(value)
-            } else {
-                None
-            }
-        }
+        Kind::Set(value) => { if is_lone_set(expr) { Some(value) } else { None } }
         Kind::Expression(_) => None,
     }
 }

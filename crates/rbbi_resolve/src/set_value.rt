@@ -199,7 +199,10 @@ fn join_name(
 }
 
 /// The set of a variable by itself, where there is one.
-pub(crate) fn whole_of(alloc: Global, value: &Option<SharedSet>) -> Result<Option<CodeSet>, AllocError>
+pub(crate) fn whole_of(
+    alloc: Global,
+    value: &Option<SharedSet>,
+) -> Result<Option<CodeSet>, AllocError>
     ensures { IfOk result (λ whole. whole ≡ value.now) }
 {
     match value {
