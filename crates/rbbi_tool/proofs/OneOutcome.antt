@@ -272,8 +272,8 @@ module _ (laws : Laws) where
   }
 
   -- what the text of rules comes to is determined, and what a rule file comes to
-  text_determined : (files : List rows.File) (ignored : Bool) (x : List ℕ) → IsDetermined (List Rule) (rules_of_text_stage files ignored x)
-  text_determined files ignored x =
+  rule_text_determined : (files : List rows.File) (ignored : Bool) (x : List ℕ) → IsDetermined (List Rule) (rules_of_text_stage files ignored x)
+  rule_text_determined files ignored x =
       determined_both (tokens_stage x) (λ ts. followed_by (statements_stage x ts) (meaning_stage files ignored x)) (tokens_determined x)
       (λ ts. determined_both (statements_stage x ts) (meaning_stage files ignored x) (statements_determined x ts) (meaning_determined files ignored x))
 
@@ -285,7 +285,7 @@ module _ (laws : Laws) where
       (λ _.
       determined_both (rule_text_stage bytes) (rules_of_text_stage files ignored)
       (record { value = λ x y is is'. is.1 ∙ sym is'.1; refusal = not_utf8_once subject.Rules bytes; apart = λ x r is (at, wrong, told). wrong.not_utf8 is.0 })
-      (text_determined files ignored))
+      (rule_text_determined files ignored))
 
   -- what the table of rules comes to is determined
   table_of_determined : (stage : Stage (List Rule)) → IsDetermined (List Rule) stage
@@ -400,7 +400,7 @@ module _ (laws : Laws) where
       settled AreAlike (command_stage Demo request handed files) alike
       (determined_both (number_stage word) (λ count. followed_by (compiled_text_stage (chars demo_rules)) (summary_stage count)) (number_determined word)
       (λ count. determined_both (compiled_text_stage (chars demo_rules)) (summary_stage count)
-      (table_of_determined (rules_of_text_stage [] false (chars demo_rules)) (text_determined [] false (chars demo_rules))) (summary_determined count)))
+      (table_of_determined (rules_of_text_stage [] false (chars demo_rules)) (rule_text_determined [] false (chars demo_rules))) (summary_determined count)))
   command_settled Check request handed files =
       settled AreAlike (command_stage Check request handed files) alike
       (determined_both (rules_stage request.properties request.ignored handed (nth files 0)) (λ rules. gives (printed (counts_line rules)))

@@ -1,10 +1,10 @@
-use Rattle.std.proofs.Common.{◌∙◌, sym, subst}
+use Rattle.std.proofs.Common.{◌∙◌, refl, sym, subst}
 use Rattle.std.specs.Prelude.{IfSome}
 use Rattle.rbbi_io.specs.Counts.{EachGoesOn}
 use Rattle.rbbi_tool.specs.Files.{sources_of}
 use Rattle.rbbi_tool.specs.Reads.{MakesSomeReads}
 use Rattle.rbbi_tool.proofs.Runs.{is_answer, from_start, statuses_of, usage_of, no_form_of, outcome_of, read_failed_of, put_failed_of, front_of}
-use Rattle.rbbi_tool.proofs.Runs.{complete_of, each_of, unwritten_of, others_of_all}
+use Rattle.rbbi_tool.proofs.Runs.{no_part_same, complete_of, each_of, unwritten_of, others_of_all}
 use Rattle.rbbi_tool.proofs.program.rbbi.Goals as goal
 
 pub deliver-requires : goal.deliver-requires
@@ -46,3 +46,7 @@ returns-in-Ok g c =
       writes = subst (λ w. EachGoesOn w (writes end)) (λ i name. before.writes name i) after.writes;
       faults = after.faults;
     }
+
+pub returns-in-Err-clause-front : goal.returns-in-Err-clause-front
+returns-in-Err-clause-front g c = λ high.
+    no_part_same (g.F.Files.contents c.args.files.now) (g.F.Files.contents c.run-ended.new.files) _ _ _ _ _ c.run-ended.ensures.contents refl

@@ -37,7 +37,7 @@ returns-in_err-all-clause-reading g c =
     let here = rw c.in-Some.is at c.in_ok-request.ensures in
     let sources = c.deref.ensures.value ∙ c.in_ok-sources.ensures in
     record {
-      unread = λ none. absurd (none c.in-Some.request here);
+      unread = λ none. absurd (none (asked_by c.in-Some.request) here);
       order = λ request asks. ordered _ _ _ request asks here c.deref.result.now sources _ _ c.in_err-all.ensures.order;
       steps = λ request asks. reads_none _ request c.args.steps.now;
     }
@@ -48,7 +48,7 @@ returns-clause-reading g c =
     let sources = c.deref.ensures.value ∙ c.in_ok-sources.ensures in
     let Reads = λ (bytes : List (List ℕ)). FilesReads (asked_by c.in-Some.request) bytes c.args.steps.now c.output_of.new.steps in
     record {
-      unread = λ none. absurd (none c.in-Some.request here);
+      unread = λ none. absurd (none (asked_by c.in-Some.request) here);
       order = λ request asks. ordered _ _ _ request asks here c.deref.result.now sources _ _ c.in_ok-all.ensures.order;
       steps = λ request asks.
           reads_told _ _ (asked_by c.in-Some.request) request asks here c.deref.result.now c.in_ok-all.all.items c.args.steps.now c.output_of.new.steps
