@@ -260,17 +260,19 @@ def operands(form, head='[', tail='];'):
     return padded(''.join(out) + tail)
 
 
-def variables():
-    """As many variables as fit, each a set of one property."""
+def variables(form):
+    """As many variables as fit, each a set of the form, with a character of its own where that has
+    one. No two of the characters are neighbours."""
     letters = string.ascii_letters
     names = (a + b + c for a in letters for b in letters for c in letters)
-    out, room = [], MIB - 2
+    out, room, code = [], MIB - 2, 0x10000
     for name in names:
-        statement = f'${name}=[\\p{{L}}];'
-        if room < len(statement):
+        statement = f'${name}={form};'.replace('@', chr(code))
+        size = len(statement.encode('utf-8'))
+        if room < size:
             break
         out.append(statement)
-        room -= len(statement)
+        room, code = room - size, code + 2
     return padded(''.join(out) + 'b;')
 
 
@@ -292,7 +294,10 @@ FRONT = {
     'differences': (lambda: operands('[\\p{L}-[@]]'),
                     'one set of 75,000 sets that lack one letter'),
     'cut': (lambda: repeat('&\\p{L}', '[\\p{L}', '];'), 'one set met with a property 170,000 times'),
-    'variables': (variables, '80,000 variables of one property'),
+    'named': (lambda: repeat('$v', '$v=[\\p{L}];[', '];'), 'one set of 500,000 times one variable'),
+    'variables': (lambda: variables('[\\p{L}]'), '80,000 variables of one property'),
+    'different': (lambda: variables('[\\p{L}@]'),
+                  '60,000 variables of one property and a letter each'),
     'lone': (lambda: repeat('[\\p{L}];'), '130,000 rules of one property, refused'),
     'samename': (lambda: '$x=' + '\\p{L}' * 40000 + ';b;', '40,000 times \\p{L} in a sequence'),
     'names': (lambda: repeat('$ab', '$ab=[a-z];$x=', ';b;'), 'one sequence of 350,000 names'),
