@@ -4,6 +4,7 @@ pub mod Ranges
 pub mod SetJoins
 pub mod Noting
 pub mod SetLoops
+pub mod Repeated
 pub mod Answered
 pub mod Named
 pub mod Characters

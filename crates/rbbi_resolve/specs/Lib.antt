@@ -26,5 +26,6 @@ pub mod RulesSoFar
 pub mod Outcomes
 pub mod Questions
 pub mod SetsSoFar
+pub mod Repeats
 pub mod TextCharacters
 pub mod Laws

@@ -17,6 +17,7 @@ mod membership;
 mod outcome;
 mod own_leaves;
 mod properties;
+mod repeats;
 mod rule;
 mod rules;
 mod scope;

@@ -1,4 +1,4 @@
-use Rattle.std.proofs.Common.{◌≡◌, ◌-◌, is_none, subst, sym, ap, ◌∙◌, arith, rules}
+use Rattle.std.proofs.Common.{◌≡◌, ◌-◌, length, is_none, subst, sym, ap, ◌∙◌, arith, rules}
 use Rattle.rbbi_tree.specs.Trees.{joined, set_character, set_range, set_name, set_property, set_within}
 use Rattle.rbbi_tree.specs.Values.{part_tree, set_tree, set_item_tree, part_tree_out}
 use Rattle.rbbi_tree.specs.declared.syntax.SetItem.TheViews.{out-SetPart}
@@ -12,12 +12,21 @@ use Rattle.rbbi_resolve.proofs.Kept.{files_stay}
 use Rattle.rbbi_resolve.proofs.Named.{property_noted, within_noted}
 use Rattle.rbbi_resolve.specs.Scopes.{context_of}
 use Rattle.rbbi_resolve.proofs.SetLoops.{parts_in, joining_starts, joining_turn, joining_gives, joining_notes}
+use Rattle.rbbi_resolve.proofs.Repeated.{again_turn}
 use Rattle.rbbi_resolve.proofs.set_value.+sets.Goals as goal
 
 pub value_of_set-loop-i-init : goal.value_of_set-loop-i-init
 value_of_set-loop-i-init t c =
     joining_starts c.args.properties.now (context_of c.args.properties.now c.args.scope.now) c.args.least.now (parts_in c.args.set.now) c.len-i.result
     c.new-so_far.result (search rules) c.new-so_far.ensures
+
+pub value_of_set-loop-i-preserved-then-say_the_same : goal.value_of_set-loop-i-preserved-then-say_the_same
+value_of_set-loop-i-preserved-then-say_the_same t c =
+    let files = c.args.properties.now in
+    let long : c.len.result ≡ length (parts_in c.args.set.now) = search rules in
+    again_turn files (context_of files c.args.scope.now) c.args.least.now (parts_in c.args.set.now) c.loop-i.i (c.loop-i.i - 1) c.index-part.result.now
+    c.index-behind.result.now c.loop-i.so_far c.loop-i.least c.loop-i.properties (omega arith) (omega (arith, long, c.if-i-len.true)) (search rules)
+    (search rules) (c.say_the_same.ensures c.if-say_the_same.true files c.requires) c.loop-i.invariant
 
 pub value_of_set-loop-i-preserved : goal.value_of_set-loop-i-preserved
 value_of_set-loop-i-preserved t c =
