@@ -295,6 +295,8 @@ FRONT = {
                     'one set of 75,000 sets that lack one letter'),
     'cut': (lambda: repeat('&\\p{L}', '[\\p{L}', '];'), 'one set met with a property 170,000 times'),
     'named': (lambda: repeat('$v', '$v=[\\p{L}];[', '];'), 'one set of 500,000 times one variable'),
+    'inturn': (lambda: repeat('$v$w', '$v=[\\p{L}];$w=[\\p{Lu}];[', '];'),
+               'one set of two variables in turn, 500,000 times in all'),
     'variables': (lambda: variables('[\\p{L}]'), '80,000 variables of one property'),
     'different': (lambda: variables('[\\p{L}@]'),
                   '60,000 variables of one property and a letter each'),
