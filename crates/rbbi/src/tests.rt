@@ -110,26 +110,69 @@ fn first_wrong(rt: &HostRuntime, table: Table) -> Result<Option<usize>, AllocErr
     Ok(None)
 }
 
-const TABLES: &[Table] = &[
-    breaks::BOUNDARIES,
-    breaks::BY_PROPERTIES,
-    check::COUNTS,
-    check::WITHOUT_DICTIONARY,
-    check::FAULTS,
-    compile::TABLES,
-    conform::VERDICTS,
-    conform::BY_TABLE,
-    forms::PROPERTY_FILES,
-    run::REPLIES,
-    run::BY_TABLE,
-];
+#[test]
+fn boundaries(rt: HostRuntime) -> Result<(), Fail> {
+    assert_eq!(rt; first_wrong(&rt, breaks::BOUNDARIES)?, None);
+    Ok(())
+}
 
 #[test]
-fn tables(rt: HostRuntime) -> Result<(), Fail> {
-    for table in TABLES {
-        let (words, _, _) = *table;
-        assert_eq!(rt; first_wrong(&rt, *table)?, None, "of {words}");
-    }
+fn boundaries_by_properties(rt: HostRuntime) -> Result<(), Fail> {
+    assert_eq!(rt; first_wrong(&rt, breaks::BY_PROPERTIES)?, None);
+    Ok(())
+}
+
+#[test]
+fn counts(rt: HostRuntime) -> Result<(), Fail> {
+    assert_eq!(rt; first_wrong(&rt, check::COUNTS)?, None);
+    Ok(())
+}
+
+#[test]
+fn without_dictionary(rt: HostRuntime) -> Result<(), Fail> {
+    assert_eq!(rt; first_wrong(&rt, check::WITHOUT_DICTIONARY)?, None);
+    Ok(())
+}
+
+#[test]
+fn rule_faults(rt: HostRuntime) -> Result<(), Fail> {
+    assert_eq!(rt; first_wrong(&rt, check::FAULTS)?, None);
+    Ok(())
+}
+
+#[test]
+fn compiled_tables(rt: HostRuntime) -> Result<(), Fail> {
+    assert_eq!(rt; first_wrong(&rt, compile::TABLES)?, None);
+    Ok(())
+}
+
+#[test]
+fn verdicts(rt: HostRuntime) -> Result<(), Fail> {
+    assert_eq!(rt; first_wrong(&rt, conform::VERDICTS)?, None);
+    Ok(())
+}
+
+#[test]
+fn verdicts_by_table(rt: HostRuntime) -> Result<(), Fail> {
+    assert_eq!(rt; first_wrong(&rt, conform::BY_TABLE)?, None);
+    Ok(())
+}
+
+#[test]
+fn property_files(rt: HostRuntime) -> Result<(), Fail> {
+    assert_eq!(rt; first_wrong(&rt, forms::PROPERTY_FILES)?, None);
+    Ok(())
+}
+
+#[test]
+fn replies(rt: HostRuntime) -> Result<(), Fail> {
+    assert_eq!(rt; first_wrong(&rt, run::REPLIES)?, None);
+    Ok(())
+}
+
+#[test]
+fn replies_by_table(rt: HostRuntime) -> Result<(), Fail> {
+    assert_eq!(rt; first_wrong(&rt, run::BY_TABLE)?, None);
     Ok(())
 }
 
