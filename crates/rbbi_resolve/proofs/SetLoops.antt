@@ -4,18 +4,20 @@ use Rattle.std.proofs.lemmas.List.{drop_more, drop_all}
 use Rattle.rbbi_model.specs.Ranges.{Range}
 use Rattle.rbbi_model.specs.SetTrees as model
 use Rattle.rbbi_props.specs.Rows.{File}
-use Rattle.rbbi_tree.specs.Trees.{set_of, parts_of}
-use Rattle.rbbi_tree.specs.Values.{set_tree, part_tree, set_tree_out, parts_tree_out}
+use Rattle.rbbi_tree.specs.Trees.{SetItemTree, set_of, parts_of}
+use Rattle.rbbi_tree.specs.Values.{set_tree, part_tree, set_item_tree, set_tree_out, parts_tree_out}
 use Rattle.rbbi_tree.specs.declared.syntax.SetExpr.{SetExpr}
 use Rattle.rbbi_tree.specs.declared.syntax.SetPart.{SetPart}
-use Rattle.rbbi_tree.specs.declared.syntax.SetItem.TheViews.{out-SetExpr, out-Parts}
+use Rattle.rbbi_tree.specs.declared.syntax.SetItem.TheViews.{out-SetExpr, out-Parts, out-SetPart}
+use Rattle.rbbi_tree.specs.declared.syntax.SetItem.{SetItem}
 use Rattle.rbbi_resolve.specs.declared.fault.Fault.{Fault}
 use Rattle.rbbi_resolve.specs.declared.so_far.SoFar.{SoFar}
 use Rattle.rbbi_resolve.specs.Contexts.{Context, value_of_name}
-use Rattle.rbbi_resolve.specs.SetValues.{value_of_set, value_of_parts, value_of_part, signed, IsValue}
+use Rattle.rbbi_resolve.specs.SetValues.{value_of_set, value_of_parts, value_of_part, value_of_item, joined_to, signed, IsValue}
 use Rattle.rbbi_resolve.specs.SetsSoFar.{IsSoFar}
 use Rattle.rbbi_resolve.specs.Parts.{parts_of_set, parts_of_part, parts_of_parts}
 use Rattle.rbbi_resolve.specs.Faults.{noted_parts}
+use Rattle.rbbi_resolve.proofs.ItemTrees.{part_is}
 use Rattle.rbbi_resolve.proofs.Noting.{noted_parts_before}
 
 -- the parts of a set
@@ -50,6 +52,14 @@ joining_starts files context before items number so_far all starts =
       is = rw none (starts files);
       noted = rw none refl;
     }
+
+-- what joining an item to the left does, a part with that item does
+pub joined_by : (files : List File) (named : List ℕ → Option model.SetTree) (p : SetPart) (i : SetItem) (tree : SetItemTree) (so_far : SoFar)
+    (worth : Option model.SetTree → Option model.SetTree) → (out-SetPart p).item ≡ i → set_item_tree i ≡ tree →
+    IsSoFar files (λ left. worth (joined_to (out-SetPart p).join (value_of_item files named tree) left)) so_far →
+    IsSoFar files (λ left. worth (value_of_part files named left (part_tree p))) so_far
+joined_by files named p i tree so_far worth is same =
+    subst (λ q. IsSoFar files (λ left. worth (value_of_part files named left q)) so_far) (sym (part_is p i tree is same))
 
 -- what joining a part does
 pub record JoinsPart (context : List File → Context) (files : List File) (p : SetPart) (so_far so_far' : SoFar) (least least' : Option Fault)

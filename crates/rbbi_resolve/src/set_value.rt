@@ -14,7 +14,7 @@ ghost use Rattle.rbbi_resolve.specs.Scopes.{IsScope, context_of};
 
 use crate::fault::{Fault, note, note_where};
 use crate::properties::Properties;
-use crate::repeats::say_the_same;
+use crate::repeats::Repeats;
 use crate::scope::Scope;
 use crate::so_far::SoFar;
 use crate::variables::Kind;
@@ -42,15 +42,14 @@ pub(crate) fn value_of_set(
     ensures same { properties.new ≡ properties.old }
 {
     let mut so_far = SoFar::new(alloc);
+    let mut repeats = Repeats::new(alloc);
     for i in (0..set.parts.items.len()).rev() {
         let part = &set.parts.items[i];
-        if i + 1 < set.parts.items.len() {
-            let behind = &set.parts.items[i + 1];
-            if say_the_same(scope, part, behind) {
-                continue;
-            }
+        if repeats.has(part) {
+            continue;
         }
         join_part(alloc, scope, properties, least, &mut so_far, part)?;
+        repeats.note(alloc, scope, part, i)?;
     }
     let value = so_far.finish(alloc, set.negated)?;
     Ok(value)
