@@ -56,6 +56,9 @@ pub(crate) struct Properties<'a> {
     table: &'a PropTable,
     /// What was found for each property so far, by a text that is made of its name and value.
     answers: IndexMap<String, Answer>,
+    /// What was found, by a hash, since a property may be spelled in many ways. Of sets with one hash
+    /// the last one is here.
+    sets: IndexMap<u64, Rc<Option<CodeSet>>>,
     /// The chunks of the sets of variables.
     shelf: Shelf,
 }
@@ -84,6 +87,7 @@ impl<'a> Properties<'a> {
         Properties {
             table,
             answers: IndexMap::new(alloc),
+            sets: IndexMap::new(alloc),
             shelf: Shelf::new(alloc),
         }
     }
@@ -104,8 +108,9 @@ impl<'a> Properties<'a> {
         if let Some(found) = self.found_before(key.as_str(), negated, name, value)? {
             return Ok(found);
         }
-        let answer = answer_for(alloc, self.table, negated, name, value)?;
-        let set = answer.set.clone()?;
+        let found = find(alloc, self.table, negated, name, value)?;
+        let set = keep_once(alloc, &mut self.sets, found)?;
+        let answer = answer_of(alloc, self.table, negated, name, value, set.clone()?)?;
         self.answers.insert(key, answer)?;
         Ok(set)
     }
@@ -169,24 +174,69 @@ fn key_of(
     Ok(key)
 }
 
-/// The answer for a property, by a look-up.
-fn answer_for(
+/// The answer for a property with this set.
+fn answer_of(
     alloc: Global,
     table: &PropTable,
     negated: bool,
     name: &Word,
     value: &Option<Word>,
+    set: Rc<Option<CodeSet>>,
 ) -> Result<Answer, AllocError>
-    ensures is_for { IfOk result (λ answer. IsFor answer negated name.now value.now) }
-    ensures right { IfOk result (IsAnswer table.now) }
+    requires { IsValue table.now
+        (value_of_property table.now negated name.now value.now) (rc_value set) }
+    ensures { IfOk result (IsAnswer table.now) }
 {
-    let set = find(alloc, table, negated, name, value)?;
     Ok(Answer {
         negated,
         name: String::from_str(alloc, name.as_str())?,
         value: text_of(alloc, value)?,
-        set: Rc::new(alloc, set)?,
+        set,
     })
+}
+
+/// What was found, or what is the same and was found before, by another spelling.
+fn keep_once(
+    alloc: Global,
+    sets: &mut IndexMap<u64, Rc<Option<CodeSet>>>,
+    found: Option<CodeSet>,
+) -> Result<Rc<Option<CodeSet>>, AllocError>
+    ensures { IfOk result (λ kept. rc_value kept ≡ found) }
+{
+    let hash = hash_of(&found);
+    if let Some(set) = sets.get(&hash) {
+        if are_same(set.as_ref(), &found) {
+            let copy = set.clone()?;
+            return Ok(copy);
+        }
+    }
+    let set = Rc::new(alloc, found)?;
+    sets.insert(hash, set.clone()?)?;
+    Ok(set)
+}
+
+/// Whether both are absent, or have the same code points.
+fn are_same(first: &Option<CodeSet>, second: &Option<CodeSet>) -> bool
+    ensures { IsTrue result → first.now ≡ second.now }
+{
+    match first {
+        Some(first) => match second {
+            Some(second) => first.ranges() == second.ranges(),
+            None => false,
+        },
+        None => second.is_none(),
+    }
+}
+
+/// A hash of the code points at which the ranges begin.
+fn hash_of(set: &Option<CodeSet>) -> u64 {
+    let mut hash: u64 = 0;
+    if let Some(set) = set {
+        for range in set.ranges() {
+            hash = (hash ^ u64::from(range.low)).wrapping_mul(0x9E37_79B9_7F4A_7C15);
+        }
+    }
+    hash
 }
 
 /// A copy of a word that may be absent.
