@@ -24,9 +24,6 @@ any_take_more sets i next c inside is =
 abbrev pub IsRest : List (List Range) → List Range → ℕ → List Range → Type 0
 IsRest sets set count rest = (c : ℕ) → Has rest c ↔ (Has set c × ¬ HasAny (take count sets) c)
 
-pub IsRest-none : (sets : List (List Range)) (set rest : List Range) → rest ≡ set → IsRest sets set 0 rest
-IsRest-none sets set rest e c = rw e (λ h. (h, λ n. n), λ h. h.0)
-
 -- nothing of it is in the next set
 pub IsRest-same : (sets : List (List Range)) (set rest : List Range) (i : ℕ) (next : List Range) → i < length sets → next ≡ get_or sets i next →
     IsRest sets set i rest →
