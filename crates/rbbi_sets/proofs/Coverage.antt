@@ -1,6 +1,6 @@
 -- What a list of ranges covers.
 use Rattle.std.proofs.Common.{◌≡◌, ℕ, ◌<◌, ◌≤◌, suc, zero, Bool, true, false, ◌||◌, List, [], ◌∷◌, ◌++◌, length, get_or, refl, ap, ◌∙◌, inl, inr, arith, ◌⊎◌}
-use Rattle.std.proofs.Common.{sym, Decides}
+use Rattle.std.proofs.Common.{sym, ◌↔◌, Decides}
 use Rattle.std.proofs.Math.Bool.{or_assoc, or-false}
 use Rattle.std.proofs.lemmas.Bool.{false≢true, leb-true, le-leb, lt-leb, and_left, and_right, and_from, or_left, or_right}
 use Rattle.std.proofs.lemmas.Bool.Decides.{Decides-and, Decides-or}
@@ -57,6 +57,15 @@ pub covers-at : (xs : List Range) (k : ℕ) (d : Range) (c : ℕ) → k < length
 covers-at [] k d c l a b = absurd (omega arith)
 covers-at (x ∷ xs) zero d c l a b = or_left _ _ (is_between-true x.low x.high c a b)
 covers-at (x ∷ xs) (suc k) d c l a b = or_right _ _ (covers-at xs k d c (omega arith) a b)
+
+-- a list of ranges that is joined from two has what either has
+pub has-append : (xs ys : List Range) (c : ℕ) → Has (xs ++ ys) c ↔ (Has xs c ⊎ Has ys c)
+has-append [] ys c = (λ h. inr h, λ h. elim h [ inl g ↦ absurd g | inr g ↦ g ])
+has-append (x ∷ xs) ys c =
+    let rest = has-append xs ys c in (
+      λ h. elim h [ inl g ↦ inl (inl g) | inr g ↦ elim (rest.0 g) [ inl k ↦ inl (inr k) | inr k ↦ inr k ] ],
+      λ h. elim h [ inl g ↦ elim g [ inl k ↦ inl k | inr k ↦ inr (rest.1 (inl k)) ] | inr g ↦ inr (rest.1 (inr g)) ],
+    )
 
 -- a code point is in a set or not
 pub has_or_not : (ranges : List Range) (c : ℕ) → Has ranges c ⊎ ¬ Has ranges c

@@ -1,8 +1,7 @@
 -- What `join_last` leaves, case by case.
-use Rattle.std.proofs.Common.{◌≡◌, ℕ, ◌+◌, ◌≤◌, Bool, true, false, ◌&&◌, ◌||◌, List, [], ◌∷◌, ◌++◌, length, get_or, set, take, refl, ap, sym, ◌∙◌, subst, arith}
-use Rattle.std.proofs.Math.Bool.{or-false}
+use Rattle.std.proofs.Common.{◌≡◌, ℕ, ◌+◌, ◌≤◌, List, [], ◌∷◌, ◌++◌, length, get_or, set, take, ap, sym, ◌∙◌, subst, arith}
 use Rattle.rbbi_model.specs.Ranges.{Range}
-use Rattle.rbbi_sets.specs.Covers.{is_between, covers}
+use Rattle.rbbi_sets.specs.Covers.{is_between}
 use Rattle.rbbi_sets.specs.Joins.{Joins}
 use Rattle.rbbi_sets.specs.Rising.{AreRising, BeginUpTo}
 use Rattle.rbbi_sets.proofs.Coverage.{covers-push}

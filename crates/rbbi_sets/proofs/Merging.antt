@@ -1,9 +1,8 @@
 -- What holds while two lists are merged.
-use Rattle.std.proofs.Common.{◌≡◌, ℕ, ◌<◌, ◌≤◌, Bool, true, false, ◌||◌, List, [], length, get_or, take, refl, ap, sym, ◌∙◌, subst, inl, inr, arith}
+use Rattle.std.proofs.Common.{◌≡◌, ℕ, ◌<◌, ◌≤◌, Bool, true, false, ◌||◌, List, length, get_or, take, refl, ap, sym, ◌∙◌, inl, inr, arith}
 use Rattle.std.proofs.Math.Bool.{or_comm}
 use Rattle.std.proofs.lemmas.Bool.{cases_lt}
 use Rattle.std.specs.List.{slice_range}
-use Rattle.std.proofs.lemmas.List.{take_all}
 use Rattle.rbbi_model.specs.Ranges.{Range}
 use Rattle.rbbi_sets.specs.Covers.{covers}
 use Rattle.rbbi_sets.specs.Joins.{JoinsRun}

@@ -1,10 +1,9 @@
 -- A run of ranges of a rising list, put at the end of another.
-use Rattle.std.proofs.Common.{◌≡◌, ℕ, ◌+◌, ◌-◌, ◌<◌, ◌≤◌, suc, zero, true, false, ◌||◌, List, [], ◌∷◌, ◌++◌, length, get_or, take, drop, refl, ap, sym, ◌∙◌, inl, inr}
-use Rattle.std.proofs.Common.{arith, Bool}
-use Rattle.std.proofs.lemmas.Bool.{cases_eq}
+use Rattle.std.proofs.Common.{◌≡◌, ℕ, ◌+◌, ◌-◌, ◌<◌, ◌≤◌, suc, zero, false, List, [], ◌∷◌, ◌++◌, length, get_or, take, drop, refl, ap, sym, ◌∙◌, inl, inr}
+use Rattle.std.proofs.Common.{arith}
 use Rattle.std.specs.List.{slice_range, AllWithin}
 use Rattle.std.proofs.lemmas.List.{get_or-drop, get_or-take, get_or_default, length-take, length-drop, take-append-drop}
-use Rattle.std.proofs.Math.Seq.{take-nil, drop-drop}
+use Rattle.std.proofs.Math.Seq.{take-add, drop-drop}
 use Rattle.rbbi_model.specs.Ranges.{Range}
 use Rattle.rbbi_sets.specs.Covers.{covers}
 use Rattle.rbbi_sets.specs.Rising.{AreRisingFrom, AreRising, BeginUpTo}
@@ -40,10 +39,7 @@ begin-append [] ys c h g = g
 begin-append (x ∷ xs) ys c h g = (h.0, begin-append xs ys c h.1 g)
 
 pub take-split : (i j : ℕ) (xs : List Range) → i ≤ j → take j xs ≡ take i xs ++ slice_range xs i j
-take-split zero j xs l = grind arith
-take-split (suc i) zero xs l = absurd (omega arith)
-take-split (suc i) (suc j) [] l = sym (take-nil (suc j - suc i))
-take-split (suc i) (suc j) (x ∷ xs) l = grind (arith, take-split i j xs (omega arith))
+take-split i j xs l = let to : j ≡ i + (j - i) = omega arith in ap (λ n. take n xs) to ∙ take-add i (j - i) xs
 
 -- where a range of a run stands in the list
 run-at : (xs : List Range) (i j k : ℕ) (d : Range) → k < length (slice_range xs i j) →
