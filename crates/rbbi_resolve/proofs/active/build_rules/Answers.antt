@@ -86,9 +86,6 @@ pub returns-clause-lawful : goal.returns-clause-lawful
 returns-clause-lawful c =
     let done = (goal.at.returns-clause-lawful c).In_ok-rules in
     let r = c.args.reading in
-    let T = statement_trees r.statements.now in
-    let sets = c.rules_with_trees.new.builder.sets.items in
-    let rules = c.in_ok-rules.rules.items in
     subst (λ (x : RuleList). AreLawful (rules_of x)) (sym c.new.ensures)
-    (lawful_rules r.properties r.dictionary_ignored T (rules_of (record { rules = rules; sets = sets })) c.requires.well_made (means done)
-    (rules_filled r.properties sets (active_rules r.properties T) rules (built done).each))
+    (lawful_rules r.properties r.dictionary_ignored (statement_trees r.statements.now) _ c.requires.well_made (means done)
+    (rules_filled r.properties c.rules_with_trees.new.builder.sets.items _ c.in_ok-rules.rules.items (built done).each))
