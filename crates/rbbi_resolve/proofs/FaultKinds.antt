@@ -28,7 +28,8 @@ kinds_of_part : (k : Context) (p : Part) → AllByRecursion OfKind (faults_of_pa
 kinds_of_part k p =
     all_append OfKind (faults_where (is_undefined k p) (place_of p) 5) _ (where_kind (is_undefined k p) (place_of p) 5 (omega arith, omega arith))
     (all_append OfKind (faults_where (is_not_a_set k p) (place_of p) 6) _ (where_kind (is_not_a_set k p) (place_of p) 6 (omega arith, omega arith))
-    (all_append OfKind (faults_where (is_unknown_property k p) (place_of p) 7) _ (where_kind (is_unknown_property k p) (place_of p) 7 (omega arith, omega arith))
+    (all_append OfKind (faults_where (is_unknown_property k p) (place_of p) 7) _
+    (where_kind (is_unknown_property k p) (place_of p) 7 (omega arith, omega arith))
     (all_append OfKind (faults_where (is_bad_range k p) (place_of p) 8) _ (where_kind (is_bad_range k p) (place_of p) 8 (omega arith, omega arith))
     (all_append OfKind (faults_where (is_empty_set k p) (place_of p) 9) _ (where_kind (is_empty_set k p) (place_of p) 9 (omega arith, omega arith))
     (where_kind (is_bare_literal k p) (place_of p) 10 (omega arith, omega arith))))))
@@ -64,7 +65,8 @@ kinds_of_statement ignored k (assign word place x) =
     (all_append OfKind (faults_where known place 4) (faults_of_parts k (parts_of_expr x)) (where_kind known place 4 (omega arith, omega arith))
     (kinds_of_parts k (parts_of_expr x)))
 kinds_of_statement ignored k (rule place no_chain_in front slash rest tag) =
-    all_append OfKind (faults_of_parts k (parts_of_expr front)) (faults_of_rest k rest ++ faults_at_slash k front slash rest) (kinds_of_parts k (parts_of_expr front))
+    all_append OfKind (faults_of_parts k (parts_of_expr front)) (faults_of_rest k rest ++ faults_at_slash k front slash rest)
+    (kinds_of_parts k (parts_of_expr front))
     (all_append OfKind (faults_of_rest k rest) (faults_at_slash k front slash rest) (kinds_of_rest k rest) (kinds_at_slash k front slash rest))
 
 pub kinds_from : (ignored : Bool) (k : Context) (statements : List StatementTree) → AllByRecursion OfKind (faults_from ignored k statements)

@@ -128,8 +128,8 @@ put_joins files worth old new item set is puts =
     ))
 
 -- A set that is taken out joins what stands to its left, by a join that keeps just the code points that the set lacks.
-takes_joins : (files : List File) (worth : Option model.SetTree → Option model.SetTree) (old new : SoFar) (join : Join) (item : model.SetTree) (set : List Range)
-    (Keeps : ℕ → Type 0) → AreCodePoints files item → ((c : ℕ) → Keeps c → ¬ Has set c) → ((c : ℕ) → c ≤ 0x10FFFF → ¬ Has set c → Keeps c) →
+takes_joins : (files : List File) (worth : Option model.SetTree → Option model.SetTree) (old new : SoFar) (join : Join) (item : model.SetTree)
+    (set : List Range) (Keeps : ℕ → Type 0) → AreCodePoints files item → ((c : ℕ) → Keeps c → ¬ Has set c) → ((c : ℕ) → c ≤ 0x10FFFF → ¬ Has set c → Keeps c) →
     ((left : model.SetTree) (c : ℕ) → model.InSet (HasProperty files) (model.Joined left (join_of join) item) c
     ↔ (model.InSet (HasProperty files) left c × Keeps c)) →
     old.collected.items ≡ [] → TakesOut old new set → IsSoFar files worth old → IsSoFar files (λ left. worth (joined_to join (Some item) left)) new

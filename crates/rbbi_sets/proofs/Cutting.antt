@@ -105,7 +105,8 @@ module _ (left right kept more : List Range) (next_left next_right after at low 
             ∙ elim (cases_lt c at) [
               | inl done ↦ h.below c done
               | inr from ↦
-                  h.above c from ∙ sym (ap (λ b. b && not (covers right c)) (covers-gap left at next_left c d left_rises h.left_place inside from (low_first c from before)))
+                  h.above c from
+                  ∙ sym (ap (λ b. b && not (covers right c)) (covers-gap left at next_left c d left_rises h.left_place inside from (low_first c from before)))
             ]
         | inr from ↦ elim (cases_lt c hole_low) [
           | inl kept_here ↦
@@ -192,7 +193,8 @@ module _ (left right kept : List Range) (next_left last next_right after at low 
       beside : (j : ℕ) (f : Range) → j < length left → (get_or kept k e).high + 1 ≡ low →
           ((get_or kept k e).high < (get_or left j f).low) ⊎ ((get_or left j f).high < (get_or kept k e).high)
       beside j f n is =
-          let here : (get_or left next_left d).low ≡ (get_or left next_left f).low = ap (λ (x : Range). x.low) (get_or_default left next_left d f (omega arith)) in
+          let here : (get_or left next_left d).low ≡ (get_or left next_left f).low =
+          ap (λ (x : Range). x.low) (get_or_default left next_left d f (omega arith)) in
           elim (cases_lt j next_left) [
             | inl before ↦ inr (omega (arith, low_is, here, rising-apart 0 left left_rises j next_left f before (omega arith)))
             | inr from ↦ inl (omega (arith, low_is, (rising-order left left_rises next_left j d f from n).0))
@@ -226,7 +228,8 @@ module _ (left right kept : List Range) (next_left last next_right after at low 
                   | inl done ↦ h.below c done
                   | inr from ↦
                       h.above c from
-                      ∙ sym (ap (λ b. b && not (covers right c)) (covers-gap left at next_left c d left_rises h.left_place (omega arith) from (omega (arith, low_is))))
+                      ∙ sym (ap (λ b. b && not (covers right c))
+                      (covers-gap left at next_left c d left_rises h.left_place (omega arith) from (omega (arith, low_is))))
                 ]
             | inr from ↦
                 ap (λ b. b || covers (slice_range left next_left (last + 1)) c) (h.above c (omega (arith, low_from)))

@@ -77,7 +77,8 @@ module _ (old mid ranges : List Range) (next end low high : ℕ) (d : Range) (ri
   JoinsRun-more new after forward within ended ends is =
       elim (cases_eq after (next + 1)) [
         | inl none ↦
-            let new_is : new ≡ mid = is ∙ ap (λ n. mid ++ slice_range ranges (next + 1) n) none ∙ ap (λ xs. mid ++ xs) (slice-none ranges (next + 1)) ∙ append-nil mid in
+            let new_is : new ≡ mid =
+            is ∙ ap (λ n. mid ++ slice_range ranges (next + 1) n) none ∙ ap (λ xs. mid ++ xs) (slice-none ranges (next + 1)) ∙ append-nil mid in
             rw (new_is, none) JoinsRun-one
         | inr some ↦
             let after_is : after ≡ (after - 1) + 1 = omega arith in

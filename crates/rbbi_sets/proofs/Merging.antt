@@ -51,7 +51,8 @@ IsMerged-run left right joined more next_left next_right after end right_rises h
       ∙ covers-append (take next_left left) (slice_range left next_left after) c));
   rising = joins.rising;
   left_begin = joins.later;
-  right_begin = λ k e l m. begin-weaker more end (get_or right k e).low (omega (arith, first e (omega arith), (rising-order right right_rises next_right k e e l m).0)) joins.begin;
+  right_begin = λ k e l m.
+      begin-weaker more end (get_or right k e).low (omega (arith, first e (omega arith), (rising-order right right_rises next_right k e e l m).0)) joins.begin;
 }
 
 -- the next range of the one list begins no later than that of the other, or than the end where the other has none

@@ -39,7 +39,8 @@ refusal-requires c =
     let r = c.in_ok-reading.reading in
     let faults = faults_of r.properties r.dictionary_ignored (statement_trees r.statements.now) in
     kind_of_one faults c.in-Some.fault (kinds_from r.dictionary_ignored (start r.properties) (statement_trees r.statements.now))
-    (least_noted faults c.in-Some.fault (least_read r _ (ap length (sym c.in_ok-reading.ensures.statements)) c.in_ok-reading.ensures.reading ∙ c.in-Some.is)).one_of
+    (least_noted faults c.in-Some.fault
+    (least_read r _ (ap length (sym c.in_ok-reading.ensures.statements)) c.in_ok-reading.ensures.reading ∙ c.in-Some.is)).one_of
 
 pub returns-in-Some-clause-refused : goal.returns-in-Some-clause-refused
 returns-in-Some-clause-refused c =
@@ -48,7 +49,8 @@ returns-in-Some-clause-refused c =
     let faults = faults_of r.properties r.dictionary_ignored (statement_trees r.statements.now) in
     let count = counted c.args.end (active_rules c.args.props.now (statement_trees c.args.statements.now)) in
     subst (λ fs. IsCause fs count (fault_of c.refusal.result)) (same_faults r _ _ _ n.statements n.properties n.ignored)
-    (subst (IsCause faults count) (sym c.refusal.ensures) (inl (least_noted faults c.in-Some.fault (least_read r _ (ap length (sym n.statements)) n.reading ∙ c.in-Some.is))))
+    (subst (IsCause faults count) (sym c.refusal.ensures)
+    (inl (least_noted faults c.in-Some.fault (least_read r _ (ap length (sym n.statements)) n.reading ∙ c.in-Some.is))))
 
 pub refusal-requires-in-Some-fault : goal.refusal-requires-in-Some-fault
 refusal-requires-in-Some-fault c =
@@ -65,7 +67,8 @@ returns-in-Some-fault-clause-refused c =
     let faults = faults_of r.properties r.dictionary_ignored T in
     let ms = active_rules r.properties T in
     let none = none_noted faults (least_read r _ (ap length (sym n.statements)) n.reading ∙ c.in_default.is) in
-    let count : counted c.args.end ms ≡ Some c.in-Some-fault.fault = sym (c.fault.ensures ms (counting_read r _ (ap length (sym n.statements)) n.reading)) ∙ c.in-Some-fault.is in
+    let count : counted c.args.end ms ≡ Some c.in-Some-fault.fault =
+    sym (c.fault.ensures ms (counting_read r _ (ap length (sym n.statements)) n.reading)) ∙ c.in-Some-fault.is in
     let same_rules : ms ≡ active_rules c.args.props.now (statement_trees c.args.statements.now) =
     ap (λ f. active_rules f T) n.properties ∙ ap (λ s. active_rules c.args.props.now (statement_trees s)) n.statements in
     subst (λ xs. IsCause (faults_of c.args.props.now c.args.ignore_dictionary (statement_trees c.args.statements.now)) (counted c.args.end xs)
@@ -83,4 +86,5 @@ pub build_rules-requires-clause-few : goal.build_rules-requires-clause-few
 build_rules-requires-clause-few c =
     let r = c.in_ok-reading.reading in
     let ms = active_rules r.properties (statement_trees r.statements.now) in
-    (c.args.end, sym (c.fault.ensures ms (counting_read r _ (ap length (sym c.in_ok-reading.ensures.statements)) c.in_ok-reading.ensures.reading)) ∙ c.in_default-fault.is)
+    let counting = counting_read r _ (ap length (sym c.in_ok-reading.ensures.statements)) c.in_ok-reading.ensures.reading in
+    (c.args.end, sym (c.fault.ensures ms counting) ∙ c.in_default-fault.is)

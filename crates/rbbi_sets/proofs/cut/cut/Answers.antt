@@ -34,7 +34,7 @@ turn c =
       hole = λ hole is.
           subst (λ (r : Range). IsHole c.args.right.now c.max-low.result r.low r.high) (sym is)
           (IsHole-next c.args.right.now c.max-low.result c.skip_to-next_right.result c.range_or_end-hole.result c.requires.right_rises
-          c.skip_to-next_right.ensures.place c.skip_to-next_right.ensures.within (omega (arith, low, high, here, inside.0, inside.1, c.max-low.ensures)) h.range h.end);
+          c.skip_to-next_right.ensures.place c.skip_to-next_right.ensures.within (omega (arith, low, high, here, inside, c.max-low.ensures)) h.range h.end);
     }
 
 pub holes-smaller-then-range-hole : goal.holes-smaller-then-range-hole
@@ -56,8 +56,9 @@ holes-preserved-then-range-hole c =
     let after = c.in_ok-next_left.next_left in
     let place = c.in_ok-next_left.ensures.place in
     let further = passed left c.hole.inside.low c.holes.next_left after d place (omega arith) (omega (arith, read.high)) in
-    IsCut-copied left c.args.right.now c.holes.kept.items c.holes.next_left (after - 1) c.holes.next_right c.skip_to-next_right.result c.holes.at c.max-low.result
-    c.hole.inside.low c.hole.inside.high d c.requires.left_rises c.holes.invariant (omega arith) (omega (arith, c.in_ok-next_left.ensures.within))
+    IsCut-copied left c.args.right.now c.holes.kept.items c.holes.next_left (after - 1) c.holes.next_right c.skip_to-next_right.result c.holes.at
+    c.max-low.result c.hole.inside.low c.hole.inside.high d c.requires.left_rises c.holes.invariant (omega arith)
+    (omega (arith, c.in_ok-next_left.ensures.within))
     (c.if-low-range.true ∙ read.low) read.from (place.0 (after - 1) d (omega arith) (omega arith))
     c.skip_to-next_right.ensures.within c.skip_to-next_right.ensures.place (read.hole _ c.hole.view_is)
     c.keep_run.new.kept.items after c.end_before-at.result c.in_ok-next_left.ensures.run (omega arith) (c.end_before-at.ensures d)
