@@ -10,7 +10,7 @@ use Rattle.rbbi_model.specs.SetTrees as model
 use Rattle.rbbi_sets.specs.Rising.{AreRising}
 use Rattle.rbbi_props.specs.Rows.{File}
 use Rattle.rbbi_tree.specs.Trees as trees
-use Rattle.rbbi_tree.specs.Trees.{ExprTree, SeqTree, ItemTree, AtomTree, SetSyntax, no_alternatives, alternative, no_items, item, placed, property, expr_of}
+use Rattle.rbbi_tree.specs.Trees.{SetSyntax, placed, property, expr_of}
 use Rattle.rbbi_tree.specs.Trees.{seq_of}
 use Rattle.rbbi_tree.specs.Values.{seq_tree, item_tree}
 use Rattle.rbbi_tree.specs.declared.syntax.Quant.{Quant}
@@ -89,11 +89,6 @@ of_character files c low =
 
 pub in_character : (c : ℕ) → Has (record { low = c; high = c } ∷ []) c
 in_character c = inl (omega arith, omega arith)
-
--- the set of all
-pub of_any : (files : List File) (all : List Range) → AreRising all →
-    ((c : ℕ) → (Has all c → (c ≤ 0x10FFFF) × ¬ Has [] c) × ((c ≤ 0x10FFFF) × ¬ Has [] c → Has all c)) → HasMembers files (model.Others model.Nothing) all
-of_any files all rising same = record { rising = rising; members = λ c. ((same c).0, (same c).1) }
 
 -- a value that isn't empty holds a character
 pub filled_value : (files : List File) (tree : model.SetTree) (set : List Range) → HasMembers files tree set → is_empty_value files (Some tree) ≡ false →

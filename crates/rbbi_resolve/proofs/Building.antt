@@ -3,6 +3,7 @@ use Rattle.std.proofs.Common.{◌≡◌, ℕ, zero, suc, ◌+◌, ◌<◌, ◌�
 use Rattle.std.proofs.Common.{sym, refl, ap, ◌∙◌, subst, arith}
 use Rattle.std.specs.List.{AllByRecursion, AllZip, Contains, flat_map}
 use Rattle.std.proofs.lemmas.Bool.{cases_lt}
+use Rattle.std.proofs.lemmas.List.Elements.{Contains-append_left, Contains-append_right}
 use Rattle.std.proofs.lemmas.List.{append_assoc, append-nil, length-append}
 use Rattle.std.proofs.lemmas.Slice.Zip.{AllZip-long}
 use Rattle.rbbi_model.specs.Ranges.{Range}
@@ -21,6 +22,7 @@ use Rattle.rbbi_resolve.specs.RuleLists.{IsLeafSet}
 use Rattle.rbbi_resolve.specs.OwnLeaves.{IsSetOfLeaf, AddsLeaves, leaves_of_expr}
 use Rattle.rbbi_resolve.specs.Files.{context_at}
 use Rattle.rbbi_resolve.specs.Builders.{StandFrom, HasLeafSets, IsPart, IsBuilt, IsBuilder, GoesOn}
+use Rattle.rbbi_resolve.proofs.Sound.{all_append}
 
 -- one of several that follow one another, and a choice of several
 abbrev pub sequence_meaning : List Meaning → Meaning
@@ -32,22 +34,6 @@ abbrev pub choice_meaning : List Meaning → Meaning
 choice_meaning [] = Never
 choice_meaning (m ∷ []) = m
 choice_meaning (m ∷ n ∷ ms) = Either m (choice_meaning (n ∷ ms))
-
-contains_tail : (x v : ℕ) (xs : List ℕ) → Contains xs v → Contains (x ∷ xs) v
-contains_tail x v xs w = (suc w.0, (let lt = w.1 in omega arith), w.2)
-
-pub contains_right : (xs ys : List ℕ) (v : ℕ) → Contains ys v → Contains (xs ++ ys) v
-contains_right [] ys v w = w
-contains_right (x ∷ xs) ys v w = contains_tail x v (xs ++ ys) (contains_right xs ys v w)
-
-pub contains_left : (xs ys : List ℕ) (v : ℕ) → Contains xs v → Contains (xs ++ ys) v
-contains_left [] ys v (i, lt, e) = absurd (omega arith)
-contains_left (x ∷ xs) ys v (zero, lt, e) = (0, omega arith, e)
-contains_left (x ∷ xs) ys v (suc i, lt, e) = contains_tail x v (xs ++ ys) (contains_left xs ys v (i, omega arith, e))
-
-pub all_append : (P : ℕ → Type 0) (xs ys : List ℕ) → AllByRecursion P xs → AllByRecursion P ys → AllByRecursion P (xs ++ ys)
-all_append P [] ys a b = b
-all_append P (x ∷ xs) ys a b = (a.0, all_append P xs ys a.1 b)
 
 pub all_map : (P Q : ℕ → Type 0) (xs : List ℕ) → ((n : ℕ) → P n → Q n) → AllByRecursion P xs → AllByRecursion Q xs
 all_map P Q [] f a = tt
@@ -74,10 +60,6 @@ zip_push P [] [] x y z p = (p, tt)
 zip_push P [] (b ∷ ys) x y z p = absurd z
 zip_push P (a ∷ xs) [] x y z p = absurd z
 zip_push P (a ∷ xs) (b ∷ ys) x y z p = (z.0, zip_push P xs ys x y z.1 p)
-
-all_sets : (a b : List (List Range)) → AllByRecursion IsLeafSet a → AllByRecursion IsLeafSet b → AllByRecursion IsLeafSet (a ++ b)
-all_sets [] b x y = y
-all_sets (s ∷ a) b x y = (x.0, all_sets a b x.1 y)
 
 pub sets_formed : (files : List File) (leaves : List model.SetTree) (sets : List (List Range)) → AllZip (IsSetOfLeaf files) leaves sets →
     AllByRecursion IsLeafSet sets
@@ -261,14 +243,14 @@ module _ (files : List File) where
         own =
             λ k low high.
             elim (cases_lt k mid) [
-              | inl lt ↦ put k (contains_left (flat_map numbers_of ts) (numbers_of t) k (a.own k low lt))
-              | inr ge ↦ put k (contains_right (flat_map numbers_of ts) (numbers_of t) k (b.own k ge high))
+              | inl lt ↦ put k (Contains-append_left (flat_map numbers_of ts) (numbers_of t) k (a.own k low lt))
+              | inr ge ↦ put k (Contains-append_right (flat_map numbers_of ts) (numbers_of t) k (b.own k ge high))
             ];
         fresh =
             λ k low high.
             elim (cases_lt k (length sets)) [
-              | inl lt ↦ put k (contains_left (flat_map numbers_of ts) (numbers_of t) k (a.fresh k low lt))
-              | inr ge ↦ put k (contains_right (flat_map numbers_of ts) (numbers_of t) k (b.fresh k ge high))
+              | inl lt ↦ put k (Contains-append_left (flat_map numbers_of ts) (numbers_of t) k (a.fresh k low lt))
+              | inr ge ↦ put k (Contains-append_right (flat_map numbers_of ts) (numbers_of t) k (b.fresh k ge high))
             ];
       }
 
@@ -299,7 +281,7 @@ module _ (files : List File) where
   builder_more statements sets sets' more bases is few formed b =
       record {
         few = few;
-        formed = subst (AllByRecursion IsLeafSet) (sym is) (all_sets sets more b.formed formed);
+        formed = subst (AllByRecursion IsLeafSet) (sym is) (all_append IsLeafSet sets more b.formed formed);
         long = b.long;
         based = λ number base expr at assigned. subst (λ ss. StandFrom files ss base (leaves_of_expr (context_at files statements number) expr)) (sym is)
             (stand_more sets more base (leaves_of_expr (context_at files statements number) expr) (b.based number base expr at assigned));

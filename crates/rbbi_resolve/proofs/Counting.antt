@@ -2,7 +2,7 @@
 use Rattle.std.proofs.Common.{◌≡◌, ℕ, ◌+◌, ◌<◌, ◌≤◌, max, Bool, true, false, ◌&&◌, ◌||◌, List, [], ◌∷◌, map, length, drop, get_or, nat_lt, if◌then◌else◌}
 use Rattle.std.proofs.Common.{Option, sym, refl, ap, ◌∙◌, subst, arith, rules}
 use Rattle.std.proofs.Math.Nat.{max-zero, le-max_left, le-max_right, max-le}
-use Rattle.std.proofs.Math.Bool.{or_assoc}
+use Rattle.std.proofs.Math.Bool.{or_assoc, or-false, and-true}
 use Rattle.std.proofs.lemmas.List.{length-map}
 use Rattle.std.proofs.lemmas.List.{drop_more, drop_all}
 use Rattle.rbbi_props.specs.Rows.{File}
@@ -25,13 +25,12 @@ use Rattle.rbbi_resolve.specs.Faults.{noted_parts}
 use Rattle.rbbi_resolve.specs.Summaries.{Sums, Summarizes, empty_of_quant}
 use Rattle.rbbi_resolve.proofs.Noting.{noted_parts_of_append}
 
-or-false : (b : Bool) → b ≡ (b || false)
-or-false true = refl
-or-false false = refl
+-- the tree of an expression or a sequence by its items
+pub expr_by_items : (e : Expr) (items : List Seq) → items ≡ (out-Expr e).items.items → expr_tree e ≡ expr_of (map seq_tree items)
+expr_by_items e items is = expr_tree_out e ∙ ap (λ ps. expr_of (map seq_tree ps)) (sym is)
 
-and-true : (b : Bool) → b ≡ (b && true)
-and-true true = refl
-and-true false = refl
+pub seq_by_items : (s : Seq) (items : List Item) → items ≡ (out-Seq s).items.items → seq_tree s ≡ seq_of (map item_tree items)
+seq_by_items s items is = seq_tree_out s ∙ ap (λ ps. seq_of (map item_tree ps)) (sym is)
 
 expr_leaves : (context : Context) (first : SeqTree) (more : ExprTree) → leaf_count (meaning_of_expr context (alternative first more)) ≡ leaf_count
     (meaning_of_seq context first) + leaf_count (meaning_of_expr context more)
@@ -41,7 +40,7 @@ expr_leaves context first (alternative second more) = refl
 expr_empty : (context : Context) (first : SeqTree) (more : ExprTree) →
     spells_empty (meaning_of_expr context (alternative first more)) ≡ (spells_empty (meaning_of_seq context first) || spells_empty
     (meaning_of_expr context more))
-expr_empty context first no_alternatives = or-false (spells_empty (meaning_of_seq context first))
+expr_empty context first no_alternatives = sym (or-false (spells_empty (meaning_of_seq context first)))
 expr_empty context first (alternative second more) = refl
 
 seq_leaves : (context : Context) (first : ItemTree) (more : SeqTree) → leaf_count (meaning_of_seq context (item first more)) ≡ leaf_count
@@ -51,7 +50,7 @@ seq_leaves context first (item second more) = refl
 
 seq_empty : (context : Context) (first : ItemTree) (more : SeqTree) →
     spells_empty (meaning_of_seq context (item first more)) ≡ (spells_empty (meaning_of_item context first) && spells_empty (meaning_of_seq context more))
-seq_empty context first no_items = and-true (spells_empty (meaning_of_item context first))
+seq_empty context first no_items = sym (and-true (spells_empty (meaning_of_item context first)))
 seq_empty context first (item second more) = refl
 
 expr_height : (context : Context) (ss : List SeqTree) → height_of_expr context (expr_of ss) ≡ highest_of_expr context (expr_of ss) +
@@ -195,10 +194,10 @@ module _ (files : List File) (context : Context) (before : Option Fault) (summar
       let whole = expr_of (map seq_tree items) in
       let end : CountingExpr files context before whole summary least now no_alternatives =
       subst (λ ps. CountingExpr files context before whole summary least now (expr_of (map seq_tree ps))) (drop_all i items done) counting in
-      let tree : expr_tree e ≡ whole = expr_tree_out e ∙ ap (λ ps. expr_of (map seq_tree ps)) (sym is) in
+      let tree : expr_tree e ≡ whole = expr_by_items e _ is in
       let leaves : end.leaf_number ≡ leaf_count (meaning_of_expr context whole) = let f = end.all_leaves in omega arith in
       let heights : end.height_number ≡ highest_of_expr context whole = sym (max-zero end.height_number) ∙ end.all_heights in
-      let empty : end.empty_so_far ≡ spells_empty (meaning_of_expr context whole) = or-false end.empty_so_far ∙ end.all_empty in
+      let empty : end.empty_so_far ≡ spells_empty (meaning_of_expr context whole) = sym (or-false end.empty_so_far) ∙ end.all_empty in
       let same_len : length (map seq_tree items) ≡ length items = simp length-map in
       let height : height_of_expr context whole ≡ end.height_number + (if nat_lt 1 (length items) then 1 else 0) =
       expr_height context (map seq_tree items) ∙ ap (λ n. highest_of_expr context whole + (if nat_lt 1 n then 1 else 0)) same_len
@@ -215,10 +214,10 @@ module _ (files : List File) (context : Context) (before : Option Fault) (summar
       let whole = seq_of (map item_tree items) in
       let end : CountingSeq files context before whole summary least now no_items =
       subst (λ ps. CountingSeq files context before whole summary least now (seq_of (map item_tree ps))) (drop_all i items done) counting in
-      let tree : seq_tree e ≡ whole = seq_tree_out e ∙ ap (λ ps. seq_of (map item_tree ps)) (sym is) in
+      let tree : seq_tree e ≡ whole = seq_by_items e _ is in
       let leaves : end.leaf_number ≡ leaf_count (meaning_of_seq context whole) = let f = end.all_leaves in omega arith in
       let heights : end.height_number ≡ highest_of_seq context whole = sym (max-zero end.height_number) ∙ end.all_heights in
-      let empty : end.empty_so_far ≡ spells_empty (meaning_of_seq context whole) = and-true end.empty_so_far ∙ end.all_empty in
+      let empty : end.empty_so_far ≡ spells_empty (meaning_of_seq context whole) = sym (and-true end.empty_so_far) ∙ end.all_empty in
       let same_len : length (map item_tree items) ≡ length items = simp length-map in
       let height : height_of_seq context whole ≡ end.height_number + (if nat_lt 1 (length items) then 1 else 0) =
       seq_height context (map item_tree items) ∙ ap (λ n. highest_of_seq context whole + (if nat_lt 1 n then 1 else 0)) same_len

@@ -6,12 +6,10 @@ use Rattle.std.proofs.lemmas.Bool.Decides.{nat_tests}
 use Rattle.rbbi_resolve.specs.declared.fault.Fault.{Fault}
 use Rattle.rbbi_resolve.specs.Faults.{comes_before, noted, noted_one}
 use Rattle.rbbi_resolve.specs.Refusals.{IsLeast}
+use Rattle.rbbi_resolve.proofs.Noting.{other_way}
 
 not_itself : (f : Fault) → comes_before f f ≡ false
 not_itself f = grind (arith, nat_tests)
-
-other_way : (f g : Fault) → comes_before f g ≡ true → comes_before g f ≡ false
-other_way f g e = grind (arith, nat_tests)
 
 not_through : (f g h : Fault) → comes_before f g ≡ false → comes_before g h ≡ false → comes_before f h ≡ false
 not_through f g h e d = grind (arith, nat_tests)

@@ -15,13 +15,10 @@ use Rattle.rbbi_resolve.specs.Files.{RuleMeaning, context_after, is_supported, i
 use Rattle.rbbi_resolve.specs.Files.{faults_from}
 use Rattle.rbbi_resolve.specs.Counts.{counted, fault_at, no_rules_at, too_many_rules_at, too_many_leaves_at, too_many_slashes_at, too_tall_at}
 use Rattle.rbbi_resolve.specs.Refusals.{IsKind}
+use Rattle.rbbi_resolve.proofs.Sound.{all_append}
 
 abbrev OfKind : Fault → Type 0
 OfKind f = IsKind f.number
-
-both_kinds : (a b : List Fault) → AllByRecursion OfKind a → AllByRecursion OfKind b → AllByRecursion OfKind (a ++ b)
-both_kinds [] b x y = y
-both_kinds (f ∷ a) b x y = (x.0, both_kinds a b x.1 y)
 
 where_kind : (b : Bool) (place number : ℕ) → IsKind number → AllByRecursion OfKind (faults_where b place number)
 where_kind true place number k = (k, tt)
@@ -29,16 +26,17 @@ where_kind false place number k = tt
 
 kinds_of_part : (k : Context) (p : Part) → AllByRecursion OfKind (faults_of_part k p)
 kinds_of_part k p =
-    both_kinds (faults_where (is_undefined k p) (place_of p) 5) _ (where_kind (is_undefined k p) (place_of p) 5 (omega arith, omega arith))
-    (both_kinds (faults_where (is_not_a_set k p) (place_of p) 6) _ (where_kind (is_not_a_set k p) (place_of p) 6 (omega arith, omega arith))
-    (both_kinds (faults_where (is_unknown_property k p) (place_of p) 7) _ (where_kind (is_unknown_property k p) (place_of p) 7 (omega arith, omega arith))
-    (both_kinds (faults_where (is_bad_range k p) (place_of p) 8) _ (where_kind (is_bad_range k p) (place_of p) 8 (omega arith, omega arith))
-    (both_kinds (faults_where (is_empty_set k p) (place_of p) 9) _ (where_kind (is_empty_set k p) (place_of p) 9 (omega arith, omega arith))
+    all_append OfKind (faults_where (is_undefined k p) (place_of p) 5) _ (where_kind (is_undefined k p) (place_of p) 5 (omega arith, omega arith))
+    (all_append OfKind (faults_where (is_not_a_set k p) (place_of p) 6) _ (where_kind (is_not_a_set k p) (place_of p) 6 (omega arith, omega arith))
+    (all_append OfKind (faults_where (is_unknown_property k p) (place_of p) 7) _
+    (where_kind (is_unknown_property k p) (place_of p) 7 (omega arith, omega arith))
+    (all_append OfKind (faults_where (is_bad_range k p) (place_of p) 8) _ (where_kind (is_bad_range k p) (place_of p) 8 (omega arith, omega arith))
+    (all_append OfKind (faults_where (is_empty_set k p) (place_of p) 9) _ (where_kind (is_empty_set k p) (place_of p) 9 (omega arith, omega arith))
     (where_kind (is_bare_literal k p) (place_of p) 10 (omega arith, omega arith))))))
 
 kinds_of_parts : (k : Context) (ps : List Part) → AllByRecursion OfKind (faults_of_parts k ps)
 kinds_of_parts k [] = tt
-kinds_of_parts k (p ∷ ps) = both_kinds (faults_of_part k p) (faults_of_parts k ps) (kinds_of_part k p) (kinds_of_parts k ps)
+kinds_of_parts k (p ∷ ps) = all_append OfKind (faults_of_part k p) (faults_of_parts k ps) (kinds_of_part k p) (kinds_of_parts k ps)
 
 kinds_of_rest : (k : Context) (rest : Option ExprTree) → AllByRecursion OfKind (faults_of_rest k rest)
 kinds_of_rest k None = tt
@@ -48,7 +46,7 @@ kinds_at_slash : (k : Context) (front : ExprTree) (slash : Option ℕ) (rest : O
 kinds_at_slash k front None rest = tt
 kinds_at_slash k front (Some slash) None = tt
 kinds_at_slash k front (Some slash) (Some rest) =
-    both_kinds (faults_where (spells_empty (meaning_of_expr k front)) slash 11) (faults_where (spells_empty (meaning_of_expr k rest)) slash 12)
+    all_append OfKind (faults_where (spells_empty (meaning_of_expr k front)) slash 11) (faults_where (spells_empty (meaning_of_expr k rest)) slash 12)
     (where_kind (spells_empty (meaning_of_expr k front)) slash 11 (omega arith, omega arith))
     (where_kind (spells_empty (meaning_of_expr k rest)) slash 12 (omega arith, omega arith))
 
@@ -57,24 +55,25 @@ kinds_of_statement ignored k nothing = tt
 kinds_of_statement ignored k (control word place) =
     let unknown = not (is_supported (encode_utf8_all word)) && not (is_unsupported (encode_utf8_all word)) in
     let unsupported = is_unsupported (encode_utf8_all word) in
-    both_kinds (faults_where unknown place 1) (faults_where unsupported place 2) (where_kind unknown place 1 (omega arith, omega arith))
+    all_append OfKind (faults_where unknown place 1) (faults_where unsupported place 2) (where_kind unknown place 1 (omega arith, omega arith))
     (where_kind unsupported place 2 (omega arith, omega arith))
 kinds_of_statement ignored k (assign word place x) =
     let dictionary = bytes_eq (encode_utf8_all word) (codes "dictionary") && not ignored in
     let known = is_some (variable_of k word) in
-    both_kinds (faults_where dictionary place 3) (faults_where known place 4 ++ faults_of_parts k (parts_of_expr x))
+    all_append OfKind (faults_where dictionary place 3) (faults_where known place 4 ++ faults_of_parts k (parts_of_expr x))
     (where_kind dictionary place 3 (omega arith, omega arith))
-    (both_kinds (faults_where known place 4) (faults_of_parts k (parts_of_expr x)) (where_kind known place 4 (omega arith, omega arith))
+    (all_append OfKind (faults_where known place 4) (faults_of_parts k (parts_of_expr x)) (where_kind known place 4 (omega arith, omega arith))
     (kinds_of_parts k (parts_of_expr x)))
 kinds_of_statement ignored k (rule place no_chain_in front slash rest tag) =
-    both_kinds (faults_of_parts k (parts_of_expr front)) (faults_of_rest k rest ++ faults_at_slash k front slash rest) (kinds_of_parts k (parts_of_expr front))
-    (both_kinds (faults_of_rest k rest) (faults_at_slash k front slash rest) (kinds_of_rest k rest) (kinds_at_slash k front slash rest))
+    all_append OfKind (faults_of_parts k (parts_of_expr front)) (faults_of_rest k rest ++ faults_at_slash k front slash rest)
+    (kinds_of_parts k (parts_of_expr front))
+    (all_append OfKind (faults_of_rest k rest) (faults_at_slash k front slash rest) (kinds_of_rest k rest) (kinds_at_slash k front slash rest))
 
 pub kinds_from : (ignored : Bool) (k : Context) (statements : List StatementTree) → AllByRecursion OfKind (faults_from ignored k statements)
 unfolding faults_from
 kinds_from ignored k [] = tt
 kinds_from ignored k (s ∷ statements) =
-    both_kinds (faults_of_statement ignored k s) (faults_from ignored (context_after k s) statements) (kinds_of_statement ignored k s)
+    all_append OfKind (faults_of_statement ignored k s) (faults_from ignored (context_after k s) statements) (kinds_of_statement ignored k s)
     (kinds_from ignored (context_after k s) statements)
 
 pub kind_of_one : (faults : List Fault) (f : Fault) → AllByRecursion OfKind faults → Contains faults f → IsKind f.number

@@ -1,15 +1,16 @@
 -- The rules that a file means are lawful.
-use Rattle.std.proofs.Common.{◌≡◌, ℕ, ◌+◌, ◌≤◌, ◌⊎◌, inl, inr, Bool, true, false, ◌&&◌, ◌||◌, nat_lt, if◌then◌else◌, is_some, Option}
+use Rattle.std.proofs.Common.{◌≡◌, ℕ, ◌+◌, ◌≤◌, ◌⊎◌, inl, inr, Bool, true, false, nat_lt, if◌then◌else◌, is_some, Option}
 use Rattle.std.proofs.Common.{Some, None, IfSome, IsSome, List, [], ◌∷◌, ◌++◌, length, sum_by, sym, refl, ap, ◌∙◌, subst, arith}
 use Rattle.std.specs.Option.{option_or, option_map, option_map_or}
 use Rattle.std.specs.List.{AllByRecursion, AllZip}
+use Rattle.std.proofs.lemmas.Bool.{and_cases, or_parts}
 use Rattle.std.proofs.lemmas.Bool.Decides.{nat_tests}
 use Rattle.std.proofs.lemmas.List.Sums.{sum_by-cons}
 use Rattle.std.proofs.lemmas.Slice.Zip.{AllZip-long}
 use Rattle.rbbi_model.specs.Spelling as spelling
 use Rattle.rbbi_model.specs.Spelling.{Spells, joined, Star, Plus, Quest}
 use Rattle.rbbi_model.specs.Rules as model
-use Rattle.rbbi_model.specs.Rules.{IsLawfulTree, IsLawfulRule, AreLawful, look_aheads, LooksAhead}
+use Rattle.rbbi_model.specs.Rules.{IsLawfulTree, IsLawfulRule, AreLawful, look_aheads}
 use Rattle.rbbi_props.specs.Rows.{File}
 use Rattle.rbbi_tree.specs.Trees.{ExprTree, StatementTree, nothing, control, assign, rule}
 use Rattle.rbbi_tree.specs.WellMade.{AreWellMade, IsWellMade, IsWellMadeRest}
@@ -29,7 +30,7 @@ use Rattle.rbbi_resolve.specs.RuleLists.{IsLeafSet}
 use Rattle.rbbi_resolve.specs.Builders.{HasLeafSets}
 use Rattle.rbbi_resolve.specs.Soundness.{IsFull, AreSound}
 use Rattle.rbbi_resolve.proofs.Counted.{passing_one, passing_leaves, passing_slashes}
-use Rattle.rbbi_resolve.proofs.Sound.{first_empty, second_empty, not_where, full_expr}
+use Rattle.rbbi_resolve.proofs.Sound.{first_empty, second_empty, all_append, not_where, full_expr}
 use Rattle.rbbi_resolve.proofs.SoundFiles.{sound_after}
 use Rattle.rbbi_resolve.proofs.Steps.{meant}
 
@@ -65,14 +66,6 @@ count_stands files (Either first rest) t s =
     omega arith
 count_stands files (Repeat repetition part) t s = ap model.leaf_count s.1 ∙ count_stands files part s.0 s.2
 
-and_false : (x y : Bool) → (x && y) ≡ false → (x ≡ false) ⊎ (y ≡ false)
-and_false true y e = inr e
-and_false false y e = inl refl
-
-or_false : (x y : Bool) → (x || y) ≡ false → (x ≡ false) × (y ≡ false)
-or_false true y e = absurd cc
-or_false false y e = (refl, e)
-
 piece_empty : (t : spelling.Tree) (pieces : List (List ℕ)) → (pieces ≡ [] → ⊥) → AllByRecursion (Spells t) pieces → [] ≡ joined pieces → Spells t []
 piece_empty t [] some all e = absurd (some refl)
 piece_empty t (piece ∷ pieces) some all e = subst (Spells t) (first_empty piece (joined pieces) (sym e)) all.0
@@ -86,13 +79,13 @@ not_empty files (Then first rest) t s e =
     let q = subst (λ x. Spells x []) s.2 p in
     let u = first_empty q.0 q.1 (sym q.4) in
     let v = second_empty q.0 q.1 (sym q.4) in
-    elim (and_false (spells_empty first) (spells_empty rest) e) [
+    elim (and_cases (spells_empty first) (spells_empty rest) e) [
       | inl a ↦ not_empty files first s.0 s.3 a (subst (Spells s.0) u q.2)
       | inr b ↦ not_empty files rest s.1 s.4 b (subst (Spells s.1) v q.3)
     ]
 not_empty files (Either first rest) t s e =
     λ p.
-    let both = or_false (spells_empty first) (spells_empty rest) e in
+    let both = or_parts (spells_empty first) (spells_empty rest) e in
     let q : Spells s.0 [] ⊎ Spells s.1 [] = subst (λ x. Spells x []) s.2 p in
     elim q [ inl a ↦ not_empty files first s.0 s.3 both.0 a | inr b ↦ not_empty files rest s.1 s.4 both.1 b ]
 not_empty files (Repeat Star part) t s e = absurd cc
@@ -108,10 +101,6 @@ pub record IsSoundRule (m : RuleMeaning) : Type 0 where
   pub rest : IfSome m.rest (λ x. IsFull x × (spells_empty x ≡ false))
   pub tag : IfSome m.tag (λ number. number ≤ 2147483647)
   pub front_not_empty : IsSome m.rest → spells_empty m.front ≡ false
-
-all_rules : (a b : List RuleMeaning) → AllByRecursion IsSoundRule a → AllByRecursion IsSoundRule b → AllByRecursion IsSoundRule (a ++ b)
-all_rules [] b x y = y
-all_rules (m ∷ a) b x y = (x.0, all_rules a b x.1 y)
 
 rest_sound : (k : Context) → AreSound k → (front : ExprTree) (slash : Option ℕ) (rest : Option ExprTree) → IsWellMadeRest slash rest →
     faults_of_rest k rest ++ faults_at_slash k front slash rest ≡ [] →
@@ -149,7 +138,7 @@ rules_sound ignored k [] sound well e = tt
 rules_sound ignored k (s ∷ statements) sound well e =
     let here = first_empty (faults_of_statement ignored k s) (faults_from ignored (context_after k s) statements) e in
     let later = second_empty (faults_of_statement ignored k s) (faults_from ignored (context_after k s) statements) e in
-    all_rules (rule_in k s) (rules_from (context_after k s) statements) (rule_sound ignored k s sound well.0 here)
+    all_append IsSoundRule (rule_in k s) (rules_from (context_after k s) statements) (rule_sound ignored k s sound well.0 here)
     (rules_sound ignored (context_after k s) statements (sound_after ignored k s sound well.0 here) well.1 later)
 
 -- the leaves of a rule have sets that they may have

@@ -53,11 +53,6 @@ set_is_in files tree value set c held tells is of = present tree (subst (IsValue
       let in_tree = tells_in_set files tree c in
       ap Some (same_tests held (in_set files tree c) (λ e. in_tree.1 ((of.members c).0 (tells.0 e))) (λ e. tells.1 ((of.members c).1 (in_tree.0 e))))
 
-pub none_is_in : (files : List File) (tree : Option model.SetTree) (value : Option (List Range)) (c : ℕ) → value ≡ None → IsValue files tree value →
-    None ≡ is_in files tree c
-none_is_in files None value c is of = refl
-none_is_in files (Some tree) value c is of = absurd (subst (IsValue files (Some tree)) is of)
-
 -- The parts up to those that are left were asked: it is known whether the character is in their value, and their faults were
 -- noted.
 pub record IsAsking (files : List File) (context : Context) (before : Option Fault) (c : ℕ) (parts left : PartsTree) (held : Option Bool)

@@ -29,7 +29,7 @@ neither f g e d =
     let number : f.number ≡ g.number = grind (arith, nat_tests) in
     ap (λ p. record { place = p; number = f.number }) place ∙ ap (λ n. record { place = g.place; number = n }) number
 
-other_way : (f g : Fault) → comes_before f g ≡ true → comes_before g f ≡ false
+pub other_way : (f g : Fault) → comes_before f g ≡ true → comes_before g f ≡ false
 other_way f g e = grind (arith, nat_tests)
 
 through : (f g h : Fault) → comes_before f g ≡ true → comes_before h g ≡ false → comes_before h f ≡ false

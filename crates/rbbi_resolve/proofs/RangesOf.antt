@@ -5,6 +5,7 @@ use Rattle.std.proofs.lemmas.Bool.{cases_lt}
 use Rattle.std.proofs.lemmas.Bool.Decides.{nat_tests}
 use Rattle.rbbi_model.specs.Ranges.{Range, Has}
 use Rattle.rbbi_sets.specs.Rising.{AreRising, AreRisingFrom}
+use Rattle.rbbi_sets.proofs.Runs.{rising-weaker}
 
 abbrev one_range : ℕ → ℕ → Range
 one_range low high = record { low = low; high = high }
@@ -23,10 +24,6 @@ pub ranges_from : (ℕ → Bool) → ℕ → ℕ → List Range
 ranges_from test c zero = []
 ranges_from test c (suc n) = put (test c) c (ranges_from test (c + 1) n)
 
-rising_on : (b d : ℕ) (rs : List Range) → b ≤ d → AreRisingFrom d rs → AreRisingFrom b rs
-rising_on b d [] low r = tt
-rising_on b d (x ∷ rs) low r = (omega (arith, r.0), r.1, r.2, r.3)
-
 before_rises : (c : ℕ) (rs : List Range) → c ≤ 0x10FFFF → AreRisingFrom (c + 1) rs → AreRisingFrom c (before c rs)
 before_rises c [] low r = (omega arith, omega arith, low, tt)
 before_rises c (x ∷ rs) low r =
@@ -37,7 +34,7 @@ before_rises c (x ∷ rs) low r =
 
 put_rises : (b : Bool) (c : ℕ) (rs : List Range) → c ≤ 0x10FFFF → AreRisingFrom (c + 1) rs → AreRisingFrom c (put b c rs)
 put_rises true c rs low r = before_rises c rs low r
-put_rises false c rs low r = rising_on c (c + 1) rs (omega arith) r
+put_rises false c rs low r = rising-weaker c (c + 1) rs (omega arith) r
 
 from_rises : (test : ℕ → Bool) (c n : ℕ) → c + n ≤ 0x110000 → AreRisingFrom c (ranges_from test c n)
 unfolding ranges_from

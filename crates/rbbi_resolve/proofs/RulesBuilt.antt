@@ -3,6 +3,7 @@ use Rattle.std.proofs.Common.{◌≡◌, ℕ, ◌+◌, ◌<◌, ◌≤◌, inl, 
 use Rattle.std.proofs.Common.{sym, refl, ap, ◌∙◌, subst, arith}
 use Rattle.std.specs.Option.{option_map, option_map_or}
 use Rattle.std.specs.List.{AllByRecursion, AllZip, Contains, flat_map}
+use Rattle.std.proofs.lemmas.List.Elements.{Contains-append_left, Contains-append_right}
 use Rattle.std.proofs.lemmas.Bool.{cases_lt}
 use Rattle.std.proofs.lemmas.List.{append_assoc, append-nil, drop_all}
 use Rattle.rbbi_model.specs.Ranges.{Range}
@@ -20,7 +21,8 @@ use Rattle.rbbi_resolve.specs.Builders.{HasLeafSets, IsBuilt, GoesOn}
 use Rattle.rbbi_resolve.specs.Outcomes.{BothStand, IsRuleOf}
 use Rattle.rbbi_resolve.specs.RulesSoFar.{IsRest, IsRestBuilt, IsRuleBuilt, AreRulesTo, AreAllRules}
 use Rattle.rbbi_resolve.proofs.Steps.{left_here, context_next, rules_next}
-use Rattle.rbbi_resolve.proofs.Building.{part_more, contains_left, contains_right, all_append}
+use Rattle.rbbi_resolve.proofs.Building.{part_more}
+use Rattle.rbbi_resolve.proofs.Sound.{all_append}
 use Rattle.rbbi_resolve.proofs.Lawful.{HasRuleSets}
 
 module _ (files : List File) where
@@ -90,8 +92,8 @@ module _ (files : List File) where
         used =
             λ j low.
             elim (cases_lt j (length sets)) [
-              | inl lt ↦ here j (contains_left (flat_map numbers_of_rule rules) (flat_map numbers_of_rule new) j (a.used j lt))
-              | inr ge ↦ here j (contains_right (flat_map numbers_of_rule rules) (flat_map numbers_of_rule new) j (fresh j ge low))
+              | inl lt ↦ here j (Contains-append_left (flat_map numbers_of_rule rules) (flat_map numbers_of_rule new) j (a.used j lt))
+              | inr ge ↦ here j (Contains-append_right (flat_map numbers_of_rule rules) (flat_map numbers_of_rule new) j (fresh j ge low))
             ];
       }
 
@@ -100,10 +102,10 @@ module _ (files : List File) where
       IsBuilt files old sets' 0 0 m r.front → IsRestBuilt files mid sets o r.rest →
       (k : ℕ) → old ≤ k → k < length sets → Contains (flat_map numbers_of_rule (r ∷ [])) k
   rule_fresh old mid sets' sets m o r long front rest k low high =
-      let out : Contains (numbers_of_rule r) k → Contains (flat_map numbers_of_rule (r ∷ [])) k = λ w. contains_left (numbers_of_rule r) [] k w in
+      let out : Contains (numbers_of_rule r) k → Contains (flat_map numbers_of_rule (r ∷ [])) k = λ w. Contains-append_left (numbers_of_rule r) [] k w in
       elim (cases_lt k mid) [
-        | inl lt ↦ out (contains_left (numbers_of r.front) (option_map_or numbers_of r.rest []) k (front.fresh k low (omega arith)))
-        | inr ge ↦ out (contains_right (numbers_of r.front) (option_map_or numbers_of r.rest []) k (rest.fresh k ge high))
+        | inl lt ↦ out (Contains-append_left (numbers_of r.front) (option_map_or numbers_of r.rest []) k (front.fresh k low (omega arith)))
+        | inr ge ↦ out (Contains-append_right (numbers_of r.front) (option_map_or numbers_of r.rest []) k (rest.fresh k ge high))
       ]
 
   all_steps : (statements : List StatementTree) (n : ℕ) → length statements ≤ n → (done : List RuleMeaning) →

@@ -10,12 +10,11 @@ use Rattle.rbbi_props.specs.Rows.{File}
 use Rattle.rbbi_tree.specs.declared.syntax.Join.{Join}
 use Rattle.rbbi_tree.specs.declared.syntax.Join.TheVariants.{Add, Both, Minus}
 use Rattle.rbbi_resolve.specs.declared.so_far.SoFar.{SoFar}
-use Rattle.rbbi_resolve.specs.SetValues.{HasMembers, IsValue, join_of, joined_to, signed, value_of_range}
+use Rattle.rbbi_resolve.specs.SetValues.{HasMembers, HasProperty, IsValue, join_of, joined_to, signed, value_of_range}
 use Rattle.rbbi_resolve.specs.SetsSoFar.{IsSoFar, AreDecided, AreCodePoints, PutsIn, TakesOut}
 use Rattle.rbbi_sets.specs.Piles.{HasAny}
-use Rattle.rbbi_sets.proofs.Coverage.{has_or_not}
+use Rattle.rbbi_sets.proofs.Coverage.{has-append, has_or_not}
 use Rattle.rbbi_resolve.proofs.PropertySets.{members_are_code_points}
-use Rattle.rbbi_resolve.proofs.Ranges.{has-append}
 
 -- no part yet
 pub starts : (files : List File) (so_far : SoFar) → so_far.known ≡ true → so_far.decided ≡ [] → so_far.added ≡ [] → so_far.collected.items ≡ [] →
@@ -54,16 +53,6 @@ part_joins files worth old new join item known points decides h =
     joined_points files Add left item l i c h = elim h [ inl a ↦ l c a | inr b ↦ i c b ]
     joined_points files Both left item l i c h = l c h.0
     joined_points files Minus left item l i c h = l c h.0
-
--- a part without a value leaves none
-pub spoils : (files : List File) (worth : Option model.SetTree → Option model.SetTree) (old new : SoFar) (join : Join) → new.known ≡ false →
-    IsSoFar files worth old → IsSoFar files (λ left. worth (joined_to join None left)) new
-spoils files worth old new join known h =
-    record {
-      strict = h.strict;
-      spoiled = λ spoiled left. h.strict;
-      decided = λ k left points. absurd (false≢true (sym known ∙ k));
-    }
 
 -- the same parts, with the same decided
 pub stays : (files : List File) (worth : Option model.SetTree → Option model.SetTree) (old new : SoFar) → new.known ≡ old.known →
@@ -138,13 +127,14 @@ put_joins files worth old new item set is puts =
       ]),
     ))
 
--- a set that is taken out joins what stands to its left
-pub out_joins : (files : List File) (worth : Option model.SetTree → Option model.SetTree) (old new : SoFar) (item : model.SetTree) (set : List Range) →
-    HasMembers files item set → old.collected.items ≡ [] → TakesOut old new set → IsSoFar files worth old →
-    IsSoFar files (λ left. worth (joined_to Minus (Some item) left)) new
-out_joins files worth old new item set is none takes =
-    part_joins files worth old new Minus item takes.known (λ c h. members_are_code_points 0 set is.rising c ((is.members c).1 h))
-    (λ left whole points before c.
+-- A set that is taken out joins what stands to its left, by a join that keeps just the code points that the set lacks.
+takes_joins : (files : List File) (worth : Option model.SetTree → Option model.SetTree) (old new : SoFar) (join : Join) (item : model.SetTree)
+    (set : List Range) (Keeps : ℕ → Type 0) → AreCodePoints files item → ((c : ℕ) → Keeps c → ¬ Has set c) → ((c : ℕ) → c ≤ 0x10FFFF → ¬ Has set c → Keeps c) →
+    ((left : model.SetTree) (c : ℕ) → model.InSet (HasProperty files) (model.Joined left (join_of join) item) c
+    ↔ (model.InSet (HasProperty files) left c × Keeps c)) →
+    old.collected.items ≡ [] → TakesOut old new set → IsSoFar files worth old → IsSoFar files (λ left. worth (joined_to join (Some item) left)) new
+takes_joins files worth old new join item set Keeps coded lacks keeps joins none takes =
+    part_joins files worth old new join item takes.known coded (λ left whole points before c.
     let e = takes.collected ∙ none in
     let at = rw none at (before c) in
     rw (e, takes.added) (
@@ -152,7 +142,9 @@ out_joins files worth old new item set is none takes =
         | inl a ↦ inl a
         | inr b ↦ elim b.0 [
           | inl n ↦ absurd n
-          | inr t ↦ inr (inr t.0, λ d. elim ((takes.decided c).0 d) [ inl f ↦ b.1 f | inr r ↦ t.1 ((is.members c).0 r.0) ])
+          | inr t ↦
+              let kept = (joins left c).0 t in
+              inr (inr kept.0, λ d. elim ((takes.decided c).0 d) [ inl f ↦ b.1 f | inr r ↦ lacks c kept.1 r.0 ])
         ]
       ],
       λ h. at.1 (elim h [
@@ -161,10 +153,19 @@ out_joins files worth old new item set is none takes =
           | inl n ↦ absurd n
           | inr l ↦
               let out : ¬ HasAny old.decided c = λ d. b.1 ((takes.decided c).1 (inl d)) in
-              inr (inr (l, λ i. b.1 ((takes.decided c).1 (inr ((is.members c).1 i, out)))), out)
+              inr (inr ((joins left c).1 (l, keeps c (points c l) (λ s. b.1 ((takes.decided c).1 (inr (s, out)))))), out)
         ]
       ]),
     ))
+
+-- a set that is taken out joins what stands to its left
+pub out_joins : (files : List File) (worth : Option model.SetTree → Option model.SetTree) (old new : SoFar) (item : model.SetTree) (set : List Range) →
+    HasMembers files item set → old.collected.items ≡ [] → TakesOut old new set → IsSoFar files worth old →
+    IsSoFar files (λ left. worth (joined_to Minus (Some item) left)) new
+out_joins files worth old new item set is none takes =
+    takes_joins files worth old new Minus item set (λ c. ¬ model.InSet (HasProperty files) item c)
+    (λ c h. members_are_code_points 0 set is.rising c ((is.members c).1 h)) (λ c n s. n ((is.members c).0 s)) (λ c low n i. n ((is.members c).1 i))
+    (λ left c. (λ h. h, λ h. h)) none takes
 
 -- a set all of which is decided about joins what stands to its left and decides nothing, where it is added or taken away
 pub already_joins : (files : List File) (worth : Option model.SetTree → Option model.SetTree) (so_far : SoFar) (join : Join) (item : model.SetTree)
@@ -197,31 +198,10 @@ pub both_joins : (files : List File) (worth : Option model.SetTree → Option mo
     HasMembers files item set → ((c : ℕ) → Has others c ↔ ((c ≤ 0x10FFFF) × ¬ Has set c)) → old.collected.items ≡ [] → TakesOut old new others →
     IsSoFar files worth old → IsSoFar files (λ left. worth (joined_to Both (Some item) left)) new
 both_joins files worth old new item set others is outside none takes =
-    part_joins files worth old new Both item takes.known (λ c h. members_are_code_points 0 set is.rising c ((is.members c).1 h))
-    (λ left whole points before c.
-    let e = takes.collected ∙ none in
-    let at = rw none at (before c) in
-    rw (e, takes.added) (
-      λ w. elim (at.0 w) [
-        | inl a ↦ inl a
-        | inr b ↦ elim b.0 [
-          | inl n ↦ absurd n
-          | inr t ↦ inr (inr t.0, λ d. elim ((takes.decided c).0 d) [ inl f ↦ b.1 f | inr r ↦ ((outside c).0 r.0).1 ((is.members c).1 t.1) ])
-        ]
-      ],
-      λ h. at.1 (elim h [
-        | inl a ↦ inl a
-        | inr b ↦ elim b.0 [
-          | inl n ↦ absurd n
-          | inr l ↦
-              let out : ¬ HasAny old.decided c = λ d. b.1 ((takes.decided c).1 (inl d)) in
-              elim (has_or_not set c) [
-                | inl s ↦ inr (inr (l, (is.members c).0 s), out)
-                | inr n ↦ absurd (b.1 ((takes.decided c).1 (inr ((outside c).1 (points c l, n), out))))
-              ]
-        ]
-      ]),
-    ))
+    takes_joins files worth old new Both item others (model.InSet (HasProperty files) item)
+    (λ c h. members_are_code_points 0 set is.rising c ((is.members c).1 h)) (λ c i o. ((outside c).0 o).1 ((is.members c).1 i))
+    (λ c low n. elim (has_or_not set c) [ inl s ↦ (is.members c).0 s | inr m ↦ absurd (n ((outside c).1 (low, m))) ])
+    (λ left c. (λ h. h, λ h. h)) none takes
 
 -- the collected ranges are put in
 pub settles : (files : List File) (worth : Option model.SetTree → Option model.SetTree) (old between new : SoFar) (set : List Range) →

@@ -77,9 +77,3 @@ pub faultless_at : (files : List File) (ignored : Bool) (statements : List State
     faults_of_statement ignored (context_at files statements n) s ≡ []
 unfolding context_at
 faultless_at files ignored statements n s at e = faultless_through ignored (start files) statements n s at e
-
--- each statement is well made
-pub well_made_at : (statements : List StatementTree) (n : ℕ) (s : StatementTree) → slice_get statements n ≡ Some s → AreWellMade statements → IsWellMade s
-well_made_at [] n s at well = absurd cc
-well_made_at (x ∷ statements) zero s at well = let same : x ≡ s = cc in subst IsWellMade same well.0
-well_made_at (x ∷ statements) (suc n) s at well = well_made_at statements n s at well.1

@@ -5,7 +5,7 @@ use Rattle.std.proofs.Common.{subst, arith}
 use Rattle.std.proofs.lemmas.Bool.{cases_lt}
 use Rattle.std.proofs.lemmas.Bool.Decides.{nat_tests}
 use Rattle.std.proofs.lemmas.Slice.Eq.{bytes_eq-Decides}
-use Rattle.std.proofs.lemmas.Option.{slice_get_within, get_or_from_slice_get}
+use Rattle.std.proofs.lemmas.Option.{slice_get_within, slice_get-map, get_or_from_slice_get}
 use Rattle.std.proofs.lemmas.List.{take_more, drop_more}
 use Rattle.std.proofs.lemmas.List.Sums.{fold-append}
 use Rattle.std.specs.HashMap.{get_by_text}
@@ -13,7 +13,8 @@ use Rattle.std.specs.Map.{update}
 use Rattle.std.specs.Option.{option_map, option_map_or}
 use Rattle.rbbi_props.specs.Rows.{File}
 use Rattle.rbbi_tree.specs.declared.syntax.Expr.{Expr}
-use Rattle.rbbi_tree.specs.Values.{rest_tree}
+use Rattle.rbbi_tree.specs.declared.syntax.Statement.{Statement}
+use Rattle.rbbi_tree.specs.Values.{rest_tree, statement_tree, statement_trees}
 use Rattle.rbbi_tree.specs.Trees.{ExprTree, StatementTree, assign}
 use Rattle.rbbi_resolve.specs.declared.fault.Fault.{Fault}
 use Rattle.rbbi_resolve.specs.declared.switches.Switches.{Switches}
@@ -38,6 +39,11 @@ pub left_here : (statements : List StatementTree) (number : ℕ) (s : StatementT
 left_here statements number s at =
     drop_more statements number s (slice_get_within statements number s at)
     ∙ ap (λ x. x ∷ drop (number + 1) statements) (get_or_from_slice_get statements number s s at)
+
+-- the tree of a statement has its number
+pub tree_at : (statements : List Statement) (number : ℕ) (s : Statement) → slice_get statements number ≡ Some s →
+    slice_get (statement_trees statements) number ≡ Some (statement_tree s)
+tree_at statements number s at = slice_get-map statement_tree statements number ∙ ap (option_map statement_tree) at
 
 -- what stands behind a statement
 pub context_next : (files : List File) (statements : List StatementTree) (number : ℕ) (s : StatementTree) → slice_get statements number ≡ Some s →

@@ -1,8 +1,8 @@
 -- Whether a list covers all or nothing from one code point to another, by its first range that doesn't end before.
-use Rattle.std.proofs.Common.{◌≡◌, ℕ, ◌+◌, ◌<◌, ◌≤◌, ◌⊎◌, Bool, true, false, not, leb, ltb, suc, List, [], ◌∷◌, length, get_or}
+use Rattle.std.proofs.Common.{◌≡◌, ℕ, ◌+◌, ◌<◌, ◌≤◌, Bool, true, false, not, leb, ltb, suc, List, [], ◌∷◌, length, get_or}
 use Rattle.std.proofs.Common.{refl, ap, sym, ◌∙◌, subst, inl, inr, arith, ◌↔◌}
 use Rattle.std.specs.List.{AllWithin}
-use Rattle.std.proofs.lemmas.Bool.{cases_lt, cases_eq, ltb-true, lt-ltb, leb-true, le-leb, false≢true}
+use Rattle.std.proofs.lemmas.Bool.{cases_lt, cases_eq, cases_Bool, ltb-true, lt-ltb, leb-true, le-leb, false≢true}
 use Rattle.std.proofs.lemmas.List.{get_or_default}
 use Rattle.rbbi_model.specs.Ranges.{Range, Has}
 use Rattle.rbbi_sets.specs.Covers.{covers, IsThroughout}
@@ -24,7 +24,7 @@ uncovered-behind : (xs : List Range) (low next : ℕ) (d : Range) → AreRising 
 uncovered-behind xs low next d r place n l =
     let after = (get_or xs next d).high + 1 in
     let moved : IsNextRange xs after (next + 1) =
-    next_moves xs after next d r (λ k e z m. omega (arith, place.0 k e z m)) n (omega arith) (omega arith) in
+    next_moves xs after next d r n (omega arith) (omega arith) in
     elim (cases_eq (next + 1) (length xs)) [
       | inl none ↦ covers-past xs after (next + 1) after moved none (omega arith)
       | inr more ↦
@@ -78,13 +78,6 @@ pub record IsAlike (wanted : Bool) (left right : List Range) (done next : ℕ) :
   pub within : next ≤ length left
   pub ended : (i : ℕ) (d : Range) → done ≤ i → i < length right → AllWithin (λ range. range.high < (get_or right i d).low) left 0 next
   pub alike : (i : ℕ) (d : Range) → i < done → i < length right → IsThroughout wanted left (get_or right i d).low (get_or right i d).high
-
-pub IsAlike-none : (wanted : Bool) (left right : List Range) → IsAlike wanted left right 0 0
-IsAlike-none wanted left right = record {
-  within = omega arith;
-  ended = λ i d l m k e z n. absurd (omega arith);
-  alike = λ i d l m. absurd (omega arith);
-}
 
 pub IsAlike-more : (wanted : Bool) (left right : List Range) (done next after low high : ℕ) (d : Range) → AreRising right →
     IsAlike wanted left right done next → done < length right → low ≡ (get_or right done d).low → high ≡ (get_or right done d).high →
@@ -148,10 +141,6 @@ pub range-alike : (wanted : Bool) (left right : List Range) (i low high : ℕ) (
 range-alike wanted left right i low high d inside low_is high_is h c l m =
     h c ((Decides-covers right c).0 (covers-at right i d c inside (omega (arith, low_is)) (omega (arith, high_is))))
 
-true_or_false : (b : Bool) → (b ≡ true) ⊎ (b ≡ false)
-true_or_false true = inl refl
-true_or_false false = inr refl
-
 -- all members covered are all members held
 pub all_held : (left right : List Range) (b : Bool) → (b ≡ true) ↔ ((c : ℕ) → Has right c → covers left c ≡ true) →
     (b ≡ true) ↔ ((c : ℕ) → Has right c → Has left c)
@@ -165,4 +154,4 @@ none_held left right b h =
     (λ t c m held. false≢true (sym (h.0 t c m) ∙ (Decides-covers left c).1 held), λ none. h.1 (λ c m. uncovered left c (none c m)))
   where
     uncovered : (xs : List Range) (c : ℕ) → ¬ Has xs c → covers xs c ≡ false
-    uncovered xs c out = elim (true_or_false (covers xs c)) [ inl t ↦ absurd (out ((Decides-covers xs c).0 t)) | inr f ↦ f ]
+    uncovered xs c out = elim (cases_Bool (covers xs c)) [ inl t ↦ absurd (out ((Decides-covers xs c).0 t)) | inr f ↦ f ]

@@ -1,5 +1,5 @@
 -- What holds while the gaps of a list are gathered.
-use Rattle.std.proofs.Common.{◌≡◌, ℕ, ◌+◌, ◌<◌, ◌≤◌, Bool, true, false, not, ◌&&◌, ◌||◌, List, [], ◌∷◌, length, get_or, refl, ap, sym, ◌∙◌, subst, inl, inr}
+use Rattle.std.proofs.Common.{◌≡◌, ℕ, ◌+◌, ◌<◌, ◌≤◌, true, false, not, ◌&&◌, List, [], ◌∷◌, length, get_or, ap, sym, ◌∙◌, inl, inr}
 use Rattle.std.proofs.Common.{ltb, arith}
 use Rattle.std.specs.List.{AllWithin}
 use Rattle.std.proofs.lemmas.Bool.{cases_lt}
@@ -9,7 +9,7 @@ use Rattle.rbbi_model.specs.Ranges.{Range}
 use Rattle.rbbi_sets.specs.Covers.{is_between, covers}
 use Rattle.rbbi_sets.specs.Joins.{Joins}
 use Rattle.rbbi_sets.specs.Rising.{AreRising, BeginUpTo, IsNextRange}
-use Rattle.rbbi_sets.proofs.Coverage.{covers-at}
+use Rattle.rbbi_sets.proofs.Coverage.{covers-at, or_is_left, or_is_right}
 use Rattle.rbbi_sets.proofs.Rise.{begin-weaker, rising-range, rising-apart}
 use Rattle.rbbi_sets.proofs.Places.{covers-past, covers-gap, ended_through}
 
@@ -22,25 +22,6 @@ pub record AreGaps (ranges gaps : List Range) (done at : ℕ) : Type 0 where
   pub begin : BeginUpTo gaps at
   pub below : (c : ℕ) → c < at → covers gaps c ≡ not (covers ranges c)
   pub above : (c : ℕ) → at ≤ c → covers gaps c ≡ false
-
-pub AreGaps-none : (ranges gaps : List Range) → gaps ≡ [] → AreGaps ranges gaps 0 0
-AreGaps-none ranges gaps e =
-    subst (λ xs. AreGaps ranges xs 0 0) (sym e) (record {
-      ended = λ k d l m. absurd (omega arith);
-      begins = λ k d l m. omega arith;
-      bound = omega arith;
-      rising = tt;
-      begin = tt;
-      below = λ c l. absurd (omega arith);
-      above = λ c l. refl;
-    })
-
-or-false : (x y : Bool) → y ≡ false → (x || y) ≡ x
-or-false true y e = refl
-or-false false y e = e
-
-false-or : (x y : Bool) → x ≡ false → (x || y) ≡ y
-false-or x y e = ap (λ b. b || y) e
 
 module _ (ranges gaps : List Range) (done at : ℕ) (rises : AreRising ranges) (h : AreGaps ranges gaps done at) where
   next : IsNextRange ranges at done
@@ -58,7 +39,7 @@ module _ (ranges gaps : List Range) (done at : ℕ) (rises : AreRising ranges) (
     begin = begin-weaker more at (high + 1) (omega (arith, from, order.0, low_is, high_is)) joins.begin;
     below = below;
     above = λ c l.
-        joins.members c ∙ or-false _ _ (not_added c (omega (arith, order.0, low_is, high_is))) ∙ h.above c (omega (arith, from, order.0, low_is, high_is));
+        joins.members c ∙ or_is_left _ _ (not_added c (omega (arith, order.0, low_is, high_is))) ∙ h.above c (omega (arith, from, order.0, low_is, high_is));
   }
     where
       order : ((get_or ranges done d).low ≤ (get_or ranges done d).high) × ((get_or ranges done d).high ≤ 0x10FFFF)
@@ -80,9 +61,9 @@ module _ (ranges gaps : List Range) (done at : ℕ) (rises : AreRising ranges) (
       below c l =
           joins.members c
           ∙ elim (cases_lt c at) [
-            | inl before ↦ or-false _ _ (not_before c before) ∙ h.below c before
+            | inl before ↦ or_is_left _ _ (not_before c before) ∙ h.below c before
             | inr here ↦
-                false-or _ _ (h.above c here)
+                or_is_right _ _ (h.above c here)
                 ∙ elim (cases_lt c low) [
                   | inl in_gap ↦
                       added c here in_gap (omega (arith, order.0, order.1, low_is))
@@ -108,9 +89,9 @@ module _ (ranges gaps : List Range) (done at : ℕ) (rises : AreRising ranges) (
       ∙ elim (cases_lt c at) [
         | inl before ↦
             let out : is_between at 0x10FFFF c ≡ false = grind (arith, nat_tests) in
-            or-false _ _ out ∙ h.below c before ∙ sym (ap (λ b. b && not (covers ranges c)) (in_whole c (omega arith)))
+            or_is_left _ _ out ∙ h.below c before ∙ sym (ap (λ b. b && not (covers ranges c)) (in_whole c (omega arith)))
         | inr here ↦
-            false-or _ _ (h.above c here)
+            or_is_right _ _ (h.above c here)
             ∙ elim (cases_lt 0x10FFFF c) [
               | inl past ↦
                   let out : is_between at 0x10FFFF c ≡ false = grind (arith, nat_tests) in

@@ -5,13 +5,13 @@ use Rattle.std.specs.Prelude.{slice_range, true, false, Option, Some, None, is_s
 use Rattle.std.proofs.lemmas.Bool.{false≢true}
 use Rattle.std.proofs.lemmas.Bool.Decides.{Decides-and, Decides-eqb}
 use Rattle.std.specs.List.{flat_map}
-use Rattle.std.proofs.lemmas.List.{take-take, drop-take, take-append-drop, take_more, take_all, flat_map_more}
+use Rattle.std.proofs.lemmas.List.{take_more, take_all, flat_map_more}
 use Rattle.rbbi_model.specs.Ranges.{Range, Has}
 use Rattle.rbbi_sets.specs.Rising.{AreRising}
 use Rattle.rbbi_sets.specs.Piles.{HasAny}
-use Rattle.rbbi_sets.proofs.Coverage.{has_or_not}
+use Rattle.rbbi_sets.proofs.Coverage.{has-append, has_or_not}
 use Rattle.rbbi_sets.proofs.Determined.{range_is}
-use Rattle.rbbi_sets.proofs.Runs.{rising-take, rising-weaker}
+use Rattle.rbbi_sets.proofs.Runs.{rising-take, rising-weaker, take-split}
 
 -- a part of a set's ranges is that of a set
 pub rising-part : (xs : List Range) (from to : ℕ) → AreRising xs → AreRising (slice_range xs from to)
@@ -20,26 +20,6 @@ rising-part xs from to h = rising-take 0 (to - from) (drop from xs) (rest from x
   rest zero ys h = h
   rest (suc i) [] h = tt
   rest (suc i) (y ∷ ys) h = rest i ys (rising-weaker 0 (y.high + 2) ys (omega arith) h.3)
-
-take_parts : (xs : List Range) (i m : ℕ) → take i xs ++ take m (drop i xs) ≡ take (i + m) xs
-take_parts xs i m =
-    ap (λ ys. ys ++ take m (drop i xs)) (sym (take-take i (i + m) xs (omega arith)))
-    ∙ ap (λ ys. take i (take (i + m) xs) ++ ys) (sym (drop-take i m xs))
-    ∙ take-append-drop i (take (i + m) xs)
-
--- a set has a code point where one of its parts has
-has_left : (xs ys : List Range) (c : ℕ) → Has xs c → Has (xs ++ ys) c
-has_left [] ys c h = absurd h
-has_left (x ∷ xs) ys c h = elim h [ inl x ↦ inl x | inr more ↦ inr (has_left xs ys c more) ]
-
-has_right : (xs ys : List Range) (c : ℕ) → Has ys c → Has (xs ++ ys) c
-has_right [] ys c h = h
-has_right (x ∷ xs) ys c h = inr (has_right xs ys c h)
-
-has_either : (xs ys : List Range) (c : ℕ) → Has (xs ++ ys) c → Has xs c ⊎ Has ys c
-has_either [] ys c h = inr h
-has_either (x ∷ xs) ys c h =
-    elim h [ inl x ↦ inl (inl x) | inr more ↦ elim (has_either xs ys c more) [ inl left ↦ inl (inr left) | inr right ↦ inr right ] ]
 
 -- the test of two ranges decides whether they are equal
 pub Decides-range : (a b : Range) → Decides (eqb a.low b.low && eqb a.high b.high) (a ≡ b)
@@ -68,12 +48,10 @@ module _ {X : Type 0} (ranges_of : X → List Range) where
   pub cut_more : (ranges : List Range) (chunks : List X) (chunk : X) (from to : ℕ) → from ≤ to → flat_map ranges_of chunks ≡ take from ranges →
       ranges_of chunk ≡ slice_range ranges from to → flat_map ranges_of (chunks ++ chunk ∷ []) ≡ take to ranges
   cut_more ranges chunks chunk from to up before here =
-      let place : from + (to - from) ≡ to = omega arith in
       sym (flat_map_more ranges_of [] chunks chunk)
       ∙ ap (λ ys. ys ++ ranges_of chunk) before
       ∙ ap (λ ys. take from ranges ++ ys) here
-      ∙ take_parts ranges from (to - from)
-      ∙ ap (λ i. take i ranges) place
+      ∙ sym (take-split from to ranges up)
 
   -- the ranges of the chunks up to one more
   pub joined_more : (chunks : List X) (i : ℕ) (chunk : X) → i < length chunks → chunk ≡ get_or chunks i chunk →
@@ -90,9 +68,9 @@ module _ {X : Type 0} (ranges_of : X → List Range) where
   -- a set has what one of its chunks has
   has_at : (chunks : List X) (i : ℕ) (d : X) (c : ℕ) → i < length chunks → Has (ranges_of (get_or chunks i d)) c → Has (flat_map ranges_of chunks) c
   has_at [] i d c inside h = absurd (omega arith)
-  has_at (chunk ∷ chunks) zero d c inside h = has_left (ranges_of chunk) (flat_map ranges_of chunks) c h
+  has_at (chunk ∷ chunks) zero d c inside h = (has-append (ranges_of chunk) (flat_map ranges_of chunks) c).1 (inl h)
   has_at (chunk ∷ chunks) (suc i) d c inside h =
-      has_right (ranges_of chunk) (flat_map ranges_of chunks) c (has_at chunks i d c (omega arith) h)
+      (has-append (ranges_of chunk) (flat_map ranges_of chunks) c).1 (inr (has_at chunks i d c (omega arith) h))
 
   -- the pile has the chunks before this place
   abbrev pub AreWithin : List X → List (List Range) → ℕ → Type 0
@@ -103,7 +81,7 @@ module _ {X : Type 0} (ranges_of : X → List Range) where
     -- nothing of the next chunk is left
     pub within_more : rest ≡ [] → AreWithin chunks pile i → AreWithin chunks pile (i + 1)
     within_more none before c h =
-        elim (has_either (flat_map ranges_of (take i chunks)) (ranges_of chunk) c (subst (λ ys. Has ys c) (sym (joined_more chunks i chunk inside is)) h)) [
+        elim ((has-append (flat_map ranges_of (take i chunks)) (ranges_of chunk) c).0 (subst (λ ys. Has ys c) (sym (joined_more chunks i chunk inside is)) h)) [
           | inl old ↦ before c old
           | inr new ↦ elim (any_or_not pile c) [ inl there ↦ there | inr nowhere ↦ absurd (subst (λ ys. Has ys c) none ((left c).1 (new, nowhere))) ]
         ]
@@ -129,7 +107,7 @@ module _ {X : Type 0} (ranges_of : X → List Range) where
   pub have_not_more : (chunks : List X) (c i : ℕ) (chunk : X) → i < length chunks → chunk ≡ get_or chunks i chunk → ¬ Has (ranges_of chunk) c →
       HaveNot chunks c i → HaveNot chunks c (i + 1)
   have_not_more chunks c i chunk inside is out before h =
-      elim (has_either (flat_map ranges_of (take i chunks)) (ranges_of chunk) c (subst (λ ys. Has ys c) (sym (joined_more chunks i chunk inside is)) h)) [
+      elim ((has-append (flat_map ranges_of (take i chunks)) (ranges_of chunk) c).0 (subst (λ ys. Has ys c) (sym (joined_more chunks i chunk inside is)) h)) [
         | inl old ↦ before old
         | inr new ↦ out new
       ]

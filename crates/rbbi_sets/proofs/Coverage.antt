@@ -1,6 +1,7 @@
 -- What a list of ranges covers.
 use Rattle.std.proofs.Common.{◌≡◌, ℕ, ◌<◌, ◌≤◌, suc, zero, Bool, true, false, ◌||◌, List, [], ◌∷◌, ◌++◌, length, get_or, refl, ap, ◌∙◌, inl, inr, arith, ◌⊎◌}
-use Rattle.std.proofs.Common.{Decides}
+use Rattle.std.proofs.Common.{sym, ◌↔◌, Decides}
+use Rattle.std.proofs.Math.Bool.{or_assoc, or-false}
 use Rattle.std.proofs.lemmas.Bool.{false≢true, leb-true, le-leb, lt-leb, and_left, and_right, and_from, or_left, or_right}
 use Rattle.std.proofs.lemmas.Bool.Decides.{Decides-and, Decides-or}
 use Rattle.rbbi_model.specs.Ranges.{Range, Has}
@@ -24,19 +25,18 @@ Decides-covers [] c = (λ e. absurd (false≢true e), λ h. absurd h)
 Decides-covers (range ∷ ranges) c =
     Decides-or _ _ (Decides-is_between range.low range.high c) (Decides-covers ranges c)
 
-or_assoc : (x y z : Bool) → (x || (y || z)) ≡ ((x || y) || z)
-or_assoc true y z = refl
-or_assoc false y z = refl
-
 pub covers-append : (xs ys : List Range) (c : ℕ) → covers (xs ++ ys) c ≡ (covers xs c || covers ys c)
 covers-append [] ys c = refl
 covers-append (x ∷ xs) ys c =
     ap (λ b. is_between x.low x.high c || b) (covers-append xs ys c)
-    ∙ or_assoc (is_between x.low x.high c) (covers xs c) (covers ys c)
+    ∙ sym (or_assoc (is_between x.low x.high c) (covers xs c) (covers ys c))
 
-or-false : (x : Bool) → (x || false) ≡ x
-or-false true = refl
-or-false false = refl
+-- an `or` of which one side is false is the other side
+pub or_is_left : (x y : Bool) → y ≡ false → (x || y) ≡ x
+or_is_left x y e = ap (λ b. x || b) e ∙ or-false x
+
+pub or_is_right : (x y : Bool) → x ≡ false → (x || y) ≡ y
+or_is_right x y e = ap (λ b. b || y) e
 
 pub covers-push : (xs : List Range) (y : Range) (c : ℕ) → covers (xs ++ y ∷ []) c ≡ (covers xs c || is_between y.low y.high c)
 covers-push xs y c = covers-append xs (y ∷ []) c ∙ ap (λ b. covers xs c || b) (or-false (is_between y.low y.high c))
@@ -57,6 +57,15 @@ pub covers-at : (xs : List Range) (k : ℕ) (d : Range) (c : ℕ) → k < length
 covers-at [] k d c l a b = absurd (omega arith)
 covers-at (x ∷ xs) zero d c l a b = or_left _ _ (is_between-true x.low x.high c a b)
 covers-at (x ∷ xs) (suc k) d c l a b = or_right _ _ (covers-at xs k d c (omega arith) a b)
+
+-- a list of ranges that is joined from two has what either has
+pub has-append : (xs ys : List Range) (c : ℕ) → Has (xs ++ ys) c ↔ (Has xs c ⊎ Has ys c)
+has-append [] ys c = (λ h. inr h, λ h. elim h [ inl g ↦ absurd g | inr g ↦ g ])
+has-append (x ∷ xs) ys c =
+    let rest = has-append xs ys c in (
+      λ h. elim h [ inl g ↦ inl (inl g) | inr g ↦ elim (rest.0 g) [ inl k ↦ inl (inr k) | inr k ↦ inr k ] ],
+      λ h. elim h [ inl g ↦ elim g [ inl k ↦ inl k | inr k ↦ inr (rest.1 (inl k)) ] | inr g ↦ inr (rest.1 (inr g)) ],
+    )
 
 -- a code point is in a set or not
 pub has_or_not : (ranges : List Range) (c : ℕ) → Has ranges c ⊎ ¬ Has ranges c

@@ -1,16 +1,17 @@
 -- What holds while one list is cut out of another.
-use Rattle.std.proofs.Common.{◌≡◌, ℕ, ◌+◌, ◌<◌, ◌≤◌, Bool, true, false, not, ◌&&◌, ◌||◌, ◌⊎◌, List, [], ◌++◌, length, get_or, refl, ap, sym, ◌∙◌, subst, inl, inr}
+use Rattle.std.proofs.Common.{◌≡◌, ℕ, ◌+◌, ◌<◌, ◌≤◌, Bool, true, false, not, ◌&&◌, ◌||◌, ◌⊎◌, List, ◌++◌, length, get_or, refl, ap, sym, ◌∙◌, subst, inl, inr}
 use Rattle.std.proofs.Common.{ltb, arith}
 use Rattle.std.specs.List.{AllWithin, slice_range}
-use Rattle.std.proofs.lemmas.Bool.{cases_lt, cases_eq, false≢true}
+use Rattle.std.proofs.Math.Bool.{and-true}
+use Rattle.std.proofs.lemmas.Bool.{cases_lt, false≢true, and_parts}
 use Rattle.std.proofs.lemmas.List.{get_or_default}
 use Rattle.std.proofs.lemmas.Bool.Decides.{nat_tests}
 use Rattle.rbbi_model.specs.Ranges.{Range}
 use Rattle.rbbi_sets.specs.Covers.{is_between, covers}
 use Rattle.rbbi_sets.specs.Joins.{Joins}
 use Rattle.rbbi_sets.specs.Rising.{AreRising, BeginUpTo, IsNextRange}
-use Rattle.rbbi_sets.proofs.Coverage.{covers-at, covers-append, covers-none}
-use Rattle.rbbi_sets.proofs.Rise.{begin-weaker, rising-range, rising-apart}
+use Rattle.rbbi_sets.proofs.Coverage.{covers-at, covers-append, covers-none, or_is_left}
+use Rattle.rbbi_sets.proofs.Rise.{begin-weaker, rising-range, rising-apart, rising-order}
 use Rattle.rbbi_sets.proofs.Runs.{run-before, run-behind, run-within, kept-rising, kept-begin}
 use Rattle.rbbi_sets.proofs.Places.{covers-past, covers-gap, next_stays, next_moves}
 
@@ -63,32 +64,6 @@ pub record IsCut (left right kept : List Range) (next_left next_right at : ℕ) 
   pub below : (c : ℕ) → c < at → covers kept c ≡ (covers left c && not (covers right c))
   pub above : (c : ℕ) → at ≤ c → covers kept c ≡ false
 
-pub IsCut-none : (left right kept : List Range) → kept ≡ [] → IsCut left right kept 0 0 0
-IsCut-none left right kept e =
-    subst (λ ranges. IsCut left right ranges 0 0 0) (sym e) (record {
-      left_within = omega arith;
-      left_place = (λ k d l m. absurd (omega arith), λ k d l m. omega arith);
-      right_within = omega arith;
-      right_ended = λ k d l m. absurd (omega arith);
-      bound = omega arith;
-      rising = tt;
-      begin = tt;
-      below = λ c l. absurd (omega arith);
-      above = λ c l. refl;
-    })
-
-or-false : (x y : Bool) → y ≡ false → (x || y) ≡ x
-or-false true y e = refl
-or-false false y e = e
-
-and-true : (x : Bool) → (x && true) ≡ x
-and-true true = refl
-and-true false = refl
-
-and_left-true : (x y : Bool) → (x && y) ≡ true → x ≡ true
-and_left-true true y e = refl
-and_left-true false y e = e
-
 module _ (left right kept more : List Range) (next_left next_right after at low high : ℕ) (hole_low hole_high : ℕ) (d : Range)
     (left_rises : AreRising left) (h : IsCut left right kept next_left next_right at) (inside : next_left < length left)
     (high_is : high ≡ (get_or left next_left d).high) (low_from : at ≤ low) (low_in : (get_or left next_left d).low ≤ low)
@@ -116,7 +91,7 @@ module _ (left right kept more : List Range) (next_left next_right after at low 
   added-hole c l = grind (arith, nat_tests)
 
   not_added : (c : ℕ) → added c ≡ false → covers more c ≡ covers kept c
-  not_added c e = joins.members c ∙ or-false (covers kept c) (added c) e
+  not_added c e = joins.members c ∙ or_is_left (covers kept c) (added c) e
 
   and-not : (a b : Bool) → b ≡ true → (a && not b) ≡ false
   and-not true b e = ap not e
@@ -130,7 +105,8 @@ module _ (left right kept more : List Range) (next_left next_right after at low 
             ∙ elim (cases_lt c at) [
               | inl done ↦ h.below c done
               | inr from ↦
-                  h.above c from ∙ sym (ap (λ b. b && not (covers right c)) (covers-gap left at next_left c d left_rises h.left_place inside from (low_first c from before)))
+                  h.above c from
+                  ∙ sym (ap (λ b. b && not (covers right c)) (covers-gap left at next_left c d left_rises h.left_place inside from (low_first c from before)))
             ]
         | inr from ↦ elim (cases_lt c hole_low) [
           | inl kept_here ↦
@@ -177,8 +153,7 @@ module _ (left right kept more : List Range) (next_left next_right after at low 
   pub IsCut-range : high ≤ hole_high → IsCut left right more (next_left + 1) after (high + 1)
   IsCut-range long = record {
     left_within = omega arith;
-    left_place = next_moves left (high + 1) next_left d left_rises (λ k e z m. omega (arith, h.left_place.0 k e z m, low_from, ordered)) inside
-        (omega (arith, high_is)) (omega (arith, high_is));
+    left_place = next_moves left (high + 1) next_left d left_rises inside (omega (arith, high_is)) (omega (arith, high_is));
     right_within = after_within;
     right_ended = λ k e z m. omega (arith, place.0 k e z m, ordered);
     bound = omega (arith, high_bound);
@@ -197,18 +172,7 @@ module _ (left right kept : List Range) (next_left last next_right after at low 
   last_range = rising-range 0 left left_rises last d inside
 
   low_to : low ≤ (get_or left last d).high
-  low_to =
-      elim (cases_eq next_left last) [
-        | inl same ↦ omega (arith, low_is, last_range.0, ap (λ n. (get_or left n d).low) same)
-        | inr before ↦
-            omega (
-              arith,
-              low_is,
-              last_range.0,
-              rising-apart 0 left left_rises next_left last d (omega arith) inside,
-              (rising-range 0 left left_rises next_left d (omega arith)).0,
-            )
-      ]
+  low_to = omega (arith, low_is, last_range.0, (rising-order left left_rises next_left last d d order inside).0)
 
   -- what was kept ends with a gap before the run, since the code point before the run isn't in the left list
   apart : (k : ℕ) (e : Range) → k < length kept → (get_or kept k e).high + 2 ≤ (get_or left next_left d).low
@@ -221,7 +185,7 @@ module _ (left right kept : List Range) (next_left last next_right after at low 
             elim (cases_lt (high + 1) low) [
               | inl gap ↦ omega (arith, low_is)
               | inr touches ↦
-                  let there : covers left high ≡ true = and_left-true _ _ (sym (h.below high done) ∙ covered) in
+                  let there : covers left high ≡ true = (and_parts _ _ (sym (h.below high done) ∙ covered)).0 in
                   absurd (false≢true (sym (covers-none left high (λ j f n. beside j f n (omega arith))) ∙ there))
             ]
       ]
@@ -229,33 +193,17 @@ module _ (left right kept : List Range) (next_left last next_right after at low 
       beside : (j : ℕ) (f : Range) → j < length left → (get_or kept k e).high + 1 ≡ low →
           ((get_or kept k e).high < (get_or left j f).low) ⊎ ((get_or left j f).high < (get_or kept k e).high)
       beside j f n is =
-          let here : (get_or left next_left d).low ≡ (get_or left next_left f).low = ap (λ (x : Range). x.low) (get_or_default left next_left d f (omega arith)) in
+          let here : (get_or left next_left d).low ≡ (get_or left next_left f).low =
+          ap (λ (x : Range). x.low) (get_or_default left next_left d f (omega arith)) in
           elim (cases_lt j next_left) [
             | inl before ↦ inr (omega (arith, low_is, here, rising-apart 0 left left_rises j next_left f before (omega arith)))
-            | inr from ↦
-                elim (cases_eq j next_left) [
-                  | inl same ↦ inl (omega (arith, low_is, here, ap (λ n. (get_or left n f).low) same))
-                  | inr later ↦
-                      inl (omega (
-                        arith,
-                        low_is,
-                        here,
-                        rising-apart 0 left left_rises next_left j f (omega arith) n,
-                        (rising-range 0 left left_rises next_left f (omega arith)).0,
-                      ))
-                ]
+            | inr from ↦ inl (omega (arith, low_is, (rising-order left left_rises next_left j d f from n).0))
           ]
 
   IsCut-run : IsCut left right (kept ++ slice_range left next_left (last + 1)) (last + 1) after ((get_or left last d).high + 1)
   IsCut-run = record {
     left_within = omega arith;
-    left_place = next_moves left ((get_or left last d).high + 1) last d left_rises
-        (λ k e z m. omega (
-          arith,
-          rising-apart 0 left left_rises k last e m inside,
-          (rising-range 0 left left_rises last e inside).0,
-          ap (λ (x : Range). x.high) (get_or_default left last d e inside),
-        )) inside (omega arith) (omega arith);
+    left_place = next_moves left ((get_or left last d).high + 1) last d left_rises inside (omega arith) (omega arith);
     right_within = after_within;
     right_ended = λ k e z m. omega (arith, place.0 k e z m, low_to);
     bound = omega (arith, last_range.1);
@@ -265,7 +213,7 @@ module _ (left right kept : List Range) (next_left last next_right after at low 
     below = below;
     above = λ c l.
         covers-append kept (slice_range left next_left (last + 1)) c
-        ∙ or-false _ _ (run-behind left next_left last d left_rises order inside c (omega arith))
+        ∙ or_is_left _ _ (run-behind left next_left last d left_rises order inside c (omega arith))
         ∙ h.above c (omega (arith, low_from, low_to));
   }
     where
@@ -275,12 +223,13 @@ module _ (left right kept : List Range) (next_left last next_right after at low 
           covers-append kept (slice_range left next_left (last + 1)) c
           ∙ elim (cases_lt c low) [
             | inl before ↦
-                or-false _ _ (run-before left next_left last d left_rises order inside c (omega (arith, low_is)))
+                or_is_left _ _ (run-before left next_left last d left_rises order inside c (omega (arith, low_is)))
                 ∙ elim (cases_lt c at) [
                   | inl done ↦ h.below c done
                   | inr from ↦
                       h.above c from
-                      ∙ sym (ap (λ b. b && not (covers right c)) (covers-gap left at next_left c d left_rises h.left_place (omega arith) from (omega (arith, low_is))))
+                      ∙ sym (ap (λ b. b && not (covers right c))
+                      (covers-gap left at next_left c d left_rises h.left_place (omega arith) from (omega (arith, low_is))))
                 ]
             | inr from ↦
                 ap (λ b. b || covers (slice_range left next_left (last + 1)) c) (h.above c (omega (arith, low_from)))

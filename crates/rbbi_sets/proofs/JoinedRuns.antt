@@ -1,24 +1,16 @@
 -- What it leaves to join a range, and a run behind it.
-use Rattle.std.proofs.Common.{◌≡◌, ℕ, ◌+◌, ◌-◌, ◌<◌, ◌≤◌, Bool, true, false, ◌||◌, List, ◌++◌, length, get_or, refl, ap, sym, ◌∙◌, subst, inl, inr, arith}
+use Rattle.std.proofs.Common.{◌≡◌, ℕ, ◌+◌, ◌-◌, ◌<◌, ◌≤◌, ◌||◌, List, ◌++◌, length, get_or, ap, sym, ◌∙◌, subst, inl, inr, arith}
 use Rattle.std.specs.List.{slice_range}
+use Rattle.std.proofs.Math.Bool.{or_assoc, or-false}
 use Rattle.std.proofs.lemmas.Bool.{cases_eq}
-use Rattle.std.proofs.lemmas.List.{append-nil, get_or_default}
+use Rattle.std.proofs.lemmas.List.{append-nil}
 use Rattle.rbbi_model.specs.Ranges.{Range}
 use Rattle.rbbi_sets.specs.Covers.{is_between, covers}
 use Rattle.rbbi_sets.specs.Joins.{Joins, JoinsRun}
 use Rattle.rbbi_sets.specs.Rising.{AreRising}
 use Rattle.rbbi_sets.proofs.Coverage.{covers-append}
-use Rattle.rbbi_sets.proofs.Rise.{begin-weaker, rising-range, rising-apart}
-use Rattle.rbbi_sets.proofs.Places.{ends_later}
+use Rattle.rbbi_sets.proofs.Rise.{begin-weaker, rising-range, rising-apart, rising-order}
 use Rattle.rbbi_sets.proofs.Runs.{slice-one, slice-split, slice-none, kept-rising, kept-begin}
-
-or-false : (x : Bool) → (x || false) ≡ x
-or-false true = refl
-or-false false = refl
-
-or_assoc : (x y z : Bool) → ((x || y) || z) ≡ (x || (y || z))
-or_assoc true y z = refl
-or_assoc false y z = refl
 
 module _ (old mid ranges : List Range) (next end low high : ℕ) (d : Range) (rises : AreRising ranges) (inside : next < length ranges)
     (low_is : low ≡ (get_or ranges next d).low) (high_is : high ≡ (get_or ranges next d).high) (first : low ≤ end)
@@ -31,14 +23,7 @@ module _ (old mid ranges : List Range) (next end low high : ℕ) (d : Range) (ri
       ∙ ap (λ h. is_between low h c) (sym high_is)
 
   behind : (k : ℕ) (e : Range) → next + 1 ≤ k → k < length ranges → low ≤ (get_or ranges k e).low
-  behind k e l m =
-      omega (
-        arith,
-        low_is,
-        ap (λ (r : Range). r.low) (get_or_default ranges next d e inside),
-        rising-apart 0 ranges rises next k e (omega arith) m,
-        (rising-range 0 ranges rises next e inside).0,
-      )
+  behind k e l m = omega (arith, low_is, (rising-order ranges rises next k d e (omega arith) m).0)
 
   -- the range alone
   pub JoinsRun-one : JoinsRun old mid ranges next (next + 1) end
@@ -58,8 +43,7 @@ module _ (old mid ranges : List Range) (next end low high : ℕ) (d : Range) (ri
     apart k e m =
         omega (
           arith,
-          ends_later mid k (length mid - 1) e joins.rising (omega arith) (omega arith),
-          ap (λ (r : Range). r.high) (get_or_default mid (length mid - 1) d e (omega arith)),
+          (rising-order mid joins.rising k (length mid - 1) e d (omega arith) (omega arith)).1,
           ends,
           high_is,
           rising-apart 0 ranges rises next (next + 1) d (omega arith) (omega arith),
@@ -83,12 +67,7 @@ module _ (old mid ranges : List Range) (next end low high : ℕ) (d : Range) (ri
       begin = kept-begin ranges (next + 1) last d rises order last_inside mid end JoinsRun-one.begin (omega (arith, last_low));
       later = λ k e l m.
           kept-begin ranges (next + 1) last d rises order last_inside mid (get_or ranges k e).low (JoinsRun-one.later k e (omega arith) m)
-          (omega (
-            arith,
-            rising-apart 0 ranges rises last k e (omega arith) m,
-            (rising-range 0 ranges rises last e last_inside).0,
-            ap (λ (r : Range). r.low) (get_or_default ranges last d e last_inside),
-          ));
+          (rising-order ranges rises last k d e (omega arith) m).0;
     }
 
   -- the run up to a number, which may be empty
@@ -98,7 +77,8 @@ module _ (old mid ranges : List Range) (next end low high : ℕ) (d : Range) (ri
   JoinsRun-more new after forward within ended ends is =
       elim (cases_eq after (next + 1)) [
         | inl none ↦
-            let new_is : new ≡ mid = is ∙ ap (λ n. mid ++ slice_range ranges (next + 1) n) none ∙ ap (λ xs. mid ++ xs) (slice-none ranges (next + 1)) ∙ append-nil mid in
+            let new_is : new ≡ mid =
+            is ∙ ap (λ n. mid ++ slice_range ranges (next + 1) n) none ∙ ap (λ xs. mid ++ xs) (slice-none ranges (next + 1)) ∙ append-nil mid in
             rw (new_is, none) JoinsRun-one
         | inr some ↦
             let after_is : after ≡ (after - 1) + 1 = omega arith in

@@ -1,7 +1,7 @@
 -- What `join_last` leaves, case by case.
-use Rattle.std.proofs.Common.{◌≡◌, ℕ, ◌+◌, ◌≤◌, Bool, true, false, ◌&&◌, ◌||◌, List, [], ◌∷◌, ◌++◌, length, get_or, set, take, refl, ap, sym, ◌∙◌, subst, arith}
+use Rattle.std.proofs.Common.{◌≡◌, ℕ, ◌+◌, ◌≤◌, List, [], ◌∷◌, ◌++◌, length, get_or, set, take, ap, sym, ◌∙◌, subst, arith}
 use Rattle.rbbi_model.specs.Ranges.{Range}
-use Rattle.rbbi_sets.specs.Covers.{is_between, covers}
+use Rattle.rbbi_sets.specs.Covers.{is_between}
 use Rattle.rbbi_sets.specs.Joins.{Joins}
 use Rattle.rbbi_sets.specs.Rising.{AreRising, BeginUpTo}
 use Rattle.rbbi_sets.proofs.Coverage.{covers-push}
@@ -60,21 +60,3 @@ Joins-inside xs n l low high e i h g f = record {
   rising = h;
   begin = g;
 }
-
-or-false : (x : Bool) → x ≡ (x || false)
-or-false true = refl
-or-false false = refl
-
--- where nothing is added
-pub Joins-nothing : (xs : List Range) (kept : Bool) (low high : ℕ) → kept ≡ false → AreRising xs → BeginUpTo xs low →
-    Joins xs xs (λ c. kept && is_between low high c) low
-Joins-nothing xs kept low high e h g =
-    subst (λ b. Joins xs xs (λ c. b && is_between low high c) low) (sym e)
-    (record { members = λ c. or-false (covers xs c); rising = h; begin = g })
-
--- where the added code points are kept
-pub Joins-kept : (xs ys : List Range) (kept : Bool) (low high : ℕ) → kept ≡ true → Joins xs ys (is_between low high) low →
-    Joins xs ys (λ c. kept && is_between low high c) low
-Joins-kept xs ys kept low high e h =
-    subst (λ b. Joins xs ys (λ c. b && is_between low high c) low) (sym e)
-    (record { members = h.members; rising = h.rising; begin = h.begin })

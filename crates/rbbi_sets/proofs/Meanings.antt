@@ -62,11 +62,7 @@ members_from bound (x ∷ xs) c r h =
 
 pub first_is_least : (xs : List Range) (d : Range) (c : ℕ) → AreRising xs → Has xs c → (get_or xs 0 d).low ≤ c
 first_is_least [] d c r h = absurd h
-first_is_least (x ∷ xs) d c r h =
-    elim h [
-      | inl inside ↦ inside.0
-      | inr later ↦ omega (arith, r.1, members_from (x.high + 2) xs c r.3 later)
-    ]
+first_is_least (x ∷ xs) d c r h = members_from x.low (x ∷ xs) c (omega arith, r.1, r.2, r.3) h
 
 -- a range that isn't within the surrogates has a character
 pub character_of_range : (xs : List Range) (i : ℕ) (d : Range) → AreRising xs → i < length xs →

@@ -24,19 +24,6 @@ any_take_more sets i next c inside is =
 abbrev pub IsRest : List (List Range) → List Range → ℕ → List Range → Type 0
 IsRest sets set count rest = (c : ℕ) → Has rest c ↔ (Has set c × ¬ HasAny (take count sets) c)
 
-pub IsRest-none : (sets : List (List Range)) (set rest : List Range) → rest ≡ set → IsRest sets set 0 rest
-IsRest-none sets set rest e c = rw e (λ h. (h, λ n. n), λ h. h.0)
-
--- nothing of it is in the next set
-pub IsRest-same : (sets : List (List Range)) (set rest : List Range) (i : ℕ) (next : List Range) → i < length sets → next ≡ get_or sets i next →
-    IsRest sets set i rest →
-    ((c : ℕ) → Has rest c → ¬ Has next c) → IsRest sets set (i + 1) rest
-IsRest-same sets set rest i next inside is h none c =
-    let more = any_take_more sets i next c inside is in (
-      λ r. (((h c).0 r).0, λ a. elim (more.0 a) [ inl b ↦ ((h c).0 r).1 b | inr s ↦ none c r s ]),
-      λ s. (h c).1 (s.0, λ b. s.1 (more.1 (inl b))),
-    )
-
 -- what is in the next set is taken away
 pub IsRest-less : (sets : List (List Range)) (set rest less : List Range) (i : ℕ) (next : List Range) → i < length sets → next ≡ get_or sets i next →
     IsRest sets set i rest →
@@ -48,6 +35,12 @@ IsRest-less sets set rest less i next inside is h minus c =
           (((h c).0 m.0).0, λ a. elim (more.0 a) [ inl b ↦ ((h c).0 m.0).1 b | inr s ↦ m.1 s ]),
       λ s. (minus c).1 ((h c).1 (s.0, λ b. s.1 (more.1 (inl b))), λ n. s.1 (more.1 (inr n))),
     )
+
+-- nothing of it is in the next set
+pub IsRest-same : (sets : List (List Range)) (set rest : List Range) (i : ℕ) (next : List Range) → i < length sets → next ≡ get_or sets i next →
+    IsRest sets set i rest →
+    ((c : ℕ) → Has rest c → ¬ Has next c) → IsRest sets set (i + 1) rest
+IsRest-same sets set rest i next inside is h none = IsRest-less sets set rest rest i next inside is h (λ c. (λ r. (r, none c r), λ s. s.0))
 
 pub IsRest-all : (sets : List (List Range)) (set rest : List Range) (count : ℕ) → length sets ≤ count → IsRest sets set count rest → (c : ℕ) →
     Has rest c ↔ (Has set c × ¬ HasAny sets c)

@@ -1,13 +1,13 @@
 -- What the number of the first range that doesn't end before a code point tells.
-use Rattle.std.proofs.Common.{◌≡◌, ℕ, ◌+◌, ◌<◌, ◌≤◌, false, List, length, get_or, ap, sym, ◌∙◌, subst, inl, inr, arith, ◌⊎◌}
+use Rattle.std.proofs.Common.{◌≡◌, ℕ, ◌+◌, ◌<◌, ◌≤◌, false, List, length, get_or, ap, inl, inr, arith, ◌⊎◌}
 use Rattle.std.specs.List.{AllWithin}
-use Rattle.std.proofs.lemmas.Bool.{cases_order, cases_eq, cases_lt}
+use Rattle.std.proofs.lemmas.Bool.{cases_eq, cases_lt}
 use Rattle.std.proofs.lemmas.List.{get_or_default}
 use Rattle.rbbi_model.specs.Ranges.{Range}
 use Rattle.rbbi_sets.specs.Covers.{covers}
 use Rattle.rbbi_sets.specs.Rising.{AreRising, IsNextRange}
 use Rattle.rbbi_sets.proofs.Coverage.{covers-none}
-use Rattle.rbbi_sets.proofs.Rise.{rising-range, rising-apart}
+use Rattle.rbbi_sets.proofs.Rise.{rising-range, rising-apart, rising-order}
 
 -- where all ranges end before
 pub covers-past : (xs : List Range) (at next c : ℕ) → IsNextRange xs at next → next ≡ length xs → at ≤ c → covers xs c ≡ false
@@ -20,76 +20,33 @@ pub covers-gap : (xs : List Range) (at next c : ℕ) (d : Range) → AreRising x
 covers-gap xs at next c d r h n l g = covers-none xs c outside where
   outside : (k : ℕ) (e : Range) → k < length xs → (c < (get_or xs k e).low) ⊎ ((get_or xs k e).high < c)
   outside k e m =
-      elim (cases_order k next) [
-        | inl same ↦ inl (omega (arith, ap (λ (x : Range). x.low) (read k e same)))
-        | inr other ↦ elim other [
-          | inl before ↦ inr (omega (arith, h.0 k e (omega arith) before))
-          | inr after ↦
-              let inside = rising-range 0 xs r next e n in
-              let same : (get_or xs next e).low ≡ (get_or xs next d).low = ap (λ (x : Range). x.low) (default e) in
-              inl (omega (arith, rising-apart 0 xs r next k e after m, inside.0, same))
-        ]
+      elim (cases_lt k next) [
+        | inl before ↦ inr (omega (arith, h.0 k e (omega arith) before))
+        | inr from ↦ inl (omega (arith, (rising-order xs r next k d e from m).0))
       ]
-    where
-      default : (e : Range) → get_or xs next e ≡ get_or xs next d
-      default e = get_or_default xs next e d n
-
-      read : (k : ℕ) (e : Range) → k ≡ next → get_or xs k e ≡ get_or xs next d
-      read k e same = ap (λ i. get_or xs i e) same ∙ default e
 
 -- the next range still ends at a later code point or past it
 pub next_stays : (xs : List Range) (at next : ℕ) (d : Range) → AreRising xs → AllWithin (λ (range : Range). range.high < at) xs 0 next → next < length xs →
     at ≤ (get_or xs next d).high → IsNextRange xs at next
-next_stays xs at next d r h n l = (h, later) where
-  later : (k : ℕ) (e : Range) → next ≤ k → k < length xs → at ≤ (get_or xs k e).high
-  later k e m b =
-      elim (cases_eq k next) [
-        | inl same ↦ subst (λ (x : Range). at ≤ x.high) (sym (ap (λ i. get_or xs i e) same ∙ get_or_default xs next e d n)) l
-        | inr other ↦
-            let inside = rising-range 0 xs r k e b in
-            let first : (get_or xs next e).high ≡ (get_or xs next d).high = ap (λ (x : Range). x.high) (get_or_default xs next e d n) in
-            omega (arith, rising-apart 0 xs r next k e (omega arith) b, inside.0, first)
-      ]
-
--- the next range ends right before a later code point, so the one after it is the next
-pub next_moves : (xs : List Range) (at next : ℕ) (d : Range) → AreRising xs → AllWithin (λ (range : Range). range.high < at) xs 0 next → next < length xs →
-    (get_or xs next d).high < at → at ≤ (get_or xs next d).high + 1 → IsNextRange xs at (next + 1)
-next_moves xs at next d r h n l m = (ended, later) where
-  ended : (k : ℕ) (e : Range) → 0 ≤ k → k < next + 1 → (get_or xs k e).high < at
-  ended k e z b =
-      elim (cases_eq k next) [
-        | inl same ↦ subst (λ (x : Range). x.high < at) (sym (ap (λ i. get_or xs i e) same ∙ get_or_default xs next e d n)) l
-        | inr other ↦ h k e z (omega arith)
-      ]
-
-  later : (k : ℕ) (e : Range) → next + 1 ≤ k → k < length xs → at ≤ (get_or xs k e).high
-  later k e a b =
-      let inside = rising-range 0 xs r k e b in
-      let first : (get_or xs next e).high ≡ (get_or xs next d).high = ap (λ (x : Range). x.high) (get_or_default xs next e d n) in
-      omega (arith, rising-apart 0 xs r next k e (omega arith) b, inside.0, first)
-
--- no range is left
-pub next_past : (xs : List Range) (at next : ℕ) → AllWithin (λ (range : Range). range.high < at) xs 0 next → next ≡ length xs → IsNextRange xs at next
-next_past xs at next h e = (h, λ k d l m. absurd (omega arith))
-
--- while a range is left, the code point is one
-pub code_point_left : (xs : List Range) (at next : ℕ) → AreRising xs → IsNextRange xs at next → next < length xs → at ≤ 0x10FFFF
-code_point_left xs at next r h n =
-    let d : Range = record { low = 0; high = 0 } in
-    let inside = rising-range 0 xs r next d n in
-    omega (arith, h.1 next d (omega arith) n, inside.1)
+next_stays xs at next d r h n l = (h, λ k e m b. omega (arith, l, (rising-order xs r next k d e m b).1))
 
 -- with a range that ends before, all up to it do
 pub ended_through : (xs : List Range) (at number : ℕ) (d : Range) → AreRising xs → number < length xs → (get_or xs number d).high < at →
     AllWithin (λ (range : Range). range.high < at) xs 0 (number + 1)
-ended_through xs at number d r n l k e z b =
-    elim (cases_eq k number) [
-      | inl same ↦ subst (λ (x : Range). x.high < at) (sym (ap (λ i. get_or xs i e) same ∙ get_or_default xs number e d n)) l
-      | inr other ↦
-          let inside = rising-range 0 xs r number e n in
-          let same : (get_or xs number e).high ≡ (get_or xs number d).high = ap (λ (x : Range). x.high) (get_or_default xs number e d n) in
-          omega (arith, rising-apart 0 xs r k number e (omega arith) n, inside.0, same, l)
-    ]
+ended_through xs at number d r n l k e z b = omega (arith, l, (rising-order xs r k number e d (omega arith) n).1)
+
+-- the next range ends right before a later code point, so the one after it is the next
+pub next_moves : (xs : List Range) (at next : ℕ) (d : Range) → AreRising xs → next < length xs → (get_or xs next d).high < at →
+    at ≤ (get_or xs next d).high + 1 → IsNextRange xs at (next + 1)
+next_moves xs at next d r n l m = (ended_through xs at next d r n l, later) where
+  later : (k : ℕ) (e : Range) → next + 1 ≤ k → k < length xs → at ≤ (get_or xs k e).high
+  later k e a b =
+      let first : (get_or xs next e).high ≡ (get_or xs next d).high = ap (λ (x : Range). x.high) (get_or_default xs next e d n) in
+      omega (arith, rising-apart 0 xs r next k e (omega arith) b, (rising-range 0 xs r k e b).0, first)
+
+-- no range is left
+pub next_past : (xs : List Range) (at next : ℕ) → AllWithin (λ (range : Range). range.high < at) xs 0 next → next ≡ length xs → IsNextRange xs at next
+next_past xs at next h e = (h, λ k d l m. absurd (omega arith))
 
 -- where the ranges end before up to a number, and that of the number doesn't, it is the next
 pub next_found : (xs : List Range) (at next : ℕ) → AreRising xs → next ≤ length xs → AllWithin (λ (range : Range). range.high < at) xs 0 next →
@@ -104,11 +61,3 @@ next_found xs at next r within h l =
 pub passed : (xs : List Range) (at k next : ℕ) (d : Range) → IsNextRange xs at next → k < length xs → (get_or xs k d).high < at → k < next
 passed xs at k next d place n l =
     elim (cases_lt k next) [ inl before ↦ before | inr from ↦ absurd (omega (arith, place.1 k d from n)) ]
-
--- of two ranges the later one ends later
-pub ends_later : (xs : List Range) (i j : ℕ) (d : Range) → AreRising xs → i ≤ j → j < length xs → (get_or xs i d).high ≤ (get_or xs j d).high
-ends_later xs i j d r l n =
-    elim (cases_eq i j) [
-      | inl same ↦ omega (arith, ap (λ k. (get_or xs k d).high) same)
-      | inr other ↦ omega (arith, rising-apart 0 xs r i j d (omega arith) n, (rising-range 0 xs r j d n).0)
-    ]

@@ -1,11 +1,13 @@
 -- Lists of ranges that rise, and neither overlap nor touch.
 use Rattle.std.proofs.Common.{◌≡◌, ℕ, ◌+◌, ◌<◌, ◌≤◌, suc, zero, Bool, true, false, ◌||◌, List, [], ◌∷◌, ◌++◌, length, get_or, set, take, refl, ap, sym, ◌∙◌}
-use Rattle.std.proofs.Common.{arith}
-use Rattle.std.proofs.lemmas.List.{set_split, drop_all, take_more, take_all}
+use Rattle.std.proofs.Common.{inl, inr, arith}
+use Rattle.std.proofs.Math.Bool.{or_assoc}
+use Rattle.std.proofs.lemmas.Bool.{cases_eq}
+use Rattle.std.proofs.lemmas.List.{set_split, drop_all, take_more, take_all, get_or_default}
 use Rattle.std.proofs.lemmas.Bool.Decides.{nat_tests}
 use Rattle.rbbi_model.specs.Ranges.{Range}
 use Rattle.rbbi_sets.specs.Covers.{is_between, covers}
-use Rattle.rbbi_sets.specs.Rising.{AreRisingFrom, BeginUpTo}
+use Rattle.rbbi_sets.specs.Rising.{AreRisingFrom, AreRising, BeginUpTo}
 use Rattle.rbbi_sets.proofs.Coverage.{Decides-is_between, covers-at, covers-push}
 
 pub rising-bound : (bound : ℕ) (xs : List Range) → AreRisingFrom bound xs → (k : ℕ) (d : Range) → k < length xs → bound ≤ (get_or xs k d).low
@@ -27,6 +29,18 @@ rising-apart bound [] h i j d l m = absurd (omega arith)
 rising-apart bound (x ∷ xs) h i zero d l m = absurd (omega arith)
 rising-apart bound (x ∷ xs) h zero (suc j) d l m = rising-bound (x.high + 2) xs h.3 j d (omega arith)
 rising-apart bound (x ∷ xs) h (suc i) (suc j) d l m = rising-apart (x.high + 2) xs h.3 i j d (omega arith) (omega arith)
+
+-- of two ranges the later one begins later and ends later
+pub rising-order : (xs : List Range) → AreRising xs → (i j : ℕ) (d e : Range) → i ≤ j → j < length xs →
+    ((get_or xs i d).low ≤ (get_or xs j e).low) × ((get_or xs i d).high ≤ (get_or xs j e).high)
+rising-order xs r i j d e l m =
+    rw (get_or_default xs j e d m)
+    (elim (cases_eq i j) [
+      | inl same ↦ (omega (arith, ap (λ k. (get_or xs k d).low) same), omega (arith, ap (λ k. (get_or xs k d).high) same))
+      | inr other ↦
+          let apart = rising-apart 0 xs r i j d (omega arith) m in
+          (omega (arith, apart, (rising-range 0 xs r i d (omega arith)).0), omega (arith, apart, (rising-range 0 xs r j d m).0))
+    ])
 
 -- a list is what stands before its last range, and that range
 pub last_split : (xs : List Range) (n : ℕ) (d : Range) → n + 1 ≡ length xs → xs ≡ take n xs ++ get_or xs n d ∷ []
@@ -68,10 +82,6 @@ begin-at (x ∷ xs) c h (suc k) d l = begin-at xs c h.1 k d (omega arith)
 joined_is : (from mid low high c : ℕ) → from ≤ low → low ≤ mid + 1 → mid ≤ high → from ≤ mid →
     is_between from high c ≡ (is_between from mid c || is_between low high c)
 joined_is from mid low high c a b e f = grind (arith, nat_tests)
-
-or_assoc : (x y z : Bool) → ((x || y) || z) ≡ (x || (y || z))
-or_assoc true y z = refl
-or_assoc false y z = refl
 
 pub covers-joined : (xs : List Range) (l y : Range) (low c : ℕ) → y.low ≡ l.low → l.low ≤ low → low ≤ l.high + 1 → l.high ≤ y.high → l.low ≤ l.high →
     covers (xs ++ y ∷ []) c ≡ (covers (xs ++ l ∷ []) c || is_between low y.high c)

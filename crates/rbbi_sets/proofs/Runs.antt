@@ -1,15 +1,14 @@
 -- A run of ranges of a rising list, put at the end of another.
-use Rattle.std.proofs.Common.{◌≡◌, ℕ, ◌+◌, ◌-◌, ◌<◌, ◌≤◌, suc, zero, true, false, ◌||◌, List, [], ◌∷◌, ◌++◌, length, get_or, take, drop, refl, ap, sym, ◌∙◌, inl, inr}
-use Rattle.std.proofs.Common.{arith, Bool}
-use Rattle.std.proofs.lemmas.Bool.{cases_eq}
+use Rattle.std.proofs.Common.{◌≡◌, ℕ, ◌+◌, ◌-◌, ◌<◌, ◌≤◌, suc, zero, false, List, [], ◌∷◌, ◌++◌, length, get_or, take, drop, refl, ap, sym, ◌∙◌, inl, inr}
+use Rattle.std.proofs.Common.{arith}
 use Rattle.std.specs.List.{slice_range, AllWithin}
 use Rattle.std.proofs.lemmas.List.{get_or-drop, get_or-take, get_or_default, length-take, length-drop, take-append-drop}
-use Rattle.std.proofs.Math.Seq.{take-nil, drop-drop}
+use Rattle.std.proofs.Math.Seq.{take-add, drop-drop}
 use Rattle.rbbi_model.specs.Ranges.{Range}
 use Rattle.rbbi_sets.specs.Covers.{covers}
 use Rattle.rbbi_sets.specs.Rising.{AreRisingFrom, AreRising, BeginUpTo}
-use Rattle.rbbi_sets.proofs.Coverage.{covers-append, covers-none}
-use Rattle.rbbi_sets.proofs.Rise.{rising-range, rising-apart}
+use Rattle.rbbi_sets.proofs.Coverage.{covers-append, covers-none, or_is_left, or_is_right}
+use Rattle.rbbi_sets.proofs.Rise.{rising-apart, rising-order}
 
 rising-drop : (bound i : ℕ) (xs : List Range) (d : Range) → AreRisingFrom bound xs → i < length xs → AreRisingFrom (get_or xs i d).low (drop i xs)
 rising-drop bound i [] d h l = absurd (omega arith)
@@ -40,10 +39,7 @@ begin-append [] ys c h g = g
 begin-append (x ∷ xs) ys c h g = (h.0, begin-append xs ys c h.1 g)
 
 pub take-split : (i j : ℕ) (xs : List Range) → i ≤ j → take j xs ≡ take i xs ++ slice_range xs i j
-take-split zero j xs l = grind arith
-take-split (suc i) zero xs l = absurd (omega arith)
-take-split (suc i) (suc j) [] l = sym (take-nil (suc j - suc i))
-take-split (suc i) (suc j) (x ∷ xs) l = grind (arith, take-split i j xs (omega arith))
+take-split i j xs l = let to : j ≡ i + (j - i) = omega arith in ap (λ n. take n xs) to ∙ take-add i (j - i) xs
 
 -- where a range of a run stands in the list
 run-at : (xs : List Range) (i j k : ℕ) (d : Range) → k < length (slice_range xs i j) →
@@ -54,13 +50,6 @@ run-at xs i j k d m =
     let p : k < j - i = omega (arith, n, o, m) in
     (get_or-take (j - i) (drop i xs) k d p ∙ get_or-drop i xs k d, omega (arith, p), omega (arith, n, o, m))
 
-or-false : (x y : Bool) → y ≡ false → (x || y) ≡ x
-or-false true y e = refl
-or-false false y e = e
-
-false-or : (x y : Bool) → x ≡ false → (x || y) ≡ y
-false-or x y e = ap (λ b. b || y) e
-
 -- a run from one range of a rising list to a later one
 module _ (xs : List Range) (i last : ℕ) (d : Range) (rises : AreRising xs) (order : i ≤ last) (inside : last < length xs) where
   abbrev run : List Range
@@ -69,29 +58,12 @@ module _ (xs : List Range) (i last : ℕ) (d : Range) (rises : AreRising xs) (or
   low-from : (k : ℕ) (e : Range) → k < length run → (get_or xs i d).low ≤ (get_or run k e).low
   low-from k e m =
       let at = run-at xs i (last + 1) k e m in
-      elim (cases_eq k 0) [
-        | inl first ↦
-            let here : i + k ≡ i = omega arith in
-            omega (arith, ap (λ (r : Range). r.low) at.0, ap (λ n. (get_or xs n e).low) here, ap (λ (r : Range). r.low) (get_or_default xs i d e (omega arith)))
-        | inr later ↦
-            omega (
-              arith,
-              ap (λ (r : Range). r.low) at.0,
-              rising-apart 0 xs rises i (i + k) d (omega arith) at.2,
-              (rising-range 0 xs rises i d (omega arith)).0,
-              ap (λ (r : Range). r.low) (get_or_default xs (i + k) e d at.2),
-            )
-      ]
+      omega (arith, ap (λ (r : Range). r.low) at.0, (rising-order xs rises i (i + k) d e (omega arith) at.2).0)
 
   high-to : (k : ℕ) (e : Range) → k < length run → (get_or run k e).high ≤ (get_or xs last d).high
   high-to k e m =
       let at = run-at xs i (last + 1) k e m in
-      let same = ap (λ (r : Range). r.high) (get_or_default xs (i + k) e d at.2) in
-      elim (cases_eq (i + k) last) [
-        | inl end ↦ omega (arith, ap (λ (r : Range). r.high) at.0, same, ap (λ n. (get_or xs n d).high) end)
-        | inr before ↦
-            omega (arith, ap (λ (r : Range). r.high) at.0, same, rising-apart 0 xs rises (i + k) last d (omega arith) inside, (rising-range 0 xs rises last d inside).0)
-      ]
+      omega (arith, ap (λ (r : Range). r.high) at.0, (rising-order xs rises (i + k) last e d (omega (arith, at.1)) inside).1)
 
   pub run-before : (c : ℕ) → c < (get_or xs i d).low → covers run c ≡ false
   run-before c l = covers-none run c (λ k e m. inl (omega (arith, low-from k e m)))
@@ -107,22 +79,17 @@ module _ (xs : List Range) (i last : ℕ) (d : Range) (rises : AreRising xs) (or
     low-to : (k : ℕ) (e : Range) → k < length run → (get_or run k e).low ≤ c
     low-to k e m =
         let at = run-at xs i (last + 1) k e m in
-        let same = ap (λ (r : Range). r.low) (get_or_default xs (i + k) e d at.2) in
-        elim (cases_eq (i + k) last) [
-          | inl end ↦ omega (arith, ap (λ (r : Range). r.low) at.0, same, ap (λ n. (get_or xs n d).low) end)
-          | inr before ↦
-              omega (arith, ap (λ (r : Range). r.low) at.0, same, rising-apart 0 xs rises (i + k) last d (omega arith) inside, (rising-range 0 xs rises (i + k) d at.2).0)
-        ]
+        omega (arith, ap (λ (r : Range). r.low) at.0, (rising-order xs rises (i + k) last e d (omega (arith, at.1)) inside).0)
 
   -- from a code point on before which all ranges before the run end, the list covers up to the end of the run what the run does
   pub run-within : (at c : ℕ) → AllWithin (λ (range : Range). range.high < at) xs 0 i → at ≤ c → c ≤ (get_or xs last d).high → covers xs c ≡ covers run c
   run-within at c ended l m =
       ap (λ ys. covers ys c) (sym (take-append-drop (last + 1) xs))
       ∙ covers-append (take (last + 1) xs) (drop (last + 1) xs) c
-      ∙ or-false _ _ behind
+      ∙ or_is_left _ _ behind
       ∙ ap (λ ys. covers ys c) (take-split i (last + 1) xs (omega arith))
       ∙ covers-append (take i xs) run c
-      ∙ false-or _ _ before
+      ∙ or_is_right _ _ before
     where
       behind : covers (drop (last + 1) xs) c ≡ false
       behind = covers-none (drop (last + 1) xs) c (λ k e n.

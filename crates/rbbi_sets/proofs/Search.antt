@@ -1,19 +1,15 @@
 -- What a binary search by the ranges' ends tells of membership.
-use Rattle.std.proofs.Common.{◌≡◌, ℕ, ◌<◌, true, false, leb, ltb, List, length, get_or, ap, sym, ◌∙◌, inl, inr, arith, ◌↔◌}
+use Rattle.std.proofs.Common.{◌≡◌, ℕ, ◌<◌, true, false, leb, ltb, List, length, get_or, sym, ◌∙◌, inl, inr, arith, ◌↔◌}
 use Rattle.std.specs.List.Sorted.{IsNonDecreasingBy, IsPartitionPoint}
-use Rattle.std.proofs.lemmas.Bool.{cases_eq, cases_lt, ltb-true, ltb-false, leb-true, le-leb, false≢true}
+use Rattle.std.proofs.lemmas.Bool.{cases_lt, ltb-true, ltb-false, leb-true, le-leb, false≢true}
 use Rattle.rbbi_model.specs.Ranges.{Range, Has}
 use Rattle.rbbi_sets.specs.Rising.{AreRising, IsNextRange}
 use Rattle.rbbi_sets.proofs.Coverage.{Decides-covers, covers-at}
-use Rattle.rbbi_sets.proofs.Rise.{rising-range, rising-apart}
+use Rattle.rbbi_sets.proofs.Rise.{rising-order}
 use Rattle.rbbi_sets.proofs.Places.{covers-past, covers-gap}
 
 pub ends_rise : (xs : List Range) → AreRising xs → IsNonDecreasingBy (λ (range : Range). range.high) xs
-ends_rise xs r i j d l m =
-    elim (cases_eq i j) [
-      | inl same ↦ omega (arith, ap (λ k. (get_or xs k d).high) same)
-      | inr other ↦ omega (arith, rising-apart 0 xs r i j d (omega arith) m, (rising-range 0 xs r j d m).0)
-    ]
+ends_rise xs r i j d l m = (rising-order xs r i j d d l m).1
 
 pub next_from_point : (xs : List Range) (c next : ℕ) →
     IsPartitionPoint (λ (range : Range). ltb range.high c ≡ true) (λ (range : Range). ltb range.high c ≡ false) xs next → IsNextRange xs c next

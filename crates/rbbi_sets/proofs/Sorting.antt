@@ -47,10 +47,6 @@ pub record IsJoined (sorted joined : List Range) (count : ℕ) : Type 0 where
   pub rising : AreRising joined
   pub begin : (k : ℕ) (d : Range) → count ≤ k → k < length sorted → BeginUpTo joined (get_or sorted k d).low
 
-pub IsJoined-none : (sorted joined : List Range) → joined ≡ [] → IsJoined sorted joined 0
-IsJoined-none sorted joined e =
-    subst (λ ranges. IsJoined sorted ranges 0) (sym e) (record { members = λ c. refl; rising = tt; begin = λ k d l m. tt })
-
 pub IsJoined-more : (sorted joined more : List Range) (count : ℕ) (d : Range) (low high : ℕ) → IsNonDecreasingBy (λ (range : Range). range.low) sorted →
     count < length sorted → low ≡ (get_or sorted count d).low → high ≡ (get_or sorted count d).high → IsJoined sorted joined count →
     Joins joined more (is_between low high) low → IsJoined sorted more (count + 1)

@@ -1,125 +1,112 @@
-use Rattle.std.proofs.Common.{◌≡◌, ◌&&◌, not, true, false, Some, [], ◌∷◌, ◌++◌, length, slice_get, if◌then◌else◌, sym, refl}
+use Rattle.std.proofs.Common.{◌≡◌, ◌+◌, ◌&&◌, not, true, false, Some, [], ◌∷◌, ◌++◌, length, slice_get, if◌then◌else◌, sym, refl}
 use Rattle.std.proofs.Common.{ap, ◌∙◌, subst, arith}
 use Rattle.std.specs.Option.{option_map}
 use Rattle.std.specs.List.{AllZip}
 use Rattle.std.proofs.lemmas.List.{append-nil}
-use Rattle.std.proofs.lemmas.Option.{slice_get-map}
-use Rattle.rbbi_tree.specs.Trees.{nothing, control, assign, rule}
-use Rattle.rbbi_tree.specs.Values.{statement_trees, statement_tree, expr_tree, rest_tree}
+use Rattle.rbbi_tree.specs.Trees.{StatementTree, nothing, control, assign, rule}
+use Rattle.rbbi_tree.specs.Values.{statement_trees, expr_tree, rest_tree}
 use Rattle.rbbi_resolve.specs.Expressions.{meaning_of_expr}
 use Rattle.rbbi_resolve.specs.Parts.{parts_of_expr}
 use Rattle.rbbi_resolve.specs.Faults.{faults_of_parts}
-use Rattle.rbbi_resolve.specs.Files.{context_at, after_control, faults_of_rest, faults_at_slash}
+use Rattle.rbbi_resolve.specs.Files.{context_at, context_after, after_control, rule_in, faults_of_rest, faults_at_slash}
 use Rattle.rbbi_resolve.specs.Scopes.{context_of}
 use Rattle.rbbi_resolve.specs.Switchings.{AreSwitches}
+use Rattle.rbbi_resolve.specs.declared.switches.Switches.{Switches}
 use Rattle.rbbi_resolve.specs.declared.rules.Rule.{Rule}
 use Rattle.rbbi_resolve.specs.Builders.{IsPart, IsBuilt, GoesOn}
-use Rattle.rbbi_resolve.specs.RulesSoFar.{IsRestBuilt, IsRuleBuilt}
+use Rattle.rbbi_resolve.specs.RulesSoFar.{IsRestBuilt, IsRuleBuilt, AreRulesTo}
 use Rattle.rbbi_resolve.proofs.Sound.{first_empty, second_empty}
 use Rattle.rbbi_resolve.proofs.SoundFiles.{faultless_at}
-use Rattle.rbbi_resolve.proofs.Steps.{meant}
+use Rattle.rbbi_resolve.proofs.Steps.{tree_at, meant}
 use Rattle.rbbi_resolve.proofs.Building.{part_more, goes_nowhere, goes_further}
 use Rattle.rbbi_resolve.proofs.RulesBuilt.{statement_built, rule_fresh}
 use Rattle.rbbi_resolve.proofs.Ending.{switches_kept}
 use Rattle.rbbi_resolve.proofs.active.add_statement.Goals as goal
+use Rattle.rbbi_resolve.proofs.active.add_statement.Goals.{After-get, In-Rule}
+
+-- a statement that makes no rule
+adds_none : (c : After-get) (s : StatementTree) (switches : Switches) →
+    slice_get (statement_trees c.args.scope.now.statements.now) c.args.scope.now.limit ≡ Some s →
+    AreSwitches switches
+    (context_after (context_at c.args.builder.now.properties (statement_trees c.args.scope.now.statements.now) c.args.scope.now.limit) s) →
+    AllZip (IsRuleBuilt c.args.builder.now.properties c.args.builder.now.sets.items)
+    (rule_in (context_at c.args.builder.now.properties (statement_trees c.args.scope.now.statements.now) c.args.scope.now.limit) s) [] →
+    AreRulesTo c.args.builder.now.properties (statement_trees c.args.scope.now.statements.now) c.args.builder.now.sets.items
+    c.args.builder.now.bases.items switches c.args.rules.now.items (c.args.scope.now.limit + 1)
+adds_none c s switches at switch none =
+    let files = c.args.builder.now.properties in
+    let T = statement_trees c.args.scope.now.statements.now in
+    let sets = c.args.builder.now.sets.items in
+    let bases = c.args.builder.now.bases.items in
+    statement_built files T sets sets bases bases c.args.switches.now switches c.args.rules.now.items c.args.rules.now.items [] c.args.scope.now.limit s
+    c.requires.rules at (goes_nowhere files T sets bases c.requires.rules.builder) switch none (sym (append-nil c.args.rules.now.items))
+    (λ k low high. absurd (omega arith))
+
+-- the parts of an active rule have no faults
+faultless : (c : In-Rule) →
+    (faults_of_parts (context_at c.args.builder.now.properties (statement_trees c.args.scope.now.statements.now) c.args.scope.now.limit)
+    (parts_of_expr (expr_tree c.in-Rule.front)) ≡ [])
+    × (faults_of_rest (context_at c.args.builder.now.properties (statement_trees c.args.scope.now.statements.now) c.args.scope.now.limit)
+    (rest_tree c.in-Rule.rest) ≡ [])
+faultless c =
+    let files = c.args.builder.now.properties in
+    let xs = c.args.scope.now.statements.now in
+    let n = c.args.scope.now.limit in
+    let k = context_at files (statement_trees xs) n in
+    let front = expr_tree c.in-Rule.front in
+    let rest = rest_tree c.in-Rule.rest in
+    let of_front = faults_of_parts k (parts_of_expr front) in
+    let of_rest = faults_of_rest k rest in
+    let at_slash = faults_at_slash k front c.in-Rule.slash rest in
+    let none = faultless_at files c.requires.ready.ignored (statement_trees xs) n _ (tree_at xs n _ (c.get.ensures ∙ ap Some c.in-Rule.is))
+    c.requires.ready.none in
+    (first_empty of_front (of_rest ++ at_slash) none, first_empty of_rest at_slash (second_empty of_front (of_rest ++ at_slash) none))
 
 pub returns-in-Nothing-clause-added : goal.returns-in-Nothing-clause-added
 returns-in-Nothing-clause-added c =
-    let files = c.args.builder.now.properties in
-    let xs = c.args.scope.now.statements.now in
-    let n = c.args.scope.now.limit in
-    let sets = c.args.builder.now.sets.items in
-    let bases = c.args.builder.now.bases.items in
-    let r = c.requires.rules in
-    let at : slice_get (statement_trees xs) n ≡ Some nothing =
-    slice_get-map statement_tree xs n ∙ ap (option_map statement_tree) (c.get.ensures ∙ ap Some c.in-Nothing.is) in
-    statement_built files (statement_trees xs) sets sets bases bases c.args.switches.now c.args.switches.now c.args.rules.now.items c.args.rules.now.items []
-    n nothing r at (goes_nowhere files (statement_trees xs) sets bases r.builder) r.switched tt (sym (append-nil c.args.rules.now.items))
-    (λ k low high. absurd (omega arith))
+    adds_none (goal.at.returns-in-Nothing-clause-added c).After-get nothing c.args.switches.now
+    (tree_at c.args.scope.now.statements.now c.args.scope.now.limit _ (c.get.ensures ∙ ap Some c.in-Nothing.is)) c.requires.rules.switched tt
 
 pub returns-in-Assign-clause-added : goal.returns-in-Assign-clause-added
 returns-in-Assign-clause-added c =
-    let files = c.args.builder.now.properties in
     let xs = c.args.scope.now.statements.now in
     let n = c.args.scope.now.limit in
-    let sets = c.args.builder.now.sets.items in
-    let bases = c.args.builder.now.bases.items in
-    let r = c.requires.rules in
-    let s = assign c.in-Assign.name c.in-Assign.place (expr_tree c.in-Assign.expr) in
-    let at : slice_get (statement_trees xs) n ≡ Some s =
-    slice_get-map statement_tree xs n ∙ ap (option_map statement_tree) (c.get.ensures ∙ ap Some c.in-Assign.is) in
-    statement_built files (statement_trees xs) sets sets bases bases c.args.switches.now c.args.switches.now c.args.rules.now.items c.args.rules.now.items []
-    n s r at (goes_nowhere files (statement_trees xs) sets bases r.builder)
-    (switches_kept c.args.switches.now (context_at files (statement_trees xs) n) c.in-Assign.name (expr_tree c.in-Assign.expr) r.switched) tt
-    (sym (append-nil c.args.rules.now.items)) (λ k low high. absurd (omega arith))
+    let expr = expr_tree c.in-Assign.expr in
+    adds_none (goal.at.returns-in-Assign-clause-added c).After-get (assign c.in-Assign.name c.in-Assign.place expr) c.args.switches.now
+    (tree_at xs n _ (c.get.ensures ∙ ap Some c.in-Assign.is))
+    (switches_kept c.args.switches.now (context_at c.args.builder.now.properties (statement_trees xs) n) c.in-Assign.name expr c.requires.rules.switched) tt
 
 pub returns-in-Control-clause-added : goal.returns-in-Control-clause-added
 returns-in-Control-clause-added c =
-    let files = c.args.builder.now.properties in
     let xs = c.args.scope.now.statements.now in
     let n = c.args.scope.now.limit in
-    let sets = c.args.builder.now.sets.items in
-    let bases = c.args.builder.now.bases.items in
-    let r = c.requires.rules in
-    let s = control c.in-Control.name c.in-Control.place in
-    let k = context_at files (statement_trees xs) n in
-    let at : slice_get (statement_trees xs) n ≡ Some s =
-    slice_get-map statement_tree xs n ∙ ap (option_map statement_tree) (c.get.ensures ∙ ap Some c.in-Control.is) in
-    statement_built files (statement_trees xs) sets sets bases bases c.args.switches.now c.after.result c.args.rules.now.items c.args.rules.now.items [] n s
-    r at (goes_nowhere files (statement_trees xs) sets bases r.builder)
-    (subst (λ t. AreSwitches c.after.result (after_control k t)) c.as_str.ensures.bytes (c.after.ensures k r.switched)) tt
-    (sym (append-nil c.args.rules.now.items)) (λ j low high. absurd (omega arith))
+    let k = context_at c.args.builder.now.properties (statement_trees xs) n in
+    adds_none (goal.at.returns-in-Control-clause-added c).After-get (control c.in-Control.name c.in-Control.place) c.after.result
+    (tree_at xs n _ (c.get.ensures ∙ ap Some c.in-Control.is))
+    (subst (λ t. AreSwitches c.after.result (after_control k t)) c.as_str.ensures.bytes (c.after.ensures k c.requires.rules.switched)) tt
 
 pub returns-then-not-switches-clause-added : goal.returns-then-not-switches-clause-added
 returns-then-not-switches-clause-added c =
     let files = c.args.builder.now.properties in
     let xs = c.args.scope.now.statements.now in
     let n = c.args.scope.now.limit in
-    let sets = c.args.builder.now.sets.items in
-    let bases = c.args.builder.now.bases.items in
-    let r = c.requires.rules in
     let front = expr_tree c.in-Rule.front in
     let rest = rest_tree c.in-Rule.rest in
-    let s = rule c.in-Rule.place c.in-Rule.no_chain_in front c.in-Rule.slash rest c.in-Rule.tag in
     let k = context_at files (statement_trees xs) n in
-    let at : slice_get (statement_trees xs) n ≡ Some s =
-    slice_get-map statement_tree xs n ∙ ap (option_map statement_tree) (c.get.ensures ∙ ap Some c.in-Rule.is) in
-    let inactive : k.active ≡ false = sym r.switched.active ∙ c.if-not-switches.true in
+    let inactive : k.active ≡ false = sym c.requires.rules.switched.active ∙ c.if-not-switches.true in
     let means = meant k c.in-Rule.place c.in-Rule.no_chain_in front rest c.in-Rule.tag in
-    statement_built files (statement_trees xs) sets sets bases bases c.args.switches.now c.args.switches.now c.args.rules.now.items c.args.rules.now.items []
-    n s r at (goes_nowhere files (statement_trees xs) sets bases r.builder) r.switched
-    (subst (λ b. AllZip (IsRuleBuilt files sets) (if b then means ∷ [] else []) []) (sym inactive) tt) (sym (append-nil c.args.rules.now.items))
-    (λ j low high. absurd (omega arith))
+    adds_none (goal.at.returns-then-not-switches-clause-added c).After-get
+    (rule c.in-Rule.place c.in-Rule.no_chain_in front c.in-Rule.slash rest c.in-Rule.tag) c.args.switches.now
+    (tree_at xs n _ (c.get.ensures ∙ ap Some c.in-Rule.is)) c.requires.rules.switched
+    (subst (λ b. AllZip (IsRuleBuilt files c.args.builder.now.sets.items) (if b then means ∷ [] else []) []) (sym inactive) tt)
 
 pub tree-requires-clause-faultless : goal.tree-requires-clause-faultless
-tree-requires-clause-faultless c =
-    let files = c.args.builder.now.properties in
-    let xs = c.args.scope.now.statements.now in
-    let n = c.args.scope.now.limit in
-    let k = context_at files (statement_trees xs) n in
-    let front = expr_tree c.in-Rule.front in
-    let rest = rest_tree c.in-Rule.rest in
-    let s = rule c.in-Rule.place c.in-Rule.no_chain_in front c.in-Rule.slash rest c.in-Rule.tag in
-    let at : slice_get (statement_trees xs) n ≡ Some s =
-    slice_get-map statement_tree xs n ∙ ap (option_map statement_tree) (c.get.ensures ∙ ap Some c.in-Rule.is) in
-    first_empty (faults_of_parts k (parts_of_expr front)) (faults_of_rest k rest ++ faults_at_slash k front c.in-Rule.slash rest)
-    (faultless_at files c.requires.ready.ignored (statement_trees xs) n s at c.requires.ready.none)
+tree-requires-clause-faultless c = (faultless (goal.at.tree-requires-clause-faultless c).In-Rule).0
 
 pub tree_of_rest-requires-clause-faultless : goal.tree_of_rest-requires-clause-faultless
 tree_of_rest-requires-clause-faultless c =
-    let files = c.args.builder.now.properties in
-    let xs = c.args.scope.now.statements.now in
-    let n = c.args.scope.now.limit in
-    let k = context_at files (statement_trees xs) n in
-    let front = expr_tree c.in-Rule.front in
-    let rest = rest_tree c.in-Rule.rest in
-    let s = rule c.in-Rule.place c.in-Rule.no_chain_in front c.in-Rule.slash rest c.in-Rule.tag in
-    let at : slice_get (statement_trees xs) n ≡ Some s =
-    slice_get-map statement_tree xs n ∙ ap (option_map statement_tree) (c.get.ensures ∙ ap Some c.in-Rule.is) in
-    let others = second_empty (faults_of_parts k (parts_of_expr front)) (faults_of_rest k rest ++ faults_at_slash k front c.in-Rule.slash rest)
-    (faultless_at files c.requires.ready.ignored (statement_trees xs) n s at c.requires.ready.none) in
-    subst (λ f. faults_of_rest (context_of f c.args.scope.now) rest ≡ []) (sym c.in_ok-front-in-Rule.ensures.same)
-    (first_empty (faults_of_rest k rest) (faults_at_slash k front c.in-Rule.slash rest) others)
+    subst (λ f. faults_of_rest (context_of f c.args.scope.now) (rest_tree c.in-Rule.rest) ≡ []) (sym c.in_ok-front-in-Rule.ensures.same)
+    (faultless (goal.at.tree_of_rest-requires-clause-faultless c).In-Rule).1
 
 pub returns-in_ok-push-in-Rule-clause-added : goal.returns-in_ok-push-in-Rule-clause-added
 returns-in_ok-push-in-Rule-clause-added c =
@@ -135,7 +122,7 @@ returns-in_ok-push-in-Rule-clause-added c =
     let rest = rest_tree c.in-Rule.rest in
     let s = rule c.in-Rule.place c.in-Rule.no_chain_in front c.in-Rule.slash rest c.in-Rule.tag in
     let k = context_at files T n in
-    let at : slice_get T n ≡ Some s = slice_get-map statement_tree xs n ∙ ap (option_map statement_tree) (c.get.ensures ∙ ap Some c.in-Rule.is) in
+    let at : slice_get T n ≡ Some s = tree_at xs n _ (c.get.ensures ∙ ap Some c.in-Rule.is) in
     let active : k.active ≡ true = sym r.switched.active ∙ c.if-not-switches.false in
     let means = meant k c.in-Rule.place c.in-Rule.no_chain_in front rest c.in-Rule.tag in
     let new : Rule = record {

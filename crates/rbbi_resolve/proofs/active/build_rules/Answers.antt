@@ -12,6 +12,7 @@ use Rattle.rbbi_resolve.proofs.Lawful.{same_leaves, same_slashes, within_anywher
 use Rattle.rbbi_resolve.proofs.RulesBuilt.{rules_formed, rules_stand, rules_filled}
 use Rattle.rbbi_resolve.proofs.Ending.{counting_all, leaves_counted, slashes_counted}
 use Rattle.rbbi_resolve.proofs.active.build_rules.Goals as goal
+use Rattle.rbbi_resolve.proofs.active.build_rules.Goals.{In_ok-rules}
 
 pub rules_with_trees-requires-clause-ready : goal.rules_with_trees-requires-clause-ready
 rules_with_trees-requires-clause-ready c =
@@ -34,6 +35,26 @@ rules_with_trees-requires-clause-ready c =
           (faultless_at now r.dictionary_ignored T n _ is.at none);
     }
 
+-- all active rules are built
+built : (c : In_ok-rules) →
+    AreAllRules c.args.reading.properties (statement_trees c.args.reading.statements.now) c.rules_with_trees.new.builder.sets.items c.in_ok-rules.rules.items
+built c =
+    subst (λ f. AreAllRules f (statement_trees c.args.reading.statements.now) c.rules_with_trees.new.builder.sets.items c.in_ok-rules.rules.items)
+    c.in_ok-builder.ensures.same c.in_ok-rules.ensures.built
+
+-- they are what the file means
+means : (c : In_ok-rules) →
+    Means c.args.reading.properties c.args.reading.dictionary_ignored (statement_trees c.args.reading.statements.now)
+    (rules_of (record { rules = c.in_ok-rules.rules.items; sets = c.rules_with_trees.new.builder.sets.items }))
+means c =
+    let files = c.args.reading.properties in
+    let ms = active_rules files (statement_trees c.args.reading.statements.now) in
+    record {
+      faultless = c.requires.faultless;
+      within = λ end. within_anywhere c.requires.few.0 end ms c.requires.few.1;
+      rules_in_order = rules_stand files c.rules_with_trees.new.builder.sets.items ms c.in_ok-rules.rules.items (built c).each;
+    }
+
 pub new-requires : goal.new-requires
 new-requires c =
     let r = c.args.reading in
@@ -43,7 +64,7 @@ new-requires c =
     let sets = c.rules_with_trees.new.builder.sets.items in
     let rules = c.in_ok-rules.rules.items in
     let long : length T ≡ length r.statements.now = simp length-map in
-    let all = subst (λ f. AreAllRules f T sets rules) c.in_ok-builder.ensures.same c.in_ok-rules.ensures.built in
+    let all = built (goal.at.new-requires c).In_ok-rules in
     let stand = rules_stand files sets ms rules all.each in
     let counting = counting_all files r.dictionary_ignored T r.variables r.least r.switches r.counts (length r.statements.now)
     (omega arith) c.requires.reading in
@@ -58,36 +79,13 @@ new-requires c =
 pub returns-clause-means : goal.returns-clause-means
 returns-clause-means c =
     let r = c.args.reading in
-    let files = r.properties in
-    let T = statement_trees r.statements.now in
-    let ms = active_rules files T in
-    let sets = c.rules_with_trees.new.builder.sets.items in
-    let rules = c.in_ok-rules.rules.items in
-    let all = subst (λ f. AreAllRules f T sets rules) c.in_ok-builder.ensures.same c.in_ok-rules.ensures.built in
-    subst (λ (x : RuleList). Means files r.dictionary_ignored T (rules_of x)) (sym c.new.ensures)
-    (record {
-      faultless = c.requires.faultless;
-      within = λ end. within_anywhere c.requires.few.0 end ms c.requires.few.1;
-      rules_in_order =
-          rules_stand files sets ms rules all.each;
-    })
+    subst (λ (x : RuleList). Means r.properties r.dictionary_ignored (statement_trees r.statements.now) (rules_of x)) (sym c.new.ensures)
+    (means (goal.at.returns-clause-means c).In_ok-rules)
 
 pub returns-clause-lawful : goal.returns-clause-lawful
 returns-clause-lawful c =
+    let done = (goal.at.returns-clause-lawful c).In_ok-rules in
     let r = c.args.reading in
-    let files = r.properties in
-    let T = statement_trees r.statements.now in
-    let ms = active_rules files T in
-    let sets = c.rules_with_trees.new.builder.sets.items in
-    let rules = c.in_ok-rules.rules.items in
-    let list : RuleList = record { rules = rules; sets = sets } in
-    let all = subst (λ f. AreAllRules f T sets rules) c.in_ok-builder.ensures.same c.in_ok-rules.ensures.built in
-    let means : Means files r.dictionary_ignored T (rules_of list) =
-    record {
-      faultless = c.requires.faultless;
-      within = λ end. within_anywhere c.requires.few.0 end ms c.requires.few.1;
-      rules_in_order =
-          rules_stand files sets ms rules all.each;
-    } in
     subst (λ (x : RuleList). AreLawful (rules_of x)) (sym c.new.ensures)
-    (lawful_rules files r.dictionary_ignored T (rules_of list) c.requires.well_made means (rules_filled files sets ms rules all.each))
+    (lawful_rules r.properties r.dictionary_ignored (statement_trees r.statements.now) _ c.requires.well_made (means done)
+    (rules_filled r.properties c.rules_with_trees.new.builder.sets.items _ c.in_ok-rules.rules.items (built done).each))

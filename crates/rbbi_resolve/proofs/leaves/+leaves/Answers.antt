@@ -1,11 +1,12 @@
 use Rattle.std.proofs.Common.{◌≡◌, [], ◌∷◌, map, drop, sym, refl, ap, ◌∙◌, subst, arith}
 use Rattle.std.proofs.lemmas.List.{drop_all}
 use Rattle.rbbi_tree.specs.Trees.{expr_of, seq_of, placed, property, set, group}
-use Rattle.rbbi_tree.specs.Values.{expr_tree, seq_tree, item_tree, atom_tree, set_tree, expr_tree_out, seq_tree_out, item_tree_out}
+use Rattle.rbbi_tree.specs.Values.{expr_tree, seq_tree, item_tree, atom_tree, set_tree, item_tree_out}
 use Rattle.rbbi_resolve.specs.Parts.{Outside, parts_of_expr, parts_of_seq, parts_of_item}
 use Rattle.rbbi_resolve.specs.Faults.{faults_of_parts}
 use Rattle.rbbi_resolve.specs.Scopes.{context_of}
 use Rattle.rbbi_resolve.specs.OwnLeaves.{AddsLeaves, leaves_of_expr, leaves_of_seq, leaves_of_item}
+use Rattle.rbbi_resolve.proofs.Counting.{expr_by_items, seq_by_items}
 use Rattle.rbbi_resolve.proofs.ItemTrees.{atom_of_property, atom_of_set, atom_of_group}
 use Rattle.rbbi_resolve.proofs.Kept.{files_stay}
 use Rattle.rbbi_resolve.proofs.Sound.{faultless_first}
@@ -25,8 +26,7 @@ add_leaves-loop-seq-preserved t c =
 pub add_leaves-returns-clause-added : goal.add_leaves-returns-clause-added
 add_leaves-returns-clause-added t c =
     let k = context_of c.args.properties.now c.args.scope.now in
-    let tree : expr_tree c.args.expr.now ≡ expr_of (map seq_tree c.deref-seq-items.result.now) =
-    expr_tree_out c.args.expr.now ∙ ap (λ xs. expr_of (map seq_tree xs)) (sym c.deref-seq-items.ensures.value) in
+    let tree = expr_by_items c.args.expr.now _ c.deref-seq-items.ensures.value in
     let none : drop c.loop-seq.seq-index c.deref-seq-items.result.now ≡ [] = drop_all c.loop-seq.seq-index c.deref-seq-items.result.now (omega arith) in
     λ sound e.
     subst (λ x. AddsLeaves c.args.properties.now (leaves_of_expr k x) c.args.sets.now.items c.loop-seq.sets.items) (sym tree)
@@ -47,8 +47,7 @@ add_leaves_of_seq-loop-item-preserved t c =
 pub add_leaves_of_seq-returns-clause-added : goal.add_leaves_of_seq-returns-clause-added
 add_leaves_of_seq-returns-clause-added t c =
     let k = context_of c.args.properties.now c.args.scope.now in
-    let tree : seq_tree c.args.seq.now ≡ seq_of (map item_tree c.deref-item-items.result.now) =
-    seq_tree_out c.args.seq.now ∙ ap (λ xs. seq_of (map item_tree xs)) (sym c.deref-item-items.ensures.value) in
+    let tree = seq_by_items c.args.seq.now _ c.deref-item-items.ensures.value in
     let none : drop c.loop-item.item-index c.deref-item-items.result.now ≡ [] = drop_all c.loop-item.item-index c.deref-item-items.result.now (omega arith) in
     λ sound e.
     subst (λ x. AddsLeaves c.args.properties.now (leaves_of_seq k x) c.args.sets.now.items c.loop-item.sets.items) (sym tree)

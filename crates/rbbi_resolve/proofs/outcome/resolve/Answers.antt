@@ -1,5 +1,7 @@
-use Rattle.std.proofs.Common.{◌≡◌, ℕ, Some, None, inl, inr, length, sym, ap, ◌∙◌, subst, arith}
+use Rattle.std.proofs.Common.{◌≡◌, ℕ, Bool, List, [], Some, None, refl, inl, inr, length, sym, ap, ◌∙◌, subst, arith}
 use Rattle.std.proofs.lemmas.List.{length-map}
+use Rattle.rbbi_props.specs.Rows.{File}
+use Rattle.rbbi_tree.specs.declared.syntax.Statement.{Statement}
 use Rattle.rbbi_tree.specs.Values.{statement_trees}
 use Rattle.rbbi_resolve.specs.declared.file.Reading.{Reading}
 use Rattle.rbbi_resolve.specs.Faults.{noted}
@@ -7,6 +9,7 @@ use Rattle.rbbi_resolve.specs.Files.{start, faults_of, active_rules}
 use Rattle.rbbi_resolve.specs.Counts.{counted}
 use Rattle.rbbi_resolve.specs.Refusals.{IsCause, fault_of}
 use Rattle.rbbi_resolve.specs.Readings.{IsReading}
+use Rattle.rbbi_resolve.specs.Countings.{AreCounting}
 use Rattle.rbbi_resolve.proofs.Earliest.{least_noted, none_noted}
 use Rattle.rbbi_resolve.proofs.FaultKinds.{kinds_from, kind_of_one, kind_of_counted}
 use Rattle.rbbi_resolve.proofs.Ending.{least_of_all, counting_all}
@@ -19,60 +22,58 @@ least_read r n e read =
     let long : length (statement_trees r.statements.now) ≡ length r.statements.now = simp length-map in
     least_of_all r.properties r.dictionary_ignored (statement_trees r.statements.now) r.variables r.least r.switches r.counts n (omega arith) read
 
+counting_read : (r : Reading) (n : ℕ) → n ≡ length r.statements.now → IsReading r n →
+    AreCounting r.counts [] (active_rules r.properties (statement_trees r.statements.now))
+counting_read r n e read =
+    let long : length (statement_trees r.statements.now) ≡ length r.statements.now = simp length-map in
+    counting_all r.properties r.dictionary_ignored (statement_trees r.statements.now) r.variables r.least r.switches r.counts n (omega arith) read
+
+-- and its faults are those of the file
+same_faults : (r : Reading) (files : List File) (ignored : Bool) (statements : List Statement) → r.statements.now ≡ statements → r.properties ≡ files →
+    r.dictionary_ignored ≡ ignored → faults_of r.properties r.dictionary_ignored (statement_trees r.statements.now) ≡ faults_of files ignored
+    (statement_trees statements)
+same_faults r files ignored statements s f i = rw (s, f, i) refl
+
 pub refusal-requires : goal.refusal-requires
 refusal-requires c =
     let r = c.in_ok-reading.reading in
     let faults = faults_of r.properties r.dictionary_ignored (statement_trees r.statements.now) in
-    let least = least_read r _ (ap length (sym c.in_ok-reading.ensures.statements)) c.in_ok-reading.ensures.reading ∙ c.in-Some.is in
     kind_of_one faults c.in-Some.fault (kinds_from r.dictionary_ignored (start r.properties) (statement_trees r.statements.now))
-    (least_noted faults c.in-Some.fault least).one_of
+    (least_noted faults c.in-Some.fault
+    (least_read r _ (ap length (sym c.in_ok-reading.ensures.statements)) c.in_ok-reading.ensures.reading ∙ c.in-Some.is)).one_of
 
 pub returns-in-Some-clause-refused : goal.returns-in-Some-clause-refused
 returns-in-Some-clause-refused c =
     let r = c.in_ok-reading.reading in
     let n = c.in_ok-reading.ensures in
     let faults = faults_of r.properties r.dictionary_ignored (statement_trees r.statements.now) in
-    let least = least_read r _ (ap length (sym n.statements)) n.reading ∙ c.in-Some.is in
-    let same : faults ≡ faults_of c.args.props.now c.args.ignore_dictionary (statement_trees c.args.statements.now) =
-    ap (λ f. faults_of f r.dictionary_ignored (statement_trees r.statements.now)) n.properties
-    ∙ ap (λ i. faults_of c.args.props.now i (statement_trees r.statements.now)) n.ignored
-    ∙ ap (λ s. faults_of c.args.props.now c.args.ignore_dictionary (statement_trees s)) n.statements in
     let count = counted c.args.end (active_rules c.args.props.now (statement_trees c.args.statements.now)) in
-    subst (λ fs. IsCause fs count (fault_of c.refusal.result)) same
-    (subst (IsCause faults count) (sym c.refusal.ensures) (inl (least_noted faults c.in-Some.fault least)))
+    subst (λ fs. IsCause fs count (fault_of c.refusal.result)) (same_faults r _ _ _ n.statements n.properties n.ignored)
+    (subst (IsCause faults count) (sym c.refusal.ensures)
+    (inl (least_noted faults c.in-Some.fault (least_read r _ (ap length (sym n.statements)) n.reading ∙ c.in-Some.is))))
 
 pub refusal-requires-in-Some-fault : goal.refusal-requires-in-Some-fault
 refusal-requires-in-Some-fault c =
     let r = c.in_ok-reading.reading in
-    let long : length (statement_trees r.statements.now) ≡ length r.statements.now = simp length-map in
-    let same = ap length c.in_ok-reading.ensures.statements in
     let ms = active_rules r.properties (statement_trees r.statements.now) in
-    let counting = counting_all r.properties r.dictionary_ignored (statement_trees r.statements.now) r.variables r.least r.switches r.counts
-    (length c.args.statements.now) (omega arith) c.in_ok-reading.ensures.reading in
-    kind_of_counted c.args.end ms c.in-Some-fault.fault (sym (c.fault.ensures ms counting) ∙ c.in-Some-fault.is)
+    kind_of_counted c.args.end ms c.in-Some-fault.fault
+    (sym (c.fault.ensures ms (counting_read r _ (ap length (sym c.in_ok-reading.ensures.statements)) c.in_ok-reading.ensures.reading)) ∙ c.in-Some-fault.is)
 
 pub returns-in-Some-fault-clause-refused : goal.returns-in-Some-fault-clause-refused
 returns-in-Some-fault-clause-refused c =
     let r = c.in_ok-reading.reading in
     let n = c.in_ok-reading.ensures in
     let T = statement_trees r.statements.now in
-    let long : length T ≡ length r.statements.now = simp length-map in
-    let same_long = ap length n.statements in
     let faults = faults_of r.properties r.dictionary_ignored T in
     let ms = active_rules r.properties T in
-    let counting = counting_all r.properties r.dictionary_ignored T r.variables r.least r.switches r.counts (length c.args.statements.now)
-    (omega arith) n.reading in
     let none = none_noted faults (least_read r _ (ap length (sym n.statements)) n.reading ∙ c.in_default.is) in
-    let count : counted c.args.end ms ≡ Some c.in-Some-fault.fault = sym (c.fault.ensures ms counting) ∙ c.in-Some-fault.is in
-    let same : faults ≡ faults_of c.args.props.now c.args.ignore_dictionary (statement_trees c.args.statements.now) =
-    ap (λ f. faults_of f r.dictionary_ignored T) n.properties
-    ∙ ap (λ i. faults_of c.args.props.now i T) n.ignored
-    ∙ ap (λ s. faults_of c.args.props.now c.args.ignore_dictionary (statement_trees s)) n.statements in
+    let count : counted c.args.end ms ≡ Some c.in-Some-fault.fault =
+    sym (c.fault.ensures ms (counting_read r _ (ap length (sym n.statements)) n.reading)) ∙ c.in-Some-fault.is in
     let same_rules : ms ≡ active_rules c.args.props.now (statement_trees c.args.statements.now) =
     ap (λ f. active_rules f T) n.properties ∙ ap (λ s. active_rules c.args.props.now (statement_trees s)) n.statements in
     subst (λ xs. IsCause (faults_of c.args.props.now c.args.ignore_dictionary (statement_trees c.args.statements.now)) (counted c.args.end xs)
     (fault_of c.refusal-in-Some-fault.result)) same_rules
-    (subst (λ fs. IsCause fs (counted c.args.end ms) (fault_of c.refusal-in-Some-fault.result)) same
+    (subst (λ fs. IsCause fs (counted c.args.end ms) (fault_of c.refusal-in-Some-fault.result)) (same_faults r _ _ _ n.statements n.properties n.ignored)
     (subst (IsCause faults (counted c.args.end ms)) (sym c.refusal-in-Some-fault.ensures) (inr (none, count))))
 
 pub build_rules-requires-clause-faultless : goal.build_rules-requires-clause-faultless
@@ -84,9 +85,6 @@ build_rules-requires-clause-faultless c =
 pub build_rules-requires-clause-few : goal.build_rules-requires-clause-few
 build_rules-requires-clause-few c =
     let r = c.in_ok-reading.reading in
-    let long : length (statement_trees r.statements.now) ≡ length r.statements.now = simp length-map in
-    let same = ap length c.in_ok-reading.ensures.statements in
     let ms = active_rules r.properties (statement_trees r.statements.now) in
-    let counting = counting_all r.properties r.dictionary_ignored (statement_trees r.statements.now) r.variables r.least r.switches r.counts
-    (length c.args.statements.now) (omega arith) c.in_ok-reading.ensures.reading in
+    let counting = counting_read r _ (ap length (sym c.in_ok-reading.ensures.statements)) c.in_ok-reading.ensures.reading in
     (c.args.end, sym (c.fault.ensures ms counting) ∙ c.in_default-fault.is)

@@ -2,7 +2,7 @@ use Rattle.std.proofs.Common.{◌≡◌, ◌+◌, ◌<◌, [], ◌∷◌, ◌++�
 use Rattle.std.proofs.lemmas.List.{drop_all, drop_more, append-nil, length-map}
 use Rattle.rbbi_model.specs.SetTrees as model
 use Rattle.rbbi_tree.specs.Trees.{expr_of, seq_of, character, quoted, any, name, property, set}
-use Rattle.rbbi_tree.specs.Values.{statement_trees, expr_tree, seq_tree, item_tree, atom_tree, set_tree, expr_tree_out, seq_tree_out, item_tree_out}
+use Rattle.rbbi_tree.specs.Values.{statement_trees, expr_tree, seq_tree, item_tree, atom_tree, set_tree, item_tree_out}
 use Rattle.rbbi_resolve.specs.SetValues.{value_of_set, value_of_property}
 use Rattle.rbbi_resolve.specs.Contexts.{value_of_name}
 use Rattle.rbbi_resolve.specs.Meanings.{Leaf}
@@ -10,7 +10,7 @@ use Rattle.rbbi_resolve.specs.Expressions.{meaning_of_expr, meaning_of_seq, mean
 use Rattle.rbbi_resolve.specs.Scopes.{context_of}
 use Rattle.rbbi_resolve.specs.OwnLeaves.{set_or_nothing, leaves_of_expr, leaves_of_seq, leaves_of_item, leaves_of_atom}
 use Rattle.rbbi_resolve.specs.Builders.{StandFrom, IsBuilt, IsBuilder, IsReady}
-use Rattle.rbbi_resolve.proofs.Counting.{exprs_left, seqs_left}
+use Rattle.rbbi_resolve.proofs.Counting.{expr_by_items, seq_by_items, exprs_left, seqs_left}
 use Rattle.rbbi_resolve.proofs.ItemTrees.{atom_of_character, atom_of_quoted, atom_of_any, atom_of_name, atom_of_property, atom_of_set}
 use Rattle.rbbi_resolve.proofs.Weights.{weight, weight_more, weight_le, smaller_seq, smaller_item, size_of_expr, size_of_seq, size_of_item}
 use Rattle.rbbi_resolve.proofs.Weights.{size_of_atom}
@@ -196,8 +196,7 @@ tree_of_expr-loop-seq-init t c =
     let files = c.args.self.now.properties in
     let k = context_of files c.args.scope.now in
     let sets = c.args.self.now.sets.items in
-    let tree : expr_tree c.args.expr.now ≡ expr_of (map seq_tree c.deref-seq-items.result.now) =
-    expr_tree_out c.args.expr.now ∙ ap (λ xs. expr_of (map seq_tree xs)) (sym c.deref-seq-items.ensures.value) in
+    let tree = expr_by_items c.args.expr.now _ c.deref-seq-items.ensures.value in
     record {
       same = refl;
       goes = goes_nowhere files (statement_trees c.args.scope.now.statements.now) sets c.args.self.now.bases.items c.requires.builder;
@@ -219,8 +218,7 @@ tree_of_expr-tree_of_seq-requires t c =
     let xs = c.deref-seq-items.result.now in
     let p = c.seq-item.result in
     let inside : l.seq-index < length xs = omega arith in
-    let tree : expr_tree c.args.expr.now ≡ expr_of (map seq_tree xs) =
-    expr_tree_out c.args.expr.now ∙ ap (λ ys. expr_of (map seq_tree ys)) (sym c.deref-seq-items.ensures.value) in
+    let tree = expr_by_items c.args.expr.now _ c.deref-seq-items.ensures.value in
     let part = smaller_seq xs l.seq-index p inside c.seq-item.is in
     let size = ap size_of_expr tree in
     let smaller : weight T scope.limit + (size_of_seq (seq_tree p) + 1) < weight T scope.limit + (size_of_expr (expr_tree c.args.expr.now) + 1) = omega arith in
@@ -267,8 +265,7 @@ tree_of_expr-returns-clause-moved t c =
     let k = context_of files c.args.scope.now in
     let l = c.loop-seq in
     let xs = c.deref-seq-items.result.now in
-    let tree : expr_tree c.args.expr.now ≡ expr_of (map seq_tree xs) =
-    expr_tree_out c.args.expr.now ∙ ap (λ ys. expr_of (map seq_tree ys)) (sym c.deref-seq-items.ensures.value) in
+    let tree = expr_by_items c.args.expr.now _ c.deref-seq-items.ensures.value in
     let none : drop l.seq-index xs ≡ [] = drop_all l.seq-index xs (omega arith) in
     let m = subst (λ ys. l.next + length (leaves_of_expr k (expr_of (map seq_tree ys))) ≡ c.args.next.now + length
     (leaves_of_expr k (expr_of (map seq_tree xs)))) none l.invariant.moved in
@@ -281,8 +278,7 @@ tree_of_expr-returns-clause-built t c =
     let k = context_of files c.args.scope.now in
     let l = c.loop-seq in
     let xs = c.deref-seq-items.result.now in
-    let tree : expr_tree c.args.expr.now ≡ expr_of (map seq_tree xs) =
-    expr_tree_out c.args.expr.now ∙ ap (λ ys. expr_of (map seq_tree ys)) (sym c.deref-seq-items.ensures.value) in
+    let tree = expr_by_items c.args.expr.now _ c.deref-seq-items.ensures.value in
     let none : drop l.seq-index xs ≡ [] = drop_all l.seq-index xs (omega arith) in
     let all : l.invariant.done ≡ map (meaning_of_seq k) (map seq_tree xs) =
     sym (append-nil l.invariant.done)
@@ -308,8 +304,7 @@ tree_of_seq-loop-item-init t c =
     let files = c.args.self.now.properties in
     let k = context_of files c.args.scope.now in
     let sets = c.args.self.now.sets.items in
-    let tree : seq_tree c.args.seq.now ≡ seq_of (map item_tree c.deref-item-items.result.now) =
-    seq_tree_out c.args.seq.now ∙ ap (λ xs. seq_of (map item_tree xs)) (sym c.deref-item-items.ensures.value) in
+    let tree = seq_by_items c.args.seq.now _ c.deref-item-items.ensures.value in
     record {
       same = refl;
       goes = goes_nowhere files (statement_trees c.args.scope.now.statements.now) sets c.args.self.now.bases.items c.requires.builder;
@@ -331,8 +326,7 @@ tree_of_seq-tree_of_item-requires t c =
     let xs = c.deref-item-items.result.now in
     let p = c.item-item.result in
     let inside : l.item-index < length xs = omega arith in
-    let tree : seq_tree c.args.seq.now ≡ seq_of (map item_tree xs) =
-    seq_tree_out c.args.seq.now ∙ ap (λ ys. seq_of (map item_tree ys)) (sym c.deref-item-items.ensures.value) in
+    let tree = seq_by_items c.args.seq.now _ c.deref-item-items.ensures.value in
     let part = smaller_item xs l.item-index p inside c.item-item.is in
     let size = ap size_of_seq tree in
     let smaller : weight T scope.limit + (size_of_item (item_tree p) + 1) < weight T scope.limit + (size_of_seq (seq_tree c.args.seq.now) + 1) = omega arith in
@@ -380,8 +374,7 @@ tree_of_seq-returns-clause-moved t c =
     let k = context_of files c.args.scope.now in
     let l = c.loop-item in
     let xs = c.deref-item-items.result.now in
-    let tree : seq_tree c.args.seq.now ≡ seq_of (map item_tree xs) =
-    seq_tree_out c.args.seq.now ∙ ap (λ ys. seq_of (map item_tree ys)) (sym c.deref-item-items.ensures.value) in
+    let tree = seq_by_items c.args.seq.now _ c.deref-item-items.ensures.value in
     let none : drop l.item-index xs ≡ [] = drop_all l.item-index xs (omega arith) in
     let m = subst (λ ys. l.next + length (leaves_of_seq k (seq_of (map item_tree ys))) ≡ c.args.next.now + length
     (leaves_of_seq k (seq_of (map item_tree xs)))) none l.invariant.moved in
@@ -394,8 +387,7 @@ tree_of_seq-returns-clause-built t c =
     let k = context_of files c.args.scope.now in
     let l = c.loop-item in
     let xs = c.deref-item-items.result.now in
-    let tree : seq_tree c.args.seq.now ≡ seq_of (map item_tree xs) =
-    seq_tree_out c.args.seq.now ∙ ap (λ ys. seq_of (map item_tree ys)) (sym c.deref-item-items.ensures.value) in
+    let tree = seq_by_items c.args.seq.now _ c.deref-item-items.ensures.value in
     let none : drop l.item-index xs ≡ [] = drop_all l.item-index xs (omega arith) in
     let all : l.invariant.done ≡ map (meaning_of_item k) (map item_tree xs) =
     sym (append-nil l.invariant.done)

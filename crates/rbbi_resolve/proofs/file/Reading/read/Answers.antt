@@ -1,9 +1,7 @@
 use Rattle.std.proofs.Common.{◌≡◌, Some, slice_get, refl, ap, ◌∙◌}
-use Rattle.std.specs.Option.{option_map}
-use Rattle.std.proofs.lemmas.Option.{slice_get-map}
 use Rattle.rbbi_tree.specs.Trees.{nothing}
-use Rattle.rbbi_tree.specs.Values.{statement_trees, statement_tree}
-use Rattle.rbbi_resolve.proofs.Steps.{step, context_next, stay_variables}
+use Rattle.rbbi_tree.specs.Values.{statement_trees}
+use Rattle.rbbi_resolve.proofs.Steps.{tree_at, step, context_next, stay_variables}
 use Rattle.rbbi_resolve.proofs.file.Reading.read.Goals as goal
 
 pub returns-in-Nothing : goal.returns-in-Nothing
@@ -11,8 +9,7 @@ returns-in-Nothing c =
     let r = c.args.self.now in
     let trees = statement_trees r.statements.now in
     let n = c.args.number in
-    let at : slice_get trees n ≡ Some nothing = slice_get-map statement_tree r.statements.now n
-    ∙ ap (option_map statement_tree) (c.get.ensures ∙ ap Some c.in-Nothing.is) in
+    let at : slice_get trees n ≡ Some nothing = tree_at r.statements.now n _ (c.get.ensures ∙ ap Some c.in-Nothing.is) in
     let next = ap (λ x. x.variables) (context_next r.properties trees n nothing at) in
     record {
       reading =

@@ -10,46 +10,69 @@ use Rattle.rbbi_resolve.specs.Contexts.{variable_of}
 use Rattle.rbbi_resolve.specs.Files.{context_at}
 use Rattle.rbbi_resolve.specs.Faults.{faults_where, faults_of_parts, noted}
 use Rattle.rbbi_resolve.specs.Parts.{parts_of_expr}
-use Rattle.rbbi_resolve.specs.Scopes.{visible}
-use Rattle.rbbi_resolve.specs.Switchings.{AreSwitches}
+use Rattle.rbbi_resolve.specs.Scopes.{Variables, AreVariables, visible}
 use Rattle.rbbi_resolve.specs.Readings.{IsReadTo}
 use Rattle.rbbi_resolve.proofs.Steps.{step, context_next, stay_variables, join_variable, note_three, with_known, with_new, describes, matches_some, unseen}
+use Rattle.rbbi_resolve.proofs.Ending.{switches_kept}
 use Rattle.rbbi_resolve.proofs.file.Reading.read_assignment.Goals as goal
+use Rattle.rbbi_resolve.proofs.file.Reading.read_assignment.Goals.{In_ok-kind}
 
-pub returns-then-is_assigned : goal.returns-then-is_assigned
-returns-then-is_assigned c =
+-- whether the name is assigned, as the variables tell it
+shown : (c : In_ok-kind) →
+    c.is_some-is_assigned.result ≡ is_some (visible c.args.number (get_by_text c.args.self.now.variables (encode_utf8_all c.args.name.now)))
+shown c =
+    let copied : is_some (option_copied c.variable.result) ≡ is_some c.variable.result =
+    elim c.variable.result as (λ x. is_some (option_copied x) ≡ is_some x) [ None ↦ refl | Some y ↦ refl ] in
+    c.is_some-is_assigned.ensures ∙ sym copied ∙ ap is_some c.variable.ensures
+
+-- and as the statements before tell it
+assigned : (c : In_ok-kind) →
+    c.is_some-is_assigned.result
+    ≡ is_some (variable_of (context_at c.args.self.now.properties (statement_trees c.args.self.now.statements.now) c.args.number) c.args.name.now)
+assigned c =
+    let r = c.args.self.now in
+    let n = c.args.number in
+    shown c
+    ∙ matches_some r.properties _ _ ((describes r.properties (statement_trees r.statements.now) r.variables n n (omega arith) c.requires.reading.defined).same
+    (encode_utf8_all c.args.name.now))
+
+-- the assignment is read, where the variables are those behind it
+read_to : (c : In_ok-kind) (variables : Variables) →
+    AreVariables c.args.self.now.properties (statement_trees c.args.self.now.statements.now) variables (c.args.number + 1) →
+    IsReadTo c.check_definition.new.properties c.args.self.now.dictionary_ignored (statement_trees c.args.self.now.statements.now) variables
+    c.check_definition.new.least c.args.self.now.switches c.args.self.now.counts (c.args.number + 1)
+read_to c variables are =
     let r = c.args.self.now in
     let files = r.properties in
     let trees = statement_trees r.statements.now in
     let n = c.args.number in
     let word = c.args.name.now in
-    let text = encode_utf8_all word in
     let expr = expr_tree c.args.expr.now in
-    let s = assign word c.args.place expr in
     let k = context_at files trees n in
-    let copied : is_some (option_copied c.variable.result) ≡ is_some c.variable.result =
-    elim c.variable.result as (λ x. is_some (option_copied x) ≡ is_some x) [ None ↦ refl | Some y ↦ refl ] in
-    let assigned : c.is_some-is_assigned.result ≡ is_some (variable_of k word) =
-    c.is_some-is_assigned.ensures ∙ sym copied ∙ ap is_some c.variable.ensures
-    ∙ matches_some files _ _ ((describes files trees r.variables n n (omega arith) c.requires.reading.defined).same text) in
-    let known : is_some (variable_of k word) ≡ true = sym assigned ∙ c.if-is_assigned.true in
-    let stays = with_known k word expr known in
-    let next = ap (λ x. x.variables) (context_next files trees n s c.requires.at ∙ stays) in
+    subst (λ p. IsReadTo p r.dictionary_ignored trees variables c.check_definition.new.least r.switches r.counts (n + 1)) (sym c.in_ok-kind.ensures.same)
+    (step files r.dictionary_ignored trees n (assign word c.args.place expr) r.variables variables r.least c.check_definition.new.least r.switches r.switches
+    r.counts r.counts c.requires.reading c.requires.at are
+    (note_three r.least c.note_where.new.least c.note_where-2.new.least c.check_definition.new.least
+    (faults_where (bytes_eq (encode_utf8_all word) (codes "dictionary") && not r.dictionary_ignored) c.args.place 3)
+    (faults_where (is_some (variable_of k word)) c.args.place 4) (faults_of_parts k (parts_of_expr expr))
+    (c.note_where.ensures ∙ ap (λ b. noted r.least (faults_where b c.args.place 3)) c.is_refused_dictionary-is_dictionary.ensures)
+    (c.note_where-2.ensures ∙ ap (λ b. noted c.note_where.new.least (faults_where b c.args.place 4)) (assigned c))
+    c.in_ok-kind.ensures.noted)
+    (switches_kept r.switches k word expr c.requires.reading.switched)
+    (λ left all so_far. so_far))
+
+pub returns-then-is_assigned : goal.returns-then-is_assigned
+returns-then-is_assigned c =
+    let read = (goal.at.returns-then-is_assigned c).In_ok-kind in
+    let r = c.args.self.now in
+    let trees = statement_trees r.statements.now in
+    let n = c.args.number in
+    let word = c.args.name.now in
+    let expr = expr_tree c.args.expr.now in
+    let stays = with_known (context_at r.properties trees n) word expr (sym (assigned read) ∙ c.if-is_assigned.true) in
+    let next = ap (λ x. x.variables) (context_next r.properties trees n (assign word c.args.place expr) c.requires.at ∙ stays) in
     record {
-      reading =
-          subst (λ p. IsReadTo p r.dictionary_ignored trees r.variables c.check_definition.new.least r.switches r.counts (n + 1))
-          (sym c.in_ok-kind.ensures.same)
-          (step files r.dictionary_ignored trees n s r.variables r.variables r.least c.check_definition.new.least r.switches r.switches r.counts r.counts
-          c.requires.reading c.requires.at
-          (stay_variables files trees r.variables n next c.requires.reading.defined)
-          (note_three r.least c.note_where.new.least c.note_where-2.new.least c.check_definition.new.least
-          (faults_where (bytes_eq text (codes "dictionary") && not r.dictionary_ignored) c.args.place 3)
-          (faults_where (is_some (variable_of k word)) c.args.place 4) (faults_of_parts k (parts_of_expr expr))
-          (c.note_where.ensures ∙ ap (λ b. noted r.least (faults_where b c.args.place 3)) c.is_refused_dictionary-is_dictionary.ensures)
-          (c.note_where-2.ensures ∙ ap (λ b. noted c.note_where.new.least (faults_where b c.args.place 4)) assigned)
-          c.in_ok-kind.ensures.noted)
-          (subst (AreSwitches r.switches) (sym stays) c.requires.reading.switched)
-          (λ left all so_far. so_far));
+      reading = read_to read r.variables (stay_variables r.properties trees r.variables n next c.requires.reading.defined);
       statements = refl;
       properties = c.in_ok-kind.ensures.same;
       ignored = refl;
@@ -57,6 +80,7 @@ returns-then-is_assigned c =
 
 pub returns : goal.returns
 returns c =
+    let read = (goal.at.returns c).In_ok-kind in
     let r = c.args.self.now in
     let files = r.properties in
     let trees = statement_trees r.statements.now in
@@ -64,45 +88,18 @@ returns c =
     let word = c.args.name.now in
     let text = encode_utf8_all word in
     let expr = expr_tree c.args.expr.now in
-    let s = assign word c.args.place expr in
-    let k = context_at files trees n in
-    let copied : is_some (option_copied c.variable.result) ≡ is_some c.variable.result =
-    elim c.variable.result as (λ x. is_some (option_copied x) ≡ is_some x) [ None ↦ refl | Some y ↦ refl ] in
-    let shown : c.is_some-is_assigned.result ≡ is_some (visible n (get_by_text r.variables text)) = c.is_some-is_assigned.ensures ∙ sym copied
-    ∙ ap is_some c.variable.ensures in
-    let assigned : c.is_some-is_assigned.result ≡ is_some (variable_of k word) =
-    shown ∙ matches_some files _ _ ((describes files trees r.variables n n (omega arith) c.requires.reading.defined).same text) in
-    let fresh : is_some (variable_of k word) ≡ false = sym assigned ∙ c.if-is_assigned.false in
     let unknown : get_by_text r.variables text ≡ None =
-    unseen files trees n text (get_by_text r.variables text) (c.requires.reading.defined.each text) (sym shown ∙ c.if-is_assigned.false) in
-    let joins = with_new k word expr fresh in
-    let next = ap (λ x. x.variables) (context_next files trees n s c.requires.at ∙ joins) in
+    unseen files trees n text (get_by_text r.variables text) (c.requires.reading.defined.each text) (sym (shown read) ∙ c.if-is_assigned.false) in
+    let joins = with_new (context_at files trees n) word expr (sym (assigned read) ∙ c.if-is_assigned.false) in
+    let next = ap (λ x. x.variables) (context_next files trees n (assign word c.args.place expr) c.requires.at ∙ joins) in
     let key : string_bytes c.in_ok-key.key ≡ text = c.in_ok-key.ensures.ok ∙ c.as_str.ensures.bytes in
     let put : (cs : List ℕ) → get_by_text c.insert.new.self cs ≡ update bytes_eq (get_by_text r.variables) text
     (Some (record { statement = n; kind = c.in_ok-kind.kind })) cs =
     λ cs. hash_map_updates_text (string_bytes c.in_ok-key.key) r.variables c.insert.new.self _ c.in_ok-insert.ensures.updates cs
     ∙ ap (λ b. update bytes_eq (get_by_text r.variables) b (Some (record { statement = n; kind = c.in_ok-kind.kind })) cs) key in
     record {
-      reading =
-          subst (λ p. IsReadTo p r.dictionary_ignored trees c.insert.new.self c.check_definition.new.least r.switches r.counts (n + 1))
-          (sym c.in_ok-kind.ensures.same)
-          (step files r.dictionary_ignored trees n s r.variables c.insert.new.self r.least c.check_definition.new.least r.switches r.switches r.counts
-          r.counts c.requires.reading c.requires.at
-          (join_variable files trees r.variables c.insert.new.self n word c.args.place expr c.in_ok-kind.kind c.requires.at next unknown
-          c.in_ok-kind.ensures.kind put c.requires.reading.defined)
-          (note_three r.least c.note_where.new.least c.note_where-2.new.least c.check_definition.new.least
-          (faults_where (bytes_eq text (codes "dictionary") && not r.dictionary_ignored) c.args.place 3)
-          (faults_where (is_some (variable_of k word)) c.args.place 4) (faults_of_parts k (parts_of_expr expr))
-          (c.note_where.ensures ∙ ap (λ b. noted r.least (faults_where b c.args.place 3)) c.is_refused_dictionary-is_dictionary.ensures)
-          (c.note_where-2.ensures ∙ ap (λ b. noted c.note_where.new.least (faults_where b c.args.place 4)) assigned)
-          c.in_ok-kind.ensures.noted)
-          (subst (AreSwitches r.switches) (sym joins) (record {
-            chained = c.requires.reading.switched.chained;
-            quoted_only =
-                c.requires.reading.switched.quoted_only;
-            active = c.requires.reading.switched.active;
-          }))
-          (λ left all so_far. so_far));
+      reading = read_to read c.insert.new.self (join_variable files trees r.variables c.insert.new.self n word c.args.place expr c.in_ok-kind.kind
+          c.requires.at next unknown c.in_ok-kind.ensures.kind put c.requires.reading.defined);
       statements = refl;
       properties = c.in_ok-kind.ensures.same;
       ignored = refl;

@@ -1,38 +1,46 @@
-use Rattle.std.proofs.Common.{◌≡◌, ◌+◌, ◌∷◌, [], ◌++◌, true, false, if◌then◌else◌, sym, refl, ap, ◌∙◌, subst}
+use Rattle.std.proofs.Common.{◌≡◌, ◌+◌, ◌∷◌, [], ◌++◌, true, false, List, if◌then◌else◌, sym, refl, ap, ◌∙◌, subst}
 use Rattle.rbbi_tree.specs.Trees.{rule}
 use Rattle.rbbi_tree.specs.Values.{statement_trees, expr_tree, rest_tree}
-use Rattle.rbbi_resolve.specs.Files.{context_at}
+use Rattle.rbbi_resolve.specs.declared.counts.Counts as declared
+use Rattle.rbbi_resolve.specs.Files.{RuleMeaning, context_at, rule_in}
 use Rattle.rbbi_resolve.specs.Countings.{AreCounting}
 use Rattle.rbbi_resolve.specs.Readings.{IsReadTo}
 use Rattle.rbbi_resolve.proofs.Steps.{step, context_next, stay_variables, meant, rest_there}
 use Rattle.rbbi_resolve.proofs.file.Reading.read_rule.Goals as goal
+use Rattle.rbbi_resolve.proofs.file.Reading.read_rule.Goals.{In_ok-whole}
 
-pub returns-then-self : goal.returns-then-self
-returns-then-self c =
+-- the rule is read, where the counts go on behind it
+read_to : (c : In_ok-whole) (counts : declared.Counts) →
+    ((left all : List RuleMeaning) →
+    AreCounting c.args.self.now.counts
+    (rule_in (context_at c.args.self.now.properties (statement_trees c.args.self.now.statements.now) c.args.number)
+    (rule c.args.place c.args.no_chain_in (expr_tree c.args.front.now) c.args.slash (rest_tree c.args.rest.now) c.args.tag) ++ left) all →
+    AreCounting counts left all) →
+    IsReadTo c.check_rule.new.properties c.args.self.now.dictionary_ignored (statement_trees c.args.self.now.statements.now) c.args.self.now.variables
+    c.check_rule.new.least c.args.self.now.switches counts (c.args.number + 1)
+read_to c counts go_on =
     let r = c.args.self.now in
     let files = r.properties in
     let trees = statement_trees r.statements.now in
     let n = c.args.number in
-    let front = expr_tree c.args.front.now in
-    let rest = rest_tree c.args.rest.now in
-    let s = rule c.args.place c.args.no_chain_in front c.args.slash rest c.args.tag in
-    let k = context_at files trees n in
-    let means = meant k c.args.place c.args.no_chain_in front rest c.args.tag in
-    let active : k.active ≡ true = sym c.requires.reading.switched.active ∙ c.if-self.true in
+    let s = rule c.args.place c.args.no_chain_in (expr_tree c.args.front.now) c.args.slash (rest_tree c.args.rest.now) c.args.tag in
     let next = ap (λ x. x.variables) (context_next files trees n s c.requires.at) in
+    subst (λ p. IsReadTo p r.dictionary_ignored trees r.variables c.check_rule.new.least r.switches counts (n + 1)) (sym c.in_ok-whole.ensures.same)
+    (step files r.dictionary_ignored trees n s r.variables r.variables r.least c.check_rule.new.least r.switches r.switches r.counts counts
+    c.requires.reading c.requires.at (stay_variables files trees r.variables n next c.requires.reading.defined) c.in_ok-whole.ensures.noted
+    c.requires.reading.switched go_on)
+
+pub returns-then-self : goal.returns-then-self
+returns-then-self c =
+    let r = c.args.self.now in
+    let k = context_at r.properties (statement_trees r.statements.now) c.args.number in
+    let means = meant k c.args.place c.args.no_chain_in (expr_tree c.args.front.now) (rest_tree c.args.rest.now) c.args.tag in
+    let active : k.active ≡ true = sym c.requires.reading.switched.active ∙ c.if-self.true in
     record {
-      reading =
-          subst (λ p. IsReadTo p r.dictionary_ignored trees r.variables c.check_rule.new.least r.switches c.add.new.self (n + 1))
-          (sym c.in_ok-whole.ensures.same)
-          (step files r.dictionary_ignored trees n s r.variables r.variables r.least c.check_rule.new.least r.switches r.switches r.counts c.add.new.self
-          c.requires.reading c.requires.at
-          (stay_variables files trees r.variables n next c.requires.reading.defined)
-          c.in_ok-whole.ensures.noted
-          c.requires.reading.switched
-          (λ left all so_far.
+      reading = read_to (goal.at.returns-then-self c).In_ok-whole c.add.new.self (λ left all so_far.
           c.add.ensures means left all refl c.in_ok-whole.ensures.counts.leaf_sum c.in_ok-whole.ensures.counts.height_sum (rest_there k c.args.rest.now
           ∙ sym c.is_some.ensures)
-          (subst (λ b. AreCounting r.counts ((if b then means ∷ [] else []) ++ left) all) active so_far)));
+          (subst (λ b. AreCounting r.counts ((if b then means ∷ [] else []) ++ left) all) active so_far));
       statements = refl;
       properties = c.in_ok-whole.ensures.same;
       ignored = refl;
@@ -41,25 +49,12 @@ returns-then-self c =
 pub returns-else-self : goal.returns-else-self
 returns-else-self c =
     let r = c.args.self.now in
-    let files = r.properties in
-    let trees = statement_trees r.statements.now in
-    let n = c.args.number in
-    let front = expr_tree c.args.front.now in
-    let rest = rest_tree c.args.rest.now in
-    let s = rule c.args.place c.args.no_chain_in front c.args.slash rest c.args.tag in
-    let k = context_at files trees n in
-    let means = meant k c.args.place c.args.no_chain_in front rest c.args.tag in
+    let k = context_at r.properties (statement_trees r.statements.now) c.args.number in
+    let means = meant k c.args.place c.args.no_chain_in (expr_tree c.args.front.now) (rest_tree c.args.rest.now) c.args.tag in
     let inactive : k.active ≡ false = sym c.requires.reading.switched.active ∙ c.if-self.false in
-    let next = ap (λ x. x.variables) (context_next files trees n s c.requires.at) in
     record {
-      reading =
-          subst (λ p. IsReadTo p r.dictionary_ignored trees r.variables c.check_rule.new.least r.switches r.counts (n + 1)) (sym c.in_ok-whole.ensures.same)
-          (step files r.dictionary_ignored trees n s r.variables r.variables r.least c.check_rule.new.least r.switches r.switches r.counts r.counts
-          c.requires.reading c.requires.at
-          (stay_variables files trees r.variables n next c.requires.reading.defined)
-          c.in_ok-whole.ensures.noted
-          c.requires.reading.switched
-          (λ left all so_far. subst (λ b. AreCounting r.counts ((if b then means ∷ [] else []) ++ left) all) inactive so_far));
+      reading = read_to (goal.at.returns-else-self c).In_ok-whole r.counts
+          (λ left all so_far. subst (λ b. AreCounting r.counts ((if b then means ∷ [] else []) ++ left) all) inactive so_far);
       statements = refl;
       properties = c.in_ok-whole.ensures.same;
       ignored = refl;

@@ -6,32 +6,29 @@ use Rattle.rbbi_model.specs.Ranges.{Range}
 use Rattle.rbbi_sets.specs.Rising.{IsNextRange}
 use Rattle.rbbi_sets.proofs.Search.{ends_rise, next_from_point, has_at_next, has_past}
 use Rattle.rbbi_sets.proofs.set.CodeSet.has.Goals as goal
+use Rattle.rbbi_sets.proofs.set.CodeSet.has.Goals.{After-partition_point-next}
 
-pub returns-then-next-len : goal.returns-then-next-len
-returns-then-next-len c =
+-- what the search found
+next : (c : After-partition_point-next) → IsNextRange c.self.inside.ranges.items c.args.c c.partition_point-next.result
+next c =
     let xs = c.self.inside.ranges.items in
     let parted = IsPartitionedBy-ltb (λ (r : Range). r.high) xs c.args.c (ends_rise xs c.self.invariant) in
     let point =
     IsPartitionPoint-from_clause (λ (r : Range). ltb r.high c.args.c) c.deref.result.now _ c.partition_point-next.ensures.partitioned
     (rw c.deref.ensures.value parted) (λ a r q k. search rules) in
-    let next : IsNextRange xs c.args.c c.partition_point-next.result =
-    next_from_point xs c.args.c _ (rw c.deref.ensures.value at point) in
+    next_from_point xs c.args.c _ (rw c.deref.ensures.value at point)
+
+pub returns-then-next-len : goal.returns-then-next-len
+returns-then-next-len c =
     rw (← c.self.view_is)
-    (has_at_next xs c.args.c c.partition_point-next.result c.behind-self.inside.low c.index.result.now c.self.invariant next
-    (omega (arith, c.self.inside.ranges.ok.0))
+    (has_at_next c.self.inside.ranges.items c.args.c c.partition_point-next.result c.behind-self.inside.low c.index.result.now c.self.invariant
+    (next (goal.at.returns-then-next-len c).After-partition_point-next) (omega (arith, c.self.inside.ranges.ok.0))
     (ap (λ (r : Range). r.low) (c.behind-self.view_is ∙ c.index.ensures)))
 
 pub returns-else-next-len : goal.returns-else-next-len
 returns-else-next-len c =
-    let xs = c.self.inside.ranges.items in
-    let parted = IsPartitionedBy-ltb (λ (r : Range). r.high) xs c.args.c (ends_rise xs c.self.invariant) in
-    let point =
-    IsPartitionPoint-from_clause (λ (r : Range). ltb r.high c.args.c) c.deref.result.now _ c.partition_point-next.ensures.partitioned
-    (rw c.deref.ensures.value parted) (λ a r q k. search rules) in
-    let next : IsNextRange xs c.args.c c.partition_point-next.result =
-    next_from_point xs c.args.c _ (rw c.deref.ensures.value at point) in
     let none =
-    has_past xs c.args.c c.partition_point-next.result next (omega (
+    has_past c.self.inside.ranges.items c.args.c c.partition_point-next.result (next (goal.at.returns-else-next-len c).After-partition_point-next) (omega (
       arith,
       c.self.inside.ranges.ok.0,
       c.partition_point-next.ensures.bound,
