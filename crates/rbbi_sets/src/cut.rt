@@ -9,7 +9,7 @@ ghost use Rattle.rbbi_sets.specs.Joins.{Joins};
 use crate::CodeRange;
 use crate::inclusion::skip_to;
 use crate::join::join_last;
-use crate::run::keep_run;
+use crate::run::{has_run, keep_run};
 use std::alloc::{AllocError, Global};
 
 /// One past the last code point.
@@ -40,7 +40,8 @@ pub(crate) fn cut(
         let low = range.low.max(at);
         next_right = skip_to(right, next_right, low);
         let hole = range_or_end(right, next_right);
-        if low == range.low && range.high < hole.low {
+        let is_run = has_run(left, next_left + 1, hole.low);
+        if is_run && low == range.low && range.high < hole.low {
             next_left = keep_run(&mut kept, left, next_left, hole.low)?;
             at = end_before(left, next_left);
             continue;

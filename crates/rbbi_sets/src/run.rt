@@ -52,11 +52,22 @@ pub(crate) fn join_run(
     let range = ranges[next];
     join_last(joined, range.low, range.high)?;
     let after = next + 1;
-    if range.high < end && ends_at(joined, range.high) {
+    if has_run(ranges, after, end) && range.high < end && ends_at(joined, range.high) {
         let stop = keep_run(joined, ranges, after, end)?;
         Ok(stop)
     } else {
         Ok(after)
+    }
+}
+
+/// Whether the range with this number is there and ends before `end`, so that to add a run from it
+/// on is worth the search for the run's end.
+pub(crate) fn has_run(ranges: &[CodeRange], from: usize, end: u32) -> bool {
+    if from < ranges.len() {
+        let range = ranges[from];
+        range.high < end
+    } else {
+        false
     }
 }
 
