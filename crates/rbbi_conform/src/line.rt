@@ -1,13 +1,13 @@
 //! A line of a test file.
-ghost use Rattle.std.specs.Prelude.{◌≡◌, ◌+◌, ◌*◌, ◌<◌, ◌≤◌, ◌∷◌, [], ◌++◌, length, drop, IfOk};
-ghost use Rattle.std.specs.Prelude.{OnOk, MatchOption, ◌==◌, chars, string_bytes};
+ghost use Rattle.std.specs.Prelude.{◌≡◌, ◌+◌, ◌*◌, ◌<◌, ◌≤◌, ◌∷◌, [], length, drop, IfOk};
+ghost use Rattle.std.specs.Prelude.{MatchOption, ◌==◌, chars, string_bytes};
 ghost use Rattle.std.specs.List.{list_all, before_first, prefix_len, position_or_len};
 ghost use Rattle.rbbi_conform.specs.Grammar as spec;
 ghost use Rattle.rbbi_conform.specs.Readings.{IsFirstWord, IsMarkOf, IsCodePointOf, IsNoPair};
 ghost use Rattle.rbbi_conform.specs.Readings.{IsPairOf, IsMarkedOf, IsUnmarked, AreMarkedBy};
 ghost use Rattle.rbbi_conform.specs.Readings.{AreUnmarked};
 
-use rbbi_text::hexadecimal;
+use rbbi_text::{hexadecimal, push_character};
 use std::alloc::{AllocError, Global};
 
 /// The greatest code point.
@@ -150,14 +150,6 @@ fn pair_of<'a>(point: &[u8], after: &'a [u8]) -> Option<Pair<'a>>
         mark,
         rest: sign.rest,
     })
-}
-
-/// Adds a character to a text.
-fn push_character(text: &mut String, c: char) -> Result<(), AllocError>
-    ensures { OnOk result
-        (chars (string_bytes text.new) ≡ chars (string_bytes text.old) ++ c ∷ []) }
-{
-    text.push(c)
 }
 
 /// The text and the marks that a line writes, and none where it is of no stated form.
