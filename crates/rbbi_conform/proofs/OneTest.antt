@@ -6,7 +6,8 @@ use Rattle.rbbi_text.specs.Bytes.{file_lines}
 use Rattle.rbbi_conform.specs.declared.error.TestErr.{TestErr}
 use Rattle.rbbi_conform.specs.declared.error.TestErr.TheVariants.{NotUtf8, BadLine, Memory}
 use Rattle.rbbi_conform.specs.Tests.{Test}
-use Rattle.rbbi_conform.specs.Grammar.{before_comment, is_blank, is_skipped, words_of, IsMark, IsCodePoint, ArePairs, WritesTest, IsBad}
+use Rattle.rbbi_text.specs.LineParts.{is_blank, before_comment, is_skipped}
+use Rattle.rbbi_conform.specs.Grammar.{words_of, IsMark, IsCodePoint, ArePairs, WritesTest, IsBad}
 use Rattle.rbbi_conform.specs.Files.{LineWrites, LinesWrite, IsFirstBadLine, ReadsTests}
 use Rattle.rbbi_conform.proofs.BlankWords.{words_behind}
 

@@ -1,10 +1,11 @@
 -- The tests of a file, of its lines.
 use Rattle.std.specs.Prelude.{◌≡◌, ℕ, ◌+◌, ◌⊎◌, true, List, [], ◌∷◌, ◌++◌, length, Result, Ok, Err, IsUtf8}
 use Rattle.rbbi_text.specs.Bytes.{IsNotUtf8At, file_lines}
+use Rattle.rbbi_text.specs.LineParts.{is_skipped}
 use Rattle.rbbi_conform.specs.declared.error.TestErr.{TestErr}
 use Rattle.rbbi_conform.specs.declared.error.TestErr.TheVariants.{NotUtf8, BadLine, Memory}
 use Rattle.rbbi_conform.specs.Tests.{Test}
-use Rattle.rbbi_conform.specs.Grammar.{WritesTest, is_skipped, IsBad}
+use Rattle.rbbi_conform.specs.Grammar.{WritesTest, IsBad}
 
 -- the line with this number is skipped, or it writes the one test
 abbrev pub LineWrites : List ℕ → ℕ → List Test → Type 0
