@@ -1,11 +1,11 @@
 -- The lines of a text, one after another.
-use Rattle.std.proofs.Common.{◌≡◌, ℕ, suc, Bool, true, false, cond, eqb, ◌+◌, ◌<◌, ◌≤◌, List, [], ◌∷◌, ◌++◌, length, take, drop, get_or, refl, ap, sym}
-use Rattle.std.proofs.Common.{Option, Some, ◌∙◌, drop-cons, add-one, length-append, Bor, arith}
+use Rattle.std.proofs.Common.{◌≡◌, ℕ, suc, Bool, true, false, cond, eqb, ◌+◌, ◌<◌, ◌≤◌, List, [], ◌∷◌, ◌++◌, length, take, drop, get_or, ap, sym}
+use Rattle.std.proofs.Common.{Option, Some, ◌∙◌, drop-cons, add-one, Bor, arith}
 use Rattle.std.specs.List.{slice_split}
 use Rattle.std.specs.Iterator.{Yields}
 use Rattle.std.specs.Str.Iter.{lines_rest, lines_steps}
 use Rattle.std.specs.Str.Lines.{lines, lines_of_parts}
-use Rattle.std.proofs.lemmas.List.{take_more, length-take-le, take-append-drop}
+use Rattle.std.proofs.lemmas.List.{take_more, length-take-le, take-append-drop, get_or_default}
 use Rattle.std.proofs.lemmas.List.Splits.{length-slice_split}
 use Rattle.std.proofs.lemmas.List.Sums.{count_by-le-length}
 use Rattle.std.proofs.lemmas.Iterator.Splits.{YieldsList-from_lines}
@@ -29,6 +29,7 @@ length-lines xs =
 -- the line before which so many stand
 pub record IsLineAt (all : List (List ℕ)) (number : ℕ) (line : List ℕ) : Type 0 where
   pub within : number < length all
+  pub stands : get_or all number [] ≡ line
   pub parts : all ≡ take number all ++ line ∷ drop (number + 1) all
   pub taken : take (number + 1) all ≡ take number all ++ line ∷ []
   pub before : length (take number all) ≡ number
@@ -36,6 +37,7 @@ pub record IsLineAt (all : List (List ℕ)) (number : ℕ) (line : List ℕ) : T
 line_at : (all : List (List ℕ)) (number : ℕ) (line : List ℕ) → number < length all → get_or all number line ≡ line → IsLineAt all number line
 line_at all number line within is = record {
   within = within;
+  stands = get_or_default all number [] line within ∙ is;
   parts =
       sym (take-append-drop number all)
       ∙ ap (λ rest. take number all ++ rest)
