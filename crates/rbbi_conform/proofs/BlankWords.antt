@@ -8,7 +8,8 @@ use Rattle.std.proofs.lemmas.Bool.Decides.{nat_tests}
 use Rattle.std.proofs.lemmas.List.Sums.{fails_before_first, passes_at_first, prefix_len-le-length}
 use Rattle.std.proofs.lemmas.List.Splits.{slice_split_none, slice_split_first}
 use Rattle.std.proofs.lemmas.List.{length-drop, length-take-le, take_all}
-use Rattle.rbbi_conform.specs.Grammar.{is_blank, words_of}
+use Rattle.rbbi_text.specs.LineParts.{is_blank}
+use Rattle.rbbi_conform.specs.Grammar.{words_of}
 
 abbrev filled : List ℕ → Bool
 filled word = not (eqb (length word) 0)

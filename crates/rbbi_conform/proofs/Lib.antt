@@ -1,6 +1,5 @@
 pub mod Judging
 pub mod BlankWords
 pub mod Marking
-pub mod FileLines
 pub mod OneTest
 pub mod OneVerdict

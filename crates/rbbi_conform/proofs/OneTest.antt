@@ -1,13 +1,15 @@
 -- Bytes are the file of one list of tests at most, or have one fault.
-use Rattle.std.proofs.Common.{◌≡◌, ◌≢◌, ℕ, ◌+◌, Bool, true, false, ◌&&◌, List, [], ◌∷◌, ◌++◌, length, get_or, refl, ap, sym, subst, ◌∙◌, inl, inr, arith}
+use Rattle.std.proofs.Common.{◌≡◌, ◌≢◌, ℕ, Bool, true, false, ◌&&◌, List, [], ◌∷◌, get_or, refl, ap, sym, subst, ◌∙◌, inl, inr, arith}
 use Rattle.std.specs.Prelude.{Result, Ok, Err, Some}
 use Rattle.std.specs.List.{list_all}
 use Rattle.rbbi_text.specs.Bytes.{file_lines}
+use Rattle.rbbi_text.specs.LineParts.{is_blank, before_comment, is_skipped}
+use Rattle.rbbi_text.proofs.LineValues.{same_values, same_bad_line, good_or_bad}
 use Rattle.rbbi_conform.specs.declared.error.TestErr.{TestErr}
 use Rattle.rbbi_conform.specs.declared.error.TestErr.TheVariants.{NotUtf8, BadLine, Memory}
 use Rattle.rbbi_conform.specs.Tests.{Test}
-use Rattle.rbbi_conform.specs.Grammar.{before_comment, is_blank, is_skipped, words_of, IsMark, IsCodePoint, ArePairs, WritesTest, IsBad}
-use Rattle.rbbi_conform.specs.Files.{LineWrites, LinesWrite, IsFirstBadLine, ReadsTests}
+use Rattle.rbbi_conform.specs.Grammar.{words_of, IsMark, IsCodePoint, ArePairs, WritesTest, IsBad}
+use Rattle.rbbi_conform.specs.Files.{LineWrites, ReadsTests}
 use Rattle.rbbi_conform.proofs.BlankWords.{words_behind}
 
 -- a word is one character at most, and one mark
@@ -96,65 +98,25 @@ same_line line number these those (inr (test, writes, numbered, is)) (inr (test'
     let same = same_marked line test.text test'.text test.marks test'.marks writes writes' in
     is ∙ ap (λ t. t ∷ []) (same_test test test' (numbered ∙ sym numbered') same.0 same.1) ∙ sym is'
 
--- lines write one list of tests at most
-same_tests : (lines : List (List ℕ)) (before : ℕ) (these those : List Test) → LinesWrite lines before these → LinesWrite lines before those → these ≡ those
-same_tests [] before these those none none' = none ∙ sym none'
-same_tests (line ∷ lines) before these those (first, rest, one, more, is) (first', rest', one', more', is') =
-    is ∙ ap (λ t. t ++ rest) (same_line line (before + 1) first first' one one')
-    ∙ ap (λ t. first' ++ t) (same_tests lines (before + 1) rest rest' more more') ∙ sym is'
-
 -- a bad line is neither skipped nor a test
 bad_or_good : (line : List ℕ) (number : ℕ) (these : List Test) → IsBad line → LineWrites line number these → ⊥
 bad_or_good line number these bad (inl (skipped, none)) = let clash : true ≡ false = sym skipped ∙ bad.not_skipped in cc
 bad_or_good line number these bad (inr (test, writes, numbered, is)) = bad.no_test test.text test.marks writes
 
--- among lines that write tests none is bad
-none_bad : (before : List (List ℕ)) (line : List ℕ) (after : List (List ℕ)) (number : ℕ) (tests : List Test)
-    → LinesWrite (before ++ line ∷ after) number tests → IsBad line → ⊥
-none_bad [] line after number tests (first, rest, one, more, is) bad = bad_or_good line (number + 1) first bad one
-none_bad (l ∷ before) line after number tests (first, rest, one, more, is) bad = none_bad before line after (number + 1) rest more bad
-
-heads : (l m : List ℕ) (ls ms : List (List ℕ)) → l ∷ ls ≡ m ∷ ms → (l ≡ m) × (ls ≡ ms)
-heads l m ls ms e = (cc, cc)
-
--- the first bad line is one
-same_count : (before before' : List (List ℕ)) (line line' : List ℕ) (after after' : List (List ℕ)) (number : ℕ) (tests tests' : List Test)
-    → before ++ line ∷ after ≡ before' ++ line' ∷ after' → LinesWrite before number tests → LinesWrite before' number tests' → IsBad line → IsBad line'
-    → length before ≡ length before'
-same_count [] [] line line' after after' number tests tests' e good good' bad bad' = refl
-same_count [] (l ∷ before') line line' after after' number tests tests' e good (first, rest, one, more, is) bad bad' =
-    absurd (bad_or_good l (number + 1) first (subst IsBad (heads line l after (before' ++ line' ∷ after') e).0 bad) one)
-same_count (l ∷ before) [] line line' after after' number tests tests' e (first, rest, one, more, is) good' bad bad' =
-    absurd (bad_or_good l (number + 1) first (subst IsBad (sym (heads l line' (before ++ line ∷ after) after' e).0) bad') one)
-same_count (l ∷ before) (m ∷ before') line line' after after' number tests tests' e (first, rest, one, more, is) (first', rest', one', more', is') bad bad' =
-    let tail = (heads l m (before ++ line ∷ after) (before' ++ line' ∷ after') e).1 in
-    let same = same_count before before' line line' after after' (number + 1) rest rest' tail more more' bad bad' in
-    omega arith
-
-same_bad_line : (lines : List (List ℕ)) (m n : ℕ) → IsFirstBadLine lines m → IsFirstBadLine lines n → m ≡ n
-same_bad_line lines m n is is' =
-    is.counted
-    ∙ ap (λ k. k + 1)
-    (same_count is.before is'.before is.line is'.line is.after is'.after 0 is.good.0 is'.good.0 (sym is.parts ∙ is'.parts) is.good.1 is'.good.1 is.bad is'.bad)
-    ∙ sym is'.counted
-
-good_or_bad : (lines : List (List ℕ)) (tests : List Test) (n : ℕ) → LinesWrite lines 0 tests → IsFirstBadLine lines n → ⊥
-good_or_bad lines tests n good is = none_bad is.before is.line is.after 0 tests (subst (λ ls. LinesWrite ls 0 tests) is.parts good) is.bad
-
 -- bytes have one answer, but for want of memory
 pub one_tests_lem : (bytes : List ℕ) (one other : Result (List Test) TestErr) → ReadsTests bytes one → ReadsTests bytes other
     → one ≢ Err Memory → other ≢ Err Memory → one ≡ other
-one_tests_lem bytes (Ok ts) (Ok us) is is' some some' = ap Ok (same_tests (file_lines bytes) 0 ts us is.1 is'.1)
+one_tests_lem bytes (Ok ts) (Ok us) is is' some some' = ap Ok (same_values LineWrites same_line (file_lines bytes) 0 ts us is.1 is'.1)
 one_tests_lem bytes (Ok ts) (Err (NotUtf8 at')) is is' some some' = absurd (is'.not_utf8 is.0)
-one_tests_lem bytes (Ok ts) (Err (BadLine n')) is is' some some' = absurd (good_or_bad (file_lines bytes) ts n' is.1 is'.1)
+one_tests_lem bytes (Ok ts) (Err (BadLine n')) is is' some some' = absurd (good_or_bad LineWrites IsBad bad_or_good (file_lines bytes) ts n' is.1 is'.1)
 one_tests_lem bytes (Ok ts) (Err Memory) is is' some some' = absurd (some' refl)
 one_tests_lem bytes (Err (NotUtf8 at)) (Ok us) is is' some some' = absurd (is.not_utf8 is'.0)
 one_tests_lem bytes (Err (NotUtf8 at)) (Err (NotUtf8 at')) is is' some some' = ap (λ (n : ℕ). Err (NotUtf8 n)) (is.at_is ∙ sym is'.at_is)
 one_tests_lem bytes (Err (NotUtf8 at)) (Err (BadLine n')) is is' some some' = absurd (is.not_utf8 is'.0)
 one_tests_lem bytes (Err (NotUtf8 at)) (Err Memory) is is' some some' = absurd (some' refl)
-one_tests_lem bytes (Err (BadLine n)) (Ok us) is is' some some' = absurd (good_or_bad (file_lines bytes) us n is'.1 is.1)
+one_tests_lem bytes (Err (BadLine n)) (Ok us) is is' some some' = absurd (good_or_bad LineWrites IsBad bad_or_good (file_lines bytes) us n is'.1 is.1)
 one_tests_lem bytes (Err (BadLine n)) (Err (NotUtf8 at')) is is' some some' = absurd (is'.not_utf8 is.0)
 one_tests_lem bytes (Err (BadLine n)) (Err (BadLine n')) is is' some some' =
-    ap (λ (k : ℕ). Err (BadLine k)) (same_bad_line (file_lines bytes) n n' is.1 is'.1)
+    ap (λ (k : ℕ). Err (BadLine k)) (same_bad_line LineWrites IsBad bad_or_good (file_lines bytes) n n' is.1 is'.1)
 one_tests_lem bytes (Err (BadLine n)) (Err Memory) is is' some some' = absurd (some' refl)
 one_tests_lem bytes (Err Memory) other is is' some some' = absurd (some refl)

@@ -1,20 +1,9 @@
--- What a line of a test file writes. A line is a list of bytes. 9 is a tab, 32 a space and 35 is `#`.
-use Rattle.std.specs.Prelude.{◌≡◌, ℕ, Bool, true, false, not, ◌||◌, ◌==◌, List, [], ◌∷◌, length, filter, Some}
-use Rattle.std.specs.List.{list_all, before_first, slice_split}
+-- What a line of a test file writes. A line is a list of bytes.
+use Rattle.std.specs.Prelude.{◌≡◌, ℕ, Bool, true, false, not, ◌==◌, List, [], ◌∷◌, length, filter, Some}
+use Rattle.std.specs.List.{slice_split}
 use Rattle.rbbi_model.specs.Words.{IsSurrogate}
 use Rattle.rbbi_text.specs.Numbers.{hexadecimal}
-
--- a space or a tab
-abbrev pub is_blank : ℕ → Bool
-is_blank byte = (byte == 32) || (byte == 9)
-
--- the line before its first `#`
-abbrev pub before_comment : List ℕ → List ℕ
-before_comment line = before_first (λ byte. byte == 35) line
-
--- nothing but spaces and tabs stands before the first `#`
-abbrev pub is_skipped : List ℕ → Bool
-is_skipped line = list_all is_blank (before_comment line)
+use Rattle.rbbi_text.specs.LineParts.{is_blank, before_comment, is_skipped}
 
 -- the words between spaces and tabs
 abbrev pub words_of : List ℕ → List (List ℕ)

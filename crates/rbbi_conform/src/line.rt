@@ -1,13 +1,13 @@
 //! A line of a test file.
-ghost use Rattle.std.specs.Prelude.{◌≡◌, ◌+◌, ◌*◌, ◌<◌, ◌≤◌, ◌∷◌, [], ◌++◌, length, drop, IfOk};
-ghost use Rattle.std.specs.Prelude.{OnOk, MatchOption, ◌==◌, chars, string_bytes};
-ghost use Rattle.std.specs.List.{list_all, before_first, prefix_len, position_or_len};
-ghost use Rattle.rbbi_conform.specs.Grammar as spec;
+ghost use Rattle.std.specs.Prelude.{◌≡◌, ◌≤◌, [], length, IfOk, MatchOption, chars, string_bytes};
+ghost use Rattle.std.specs.List.{position_or_len};
+ghost use Rattle.rbbi_text.specs.LineParts as line_parts;
+ghost use Rattle.rbbi_conform.specs.Grammar.{words_of};
 ghost use Rattle.rbbi_conform.specs.Readings.{IsFirstWord, IsMarkOf, IsCodePointOf, IsNoPair};
 ghost use Rattle.rbbi_conform.specs.Readings.{IsPairOf, IsMarkedOf, IsUnmarked, AreMarkedBy};
 ghost use Rattle.rbbi_conform.specs.Readings.{AreUnmarked};
 
-use rbbi_text::hexadecimal;
+use rbbi_text::{before_byte, hexadecimal, is_blank, push_character, trim_start};
 use std::alloc::{AllocError, Global};
 
 /// The greatest code point.
@@ -27,61 +27,9 @@ struct WordCut<'a> {
     rest: &'a [u8],
 }
 
-/// A space or a tab.
-fn is_blank(byte: u8) -> bool
-    ensures { result ≡ spec.is_blank byte }
-{
-    byte == b' ' || byte == b'\t'
-}
-
-/// What stands before the first `#` of a line.
-fn before_comment(line: &[u8]) -> &[u8]
-    ensures text { result.now ≡ spec.before_comment line.now }
-    ensures no_longer { length result.now ≤ length line.now }
-{
-    &line[..comment_start(line)]
-}
-
-/// The place of the first `#` of a line, and its length where it has none.
-fn comment_start(line: &[u8]) -> usize
-    ensures place { result ≡ position_or_len (λ byte. byte == 35) line.now }
-    ensures bound { result ≤ length line.now }
-{
-    for (place, byte) in line.iter().enumerate() {
-        if *byte == b'#' {
-            return place;
-        }
-    }
-    line.len()
-}
-
-/// Whether nothing but spaces and tabs stands before the first `#` of a line.
-pub(crate) fn is_skipped(line: &[u8]) -> bool
-    ensures { result ≡ spec.is_skipped line.now }
-{
-    are_blank(before_comment(line))
-}
-
-fn are_blank(text: &[u8]) -> bool
-    ensures { result ≡ list_all spec.is_blank text.now }
-{
-    text.iter().all(|byte| is_blank(*byte))
-}
-
-/// The text without the spaces and tabs at its start.
-fn trim_start(text: &[u8]) -> &[u8]
-    ensures { result.now ≡ drop (prefix_len spec.is_blank text.now) text.now }
-{
-    let mut start = 0;
-    while start < text.len() && is_blank(text[start]) {
-        start += 1;
-    }
-    &text[start..]
-}
-
 /// How many bytes stand before the first space or tab.
 fn word_len(text: &[u8]) -> usize
-    ensures place { result ≡ position_or_len spec.is_blank text.now }
+    ensures place { result ≡ position_or_len line_parts.is_blank text.now }
     ensures bound { result ≤ length text.now }
 {
     for (place, byte) in text.iter().enumerate() {
@@ -94,7 +42,7 @@ fn word_len(text: &[u8]) -> usize
 
 /// The first word between spaces and tabs, and what follows it; none where there is no word.
 fn first_word(text: &[u8]) -> Option<WordCut<'_>>
-    ensures { MatchOption result (spec.words_of text.now ≡ [])
+    ensures { MatchOption result (words_of text.now ≡ [])
         (λ cut. IsFirstWord text.now cut.word.now cut.rest.now) }
 {
     let text = trim_start(text);
@@ -139,7 +87,7 @@ struct Pair<'a> {
 
 /// The pair that begins with this word, before what follows it.
 fn pair_of<'a>(point: &[u8], after: &'a [u8]) -> Option<Pair<'a>>
-    ensures { MatchOption result (IsNoPair point.now (spec.words_of after.now))
+    ensures { MatchOption result (IsNoPair point.now (words_of after.now))
         (λ pair. IsPairOf point.now after.now pair.character pair.mark pair.rest.now) }
 {
     let character = character_of(point)?;
@@ -152,20 +100,12 @@ fn pair_of<'a>(point: &[u8], after: &'a [u8]) -> Option<Pair<'a>>
     })
 }
 
-/// Adds a character to a text.
-fn push_character(text: &mut String, c: char) -> Result<(), AllocError>
-    ensures { OnOk result
-        (chars (string_bytes text.new) ≡ chars (string_bytes text.old) ++ c ∷ []) }
-{
-    text.push(c)
-}
-
 /// The text and the marks that a line writes, and none where it is of no stated form.
 pub(crate) fn marked_text(alloc: Global, line: &[u8]) -> Result<Option<Marked>, AllocError>
     ensures { IfOk result (λ found. MatchOption found (IsUnmarked line.now)
         (λ marked. IsMarkedOf line.now (chars (string_bytes marked.text)) marked.marks.items)) }
 {
-    let Some(first) = first_word(before_comment(line)) else {
+    let Some(first) = first_word(before_byte(line, b'#')) else {
         return Ok(None);
     };
     let Some(_mark) = mark_of(first.word) else {

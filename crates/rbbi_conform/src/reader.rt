@@ -6,9 +6,9 @@ ghost use Rattle.rbbi_conform.specs.Files.{ReadsTests, ReadsLines};
 ghost use Rattle.rbbi_conform.specs.LineReadings.{ReadsLine};
 
 use crate::error::TestErr;
-use crate::line::{Marked, is_skipped, marked_text};
+use crate::line::{Marked, marked_text};
 use crate::test::{Test, Tests};
-use rbbi_text::{PlainText, utf8_text, without_mark};
+use rbbi_text::{PlainText, is_skipped, utf8_text, without_mark};
 use std::alloc::Global;
 
 /// The tests of a test file.

@@ -1,19 +1,11 @@
 //! The text that is drawn.
-ghost use Rattle.std.specs.Prelude.{◌≡◌, ◌≤◌, ◌++◌, ◌∷◌, [], chars, string_bytes, IfOk, OnOk};
+ghost use Rattle.std.specs.Prelude.{◌≡◌, ◌≤◌, chars, string_bytes, IfOk, OnOk};
 ghost use Rattle.rbbi_model.specs.Words.{most_characters};
 ghost use Rattle.rbbi_demo.specs.Generator.{drawn_text, state_after};
 
 use crate::generator::Generator;
-use rbbi_text::{Pieces, TextErr};
+use rbbi_text::{Pieces, TextErr, push_character};
 use std::alloc::{AllocError, Global};
-
-/// Appends a character.
-fn push(text: &mut String, character: char) -> Result<(), AllocError>
-    ensures { OnOk result (chars (string_bytes text.new)
-        ≡ chars (string_bytes text.old) ++ character ∷ []) }
-{
-    text.push(character)
-}
 
 /// A string of so many drawn characters.
 fn drawn_string(alloc: Global, generator: &mut Generator, count: u32) -> Result<String, AllocError>
@@ -24,7 +16,7 @@ fn drawn_string(alloc: Global, generator: &mut Generator, count: u32) -> Result<
 {
     let mut text = String::new(alloc);
     for _drawn in 0..count {
-        push(&mut text, generator.character())?;
+        push_character(&mut text, generator.character())?;
     }
     Ok(text)
 }

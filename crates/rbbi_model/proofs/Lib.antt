@@ -28,3 +28,4 @@ pub mod Replies
 pub mod WorkedChains
 pub mod Texts
 pub mod SearchesAlike
+pub mod Bits

@@ -1,30 +1,23 @@
 -- The marks after a word are determined.
-use Rattle.std.proofs.Common.{◌≡◌, ℕ, ◌+◌, ◌*◌, ◌^◌, ◌<◌, not, eqb, List, length, sym, ap, ◌∙◌, ⊎_elim, arith}
-use Rattle.std.specs.Prelude.{IsTrue, bit_and}
+use Rattle.std.proofs.Common.{◌≡◌, ℕ, ◌+◌, ◌<◌, true, eqb, List, length, sym, ap, ◌∙◌, ⊎_elim, arith}
+use Rattle.std.specs.Prelude.{IsTrue}
 use Rattle.std.specs.Int.{bit_at}
-use Rattle.std.proofs.lemmas.Bool.{cases_eq, cases_lt, ne_eqb, false≢true}
-use Rattle.std.proofs.lemmas.Nat.{pow_pos}
-use Rattle.std.proofs.lemmas.Nat.Bits.{and_pow, same_from_bits}
+use Rattle.std.proofs.lemmas.Bool.{cases_eq, cases_lt, eq-eqb}
+use Rattle.std.proofs.lemmas.Bool.Decides.{nat_tests}
+use Rattle.std.proofs.lemmas.Nat.Bits.{same_from_bits}
 use Rattle.rbbi_model.specs.Places.{has_bit}
 use Rattle.rbbi_model.specs.Rules.{Rule}
 use Rattle.rbbi_model.specs.Marks.{Marks, look_ahead_number, AreMarksAtEnd, AreMarks}
+use Rattle.rbbi_model.proofs.Bits.{has_bit_is}
 use Rattle.rbbi_model.proofs.Uniqueness.{same_tags}
 
 -- the bit as a number, and as a test
 
 pub bit_is_one : (n k : ℕ) → IsTrue (has_bit n k) → bit_at n k ≡ 1
-bit_is_one n k is =
-    ⊎_elim
-    (λ none.
-    let nothing : 0 * 2 ^ k ≡ 0 = omega arith in
-    absurd (false≢true (sym (ap (λ m. not (eqb m 0)) (and_pow n k ∙ ap (λ b. b * 2 ^ k) none ∙ nothing)) ∙ is)))
-    (λ some. omega arith)
-    (cases_eq (bit_at n k) 0)
+bit_is_one n k is = let one : eqb (bit_at n k) 1 ≡ true = sym (has_bit_is n k) ∙ is in grind (arith, nat_tests)
 
 pub one_is_bit : (n k : ℕ) → bit_at n k ≡ 1 → IsTrue (has_bit n k)
-one_is_bit n k one =
-    let whole : bit_and n (2 ^ k) ≡ 1 * 2 ^ k = and_pow n k ∙ ap (λ b. b * 2 ^ k) one in
-    ap not (ne_eqb (bit_and n (2 ^ k)) 0 (λ none. omega (arith, whole, none, pow_pos k)))
+one_is_bit n k one = has_bit_is n k ∙ eq-eqb (bit_at n k) 1 one
 
 same_bits : (m n : ℕ) → ((k : ℕ) → IsTrue (has_bit m k) → IsTrue (has_bit n k)) → ((k : ℕ) → IsTrue (has_bit n k) → IsTrue (has_bit m k)) → m ≡ n
 same_bits m n to from =

@@ -1,32 +1,14 @@
 -- Bits of words and of rows.
-use Rattle.std.proofs.Common.{◌≡◌, ℕ, suc, zero, ◌*◌, ◌/◌, ◌%◌, ◌^◌, ◌<◌, ◌≤◌, ◌⊎◌, false, not, ◌||◌, eqb, List, length, get_or, replicate, max, refl, sym}
-use Rattle.std.proofs.Common.{ap, ◌∙◌, subst, inl, inr, ⊎_elim, arith}
+use Rattle.std.proofs.Common.{◌≡◌, ℕ, suc, zero, ◌/◌, ◌%◌, ◌<◌, ◌≤◌, false, ◌||◌, eqb, List, length, get_or, replicate, max, refl, sym, ap, ◌∙◌, ⊎_elim, arith}
 use Rattle.std.specs.Int.{bit_at}
 use Rattle.std.specs.Int.RustNames.{bit_or}
-use Rattle.std.proofs.lemmas.Bool.{cases_lt, eq-eqb, ne_eqb}
+use Rattle.std.proofs.lemmas.Bool.{cases_lt}
 use Rattle.std.proofs.lemmas.List.{get_or_past}
-use Rattle.std.proofs.lemmas.Nat.{pow_pos}
-use Rattle.std.proofs.lemmas.Nat.Bits.{and_pow, bit_at-lt, bit_at_or, bit_at-zero}
+use Rattle.std.proofs.lemmas.Nat.Bits.{bit_at-lt, bit_at_or, bit_at-zero}
 use Rattle.rbbi_model.specs.Places.{has_bit}
+use Rattle.rbbi_model.proofs.Bits.{has_bit_is}
 use Rattle.rbbi_cats.proofs.Counts.{zero_at}
 use Rattle.rbbi_positions.specs.Rows.{row_bit}
-
--- a number below 2
-below_two : (n : ℕ) → n < 2 → (n ≡ 0) ⊎ (n ≡ 1)
-below_two zero short = inl refl
-below_two (suc zero) short = inr refl
-below_two (suc (suc n)) short = absurd (omega (arith, short))
-
-times : (b p : ℕ) → 0 < p → b < 2 → not (eqb (b * p) 0) ≡ eqb b 1
-times b p some short =
-    ⊎_elim
-    (λ none. ap not (eq-eqb (b * p) 0 (subst (λ n. n * p ≡ 0) (sym none) (omega arith))) ∙ sym (ap (λ n. eqb n 1) none))
-    (λ one. ap not (ne_eqb (b * p) 0 (λ is. omega (arith, subst (λ n. n * p ≡ 0) one is))) ∙ sym (ap (λ n. eqb n 1) one))
-    (below_two b short)
-
--- a bit is set where the number divided by its value is odd
-pub has_bit_is : (n k : ℕ) → has_bit n k ≡ eqb (bit_at n k) 1
-has_bit_is n k = ap (λ m. not (eqb m 0)) (and_pow n k) ∙ times (bit_at n k) (2 ^ k) (pow_pos k) (bit_at-lt n k)
 
 pub no_bit : (k : ℕ) → has_bit 0 k ≡ false
 no_bit k = has_bit_is 0 k ∙ ap (λ n. eqb n 1) (bit_at-zero k)

@@ -3,9 +3,10 @@ use Rattle.std.proofs.Common.{◌≡◌, ℕ, ◌+◌, ◌<◌, ◌≤◌, false
 use Rattle.std.proofs.Common.{below_more}
 use Rattle.std.specs.List.{position}
 use Rattle.std.proofs.lemmas.Bool.{lt-ltb, le-ltb}
-use Rattle.std.proofs.lemmas.List.{take_more, take_all, get_or_default}
+use Rattle.std.proofs.lemmas.List.{take_all}
 use Rattle.std.proofs.lemmas.List.Sums.{position_or_len_is}
 use Rattle.std.proofs.lemmas.List.Elements.{filter_map-append}
+use Rattle.rbbi_text.proofs.Lines.{IsLineAt}
 use Rattle.rbbi_props.specs.Rows.{Row}
 use Rattle.rbbi_props.specs.RowLines.{property_row, is_bad}
 use Rattle.rbbi_props.specs.Refusals.{IsLineCause, IsOneLineCause}
@@ -21,21 +22,16 @@ pub IsReading-none : (lines : List (List ℕ)) (rows : List Row) → rows ≡ []
 IsReading-none lines rows none = record { rows_so_far = none; none_bad = λ k below. absurd (omega arith) }
 
 -- one line more, which isn't bad
-pub IsReading-more : (lines : List (List ℕ)) (rows more : List Row) (number i : ℕ) (line : List ℕ) → IsReading lines rows number → number ≡ i →
-    i < length lines → line ≡ get_or lines i [] →
+pub IsReading-more : (lines : List (List ℕ)) (rows more : List Row) (number : ℕ) (line : List ℕ) → IsReading lines rows number → IsLineAt lines number line →
     more ≡ rows ++ filter_map property_row (line ∷ []) → is_bad line ≡ false → IsReading lines more (number + 1)
-IsReading-more lines rows more number i line h here below at_i rows_are good =
-    let within : number < length lines = omega arith in
-    let same : get_or lines number [] ≡ line = ap (λ k. get_or lines k []) here ∙ sym at_i in
-    let at : line ≡ get_or lines number line = sym same ∙ get_or_default lines number [] line within in record {
-      rows_so_far =
-          rows_are
-          ∙ ap (λ rs. rs ++ filter_map property_row (line ∷ [])) h.rows_so_far
-          ∙ sym (filter_map-append property_row (take number lines) (line ∷ []))
-          ∙ ap (λ x. filter_map property_row (take number lines ++ x ∷ [])) at
-          ∙ ap (filter_map property_row) (sym (take_more lines number line within));
-      none_bad = below_more (λ k. is_bad (get_or lines k []) ≡ false) number h.none_bad (ap is_bad same ∙ good);
-    }
+IsReading-more lines rows more number line h here rows_are good = record {
+  rows_so_far =
+      rows_are
+      ∙ ap (λ rs. rs ++ filter_map property_row (line ∷ [])) h.rows_so_far
+      ∙ sym (filter_map-append property_row (take number lines) (line ∷ []))
+      ∙ ap (filter_map property_row) (sym here.taken);
+  none_bad = below_more (λ k. is_bad (get_or lines k []) ≡ false) number h.none_bad (ap is_bad here.stands ∙ good);
+}
 
 -- at the end
 pub IsReading-all : (lines : List (List ℕ)) (rows : List Row) (number : ℕ) → IsReading lines rows number → length lines ≤ number →
@@ -48,15 +44,14 @@ IsReading-all lines rows number h all = (
 )
 
 -- at a line that is refused
-pub IsLineCause-from_line : (lines : List (List ℕ)) (rows : List Row) (number i : ℕ) (line : List ℕ) (e : PropErr) → IsReading lines rows number → number ≡ i →
-    i < length lines → line ≡ get_or lines i [] →
-    IsOneLineCause e line (number + 1) → IsLineCause e lines
-IsLineCause-from_line lines rows number i line (NotUtf8 at) h here below at_i cause = absurd cause
-IsLineCause-from_line lines rows number i line Memory h here below at_i cause = tt
-IsLineCause-from_line lines rows number i line (BadRow bad) h here below at_i (is, e) = (
+pub IsLineCause-from_line : (lines : List (List ℕ)) (rows : List Row) (number : ℕ) (line : List ℕ) (e : PropErr) → IsReading lines rows number →
+    IsLineAt lines number line → IsOneLineCause e line (number + 1) → IsLineCause e lines
+IsLineCause-from_line lines rows number line (NotUtf8 at) h here cause = absurd cause
+IsLineCause-from_line lines rows number line Memory h here cause = tt
+IsLineCause-from_line lines rows number line (BadRow bad) h here (is, e) = (
   number,
   ap (λ n. cond (ltb n (length lines)) (Some n) None)
-      (position_or_len_is is_bad lines number [] (omega arith) h.none_bad (λ l. ap is_bad (ap (λ k. get_or lines k []) here ∙ sym at_i) ∙ is))
-      ∙ ap (λ b. cond b (Some number) None) (lt-ltb number (length lines) (omega arith)),
+      (position_or_len_is is_bad lines number [] (omega (arith, here.within)) h.none_bad (λ l. ap is_bad here.stands ∙ is))
+      ∙ ap (λ b. cond b (Some number) None) (lt-ltb number (length lines) here.within),
   e,
 )

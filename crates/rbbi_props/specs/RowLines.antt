@@ -1,19 +1,12 @@
--- The row that a line of a property file writes. 9 is a tab, 32 a space, 35 is `#`, 46 is `.` and 59 is `;`.
-use Rattle.std.specs.Prelude.{ℕ, ◌-◌, Bool, not, ◌&&◌, ◌||◌, ◌==◌, nat_le, List, [], ◌∷◌, length, take, drop, Option, Some, None, option_map, option_and_then}
-use Rattle.std.specs.Prelude.{is_none, if◌then◌else◌}
-use Rattle.std.specs.List.{list_all, prefix_len, suffix_len, before_first, slice_split}
+-- The row that a line of a property file writes. 46 is `.` and 59 is `;`.
+use Rattle.std.specs.Prelude.{ℕ, ◌-◌, Bool, not, ◌&&◌, ◌==◌, nat_le, List, [], ◌∷◌, length, take, Option, Some, None, option_map, option_and_then, is_none}
+use Rattle.std.specs.Prelude.{if◌then◌else◌}
+use Rattle.std.specs.List.{suffix_len, slice_split}
 use Rattle.rbbi_model.specs.Ranges.{Range}
 use Rattle.rbbi_text.specs.Numbers.{hexadecimal}
+use Rattle.rbbi_text.specs.LineParts.{is_blank, trim_start, before_comment, is_skipped}
 use Rattle.rbbi_props.specs.Rows.{Row}
 use Rattle.rbbi_props.specs.LooseForms.{loose, has_letter_or_digit}
-
--- a space or a tab
-abbrev pub is_blank : ℕ → Bool
-is_blank byte = (byte == 32) || (byte == 9)
-
--- the text without the spaces and tabs at its start
-abbrev pub trim_start : List ℕ → List ℕ
-trim_start text = drop (prefix_len is_blank text) text
 
 -- the text without the spaces and tabs at its end
 abbrev pub trim_end : List ℕ → List ℕ
@@ -63,17 +56,9 @@ row_of_fields [] = None
 row_of_fields (only ∷ []) = None
 row_of_fields (first ∷ second ∷ fields) = row_with (range_of (trim first)) (trim (last_part (second ∷ fields)))
 
--- the line before its first `#`
-abbrev pub before_comment : List ℕ → List ℕ
-before_comment line = before_first (λ byte. byte == 35) line
-
 -- the row that a line writes, and None where it isn't of the form
 abbrev pub property_row : List ℕ → Option Row
 property_row line = row_of_fields (slice_split (λ byte. byte == 59) (before_comment line))
-
--- whether a line is skipped: nothing but spaces and tabs stands before its first `#`
-abbrev pub is_skipped : List ℕ → Bool
-is_skipped line = list_all is_blank (before_comment line)
 
 -- whether a line is neither skipped nor of the form of a row
 abbrev pub is_bad : List ℕ → Bool

@@ -10,8 +10,8 @@ ghost use Rattle.rbbi_props.specs.Refusals.{HasRowsAlone, IsCause, IsLineCause, 
 
 use crate::error::PropErr;
 use crate::loose::loose;
-use crate::row::{PropRow, is_skipped, property_row};
-use rbbi_text::{utf8_text, without_mark};
+use crate::row::{PropRow, property_row};
+use rbbi_text::{is_skipped, utf8_text, without_mark};
 use std::alloc::Global;
 use std::marker::Model;
 

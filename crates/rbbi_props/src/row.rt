@@ -1,13 +1,12 @@
 //! A row of a property file.
 ghost use Rattle.std.specs.Prelude.{◌≡◌, ◌<◌, ◌≤◌, length, IfOk, IfSome, IsTrue};
-ghost use Rattle.std.specs.List.{list_all};
 ghost use Rattle.rbbi_sets.specs.Rising.{IsRange};
 ghost use Rattle.rbbi_props.specs.RowLines as spec;
 
 use crate::loose::{has_letter_or_digit, loose};
-use crate::text::{after_last, before, is_blank, place_or_len, trim};
+use crate::text::{after_last, trim};
 use rbbi_sets::CodeRange;
-use rbbi_text::hexadecimal;
+use rbbi_text::{before_byte, hexadecimal, place_or_len};
 use std::alloc::{AllocError, Global};
 use std::marker::Model;
 
@@ -39,7 +38,7 @@ impl Model for PropRow {
 pub(crate) fn property_row(alloc: Global, line: &[u8]) -> Result<Option<PropRow>, AllocError>
     ensures { IfOk result (λ row. row ≡ spec.property_row line.now) }
 {
-    let fields = before(line, b'#');
+    let fields = before_byte(line, b'#');
     let end = place_or_len(fields, b';');
     if end == fields.len() {
         return Ok(None);
@@ -66,19 +65,6 @@ fn row_with(
     };
     let value = loose(alloc, value)?;
     Ok(Some(PropRow { value, range }))
-}
-
-/// Whether nothing but spaces and tabs stands before the first `#` of a line.
-pub(crate) fn is_skipped(line: &[u8]) -> bool
-    ensures { result ≡ spec.is_skipped line.now }
-{
-    are_blank(before(line, b'#'))
-}
-
-fn are_blank(text: &[u8]) -> bool
-    ensures { result ≡ list_all spec.is_blank text.now }
-{
-    text.iter().all(|byte| is_blank(*byte))
 }
 
 /// The range that a field writes: one code point, or two joined by `..`, the first not greater than

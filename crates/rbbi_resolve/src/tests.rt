@@ -1,28 +1,20 @@
 //! Rule files that were worked out by hand from the table of faults.
-ghost use Rattle.std.specs.Prelude.{◌≡◌, ◌≤◌, length};
-ghost use Rattle.std.specs.Str.{chars};
+ghost use Rattle.std.specs.Prelude.{◌≤◌, length};
 
 use crate::{Tree, resolve};
 use rbbi_lex::lex;
 use rbbi_props::PropTable;
+use rbbi_text::count_characters;
 use rbbi_tree::parse;
 use std::alloc::{AllocError, Global};
 use std::test::Fail;
-
-/// The number of characters of a text, at most that of its bytes.
-fn characters_in(text: &str) -> usize
-    ensures exact { result ≡ length (chars text.now) }
-    ensures short { result ≤ length text.now }
-{
-    text.chars().count()
-}
 
 /// What a text gives: the counts of rules, slashes, leaves and sets, or the place and the fault.
 fn outcome(alloc: Global, text: &str, ignore_dictionary: bool) -> Result<String, Fail>
     requires { length text.now ≤ 1000000 }
 {
     let tokens = lex(alloc, text)?;
-    let end = characters_in(text) as u32;
+    let end = count_characters(text);
     let statements = parse(alloc, &tokens, end)?;
     let mut props = PropTable::new(alloc);
     props.add(
@@ -314,7 +306,7 @@ fn trees(rt: HostRuntime) -> Result<(), Fail> {
     let text = "$s = [ab]; $v = $s (x | 'yz')?; $v $v;";
     assert!(rt; text.len() < 1000);
     let tokens = lex(alloc, text)?;
-    let end = characters_in(text) as u32;
+    let end = count_characters(text);
     let statements = parse(alloc, &tokens, end)?;
     let props = PropTable::new(alloc);
     let rules = resolve(alloc, &statements, end, &props, false)?;

@@ -21,7 +21,8 @@ use Rattle.rbbi_script.proofs.Listed.{AreListed, IsFurther}
 use Rattle.rbbi_script.proofs.ListingRuns.{asked_of, nexts_more}
 
 module _ (table : Table) (x : List ℕ) where
-  listing_parts : (done rest : List Boundary) → listing_cost table x (done ++ rest) ≡ listing_cost table x done + listing_cost table x rest
+  -- the costs of boundaries one after another
+  pub listing_parts : (done rest : List Boundary) → listing_cost table x (done ++ rest) ≡ listing_cost table x done + listing_cost table x rest
   listing_parts done rest =
       ap (sum_by (λ (b : Boundary). forward_cost table x b.at)) (filter-append (λ (b : Boundary). ltb b.at (length x)) done rest)
       ∙ sum_by-append (λ (b : Boundary). forward_cost table x b.at) (filter (λ (b : Boundary). ltb b.at (length x)) done)
@@ -31,7 +32,7 @@ module _ (table : Table) (x : List ℕ) where
   sum_of_one b = omega arith
 
   -- going on from a boundary costs as much as the question for the next one
-  listing_one : (b : Boundary) → listing_cost table x (b ∷ []) ≡ question_cost table x b.at Next
+  pub listing_one : (b : Boundary) → listing_cost table x (b ∷ []) ≡ question_cost table x b.at Next
   listing_one b =
       ⊎_elim
       (λ within.

@@ -1,9 +1,10 @@
 -- Bytes are the script of one list of commands at most, or have one fault.
-use Rattle.std.proofs.Common.{◌≡◌, ◌≢◌, ℕ, ◌+◌, List, [], ◌∷◌, ◌++◌, length, refl, ap, sym, subst, ◌∙◌, inl, inr, arith}
+use Rattle.std.proofs.Common.{◌≡◌, ◌≢◌, ℕ, List, [], ◌∷◌, refl, ap, sym, ◌∙◌, inl, inr}
 use Rattle.std.specs.Prelude.{Result, Ok, Err}
 use Rattle.rbbi_model.specs.Answers as question
 use Rattle.rbbi_model.specs.Scripts as model
 use Rattle.rbbi_text.specs.Bytes.{file_lines}
+use Rattle.rbbi_text.proofs.LineValues.{same_values, same_bad_line, good_or_bad}
 use Rattle.rbbi_script.specs.declared.command.Command.{Command}
 use Rattle.rbbi_script.specs.declared.command.Command.TheVariants.{First, Last, Next, Previous, Current, Status, Statuses, Following, Preceding, Is, Replace}
 use Rattle.rbbi_script.specs.declared.command.Command.TheVariants.{Breaks, Text}
@@ -11,7 +12,7 @@ use Rattle.rbbi_script.specs.declared.error.ScriptErr.{ScriptErr}
 use Rattle.rbbi_script.specs.declared.error.ScriptErr.TheVariants.{NotUtf8, BadLine, Memory}
 use Rattle.rbbi_script.specs.Meaning.{meaning}
 use Rattle.rbbi_script.specs.Grammar.{IsBad}
-use Rattle.rbbi_script.specs.Files.{LineWrites, LinesWrite, IsFirstBadLine, ReadsScript}
+use Rattle.rbbi_script.specs.Files.{LineWrites, ReadsScript}
 use Rattle.rbbi_script.proofs.OneCommand.{same_command, skipped_or_written}
 
 -- the command of this meaning
@@ -49,71 +50,32 @@ same_meaning : (one other : Command) → meaning one ≡ meaning other → one �
 same_meaning one other same = sym (meant_is one) ∙ ap meant same ∙ meant_is other
 
 -- a line is skipped or writes one command
-same_line : (line : List ℕ) (these those : List Command) → LineWrites line these → LineWrites line those → these ≡ those
-same_line line these those (inl (skipped, none)) (inl (skipped', none')) = none ∙ sym none'
-same_line line these those (inl (skipped, none)) (inr (command, writes, is)) = absurd (skipped_or_written line (meaning command) skipped writes)
-same_line line these those (inr (command, writes, is)) (inl (skipped, none)) = absurd (skipped_or_written line (meaning command) skipped writes)
-same_line line these those (inr (command, writes, is)) (inr (command', writes', is')) =
+same_line : (line : List ℕ) (number : ℕ) (these those : List Command) → LineWrites line these → LineWrites line those → these ≡ those
+same_line line number these those (inl (skipped, none)) (inl (skipped', none')) = none ∙ sym none'
+same_line line number these those (inl (skipped, none)) (inr (command, writes, is)) = absurd (skipped_or_written line (meaning command) skipped writes)
+same_line line number these those (inr (command, writes, is)) (inl (skipped, none)) = absurd (skipped_or_written line (meaning command) skipped writes)
+same_line line number these those (inr (command, writes, is)) (inr (command', writes', is')) =
     is ∙ ap (λ c. c ∷ []) (same_meaning command command' (same_command line (meaning command) (meaning command') writes writes')) ∙ sym is'
 
--- lines write one list of commands at most
-same_commands : (lines : List (List ℕ)) (these those : List Command) → LinesWrite lines these → LinesWrite lines those → these ≡ those
-same_commands [] these those none none' = none ∙ sym none'
-same_commands (line ∷ lines) these those (first, rest, one, more, is) (first', rest', one', more', is') =
-    is ∙ ap (λ c. c ++ rest) (same_line line first first' one one') ∙ ap (λ c. first' ++ c) (same_commands lines rest rest' more more') ∙ sym is'
-
 -- a bad line is neither skipped nor a command
-bad_or_good : (line : List ℕ) (these : List Command) → IsBad line → LineWrites line these → ⊥
-bad_or_good line these bad (inl (skipped, none)) = bad.not_skipped skipped
-bad_or_good line these bad (inr (command, writes, is)) = bad.no_command (meaning command) writes
-
--- among lines that write commands none is bad
-none_bad : (before : List (List ℕ)) (line : List ℕ) (after : List (List ℕ)) (commands : List Command) → LinesWrite (before ++ line ∷ after) commands
-    → IsBad line → ⊥
-none_bad [] line after commands (first, rest, one, more, is) bad = bad_or_good line first bad one
-none_bad (l ∷ before) line after commands (first, rest, one, more, is) bad = none_bad before line after rest more bad
-
-heads : (l m : List ℕ) (ls ms : List (List ℕ)) → l ∷ ls ≡ m ∷ ms → (l ≡ m) × (ls ≡ ms)
-heads l m ls ms e = (cc, cc)
-
--- the first bad line is one
-same_count : (before before' : List (List ℕ)) (line line' : List ℕ) (after after' : List (List ℕ)) (commands commands' : List Command)
-    → before ++ line ∷ after ≡ before' ++ line' ∷ after' → LinesWrite before commands → LinesWrite before' commands' → IsBad line → IsBad line'
-    → length before ≡ length before'
-same_count [] [] line line' after after' commands commands' e good good' bad bad' = refl
-same_count [] (l ∷ before') line line' after after' commands commands' e good (first, rest, one, more, is) bad bad' =
-    absurd (bad_or_good l first (subst IsBad (heads line l after (before' ++ line' ∷ after') e).0 bad) one)
-same_count (l ∷ before) [] line line' after after' commands commands' e (first, rest, one, more, is) good' bad bad' =
-    absurd (bad_or_good l first (subst IsBad (sym (heads l line' (before ++ line ∷ after) after' e).0) bad') one)
-same_count (l ∷ before) (m ∷ before') line line' after after' commands commands' e (first, rest, one, more, is) (first', rest', one', more', is') bad bad' =
-    let tails = (heads l m (before ++ line ∷ after) (before' ++ line' ∷ after') e).1 in
-    let same = same_count before before' line line' after after' rest rest' tails more more' bad bad' in
-    omega arith
-
-same_bad_line : (lines : List (List ℕ)) (m n : ℕ) → IsFirstBadLine lines m → IsFirstBadLine lines n → m ≡ n
-same_bad_line lines m n is is' =
-    is.counted
-    ∙ ap (λ k. k + 1)
-    (same_count is.before is'.before is.line is'.line is.after is'.after is.good.0 is'.good.0 (sym is.parts ∙ is'.parts) is.good.1 is'.good.1 is.bad is'.bad)
-    ∙ sym is'.counted
-
-good_or_bad : (lines : List (List ℕ)) (commands : List Command) (n : ℕ) → LinesWrite lines commands → IsFirstBadLine lines n → ⊥
-good_or_bad lines commands n good is = none_bad is.before is.line is.after commands (subst (λ ls. LinesWrite ls commands) is.parts good) is.bad
+bad_or_good : (line : List ℕ) (number : ℕ) (these : List Command) → IsBad line → LineWrites line these → ⊥
+bad_or_good line number these bad (inl (skipped, none)) = bad.not_skipped skipped
+bad_or_good line number these bad (inr (command, writes, is)) = bad.no_command (meaning command) writes
 
 -- bytes have one answer, but for want of memory
 pub one_script_lem : (bytes : List ℕ) (one other : Result (List Command) ScriptErr) → ReadsScript bytes one → ReadsScript bytes other
     → one ≢ Err Memory → other ≢ Err Memory → one ≡ other
-one_script_lem bytes (Ok cs) (Ok ds) is is' some some' = ap Ok (same_commands (file_lines bytes) cs ds is.1 is'.1)
+one_script_lem bytes (Ok cs) (Ok ds) is is' some some' = ap Ok (same_values _ same_line (file_lines bytes) 0 cs ds is.1 is'.1)
 one_script_lem bytes (Ok cs) (Err (NotUtf8 at')) is is' some some' = absurd (is'.not_utf8 is.0)
-one_script_lem bytes (Ok cs) (Err (BadLine n')) is is' some some' = absurd (good_or_bad (file_lines bytes) cs n' is.1 is'.1)
+one_script_lem bytes (Ok cs) (Err (BadLine n')) is is' some some' = absurd (good_or_bad _ IsBad bad_or_good (file_lines bytes) cs n' is.1 is'.1)
 one_script_lem bytes (Ok cs) (Err Memory) is is' some some' = absurd (some' refl)
 one_script_lem bytes (Err (NotUtf8 at)) (Ok ds) is is' some some' = absurd (is.not_utf8 is'.0)
 one_script_lem bytes (Err (NotUtf8 at)) (Err (NotUtf8 at')) is is' some some' = ap (λ (n : ℕ). Err (NotUtf8 n)) (is.at_is ∙ sym is'.at_is)
 one_script_lem bytes (Err (NotUtf8 at)) (Err (BadLine n')) is is' some some' = absurd (is.not_utf8 is'.0)
 one_script_lem bytes (Err (NotUtf8 at)) (Err Memory) is is' some some' = absurd (some' refl)
-one_script_lem bytes (Err (BadLine n)) (Ok ds) is is' some some' = absurd (good_or_bad (file_lines bytes) ds n is'.1 is.1)
+one_script_lem bytes (Err (BadLine n)) (Ok ds) is is' some some' = absurd (good_or_bad _ IsBad bad_or_good (file_lines bytes) ds n is'.1 is.1)
 one_script_lem bytes (Err (BadLine n)) (Err (NotUtf8 at')) is is' some some' = absurd (is'.not_utf8 is.0)
 one_script_lem bytes (Err (BadLine n)) (Err (BadLine n')) is is' some some' =
-    ap (λ (k : ℕ). Err (BadLine k)) (same_bad_line (file_lines bytes) n n' is.1 is'.1)
+    ap (λ (k : ℕ). Err (BadLine k)) (same_bad_line _ IsBad bad_or_good (file_lines bytes) n n' is.1 is'.1)
 one_script_lem bytes (Err (BadLine n)) (Err Memory) is is' some some' = absurd (some' refl)
 one_script_lem bytes (Err Memory) other is is' some some' = absurd (some refl)

@@ -1,6 +1,7 @@
 -- The commands of a script, of its lines.
-use Rattle.std.specs.Prelude.{◌≡◌, ℕ, ◌+◌, ◌⊎◌, List, [], ◌∷◌, ◌++◌, length, Result, Ok, Err, IsUtf8}
+use Rattle.std.specs.Prelude.{◌≡◌, ℕ, ◌⊎◌, List, [], ◌∷◌, Result, Ok, Err, IsUtf8}
 use Rattle.rbbi_text.specs.Bytes.{IsNotUtf8At, file_lines}
+use Rattle.rbbi_text.specs.LineValues.{AreValues, IsFirstBad}
 use Rattle.rbbi_script.specs.declared.command.Command.{Command}
 use Rattle.rbbi_script.specs.declared.error.ScriptErr.{ScriptErr}
 use Rattle.rbbi_script.specs.declared.error.ScriptErr.TheVariants.{NotUtf8, BadLine, Memory}
@@ -13,19 +14,11 @@ LineWrites line commands = IsSkipped line × (commands ≡ []) ⊎ ((command : C
 
 -- each line is skipped or writes a command, and these are the commands in order
 abbrev pub LinesWrite : List (List ℕ) → List Command → Type 0
-LinesWrite [] commands = commands ≡ []
-LinesWrite (line ∷ lines) commands =
-    (these : List Command) × (those : List Command) × LineWrites line these × LinesWrite lines those × (commands ≡ these ++ those)
+LinesWrite lines commands = AreValues (λ line number. LineWrites line) lines 0 commands
 
 -- the line with this number, from 1, is the first that is neither skipped nor a command
-pub record IsFirstBadLine (lines : List (List ℕ)) (number : ℕ) : Type 0 where
-  pub before : List (List ℕ)
-  pub line : List ℕ
-  pub after : List (List ℕ)
-  pub parts : lines ≡ before ++ line ∷ after
-  pub counted : number ≡ length before + 1
-  pub good : (commands : List Command) × LinesWrite before commands
-  pub bad : IsBad line
+abbrev pub IsFirstBadLine : List (List ℕ) → ℕ → Type 0
+IsFirstBadLine lines number = IsFirstBad (λ line number. LineWrites line) IsBad lines number
 
 -- why the lines are refused
 abbrev pub RefusesLines : List (List ℕ) → ScriptErr → Type 0

@@ -1,10 +1,9 @@
 //! The text of an edit.
-ghost use Rattle.std.specs.Prelude.{◌≡◌, ◌∷◌, [], ◌++◌, IfOk, OnOk, MatchOption, chars};
-ghost use Rattle.std.specs.Prelude.{string_bytes};
+ghost use Rattle.std.specs.Prelude.{IfOk, MatchOption};
 ghost use Rattle.rbbi_script.specs.Readings.{IsNoEscape, IsNoNumberEscape, IsOnlyEscape, IsWordOf};
 
 use crate::pieces::{after, cut_at};
-use rbbi_text::{Word, hexadecimal};
+use rbbi_text::{Word, hexadecimal, push_character};
 use std::alloc::{AllocError, Global};
 
 /// The greatest code point.
@@ -62,14 +61,6 @@ fn numbered(text: &str) -> Option<Escape<'_>>
         character,
         rest: cut.after,
     })
-}
-
-/// Adds a character to a word.
-fn push_character(word: &mut String, c: char) -> Result<(), AllocError>
-    ensures { OnOk result
-        (chars (string_bytes word.new) ≡ chars (string_bytes word.old) ++ c ∷ []) }
-{
-    word.push(c)
 }
 
 /// The characters that the text of an edit writes, each as itself or as an escape; none where a

@@ -1,7 +1,7 @@
 -- What questions read, by what they ask of the kept runs.
 use Rattle.std.proofs.Common.{◌≡◌, ℕ, zero, suc, ◌-◌, ◌<◌, ◌≤◌, ltb, eqb, List, length, sym, ◌∙◌, subst, arith}
-use Rattle.std.proofs.lemmas.Bool.{cond-true, cond-false, lt-ltb, le-ltb, ne_eqb}
-use Rattle.rbbi_model.specs.Answers.{Last, Previous, Following, IsBoundary}
+use Rattle.std.proofs.lemmas.Bool.{cond-true, cond-false, lt-ltb, ne_eqb}
+use Rattle.rbbi_model.specs.Answers.{Previous, Following, IsBoundary}
 use Rattle.rbbi_model.specs.Tables.{Table}
 use Rattle.rbbi_model.specs.Runs.{Run}
 use Rattle.rbbi_model.specs.Costs.{forward_cost, back_cost, last_cost, preceding_cost}

@@ -8,7 +8,7 @@ use Rattle.std.proofs.lemmas.List.{get_or-set_same, get_or-set_other, length-set
 use Rattle.std.proofs.lemmas.Nat.{and_le_l}
 use Rattle.std.proofs.lemmas.Nat.Bits.{bit_at-trailing_zeros, bit_at_above, bit_at_clear_same, bit_at_clear_other}
 use Rattle.rbbi_model.specs.Places.{has_bit}
-use Rattle.rbbi_table.proofs.BitLemmas.{has_bit_is}
+use Rattle.rbbi_model.proofs.Bits.{has_bit_is}
 
 -- the bits that are left are those below the number of places, and with them noted too all is noted
 pub record IsNoted (rest fronts at : ℕ) (places before : List ℕ) : Type 0 where

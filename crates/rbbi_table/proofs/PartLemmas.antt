@@ -15,7 +15,7 @@ use Rattle.rbbi_model.specs.ValidTables.{AreValidRanges, AreValidLists, AreValid
 use Rattle.rbbi_table.specs.Parts.{HasFittingParts, rows_of}
 use Rattle.rbbi_table.specs.Targets.{ArePairsOf}
 use Rattle.rbbi_table.specs.Kept.{AreBlocks, AreMoves, IsKept}
-use Rattle.rbbi_table.proofs.BitLemmas.{has_bit_is}
+use Rattle.rbbi_model.proofs.Bits.{has_bit_is}
 
 pub all_bytes : (bytes : List ℕ) → ((i : ℕ) → get_or bytes i 0 < 256) → AllByRecursion (λ byte. byte < 256) bytes
 all_bytes [] small = tt

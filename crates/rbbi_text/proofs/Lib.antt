@@ -2,4 +2,5 @@ pub mod Characters
 pub mod Splices
 pub mod CutLemmas
 pub mod Lines
+pub mod LineValues
 pub mod Pushed

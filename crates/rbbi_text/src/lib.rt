@@ -7,6 +7,7 @@
 mod bytes;
 mod chars;
 mod error;
+mod line_parts;
 mod numbers;
 mod piece;
 mod pieces;
@@ -21,6 +22,7 @@ mod word;
 pub use bytes::{MOST_BYTES, count_characters, utf8_text, without_mark};
 pub use chars::{Chars, EditText};
 pub use error::{EditErr, RawErr, TextErr};
+pub use line_parts::{before_byte, is_blank, is_skipped, place_or_len, trim_start};
 pub use numbers::{decimal, hexadecimal, number_of_characters};
 pub use pieces::Pieces;
 pub use plain::PlainText;

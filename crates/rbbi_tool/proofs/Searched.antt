@@ -3,19 +3,20 @@ use Rattle.std.proofs.Common.{◌≡◌, ℕ, zero, suc, ◌+◌, ◌-◌, ◌<�
 use Rattle.std.proofs.Common.{subst, inl, inr, ⊎_elim, append_assoc, arith, ◌↔◌}
 use Rattle.std.specs.Prelude.{IsTrue, sum_by, filter, unwrap_or}
 use Rattle.std.proofs.lemmas.Bool.{cases_Bool, cond-true, cond-false, false≢true, lt-ltb, le-leb}
-use Rattle.std.proofs.lemmas.List.Sums.{sum_by-append, sum_by-cons}
-use Rattle.std.proofs.lemmas.List.Elements.{filter-append}
+use Rattle.std.proofs.lemmas.List.Sums.{sum_by-cons}
 use Rattle.rbbi_model.specs.Lists.{Member}
 use Rattle.rbbi_model.specs.Places.{greatest_below}
 use Rattle.rbbi_model.specs.Boundaries.{Boundary, start}
 use Rattle.rbbi_model.specs.Cover.{places, IsPlaceOf}
 use Rattle.rbbi_model.specs.Tables.{Table}
+use Rattle.rbbi_model.specs.Answers.{Next}
 use Rattle.rbbi_model.specs.ValidTables.{IsValidTable}
 use Rattle.rbbi_model.specs.Searches.{look_end, fresh, next_boundary, table_boundaries}
 use Rattle.rbbi_model.specs.Runs.{IsAnchor, is_anchor, low, from_place}
-use Rattle.rbbi_model.specs.Costs.{characters_read, searches_cost, forward_cost, breaks_cost}
+use Rattle.rbbi_model.specs.Costs.{characters_read, searches_cost, forward_cost, question_cost, breaks_cost}
 use Rattle.rbbi_model.proofs.Found.{greatest_lies}
 use Rattle.rbbi_script.specs.Reading.{RisesUpTo, listing_cost}
+use Rattle.rbbi_script.proofs.ListingCosts.{listing_parts, listing_one}
 use Rattle.rbbi_tool.proofs.Listing.{following, by_place, follows}
 
 -- the laws of anchors
@@ -104,18 +105,6 @@ module _ (table : Table) (x : List ℕ) where
             (let lies = greatest_lies (is_anchor table x) i p is in
             let first = member_cost i (fresh table x p) (found_from p i lies.1 lies.0 here) in omega (arith, first))
 
-  listing_parts : (done rest : List Boundary) → listing_cost table x (done ++ rest) ≡ listing_cost table x done + listing_cost table x rest
-  listing_parts done rest =
-      ap (sum_by (λ (b : Boundary). forward_cost table x b.at)) (filter-append (λ (b : Boundary). ltb b.at (length x)) done rest)
-      ∙ sum_by-append (λ (b : Boundary). forward_cost table x b.at) (filter (λ (b : Boundary). ltb b.at (length x)) done)
-      (filter (λ (b : Boundary). ltb b.at (length x)) rest)
-
-  listing_one : (b : Boundary) → b.at < length x → listing_cost table x (b ∷ []) ≡ forward_cost table x b.at
-  listing_one b inside =
-      ap (sum_by (λ (c : Boundary). forward_cost table x c.at)) (cond-true (ltb b.at (length x)) (b ∷ []) [] (lt-ltb b.at (length x) inside))
-      ∙ sum_by-cons (λ (c : Boundary). forward_cost table x c.at) b []
-      ∙ (let one : forward_cost table x b.at + 0 ≡ forward_cost table x b.at = omega arith in one)
-
 -- The boundaries before this place were gone through, and reading them cost so much.
 pub record AreSearchedTo (table : Table) (x : List ℕ) (at begun steps : ℕ) : Type 0 where
   pub most : ℕ
@@ -156,7 +145,8 @@ searched_more table x at next begun steps steps' valid stored lead so_far inside
         let cost : listing_cost table x (so_far.front ++ so_far.here ∷ []) ≡ listing_cost table x so_far.front + forward_cost table x at =
         listing_parts table x so_far.front (so_far.here ∷ [])
         ∙ ap (λ n. listing_cost table x so_far.front + n)
-        (listing_one table x so_far.here (omega (arith, so_far.here_at, inside)) ∙ ap (forward_cost table x) so_far.here_at) in
+        (listing_one table x so_far.here ∙ ap (λ n. question_cost table x n Next) so_far.here_at
+        ∙ cond-true (ltb at (length x)) (forward_cost table x at) 0 (lt-ltb at (length x) inside)) in
         record {
           most = most;
           enough = omega (arith, past, is, enough);

@@ -14,7 +14,7 @@ use Rattle.rbbi_tree.specs.Trees.{SetSyntax, PartTree, ExprTree, SeqTree, ItemTr
 use Rattle.rbbi_tree.specs.Trees.{item, placed, character, quoted, any, name, property, set, group, nothing, control}
 use Rattle.rbbi_tree.specs.Grammar.{token, BeginsAt, IsCaret, IsQuant, IsTag, IsSet, IsExpr, AreMoreAlternatives, IsSeq, AreItems, IsItem, IsAtom, IsOneSeq}
 use Rattle.rbbi_tree.specs.Grammar.{IsStatement, IsFile}
-use Rattle.rbbi_tree.specs.Machine.Sets.{SetLevelTree, OuterSetTree, SetsTree, join_in, ended_parts, set_from, at_set_token}
+use Rattle.rbbi_tree.specs.Machine.Sets.{SetLevelTree, OuterSetTree, SetsTree, join_in, ended_parts, opened, outer_set, set_from, set_resumed, at_set_token}
 use Rattle.rbbi_tree.specs.Machine.Statements.{LevelTree, GroupTree, HeadTree, between, assigning, ruling, resting, ended, Progress, empty_level, after}
 use Rattle.rbbi_tree.specs.Machine.Statements.{items_back, sequences_back, with_item, with_sequence, whole, begun, atom_read, group_begun, quantified, at_atom}
 use Rattle.rbbi_tree.specs.Machine.Statements.{at_open, at_set_open, at_quant, at_bar, at_close, at_slash, at_caret, at_control, name_of, name_assigned}
@@ -643,6 +643,14 @@ step_outside (Prop negated word value) place ts done head groups sequences items
 abbrev sets_with : SetLevelTree → List OuterSetTree → Option SetsTree
 sets_with s outers = Some (record { innermost = s; outers = outers })
 
+-- more tokens are read within these sets
+remade_within : (ts us a b c d : List Token) (done : List StatementTree) (head : HeadTree) (groups : List GroupTree) (level : LevelTree) (s : SetLevelTree)
+    (outers : List OuterSetTree) →
+    ts ≡ a ++ b → IsFile a done → b ≡ c ++ d → IsBegun c head groups level → AreSets (d ++ us) head (sets_with s outers) → StartsAt b head →
+    IsRead (ts ++ us) (made done head groups level (sets_with s outers))
+remade_within ts us a b c d done head groups level s outers h file h' is inner starts =
+    (a, b ++ us, grown ts us a b h, file, (c, d ++ us, grown b us c d h', is, inner, starts-push head b us starts))
+
 step_kept : (t : Token) (ts : List Token) (done : List StatementTree) (head : HeadTree) (groups : List GroupTree) (level : LevelTree) (s : SetLevelTree)
     (outers : List OuterSetTree) (o : Option SetLevelTree) →
     ((us : List Token) → IsSetRead us s → IsStillSet (us ++ t ∷ []) o) →
@@ -650,13 +658,8 @@ step_kept : (t : Token) (ts : List Token) (done : List StatementTree) (head : He
     IsStillRead (ts ++ t ∷ []) (set_kept outers (made done head groups level (sets_with s outers)) o)
 step_kept t ts done head groups level s outers None still read = tt
 step_kept t ts done head groups level s outers (Some s') still (a, b, h, file, (c, d, h', is, (reading, (e, f, h'', around, inner)), starts)) =
-    let us = t ∷ [] in (
-      a,
-      b ++ us,
-      grown ts us a b h,
-      file,
-      (c, d ++ us, grown b us c d h', is, (reading, (e, f ++ us, grown d us e f h'', around, still f inner)), starts-push head b us starts),
-    )
+    let us = t ∷ [] in
+    remade_within ts us a b c d done head groups level s' outers h file h' is (reading, (e, f ++ us, grown d us e f h'', around, still f inner)) starts
 
 step_inner_open : (place : ℕ) (ts : List Token) (done : List StatementTree) (head : HeadTree) (groups : List GroupTree) (level : LevelTree) (s : SetLevelTree)
     (outers : List OuterSetTree) (o : Option Join) →
@@ -665,20 +668,9 @@ step_inner_open : (place : ℕ) (ts : List Token) (done : List StatementTree) (h
     (made done head groups level (sets_with s outers)))
 step_inner_open place ts done head groups level s outers None joins read = tt
 step_inner_open place ts done head groups level s outers (Some join) joins (a, b, h, file, (c, d, h', is, (reading, (e, f, h'', around, inner)), starts)) =
-    let us = token SetOpen place ∷ [] in (
-      a,
-      b ++ us,
-      grown ts us a b h,
-      file,
-      (
-        c,
-        d ++ us,
-        grown b us c d h',
-        is,
-        (reading, (d, us, refl, (e, f, h'', around, opens_inner f s join inner joins), opens_set place)),
-        starts-push head b us starts,
-      ),
-    )
+    let us = token SetOpen place ∷ [] in
+    remade_within ts us a b c d done head groups level (opened place) (outer_set s join ∷ outers) h file h' is
+    (reading, (d, us, refl, (e, f, h'', around, opens_inner f s join inner joins), opens_set place)) starts
 
 -- a set ends: the outermost is an atom, another an operand
 set_closes : (at : ℕ) (t : SetSyntax) (a b c d e f us ts : List Token) (done : List StatementTree) (head : HeadTree) (groups : List GroupTree)
@@ -690,45 +682,16 @@ set_closes at t a b c d e f us ts done head groups level s [] h file h' is readi
     let i = placed at (set t) Once in
     let vs = f ++ us in
     let one : IsItem vs i = (vs, [], sym (append-nil vs), inner, refl) in
-    let all : b ++ us ≡ c ++ vs = grown b us c d h' ∙ ap (λ d. c ++ (d ++ us)) (h'' ∙ ap (λ e. e ++ f) around) in (
-      a,
-      b ++ us,
-      grown ts us a b h,
-      file,
-      (
-        c ++ vs,
-        [],
-        all ∙ sym (append-nil (c ++ vs)),
-        grow head c vs groups groups level (with_item i level) reading (λ b l. levels-add groups b vs level (with_item i level)
-            (λ ts l. level-item ts vs i level l one) l)
-            (single-same head groups groups level (with_item i level) (bottom-item groups i level)) is,
-        refl,
-        starts-push head b us starts,
-      ),
-    )
-set_closes at t a b c d e f us ts done head groups level s (o ∷ outers) h file h' is reading h'' (k, l, h3, around, outer) inner starts = (
-  a,
-  b ++ us,
-  grown ts us a b h,
-  file,
-  (
-    c,
-    d ++ us,
-    grown b us c d h',
-    is,
-    (
-      reading,
-      (
-        k,
-        l ++ (f ++ us),
-        grown d us e f h'' ∙ ap (λ e. e ++ (f ++ us)) h3 ∙ append_assoc k l (f ++ us),
-        around,
-        resumes l (f ++ us) at t o outer inner,
-      ),
-    ),
-    starts-push head b us starts,
-  ),
-)
+    let all : b ++ us ≡ c ++ vs = grown b us c d h' ∙ ap (λ d. c ++ (d ++ us)) (h'' ∙ ap (λ e. e ++ f) around) in
+    let grew = grow head c vs groups groups level (with_item i level) reading
+    (λ b l. levels-add groups b vs level (with_item i level) (λ ts l. level-item ts vs i level l one) l)
+    (single-same head groups groups level (with_item i level) (bottom-item groups i level)) is in
+    remade ts us a b done head groups (with_item i level) h file (subst (λ ts. IsBegun ts head groups (with_item i level)) (sym all) grew)
+    (starts-push head b us starts)
+set_closes at t a b c d e f us ts done head groups level s (o ∷ outers) h file h' is reading h'' (k, l, h3, around, outer) inner starts =
+    let all = grown d us e f h'' ∙ grown e (f ++ us) k l h3 in
+    remade_within ts us a b c d done head groups level (set_resumed at t o) outers h file h' is
+    (reading, (k, l ++ (f ++ us), all, around, resumes l (f ++ us) at t o outer inner)) starts
 
 step_inner_close : (place : ℕ) (ts : List Token) (done : List StatementTree) (head : HeadTree) (groups : List GroupTree) (level : LevelTree) (s : SetLevelTree)
     (outers : List OuterSetTree) (o : Option (List PartTree)) →

@@ -1,15 +1,15 @@
 -- A list of tokens is a file, or has one fault.
-use Rattle.std.proofs.Common.{◌≡◌, ℕ, zero, suc, ◌+◌, ◌<◌, ◌≤◌, List, [], ◌∷◌, ◌++◌, length, take, slice_get, Option, Some, None, IsSome, ◌⊎◌, inl, inr, refl}
+use Rattle.std.proofs.Common.{◌≡◌, ℕ, zero, suc, ◌+◌, ◌<◌, ◌≤◌, List, [], length, take, slice_get, Option, Some, None, ◌⊎◌, inl, inr, refl}
 use Rattle.std.proofs.Common.{sym, ◌∙◌, ap, subst, arith}
-use Rattle.std.proofs.lemmas.Bool.{cases_lt, cases_order}
+use Rattle.std.proofs.lemmas.Bool.{cases_lt}
 use Rattle.std.proofs.lemmas.List.{append-nil, take_all}
 use Rattle.std.proofs.lemmas.Option.{slice_get_cases}
 use Rattle.rbbi_lex.specs.declared.token.Token.{Token}
 use Rattle.rbbi_tree.specs.Trees.{StatementTree}
 use Rattle.rbbi_tree.specs.Grammar.{IsFile}
 use Rattle.rbbi_tree.specs.Machine.Statements.{HeadTree, between, assigning, ruling, resting, ended, Progress, after, advance, run}
-use Rattle.rbbi_tree.specs.Brackets.{IsDeepAt, IsShallow, IsShallowBefore, open_after, open_from}
-use Rattle.rbbi_tree.specs.Refusals.{BeginsFile, IsSyntaxAt, place_or_end, IsRefusedFor, IsFaultOf}
+use Rattle.rbbi_tree.specs.Brackets.{IsDeepAt, IsShallow, IsShallowBefore, open_from}
+use Rattle.rbbi_tree.specs.Refusals.{BeginsFile, IsSyntaxAt, place_or_end, IsFaultOf}
 use Rattle.rbbi_tree.specs.declared.error.TreeErr.{TreeErr}
 use Rattle.rbbi_tree.specs.declared.error.TreeErr.TheVariants.{Syntax, TooDeep, Memory}
 use Rattle.rbbi_tree.proofs.Sound.{run_is_file}

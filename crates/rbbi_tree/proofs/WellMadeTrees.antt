@@ -1,13 +1,13 @@
 -- The statements of a file of well made tokens are well made.
 use Rattle.std.proofs.Common.{◌≡◌, ℕ, List, [], ◌∷◌, ◌++◌, Option, Some, None, IfSome, ◌≤◌, subst}
 use Rattle.rbbi_lex.specs.declared.token.Token.{Token}
-use Rattle.rbbi_lex.specs.declared.token.TokenKind.TheVariants.{Slash, Tag}
+use Rattle.rbbi_lex.specs.declared.token.TokenKind.TheVariants.{Slash}
 use Rattle.rbbi_lex.specs.WellMade as tokens
 use Rattle.rbbi_tree.specs.Trees.{ExprTree, SeqTree, ItemTree, AtomTree, no_alternatives, alternative, no_items, item, placed, character, quoted, any, name}
 use Rattle.rbbi_tree.specs.Trees.{property, set, group}
 use Rattle.rbbi_tree.specs.Trees.{StatementTree, nothing, control, assign, rule}
 use Rattle.rbbi_tree.specs.Grammar.{token, IsExpr, AreMoreAlternatives, IsSeq, AreItems, IsItem, IsAtom, IsTag, IsOneSeq, IsMatcher, IsStatement, IsFile}
-use Rattle.rbbi_tree.specs.WellMade.{HasSeq, HasItem, AreWellMadeSeqs, AreWellMadeItems, IsWellMadeItem, IsWellMadeAtom, IsWellMadeExpr, IsWellMadeRest}
+use Rattle.rbbi_tree.specs.WellMade.{HasItem, AreWellMadeSeqs, AreWellMadeItems, IsWellMadeItem, IsWellMadeAtom, IsWellMadeExpr, IsWellMadeRest}
 use Rattle.rbbi_tree.specs.WellMade.{IsWellMade, AreWellMade}
 
 -- both parts of well made tokens are so

@@ -1,12 +1,12 @@
 //! Files and faults that were worked out by hand from the grammar.
-ghost use Rattle.std.specs.Prelude.{◌≡◌, ◌<◌, ◌≤◌, length};
-ghost use Rattle.std.specs.Str.{chars};
+ghost use Rattle.std.specs.Prelude.{◌<◌, length};
 
 use crate::{
     Atom, Expr, Item, Join, Quant, Seq, SetExpr, SetItem, SetPart, Statement, Statements, TreeErr,
     parse,
 };
 use rbbi_lex::{LexErr, lex};
+use rbbi_text::count_characters;
 use std::alloc::{AllocError, Global};
 use std::test::Fail;
 
@@ -208,20 +208,12 @@ fn show(alloc: Global, statements: &Statements) -> Result<String, AllocError> {
     Ok(shown)
 }
 
-/// The number of characters of a text, at most that of its bytes.
-fn characters_in(text: &str) -> usize
-    ensures exact { result ≡ length (chars text.now) }
-    ensures short { result ≤ length text.now }
-{
-    text.chars().count()
-}
-
 /// The statements of a short text, or its fault.
 fn parse_text(alloc: Global, text: &str) -> Result<Result<Statements, TreeErr>, LexErr>
     requires { length text.now < 1000 }
 {
     let tokens = lex(alloc, text)?;
-    Ok(parse(alloc, &tokens, characters_in(text) as u32))
+    Ok(parse(alloc, &tokens, count_characters(text)))
 }
 
 #[test]

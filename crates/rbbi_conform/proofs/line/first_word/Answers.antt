@@ -1,7 +1,8 @@
 use Rattle.std.proofs.Common.{◌≡◌, ◌∷◌, ◌<◌, length, take, sym, ◌∙◌, ap, arith}
 use Rattle.std.specs.List.{prefix_len}
 use Rattle.std.proofs.lemmas.List.{take_rest, length-drop, length-take-le}
-use Rattle.rbbi_conform.specs.Grammar.{is_blank, words_of}
+use Rattle.rbbi_text.specs.LineParts.{is_blank}
+use Rattle.rbbi_conform.specs.Grammar.{words_of}
 use Rattle.rbbi_conform.proofs.BlankWords.{words_trimmed, trimmed, no_word, first_word}
 use Rattle.rbbi_conform.proofs.line.first_word.Goals as goal
 

@@ -1,6 +1,6 @@
 use Rattle.std.proofs.Common.{sym, ◌∙◌, arith}
 use Rattle.std.proofs.lemmas.List.Sums.{position_or_len_is}
-use Rattle.rbbi_conform.specs.Grammar.{is_blank}
+use Rattle.rbbi_text.specs.LineParts.{is_blank}
 use Rattle.rbbi_conform.proofs.line.word_len.Goals as goal
 
 pub returns-then-is_blank-clause-place : goal.returns-then-is_blank-clause-place

@@ -1,5 +1,5 @@
 use Rattle.std.proofs.Common.{◌≡◌, ℕ, ◌<◌, false, get_or}
-use Rattle.rbbi_conform.specs.Grammar.{is_blank}
+use Rattle.rbbi_text.specs.LineParts.{is_blank}
 use Rattle.rbbi_conform.proofs.line.word_len.Given as goal
 
 abbrev pub invariant-loop-place : goal.invariant-loop-place

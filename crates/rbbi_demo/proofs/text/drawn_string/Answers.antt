@@ -13,8 +13,8 @@ loop-drawn-preserved c =
     let seed : ℕ = c.args.generator.now.state in
     let n : ℕ = c.loop-drawn._drawn in
     let now = c.loop-drawn.invariant in
-    let pushed = c.in_ok-push.ensures ∙ ap (λ (l : List ℕ). l ++ c.character.result ∷ []) now.0 in
+    let pushed = c.in_ok-push_character.ensures ∙ ap (λ (l : List ℕ). l ++ c.character.result ∷ []) now.0 in
     let character = c.character.ensures.character ∙ ap (λ s. drawn_character s 1) now.1 in (
-      text_more seed n (chars (string_bytes c.push.new.text)) c.character.result pushed character,
+      text_more seed n (chars (string_bytes c.push_character.new.string)) c.character.result pushed character,
       c.character.ensures.state ∙ ap next_state now.1 ∙ sym (state_more seed n),
     )

@@ -5,7 +5,6 @@ use Rattle.std.specs.Prelude.{map}
 use Rattle.rbbi_model.specs.Ranges.{Range}
 use Rattle.rbbi_model.specs.Spelling.{Tree, sequence_of}
 use Rattle.rbbi_model.specs.Rules.{leaf_count}
-use Rattle.rbbi_resolve.specs.declared.rules.Tree as code
 use Rattle.rbbi_resolve.specs.RuleTrees.{tree_of}
 use Rattle.rbbi_resolve.specs.declared.rules.Tree.TheViews.{the_lemmas}
 use Rattle.rbbi_positions.specs.Rows.{row_bit}
@@ -36,6 +35,7 @@ loop-i-init t c =
     opened ∙ whole (tree_of sets) c.in-Seq.parts.items.items c.len-i.result past in
     record {
       many = ap length copied;
+      within = omega (arith, c.len-i.ensures, c.in-Seq.parts.items.ok.0);
       at = λ sets. omega (arith, c.count.ensures sets, ap leaf_count (same sets));
       fits = λ sets. omega (arith, ap leaf_count (same sets));
       rows = λ sets position other below.
@@ -47,14 +47,12 @@ loop-i-init t c =
 
 pub count-start-requires : goal.count-start-requires
 count-start-requires t c =
-    λ sets. let next = count_up_to (tree_of sets) c.in-Seq.parts.items.items _ _ c.loop-i-test.true
-    (omega (arith, c.loop-i.auto.i, c.len-i.ensures, c.in-Seq.parts.items.ok.0)) c.index-part.ensures in
+    λ sets. let next = count_up_to (tree_of sets) c.in-Seq.parts.items.items _ _ c.loop-i-test.true c.loop-i.invariant.within c.index-part.ensures in
     omega (arith, c.requires.within sets, c.requires.short, c.loop-i.invariant.fits sets, next)
 
 pub overflow_sub-start : goal.overflow_sub-start
 overflow_sub-start t c =
-    let next = count_up_to (tree_of []) c.in-Seq.parts.items.items _ _ c.loop-i-test.true
-    (omega (arith, c.loop-i.auto.i, c.len-i.ensures, c.in-Seq.parts.items.ok.0)) c.index-part.ensures in
+    let next = count_up_to (tree_of []) c.in-Seq.parts.items.items _ _ c.loop-i-test.true c.loop-i.invariant.within c.index-part.ensures in
     omega (arith, c.count-start.ensures [], c.loop-i.invariant.at [], next)
 
 pub add_followers-requires : goal.add_followers-requires
@@ -63,8 +61,7 @@ add_followers-requires t c =
     let ends = λ (sets : List (List Range)).
     let here : (c.loop-i.start - c.count-start.result) + leaf_count (tree_of sets c.index-part.result.now) ≤ c.args.first + leaf_count
     (tree_of sets c.args.tree.now) =
-    let next = count_up_to (tree_of sets) c.in-Seq.parts.items.items _ _ c.loop-i-test.true
-    (omega (arith, c.loop-i.auto.i, c.len-i.ensures, c.in-Seq.parts.items.ok.0)) c.index-part.ensures in
+    let next = count_up_to (tree_of sets) c.in-Seq.parts.items.items _ _ c.loop-i-test.true c.loop-i.invariant.within c.index-part.ensures in
     omega (arith, c.count-start.ensures sets, c.loop-i.invariant.at sets, c.loop-i.invariant.fits sets, next) in
     here in (
       search (rules, the_lemmas),
@@ -91,8 +88,7 @@ lead-requires-clause-within t c = λ sets. omega (
   c.count-start.ensures sets,
   c.loop-i.invariant.at sets,
   c.loop-i.invariant.fits sets,
-  count_up_to (tree_of sets) c.in-Seq.parts.items.items _ _ c.loop-i-test.true
-      (omega (arith, c.loop-i.auto.i, c.len-i.ensures, c.in-Seq.parts.items.ok.0)) c.index-part.ensures,
+  count_up_to (tree_of sets) c.in-Seq.parts.items.items _ _ c.loop-i-test.true c.loop-i.invariant.within c.index-part.ensures,
 )
 
 pub loop-i-preserved : goal.loop-i-preserved
@@ -102,11 +98,10 @@ loop-i-preserved t c =
     let start : ℕ = c.loop-i.start - c.count-start.result in
     record {
       many = ap length written ∙ c.lead.auto.row ∙ ap length c.deref_mut.ensures.value ∙ c.loop-i.invariant.many;
-      at = λ sets. let next = count_up_to (tree_of sets) c.in-Seq.parts.items.items _ _ c.loop-i-test.true
-          (omega (arith, c.loop-i.auto.i, c.len-i.ensures, c.in-Seq.parts.items.ok.0)) c.index-part.ensures in
+      within = omega (arith, c.loop-i.invariant.within);
+      at = λ sets. let next = count_up_to (tree_of sets) c.in-Seq.parts.items.items _ _ c.loop-i-test.true c.loop-i.invariant.within c.index-part.ensures in
           omega (arith, c.count-start.ensures sets, c.loop-i.invariant.at sets, next);
-      fits = λ sets. let next = count_up_to (tree_of sets) c.in-Seq.parts.items.items _ _ c.loop-i-test.true
-          (omega (arith, c.loop-i.auto.i, c.len-i.ensures, c.in-Seq.parts.items.ok.0)) c.index-part.ensures in
+      fits = λ sets. let next = count_up_to (tree_of sets) c.in-Seq.parts.items.items _ _ c.loop-i-test.true c.loop-i.invariant.within c.index-part.ensures in
           omega (arith, c.loop-i.invariant.fits sets, next);
       rows = λ sets position other below.
           let part : Tree = tree_of sets c.index-part.result.now in
@@ -118,12 +113,10 @@ loop-i-preserved t c =
           (c.in_ok-add_followers-in-Seq.ensures sets position other short
           ∙ ap (λ row. in_row (length c.deref.result.now) c.loop-i.followers position other || goes part start position other (row_bit row other))
           c.deref.ensures.value) in
-          goes_on (tree_of sets) c.in-Seq.parts.items.items _ _ c.loop-i-test.true
-          (omega (arith, c.loop-i.auto.i, c.len-i.ensures, c.in-Seq.parts.items.ok.0)) c.index-part.ensures
+          goes_on (tree_of sets) c.in-Seq.parts.items.items _ _ c.loop-i-test.true c.loop-i.invariant.within c.index-part.ensures
           c.args.first start position other (row_bit c.loop-i.row.items other) (row_bit (with_items c.loop-i.row c.lead.new.row).items other)
           (in_row (length c.args.next.now) c.loop-i.followers position other) (in_row (length c.args.next.now) c.add_followers.new.followers position other)
-          (let next = count_up_to (tree_of sets) c.in-Seq.parts.items.items _ _ c.loop-i-test.true
-          (omega (arith, c.loop-i.auto.i, c.len-i.ensures, c.in-Seq.parts.items.ok.0)) c.index-part.ensures in
+          (let next = count_up_to (tree_of sets) c.in-Seq.parts.items.items _ _ c.loop-i-test.true c.loop-i.invariant.within c.index-part.ensures in
           omega (arith, c.count-start.ensures sets, c.loop-i.invariant.at sets, next))
           (ap (λ row. row_bit row other) written ∙ c.lead.ensures sets other ∙ ap (λ row. leads part start other (row_bit row other)) c.deref_mut.ensures.value)
           new ∙ c.loop-i.invariant.rows sets position other below;

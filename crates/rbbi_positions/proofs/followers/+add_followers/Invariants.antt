@@ -12,6 +12,7 @@ use Rattle.rbbi_positions.proofs.followers.+add_followers.Given as goal
 abbrev pub invariant-loop-i : goal.invariant-loop-i
 invariant-loop-i l = record {
   many : length l.row.items ≡ length l.next;
+  within : l.i ≤ length l.parts.items.items;
   at : (sets : List (List Range)) → l.start ≡ l.first + leaf_count (sequence_of (map (tree_of sets) (take l.i l.parts.items.items)));
   fits : (sets : List (List Range)) → leaf_count (sequence_of (map (tree_of sets) (take l.i l.parts.items.items))) ≤ leaf_count (tree_of sets l.tree);
   rows : (sets : List (List Range)) (position other : ℕ) → other < 64 * length l.next →

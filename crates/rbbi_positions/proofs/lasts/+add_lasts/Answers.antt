@@ -26,6 +26,7 @@ loop-i-init t c =
     ∙ tree_of_sequence sets c.in-Seq.parts in
     opened ∙ whole (tree_of sets) c.in-Seq.parts.items.items c.len-i.result past in
     record {
+      within = omega (arith, c.len-i.ensures, c.in-Seq.parts.items.ok.0);
       at = λ sets. omega (arith, c.count.ensures sets, ap leaf_count (same sets));
       fits = λ sets. omega (arith, ap leaf_count (same sets));
       flags = λ sets position. ap (λ tree. get_or c.args.flags.now position false || ends tree c.args.first position) (sym (same sets));
@@ -33,14 +34,12 @@ loop-i-init t c =
 
 pub count-start-requires : goal.count-start-requires
 count-start-requires t c =
-    λ sets. let next = count_up_to (tree_of sets) c.in-Seq.parts.items.items _ _ c.loop-i-test.true
-    (omega (arith, c.loop-i.auto.i, c.len-i.ensures, c.in-Seq.parts.items.ok.0)) c.index-part.ensures in
+    λ sets. let next = count_up_to (tree_of sets) c.in-Seq.parts.items.items _ _ c.loop-i-test.true c.loop-i.invariant.within c.index-part.ensures in
     omega (arith, c.requires.within sets, c.requires.few, c.loop-i.invariant.fits sets, next)
 
 pub overflow_sub-start : goal.overflow_sub-start
 overflow_sub-start t c =
-    let next = count_up_to (tree_of []) c.in-Seq.parts.items.items _ _ c.loop-i-test.true
-    (omega (arith, c.loop-i.auto.i, c.len-i.ensures, c.in-Seq.parts.items.ok.0)) c.index-part.ensures in
+    let next = count_up_to (tree_of []) c.in-Seq.parts.items.items _ _ c.loop-i-test.true c.loop-i.invariant.within c.index-part.ensures in
     omega (arith, c.count-start.ensures [], c.loop-i.invariant.at [], next)
 
 pub add_lasts-requires : goal.add_lasts-requires
@@ -48,36 +47,30 @@ add_lasts-requires t c = (
   search (rules, the_lemmas),
   (
     omega (arith, c.requires.few),
-    λ sets. let next = count_up_to (tree_of sets) c.in-Seq.parts.items.items _ _ c.loop-i-test.true
-        (omega (arith, c.loop-i.auto.i, c.len-i.ensures, c.in-Seq.parts.items.ok.0)) c.index-part.ensures in
+    λ sets. let next = count_up_to (tree_of sets) c.in-Seq.parts.items.items _ _ c.loop-i-test.true c.loop-i.invariant.within c.index-part.ensures in
         omega (arith, c.requires.within sets, c.count-start.ensures sets, c.loop-i.invariant.at sets, c.loop-i.invariant.fits sets, next),
   ),
 )
 
 pub returns-then-not-is_empty : goal.returns-then-not-is_empty
 returns-then-not-is_empty t c = λ sets position.
-    ends_end (tree_of sets) c.in-Seq.parts.items.items _ _ c.loop-i-test.true
-    (omega (arith, c.loop-i.auto.i, c.len-i.ensures, c.in-Seq.parts.items.ok.0)) c.index-part.ensures
+    ends_end (tree_of sets) c.in-Seq.parts.items.items _ _ c.loop-i-test.true c.loop-i.invariant.within c.index-part.ensures
     c.args.first (c.loop-i.start - c.count-start.result) position (get_or c.loop-i.flags position false) (get_or c.add_lasts.new.flags position false)
-    (let next = count_up_to (tree_of sets) c.in-Seq.parts.items.items _ _ c.loop-i-test.true
-    (omega (arith, c.loop-i.auto.i, c.len-i.ensures, c.in-Seq.parts.items.ok.0)) c.index-part.ensures in
+    (let next = count_up_to (tree_of sets) c.in-Seq.parts.items.items _ _ c.loop-i-test.true c.loop-i.invariant.within c.index-part.ensures in
     omega (arith, c.count-start.ensures sets, c.loop-i.invariant.at sets, next))
     (sym (c.is_empty.ensures sets) ∙ c.if-not-is_empty.true) (c.add_lasts.ensures sets position) ∙ c.loop-i.invariant.flags sets position
 
 pub loop-i-preserved : goal.loop-i-preserved
 loop-i-preserved t c = record {
-  at = λ sets. let next = count_up_to (tree_of sets) c.in-Seq.parts.items.items _ _ c.loop-i-test.true
-      (omega (arith, c.loop-i.auto.i, c.len-i.ensures, c.in-Seq.parts.items.ok.0)) c.index-part.ensures in
+  within = omega (arith, c.loop-i.invariant.within);
+  at = λ sets. let next = count_up_to (tree_of sets) c.in-Seq.parts.items.items _ _ c.loop-i-test.true c.loop-i.invariant.within c.index-part.ensures in
       omega (arith, c.count-start.ensures sets, c.loop-i.invariant.at sets, next);
-  fits = λ sets. let next = count_up_to (tree_of sets) c.in-Seq.parts.items.items _ _ c.loop-i-test.true
-      (omega (arith, c.loop-i.auto.i, c.len-i.ensures, c.in-Seq.parts.items.ok.0)) c.index-part.ensures in
+  fits = λ sets. let next = count_up_to (tree_of sets) c.in-Seq.parts.items.items _ _ c.loop-i-test.true c.loop-i.invariant.within c.index-part.ensures in
       omega (arith, c.loop-i.invariant.fits sets, next);
   flags = λ sets position.
-      ends_on (tree_of sets) c.in-Seq.parts.items.items _ _ c.loop-i-test.true
-      (omega (arith, c.loop-i.auto.i, c.len-i.ensures, c.in-Seq.parts.items.ok.0)) c.index-part.ensures
+      ends_on (tree_of sets) c.in-Seq.parts.items.items _ _ c.loop-i-test.true c.loop-i.invariant.within c.index-part.ensures
       c.args.first (c.loop-i.start - c.count-start.result) position (get_or c.loop-i.flags position false) (get_or c.add_lasts.new.flags position false)
-      (let next = count_up_to (tree_of sets) c.in-Seq.parts.items.items _ _ c.loop-i-test.true
-      (omega (arith, c.loop-i.auto.i, c.len-i.ensures, c.in-Seq.parts.items.ok.0)) c.index-part.ensures in
+      (let next = count_up_to (tree_of sets) c.in-Seq.parts.items.items _ _ c.loop-i-test.true c.loop-i.invariant.within c.index-part.ensures in
       omega (arith, c.count-start.ensures sets, c.loop-i.invariant.at sets, next))
       (sym (c.is_empty.ensures sets) ∙ c.if-not-is_empty.false) (c.add_lasts.ensures sets position) ∙ c.loop-i.invariant.flags sets position;
 }

@@ -1,4 +1,4 @@
-use Rattle.std.proofs.Common.{◌≡◌, ℕ, ◌+◌, ◌≤◌, ◌||◌, false, List, drop, take, get_or}
+use Rattle.std.proofs.Common.{◌≡◌, ℕ, ◌+◌, ◌≤◌, ◌||◌, false, List, length, drop, take, get_or}
 use Rattle.std.specs.Prelude.{map}
 use Rattle.rbbi_model.specs.Ranges.{Range}
 use Rattle.rbbi_model.specs.Spelling.{sequence_of, choice_of}
@@ -18,6 +18,7 @@ invariant-loop-part l = record {
 
 abbrev pub invariant-loop-i : goal.invariant-loop-i
 invariant-loop-i l = record {
+  within : l.i ≤ length l.parts.items.items;
   at : (sets : List (List Range)) → l.start ≡ l.first + leaf_count (sequence_of (map (tree_of sets) (take l.i l.parts.items.items)));
   fits : (sets : List (List Range)) → leaf_count (sequence_of (map (tree_of sets) (take l.i l.parts.items.items))) ≤ leaf_count (tree_of sets l.tree);
   flags : (sets : List (List Range)) (position : ℕ) →

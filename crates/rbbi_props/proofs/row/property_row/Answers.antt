@@ -9,11 +9,11 @@ use Rattle.rbbi_props.proofs.row.property_row.Goals as goal
 
 pub returns-then-end-fields : goal.returns-then-end-fields
 returns-then-end-fields c =
-    sym (rw (← c.before-fields.ensures) (row_of_fields-one c.before-fields.result.now (omega (arith, c.place_or_len-end.ensures.place))))
+    sym (rw (← c.before_byte-fields.ensures.bytes) (row_of_fields-one c.before_byte-fields.result.now (omega (arith, c.place_or_len-end.ensures.place))))
 
 pub returns : goal.returns
 returns c =
-    let fields = c.before-fields.result.now in
+    let fields = c.before_byte-fields.result.now in
     let i = c.place_or_len-end.result in
     let place = c.place_or_len-end.ensures.place in
     let found : position_or_len (λ b. eqb b 59) fields < length fields = omega (arith, place, c.place_or_len-end.ensures.bound) in
@@ -27,5 +27,5 @@ returns c =
     ap (λ o. row_with o c.trim-value.result.now) range
     ∙ ap (λ v. row_with (range_of (trim (before_first (λ b. eqb b 59) fields))) v) value
     ∙ sym (row_of_fields-more fields found)
-    ∙ ap (λ (f : List ℕ). row_of_fields (slice_split (λ b. eqb b 59) f)) c.before-fields.ensures in
+    ∙ ap (λ (f : List ℕ). row_of_fields (slice_split (λ b. eqb b 59) f)) c.before_byte-fields.ensures.bytes in
     IfOk-weaker c.row_with.result _ _ (λ row h. h ∙ whole) c.row_with.ensures

@@ -1,6 +1,6 @@
 use Rattle.std.proofs.Common.{◌∙◌, take, ap, sym, arith}
 use Rattle.std.proofs.lemmas.List.Sums.{suffix_len_is}
-use Rattle.rbbi_props.specs.RowLines.{is_blank}
+use Rattle.rbbi_text.specs.LineParts.{is_blank}
 use Rattle.rbbi_props.proofs.text.trim_end.Goals as goal
 use Rattle.rbbi_props.proofs.text.trim_end.Goals.{then-loop-end-test+else-is_blank, else-loop-end-test}
 

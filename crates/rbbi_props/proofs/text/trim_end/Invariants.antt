@@ -1,5 +1,5 @@
 use Rattle.std.proofs.Common.{◌≡◌, ℕ, ◌<◌, ◌≤◌, true, get_or, length}
-use Rattle.rbbi_props.specs.RowLines.{is_blank}
+use Rattle.rbbi_text.specs.LineParts.{is_blank}
 use Rattle.rbbi_props.proofs.text.trim_end.Given as goal
 
 abbrev pub invariant-loop-end : goal.invariant-loop-end

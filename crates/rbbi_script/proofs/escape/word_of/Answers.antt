@@ -27,7 +27,7 @@ loop-cut-preserved c =
     let before = c.in-Some.cut.before.now in
     let after = c.in-Some.cut.after.now in
     let utf8 = subst IsUtf8 c.in-Some.ensures.parts c.loop-cut.invariant.1 in
-    let pushed : chars (string_bytes c.push_character.new.word) ≡ chars word ++ chars before ++ c.in-Some-escape_at.escape.character ∷ [] =
+    let pushed : chars (string_bytes c.push_character.new.string) ≡ chars word ++ chars before ++ c.in-Some-escape_at.escape.character ∷ [] =
     c.in_ok-push_character.ensures
     ∙ ap (λ w. w ++ c.in-Some-escape_at.escape.character ∷ []) (ap chars c.in_ok-push_str.ensures.bytes
     ∙ chars-append word before (IsUtf8-string_bytes c.loop-cut.word)) in (

@@ -1,20 +1,7 @@
-use Rattle.std.proofs.Common.{◌≡◌, ℕ, cond, List, [], ◌∷◌, ◌++◌, ap, sym, ◌∙◌, append-nil}
-use Rattle.std.proofs.lemmas.Str.{IsUtf8-string_bytes, chars-append, chars_past_char, chars-nil, IsUtf8-encode}
-use Rattle.std.specs.Prelude.{Result, Ok, Err, is_ok, OnOk, chars, encode_utf8, string_bytes, IsUtf8}
-use Rattle.std.specs.Char.{IsScalar}
-use Rattle.std.specs.declared.alloc.AllocError.{AllocError}
+use Rattle.std.specs.Prelude.{string_bytes}
+use Rattle.std.proofs.lemmas.Str.{IsUtf8-string_bytes}
+use Rattle.rbbi_text.proofs.Pushed.{pushed}
 use Rattle.rbbi_text.proofs.word.push_character.Goals as goal
-
--- a text, and one more character
-chars-push : (bs : List ℕ) (c : ℕ) → IsUtf8 bs → IsScalar c → chars (bs ++ encode_utf8 c) ≡ chars bs ++ c ∷ []
-chars-push bs c utf8 scalar =
-    chars-append bs (encode_utf8 c) utf8
-    ∙ ap (λ x. chars bs ++ x) (chars_past_char (encode_utf8 c) [] c (IsUtf8-encode c scalar) (sym (append-nil (encode_utf8 c))) ∙ ap (λ x. c ∷ x) chars-nil)
-
-pushed : (r : Result (Unit {0}) AllocError) (bs new : List ℕ) (c : ℕ) → new ≡ cond (is_ok r) (bs ++ encode_utf8 c) bs → IsUtf8 bs → IsScalar c →
-    OnOk r (chars new ≡ chars bs ++ c ∷ [])
-pushed (Ok u) bs new c e utf8 scalar = ap chars e ∙ chars-push bs c utf8 scalar
-pushed (Err u) bs new c e utf8 scalar = tt
 
 pub returns : goal.returns
 returns c =

@@ -1,7 +1,7 @@
 use Rattle.std.proofs.Common.{eqb, sym, arith}
 use Rattle.std.proofs.lemmas.Bool.{eq-eqb}
 use Rattle.std.proofs.lemmas.List.Sums.{position_or_len_is}
-use Rattle.rbbi_props.proofs.text.place_or_len.Goals as goal
+use Rattle.rbbi_text.proofs.line_parts.place_or_len.Goals as goal
 
 pub returns-then-found-byte-clause-place : goal.returns-then-found-byte-clause-place
 returns-then-found-byte-clause-place c =

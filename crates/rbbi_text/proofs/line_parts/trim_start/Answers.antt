@@ -1,9 +1,9 @@
 use Rattle.std.proofs.Common.{◌∙◌, drop, ap, sym, arith}
 use Rattle.std.proofs.lemmas.List.{take_rest}
 use Rattle.std.proofs.lemmas.List.Sums.{prefix_len_is}
-use Rattle.rbbi_conform.specs.Grammar.{is_blank}
-use Rattle.rbbi_conform.proofs.line.trim_start.Goals as goal
-use Rattle.rbbi_conform.proofs.line.trim_start.Goals.{then-loop-start-test+else-is_blank, else-loop-start-test}
+use Rattle.rbbi_text.specs.LineParts.{is_blank}
+use Rattle.rbbi_text.proofs.line_parts.trim_start.Goals as goal
+use Rattle.rbbi_text.proofs.line_parts.trim_start.Goals.{then-loop-start-test+else-is_blank, else-loop-start-test}
 
 pub returns : goal.returns
 returns c =

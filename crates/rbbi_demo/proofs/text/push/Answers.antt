@@ -1,9 +1,0 @@
-use Rattle.std.specs.Prelude.{string_bytes}
-use Rattle.std.proofs.lemmas.Str.{IsUtf8-string_bytes}
-use Rattle.rbbi_text.proofs.Pushed.{pushed}
-use Rattle.rbbi_demo.proofs.text.push.Goals as goal
-
-pub returns : goal.returns
-returns c =
-    pushed c.push.result (string_bytes c.args.text.now) (string_bytes c.push.new.self) c.args.character c.push.ensures.bytes
-    (IsUtf8-string_bytes c.args.text.now) c.ranges.character.0
