@@ -63,11 +63,12 @@ holds_or_and row old these those each p =
 some_bit : (n : ℕ) → n ≢ 0 → n < 2 ^ 64 → (t : ℕ) × (t < 64) × (bit_at n t ≡ 1)
 some_bit n some small = let lowest = bit_at-trailing_zeros w64 n (omega arith) small in (_, lowest.0, lowest.1)
 
-pub holds_word : (row : List ℕ) (k t : ℕ) → t < 64 → bit_at (get_or row k 0) t ≡ 1 → Holds row (64 * k + t)
-holds_word row k t small bit =
+-- a bit by its word and its place there
+pub word_bit : (row : List ℕ) (k t : ℕ) → t < 64 → bit_at (get_or row ((64 * k + t) / 64) 0) ((64 * k + t) % 64) ≡ bit_at (get_or row k 0) t
+word_bit row k t small =
     let word : (64 * k + t) / 64 ≡ k = omega (arith, small) in
     let place : (64 * k + t) % 64 ≡ t = omega (arith, small) in
-    ap (λ n. bit_at (get_or row n 0) ((64 * k + t) % 64)) word ∙ ap (λ n. bit_at (get_or row k 0) n) place ∙ bit
+    ap (λ n. bit_at (get_or row n 0) ((64 * k + t) % 64)) word ∙ ap (λ n. bit_at (get_or row k 0) n) place
 
 -- words in common
 pub words_meet : (these those : List ℕ) (k : ℕ) → bit_and (get_or these k 0) (get_or those k 0) ≢ 0 →
@@ -78,8 +79,11 @@ words_meet these those k some small =
     let b : ℕ = bit_at (get_or those k 0) bit.0 in
     let one : min a b ≡ 1 = sym (bit_at_and (get_or these k 0) (get_or those k 0) bit.0) ∙ bit.2 in
     let low : a < 2 = bit_at-lt (get_or these k 0) bit.0 in
-    let low' : b < 2 = bit_at-lt (get_or those k 0) bit.0 in
-    (64 * k + bit.0, holds_word these k bit.0 bit.1 (omega (arith, one, low, low')), holds_word those k bit.0 bit.1 (omega (arith, one, low, low')))
+    let low' : b < 2 = bit_at-lt (get_or those k 0) bit.0 in (
+      64 * k + bit.0,
+      word_bit these k bit.0 bit.1 ∙ (let e : a ≡ 1 = omega (arith, one, low, low') in e),
+      word_bit those k bit.0 bit.1 ∙ (let e : b ≡ 1 = omega (arith, one, low, low') in e),
+    )
 
 pub words_apart : (these those : List ℕ) → length these ≡ length those → ((k : ℕ) → k < length these → bit_and (get_or these k 0) (get_or those k 0) ≡ 0) →
     (p : ℕ) → Holds these p → ¬ Holds those p
@@ -94,8 +98,6 @@ words_apart these those long each p holds = λ holds'.
     let zero : bit_at (get_or these k 0) (p % 64) ≡ 0 = ap (λ n. bit_at n (p % 64)) (get_or_past these k 0 past) ∙ bit_at-zero (p % 64) in
     omega (arith, zero, holds))
     (cases_lt k (length these))
-
--- what holds of each word up to the end holds past it
 
 -- outside of a span a word stays, and there the other is 0
 pub or_within : (row old other : List ℕ) (from to i : ℕ) → IsSpan other from to → to ≤ i →
@@ -133,6 +135,7 @@ IsSpan-from_loop row from to i all within before past = record {
   past = λ k later. ⊎_elim (λ short. past k later short) (λ beyond. get_or_past row k 0 (omega (arith, all, beyond))) (cases_lt k i);
 }
 
+-- what holds of each word up to the end holds past it
 pub and_each : (row these those : List ℕ) (i : ℕ) → length row ≤ i → length these ≤ i → length those ≤ i →
     ((k : ℕ) → k < i → get_or row k 0 ≡ bit_and (get_or these k 0) (get_or those k 0)) →
     (k : ℕ) → get_or row k 0 ≡ bit_and (get_or these k 0) (get_or those k 0)
