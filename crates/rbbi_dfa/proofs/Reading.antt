@@ -8,7 +8,7 @@ use Rattle.rbbi_model.specs.Rules.{Rule, IsWordOf, IsFrontWordOf}
 use Rattle.rbbi_model.specs.Chains.{IsRule, EndsAt, Word, Chained, FrontEndsAt}
 use Rattle.rbbi_model.specs.LeafSets.{Reads, ReadsLast, BeginsToRead, IsChainedToRead}
 use Rattle.rbbi_model.proofs.RulesCover.{ends_lie}
-use Rattle.rbbi_dfa.specs.PositionAutomata.{Chainable}
+use Rattle.rbbi_dfa.specs.PositionAutomata.{FirstOf, LastOf, FollowsIn, FrontLastOf, Chainable}
 use Rattle.rbbi_model.proofs.Local.{ends_to, ends_from}
 
 -- the position can read the last code point of the word, whatever look-ahead rules end before
@@ -16,20 +16,21 @@ abbrev pub ReadBy : List Rule → List ℕ → ℕ → Type 0
 ReadBy rules w position = BeginsToRead rules w position ⊎ IsChainedToRead rules w position
 
 -- how the positions of rules are first, last and follow each other, told by the words that they begin to read
-pub record ReadingLaws (rules : List Rule) (IsFirst IsLast IsFrontLast : ℕ → ℕ → Type 0) (Follows : ℕ → ℕ → ℕ → Type 0) : Type 0 where
-  pub start : (number p c : ℕ) (rule : Rule) → IsRule rules number rule → IsFirst number p → Reads rules p c → ReadsLast rules number rule (c ∷ []) p
-  pub extend : (number other q p c : ℕ) (rule : Rule) (v : List ℕ) → IsRule rules number rule → ReadsLast rules number rule v q → Follows other q p →
+pub record ReadingLaws (rules : List Rule) : Type 0 where
+  pub start : (number p c : ℕ) (rule : Rule) → IsRule rules number rule → FirstOf rules number p → Reads rules p c → ReadsLast rules number rule (c ∷ []) p
+  pub extend : (number other q p c : ℕ) (rule : Rule) (v : List ℕ) → IsRule rules number rule → ReadsLast rules number rule v q → FollowsIn rules other q p →
       Reads rules p c → ReadsLast rules number rule (v ++ c ∷ []) p
-  pub first : (number p c : ℕ) (rule : Rule) → IsRule rules number rule → ReadsLast rules number rule (c ∷ []) p → IsFirst number p
+  pub first : (number p c : ℕ) (rule : Rule) → IsRule rules number rule → ReadsLast rules number rule (c ∷ []) p → FirstOf rules number p
   pub shrink : (number p c : ℕ) (rule : Rule) (v : List ℕ) → IsRule rules number rule → v ≢ [] → ReadsLast rules number rule (v ++ c ∷ []) p →
-      (q : ℕ) × ReadsLast rules number rule v q × Follows number q p
+      (q : ℕ) × ReadsLast rules number rule v q × FollowsIn rules number q p
   pub reads : (number p c : ℕ) (rule : Rule) (v : List ℕ) → IsRule rules number rule → ReadsLast rules number rule (v ++ c ∷ []) p → Reads rules p c
-  pub word : (number : ℕ) (rule : Rule) (v : List ℕ) → IsRule rules number rule → IsWordOf rule v → (p : ℕ) × ReadsLast rules number rule v p × IsLast number p
-  pub whole : (number other p : ℕ) (rule : Rule) (v : List ℕ) → IsRule rules number rule → ReadsLast rules number rule v p → IsLast other p →
+  pub word : (number : ℕ) (rule : Rule) (v : List ℕ) → IsRule rules number rule → IsWordOf rule v →
+      (p : ℕ) × ReadsLast rules number rule v p × LastOf rules number p
+  pub whole : (number other p : ℕ) (rule : Rule) (v : List ℕ) → IsRule rules number rule → ReadsLast rules number rule v p → LastOf rules other p →
       (number ≡ other) × IsWordOf rule v
   pub front_word : (number : ℕ) (rule : Rule) (v : List ℕ) → IsRule rules number rule → IsFrontWordOf rule v → (p : ℕ) × ReadsLast rules number rule v p ×
-      IsFrontLast number p
-  pub front_whole : (number other p : ℕ) (rule : Rule) (v : List ℕ) → IsRule rules number rule → ReadsLast rules number rule v p → IsFrontLast other p →
+      FrontLastOf rules number p
+  pub front_whole : (number other p : ℕ) (rule : Rule) (v : List ℕ) → IsRule rules number rule → ReadsLast rules number rule v p → FrontLastOf rules other p →
       (number ≡ other) × IsFrontWordOf rule v
 
 -- words by their last code point
@@ -72,22 +73,21 @@ ends_shorter rules w c m number short ends =
     (subst (λ e. EndsAt rules (slice_range (w ++ c ∷ []) 0 (length w)) 0 e number) (let same : m - 0 ≡ m = omega arith in same)
     (ends_to rules (w ++ c ∷ []) 0 (length w) (omega arith) (omega (arith, length_push w c)) m number short ends))
 
-module _ (rules : List Rule) (IsFirst IsLast IsFrontLast : ℕ → ℕ → Type 0) (Follows : ℕ → ℕ → ℕ → Type 0)
-    (laws : ReadingLaws rules IsFirst IsLast IsFrontLast Follows) where
+module _ (rules : List Rule) (laws : ReadingLaws rules) where
   -- the position can come next after the word, without a chain there
   pub record ComesFirst (w : List ℕ) (p : ℕ) : Type 0 where
     pub none : w ≡ []
     pub number : ℕ
     pub rule : Rule
     pub is_rule : IsRule rules number rule
-    pub first : IsFirst number p
+    pub first : FirstOf rules number p
 
   pub record ComesAfter (w : List ℕ) (p : ℕ) : Type 0 where
     pub some : w ≢ []
     pub number : ℕ
     pub q : ℕ
     pub read : ReadBy rules w q
-    pub follows : Follows number q p
+    pub follows : FollowsIn rules number q p
 
   abbrev pub Comes : List ℕ → ℕ → Type 0
   Comes w p = ComesFirst w p ⊎ ComesAfter w p
@@ -98,13 +98,13 @@ module _ (rules : List Rule) (IsFirst IsLast IsFrontLast : ℕ → ℕ → Type 
     pub q : ℕ
     pub comes : Comes w q
     pub reads : Reads rules q c
-    pub last : IsLast number q
+    pub last : LastOf rules number q
 
   -- the position is first in a rule that is chained into where a rule ends with the code point
   pub record ComesChained (w : List ℕ) (c p : ℕ) : Type 0 where
     pub number : ℕ
     pub chained : Chainable rules number
-    pub first : IsFirst number p
+    pub first : FirstOf rules number p
     pub ends : EndsNow w c
 
   abbrev pub ReadsNext : List ℕ → ℕ → ℕ → Type 0
@@ -242,7 +242,7 @@ module _ (rules : List Rule) (IsFirst IsLast IsFrontLast : ℕ → ℕ → Type 
       after.read)
 
   -- where a last position reads the last code point, its rule ends there
-  pub read_ends : (w : List ℕ) (number p : ℕ) → ReadBy rules w p → IsLast number p → EndsAt rules w 0 (length w) number
+  pub read_ends : (w : List ℕ) (number p : ℕ) → ReadBy rules w p → LastOf rules number p → EndsAt rules w 0 (length w) number
   read_ends w number p read last =
       ⊎_elim
       (λ begun.
@@ -259,7 +259,7 @@ module _ (rules : List Rule) (IsFirst IsLast IsFrontLast : ℕ → ℕ → Type 
       read
 
   -- where a rule ends with the word, one of its last positions reads the last code point
-  ends_read_at : (w : List ℕ) (e number : ℕ) → EndsAt rules w 0 e number → e ≡ length w → (p : ℕ) × ReadBy rules w p × IsLast number p
+  ends_read_at : (w : List ℕ) (e number : ℕ) → EndsAt rules w 0 e number → e ≡ length w → (p : ℕ) × ReadBy rules w p × LastOf rules number p
   ends_read_at w _ _ (Word e number rule is_rule piece) at =
       let same : slice_range w 0 e ≡ w = ap (λ n. slice_range w 0 n) at ∙ whole_piece w in
       let read = laws.word number rule w is_rule (subst (IsWordOf rule) same piece.word) in
@@ -282,11 +282,11 @@ module _ (rules : List Rule) (IsFirst IsLast IsFrontLast : ℕ → ℕ → Type 
         read.2,
       )
 
-  pub ends_read : (w : List ℕ) (number : ℕ) → EndsAt rules w 0 (length w) number → (p : ℕ) × ReadBy rules w p × IsLast number p
+  pub ends_read : (w : List ℕ) (number : ℕ) → EndsAt rules w 0 (length w) number → (p : ℕ) × ReadBy rules w p × LastOf rules number p
   ends_read w number ends = ends_read_at w (length w) number ends refl
 
   -- the same of fronts
-  pub front_read : (w : List ℕ) (number : ℕ) → FrontEndsAt rules w 0 (length w) number → (p : ℕ) × ReadBy rules w p × IsFrontLast number p
+  pub front_read : (w : List ℕ) (number : ℕ) → FrontEndsAt rules w 0 (length w) number → (p : ℕ) × ReadBy rules w p × FrontLastOf rules number p
   front_read w number ends =
       ⊎_elim
       (λ piece.
@@ -310,7 +310,7 @@ module _ (rules : List Rule) (IsFirst IsLast IsFrontLast : ℕ → ℕ → Type 
       ))
       ends.front
 
-  pub read_front : (w : List ℕ) (number p : ℕ) → ReadBy rules w p → IsFrontLast number p → FrontEndsAt rules w 0 (length w) number
+  pub read_front : (w : List ℕ) (number p : ℕ) → ReadBy rules w p → FrontLastOf rules number p → FrontEndsAt rules w 0 (length w) number
   read_front w number p read last =
       ⊎_elim
       (λ begun.
