@@ -15,6 +15,7 @@ use Rattle.rbbi_model.specs.SafePairs.{IsSafePair, is_safe}
 use Rattle.rbbi_model.specs.ValidTables.{IsValidTable}
 use Rattle.rbbi_model.specs.Searches.{fresh}
 use Rattle.rbbi_model.specs.Runs.{Entry, Run, category_at, low, boundary_of, farthest_look, ReachesRise, LeadsTruly, IsTrueRun}
+use Rattle.rbbi_model.proofs.Rising.{rising_tail}
 use Rattle.rbbi_model.proofs.Categories.{category_within}
 use Rattle.rbbi_cache.specs.Edits.{IsEdited, begins_pair, moved_entry, moved_run, run_behind, goes_whole, IsRightPart, Whole, Behind, Nothing}
 use Rattle.rbbi_cache.proofs.Lists.{all_join, all_left, all_right, all_through, filter_all, filter_none, filter_same, everywhere}
@@ -34,10 +35,6 @@ pub record AreLater (k : ℕ) (entries : List Entry) : Type 0 where
   pub earlier : AllByRecursion (λ e. e.at < k) front
   pub each : AllByRecursion (λ e. k ≤ e.at) later
 
-rises_tail : (n : ℕ) (ns : List ℕ) → IsRising (n ∷ ns) → IsRising ns
-rises_tail n [] rising = tt
-rises_tail n (m ∷ ns) rising = rising.1
-
 rises_past : (e : Entry) (entries : List Entry) → IsRising (map (λ f. f.at) (e ∷ entries)) → AllByRecursion (λ f. e.at < f.at) entries
 rises_past e [] rising = tt
 rises_past e (f ∷ entries) rising =
@@ -48,7 +45,7 @@ are_later k [] rising = record { front = []; later = []; whole = refl; kept = re
 are_later k (e ∷ entries) rising =
     ⊎_elim
     (λ before.
-    let rest = are_later k entries (rises_tail e.at (map (λ f. f.at) entries) rising) in
+    let rest = are_later k entries (rising_tail e.at (map (λ f. f.at) entries) rising) in
     record {
       front = e ∷ rest.front;
       later = rest.later;
@@ -408,7 +405,7 @@ module _ (table : Table) (valid : IsValidTable table) (x y : List ℕ) (at remov
 
         rising_rest : (left rest : List Entry) → IsRising (map (λ e. e.at) (left ++ rest)) → IsRising (map (λ e. e.at) rest)
         rising_rest [] rest rising = rising
-        rising_rest (e ∷ left) rest rising = rising_rest left rest (rises_tail e.at (map (λ f. f.at) (left ++ rest)) rising)
+        rising_rest (e ∷ left) rest rising = rising_rest left rest (rising_tail e.at (map (λ f. f.at) (left ++ rest)) rising)
 
         left_at : run.anchor ≡ 0 → (left rest : List Entry) → run.entries ≡ left ++ rest → AllByRecursion (λ e. e.reach ≤ at) left →
             AllByRecursion (λ e. e.at < 1) left

@@ -13,7 +13,7 @@ use Rattle.rbbi_model.specs.Runs.{Entry, Run, IsAnchor, low, boundary_of, farthe
 use Rattle.rbbi_cache.specs.Kept.{HasLeastReaches, EndFormerRun}
 use Rattle.rbbi_cache.specs.Shown.{IsShownAfter}
 use Rattle.rbbi_cache.specs.Scans.{Reached, Scan, IsScan}
-use Rattle.rbbi_cache.proofs.Lists.{all_join, all_right, all_through, all_unmap}
+use Rattle.rbbi_cache.proofs.Lists.{all_drop, all_join, all_right, all_through, all_unmap}
 use Rattle.rbbi_cache.proofs.Reached.{first_member, reached_start, farthest_start, done_before, rises_after, rising_right}
 use Rattle.rbbi_cache.proofs.RunFacts as facts
 use Rattle.rbbi_model.specs.Lists.{IsRising}
@@ -124,9 +124,6 @@ module _ (table : Table) (valid : IsValidTable table) (x : List ℕ) (p i : ℕ)
 ends_up_to : (e : Entry) (entries : List Entry) (i : ℕ) → AllByRecursion (λ f. f.at ≤ i) (e ∷ entries) → EndsUpTo (e ∷ entries) i
 ends_up_to e [] i each = each.0
 ends_up_to e (f ∷ entries) i each = ends_up_to f entries i each.1
-
-all_drop : {X : Type 0} (P : X → Type 0) (n : ℕ) (xs : List X) → AllByRecursion P xs → AllByRecursion P (drop n xs)
-all_drop P n xs each = all_right P (take n xs) (drop n xs) (subst (λ l. AllByRecursion P l) (sym (take-append-drop n xs)) each)
 
 rises_right : (left rest : List Entry) → ReachesRise (left ++ rest) → ReachesRise rest
 rises_right [] rest rise = rise
