@@ -10,6 +10,7 @@ use Rattle.rbbi_model.specs.Marks.{Marks, marks_of}
 use Rattle.rbbi_dfa.specs.Automata.{IsDetermined, LeadsToMarks, with_ranges}
 use Rattle.rbbi_dfa.specs.Partitions.{IsPartition, IsToldApart}
 use Rattle.rbbi_dfa.specs.Ranks.{AreRanked}
+use Rattle.rbbi_model.proofs.SearchFacts.{row_along_append}
 use Rattle.rbbi_positions.proofs.Splits.{all-append}
 use Rattle.rbbi_dfa.proofs.Merged.{IsBefore-irreflexive}
 
@@ -43,11 +44,6 @@ alike_rank lists sorted places i j h hi hj e =
 pub marks_by_parts : (this that : Marks) → this.accept ≡ that.accept → this.fronts ≡ that.fronts → this.statuses ≡ that.statuses → this ≡ that
 marks_by_parts this that a f s = λ i. record { accept = a i; fronts = f i; statuses = s i }
 
-pub row_along-append : (automaton : Table) (row : ℕ) (these those : List ℕ) → row_along automaton row (these ++ those) ≡ row_along automaton
-    (row_along automaton row these) those
-row_along-append automaton row [] those = refl
-row_along-append automaton row (category ∷ these) those = row_along-append automaton (step automaton row category) these those
-
 pub row_along-ranges : (table : Table) (ranges : List CategoryRange) (row : ℕ) (way : List ℕ) →
     row_along (with_ranges table ranges) row way ≡ row_along table row way
 row_along-ranges table ranges row [] = refl
@@ -72,7 +68,7 @@ module _
           there.0 ++ on.0,
           all-append (λ category. category < table.categories) there.0 on.0 there.1 on.1,
           λ e. on.2 (ap (λ row. marks_of table (row_along table row on.0)) (sym there.2)
-              ∙ ap (λ row. marks_of table row) (sym (row_along-append table 1 there.0 on.0)) ∙ e),
+              ∙ ap (λ row. marks_of table row) (sym (row_along_append table 1 there.0 on.0)) ∙ e),
         )
     alive many (suc (suc row)) some h = lead (suc (suc row)) (omega arith) h
 

@@ -29,7 +29,7 @@ use Rattle.rbbi_dfa.specs.Determinizing.{ComesBy, IsDeterminized}
 use Rattle.rbbi_dfa.proofs.Grouping.{stop_along}
 use Rattle.rbbi_dfa.proofs.Reading.{ReadBy, front_read}
 use Rattle.rbbi_dfa.proofs.WalkReading.{reads_up_to, same_rule, lawful_rule}
-use Rattle.rbbi_dfa.proofs.Words.{laws, IsSetOf, mark_completed, Ended, Unread, IsRowOf, Stop, Set, row_of_word}
+use Rattle.rbbi_dfa.proofs.Words.{IsSetOf, mark_completed, Ended, Unread, IsRowOf, Stop, Set, row_of_word}
 use Rattle.rbbi_dfa.proofs.WordMarks.{front_mark}
 use Rattle.rbbi_dfa.proofs.Determined.{set_word, each_row}
 use Rattle.rbbi_dfa.proofs.LawfulLeaves.{each_rule_leaf}
@@ -234,7 +234,7 @@ module _ (rules : List Rule) (lawful : AreLawful rules) where
             IsTrue (has_bit (fronts_of automaton row) k)
         at_row v _ {number} numbered front quiet (Stop row at (Ended ended)) = absurd (quiet ended.e ended.number (omega (arith, ended.before)) ended.ends)
         at_row v _ {number} numbered front quiet (Stop row at (Unread before none)) =
-            let read = front_read rules (laws rules lawful ranges rows of) v number front in
+            let read = front_read rules lawful.each v number front in
             absurd (none read.0 read.1)
         at_row v _ {number} numbered front quiet (Set row j at short' set') =
             let small : accept_of automaton (j + 2) < 2 =

@@ -1,6 +1,6 @@
-pub mod Reading
 pub mod Spellings
 pub mod WalkReading
+pub mod Reading
 pub mod Words
 pub mod WordMarks
 pub mod Bits

@@ -16,7 +16,6 @@ use Rattle.rbbi_positions.proofs.Nodes.{some_spelled}
 use Rattle.rbbi_positions.proofs.WalkLaws.{exchange, exchange_front}
 use Rattle.rbbi_dfa.proofs.Spellings.{StandsAt, zip_append, zip_parts, sets_many, stands_left, stands_right, rule_stands, spelled_to, spelled_from}
 use Rattle.rbbi_dfa.specs.PositionAutomata.{FirstOf, LastOf, FrontLastOf, FollowsIn}
-use Rattle.rbbi_dfa.proofs.Reading.{ReadingLaws}
 
 -- lists by their last member
 
@@ -157,11 +156,11 @@ module _ (rules : List Rule) (front : Tree) (first : ℕ) where
       (more.0, (positions, more.0, spelled, more.1, refl))
 
 module _ (rules : List Rule) (lawful : AllByRecursion IsLawfulRule rules) where
-  starts : (number p c : ℕ) (rule : Rule) → IsRule rules number rule → FirstOf rules number p → Reads rules p c → ReadsLast rules number rule (c ∷ []) p
+  pub starts : (number p c : ℕ) (rule : Rule) → IsRule rules number rule → FirstOf rules number p → Reads rules p c → ReadsLast rules number rule (c ∷ []) p
   starts number p c rule is_rule first reads =
       reads_last rules number p rule (c ∷ []) is_rule (record { before = []; after = first.0; spelled = first.1; reads = (reads, tt) })
 
-  extends : (number other q p c : ℕ) (rule : Rule) (v : List ℕ) → IsRule rules number rule → ReadsLast rules number rule v q → FollowsIn rules other q p →
+  pub extends : (number other q p c : ℕ) (rule : Rule) (v : List ℕ) → IsRule rules number rule → ReadsLast rules number rule v q → FollowsIn rules other q p →
       Reads rules p c → ReadsLast rules number rule (v ++ c ∷ []) p
   extends number other q p c rule v is_rule reads follows reads' =
       let up = reads_up_to rules number q rule v is_rule reads in
@@ -178,12 +177,12 @@ module _ (rules : List Rule) (lawful : AllByRecursion IsLawfulRule rules) where
   none_before (b ∷ []) p c z = absurd z.1
   none_before (b ∷ d ∷ before) p c z = absurd z.1
 
-  firsts : (number p c : ℕ) (rule : Rule) → IsRule rules number rule → ReadsLast rules number rule (c ∷ []) p → FirstOf rules number p
+  pub firsts : (number p c : ℕ) (rule : Rule) → IsRule rules number rule → ReadsLast rules number rule (c ∷ []) p → FirstOf rules number p
   firsts number p c rule is_rule reads =
       let up = reads_up_to rules number p rule (c ∷ []) is_rule reads in
       (up.after, subst (λ l. IsSpelled rules number (l ++ p ∷ up.after)) (none_before up.before p c up.reads) up.spelled)
 
-  shrinks : (number p c : ℕ) (rule : Rule) (v : List ℕ) → IsRule rules number rule → v ≢ [] → ReadsLast rules number rule (v ++ c ∷ []) p →
+  pub shrinks : (number p c : ℕ) (rule : Rule) (v : List ℕ) → IsRule rules number rule → v ≢ [] → ReadsLast rules number rule (v ++ c ∷ []) p →
       (q : ℕ) × ReadsLast rules number rule v q × FollowsIn rules number q p
   shrinks number p c rule v is_rule some reads =
       let up = reads_up_to rules number p rule (v ++ c ∷ []) is_rule reads in
@@ -205,12 +204,12 @@ module _ (rules : List Rule) (lawful : AllByRecursion IsLawfulRule rules) where
         (last.front, up.after, spelled),
       )
 
-  reads_code : (number p c : ℕ) (rule : Rule) (v : List ℕ) → IsRule rules number rule → ReadsLast rules number rule (v ++ c ∷ []) p → Reads rules p c
+  pub reads_code : (number p c : ℕ) (rule : Rule) (v : List ℕ) → IsRule rules number rule → ReadsLast rules number rule (v ++ c ∷ []) p → Reads rules p c
   reads_code number p c rule v is_rule reads =
       let up = reads_up_to rules number p rule (v ++ c ∷ []) is_rule reads in
       (zip_push (Reads rules) up.before v p c up.reads).1
 
-  words : (number : ℕ) (rule : Rule) (v : List ℕ) → IsRule rules number rule → IsWordOf rule v → (p : ℕ) × ReadsLast rules number rule v p ×
+  pub words : (number : ℕ) (rule : Rule) (v : List ℕ) → IsRule rules number rule → IsWordOf rule v → (p : ℕ) × ReadsLast rules number rule v p ×
       LastOf rules number p
   words number rule v is_rule word =
       let one = word_to rules rule.front (first_position rules number) rule.rest (rule_stands rules number rule is_rule) v word.1 in
@@ -229,7 +228,7 @@ module _ (rules : List Rule) (lawful : AllByRecursion IsLawfulRule rules) where
         (last.front, spelled),
       )
 
-  wholes : (number other p : ℕ) (rule : Rule) (v : List ℕ) → IsRule rules number rule → ReadsLast rules number rule v p → LastOf rules other p →
+  pub wholes : (number other p : ℕ) (rule : Rule) (v : List ℕ) → IsRule rules number rule → ReadsLast rules number rule v p → LastOf rules other p →
       (number ≡ other) × IsWordOf rule v
   wholes number other p rule v is_rule reads last =
       let up = reads_up_to rules number p rule v is_rule reads in
@@ -239,7 +238,7 @@ module _ (rules : List Rule) (lawful : AllByRecursion IsLawfulRule rules) where
       let stands = rule_stands rules number rule is_rule in
       (new.0, (reads.some, word_from rules rule.front (first_position rules number) rule.rest stands (up.before ++ p ∷ []) v spelled up.reads))
 
-  front_words : (number : ℕ) (rule : Rule) (v : List ℕ) → IsRule rules number rule → IsFrontWordOf rule v → (p : ℕ) × ReadsLast rules number rule v p ×
+  pub front_words : (number : ℕ) (rule : Rule) (v : List ℕ) → IsRule rules number rule → IsFrontWordOf rule v → (p : ℕ) × ReadsLast rules number rule v p ×
       FrontLastOf rules number p
   front_words number rule v is_rule word =
       let first : ℕ = first_position rules number in
@@ -268,7 +267,7 @@ module _ (rules : List Rule) (lawful : AllByRecursion IsLawfulRule rules) where
         record { rule = rule; is_rule = is_rule; looks_ahead = word.0; others = last.front; spelled = spelled },
       )
 
-  front_wholes : (number other p : ℕ) (rule : Rule) (v : List ℕ) → IsRule rules number rule → ReadsLast rules number rule v p → FrontLastOf rules other p →
+  pub front_wholes : (number other p : ℕ) (rule : Rule) (v : List ℕ) → IsRule rules number rule → ReadsLast rules number rule v p → FrontLastOf rules other p →
       (number ≡ other) × IsFrontWordOf rule v
   front_wholes number other p rule v is_rule reads last =
       let first : ℕ = first_position rules number in
@@ -283,16 +282,3 @@ module _ (rules : List Rule) (lawful : AllByRecursion IsLawfulRule rules) where
       last.looks_ahead in
       let stands = stands_left (all_sets rules) first (sets_of rule.front) (option_map_or sets_of rule.rest []) (rule_stands rules number rule is_rule) in
       (same, (looks, reads.some, spelled_from (all_sets rules) rule.front first stands (up.before ++ p ∷ []) v spelled up.reads))
-
-  pub reading_laws : ReadingLaws rules
-  reading_laws = record {
-    start = starts;
-    extend = extends;
-    first = firsts;
-    shrink = shrinks;
-    reads = reads_code;
-    word = words;
-    whole = wholes;
-    front_word = front_words;
-    front_whole = front_wholes;
-  }

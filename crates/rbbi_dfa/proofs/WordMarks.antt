@@ -16,24 +16,24 @@ use Rattle.rbbi_model.proofs.LookAheadNumbers.{counts}
 use Rattle.rbbi_positions.proofs.BitRows.{no_bit}
 use Rattle.rbbi_dfa.proofs.Grouping.{row_along-ranges}
 use Rattle.rbbi_dfa.proofs.Reading.{ReadBy, read_ends, ends_read, front_read, read_front}
-use Rattle.rbbi_dfa.proofs.Words.{laws, IsSetOf, mark_completed, completed_mark, Ended, Unread, IsRowOf, Stop, Set, row_of_word}
+use Rattle.rbbi_dfa.proofs.Words.{IsSetOf, mark_completed, completed_mark, Ended, Unread, IsRowOf, Stop, Set, row_of_word}
 
 module _ (rules : List Rule) (lawful : AreLawful rules) (ranges : List CategoryRange) (rows : PositionRows) (of : IsOfRules rules ranges rows) where
   module _ (w set : List ℕ) (is : IsSetOf rules lawful ranges rows of w set) where
     tag_mark : (tag : ℕ) → IsTagAt rules w 0 (length w) tag → HasMark set (Marked rows.tags) tag
     tag_mark tag at =
-        let read = ends_read rules (laws rules lawful ranges rows of) w at.number at.ends in
+        let read = ends_read rules lawful.each w at.number at.ends in
         (read.0, (is.holds read.0).1 read.1, (of.tags read.0 tag).1 (at.number, read.2, record { rule = at.rule; is_rule = at.is_rule; tagged = at.tagged }))
 
     mark_tag : (tag : ℕ) → HasMark set (Marked rows.tags) tag → IsTagAt rules w 0 (length w) tag
     mark_tag tag has =
         let last = (of.tags has.0 tag).0 has.2 in
-        let ends = read_ends rules (laws rules lawful ranges rows of) w last.0 has.0 ((is.holds has.0).0 has.1) last.1 in
+        let ends = read_ends rules lawful.each w last.0 has.0 ((is.holds has.0).0 has.1) last.1 in
         record { number = last.0; rule = last.2.rule; is_rule = last.2.is_rule; ends = ends; tagged = last.2.tagged }
 
     pub front_mark : (mark : ℕ) → HasFront rules w mark → HasMark set (Marked rows.fronts) mark
     front_mark mark front =
-        let read = front_read rules (laws rules lawful ranges rows of) w front.number front.front in
+        let read = front_read rules lawful.each w front.number front.front in
         (read.0, (is.holds read.0).1 read.1, (of.fronts read.0 mark).1 (front.number, read.2, front.numbered))
 
     mark_front : (mark : ℕ) → HasMark set (Marked rows.fronts) mark → HasFront rules w mark
@@ -43,7 +43,7 @@ module _ (rules : List Rule) (lawful : AreLawful rules) (ranges : List CategoryR
           number = last.0;
           numbered = last.2;
           front =
-              read_front rules (laws rules lawful ranges rows of) w last.0 has.0 ((is.holds has.0).0 has.1) last.1;
+              read_front rules lawful.each w last.0 has.0 ((is.holds has.0).0 has.1) last.1;
         }
 
     module _ (marks : Marks) (are : AreMarksOf rows set marks) where
@@ -65,7 +65,7 @@ module _ (rules : List Rule) (lawful : AreLawful rules) (ranges : List CategoryR
       ended_accept one =
           let last = are.accept.is_ended one in
           let of_rule = (of.last last.0).0 last.2 in
-          let ends = read_ends rules (laws rules lawful ranges rows of) w of_rule.0 last.0 ((is.holds last.0).0 last.1) of_rule.1 in
+          let ends = read_ends rules lawful.each w of_rule.0 last.0 ((is.holds last.0).0 last.1) of_rule.1 in
           record {
             number = of_rule.0;
             ends = ends;
@@ -79,7 +79,7 @@ module _ (rules : List Rule) (lawful : AreLawful rules) (ranges : List CategoryR
       unended_accept none =
           record {
             no_end = λ number ends.
-                let read = ends_read rules (laws rules lawful ranges rows of) w number ends in
+                let read = ends_read rules lawful.each w number ends in
                 omega (arith, none, are.accept.ended read.0 ((is.holds read.0).1 read.1) ((of.last read.0).1 (number, read.2)));
             is_zero = none;
           }
@@ -105,12 +105,12 @@ module _ (rules : List Rule) (lawful : AreLawful rules) (ranges : List CategoryR
   unread_marks : (w : List ℕ) → ((p : ℕ) → ¬ ReadBy rules w p) → AreMarksAtEnd rules w no_marks
   unread_marks w none =
       let no_end : (number : ℕ) → EndsAt rules w 0 (length w) number → ⊥ =
-      λ number ends. let read = ends_read rules (laws rules lawful ranges rows of) w number ends in none read.0 read.1 in
+      λ number ends. let read = ends_read rules lawful.each w number ends in none read.0 read.1 in
       record {
         accept = inr (inr (record { no_end = no_end; is_zero = refl }));
         fronts = λ small k. (
           λ bit. absurd (false≢true (sym (no_bit k) ∙ bit)),
-          λ front. let read = front_read rules (laws rules lawful ranges rows of) w front.number front.front in absurd (none read.0 read.1),
+          λ front. let read = front_read rules lawful.each w front.number front.front in absurd (none read.0 read.1),
         );
         no_fronts = λ many. absurd (omega (arith, many));
         statuses = record {

@@ -9,8 +9,9 @@ use Rattle.rbbi_model.specs.Marks.{Marks, no_marks, AreMarks, AreMarksOrNone, ma
 use Rattle.rbbi_model.specs.Compiled.{AreToldApart, LeadsSomewhere, Needs}
 use Rattle.rbbi_dfa.specs.Partitions.{IsToldApart}
 use Rattle.rbbi_dfa.specs.Categories.{AreWithin}
+use Rattle.rbbi_model.proofs.SearchFacts.{row_along_append}
 use Rattle.rbbi_positions.proofs.Splits.{all-append}
-use Rattle.rbbi_dfa.proofs.Grouping.{row_along-append, stop_along}
+use Rattle.rbbi_dfa.proofs.Grouping.{stop_along}
 use Rattle.rbbi_dfa.proofs.Lists.{all_by_index, picked}
 
 pub word_IsWay : (table : Table) (ranges : List CategoryRange) → AreWithin table.categories ranges → (w : List ℕ) → IsWay table (map (category_of ranges) w)
@@ -49,7 +50,7 @@ module _ (rules : List Rule) (table : Table) (ranges : List CategoryRange) (has 
   row_of-append : (these those : List ℕ) → row_of table ranges (these ++ those) ≡ row_along table (row_of table ranges these) (map (category_of ranges) those)
   row_of-append these those =
       ap (λ way. row_along table 1 way) (map-append (category_of ranges) these those)
-      ∙ row_along-append table 1 (map (category_of ranges) these) (map (category_of ranges) those)
+      ∙ row_along_append table 1 (map (category_of ranges) these) (map (category_of ranges) those)
 
   pub row_of-within : (w : List ℕ) → row_of table ranges w < length table.rows
   row_of-within w = along_within table has.next 1 (map (category_of ranges) w) (omega (arith, has.some)) (word_IsWay table ranges has.within w)

@@ -16,8 +16,7 @@ use Rattle.rbbi_dfa.specs.PositionAutomata.{IsOfRules}
 use Rattle.rbbi_dfa.specs.PositionAutomata.{Marked, LookAhead}
 use Rattle.rbbi_dfa.specs.Determinizing.{HasMark, ComesBy, IsStep, AreFollowers, Completes, IsReached, FromFirst, FromSet, IsSome, IsCell, IsDeterminized}
 use Rattle.rbbi_positions.proofs.Splits.{all-append}
-use Rattle.rbbi_dfa.proofs.Reading.{ReadBy, ReadingLaws, Comes, reads_next, next_reads, read_ends, ends_read, ends_longer, ends_shorter, some_push}
-use Rattle.rbbi_dfa.proofs.WalkReading.{reading_laws}
+use Rattle.rbbi_dfa.proofs.Reading.{ReadBy, Comes, reads_next, next_reads, read_ends, ends_read, ends_longer, ends_shorter, some_push}
 use Rattle.rbbi_model.proofs.RulesCover.{ends_lie}
 
 module _ (rules : List Rule) where
@@ -68,12 +67,9 @@ nothing_reads rules p =
     ⊎_elim (λ begun. begun.reads.some refl) (λ chained. let lies = ends_lie rules [] 0 chained.m chained.before chained.ends in omega (arith, lies.0, lies.1))
 
 module _ (rules : List Rule) (lawful : AreLawful rules) (ranges : List CategoryRange) (rows : PositionRows) (of : IsOfRules rules ranges rows) where
-  pub laws : ReadingLaws rules
-  laws = reading_laws rules lawful.each
-
   -- the position can come next after the word
   abbrev pub IsNext : List ℕ → ℕ → Type 0
-  IsNext w p = Comes rules laws w p
+  IsNext w p = Comes rules lawful.each w p
 
   -- the set has the positions that can read the last code point of the word, before which no look-ahead rule ended
   pub record IsSetOf (w set : List ℕ) : Type 0 where
@@ -107,7 +103,7 @@ module _ (rules : List Rule) (lawful : AreLawful rules) (ranges : List CategoryR
   comes_reads : (w candidates : List ℕ) (c p : ℕ) → AreCandidates w candidates → IsCodePoint c → ComesBy rows candidates (category_of ranges c) p →
       ReadBy rules (w ++ c ∷ []) p
   comes_reads w candidates c p are code comes =
-      next_reads rules laws w c p (
+      next_reads rules lawful.each w c p (
         (of.reads p c code).0 comes.0,
         ⊎_elim
             (λ candidate. inl ((are p).0 candidate))
@@ -133,7 +129,7 @@ module _ (rules : List Rule) (lawful : AreLawful rules) (ranges : List CategoryR
   reads_comes : (w candidates : List ℕ) (c p : ℕ) → AreCandidates w candidates → IsCodePoint c → ReadBy rules (w ++ c ∷ []) p →
       ComesBy rows candidates (category_of ranges c) p
   reads_comes w candidates c p are code read =
-      let next = reads_next rules laws w c p read in (
+      let next = reads_next rules lawful.each w c p read in (
         (of.reads p c code).1 next.0,
         ⊎_elim
             (λ comes. inl ((are p).1 comes))
@@ -156,13 +152,13 @@ module _ (rules : List Rule) (lawful : AreLawful rules) (ranges : List CategoryR
       (number : ℕ) × LookAheadEndsAt rules w 0 (length w) number × (look_ahead_number rules number ≡ mark)
   mark_completed w set is mark has =
       let last = (of.completed has.0 mark).0 has.2 in
-      let ends = read_ends rules laws w last.0 has.0 ((is.holds has.0).0 has.1) last.2 in
+      let ends = read_ends rules lawful.each w last.0 has.0 ((is.holds has.0).0 has.1) last.2 in
       (last.0, record { rule = last.1.rule; is_rule = last.1.is_rule; looks_ahead = last.1.looks_ahead; ends = ends }, last.3)
 
   pub completed_mark : (w set : List ℕ) → IsSetOf w set → (number : ℕ) → LookAheadEndsAt rules w 0 (length w) number →
       HasMark set (Marked rows.completed) (look_ahead_number rules number)
   completed_mark w set is number ends =
-      let read = ends_read rules laws w number ends.ends in
+      let read = ends_read rules lawful.each w number ends.ends in
       let looks : LookAhead rules number = record { rule = ends.rule; is_rule = ends.is_rule; looks_ahead = ends.looks_ahead } in
       (read.0, (is.holds read.0).1 read.1, (of.completed read.0 (look_ahead_number rules number)).1 (number, looks, read.2, refl))
 
@@ -177,7 +173,7 @@ module _ (rules : List Rule) (lawful : AreLawful rules) (ranges : List CategoryR
 
   pub none_ends : (w : List ℕ) (number : ℕ) → ((p : ℕ) → ¬ ReadBy rules w p) → ¬ LookAheadEndsAt rules w 0 (length w) number
   none_ends w number none = λ ends.
-      let read = ends_read rules laws w number ends.ends in
+      let read = ends_read rules lawful.each w number ends.ends in
       none read.0 read.1
 
   -- nothing ends before the word that is one code point long
@@ -215,7 +211,7 @@ module _ (rules : List Rule) (lawful : AreLawful rules) (ranges : List CategoryR
       where
         reads_before : (p : ℕ) → ReadBy rules (w ++ c ∷ []) p → (q : ℕ) × ReadBy rules w q
         reads_before p read =
-            let next = reads_next rules laws w c p read in
+            let next = reads_next rules lawful.each w c p read in
             let from : (r : ℕ) → IsNext w r → (q : ℕ) × ReadBy rules w q = λ r. ⊎_elim (λ first. absurd (some first.none)) (λ after. (after.q, after.read)) in
             ⊎_elim (λ comes. from p comes) (λ chained. from chained.ends.q chained.ends.comes) next.1
 
