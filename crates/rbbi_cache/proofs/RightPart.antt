@@ -20,6 +20,7 @@ use Rattle.rbbi_model.proofs.Categories.{category_within}
 use Rattle.rbbi_cache.specs.Edits.{IsEdited, begins_pair, moved_entry, moved_run, run_behind, goes_whole, IsRightPart, Whole, Behind, Nothing}
 use Rattle.rbbi_cache.proofs.Lists.{all_join, all_left, all_right, all_through, filter_all, filter_none, filter_same, everywhere}
 use Rattle.rbbi_cache.proofs.Reached.{done_before, rises_after, rising_right}
+use Rattle.rbbi_cache.proofs.RunFacts.{rises_past, reaches_right}
 use Rattle.rbbi_cache.proofs.RunFacts as facts
 use Rattle.rbbi_cache.proofs.LeftPart.{are_first}
 use Rattle.rbbi_cache.proofs.Texts.{length_is}
@@ -34,11 +35,6 @@ pub record AreLater (k : ℕ) (entries : List Entry) : Type 0 where
   pub kept : filter (λ e. leb k e.at) entries ≡ later
   pub earlier : AllByRecursion (λ e. e.at < k) front
   pub each : AllByRecursion (λ e. k ≤ e.at) later
-
-rises_past : (e : Entry) (entries : List Entry) → IsRising (map (λ f. f.at) (e ∷ entries)) → AllByRecursion (λ f. e.at < f.at) entries
-rises_past e [] rising = tt
-rises_past e (f ∷ entries) rising =
-    (rising.0, all_through (λ g. f.at < g.at) (λ g. e.at < g.at) (λ g less. omega (arith, less, rising.0)) entries (rises_past f entries rising.1))
 
 pub are_later : (k : ℕ) (entries : List Entry) → IsRising (map (λ e. e.at) entries) → AreLater k entries
 are_later k [] rising = record { front = []; later = []; whole = refl; kept = refl; earlier = tt; each = tt }
@@ -121,18 +117,12 @@ module _ (table : Table) (valid : IsValidTable table) (x : List ℕ) (run : Run)
         places = own (λ e. (run.anchor ≡ 0) ⊎ (run.anchor + 2 ≤ e.at)) is_true.places;
         reach_enough = own (λ e. farthest_look table x run.anchor e.at ≤ e.reach) is_true.reach_enough;
         reach_within = own (λ e. e.reach ≤ length x + 1) is_true.reach_within;
-        reaches_rise = suffix_rises front (first ∷ more) (subst ReachesRise whole is_true.reaches_rise);
+        reaches_rise = reaches_right front (first ∷ more) (subst ReachesRise whole is_true.reaches_rise);
         leads = λ is. absurd (false_leads is);
       }
     where
       false_leads : IsTrue false → ⊥
       false_leads is = cc
-
-      suffix_rises : (left rest : List Entry) → ReachesRise (left ++ rest) → ReachesRise rest
-      suffix_rises [] rest rise = rise
-      suffix_rises (e ∷ []) [] rise = tt
-      suffix_rises (e ∷ []) (f ∷ rest) rise = rise.1
-      suffix_rises (e ∷ f ∷ left) rest rise = suffix_rises (f ∷ left) rest rise.1
 
   -- Where the run leads and what is left out lies before a place, no member from that place on lies before the entries that are left.
   pub leads_on : (k : ℕ) (front : List Entry) (first : Entry) (more : List Entry) → run.entries ≡ front ++ first ∷ more → low run.anchor ≤ k →
