@@ -17,28 +17,20 @@ one_or a b one low low' = ⊎_elim (λ is. inl is) (λ other. inr (omega (arith,
 pub holds_or : (row these those : List ℕ) → ((k : ℕ) → get_or row k 0 ≡ bit_or (get_or these k 0) (get_or those k 0)) →
     (p : ℕ) → Holds row p ↔ (Holds these p ⊎ Holds those p)
 holds_or row these those each p =
-    let a : ℕ = bit_at (get_or these (p / 64) 0) (p % 64) in
-    let b : ℕ = bit_at (get_or those (p / 64) 0) (p % 64) in
-    let low : a < 2 = bit_at-lt (get_or these (p / 64) 0) (p % 64) in
-    let low' : b < 2 = bit_at-lt (get_or those (p / 64) 0) (p % 64) in
-    let same : bit_at (get_or row (p / 64) 0) (p % 64) ≡ max a b = ap (λ n. bit_at n (p % 64)) (each (p / 64))
-    ∙ bit_at_or (get_or these (p / 64) 0) (get_or those (p / 64) 0) (p % 64) in (
-      λ holds. one_or a b (sym same ∙ holds) low low',
-      ⊎_elim (λ one. same ∙ (let m : max a b ≡ 1 = omega (arith, one, low') in m)) (λ one. same ∙ (let m : max a b ≡ 1 = omega (arith, one, low) in m)),
+    let low = bit_at-lt (get_or these (p / 64) 0) (p % 64) in
+    let low' = bit_at-lt (get_or those (p / 64) 0) (p % 64) in
+    let same = ap (λ n. bit_at n (p % 64)) (each (p / 64)) ∙ bit_at_or (get_or these (p / 64) 0) (get_or those (p / 64) 0) (p % 64) in (
+      λ holds. one_or (bit_at (get_or these (p / 64) 0) (p % 64)) (bit_at (get_or those (p / 64) 0) (p % 64)) (sym same ∙ holds) low low',
+      ⊎_elim (λ one. omega (arith, same, one, low')) (λ one. omega (arith, same, one, low)),
     )
 
 pub holds_and : (row these those : List ℕ) → ((k : ℕ) → get_or row k 0 ≡ bit_and (get_or these k 0) (get_or those k 0)) →
     (p : ℕ) → Holds row p ↔ (Holds these p × Holds those p)
 holds_and row these those each p =
-    let a : ℕ = bit_at (get_or these (p / 64) 0) (p % 64) in
-    let b : ℕ = bit_at (get_or those (p / 64) 0) (p % 64) in
-    let low : a < 2 = bit_at-lt (get_or these (p / 64) 0) (p % 64) in
-    let low' : b < 2 = bit_at-lt (get_or those (p / 64) 0) (p % 64) in
-    let same : bit_at (get_or row (p / 64) 0) (p % 64) ≡ min a b = ap (λ n. bit_at n (p % 64)) (each (p / 64))
-    ∙ bit_at_and (get_or these (p / 64) 0) (get_or those (p / 64) 0) (p % 64) in (
-      λ holds. let one : min a b ≡ 1 = sym same ∙ holds in (omega (arith, one, low, low'), omega (arith, one, low, low')),
-      λ both. same ∙ (let m : min a b ≡ 1 = omega (arith, both.0, both.1) in m),
-    )
+    let low = bit_at-lt (get_or these (p / 64) 0) (p % 64) in
+    let low' = bit_at-lt (get_or those (p / 64) 0) (p % 64) in
+    let same = ap (λ n. bit_at n (p % 64)) (each (p / 64)) ∙ bit_at_and (get_or these (p / 64) 0) (get_or those (p / 64) 0) (p % 64) in
+    (λ holds. (omega (arith, same, holds, low, low'), omega (arith, same, holds, low, low')), λ both. omega (arith, same, both.0, both.1))
 
 pub holds_or_and : (row old these those : List ℕ) → ((k : ℕ) → get_or row k 0 ≡ bit_or (get_or old k 0) (bit_and (get_or these k 0) (get_or those k 0))) →
     (p : ℕ) → Holds row p ↔ (Holds old p ⊎ (Holds these p × Holds those p))
@@ -46,17 +38,15 @@ holds_or_and row old these those each p =
     let a : ℕ = bit_at (get_or these (p / 64) 0) (p % 64) in
     let b : ℕ = bit_at (get_or those (p / 64) 0) (p % 64) in
     let d : ℕ = bit_at (get_or old (p / 64) 0) (p % 64) in
-    let low : a < 2 = bit_at-lt (get_or these (p / 64) 0) (p % 64) in
-    let low' : b < 2 = bit_at-lt (get_or those (p / 64) 0) (p % 64) in
-    let low'' : d < 2 = bit_at-lt (get_or old (p / 64) 0) (p % 64) in
+    let low = bit_at-lt (get_or these (p / 64) 0) (p % 64) in
+    let low' = bit_at-lt (get_or those (p / 64) 0) (p % 64) in
+    let low'' = bit_at-lt (get_or old (p / 64) 0) (p % 64) in
     let same : bit_at (get_or row (p / 64) 0) (p % 64) ≡ max d (min a b) =
     ap (λ n. bit_at n (p % 64)) (each (p / 64)) ∙ bit_at_or (get_or old (p / 64) 0) (bit_and (get_or these (p / 64) 0) (get_or those (p / 64) 0)) (p % 64)
-    ∙ ap (λ n. max d n) (bit_at_and (get_or these (p / 64) 0) (get_or those (p / 64) 0) (p % 64)) in
-    let small : min a b < 2 = omega (arith, low) in (
+    ∙ ap (λ n. max d n) (bit_at_and (get_or these (p / 64) 0) (get_or those (p / 64) 0) (p % 64)) in (
       λ holds. ⊎_elim (λ one. inl one) (λ one. inr (omega (arith, one, low, low'), omega (arith, one, low, low')))
-          (one_or d (min a b) (sym same ∙ holds) low'' small),
-      ⊎_elim (λ one. same ∙ (let m : max d (min a b) ≡ 1 = omega (arith, one, small) in m))
-          (λ both. same ∙ (let m : max d (min a b) ≡ 1 = omega (arith, both.0, both.1, low'') in m)),
+          (one_or d (min a b) (sym same ∙ holds) low'' (omega (arith, low))),
+      ⊎_elim (λ one. omega (arith, same, one, low)) (λ both. omega (arith, same, both.0, both.1, low'')),
     )
 
 -- a number that isn't 0 has a bit
