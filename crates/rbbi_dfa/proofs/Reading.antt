@@ -211,8 +211,8 @@ module _ (rules : List Rule) (lawful : AllByRecursion IsLawfulRule rules) where
       }))
       (λ chained.
       let lies = ends_lie rules w 0 chained.m chained.before chained.ends in
-      let reads' = extends rules lawful chained.number after.number after.q p c chained.rule (slice_range w (chained.m - 1) (length w)) chained.is_rule chained.reads
-      after.follows reads in
+      let reads' = extends rules lawful chained.number after.number after.q p c chained.rule (slice_range w (chained.m - 1) (length w)) chained.is_rule
+      chained.reads after.follows reads in
       inr (record {
         m = chained.m;
         before = chained.before;
@@ -308,7 +308,8 @@ module _ (rules : List Rule) (lawful : AllByRecursion IsLawfulRule rules) where
       }))
       (λ chained.
       let lies = ends_lie rules w 0 chained.m chained.before chained.ends in
-      let whole = front_wholes rules lawful chained.number number p chained.rule (slice_range w (chained.m - 1) (length w)) chained.is_rule chained.reads last in
+      let whole = front_wholes rules lawful chained.number number p chained.rule (slice_range w (chained.m - 1) (length w)) chained.is_rule chained.reads
+      last in
       subst (λ n. FrontEndsAt rules w 0 (length w) n) whole.0
       (record {
         rule = chained.rule;

@@ -20,29 +20,17 @@ use Rattle.rbbi_dfa.proofs.Reading.{ReadBy, Comes, reads_next, next_reads, read_
 use Rattle.rbbi_model.proofs.RulesCover.{ends_lie}
 
 module _ (rules : List Rule) where
+  longer : (w : List ℕ) (c e number : ℕ) → LookAheadEndsAt rules w 0 e number → LookAheadEndsAt rules (w ++ c ∷ []) 0 e number
+  longer w c e number ends =
+      record { rule = ends.rule; is_rule = ends.is_rule; looks_ahead = ends.looks_ahead; ends = ends_longer rules w c e number ends.ends }
+
   pub ended_longer : (w : List ℕ) (c : ℕ) → EndedBefore rules w → EndedBefore rules (w ++ c ∷ [])
   ended_longer w c ended =
-      record {
-        e = ended.e;
-        number = ended.number;
-        before = omega (arith, ended.before, length_push w c);
-        ends = record {
-          rule = ended.ends.rule;
-          is_rule = ended.ends.is_rule;
-          looks_ahead = ended.ends.looks_ahead;
-          ends =
-              ends_longer rules w c ended.e ended.number ended.ends.ends;
-        };
-      }
+      let ends = longer w c ended.e ended.number ended.ends in
+      record { e = ended.e; number = ended.number; before = omega (arith, ended.before, length_push w c); ends = ends }
 
   pub ended_now : (w : List ℕ) (c number : ℕ) → LookAheadEndsAt rules w 0 (length w) number → EndedBefore rules (w ++ c ∷ [])
-  ended_now w c number ends =
-      record {
-        e = length w;
-        number = number;
-        before = omega (arith, length_push w c);
-        ends = record { rule = ends.rule; is_rule = ends.is_rule; looks_ahead = ends.looks_ahead; ends = ends_longer rules w c (length w) number ends.ends };
-      }
+  ended_now w c number ends = record { e = length w; number = number; before = omega (arith, length_push w c); ends = longer w c (length w) number ends }
 
   pub not_ended : (w : List ℕ) (c : ℕ) → ¬ EndedBefore rules w → ((number : ℕ) → ¬ LookAheadEndsAt rules w 0 (length w) number) →
       ¬ EndedBefore rules (w ++ c ∷ [])
