@@ -36,6 +36,13 @@ pub record AreLater (k : ℕ) (entries : List Entry) : Type 0 where
   pub earlier : AllByRecursion (λ e. e.at < k) front
   pub each : AllByRecursion (λ e. k ≤ e.at) later
 
+pub same_leb : (a b c d : ℕ) → (a ≤ b → c ≤ d) → (c ≤ d → a ≤ b) → leb a b ≡ leb c d
+same_leb a b c d there back =
+    ⊎_elim
+    (λ over. lt-leb a b over ∙ sym (⊎_elim (λ past. lt-leb c d past) (λ up. absurd (omega (arith, back up, over))) (cases_lt d c)))
+    (λ up. le-leb a b up ∙ sym (le-leb c d (there up)))
+    (cases_lt b a)
+
 pub are_later : (k : ℕ) (entries : List Entry) → IsRising (map (λ e. e.at) entries) → AreLater k entries
 are_later k [] rising = record { front = []; later = []; whole = refl; kept = refl; earlier = tt; each = tt }
 are_later k (e ∷ entries) rising =
@@ -367,7 +374,7 @@ module _ (table : Table) (valid : IsValidTable table) (x y : List ℕ) (at remov
         let same : filter (λ e. keep (m e)) first.rest ≡ filter (λ e. leb 2 e.at) first.rest =
         filter_same (λ e. keep (m e)) (λ e. leb 2 e.at) first.rest
         (λ e. ap (λ b. b || leb (run.anchor + inserted - removed + 2) (m e).at) (ne_eqb (run.anchor + inserted - removed) 0 moves)
-        ∙ same_tests (run.anchor + inserted - removed + 2) (m e).at 2 e.at (omega arith)) in
+        ∙ same_leb (run.anchor + inserted - removed + 2) (m e).at 2 e.at (λ there. omega arith) (λ here. omega arith)) in
         let kept : held ≡ map m later.later = held_is ∙ ap (map m) (same ∙ later.kept) in
         subst (λ l. IsTrueRun table y (record { anchor = run.anchor + inserted - removed; entries = l; leads = run.leads })) (sym kept)
         (zero_true zero 2 (omega arith) (λ n from. omega (arith, low_other (run.anchor + inserted - removed) moves)) (first.left ++ later.front) later.later
@@ -383,16 +390,6 @@ module _ (table : Table) (valid : IsValidTable table) (x y : List ℕ) (at remov
         subst (IsTrueRun table y) (sym is) (other_true other run.entries refl is_true.some))
         (cases_eq run.anchor 0)
       where
-        same_tests : (a b c d : ℕ) → (a ≤ b → c ≤ d) × (c ≤ d → a ≤ b) → leb a b ≡ leb c d
-        same_tests a b c d both =
-            ⊎_elim
-            (λ yes. yes ∙ sym (le-leb c d (both.0 (leb-true a b yes))))
-            (λ no. ⊎_elim
-            (λ yes'. absurd (false≢true (sym no ∙ le-leb a b (both.1 (leb-true c d yes')))))
-            (λ no'. no ∙ sym no')
-            (cases_Bool (leb c d)))
-            (cases_Bool (leb a b))
-
         rising_rest : (left rest : List Entry) → IsRising (map (λ e. e.at) (left ++ rest)) → IsRising (map (λ e. e.at) rest)
         rising_rest [] rest rising = rising
         rising_rest (e ∷ left) rest rising = rising_rest left rest (rising_tail e.at (map (λ f. f.at) (left ++ rest)) rising)
