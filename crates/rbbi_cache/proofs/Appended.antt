@@ -1,10 +1,11 @@
 -- Entries that are moved, one after the other, behind those of a run.
 use Rattle.std.proofs.Common.{◌≡◌, ℕ, zero, suc, ◌+◌, ◌-◌, ◌<◌, ◌≤◌, Bool, eqb, leb, List, [], ◌∷◌, ◌++◌, length, length-append, map, filter, get_or}
-use Rattle.std.proofs.Common.{take, sym, ap, ◌∙◌, ⊎_elim, append_assoc, arith}
+use Rattle.std.proofs.Common.{take, sym, ap, ◌∙◌, append_assoc, arith}
 use Rattle.std.specs.List.{AllByRecursion}
-use Rattle.std.proofs.lemmas.Bool.{cases_Bool, cond-true, cond-false, le-leb, lt-leb, ne_eqb}
+use Rattle.std.proofs.lemmas.Bool.{cond-true, cond-false, le-leb, lt-leb, ne_eqb}
 use Rattle.std.proofs.lemmas.List.{take_more, map-append, length-map, length-take, append-nil}
 use Rattle.std.proofs.lemmas.List.Elements.{filter-append}
+use Rattle.std.proofs.lemmas.List.Sums.{length-filter, count_by-le-length}
 use Rattle.rbbi_model.specs.Runs.{Entry, Run}
 use Rattle.rbbi_cache.specs.Pushed.{pushed}
 use Rattle.rbbi_cache.specs.Edits.{moved_entry}
@@ -16,12 +17,7 @@ all_at P (x ∷ xs) zero d short each = each.0
 all_at P (x ∷ xs) (suc k) d short each = all_at P xs k d (omega arith) each.1
 
 filter_shorter : {X : Type 0} (test : X → Bool) (xs : List X) → length (filter test xs) ≤ length xs
-filter_shorter test [] = omega arith
-filter_shorter test (x ∷ xs) =
-    ⊎_elim
-    (λ holds. omega (arith, filter_shorter test xs, ap length (cond-true (test x) (x ∷ filter test xs) (filter test xs) holds)))
-    (λ fails. omega (arith, filter_shorter test xs, ap length (cond-false (test x) (x ∷ filter test xs) (filter test xs) fails)))
-    (cases_Bool (test x))
+filter_shorter test xs = omega (arith, length-filter test xs, count_by-le-length test xs)
 
 -- an entry that lies behind what was removed, moved
 pub moved_is : (removed inserted : ℕ) (entry : Entry) (at status reach : ℕ) → CanMove removed entry → at ≡ entry.at → status ≡ entry.status →

@@ -3,13 +3,12 @@ use Rattle.std.proofs.Common.{◌≡◌, ℕ, ◌+◌, ◌-◌, ◌<◌, ◌≤�
 use Rattle.std.proofs.Common.{length-drop, map, filter, take, drop, sym, ap, ◌∙◌, subst, inl, inr, arith}
 use Rattle.std.specs.List.{AllByRecursion}
 use Rattle.std.proofs.lemmas.Bool.{cond-true, cond-false, le-leb, lt-ltb, le-ltb, eq-eqb, ne_eqb}
-use Rattle.std.proofs.lemmas.List.{take-append-drop}
 use Rattle.std.proofs.Math.Seq.{take-length}
 use Rattle.rbbi_model.specs.Runs.{Entry, Run}
 use Rattle.rbbi_cache.specs.Shown.{AreUpTo}
 use Rattle.rbbi_cache.specs.Edits.{moved_entry, moved_run, run_behind}
 use Rattle.rbbi_cache.specs.Parts.{CanMove, IsPlaced, IsMovable}
-use Rattle.rbbi_cache.proofs.Lists.{all_right, all_through, everywhere, filter_all, filter_same}
+use Rattle.rbbi_cache.proofs.Lists.{all_drop, all_through, everywhere, filter_all, filter_same}
 use Rattle.rbbi_cache.proofs.Cuts.{keeps_last}
 use Rattle.rbbi_cache.proofs.Appended.{moved_from, with_more}
 
@@ -19,9 +18,6 @@ from_number k xs = take (length xs - k) (drop k xs)
 
 to_end : {X : Type 0} (k : ℕ) (xs : List X) → from_number k xs ≡ drop k xs
 to_end k xs = ap (λ n. take n (drop k xs)) (sym (length-drop k xs)) ∙ take-length (drop k xs)
-
-all_drop : {X : Type 0} (P : X → Type 0) (k : ℕ) (xs : List X) → AllByRecursion P xs → AllByRecursion P (drop k xs)
-all_drop P k xs each = all_right P (take k xs) (drop k xs) (subst (λ l. AllByRecursion P l) (sym (take-append-drop k xs)) each)
 
 -- a run of this anchor
 abbrev run_of : ℕ → Bool → List Entry → Run

@@ -3,7 +3,7 @@ use Rattle.std.proofs.Common.{◌≡◌, ℕ, zero, suc, ◌+◌, ◌-◌, ◌�
 use Rattle.std.proofs.Common.{filter, take, sym, refl, ap, ◌∙◌, subst, inl, inr, ⊎_elim, arith}
 use Rattle.std.specs.Prelude.{Option, Some, None, MatchOption}
 use Rattle.std.specs.List.{AllByRecursion}
-use Rattle.std.proofs.lemmas.Bool.{cases_Bool, cases_lt, cases_eq, cond-true, cond-false, le-leb, lt-leb, leb-true, eq-eqb, ne_eqb}
+use Rattle.std.proofs.lemmas.Bool.{cases_Bool, cases_eq, cond-true, cond-false, leb-true, eq-eqb, ne_eqb}
 use Rattle.std.proofs.lemmas.Bool.{false≢true}
 use Rattle.rbbi_model.specs.Words.{most_characters}
 use Rattle.rbbi_model.specs.Tables.{Table}
@@ -20,14 +20,7 @@ use Rattle.rbbi_cache.proofs.RunFacts as facts
 use Rattle.rbbi_cache.proofs.Texts.{length_is}
 use Rattle.rbbi_cache.proofs.Moving.{same_category}
 use Rattle.rbbi_cache.proofs.LeftPart.{left_true}
-use Rattle.rbbi_cache.proofs.RightPart.{entries_rise, pair_begins, right_true}
-
-same_leb : (a b c d : ℕ) → (a ≤ b → c ≤ d) → (c ≤ d → a ≤ b) → leb a b ≡ leb c d
-same_leb a b c d there back =
-    ⊎_elim
-    (λ over. lt-leb a b over ∙ sym (⊎_elim (λ past. lt-leb c d past) (λ up. absurd (omega (arith, back up, over))) (cases_lt d c)))
-    (λ up. le-leb a b up ∙ sym (le-leb c d (there up)))
-    (cases_lt b a)
+use Rattle.rbbi_cache.proofs.RightPart.{same_leb, entries_rise, pair_begins, right_true}
 
 -- a true run without its text
 pub movable : (table : Table) → IsValidTable table → (x : List ℕ) (run : Run) → IsTrueRun table x run → length x ≤ most_characters → IsMovable run

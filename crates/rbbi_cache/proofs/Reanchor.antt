@@ -21,7 +21,7 @@ use Rattle.rbbi_model.proofs.SafeSearch.{look_agrees}
 use Rattle.rbbi_cache.proofs.Lists.{all_join, all_right, all_through, all_map, all_unmap, all_filter, all_by_test, filter_all, filter_twice}
 use Rattle.rbbi_cache.proofs.Reached.{first_member, rest_after, rises_after, rising_right}
 use Rattle.rbbi_cache.proofs.Paths.{Path, Here, Then}
-use Rattle.rbbi_cache.proofs.RunFacts.{all_by_splits}
+use Rattle.rbbi_cache.proofs.RunFacts.{all_by_splits, reaches_right}
 use Rattle.rbbi_cache.proofs.RunFacts as facts
 use Rattle.rbbi_cache.proofs.Moving.{largest_least}
 
@@ -194,12 +194,6 @@ module _ (table : Table) (valid : IsValidTable table) (x : List ℕ) (run : Run)
             (sym (cond-false (ltb b.at entry.at) (b ∷ filter (λ m. ltb m.at entry.at) bs) (filter (λ m. ltb m.at entry.at) bs) fails)) more)
             (cases_Bool (ltb b.at entry.at))
 
-  rise_right : (left rest : List Entry) → ReachesRise (left ++ rest) → ReachesRise rest
-  rise_right [] rest rise = rise
-  rise_right (e ∷ []) [] rise = tt
-  rise_right (e ∷ []) (f ∷ rest) rise = rise.1
-  rise_right (e ∷ f ∷ left) rest rise = rise_right (f ∷ left) rest rise.1
-
   -- the entries from two characters behind the pair on are a true run of it
   pub true_behind : (front : List Entry) (first : Entry) (more : List Entry) → run.entries ≡ front ++ first ∷ more →
       AllByRecursion (λ e. q + 2 ≤ e.at) (first ∷ more) → IsTrueRun table x (record { anchor = q; entries = first ∷ more; leads = false })
@@ -245,6 +239,6 @@ module _ (table : Table) (valid : IsValidTable table) (x : List ℕ) (run : Run)
             farthest_here (front ++ front') e rest (whole ∙ ap (λ l. front ++ l) is ∙ sym (append_assoc front front' (e ∷ rest)))
             (all_right (λ f. q + 2 ≤ f.at) front' (e ∷ rest) (subst (λ l. AllByRecursion (λ f. q + 2 ≤ f.at) l) is past)).0);
         reach_within = own (λ e. e.reach ≤ length x + 1) is_true.reach_within;
-        reaches_rise = rise_right front (first ∷ more) (subst ReachesRise whole is_true.reaches_rise);
+        reaches_rise = reaches_right front (first ∷ more) (subst ReachesRise whole is_true.reaches_rise);
         leads = λ is. absurd (no_lead is);
       }

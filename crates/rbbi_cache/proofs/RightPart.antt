@@ -15,10 +15,12 @@ use Rattle.rbbi_model.specs.SafePairs.{IsSafePair, is_safe}
 use Rattle.rbbi_model.specs.ValidTables.{IsValidTable}
 use Rattle.rbbi_model.specs.Searches.{fresh}
 use Rattle.rbbi_model.specs.Runs.{Entry, Run, category_at, low, boundary_of, farthest_look, ReachesRise, LeadsTruly, IsTrueRun}
+use Rattle.rbbi_model.proofs.Rising.{rising_tail}
 use Rattle.rbbi_model.proofs.Categories.{category_within}
 use Rattle.rbbi_cache.specs.Edits.{IsEdited, begins_pair, moved_entry, moved_run, run_behind, goes_whole, IsRightPart, Whole, Behind, Nothing}
 use Rattle.rbbi_cache.proofs.Lists.{all_join, all_left, all_right, all_through, filter_all, filter_none, filter_same, everywhere}
 use Rattle.rbbi_cache.proofs.Reached.{done_before, rises_after, rising_right}
+use Rattle.rbbi_cache.proofs.RunFacts.{rises_past, reaches_right}
 use Rattle.rbbi_cache.proofs.RunFacts as facts
 use Rattle.rbbi_cache.proofs.LeftPart.{are_first}
 use Rattle.rbbi_cache.proofs.Texts.{length_is}
@@ -34,21 +36,19 @@ pub record AreLater (k : ℕ) (entries : List Entry) : Type 0 where
   pub earlier : AllByRecursion (λ e. e.at < k) front
   pub each : AllByRecursion (λ e. k ≤ e.at) later
 
-rises_tail : (n : ℕ) (ns : List ℕ) → IsRising (n ∷ ns) → IsRising ns
-rises_tail n [] rising = tt
-rises_tail n (m ∷ ns) rising = rising.1
-
-rises_past : (e : Entry) (entries : List Entry) → IsRising (map (λ f. f.at) (e ∷ entries)) → AllByRecursion (λ f. e.at < f.at) entries
-rises_past e [] rising = tt
-rises_past e (f ∷ entries) rising =
-    (rising.0, all_through (λ g. f.at < g.at) (λ g. e.at < g.at) (λ g less. omega (arith, less, rising.0)) entries (rises_past f entries rising.1))
+pub same_leb : (a b c d : ℕ) → (a ≤ b → c ≤ d) → (c ≤ d → a ≤ b) → leb a b ≡ leb c d
+same_leb a b c d there back =
+    ⊎_elim
+    (λ over. lt-leb a b over ∙ sym (⊎_elim (λ past. lt-leb c d past) (λ up. absurd (omega (arith, back up, over))) (cases_lt d c)))
+    (λ up. le-leb a b up ∙ sym (le-leb c d (there up)))
+    (cases_lt b a)
 
 pub are_later : (k : ℕ) (entries : List Entry) → IsRising (map (λ e. e.at) entries) → AreLater k entries
 are_later k [] rising = record { front = []; later = []; whole = refl; kept = refl; earlier = tt; each = tt }
 are_later k (e ∷ entries) rising =
     ⊎_elim
     (λ before.
-    let rest = are_later k entries (rises_tail e.at (map (λ f. f.at) entries) rising) in
+    let rest = are_later k entries (rising_tail e.at (map (λ f. f.at) entries) rising) in
     record {
       front = e ∷ rest.front;
       later = rest.later;
@@ -124,18 +124,12 @@ module _ (table : Table) (valid : IsValidTable table) (x : List ℕ) (run : Run)
         places = own (λ e. (run.anchor ≡ 0) ⊎ (run.anchor + 2 ≤ e.at)) is_true.places;
         reach_enough = own (λ e. farthest_look table x run.anchor e.at ≤ e.reach) is_true.reach_enough;
         reach_within = own (λ e. e.reach ≤ length x + 1) is_true.reach_within;
-        reaches_rise = suffix_rises front (first ∷ more) (subst ReachesRise whole is_true.reaches_rise);
+        reaches_rise = reaches_right front (first ∷ more) (subst ReachesRise whole is_true.reaches_rise);
         leads = λ is. absurd (false_leads is);
       }
     where
       false_leads : IsTrue false → ⊥
       false_leads is = cc
-
-      suffix_rises : (left rest : List Entry) → ReachesRise (left ++ rest) → ReachesRise rest
-      suffix_rises [] rest rise = rise
-      suffix_rises (e ∷ []) [] rise = tt
-      suffix_rises (e ∷ []) (f ∷ rest) rise = rise.1
-      suffix_rises (e ∷ f ∷ left) rest rise = suffix_rises (f ∷ left) rest rise.1
 
   -- Where the run leads and what is left out lies before a place, no member from that place on lies before the entries that are left.
   pub leads_on : (k : ℕ) (front : List Entry) (first : Entry) (more : List Entry) → run.entries ≡ front ++ first ∷ more → low run.anchor ≤ k →
@@ -380,7 +374,7 @@ module _ (table : Table) (valid : IsValidTable table) (x y : List ℕ) (at remov
         let same : filter (λ e. keep (m e)) first.rest ≡ filter (λ e. leb 2 e.at) first.rest =
         filter_same (λ e. keep (m e)) (λ e. leb 2 e.at) first.rest
         (λ e. ap (λ b. b || leb (run.anchor + inserted - removed + 2) (m e).at) (ne_eqb (run.anchor + inserted - removed) 0 moves)
-        ∙ same_tests (run.anchor + inserted - removed + 2) (m e).at 2 e.at (omega arith)) in
+        ∙ same_leb (run.anchor + inserted - removed + 2) (m e).at 2 e.at (λ there. omega arith) (λ here. omega arith)) in
         let kept : held ≡ map m later.later = held_is ∙ ap (map m) (same ∙ later.kept) in
         subst (λ l. IsTrueRun table y (record { anchor = run.anchor + inserted - removed; entries = l; leads = run.leads })) (sym kept)
         (zero_true zero 2 (omega arith) (λ n from. omega (arith, low_other (run.anchor + inserted - removed) moves)) (first.left ++ later.front) later.later
@@ -396,19 +390,9 @@ module _ (table : Table) (valid : IsValidTable table) (x y : List ℕ) (at remov
         subst (IsTrueRun table y) (sym is) (other_true other run.entries refl is_true.some))
         (cases_eq run.anchor 0)
       where
-        same_tests : (a b c d : ℕ) → (a ≤ b → c ≤ d) × (c ≤ d → a ≤ b) → leb a b ≡ leb c d
-        same_tests a b c d both =
-            ⊎_elim
-            (λ yes. yes ∙ sym (le-leb c d (both.0 (leb-true a b yes))))
-            (λ no. ⊎_elim
-            (λ yes'. absurd (false≢true (sym no ∙ le-leb a b (both.1 (leb-true c d yes')))))
-            (λ no'. no ∙ sym no')
-            (cases_Bool (leb c d)))
-            (cases_Bool (leb a b))
-
         rising_rest : (left rest : List Entry) → IsRising (map (λ e. e.at) (left ++ rest)) → IsRising (map (λ e. e.at) rest)
         rising_rest [] rest rising = rising
-        rising_rest (e ∷ left) rest rising = rising_rest left rest (rises_tail e.at (map (λ f. f.at) (left ++ rest)) rising)
+        rising_rest (e ∷ left) rest rising = rising_rest left rest (rising_tail e.at (map (λ f. f.at) (left ++ rest)) rising)
 
         left_at : run.anchor ≡ 0 → (left rest : List Entry) → run.entries ≡ left ++ rest → AllByRecursion (λ e. e.reach ≤ at) left →
             AllByRecursion (λ e. e.at < 1) left

@@ -3,12 +3,13 @@ use Rattle.std.proofs.Common.{◌≡◌, ℕ, ◌+◌, ◌<◌, ◌≤◌, ◌�
 use Rattle.std.proofs.Common.{arith}
 use Rattle.std.specs.List.{AllByRecursion}
 use Rattle.std.proofs.lemmas.List.{map-append}
+use Rattle.rbbi_model.specs.Lists.{IsRising}
 use Rattle.rbbi_model.specs.Places.{largest}
 use Rattle.rbbi_model.specs.Boundaries.{Boundary}
 use Rattle.rbbi_model.specs.Tables.{Table}
 use Rattle.rbbi_model.specs.ValidTables.{IsValidTable}
 use Rattle.rbbi_model.specs.Searches.{look_end, next_boundary, fresh}
-use Rattle.rbbi_model.specs.Runs.{Entry, Run, boundary_of, farthest_look, IsTrueRun}
+use Rattle.rbbi_model.specs.Runs.{Entry, Run, boundary_of, farthest_look, ReachesRise, IsTrueRun, EndsUpTo}
 use Rattle.rbbi_model.proofs.Found.{found_lies}
 use Rattle.rbbi_model.proofs.FoundCases.{found_up_to}
 use Rattle.rbbi_cache.proofs.Lists.{all_right, all_through, all_unmap}
@@ -16,6 +17,23 @@ use Rattle.rbbi_cache.specs.Scans.{Reached}
 use Rattle.rbbi_cache.proofs.Reached.{first_member, farthest_is}
 use Rattle.rbbi_cache.proofs.Paths.{Path, Here, Then, path_to, reached_of}
 use Rattle.rbbi_cache.proofs.Texts.{end_by_look}
+
+-- entries that rise, from one of them on
+pub rises_past : (e : Entry) (entries : List Entry) → IsRising (map (λ f. f.at) (e ∷ entries)) → AllByRecursion (λ f. e.at < f.at) entries
+rises_past e [] rising = tt
+rises_past e (f ∷ entries) rising =
+    (rising.0, all_through (λ g. f.at < g.at) (λ g. e.at < g.at) (λ g less. omega (arith, less, rising.0)) entries (rises_past f entries rising.1))
+
+pub reaches_right : (left rest : List Entry) → ReachesRise (left ++ rest) → ReachesRise rest
+reaches_right [] rest rise = rise
+reaches_right (e ∷ []) [] rise = tt
+reaches_right (e ∷ []) (f ∷ rest) rise = rise.1
+reaches_right (e ∷ f ∷ left) rest rise = reaches_right (f ∷ left) rest rise.1
+
+-- the last of the entries isn't past i
+pub ends_up_to : (e : Entry) (entries : List Entry) (i : ℕ) → AllByRecursion (λ f. f.at ≤ i) (e ∷ entries) → EndsUpTo (e ∷ entries) i
+ends_up_to e [] i each = each.0
+ends_up_to e (f ∷ entries) i each = ends_up_to f entries i each.1
 
 -- what holds of each element with what stands round it holds of all
 pub all_by_splits : {X : Type 0} (P : X → Type 0) (xs : List X) → ((before : List X) (x : X) (after : List X) → xs ≡ before ++ x ∷ after → P x) →

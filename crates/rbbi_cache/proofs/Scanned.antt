@@ -9,12 +9,13 @@ use Rattle.rbbi_model.specs.Boundaries.{Boundary}
 use Rattle.rbbi_model.specs.Tables.{Table}
 use Rattle.rbbi_model.specs.ValidTables.{IsValidTable, BeginsWithZeroAlone}
 use Rattle.rbbi_model.specs.Searches.{next_boundary, follow_by, fresh}
-use Rattle.rbbi_model.specs.Runs.{Entry, Run, IsAnchor, low, boundary_of, farthest_look, ReachesRise, LeadsTruly, IsTrueRun, EndsUpTo}
+use Rattle.rbbi_model.specs.Runs.{Entry, Run, IsAnchor, low, boundary_of, farthest_look, ReachesRise, LeadsTruly, IsTrueRun}
 use Rattle.rbbi_cache.specs.Kept.{HasLeastReaches, EndFormerRun}
 use Rattle.rbbi_cache.specs.Shown.{IsShownAfter}
 use Rattle.rbbi_cache.specs.Scans.{Reached, Scan, IsScan}
-use Rattle.rbbi_cache.proofs.Lists.{all_join, all_right, all_through, all_unmap}
+use Rattle.rbbi_cache.proofs.Lists.{all_drop, all_join, all_right, all_through, all_unmap}
 use Rattle.rbbi_cache.proofs.Reached.{first_member, reached_start, farthest_start, done_before, rises_after, rising_right}
+use Rattle.rbbi_cache.proofs.RunFacts.{reaches_right, ends_up_to}
 use Rattle.rbbi_cache.proofs.RunFacts as facts
 use Rattle.rbbi_model.specs.Lists.{IsRising}
 use Rattle.rbbi_model.specs.Cover.{places}
@@ -120,22 +121,8 @@ module _ (table : Table) (valid : IsValidTable table) (x : List ℕ) (p i : ℕ)
       anchor_within : IsAnchor table x former.anchor → former.anchor ≤ length x
       anchor_within anchor = ⊎_elim (λ zero. omega arith) (λ pair. omega (arith, pair.0)) anchor
 
--- the last of the entries isn't past i
-ends_up_to : (e : Entry) (entries : List Entry) (i : ℕ) → AllByRecursion (λ f. f.at ≤ i) (e ∷ entries) → EndsUpTo (e ∷ entries) i
-ends_up_to e [] i each = each.0
-ends_up_to e (f ∷ entries) i each = ends_up_to f entries i each.1
-
-all_drop : {X : Type 0} (P : X → Type 0) (n : ℕ) (xs : List X) → AllByRecursion P xs → AllByRecursion P (drop n xs)
-all_drop P n xs each = all_right P (take n xs) (drop n xs) (subst (λ l. AllByRecursion P l) (sym (take-append-drop n xs)) each)
-
-rises_right : (left rest : List Entry) → ReachesRise (left ++ rest) → ReachesRise rest
-rises_right [] rest rise = rise
-rises_right (e ∷ []) [] rise = tt
-rises_right (e ∷ []) (f ∷ rest) rise = rise.1
-rises_right (e ∷ f ∷ left) rest rise = rises_right (f ∷ left) rest rise.1
-
 rises_drop : (n : ℕ) (entries : List Entry) → ReachesRise entries → ReachesRise (drop n entries)
-rises_drop n entries rise = rises_right (take n entries) (drop n entries) (subst ReachesRise (sym (take-append-drop n entries)) rise)
+rises_drop n entries rise = reaches_right (take n entries) (drop n entries) (subst ReachesRise (sym (take-append-drop n entries)) rise)
 
 module _ (table : Table) (valid : IsValidTable table) (x : List ℕ) (p i : ℕ) (scan : Scan) (run : Run) (is : IsScan table x p i scan run) where
   -- the fresh searches, with all entries that the scan had

@@ -4,11 +4,13 @@ use Rattle.std.proofs.Common.{refl, ap, ◌∙◌, subst, inl, inr, ⊎_elim, ap
 use Rattle.std.specs.Prelude.{IsTrue}
 use Rattle.std.specs.List.{AllByRecursion}
 use Rattle.std.proofs.lemmas.Bool.{cases_eq}
-use Rattle.std.proofs.lemmas.List.{take-append-drop, take_more}
+use Rattle.std.proofs.lemmas.List.{take-append-drop, take_more, take_all}
 use Rattle.std.proofs.Math.Seq.{drop-cons}
 use Rattle.rbbi_model.specs.Lists.{IsRising}
 use Rattle.rbbi_model.specs.Runs.{Entry, Run, low, EndsUpTo, StartsFrom, ShowsAfter, ShowsBefore}
 use Rattle.rbbi_cache.specs.Shown.{AreUpTo, IsShownAfter, IsShownBefore}
+use Rattle.rbbi_model.proofs.Rising.{rising_tail}
+use Rattle.rbbi_cache.proofs.RunFacts.{rises_past, ends_up_to}
 use Rattle.rbbi_cache.proofs.Lists.{all_left, all_right, all_through}
 
 -- the list parted at an element
@@ -16,15 +18,6 @@ pub parted_at : (entries : List Entry) (k : ℕ) (d : Entry) → k < length entr
 parted_at entries k d short =
     sym (take-append-drop k entries)
     ∙ ap (λ l. take k entries ++ l) (drop-cons entries k d short ∙ ap (λ n. get_or entries k d ∷ drop n entries) (sym (add-one k)))
-
-tail_rises : (e : Entry) (entries : List Entry) → IsRising (map (λ f. f.at) (e ∷ entries)) → IsRising (map (λ f. f.at) entries)
-tail_rises e [] rising = tt
-tail_rises e (f ∷ entries) rising = rising.1
-
-later : (e : Entry) (entries : List Entry) → IsRising (map (λ f. f.at) (e ∷ entries)) → AllByRecursion (λ f. e.at < f.at) entries
-later e [] rising = tt
-later e (f ∷ entries) rising =
-    (rising.0, all_through (λ g. f.at < g.at) (λ g. e.at < g.at) (λ g less. omega (arith, less, rising.0)) entries (later f entries rising.1))
 
 first_below : (e : Entry) (entries : List Entry) (k : ℕ) (d : Entry) → AllByRecursion (λ f. e.at < f.at) entries → k < length entries →
     e.at < (get_or entries k d).at
@@ -38,20 +31,16 @@ pub up_to_one : (entries : List Entry) (i k : ℕ) (d : Entry) → IsRising (map
 up_to_one [] i k d rising short less = absurd (omega arith)
 up_to_one (e ∷ entries) i zero d rising short less = (less, tt)
 up_to_one (e ∷ entries) i (suc k) d rising short less =
-    let first : e.at < (get_or entries k d).at = first_below e entries k d (later e entries rising) (omega arith) in
-    (omega arith, up_to_one entries i k d (tail_rises e entries rising) (omega arith) less)
+    let first : e.at < (get_or entries k d).at = first_below e entries k d (rises_past e entries rising) (omega arith) in
+    (omega arith, up_to_one entries i k d (rising_tail e.at (map (λ f. f.at) entries) rising) (omega arith) less)
 
 -- and those from one that is past it on are too
 pub past_one : (entries : List Entry) (i k : ℕ) (d : Entry) → IsRising (map (λ f. f.at) entries) → k < length entries → i < (get_or entries k d).at →
     AllByRecursion (λ f. i < f.at) (drop k entries)
 past_one [] i k d rising short high = absurd (omega arith)
 past_one (e ∷ entries) i zero d rising short high =
-    (high, all_through (λ f. e.at < f.at) (λ f. i < f.at) (λ f less. omega arith) entries (later e entries rising))
-past_one (e ∷ entries) i (suc k) d rising short high = past_one entries i k d (tail_rises e entries rising) (omega arith) high
-
-ends_up_to : (e : Entry) (entries : List Entry) (i : ℕ) → AllByRecursion (λ f. f.at ≤ i) (e ∷ entries) → EndsUpTo (e ∷ entries) i
-ends_up_to e [] i each = each.0
-ends_up_to e (f ∷ entries) i each = ends_up_to f entries i each.1
+    (high, all_through (λ f. e.at < f.at) (λ f. i < f.at) (λ f less. omega arith) entries (rises_past e entries rising))
+past_one (e ∷ entries) i (suc k) d rising short high = past_one entries i k d (rising_tail e.at (map (λ f. f.at) entries) rising) (omega arith) high
 
 -- what ends up to a place has an entry that isn't past it
 has_low : (entries : List Entry) (i : ℕ) → EndsUpTo entries i → AllByRecursion (λ f. i < f.at) entries → ⊥
@@ -64,14 +53,10 @@ module _ (run : Run) (i count : ℕ) (d : Entry) (are : AreUpTo run.entries i co
   pub none_past : count ≡ length run.entries → (a : ℕ) → ShowsAfter run i a → ⊥
   none_past all a shows =
       let each : AllByRecursion (λ f. f.at ≤ i) run.entries =
-      subst (λ l. AllByRecursion (λ f. f.at ≤ i) l) (ap (λ n. take n run.entries) all ∙ take_all run.entries) are.up_to in
+      subst (λ l. AllByRecursion (λ f. f.at ≤ i) l) (take_all count run.entries (omega arith)) are.up_to in
       let here : shows.entry.at ≤ i =
       (all_right (λ f. f.at ≤ i) shows.before (shows.entry ∷ shows.after) (subst (λ l. AllByRecursion (λ f. f.at ≤ i) l) shows.whole each)).0 in
       omega (arith, here, shows.at, shows.past)
-    where
-      take_all : (entries : List Entry) → take (length entries) entries ≡ entries
-      take_all [] = refl
-      take_all (e ∷ entries) = ap (λ l. e ∷ l) (take_all entries)
 
   -- all are, and the first doesn't follow what the run leads from
   pub none_shown : count ≡ 0 → (IsTrue run.leads → i + 1 < low run.anchor) → (a : ℕ) → ShowsAfter run i a → ⊥
@@ -175,15 +160,8 @@ module _ (x : List ℕ) (run : Run) (i count : ℕ) (d : Entry) (some : 0 < i) (
         (λ end. not_end (at_end end))
         shows.nearest
       where
-        take_all : (entries : List Entry) (n : ℕ) → length entries ≡ n → take n entries ≡ entries
-        take_all entries n is = ap (λ k. take k entries) (sym is) ∙ take_length entries
-          where
-            take_length : (es : List Entry) → take (length es) es ≡ es
-            take_length [] = refl
-            take_length (e ∷ es) = ap (λ l. e ∷ l) (take_length es)
-
         each : AllByRecursion (λ f. f.at ≤ i - 1) run.entries
-        each = subst (λ l. AllByRecursion (λ f. f.at ≤ i - 1) l) (take_all run.entries count all) are.up_to
+        each = subst (λ l. AllByRecursion (λ f. f.at ≤ i - 1) l) (take_all count run.entries (omega arith)) are.up_to
 
         no_start : (entries : List Entry) → StartsFrom entries i → AllByRecursion (λ f. f.at ≤ i - 1) entries → ⊥
         no_start [] starts less = starts

@@ -17,28 +17,20 @@ one_or a b one low low' = ⊎_elim (λ is. inl is) (λ other. inr (omega (arith,
 pub holds_or : (row these those : List ℕ) → ((k : ℕ) → get_or row k 0 ≡ bit_or (get_or these k 0) (get_or those k 0)) →
     (p : ℕ) → Holds row p ↔ (Holds these p ⊎ Holds those p)
 holds_or row these those each p =
-    let a : ℕ = bit_at (get_or these (p / 64) 0) (p % 64) in
-    let b : ℕ = bit_at (get_or those (p / 64) 0) (p % 64) in
-    let low : a < 2 = bit_at-lt (get_or these (p / 64) 0) (p % 64) in
-    let low' : b < 2 = bit_at-lt (get_or those (p / 64) 0) (p % 64) in
-    let same : bit_at (get_or row (p / 64) 0) (p % 64) ≡ max a b = ap (λ n. bit_at n (p % 64)) (each (p / 64))
-    ∙ bit_at_or (get_or these (p / 64) 0) (get_or those (p / 64) 0) (p % 64) in (
-      λ holds. one_or a b (sym same ∙ holds) low low',
-      ⊎_elim (λ one. same ∙ (let m : max a b ≡ 1 = omega (arith, one, low') in m)) (λ one. same ∙ (let m : max a b ≡ 1 = omega (arith, one, low) in m)),
+    let low = bit_at-lt (get_or these (p / 64) 0) (p % 64) in
+    let low' = bit_at-lt (get_or those (p / 64) 0) (p % 64) in
+    let same = ap (λ n. bit_at n (p % 64)) (each (p / 64)) ∙ bit_at_or (get_or these (p / 64) 0) (get_or those (p / 64) 0) (p % 64) in (
+      λ holds. one_or (bit_at (get_or these (p / 64) 0) (p % 64)) (bit_at (get_or those (p / 64) 0) (p % 64)) (sym same ∙ holds) low low',
+      ⊎_elim (λ one. omega (arith, same, one, low')) (λ one. omega (arith, same, one, low)),
     )
 
 pub holds_and : (row these those : List ℕ) → ((k : ℕ) → get_or row k 0 ≡ bit_and (get_or these k 0) (get_or those k 0)) →
     (p : ℕ) → Holds row p ↔ (Holds these p × Holds those p)
 holds_and row these those each p =
-    let a : ℕ = bit_at (get_or these (p / 64) 0) (p % 64) in
-    let b : ℕ = bit_at (get_or those (p / 64) 0) (p % 64) in
-    let low : a < 2 = bit_at-lt (get_or these (p / 64) 0) (p % 64) in
-    let low' : b < 2 = bit_at-lt (get_or those (p / 64) 0) (p % 64) in
-    let same : bit_at (get_or row (p / 64) 0) (p % 64) ≡ min a b = ap (λ n. bit_at n (p % 64)) (each (p / 64))
-    ∙ bit_at_and (get_or these (p / 64) 0) (get_or those (p / 64) 0) (p % 64) in (
-      λ holds. let one : min a b ≡ 1 = sym same ∙ holds in (omega (arith, one, low, low'), omega (arith, one, low, low')),
-      λ both. same ∙ (let m : min a b ≡ 1 = omega (arith, both.0, both.1) in m),
-    )
+    let low = bit_at-lt (get_or these (p / 64) 0) (p % 64) in
+    let low' = bit_at-lt (get_or those (p / 64) 0) (p % 64) in
+    let same = ap (λ n. bit_at n (p % 64)) (each (p / 64)) ∙ bit_at_and (get_or these (p / 64) 0) (get_or those (p / 64) 0) (p % 64) in
+    (λ holds. (omega (arith, same, holds, low, low'), omega (arith, same, holds, low, low')), λ both. omega (arith, same, both.0, both.1))
 
 pub holds_or_and : (row old these those : List ℕ) → ((k : ℕ) → get_or row k 0 ≡ bit_or (get_or old k 0) (bit_and (get_or these k 0) (get_or those k 0))) →
     (p : ℕ) → Holds row p ↔ (Holds old p ⊎ (Holds these p × Holds those p))
@@ -46,28 +38,27 @@ holds_or_and row old these those each p =
     let a : ℕ = bit_at (get_or these (p / 64) 0) (p % 64) in
     let b : ℕ = bit_at (get_or those (p / 64) 0) (p % 64) in
     let d : ℕ = bit_at (get_or old (p / 64) 0) (p % 64) in
-    let low : a < 2 = bit_at-lt (get_or these (p / 64) 0) (p % 64) in
-    let low' : b < 2 = bit_at-lt (get_or those (p / 64) 0) (p % 64) in
-    let low'' : d < 2 = bit_at-lt (get_or old (p / 64) 0) (p % 64) in
+    let low = bit_at-lt (get_or these (p / 64) 0) (p % 64) in
+    let low' = bit_at-lt (get_or those (p / 64) 0) (p % 64) in
+    let low'' = bit_at-lt (get_or old (p / 64) 0) (p % 64) in
     let same : bit_at (get_or row (p / 64) 0) (p % 64) ≡ max d (min a b) =
     ap (λ n. bit_at n (p % 64)) (each (p / 64)) ∙ bit_at_or (get_or old (p / 64) 0) (bit_and (get_or these (p / 64) 0) (get_or those (p / 64) 0)) (p % 64)
-    ∙ ap (λ n. max d n) (bit_at_and (get_or these (p / 64) 0) (get_or those (p / 64) 0) (p % 64)) in
-    let small : min a b < 2 = omega (arith, low) in (
+    ∙ ap (λ n. max d n) (bit_at_and (get_or these (p / 64) 0) (get_or those (p / 64) 0) (p % 64)) in (
       λ holds. ⊎_elim (λ one. inl one) (λ one. inr (omega (arith, one, low, low'), omega (arith, one, low, low')))
-          (one_or d (min a b) (sym same ∙ holds) low'' small),
-      ⊎_elim (λ one. same ∙ (let m : max d (min a b) ≡ 1 = omega (arith, one, small) in m))
-          (λ both. same ∙ (let m : max d (min a b) ≡ 1 = omega (arith, both.0, both.1, low'') in m)),
+          (one_or d (min a b) (sym same ∙ holds) low'' (omega (arith, low))),
+      ⊎_elim (λ one. omega (arith, same, one, low)) (λ both. omega (arith, same, both.0, both.1, low'')),
     )
 
 -- a number that isn't 0 has a bit
 some_bit : (n : ℕ) → n ≢ 0 → n < 2 ^ 64 → (t : ℕ) × (t < 64) × (bit_at n t ≡ 1)
 some_bit n some small = let lowest = bit_at-trailing_zeros w64 n (omega arith) small in (_, lowest.0, lowest.1)
 
-pub holds_word : (row : List ℕ) (k t : ℕ) → t < 64 → bit_at (get_or row k 0) t ≡ 1 → Holds row (64 * k + t)
-holds_word row k t small bit =
+-- a bit by its word and its place there
+pub word_bit : (row : List ℕ) (k t : ℕ) → t < 64 → bit_at (get_or row ((64 * k + t) / 64) 0) ((64 * k + t) % 64) ≡ bit_at (get_or row k 0) t
+word_bit row k t small =
     let word : (64 * k + t) / 64 ≡ k = omega (arith, small) in
     let place : (64 * k + t) % 64 ≡ t = omega (arith, small) in
-    ap (λ n. bit_at (get_or row n 0) ((64 * k + t) % 64)) word ∙ ap (λ n. bit_at (get_or row k 0) n) place ∙ bit
+    ap (λ n. bit_at (get_or row n 0) ((64 * k + t) % 64)) word ∙ ap (λ n. bit_at (get_or row k 0) n) place
 
 -- words in common
 pub words_meet : (these those : List ℕ) (k : ℕ) → bit_and (get_or these k 0) (get_or those k 0) ≢ 0 →
@@ -78,8 +69,11 @@ words_meet these those k some small =
     let b : ℕ = bit_at (get_or those k 0) bit.0 in
     let one : min a b ≡ 1 = sym (bit_at_and (get_or these k 0) (get_or those k 0) bit.0) ∙ bit.2 in
     let low : a < 2 = bit_at-lt (get_or these k 0) bit.0 in
-    let low' : b < 2 = bit_at-lt (get_or those k 0) bit.0 in
-    (64 * k + bit.0, holds_word these k bit.0 bit.1 (omega (arith, one, low, low')), holds_word those k bit.0 bit.1 (omega (arith, one, low, low')))
+    let low' : b < 2 = bit_at-lt (get_or those k 0) bit.0 in (
+      64 * k + bit.0,
+      word_bit these k bit.0 bit.1 ∙ (let e : a ≡ 1 = omega (arith, one, low, low') in e),
+      word_bit those k bit.0 bit.1 ∙ (let e : b ≡ 1 = omega (arith, one, low, low') in e),
+    )
 
 pub words_apart : (these those : List ℕ) → length these ≡ length those → ((k : ℕ) → k < length these → bit_and (get_or these k 0) (get_or those k 0) ≡ 0) →
     (p : ℕ) → Holds these p → ¬ Holds those p
@@ -94,8 +88,6 @@ words_apart these those long each p holds = λ holds'.
     let zero : bit_at (get_or these k 0) (p % 64) ≡ 0 = ap (λ n. bit_at n (p % 64)) (get_or_past these k 0 past) ∙ bit_at-zero (p % 64) in
     omega (arith, zero, holds))
     (cases_lt k (length these))
-
--- what holds of each word up to the end holds past it
 
 -- outside of a span a word stays, and there the other is 0
 pub or_within : (row old other : List ℕ) (from to i : ℕ) → IsSpan other from to → to ≤ i →
@@ -133,6 +125,7 @@ IsSpan-from_loop row from to i all within before past = record {
   past = λ k later. ⊎_elim (λ short. past k later short) (λ beyond. get_or_past row k 0 (omega (arith, all, beyond))) (cases_lt k i);
 }
 
+-- what holds of each word up to the end holds past it
 pub and_each : (row these those : List ℕ) (i : ℕ) → length row ≤ i → length these ≤ i → length those ≤ i →
     ((k : ℕ) → k < i → get_or row k 0 ≡ bit_and (get_or these k 0) (get_or those k 0)) →
     (k : ℕ) → get_or row k 0 ≡ bit_and (get_or these k 0) (get_or those k 0)

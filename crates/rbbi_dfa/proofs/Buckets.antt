@@ -23,9 +23,6 @@ pub bucket_is : (row : List ℕ) (i hash : ℕ) → length row ≤ i → hash �
 unfolding bucket_of
 bucket_is row i hash all is = ap (λ l. fold mixed 0 l / 2 ^ 49) (sym (take_all i row all)) ∙ ap (λ n. n / 2 ^ 49) (sym is)
 
-pub bucket_small : (row : List ℕ) (hash : ℕ) → hash < 2 ^ 64 → bucket_of row ≡ hash / 2 ^ 49 → bucket_of row < 32768
-bucket_small row hash small is = omega (arith, small, is)
-
 -- a set that isn't found yet: it is none of those of its bucket from the place on
 pub record IsUnfound (sets : List (List ℕ)) (bucket : ℕ) (set : List ℕ) (at : ℕ) : Type 0 where
   pub within : at ≤ length sets

@@ -1,33 +1,29 @@
 -- A least table with its ranges and safe pairs is compiled from the rules.
-use Rattle.std.proofs.Common.{◌≡◌, ◌≢◌, ℕ, ◌+◌, ◌*◌, ◌/◌, ◌<◌, Bool, true, false, cond, nat_le, List, [], ◌∷◌, length, map, take, refl, ap, sym, ◌∙◌, subst}
+use Rattle.std.proofs.Common.{◌≡◌, ◌≢◌, ℕ, ◌+◌, ◌*◌, ◌/◌, ◌<◌, List, [], ◌∷◌, length, map, take, refl, ap, sym, ◌∙◌, subst}
 use Rattle.std.proofs.Common.{⊎_elim, arith, slice_index_or}
 use Rattle.std.specs.List.{AllByRecursion}
 use Rattle.rbbi_model.specs.Places.{has_bit}
 use Rattle.rbbi_model.specs.Words.{IsWord}
 use Rattle.rbbi_model.specs.Rules.{Rule}
-use Rattle.rbbi_model.specs.Tables.{Table, CategoryRange, category_from, category_of, accept_of, fronts_of, list_of, step, row_along}
-use Rattle.rbbi_model.specs.ValidTables.{IsWay, IsWithin, IsValidRow, AreValidRanges, BeginsWithZeroAlone, AreValidRows, AreFronted, AreValidSafePairs}
+use Rattle.rbbi_model.specs.Tables.{Table, CategoryRange, category_of, accept_of, fronts_of, list_of, step, row_along}
+use Rattle.rbbi_model.specs.ValidTables.{IsValidRow, AreValidRanges, BeginsWithZeroAlone, AreValidRows, AreFronted, AreValidSafePairs}
 use Rattle.rbbi_model.specs.Marks.{Marks, AreMarks, marks_of, HasSameMarks}
 use Rattle.rbbi_model.specs.Compiled.{IsLeast, IsStatusList, HasStatusLists, AreClasses, IsCompiled}
 use Rattle.rbbi_dfa.specs.Automata.{IsDetermined, with_ranges}
 use Rattle.rbbi_dfa.specs.Categories.{AreWithin}
 use Rattle.rbbi_dfa.specs.LeastTables.{IsLeastOf, finished}
-use Rattle.rbbi_dfa.proofs.Merging.{picked}
-use Rattle.rbbi_dfa.proofs.Needed.{length-le_from_numbered, all_by_index}
-use Rattle.rbbi_dfa.proofs.RuleNeeds.{row_along-ranges, word_IsWay, index_by_words}
-
-either : (b : Bool) (count x y : ℕ) → x < count → y < count → cond b x y < count
-either true count x y h k = h
-either false count x y h k = k
-
-category_within : (categories before c : ℕ) (ranges : List CategoryRange) → before < categories → AllByRecursion (IsWithin categories) ranges →
-    category_from before ranges c < categories
-category_within categories before c [] h k = h
-category_within categories before c (range ∷ ranges) h k =
-    either (nat_le range.start c) categories (category_from range.category ranges c) before (category_within categories range.category c ranges k.0.1 k.1) h
+use Rattle.rbbi_positions.proofs.Codes.{all_at}
+use Rattle.rbbi_dfa.proofs.Lists.{le_from_choices}
+use Rattle.rbbi_dfa.proofs.Grouping.{row_along-ranges}
+use Rattle.rbbi_dfa.proofs.WordRows.{along_within, word_IsWay}
+use Rattle.rbbi_model.proofs.Categories.{category_within}
 
 pub AreWithin-from_valid : (categories : ℕ) (ranges : List CategoryRange) → AreValidRanges categories ranges → AreWithin categories ranges
-AreWithin-from_valid categories ranges h c = category_within categories 0 c ranges (omega (arith, h.some_categories)) h.within
+AreWithin-from_valid categories ranges h c = category_within categories ranges c h
+
+pub first_zero : (lists : List (List ℕ)) → BeginsWithZeroAlone lists → slice_index_or lists 0 [] ≡ 0 ∷ []
+first_zero [] h = absurd h
+first_zero (statuses ∷ lists) h = h
 
 pub row_along-finished : (table : Table) (ranges : List CategoryRange) (safe : List ℕ) (row : ℕ) (way : List ℕ) →
     row_along (finished table ranges safe) row way ≡ row_along table row way
@@ -35,19 +31,17 @@ row_along-finished table ranges safe row [] = refl
 row_along-finished table ranges safe row (category ∷ way) = row_along-finished table ranges safe (step table row category) way
 
 module _ (table : Table) (ranges : List CategoryRange) (safe : List ℕ) where
-  along : (row : ℕ) (way : List ℕ) → row_along (finished table ranges safe) row way ≡ row_along table row way
-  along row way = row_along-finished table ranges safe row way
-
   pub IsLeast-finished : IsLeast table → IsLeast (finished table ranges safe)
   IsLeast-finished h = record {
     reached = λ row some l.
         let found = h.reached row some l in
-        (found.0, found.1, along 1 found.0 ∙ found.2);
+        (found.0, found.1, row_along-finished table ranges safe 1 found.0 ∙ found.2);
     apart = λ this that less l other.
         let found = h.apart this that less l other in (
           found.0,
           found.1,
-          λ e. found.2 (ap (λ row. marks_of table row) (sym (along this found.0)) ∙ e ∙ ap (λ row. marks_of table row) (along that found.0)),
+          λ e. found.2 (ap (λ row. marks_of table row) (sym (row_along-finished table ranges safe this found.0)) ∙ e
+              ∙ ap (λ row. marks_of table row) (row_along-finished table ranges safe that found.0)),
         );
     lists = h.lists;
   }
@@ -75,10 +69,10 @@ module _ (table : Table) (ranges : List CategoryRange) (safe : List ℕ) where
 
   pub AreFronted-finished : AreFronted table → AreFronted (finished table ranges safe)
   AreFronted-finished h way k is_way completed =
-      let found = h way k is_way (ap (λ row. accept_of table row) (sym (along 1 way)) ∙ completed) in (
+      let found = h way k is_way (ap (λ row. accept_of table row) (sym (row_along-finished table ranges safe 1 way)) ∙ completed) in (
         found.0,
         found.1,
-        ap (λ row. has_bit (fronts_of table row) k) (along 1 (take found.0 way)) ∙ found.2,
+        ap (λ row. has_bit (fronts_of table row) k) (row_along-finished table ranges safe 1 (take found.0 way)) ∙ found.2,
       )
 
 module _
@@ -127,19 +121,11 @@ module _
     }
 
     module _ (unique : (w : List ℕ) (these those : Marks) → AreMarks rules w these → AreMarks rules w those → these ≡ those) where
-      first_zero : (lists : List (List ℕ)) → BeginsWithZeroAlone lists → slice_index_or lists 0 [] ≡ 0 ∷ []
-      first_zero [] h = absurd h
-      first_zero (statuses ∷ lists) h = h
-
       table_row_within : (w : List ℕ) → row_along table 1 (map (category_of ranges) w) < length table.rows
       table_row_within w =
-          along_within 1 (map (category_of ranges) w) (omega (arith, least.rows.some))
+          along_within table (λ row category h k. (least.rows.each row h).next category k) 1 (map (category_of ranges) w) (omega (arith, least.rows.some))
           (subst (λ (n : ℕ). AllByRecursion (λ category. category < n) (map (category_of ranges) w)) (sym least.categories)
           (word_IsWay automaton ranges within w))
-        where
-          along_within : (row : ℕ) (way : List ℕ) → row < length table.rows → IsWay table way → row_along table row way < length table.rows
-          along_within row [] h k = h
-          along_within row (category ∷ way) h k = along_within (step table row category) way ((least.rows.each row h).next category k.0) k.1
 
       listed : (statuses : List ℕ) → IsStatusList rules statuses → (i : ℕ) × ((i < length table.lists) × (slice_index_or table.lists i [] ≡ statuses))
       listed statuses h =
@@ -162,12 +148,7 @@ module _
 
       pub few_status_lists : HasStatusLists rules 4096 → ⊥
       few_status_lists has =
-          let choice = picked (λ k i. (i < length table.lists) × (slice_index_or table.lists i [] ≡ slice_index_or has.lists k [])) 4096
-          (λ k h. listed (slice_index_or has.lists k []) (index_by_words (IsStatusList rules) has.lists has.each k (omega (arith, has.many)))) in
-          let few = length-le_from_numbered (λ i. i) (length table.lists) choice.0
-          (all_by_index (λ i. i < length table.lists) choice.0 (λ k h. (choice.2 k (omega (arith, choice.1))).0))
-          (λ j k less h e.
-          let this = choice.2 j (omega (arith, choice.1)) in
-          let that = choice.2 k (omega (arith, choice.1)) in
-          has.apart j k [] less (omega (arith, choice.1, has.many)) (sym this.1 ∙ ap (λ i. slice_index_or table.lists i []) e ∙ that.1)) in
-          absurd (omega (arith, few, choice.1, least.lists.few))
+          let few = le_from_choices (λ k i. slice_index_or table.lists i [] ≡ slice_index_or has.lists k []) 4096 (length table.lists)
+          (λ k h. listed (slice_index_or has.lists k []) (all_at (IsStatusList rules) has.lists k [] (omega (arith, has.many)) has.each))
+          (λ j k i less h this that. has.apart j k [] less (omega (arith, has.many)) (sym this ∙ that)) in
+          omega (arith, few, least.lists.few)

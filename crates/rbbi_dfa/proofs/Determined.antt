@@ -15,8 +15,9 @@ use Rattle.rbbi_dfa.specs.Automata.{IsAutomatonRow}
 use Rattle.rbbi_dfa.specs.PositionRows.{PositionRows}
 use Rattle.rbbi_dfa.specs.PositionAutomata.{Marked, IsOfRules}
 use Rattle.rbbi_dfa.specs.Determinizing.{IsCell, HasMark, IsDeterminized}
+use Rattle.rbbi_dfa.proofs.WordRows.{word_IsWay}
 use Rattle.rbbi_dfa.proofs.Words.{IsSetOf, Ended, Unread, IsRowOf, Stop, Set, row_of_word, HasWord, reached_word}
-use Rattle.rbbi_dfa.proofs.WordMarks.{counts}
+use Rattle.rbbi_model.proofs.LookAheadNumbers.{counts}
 
 pub rule_within : (rules : List Rule) (number : ℕ) (rule : Rule) → IsRule rules number rule → number < length rules
 rule_within [] number rule is = absurd (cc)
@@ -158,10 +159,6 @@ module _ (rules : List Rule) (lawful : AreLawful rules) (ranges : List CategoryR
   row_is w _ i (Stop row at (Unread before none)) short set = let held = is.reached.some i short in absurd (none held.0 ((set.holds held.0).0 held.1))
   row_is w _ i (Set row j at short' set') short set = at ∙ ap (λ n. n + 2) (same_set w j i short' short set' set)
 
-  categories_way : (w : List ℕ) → IsWay automaton (map (category_of ranges) w)
-  categories_way [] = tt
-  categories_way (c ∷ w) = (omega (arith, of.within c, is.categories), categories_way w)
-
   pub set_word : (i : ℕ) → i < length sets → HasWord rules lawful ranges rows of (row_at sets i)
   set_word i short = reached_word rules lawful ranges rows of (row_at sets i) (is.reached.reached i short) (is.reached.some i short)
 
@@ -175,7 +172,7 @@ module _ (rules : List Rule) (lawful : AreLawful rules) (ranges : List CategoryR
       let short' : i < length sets = omega (arith, short, is.many, at) in
       let word = set_word i short' in (
         map (category_of ranges) word.w,
-        categories_way word.w,
+        word_IsWay automaton ranges (λ c. omega (arith, of.within c, is.categories)) word.w,
         row_is word.w (row_along automaton 1 (map (category_of ranges) word.w)) i
             (row_of_word rules lawful ranges rows of sets automaton is word.w word.some word.is_word) short' word.set_of ∙ at,
       ))

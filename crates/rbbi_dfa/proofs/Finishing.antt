@@ -28,14 +28,6 @@ AreSteps-from_valid table all valid = record {
       (cases_lt 0 table.categories);
 }
 
--- safe pairs of the rows are those of a table with these rows
-pub ArePairsOf-finished : (table : Table) (ranges : List CategoryRange) (safe : List ℕ) → ArePairsOf (rows_of table.categories table.rows table.cells safe) →
-    ArePairsOf (finished table ranges safe)
-ArePairsOf-finished table ranges safe h = record {
-  all = h.all;
-  pairs = record { exactly = h.pairs.exactly; filling = h.pairs.filling };
-}
-
 pub HasFittingParts-finished : (table : Table) (ranges : List CategoryRange) (safe : List ℕ) → length table.cells ≡ length table.rows * table.categories →
     ArePairsOf (finished table ranges safe) → HasFittingParts (finished table ranges safe)
 HasFittingParts-finished table ranges safe all pairs = record { cells = all; safe = pairs.all }

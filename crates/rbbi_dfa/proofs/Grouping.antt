@@ -4,12 +4,14 @@ use Rattle.std.proofs.Common.{slice_index, slice_index_or}
 use Rattle.std.proofs.lemmas.Bool.{cases_eq, cases_order, cases_lt}
 use Rattle.std.proofs.lemmas.List.{get_or_append_left, get_or_push, length_push}
 use borrow.Author.Count.{below_more}
-use Rattle.rbbi_model.specs.Tables.{Table, accept_of, fronts_of, list_of, step, row_along}
-use Rattle.rbbi_model.specs.ValidTables.{IsWay, IsBefore}
+use Rattle.rbbi_model.specs.Tables.{Table, CategoryRange, accept_of, fronts_of, list_of, step, row_along}
+use Rattle.rbbi_model.specs.ValidTables.{IsWay, IsBefore, LeadsToZero}
 use Rattle.rbbi_model.specs.Marks.{Marks, marks_of}
-use Rattle.rbbi_dfa.specs.Automata.{IsDetermined, LeadsToMarks}
+use Rattle.rbbi_dfa.specs.Automata.{IsDetermined, LeadsToMarks, with_ranges}
 use Rattle.rbbi_dfa.specs.Partitions.{IsPartition, IsToldApart}
 use Rattle.rbbi_dfa.specs.Ranks.{AreRanked}
+use Rattle.rbbi_model.proofs.SearchFacts.{row_along_append}
+use Rattle.rbbi_positions.proofs.Splits.{all-append}
 use Rattle.rbbi_dfa.proofs.Merged.{IsBefore-irreflexive}
 
 -- lists with one rank are equal, and equal lists have one rank
@@ -42,38 +44,39 @@ alike_rank lists sorted places i j h hi hj e =
 pub marks_by_parts : (this that : Marks) → this.accept ≡ that.accept → this.fronts ≡ that.fronts → this.statuses ≡ that.statuses → this ≡ that
 marks_by_parts this that a f s = λ i. record { accept = a i; fronts = f i; statuses = s i }
 
-pub row_along-append : (automaton : Table) (row : ℕ) (these those : List ℕ) → row_along automaton row (these ++ those) ≡ row_along automaton
-    (row_along automaton row these) those
-row_along-append automaton row [] those = refl
-row_along-append automaton row (category ∷ these) those = row_along-append automaton (step automaton row category) these those
+pub row_along-ranges : (table : Table) (ranges : List CategoryRange) (row : ℕ) (way : List ℕ) →
+    row_along (with_ranges table ranges) row way ≡ row_along table row way
+row_along-ranges table ranges row [] = refl
+row_along-ranges table ranges row (category ∷ way) = row_along-ranges table ranges (step table row category) way
 
-pub IsWay-append : (automaton : Table) (these those : List ℕ) → IsWay automaton these → IsWay automaton those → IsWay automaton (these ++ those)
-IsWay-append automaton [] those h k = k
-IsWay-append automaton (category ∷ these) those h k = (h.0, IsWay-append automaton these those h.1 k)
+-- row 0 stays row 0
+pub stop_along : (table : Table) → LeadsToZero table 0 → (way : List ℕ) → IsWay table way → row_along table 0 way ≡ 0
+stop_along table stop_leads [] h = refl
+stop_along table stop_leads (category ∷ way) h = ap (λ row. row_along table row way) (stop_leads category h.0) ∙ stop_along table stop_leads way h.1
 
-module _ (automaton : Table) (determined : IsDetermined automaton) where
-  -- row 0 stays row 0
-  pub stop_along : (way : List ℕ) → IsWay automaton way → row_along automaton 0 way ≡ 0
-  stop_along [] h = refl
-  stop_along (category ∷ way) h = ap (λ row. row_along automaton row way) (determined.stop_leads category h.0) ∙ stop_along way h.1
+module _
+    (table : Table)
+    (reached : (row : ℕ) → row ≢ 0 → row < length table.rows → (way : List ℕ) × IsWay table way × (row_along table 1 way ≡ row))
+    (lead : (row : ℕ) → 2 ≤ row → row < length table.rows → LeadsToMarks table row)
+  where
+    -- each row but row 0 leads to marks, where there are more than two
+    pub alive : 3 ≤ length table.rows → (row : ℕ) → row ≢ 0 → row < length table.rows → LeadsToMarks table row
+    alive many zero some h = absurd (some refl)
+    alive many (suc zero) some h =
+        let there = reached 2 (λ e. absurd (omega (arith, e))) (omega (arith, many)) in
+        let on = lead 2 (omega arith) (omega (arith, many)) in (
+          there.0 ++ on.0,
+          all-append (λ category. category < table.categories) there.0 on.0 there.1 on.1,
+          λ e. on.2 (ap (λ row. marks_of table (row_along table row on.0)) (sym there.2)
+              ∙ ap (λ row. marks_of table row) (sym (row_along_append table 1 there.0 on.0)) ∙ e),
+        )
+    alive many (suc (suc row)) some h = lead (suc (suc row)) (omega arith) h
 
-  -- each row but row 0 leads to marks, where there are more than two
-  pub alive : 3 ≤ length automaton.rows → (row : ℕ) → row ≢ 0 → row < length automaton.rows → LeadsToMarks automaton row
-  alive many zero some h = absurd (some refl)
-  alive many (suc zero) some h =
-      let there = determined.reached 2 (omega arith) (omega arith) in
-      let on = determined.lead 2 (omega arith) (omega arith) in (
-        there.0 ++ on.0,
-        IsWay-append automaton there.0 on.0 there.1 on.1,
-        λ e. on.2 (ap (λ row. marks_of automaton (row_along automaton row on.0)) (sym there.2)
-            ∙ ap (λ row. marks_of automaton row) (sym (row_along-append automaton 1 there.0 on.0)) ∙ e),
-      )
-  alive many (suc (suc row)) some h = determined.lead (suc (suc row)) (omega arith) h
-
-  pub stop_apart : 3 ≤ length automaton.rows → (row : ℕ) → row ≢ 0 → row < length automaton.rows → IsToldApart automaton row 0
-  stop_apart many row some h =
-      let on = alive many row some h in
-      (on.0, on.1, λ e. on.2 (e ∙ ap (λ row. marks_of automaton row) (stop_along on.0 on.1) ∙ determined.stop))
+pub stop_apart : (automaton : Table) → IsDetermined automaton → 3 ≤ length automaton.rows → (row : ℕ) → row ≢ 0 → row < length automaton.rows →
+    IsToldApart automaton row 0
+stop_apart automaton determined many row some h =
+    let on = alive automaton determined.reached determined.lead many row some h in
+    (on.0, on.1, λ e. on.2 (e ∙ ap (λ row. marks_of automaton row) (stop_along automaton determined.stop_leads on.0 on.1) ∙ determined.stop))
 
 -- what is known after so many rows
 pub record AreGrouped (automaton : Table) (row : ℕ) (classes firsts : List ℕ) : Type 0 where
@@ -89,26 +92,6 @@ pub record AreGrouped (automaton : Table) (row : ℕ) (classes firsts : List ℕ
   pub alike : (k : ℕ) → k < row → marks_of automaton k ≡ marks_of automaton (slice_index firsts (slice_index classes k))
   pub differ : (class : ℕ) → 1 ≤ class → (later : ℕ) → class < later → later < length firsts →
       marks_of automaton (slice_index firsts class) ≢ marks_of automaton (slice_index firsts later)
-
-pub AreGrouped-one : (automaton : Table) (classes firsts : List ℕ) → classes ≡ 0 ∷ [] → firsts ≡ 0 ∷ [] → AreGrouped automaton 1 classes firsts
-AreGrouped-one automaton classes firsts e f =
-    subst (λ (xs : List ℕ). AreGrouped automaton 1 xs firsts) (sym e)
-    (subst (λ (xs : List ℕ). AreGrouped automaton 1 (0 ∷ []) xs) (sym f) (record {
-      rows = refl;
-      some = omega arith;
-      few = omega arith;
-      within = λ k h. subst (λ (n : ℕ). slice_index (0 ∷ []) n < 1) (sym (one k h)) (omega arith);
-      first_row = λ k h. subst (λ (n : ℕ). slice_index (0 ∷ []) n < 1) (sym (one k h)) (omega arith);
-      first_class = λ k h. subst (λ (n : ℕ). slice_index (0 ∷ []) (slice_index (0 ∷ []) n) ≡ n) (sym (one k h)) refl;
-      stop = refl;
-      start = λ h. absurd (omega arith);
-      alone = λ k h _. one k h;
-      alike = λ k h. subst (λ (n : ℕ). marks_of automaton n ≡ marks_of automaton (slice_index (0 ∷ []) (slice_index (0 ∷ []) n))) (sym (one k h)) refl;
-      differ = λ class h later l k. absurd (omega arith);
-    }))
-  where
-    one : (k : ℕ) → k < 1 → k ≡ 0
-    one k h = omega arith
 
 module _ (automaton : Table) (row : ℕ) (classes firsts : List ℕ) (h : AreGrouped automaton row classes firsts) where
   class_before : (class k : ℕ) → k < row → slice_index (classes ++ class ∷ []) k ≡ slice_index classes k

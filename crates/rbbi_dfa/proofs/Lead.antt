@@ -1,5 +1,5 @@
 -- The cells of one row, and the sets that they lead to.
-use Rattle.std.proofs.Common.{◌≡◌, ◌≢◌, ℕ, ◌+◌, ◌-◌, ◌*◌, ◌/◌, ◌%◌, ◌<◌, List, [], ◌∷◌, ◌++◌, length, get_or, refl, sym, ap, ◌∙◌, subst, inl, inr, ⊎_elim}
+use Rattle.std.proofs.Common.{◌≡◌, ◌≢◌, ℕ, ◌+◌, ◌-◌, ◌*◌, ◌<◌, List, [], ◌∷◌, ◌++◌, length, get_or, refl, sym, ap, ◌∙◌, subst, inl, inr, ⊎_elim}
 use Rattle.std.proofs.Common.{arith}
 use Rattle.std.specs.Int.{bit_at}
 use Rattle.std.proofs.lemmas.Bool.{cases_eq}
@@ -10,13 +10,7 @@ use Rattle.rbbi_dfa.specs.PositionRows.{PositionRows}
 use Rattle.rbbi_dfa.specs.Determinizing.{IsStep, IsReached, FromFirst, FromSet, IsSome, AreDifferent, IsRow, AreReachedSets, IsCell, AreReachedCandidates}
 use Rattle.rbbi_dfa.specs.Determinizing.{Begin, AddsCells, HasReachedSets}
 use Rattle.rbbi_dfa.specs.LeafSetIndex.{IsAbsent, KeepsOrAdds}
-use Rattle.rbbi_dfa.proofs.Bits.{holds_word}
-
-pub word_holds : (row : List ℕ) (k t : ℕ) → t < 64 → Holds row (64 * k + t) → bit_at (get_or row k 0) t ≡ 1
-word_holds row k t small holds =
-    let word : (64 * k + t) / 64 ≡ k = omega (arith, small) in
-    let place : (64 * k + t) % 64 ≡ t = omega (arith, small) in
-    sym (ap (λ n. bit_at (get_or row n 0) ((64 * k + t) % 64)) word ∙ ap (λ n. bit_at (get_or row k 0) n) place) ∙ holds
+use Rattle.rbbi_dfa.proofs.Bits.{word_bit}
 
 -- rows of one width that differ hold different positions
 pub rows_apart : (width : ℕ) (these those : List ℕ) → IsRow width these → IsRow width those → these ≢ those → AreDifferent these those
@@ -27,10 +21,10 @@ rows_apart width these those is is' other = λ same.
     let low = bit_at-lt (get_or these k 0) t in
     let low' = bit_at-lt (get_or those k 0) t in
     ⊎_elim
-    (λ one. one ∙ sym (word_holds those k t small ((same (64 * k + t)).0 (holds_word these k t small one))))
+    (λ one. one ∙ sym (sym (word_bit those k t small) ∙ (same (64 * k + t)).0 (word_bit these k t small ∙ one)))
     (λ none.
     ⊎_elim
-    (λ one. absurd (none (word_holds these k t small ((same (64 * k + t)).1 (holds_word those k t small one)))))
+    (λ one. absurd (none (sym (word_bit these k t small) ∙ (same (64 * k + t)).1 (word_bit those k t small ∙ one))))
     (λ none'. omega (arith, low, low', none, none'))
     (cases_eq (bit_at (get_or those k 0) t) 1))
     (cases_eq (bit_at (get_or these k 0) t) 1)) in

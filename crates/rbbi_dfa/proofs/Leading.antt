@@ -24,12 +24,13 @@ use Rattle.rbbi_positions.specs.FollowPositions.{IsSpelled}
 use Rattle.rbbi_dfa.specs.BitRows.{Holds, row_at}
 use Rattle.rbbi_dfa.specs.Automata.{LeadsToMarks}
 use Rattle.rbbi_dfa.specs.PositionRows.{PositionRows}
-use Rattle.rbbi_dfa.specs.PositionAutomata.{FirstOf, LastOf, FollowsIn, FrontLastOf, IsOfRules}
+use Rattle.rbbi_dfa.specs.PositionAutomata.{IsOfRules}
 use Rattle.rbbi_dfa.specs.Determinizing.{ComesBy, IsDeterminized}
+use Rattle.rbbi_dfa.proofs.Grouping.{stop_along}
 use Rattle.rbbi_dfa.proofs.Reading.{ReadBy, front_read}
 use Rattle.rbbi_dfa.proofs.WalkReading.{reads_up_to, same_rule, lawful_rule}
-use Rattle.rbbi_dfa.proofs.Words.{laws, IsSetOf, Ended, Unread, IsRowOf, Stop, Set, row_of_word}
-use Rattle.rbbi_dfa.proofs.WordMarks.{mark_completed, front_mark}
+use Rattle.rbbi_dfa.proofs.Words.{IsSetOf, mark_completed, Ended, Unread, IsRowOf, Stop, Set, row_of_word}
+use Rattle.rbbi_dfa.proofs.WordMarks.{front_mark}
 use Rattle.rbbi_dfa.proofs.Determined.{set_word, each_row}
 use Rattle.rbbi_dfa.proofs.LawfulLeaves.{each_rule_leaf}
 
@@ -167,11 +168,6 @@ module _ (rules : List Rule) (lawful : AreLawful rules) where
         subst (LeadsToMarks automaton) at (lead_from spelled.2 spelled.1 spelled.0 held.0 i spelled.3 short' held.1)
 
     -- a way by categories that are read is that of a word, and any other leads to row 0
-    stays_stopped : (way : List ℕ) → IsWay automaton way → row_along automaton 0 way ≡ 0
-    stays_stopped [] is_way = refl
-    stays_stopped (category ∷ way) is_way = ap (λ r. row_along automaton r way) (is.stop category (omega (arith, is_way.0, is.categories)))
-        ∙ stays_stopped way is_way.1
-
     word_of_way : (way : List ℕ) → IsWay automaton way → ((w : List ℕ) × IsWord w × (map (category_of ranges) w ≡ way)) ⊎
         ((row : ℕ) → row < length automaton.rows → row_along automaton row way ≡ 0)
     word_of_way [] is_way = inl ([], tt, refl)
@@ -180,7 +176,8 @@ module _ (rules : List Rule) (lawful : AreLawful rules) where
         ⊎_elim
         (λ unread.
         inr (λ row short. ap (λ k. row_along automaton (step automaton row k) way) unread
-        ∙ ap (λ r. row_along automaton r way) (each_row rules lawful ranges rows of sets automaton is row short).unread ∙ stays_stopped way is_way.1))
+        ∙ ap (λ r. row_along automaton r way) (each_row rules lawful ranges rows of sets automaton is row short).unread
+        ∙ stop_along automaton (λ k within. is.stop k (omega (arith, within, is.categories))) way is_way.1))
         (λ read.
         let used = of.used category (omega (arith, read)) within in
         ⊎_elim
@@ -237,8 +234,7 @@ module _ (rules : List Rule) (lawful : AreLawful rules) where
             IsTrue (has_bit (fronts_of automaton row) k)
         at_row v _ {number} numbered front quiet (Stop row at (Ended ended)) = absurd (quiet ended.e ended.number (omega (arith, ended.before)) ended.ends)
         at_row v _ {number} numbered front quiet (Stop row at (Unread before none)) =
-            let read = front_read rules (FirstOf rules) (LastOf rules) (FrontLastOf rules) (FollowsIn rules) (laws rules lawful ranges rows of) v number
-            front in
+            let read = front_read rules lawful.each v number front in
             absurd (none read.0 read.1)
         at_row v _ {number} numbered front quiet (Set row j at short' set') =
             let small : accept_of automaton (j + 2) < 2 =

@@ -1,9 +1,10 @@
-pub mod Reading
 pub mod Spellings
 pub mod WalkReading
+pub mod Reading
 pub mod Words
 pub mod WordMarks
 pub mod Bits
+pub mod Lists
 pub mod RowLists
 pub mod Steps
 pub mod Buckets
@@ -30,6 +31,7 @@ pub mod Needed
 pub mod Numbering
 pub mod Merging
 pub mod Leastness
+pub mod WordRows
 pub mod RuleNeeds
 pub mod Compiling
 pub mod Finishing

@@ -4,9 +4,9 @@ use Rattle.std.specs.Prelude.{take, count_by, is_some, slice_get}
 use Rattle.std.specs.Option.{option_map}
 use Rattle.std.proofs.lemmas.Option.{slice_get_within, get_or_from_slice_get}
 use Rattle.std.proofs.lemmas.List.Sums.{count_by_more_no, count_by_more_yes, length-filter, sum_by-cons}
-use Rattle.rbbi_model.specs.Spelling.{Tree}
 use Rattle.rbbi_model.specs.Rules.{Rule, look_aheads}
 use Rattle.rbbi_model.specs.Tables.{CategoryRange}
+use Rattle.rbbi_positions.proofs.MarkLists.{some_mapped}
 use Rattle.rbbi_positions.specs.PositionMarks.{RuleMark, PositionMarks, ArePositions}
 
 -- whether the marks are those of a rule that looks ahead
@@ -48,10 +48,6 @@ same_counts (rule ∷ rules) (mark ∷ marks) h each =
     ∙ ap (λ b. cond b 1 0 + count_by has_slash marks) (each 0 rule mark refl refl)
     ∙ ap (λ n. cond (has_rest rule) 1 0 + n) (same_counts rules marks (omega (arith, h)) (λ n r m at is. each (suc n) r m at is))
     ∙ sym (sum_by-cons (λ r. cond (has_rest r) 1 0) rule rules)
-
-some_mapped : (f : Tree → ℕ) (rest : Option Tree) → is_some (option_map f rest) ≡ is_some rest
-some_mapped f None = refl
-some_mapped f (Some rest) = refl
 
 -- the marks have as many look-ahead rules as the rules
 pub look_aheads_by_marks : (rules : List Rule) (categories : ℕ) (ranges : List CategoryRange) (marks : PositionMarks) →

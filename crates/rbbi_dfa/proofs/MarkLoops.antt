@@ -1,18 +1,19 @@
 -- Loops over the marks of positions.
-use Rattle.std.proofs.Common.{◌≡◌, ◌≢◌, ℕ, zero, suc, ◌+◌, ◌-◌, ◌*◌, ◌%◌, ◌^◌, ◌<◌, ◌≤◌, ◌⊎◌, ◌↔◌, Bool, true, false, not, eqb, List, [], ◌∷◌, ◌++◌, length}
+use Rattle.std.proofs.Common.{◌≡◌, ◌≢◌, ℕ, zero, suc, ◌+◌, ◌-◌, ◌*◌, ◌%◌, ◌^◌, ◌<◌, ◌≤◌, ◌⊎◌, ◌↔◌, List, [], ◌∷◌, ◌++◌, length}
 use Rattle.std.proofs.Common.{get_or, refl, sym, ap, ◌∙◌, subst, inl, inr, ⊎_elim, arith}
-use Rattle.std.specs.Prelude.{IsTrue, bit_and}
+use Rattle.std.specs.Prelude.{IsTrue}
 use Rattle.std.specs.List.{All, AllPairs}
 use Rattle.std.specs.Int.{bit_at, w32}
 use Rattle.std.specs.Int.RustNames.{bit_or}
-use Rattle.std.proofs.lemmas.Bool.{cases_eq, ne_eqb, false≢true}
+use Rattle.std.proofs.lemmas.Bool.{cases_eq}
 use Rattle.std.proofs.lemmas.List.{get_or_default, get_or_append_left, get_or_push, length_push}
 use Rattle.std.proofs.lemmas.Nat.{pow_pos, or_lt}
 use Rattle.std.proofs.Math.Nat.{mod-le}
 use Rattle.std.proofs.Math.Pow.{pow-lt}
-use Rattle.std.proofs.lemmas.Nat.Bits.{and_pow, bit_at-lt, bit_at-zero, bit_at_set_same, bit_at_set_other}
+use Rattle.std.proofs.lemmas.Nat.Bits.{bit_at_set_same, bit_at_set_other}
 use Rattle.rbbi_model.specs.Places.{has_bit}
 use Rattle.rbbi_model.specs.Lists.{Member, IsRising}
+use Rattle.rbbi_model.proofs.MarksUnique.{bit_is_one, one_is_bit}
 use Rattle.rbbi_dfa.specs.BitRows.{Holds, row_at}
 use Rattle.rbbi_model.specs.Tables.{RowHead, empty_head}
 use Rattle.rbbi_dfa.specs.PositionRows.{PositionMark, PositionRows}
@@ -86,21 +87,6 @@ pub record IsAcceptUpTo (marks : List PositionMark) (set last : List ℕ) (i acc
   pub ended : (position : ℕ) → Holds set position → Holds last position → 1 ≤ accept
   pub is_ended : accept ≡ 1 → (position : ℕ) × Holds set position × Holds last position
 
-pub accept_start : (marks : List PositionMark) (set last : List ℕ) (met : Bool) (accept : ℕ) → (met ≡ true → (p : ℕ) × Holds set p × Holds last p) →
-    (met ≡ false → (p : ℕ) → Holds set p → ¬ Holds last p) → (met ≡ true → accept ≡ 1) → (met ≡ false → accept ≡ 0) → IsAcceptUpTo marks set last 0 accept
-accept_start marks set last true accept some none is_one is_zero = record {
-  completed = λ mark has. absurd (has_none marks set mark has);
-  is_completed = λ many. absurd (omega (arith, many, is_one refl));
-  ended = λ p holds holds'. omega (arith, is_one refl);
-  is_ended = λ one. some refl;
-}
-accept_start marks set last false accept some none is_one is_zero = record {
-  completed = λ mark has. absurd (has_none marks set mark has);
-  is_completed = λ many. absurd (omega (arith, many, is_zero refl));
-  ended = λ p holds holds'. absurd (none refl p holds holds');
-  is_ended = λ one. absurd (omega (arith, one, is_zero refl));
-}
-
 pub accept_takes : (marks : List PositionMark) (set last : List ℕ) (i accept position mark : ℕ) → record {
   position = position;
   mark =
@@ -148,32 +134,9 @@ accept_all rows set i accept all within is = record {
   is_ended = is.is_ended;
 }
 
--- the bit as a number, and as a test
-
-bit_is_one : (n k : ℕ) → IsTrue (has_bit n k) → bit_at n k ≡ 1
-bit_is_one n k is =
-    ⊎_elim
-    (λ none.
-    let nothing : 0 * 2 ^ k ≡ 0 = omega arith in
-    absurd (false≢true (sym (ap (λ m. not (eqb m 0)) (and_pow n k ∙ ap (λ b. b * 2 ^ k) none ∙ nothing)) ∙ is)))
-    (λ some. omega (arith, some, bit_at-lt n k))
-    (cases_eq (bit_at n k) 0)
-
-one_is_bit : (n k : ℕ) → bit_at n k ≡ 1 → IsTrue (has_bit n k)
-one_is_bit n k one =
-    let whole : bit_and n (2 ^ k) ≡ 1 * 2 ^ k = and_pow n k ∙ ap (λ b. b * 2 ^ k) one in
-    ap not (ne_eqb (bit_and n (2 ^ k)) 0 (λ none. omega (arith, whole, none, pow_pos k)))
-
 -- the mask after some marks
 abbrev pub AreFrontsUpTo : List PositionMark → List ℕ → ℕ → ℕ → Type 0
 AreFrontsUpTo marks set i fronts = (mark : ℕ) → IsTrue (has_bit fronts mark) ↔ HasMarkUpTo marks set i mark
-
-pub fronts_start : (marks : List PositionMark) (set : List ℕ) (fronts : ℕ) → fronts ≡ 0 → AreFrontsUpTo marks set 0 fronts
-fronts_start marks set fronts none mark = (
-  λ bit. absurd (let one = bit_is_one fronts mark bit in let zero' : bit_at fronts mark ≡ 0 =
-      ap (λ n. bit_at n mark) none ∙ bit_at-zero mark in omega (arith, one, zero')),
-  λ has. absurd (has_none marks set mark has),
-)
 
 pub fronts_takes : (marks : List PositionMark) (set : List ℕ) (i fronts position mark : ℕ) → record { position = position; mark = mark } ≡ mark_at marks i →
     mark < 32 → Holds set position → AreFrontsUpTo marks set i fronts → AreFrontsUpTo marks set (i + 1) (bit_or fronts (1 * 2 ^ mark % 2 ^ 32))
@@ -224,10 +187,10 @@ rising_push [] x rising last = tt
 rising_push (y ∷ []) x rising last = (last 0 refl, tt)
 rising_push (y ∷ z ∷ xs) x rising last = (rising.0, rising_push (z ∷ xs) x rising.1 (λ k long. last (suc k) (omega (arith, long))))
 
-pub member_last : (xs : List ℕ) (k : ℕ) → length xs ≡ k + 1 → Member xs (get_or xs k 0)
-member_last [] k long = absurd (omega (arith, long))
-member_last (x ∷ xs) zero long = inl refl
-member_last (x ∷ xs) (suc k) long = inr (member_last xs k (omega (arith, long)))
+pub member_at : (xs : List ℕ) (i : ℕ) → i < length xs → Member xs (get_or xs i 0)
+member_at [] i short = absurd (omega (arith, short))
+member_at (x ∷ xs) zero short = inl refl
+member_at (x ∷ xs) (suc i) short = inr (member_at xs i (omega (arith, short)))
 
 -- the status numbers after some marks
 pub record AreTagsUpTo (marks : List PositionMark) (set : List ℕ) (i : ℕ) (statuses : List ℕ) : Type 0 where
@@ -268,7 +231,7 @@ pub last_is : (marks : List PositionMark) (set statuses : List ℕ) (i k positio
     i < length marks → AllPairs (λ these those. these.mark ≤ those.mark) marks → AreTagsUpTo marks set i statuses → length statuses ≡ k + 1 →
     mark ≤ get_or statuses k 0 → Member statuses mark
 last_is marks set statuses i k position mark read short sorted are long low =
-    let member = member_last statuses k long in
+    let member = member_at statuses k (omega (arith, long)) in
     let has = (are.exactly (get_or statuses k 0)).0 member in
     let up = sorted has.0 i (record { position = 0; mark = 0 }) has.1 short in
     let here : mark ≡ (mark_at marks i).mark = ap (λ (m : PositionMark). m.mark) read in

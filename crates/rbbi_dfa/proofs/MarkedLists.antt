@@ -57,9 +57,6 @@ module _ (marks : PositionMarks) (kind : ListKind) (list : List PositionMark) (c
   )
 
 -- rows with one more
-pub rows_none : (marks : PositionMarks) (kind : ℕ → RowKind) (rows : List (List ℕ)) → rows ≡ [] → AreRowsBy marks kind 0 rows
-rows_none marks kind rows none = record { many = ap length none; each = λ i short. absurd (omega (arith, short)) }
-
 pub rows_more : (marks : PositionMarks) (kind : ℕ → RowKind) (rows : List (List ℕ)) (row : List ℕ) (count : ℕ) → AreRowsBy marks kind count rows →
     IsRowBy marks (kind count) row → AreRowsBy marks kind (count + 1) (rows ++ row ∷ [])
 rows_more marks kind rows row count are is = record {

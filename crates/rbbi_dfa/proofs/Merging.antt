@@ -13,7 +13,8 @@ use Rattle.rbbi_dfa.specs.Partitions.{IsPartition, IsMerged}
 use Rattle.rbbi_dfa.specs.Ranks.{AreRising, AreRanked}
 use Rattle.rbbi_dfa.specs.Numbers.{ArePlacesOf, AreUsed, AreNumbered, HaveCells, HaveHeads}
 use Rattle.rbbi_dfa.proofs.Grouping.{marks_by_parts}
-use Rattle.rbbi_dfa.proofs.Needed.{length-le_from_numbered, all_by_index}
+use Rattle.rbbi_positions.proofs.Codes.{all_at}
+use Rattle.rbbi_dfa.proofs.Lists.{all_by_index, le_from_choices}
 
 pub HaveCells-more : (automaton : Table) (classes firsts cells more : List ℕ) (count cell : ℕ) → HaveCells automaton classes firsts count cells →
     cell ≡ slice_index classes (step automaton (slice_index firsts (count / automaton.categories)) (count % automaton.categories)) →
@@ -26,15 +27,6 @@ HaveCells-more automaton classes firsts cells more count cell h here e =
           (λ k l. get_or_append_left cells (cell ∷ []) 0 k (omega (arith, h.many)) ∙ h.each k l)
           (get_or_push cells cell 0 count h.many ∙ here);
     })
-
-lists_by_index : (P : List ℕ → Type 0) (xs : List (List ℕ)) → ((i : ℕ) → i < length xs → P (slice_index_or xs i [])) → AllByRecursion P xs
-lists_by_index P [] h = tt
-lists_by_index P (x ∷ xs) h = (h 0 (omega arith), lists_by_index P xs (λ i l. h (suc i) (omega arith)))
-
-index_by_lists : (P : List ℕ → Type 0) (xs : List (List ℕ)) → AllByRecursion P xs → (i : ℕ) → i < length xs → P (slice_index_or xs i [])
-index_by_lists P [] h i l = absurd (omega arith)
-index_by_lists P (x ∷ xs) h zero l = h.0
-index_by_lists P (x ∷ xs) h (suc i) l = index_by_lists P xs h.1 i (omega arith)
 
 -- lists of which each comes before all later ones are in order
 pub AreInOrder-from_rising : (lists : List (List ℕ)) → AreRising lists → AreInOrder lists
@@ -56,21 +48,6 @@ begins_with_zero (first ∷ lists) zero valid rising h e = e
 begins_with_zero (first ∷ lists) (suc i) valid rising h e =
     let empty = before_zero_alone first (subst (λ (those : List ℕ). IsBefore first those) e (rising 0 (suc i) (omega arith) h)) in
     absurd (omega (arith, valid.0.some))
-
--- a choice for each number below count, in a list
-pub picked : (P : ℕ → ℕ → Type 0) (count : ℕ) → ((i : ℕ) → i < count → (x : ℕ) × P i x) → (xs : List ℕ) × (length xs ≡ count) ×
-    ((i : ℕ) → i < count → P i (slice_index xs i))
-picked P zero f = ([], refl, λ i h. absurd (omega arith))
-picked P (suc count) f =
-    let before = picked P count (λ i h. f i (omega arith)) in
-    let last = f count (omega arith) in (
-      before.0 ++ last.0 ∷ [],
-      omega (arith, length_push before.0 last.0, before.1),
-      λ i h. below_more (λ k. P k (slice_index (before.0 ++ last.0 ∷ []) k)) count
-          (λ k l. subst (λ (x : ℕ). P k x) (sym (get_or_append_left before.0 (last.0 ∷ []) 0 k (omega (arith, before.1)))) (before.2 k l))
-          (subst (λ (x : ℕ). P count x) (sym (get_or_push before.0 last.0 0 count before.1)) last.1)
-          i (omega arith),
-    )
 
 module _
     (automaton : Table)
@@ -121,26 +98,16 @@ module _
         (class.0, (omega (arith, class.1, of_classes.many), ap (λ k. slice_index numbers k) class.2 ∙ place.3))
 
     pub lists_few : length lists ≤ length firsts
-    lists_few =
-        let choice = picked (λ list class. (class < length firsts) × (slice_index numbers (slice_index class_places class) ≡ list)) (length lists) named in
-        omega (
-          arith,
-          choice.1,
-          length-le_from_numbered (λ class. class) (length firsts) choice.0
-              (all_by_index (λ class. class < length firsts) choice.0 (λ i h. (choice.2 i (omega (arith, choice.1))).0))
-              (λ i j less h e.
-              let this = choice.2 i (omega (arith, choice.1)) in
-              let that = choice.2 j (omega (arith, choice.1)) in
-              absurd (omega (arith, this.1, that.1, ap (λ class. slice_index numbers (slice_index class_places class)) e))),
-        )
+    lists_few = le_from_choices (λ list class. slice_index numbers (slice_index class_places class) ≡ list) (length lists) (length firsts) named
+        (λ i j class less short this that. omega arith)
 
     lists_valid : AllByRecursion IsValidList lists
-    lists_valid = lists_by_index IsValidList lists (λ i h.
+    lists_valid = all_by_index IsValidList [] lists (λ i h.
         let class = named i h in
         let same : slice_index_or lists i [] ≡ statuses_of automaton (list_of automaton (First class.0)) =
         ap (λ k. slice_index_or lists k []) (sym class.1.1) ∙ number_list class.0 class.1.0 in
-        subst (λ (s : List ℕ). IsValidList s) (sym same) (index_by_lists IsValidList automaton.lists determined.lists (list_of automaton (First class.0))
-        (first_list class.0 class.1.0)))
+        subst (λ (s : List ℕ). IsValidList s) (sym same) (all_at IsValidList automaton.lists (list_of automaton (First class.0)) []
+        (first_list class.0 class.1.0) determined.lists))
 
     module _
         (categories slashes : ℕ)

@@ -1,61 +1,15 @@
 -- How many rows a table needs: as many as there are classes.
-use Rattle.std.proofs.Common.{◌≡◌, ◌≢◌, ℕ, zero, suc, ◌+◌, ◌-◌, ◌<◌, ◌≤◌, true, false, ◌||◌, List, [], ◌∷◌, length, map, take, drop, get_or, eqb, ap, sym}
+use Rattle.std.proofs.Common.{◌≡◌, ◌≢◌, ℕ, ◌+◌, ◌-◌, ◌<◌, ◌≤◌, List, [], ◌∷◌, length, take, drop, get_or, ap, sym}
 use Rattle.std.proofs.Common.{◌∙◌, subst, ⊎_elim, arith, add_comm, slice_index}
-use Rattle.std.specs.List.{AllByRecursion, list_any}
-use Rattle.std.proofs.lemmas.Bool.{cases_eq, cases_lt, cases_Bool, false≢true}
-use Rattle.std.proofs.lemmas.Bool.Decides.{Decides-eqb}
-use Rattle.std.proofs.lemmas.List.{length-map, length-take, length-drop, get_or-map, get_or-take, get_or-drop, get_or_default}
-use Rattle.std.proofs.lemmas.Map.Keys.{IsDistinct-from_apart}
-use Rattle.std.proofs.lemmas.Map.Steps.{length-le_from_distinct_below}
+use Rattle.std.proofs.lemmas.Bool.{cases_eq, cases_lt}
+use Rattle.std.proofs.lemmas.List.{length-take, length-drop, get_or-take, get_or-drop, get_or_default}
 use Rattle.rbbi_model.specs.Tables.{Table, step, row_along}
 use Rattle.rbbi_model.specs.ValidTables.{IsWay}
 use Rattle.rbbi_model.specs.Marks.{marks_of}
 use Rattle.rbbi_dfa.specs.Automata.{IsDetermined}
 use Rattle.rbbi_dfa.specs.Partitions.{IsPartition, IsToldApart, IsStable, NeedsRows}
-
--- what holds of each number of a list holds of each that is in it
-each_member : (P : ℕ → Type 0) (xs : List ℕ) → AllByRecursion P xs → (q : ℕ) → list_any (eqb q) xs ≡ true → P q
-each_member P [] h q e = absurd (false≢true e)
-each_member P (x ∷ xs) h q e =
-    ⊎_elim
-    (λ (y : eqb q x ≡ true). subst P (sym ((Decides-eqb q x).0 y)) h.0)
-    (λ (n : eqb q x ≡ false). each_member P xs h.1 q (ap (λ b. b || list_any (eqb q) xs) (sym n) ∙ e))
-    (cases_Bool (eqb q x))
-
-not_equal : (m n : ℕ) → m ≢ n → eqb m n ≡ false
-not_equal m n d = ⊎_elim (λ (y : eqb m n ≡ true). absurd (d ((Decides-eqb m n).0 y))) (λ (e : eqb m n ≡ false). e) (cases_Bool (eqb m n))
-
--- Numbers that are given to the members of a list, each below count and each two different, are given to count members at most.
-pub length-le_from_numbered : (f : ℕ → ℕ) (count : ℕ) (xs : List ℕ) → AllByRecursion (λ x. f x < count) xs →
-    ((i j : ℕ) → i < j → j < length xs → f (slice_index xs i) ≢ f (slice_index xs j)) → length xs ≤ count
-length-le_from_numbered f count xs below apart =
-    omega (
-      arith,
-      length-map xs f,
-      length-le_from_distinct_below (map f xs) count
-          (IsDistinct-from_apart eqb (map f xs) (λ i j d less h.
-          let j_below : j < length xs = omega (arith, length-map xs f) in
-          not_equal (get_or (map f xs) i d) (get_or (map f xs) j d)
-          (λ e. apart i j less j_below (sym (get_or-map f xs i 0 d (omega arith)) ∙ e ∙ get_or-map f xs j 0 d j_below))))
-          (each_member (λ n. n < count) (map f xs) (mapped xs below)),
-    )
-  where
-    mapped : (ys : List ℕ) → AllByRecursion (λ x. f x < count) ys → AllByRecursion (λ n. n < count) (map f ys)
-    mapped [] h = tt
-    mapped (y ∷ ys) h = (h.0, mapped ys h.1)
-
-pub all_by_index : (P : ℕ → Type 0) (xs : List ℕ) → ((i : ℕ) → i < length xs → P (slice_index xs i)) → AllByRecursion P xs
-all_by_index P [] h = tt
-all_by_index P (x ∷ xs) h = (h 0 (omega arith), all_by_index P xs (λ i l. h (suc i) (omega arith)))
-
-pub index_by_all : (P : ℕ → Type 0) (xs : List ℕ) → AllByRecursion P xs → (i : ℕ) → i < length xs → P (slice_index xs i)
-index_by_all P [] h i l = absurd (omega arith)
-index_by_all P (x ∷ xs) h zero l = h.0
-index_by_all P (x ∷ xs) h (suc i) l = index_by_all P xs h.1 i (omega arith)
-
-map_all : (P Q : ℕ → Type 0) → ((x : ℕ) → P x → Q x) → (xs : List ℕ) → AllByRecursion P xs → AllByRecursion Q xs
-map_all P Q f [] h = tt
-map_all P Q f (x ∷ xs) h = (f x h.0, map_all P Q f xs h.1)
+use Rattle.rbbi_positions.proofs.Codes.{all_at}
+use Rattle.rbbi_dfa.proofs.Lists.{all_by_index, le_from_choices}
 
 module _ (automaton : Table) (classes firsts : List ℕ) (determined : IsDetermined automaton) (partition : IsPartition automaton classes firsts) where
   class_stop : slice_index classes 0 ≡ 0
@@ -89,7 +43,7 @@ module _ (automaton : Table) (classes firsts : List ℕ) (determined : IsDetermi
       record {
         rows = rows;
         many = is;
-        are_rows = all_by_index (λ row. (row ≢ 0) × (row < length automaton.rows)) (take count (drop 1 firsts)) (λ i h.
+        are_rows = all_by_index (λ row. (row ≢ 0) × (row < length automaton.rows)) 0 (take count (drop 1 firsts)) (λ i h.
             let class : i + 1 < length firsts = omega arith in
             let at = first_at i 0 (omega arith) in
             let row_class : slice_index classes (slice_index firsts (i + 1)) ≡ i + 1 = partition.first_class (i + 1) class in (
@@ -130,25 +84,27 @@ module _ (automaton : Table) (classes firsts : List ℕ) (determined : IsDetermi
     -- no more rows are needed than there are classes beside class 0
     pub NeedsRows-at_most : (count : ℕ) → NeedsRows automaton count → count < length firsts
     NeedsRows-at_most count needs =
-        let few = length-le_from_numbered (λ row. slice_index classes row - 1) (length firsts - 1) needs.rows
-        (map_all (λ row. (row ≢ 0) × (row < length automaton.rows)) (λ row. slice_index classes row - 1 < length firsts - 1) (λ row h. below row h.0 h.1)
-        needs.rows needs.are_rows)
-        (λ i j less h e.
-        let this = index_by_all (λ row. (row ≢ 0) × (row < length automaton.rows)) needs.rows needs.are_rows i (omega arith) in
-        let that = index_by_all (λ row. (row ≢ 0) × (row < length automaton.rows)) needs.rows needs.are_rows j h in
-        let apart = needs.apart i j 0 less h in
-        let same : slice_index classes (slice_index needs.rows i) ≡ slice_index classes (slice_index needs.rows j) =
-        omega (arith, some (slice_index needs.rows i) this.0 this.1, some (slice_index needs.rows j) that.0 that.1) in
-        apart.2 (along (slice_index needs.rows i) (slice_index needs.rows j) apart.0 (omega (arith, this.1, partition.rows))
-        (omega (arith, that.1, partition.rows)) apart.1 same))
-        in omega (arith, needs.many, partition.some)
+        let few = le_from_choices (λ i x. slice_index classes (slice_index needs.rows i) ≡ x + 1) (length needs.rows) (length firsts - 1)
+        (λ i short.
+        let class : ℕ = slice_index classes (slice_index needs.rows i) in
+        let within = partition.within (slice_index needs.rows i) (row_within i short) in
+        (class - 1, (omega (arith, some i short, within), omega (arith, some i short))))
+        (λ i j x less short this that.
+        let apart = needs.apart i j 0 less short in
+        apart.2 (along (slice_index needs.rows i) (slice_index needs.rows j) apart.0 (row_within i (omega arith)) (row_within j short) apart.1
+        (this ∙ sym that))) in
+        omega (arith, few, needs.many, partition.some)
       where
-        some : (row : ℕ) → row ≢ 0 → row < length automaton.rows → 1 ≤ slice_index classes row
-        some row s h =
-            ⊎_elim
-            (λ (z : slice_index classes row < 1). absurd (s (partition.alone row (omega (arith, partition.rows)) (omega arith))))
-            (λ (g : 1 ≤ slice_index classes row). g)
-            (cases_lt (slice_index classes row) 1)
+        row_at : (i : ℕ) → i < length needs.rows → (slice_index needs.rows i ≢ 0) × (slice_index needs.rows i < length automaton.rows)
+        row_at i short = all_at (λ row. (row ≢ 0) × (row < length automaton.rows)) needs.rows i 0 short needs.are_rows
 
-        below : (row : ℕ) → row ≢ 0 → row < length automaton.rows → slice_index classes row - 1 < length firsts - 1
-        below row s h = omega (arith, some row s h, partition.within row (omega (arith, partition.rows)))
+        row_within : (i : ℕ) → i < length needs.rows → slice_index needs.rows i < length classes
+        row_within i short = omega (arith, (row_at i short).1, partition.rows)
+
+        some : (i : ℕ) → i < length needs.rows → 1 ≤ slice_index classes (slice_index needs.rows i)
+        some i short =
+            ⊎_elim
+            (λ (z : slice_index classes (slice_index needs.rows i) < 1).
+            absurd ((row_at i short).0 (partition.alone (slice_index needs.rows i) (row_within i short) (omega arith))))
+            (λ (g : 1 ≤ slice_index classes (slice_index needs.rows i)). g)
+            (cases_lt (slice_index classes (slice_index needs.rows i)) 1)

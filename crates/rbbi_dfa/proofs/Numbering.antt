@@ -1,72 +1,23 @@
 -- Numbering the status lists that classes have.
-use Rattle.std.proofs.Common.{◌≡◌, ◌≢◌, ℕ, ◌+◌, ◌<◌, Bool, true, false, List, [], ◌∷◌, ◌++◌, length, set, refl, ap, sym, ◌∙◌, subst, ⊎_elim, arith}
+use Rattle.std.proofs.Common.{◌≡◌, ◌≢◌, ℕ, ◌+◌, ◌<◌, Bool, true, false, List, [], ◌∷◌, ◌++◌, length, refl, ap, sym, ◌∙◌, subst, ⊎_elim, arith}
 use Rattle.std.proofs.Common.{slice_index, slice_index_or}
 use Rattle.std.proofs.lemmas.Bool.{cases_eq, false≢true}
-use Rattle.std.proofs.lemmas.List.{get_or_append_left, get_or_push, length_push, get_or-set_same, get_or-set_other}
+use Rattle.std.proofs.lemmas.List.{get_or_append_left, get_or_push, length_push}
 use borrow.Author.Count.{below_more}
 use Rattle.rbbi_model.specs.Tables.{Table, list_of}
 use Rattle.rbbi_model.specs.ValidTables.{IsBefore}
 use Rattle.rbbi_dfa.specs.Ranks.{AreRising}
-use Rattle.rbbi_dfa.specs.Numbers.{ArePlacesOf, AreNumbered}
+use Rattle.rbbi_dfa.specs.Numbers.{AreNumbered}
 
 -- the places of so many classes
 pub record ArePlacesUpTo (automaton : Table) (places firsts class_places : List ℕ) (count : ℕ) : Type 0 where
   pub many : length class_places ≡ count
   pub each : (class : ℕ) → class < count → slice_index class_places class ≡ slice_index places (list_of automaton (slice_index firsts class))
 
-pub ArePlacesUpTo-none : (automaton : Table) (places firsts class_places : List ℕ) → class_places ≡ [] → ArePlacesUpTo automaton places firsts class_places 0
-ArePlacesUpTo-none automaton places firsts class_places e = record { many = ap (λ xs. length xs) e; each = λ k h. absurd (omega arith) }
-
-pub ArePlacesUpTo-more : (automaton : Table) (places firsts class_places more : List ℕ) (count place : ℕ) →
-    ArePlacesUpTo automaton places firsts class_places count → place ≡ slice_index places (list_of automaton (slice_index firsts count)) →
-    more ≡ class_places ++ place ∷ [] → ArePlacesUpTo automaton places firsts more (count + 1)
-ArePlacesUpTo-more automaton places firsts class_places more count place h here e =
-    subst (λ (xs : List ℕ). ArePlacesUpTo automaton places firsts xs (count + 1)) (sym e) (record {
-      many = length_push class_places place ∙ ap (λ n. n + 1) h.many;
-      each = below_more (λ k. slice_index (class_places ++ place ∷ []) k ≡ slice_index places (list_of automaton (slice_index firsts k))) count
-          (λ k l. get_or_append_left class_places (place ∷ []) 0 k (omega (arith, h.many)) ∙ h.each k l)
-          (get_or_push class_places place 0 count h.many ∙ here);
-    })
-
-pub ArePlacesOf-all : (automaton : Table) (places firsts class_places : List ℕ) (count : ℕ) → count ≡ length firsts →
-    ArePlacesUpTo automaton places firsts class_places count → ArePlacesOf automaton places firsts class_places
-ArePlacesOf-all automaton places firsts class_places count e h = record { many = h.many ∙ e; each = λ k l. h.each k (omega arith) }
-
 -- the places that are one of so many classes'
 pub record AreUsedUpTo (class_places : List ℕ) (used : List Bool) (count : ℕ) : Type 0 where
   pub all : (class : ℕ) → class < count → slice_index_or used (slice_index class_places class) false ≡ true
   pub only : (place : ℕ) → slice_index_or used place false ≡ true → (class : ℕ) × (class < count) × (slice_index class_places class ≡ place)
-
-pub AreUsedUpTo-more : (class_places : List ℕ) (used : List Bool) (count place : ℕ) → AreUsedUpTo class_places used count → place < length used →
-    place ≡ slice_index class_places count → AreUsedUpTo class_places (set used place true) (count + 1)
-AreUsedUpTo-more class_places used count place h within is = record {
-  all = below_more (λ k. slice_index_or (set used place true) (slice_index class_places k) false ≡ true) count
-      (λ k l.
-      ⊎_elim
-      (λ (e : slice_index class_places k ≡ place). ap (λ n. slice_index_or (set used place true) n false) e ∙ get_or-set_same used place true false within)
-      (λ (d : slice_index class_places k ≢ place). get_or-set_other used place (slice_index class_places k) true false d ∙ h.all k l)
-      (cases_eq (slice_index class_places k) place))
-      (ap (λ n. slice_index_or (set used place true) n false) (sym is) ∙ get_or-set_same used place true false within);
-  only = λ other e.
-      ⊎_elim
-      (λ (s : other ≡ place). (count, omega arith, sym is ∙ sym s))
-      (λ (d : other ≢ place).
-      let found = h.only other (sym (get_or-set_other used place other true false d) ∙ e) in
-      (found.0, omega (arith, found.1), found.2))
-      (cases_eq other place);
-}
-
-pub AreNumbered-none : (used : List Bool) (sorted : List (List ℕ)) (numbers : List ℕ) (lists : List (List ℕ)) → numbers ≡ [] → lists ≡ [] →
-    AreNumbered used sorted 0 numbers lists
-AreNumbered-none used sorted numbers lists e f =
-    subst (λ (xs : List ℕ). AreNumbered used sorted 0 xs lists) (sym e)
-    (subst (λ (xs : List (List ℕ)). AreNumbered used sorted 0 [] xs) (sym f) (record {
-      many = refl;
-      rising = λ i j l h. absurd (omega arith);
-      within = λ k h u. absurd (omega arith);
-      same = λ k h u. absurd (omega arith);
-      only = λ k h. absurd (omega arith);
-    }))
 
 module _ (used : List Bool) (sorted : List (List ℕ)) (count : ℕ) (numbers : List ℕ) (lists : List (List ℕ)) (h : AreNumbered used sorted count numbers lists)
   where

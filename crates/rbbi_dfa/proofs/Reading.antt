@@ -4,33 +4,18 @@ use Rattle.std.proofs.Common.{arith}
 use Rattle.std.specs.Prelude.{slice_range}
 use Rattle.std.proofs.lemmas.Bool.{cases_lt}
 use Rattle.std.proofs.lemmas.List.{length_push, take_all, take_at, drop-append-le, length-take, length-drop}
-use Rattle.rbbi_model.specs.Rules.{Rule, IsWordOf, IsFrontWordOf}
+use Rattle.std.specs.List.{AllByRecursion}
+use Rattle.rbbi_model.specs.Rules.{Rule, IsLawfulRule, IsWordOf, IsFrontWordOf}
 use Rattle.rbbi_model.specs.Chains.{IsRule, EndsAt, Word, Chained, FrontEndsAt}
 use Rattle.rbbi_model.specs.LeafSets.{Reads, ReadsLast, BeginsToRead, IsChainedToRead}
 use Rattle.rbbi_model.proofs.RulesCover.{ends_lie}
-use Rattle.rbbi_dfa.specs.PositionAutomata.{Chainable}
+use Rattle.rbbi_dfa.specs.PositionAutomata.{FirstOf, LastOf, FollowsIn, FrontLastOf, Chainable}
+use Rattle.rbbi_dfa.proofs.WalkReading.{starts, extends, firsts, shrinks, reads_code, words, wholes, front_words, front_wholes}
 use Rattle.rbbi_model.proofs.Local.{ends_to, ends_from}
 
 -- the position can read the last code point of the word, whatever look-ahead rules end before
 abbrev pub ReadBy : List Rule → List ℕ → ℕ → Type 0
 ReadBy rules w position = BeginsToRead rules w position ⊎ IsChainedToRead rules w position
-
--- how the positions of rules are first, last and follow each other, told by the words that they begin to read
-pub record ReadingLaws (rules : List Rule) (IsFirst IsLast IsFrontLast : ℕ → ℕ → Type 0) (Follows : ℕ → ℕ → ℕ → Type 0) : Type 0 where
-  pub start : (number p c : ℕ) (rule : Rule) → IsRule rules number rule → IsFirst number p → Reads rules p c → ReadsLast rules number rule (c ∷ []) p
-  pub extend : (number other q p c : ℕ) (rule : Rule) (v : List ℕ) → IsRule rules number rule → ReadsLast rules number rule v q → Follows other q p →
-      Reads rules p c → ReadsLast rules number rule (v ++ c ∷ []) p
-  pub first : (number p c : ℕ) (rule : Rule) → IsRule rules number rule → ReadsLast rules number rule (c ∷ []) p → IsFirst number p
-  pub shrink : (number p c : ℕ) (rule : Rule) (v : List ℕ) → IsRule rules number rule → v ≢ [] → ReadsLast rules number rule (v ++ c ∷ []) p →
-      (q : ℕ) × ReadsLast rules number rule v q × Follows number q p
-  pub reads : (number p c : ℕ) (rule : Rule) (v : List ℕ) → IsRule rules number rule → ReadsLast rules number rule (v ++ c ∷ []) p → Reads rules p c
-  pub word : (number : ℕ) (rule : Rule) (v : List ℕ) → IsRule rules number rule → IsWordOf rule v → (p : ℕ) × ReadsLast rules number rule v p × IsLast number p
-  pub whole : (number other p : ℕ) (rule : Rule) (v : List ℕ) → IsRule rules number rule → ReadsLast rules number rule v p → IsLast other p →
-      (number ≡ other) × IsWordOf rule v
-  pub front_word : (number : ℕ) (rule : Rule) (v : List ℕ) → IsRule rules number rule → IsFrontWordOf rule v → (p : ℕ) × ReadsLast rules number rule v p ×
-      IsFrontLast number p
-  pub front_whole : (number other p : ℕ) (rule : Rule) (v : List ℕ) → IsRule rules number rule → ReadsLast rules number rule v p → IsFrontLast other p →
-      (number ≡ other) × IsFrontWordOf rule v
 
 -- words by their last code point
 
@@ -72,22 +57,21 @@ ends_shorter rules w c m number short ends =
     (subst (λ e. EndsAt rules (slice_range (w ++ c ∷ []) 0 (length w)) 0 e number) (let same : m - 0 ≡ m = omega arith in same)
     (ends_to rules (w ++ c ∷ []) 0 (length w) (omega arith) (omega (arith, length_push w c)) m number short ends))
 
-module _ (rules : List Rule) (IsFirst IsLast IsFrontLast : ℕ → ℕ → Type 0) (Follows : ℕ → ℕ → ℕ → Type 0)
-    (laws : ReadingLaws rules IsFirst IsLast IsFrontLast Follows) where
+module _ (rules : List Rule) (lawful : AllByRecursion IsLawfulRule rules) where
   -- the position can come next after the word, without a chain there
   pub record ComesFirst (w : List ℕ) (p : ℕ) : Type 0 where
     pub none : w ≡ []
     pub number : ℕ
     pub rule : Rule
     pub is_rule : IsRule rules number rule
-    pub first : IsFirst number p
+    pub first : FirstOf rules number p
 
   pub record ComesAfter (w : List ℕ) (p : ℕ) : Type 0 where
     pub some : w ≢ []
     pub number : ℕ
     pub q : ℕ
     pub read : ReadBy rules w q
-    pub follows : Follows number q p
+    pub follows : FollowsIn rules number q p
 
   abbrev pub Comes : List ℕ → ℕ → Type 0
   Comes w p = ComesFirst w p ⊎ ComesAfter w p
@@ -98,13 +82,13 @@ module _ (rules : List Rule) (IsFirst IsLast IsFrontLast : ℕ → ℕ → Type 
     pub q : ℕ
     pub comes : Comes w q
     pub reads : Reads rules q c
-    pub last : IsLast number q
+    pub last : LastOf rules number q
 
   -- the position is first in a rule that is chained into where a rule ends with the code point
   pub record ComesChained (w : List ℕ) (c p : ℕ) : Type 0 where
     pub number : ℕ
     pub chained : Chainable rules number
-    pub first : IsFirst number p
+    pub first : FirstOf rules number p
     pub ends : EndsNow w c
 
   abbrev pub ReadsNext : List ℕ → ℕ → ℕ → Type 0
@@ -128,10 +112,10 @@ module _ (rules : List Rule) (IsFirst IsLast IsFrontLast : ℕ → ℕ → Type 
         rule = rule;
         is_rule = is_rule;
         first =
-            laws.first number p c rule is_rule (subst (λ l. ReadsLast rules number rule l p) (push_nil w c none) reads);
+            firsts rules lawful number p c rule is_rule (subst (λ l. ReadsLast rules number rule l p) (push_nil w c none) reads);
       }))
       (λ some.
-      let shorter = laws.shrink number p c rule w is_rule some reads in
+      let shorter = shrinks rules lawful number p c rule w is_rule some reads in
       inr (record {
         some = some;
         number = number;
@@ -151,7 +135,7 @@ module _ (rules : List Rule) (IsFirst IsLast IsFrontLast : ℕ → ℕ → Type 
       let v : List ℕ = slice_range w (m - 1) (length w) in
       let some : v ≢ [] = λ none. omega (arith, ap length none, length-take (length w - (m - 1)) (drop (m - 1) w), length-drop (m - 1) w, lies.0) in
       let reads' = subst (λ l. ReadsLast rules number rule l p) (push_piece w c (m - 1) (omega arith)) reads in
-      let shorter = laws.shrink number p c rule v is_rule some reads' in
+      let shorter = shrinks rules lawful number p c rule v is_rule some reads' in
       inr (record {
         some = λ none. omega (arith, ap length none, lies.0);
         number = number;
@@ -174,13 +158,13 @@ module _ (rules : List Rule) (IsFirst IsLast IsFrontLast : ℕ → ℕ → Type 
   ends_now : (w : List ℕ) (c e number : ℕ) → EndsAt rules (w ++ c ∷ []) 0 e number → e ≡ length (w ++ c ∷ []) → EndsNow w c
   ends_now w c _ _ (Word e number rule is_rule piece) at =
       let same : slice_range (w ++ c ∷ []) 0 e ≡ w ++ c ∷ [] = ap (λ n. slice_range (w ++ c ∷ []) 0 n) at ∙ whole_piece (w ++ c ∷ []) in
-      let read = laws.word number rule (w ++ c ∷ []) is_rule (subst (IsWordOf rule) same piece.word) in
+      let read = words rules lawful number rule (w ++ c ∷ []) is_rule (subst (IsWordOf rule) same piece.word) in
       record {
         number = number;
         q = read.0;
         comes = begins_comes number read.0 c rule w is_rule read.1;
         reads =
-            laws.reads number read.0 c rule w is_rule read.1;
+            reads_code rules lawful number read.0 c rule w is_rule read.1;
         last = read.2;
       }
   ends_now w c _ _ (Chained m before e number rule ends is_rule chained_into piece) at =
@@ -189,8 +173,8 @@ module _ (rules : List Rule) (IsFirst IsLast IsFrontLast : ℕ → ℕ → Type 
       (λ less.
       let same : slice_range (w ++ c ∷ []) (m - 1) e ≡ slice_range (w ++ c ∷ []) (m - 1) (length (w ++ c ∷ [])) =
       ap (λ n. slice_range (w ++ c ∷ []) (m - 1) n) at in
-      let read = laws.word number rule (slice_range (w ++ c ∷ []) (m - 1) (length (w ++ c ∷ []))) is_rule (subst (IsWordOf rule) same piece.word) in
-      let reads = laws.reads number read.0 c rule (slice_range w (m - 1) (length w)) is_rule
+      let read = words rules lawful number rule (slice_range (w ++ c ∷ []) (m - 1) (length (w ++ c ∷ []))) is_rule (subst (IsWordOf rule) same piece.word) in
+      let reads = reads_code rules lawful number read.0 c rule (slice_range w (m - 1) (length w)) is_rule
       (subst (λ l. ReadsLast rules number rule l read.0) (push_piece w c (m - 1) (omega (arith, length_push w c))) read.1) in
       record {
         number = number;
@@ -214,7 +198,7 @@ module _ (rules : List Rule) (IsFirst IsLast IsFrontLast : ℕ → ℕ → Type 
         is_rule = first.is_rule;
         reads =
             subst (λ l. ReadsLast rules first.number first.rule l p) (sym (push_nil w c first.none))
-            (laws.start first.number p c first.rule first.is_rule first.first reads);
+            (starts rules lawful first.number p c first.rule first.is_rule first.first reads);
       }))
       (λ after.
       ⊎_elim
@@ -223,12 +207,12 @@ module _ (rules : List Rule) (IsFirst IsLast IsFrontLast : ℕ → ℕ → Type 
         rule = begun.rule;
         is_rule = begun.is_rule;
         reads =
-            laws.extend begun.number after.number after.q p c begun.rule w begun.is_rule begun.reads after.follows reads;
+            extends rules lawful begun.number after.number after.q p c begun.rule w begun.is_rule begun.reads after.follows reads;
       }))
       (λ chained.
       let lies = ends_lie rules w 0 chained.m chained.before chained.ends in
-      let reads' = laws.extend chained.number after.number after.q p c chained.rule (slice_range w (chained.m - 1) (length w)) chained.is_rule chained.reads
-      after.follows reads in
+      let reads' = extends rules lawful chained.number after.number after.q p c chained.rule (slice_range w (chained.m - 1) (length w)) chained.is_rule
+      chained.reads after.follows reads in
       inr (record {
         m = chained.m;
         before = chained.before;
@@ -242,31 +226,31 @@ module _ (rules : List Rule) (IsFirst IsLast IsFrontLast : ℕ → ℕ → Type 
       after.read)
 
   -- where a last position reads the last code point, its rule ends there
-  pub read_ends : (w : List ℕ) (number p : ℕ) → ReadBy rules w p → IsLast number p → EndsAt rules w 0 (length w) number
+  pub read_ends : (w : List ℕ) (number p : ℕ) → ReadBy rules w p → LastOf rules number p → EndsAt rules w 0 (length w) number
   read_ends w number p read last =
       ⊎_elim
       (λ begun.
-      let whole = laws.whole begun.number number p begun.rule w begun.is_rule begun.reads last in
+      let whole = wholes rules lawful begun.number number p begun.rule w begun.is_rule begun.reads last in
       subst (λ n. EndsAt rules w 0 (length w) n) whole.0
       (Word (length w) begun.number begun.rule begun.is_rule
       (record { starts = omega arith; ends = omega arith; word = subst (IsWordOf begun.rule) (sym (whole_piece w)) whole.1 })))
       (λ chained.
       let lies = ends_lie rules w 0 chained.m chained.before chained.ends in
-      let whole = laws.whole chained.number number p chained.rule (slice_range w (chained.m - 1) (length w)) chained.is_rule chained.reads last in
+      let whole = wholes rules lawful chained.number number p chained.rule (slice_range w (chained.m - 1) (length w)) chained.is_rule chained.reads last in
       subst (λ n. EndsAt rules w 0 (length w) n) whole.0
       (Chained chained.m chained.before (length w) chained.number chained.rule chained.ends chained.is_rule chained.chained_into
       (record { starts = omega (arith, lies.1); ends = omega arith; word = whole.1 })))
       read
 
   -- where a rule ends with the word, one of its last positions reads the last code point
-  ends_read_at : (w : List ℕ) (e number : ℕ) → EndsAt rules w 0 e number → e ≡ length w → (p : ℕ) × ReadBy rules w p × IsLast number p
+  ends_read_at : (w : List ℕ) (e number : ℕ) → EndsAt rules w 0 e number → e ≡ length w → (p : ℕ) × ReadBy rules w p × LastOf rules number p
   ends_read_at w _ _ (Word e number rule is_rule piece) at =
       let same : slice_range w 0 e ≡ w = ap (λ n. slice_range w 0 n) at ∙ whole_piece w in
-      let read = laws.word number rule w is_rule (subst (IsWordOf rule) same piece.word) in
+      let read = words rules lawful number rule w is_rule (subst (IsWordOf rule) same piece.word) in
       (read.0, inl (record { number = number; rule = rule; is_rule = is_rule; reads = read.1 }), read.2)
   ends_read_at w _ _ (Chained m before e number rule ends is_rule chained_into piece) at =
       let same : slice_range w (m - 1) e ≡ slice_range w (m - 1) (length w) = ap (λ n. slice_range w (m - 1) n) at in
-      let read = laws.word number rule (slice_range w (m - 1) (length w)) is_rule (subst (IsWordOf rule) same piece.word) in (
+      let read = words rules lawful number rule (slice_range w (m - 1) (length w)) is_rule (subst (IsWordOf rule) same piece.word) in (
         read.0,
         inr (record {
           m = m;
@@ -282,18 +266,18 @@ module _ (rules : List Rule) (IsFirst IsLast IsFrontLast : ℕ → ℕ → Type 
         read.2,
       )
 
-  pub ends_read : (w : List ℕ) (number : ℕ) → EndsAt rules w 0 (length w) number → (p : ℕ) × ReadBy rules w p × IsLast number p
+  pub ends_read : (w : List ℕ) (number : ℕ) → EndsAt rules w 0 (length w) number → (p : ℕ) × ReadBy rules w p × LastOf rules number p
   ends_read w number ends = ends_read_at w (length w) number ends refl
 
   -- the same of fronts
-  pub front_read : (w : List ℕ) (number : ℕ) → FrontEndsAt rules w 0 (length w) number → (p : ℕ) × ReadBy rules w p × IsFrontLast number p
+  pub front_read : (w : List ℕ) (number : ℕ) → FrontEndsAt rules w 0 (length w) number → (p : ℕ) × ReadBy rules w p × FrontLastOf rules number p
   front_read w number ends =
       ⊎_elim
       (λ piece.
-      let read = laws.front_word number ends.rule w ends.is_rule (subst (IsFrontWordOf ends.rule) (whole_piece w) piece.word) in
+      let read = front_words rules lawful number ends.rule w ends.is_rule (subst (IsFrontWordOf ends.rule) (whole_piece w) piece.word) in
       (read.0, inl (record { number = number; rule = ends.rule; is_rule = ends.is_rule; reads = read.1 }), read.2))
       (λ chained.
-      let read = laws.front_word number ends.rule (slice_range w (chained.m - 1) (length w)) ends.is_rule chained.piece.word in (
+      let read = front_words rules lawful number ends.rule (slice_range w (chained.m - 1) (length w)) ends.is_rule chained.piece.word in (
         read.0,
         inr (record {
           m = chained.m;
@@ -310,11 +294,11 @@ module _ (rules : List Rule) (IsFirst IsLast IsFrontLast : ℕ → ℕ → Type 
       ))
       ends.front
 
-  pub read_front : (w : List ℕ) (number p : ℕ) → ReadBy rules w p → IsFrontLast number p → FrontEndsAt rules w 0 (length w) number
+  pub read_front : (w : List ℕ) (number p : ℕ) → ReadBy rules w p → FrontLastOf rules number p → FrontEndsAt rules w 0 (length w) number
   read_front w number p read last =
       ⊎_elim
       (λ begun.
-      let whole = laws.front_whole begun.number number p begun.rule w begun.is_rule begun.reads last in
+      let whole = front_wholes rules lawful begun.number number p begun.rule w begun.is_rule begun.reads last in
       subst (λ n. FrontEndsAt rules w 0 (length w) n) whole.0
       (record {
         rule = begun.rule;
@@ -324,7 +308,8 @@ module _ (rules : List Rule) (IsFirst IsLast IsFrontLast : ℕ → ℕ → Type 
       }))
       (λ chained.
       let lies = ends_lie rules w 0 chained.m chained.before chained.ends in
-      let whole = laws.front_whole chained.number number p chained.rule (slice_range w (chained.m - 1) (length w)) chained.is_rule chained.reads last in
+      let whole = front_wholes rules lawful chained.number number p chained.rule (slice_range w (chained.m - 1) (length w)) chained.is_rule chained.reads
+      last in
       subst (λ n. FrontEndsAt rules w 0 (length w) n) whole.0
       (record {
         rule = chained.rule;
@@ -345,7 +330,7 @@ module _ (rules : List Rule) (IsFirst IsLast IsFrontLast : ℕ → ℕ → Type 
   reads_next w c p =
       ⊎_elim
       (λ begun. (
-        laws.reads begun.number p c begun.rule w begun.is_rule begun.reads,
+        reads_code rules lawful begun.number p c begun.rule w begun.is_rule begun.reads,
         inl
             (begins_comes begun.number p c begun.rule w begun.is_rule begun.reads),
       ))
@@ -354,7 +339,7 @@ module _ (rules : List Rule) (IsFirst IsLast IsFrontLast : ℕ → ℕ → Type 
       let long = length_push w c in
       ⊎_elim
       (λ less.
-      let reads = laws.reads chained.number p c chained.rule (slice_range w (chained.m - 1) (length w)) chained.is_rule
+      let reads = reads_code rules lawful chained.number p c chained.rule (slice_range w (chained.m - 1) (length w)) chained.is_rule
       (subst (λ l. ReadsLast rules chained.number chained.rule l p) (push_piece w c (chained.m - 1) (omega (arith, long))) chained.reads) in (
         reads,
         inl (chained_comes chained.number p c chained.m chained.before chained.rule w chained.is_rule chained.chained_into chained.ends
@@ -365,11 +350,11 @@ module _ (rules : List Rule) (IsFirst IsLast IsFrontLast : ℕ → ℕ → Type 
       let one : slice_range (w ++ c ∷ []) (chained.m - 1) (length (w ++ c ∷ [])) ≡ c ∷ [] = ap (λ n. slice_range (w ++ c ∷ []) n (length (w ++ c ∷ []))) here
       ∙ last_piece w c in
       let read = subst (λ l. ReadsLast rules chained.number chained.rule l p) one chained.reads in (
-        laws.reads chained.number p c chained.rule [] chained.is_rule read,
+        reads_code rules lawful chained.number p c chained.rule [] chained.is_rule read,
         inr (record {
           number = chained.number;
           chained = record { rule = chained.rule; is_rule = chained.is_rule; chained_into = chained.chained_into };
-          first = laws.first chained.number p c chained.rule chained.is_rule read;
+          first = firsts rules lawful chained.number p c chained.rule chained.is_rule read;
           ends = ends_now w c chained.m chained.before chained.ends (omega (arith, lies.1));
         }),
       ))
@@ -396,6 +381,6 @@ module _ (rules : List Rule) (IsFirst IsLast IsFrontLast : ℕ → ℕ → Type 
         is_rule = chained.chained.is_rule;
         chained_into = chained.chained.chained_into;
         reads = subst (λ l. ReadsLast rules chained.number rule l p) (sym one)
-            (laws.start chained.number p c rule chained.chained.is_rule chained.first next.0);
+            (starts rules lawful chained.number p c rule chained.chained.is_rule chained.first next.0);
       }))
       next.1

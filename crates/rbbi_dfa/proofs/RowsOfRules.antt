@@ -1,11 +1,11 @@
 -- The rows that are read off the marks of positions are those of the rules.
-use Rattle.std.proofs.Common.{◌≡◌, ℕ, zero, suc, ◌<◌, ◌≤◌, ◌↔◌, Bool, true, false, if◌then◌else◌, append_assoc, Option, Some, None, List, [], ◌∷◌, ◌++◌}
+use Rattle.std.proofs.Common.{◌≡◌, ℕ, ◌<◌, ◌≤◌, ◌↔◌, Bool, true, false, if◌then◌else◌, append_assoc, Option, Some, None, List, [], ◌∷◌, ◌++◌}
 use Rattle.std.proofs.Common.{length, get_or, sym, refl, ap, ◌∙◌, subst, ⊎_elim, arith}
 use Rattle.std.specs.Prelude.{slice_get, sum_by, IsSome, unwrap_or}
-use Rattle.std.specs.List.{AllByRecursion}
 use Rattle.std.specs.Option.{option_map}
 use Rattle.std.proofs.lemmas.Bool.{cases_lt, false≢true, and_parts, and_from}
 use Rattle.std.proofs.lemmas.List.{take_all, get_or_past}
+use Rattle.std.proofs.lemmas.Option.{slice_get_within, slice_get-get_or, get_or_from_slice_get}
 use Rattle.rbbi_model.specs.Words.{IsCodePoint}
 use Rattle.rbbi_model.specs.Ranges.{Has}
 use Rattle.rbbi_model.specs.Spelling.{Tree}
@@ -18,6 +18,7 @@ use Rattle.rbbi_model.specs.LeafSets.{Reads, all_sets, first_position}
 use Rattle.rbbi_model.proofs.Categories.{category_within}
 use Rattle.rbbi_positions.specs.FollowPositions.{IsSpelled, IsFrontSpelled, IsOfRule}
 use Rattle.rbbi_positions.specs.PositionMarks.{PositionMarks, slash_of, IsMarkedAs, ArePositions}
+use Rattle.rbbi_positions.proofs.Codes.{all_get}
 use Rattle.rbbi_positions.proofs.WalkLaws.{of_the_rule}
 use Rattle.rbbi_positions.proofs.RuleSpans.{first_of_later, one_rule, front_middle}
 use Rattle.rbbi_dfa.specs.declared.determinize.rows_of.RowKind.TheVariants.{First, Chained, Last, Follow, Read}
@@ -31,21 +32,6 @@ use Rattle.rbbi_dfa.proofs.Spellings.{all_many}
 use Rattle.rbbi_dfa.proofs.WalkReading.{same_rule}
 use Rattle.rbbi_dfa.proofs.Determined.{rule_within, number_small}
 use Rattle.rbbi_dfa.proofs.Valid.{tag_small}
-
-get_short : {X : Type 0} (xs : List X) (i : ℕ) (x : X) → slice_get xs i ≡ Some x → i < length xs
-get_short [] i x at = absurd (cc)
-get_short (y ∷ xs) zero x at = omega arith
-get_short (y ∷ xs) (suc i) x at = omega (arith, get_short xs i x at)
-
-get_is : {X : Type 0} (xs : List X) (i : ℕ) (d : X) → i < length xs → slice_get xs i ≡ Some (get_or xs i d)
-get_is [] i d short = absurd (omega (arith, short))
-get_is (x ∷ xs) zero d short = refl
-get_is (x ∷ xs) (suc i) d short = get_is xs i d (omega (arith, short))
-
-all_get : {X : Type 0} (P : X → Type 0) (xs : List X) (i : ℕ) (x : X) → AllByRecursion P xs → slice_get xs i ≡ Some x → P x
-all_get P [] i x all at = absurd (cc)
-all_get P (y ∷ xs) zero x all at = subst P (ap (λ o. unwrap_or o y) at) all.0
-all_get P (y ∷ xs) (suc i) x all at = all_get P xs i x all.1 at
 
 module _ (rules : List Rule) (categories : ℕ) (ranges : List CategoryRange) (marks : PositionMarks) (are : ArePositions rules categories ranges marks) where
   -- a position of a rule is a leaf
@@ -66,7 +52,7 @@ module _ (rules : List Rule) (categories : ℕ) (ranges : List CategoryRange) (m
       let short : get_or marks.owners p 0 < length marks.rules =
       omega (arith, are.rule_count, rule_within rules (get_or marks.owners p 0) owner.rule owner.is_rule) in
       are.rule_marks number own.rule (rule_mark marks p) own.is_rule (ap (λ n. slice_get marks.rules n) same
-      ∙ get_is marks.rules (get_or marks.owners p 0) no_rule short)
+      ∙ slice_get-get_or marks.rules (get_or marks.owners p 0) no_rule short)
 
   first_own : (p number : ℕ) → FirstOf rules number p → IsOfRule rules p number
   first_own p number first = of_the_rule rules number p [] first.0 first.1
@@ -275,13 +261,13 @@ module _ (rules : List Rule) (categories : ℕ) (ranges : List CategoryRange) (m
 
   module _ (valid : AreValidRanges categories ranges) (classes : AreClasses rules categories ranges) where
     reads_short : (p c : ℕ) → Reads rules p c → p < marks.leaves
-    reads_short p c reads = omega (arith, get_short (all_sets rules) p reads.0 reads.1, all_many rules, are.leaves)
+    reads_short p c reads = omega (arith, slice_get_within (all_sets rules) p reads.0 reads.1, all_many rules, are.leaves)
 
     -- code points of one category are read alike
     reads_alike : (p c d : ℕ) → IsCodePoint c → IsCodePoint d → category_of ranges c ≡ category_of ranges d → Reads rules p c → Reads rules p d
     reads_alike p c d code code' same reads =
         let alike = (classes.alike c d code code').0 same in
-        (reads.0, reads.1, (all_get (λ set. Has set c ↔ Has set d) (all_sets rules) p reads.0 alike reads.1).0 reads.2)
+        (reads.0, reads.1, (all_get (λ set. Has set c ↔ Has set d) (all_sets rules) p reads.0 reads.1 alike).0 reads.2)
 
     reads_are : (rows : List (List ℕ)) → AreRowsBy marks (λ category. Read category) categories rows → (p c : ℕ) → IsCodePoint c →
         Holds (row_at rows (category_of ranges c)) p ↔ Reads rules p c
@@ -301,9 +287,9 @@ module _ (rules : List Rule) (categories : ℕ) (ranges : List CategoryRange) (m
     unread_is rows by some p = λ holds.
         let in_row = ((by.each 0 some).1 p).0 holds in
         let reads = (are.reads p 0 in_row.0 some).0 in_row.1 in
-        let short = get_short (all_sets rules) p reads.reads.0 reads.reads.1 in
-        (classes.none reads.c reads.code).0 reads.of
-        (p, reads.reads.0, short, ap (λ o. unwrap_or o reads.reads.0) (sym (get_is (all_sets rules) p reads.reads.0 short) ∙ reads.reads.1), reads.reads.2)
+        let short = slice_get_within (all_sets rules) p reads.reads.0 reads.reads.1 in
+        let is = get_or_from_slice_get (all_sets rules) p reads.reads.0 reads.reads.0 reads.reads.1 in
+        (classes.none reads.c reads.code).0 reads.of (p, reads.reads.0, short, is, reads.reads.2)
 
     pub rows_are_of_rules : (slashes : ℕ) (rows : PositionRows) → slashes ≡ length (look_aheads rules) → AreRowsOf marks categories slashes rows →
         IsOfRules rules ranges rows

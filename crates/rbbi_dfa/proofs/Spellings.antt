@@ -1,9 +1,10 @@
 -- A tree spells a word where it spells positions whose sets hold the word's code points, and so does a rule.
 use Rattle.std.proofs.Common.{◌≡◌, ℕ, zero, suc, ◌+◌, ◌<◌, List, [], ◌∷◌, ◌++◌, Option, Some, None, length, take, sym, refl, ap, ◌∙◌, subst, inl, inr, arith}
 use Rattle.std.specs.Prelude.{slice_get, sum_by, unwrap_or}
-use Rattle.std.specs.List.{AllByRecursion, AllZip, fold}
+use Rattle.std.specs.List.{AllByRecursion, AllZip}
 use Rattle.std.specs.Option.{option_map_or}
 use Rattle.std.proofs.lemmas.List.{length-append}
+use Rattle.std.proofs.lemmas.List.Sums.{sum_by-cons}
 use Rattle.rbbi_model.specs.Ranges.{Range, Has}
 use Rattle.rbbi_model.specs.Spelling.{Repetition, Tree, Leaf, Empty, Never, Then, Either, Repeat, Star, Plus, Quest, Allows, joined, Spells}
 use Rattle.rbbi_model.specs.Rules.{Rule, leaf_count, leaves_of}
@@ -169,15 +170,6 @@ module _ (all : List (List Range)) where
 
 -- the sets of each rule stand among all sets
 
-fold_sum : (rules : List Rule) (a b : ℕ) → fold (λ n rule. n + leaves_of rule) (a + b) rules ≡ a + fold (λ n rule. n + leaves_of rule) b rules
-fold_sum [] a b = refl
-fold_sum (rule ∷ rules) a b = ap (λ n. fold (λ n rule. n + leaves_of rule) n rules) (let e : a + b + leaves_of rule ≡ a + (b + leaves_of rule) =
-    omega arith in e) ∙ fold_sum rules a (b + leaves_of rule)
-
-sum_cons : (rule : Rule) (rules : List Rule) → sum_by leaves_of (rule ∷ rules) ≡ leaves_of rule + sum_by leaves_of rules
-sum_cons rule rules = ap (λ n. fold (λ n rule. n + leaves_of rule) n rules) (let e : 0 + leaves_of rule ≡ leaves_of rule + 0 = omega arith in e)
-    ∙ fold_sum rules (leaves_of rule) 0
-
 rest_many : (rest : Option Tree) → length (option_map_or sets_of rest []) ≡ option_map_or leaf_count rest 0
 rest_many None = refl
 rest_many (Some tree) = sets_many tree
@@ -196,7 +188,7 @@ rule_stands (other ∷ rules) zero rule is_rule i short =
     ∙ ap (λ r. slice_get (sets_of_rule r ++ all_sets rules) i) same ∙ get_left (sets_of_rule rule) (all_sets rules) i short
 rule_stands (other ∷ rules) (suc number) rule is_rule i short =
     let from : first_position (other ∷ rules) (suc number) + i ≡ length (sets_of_rule other) + (first_position rules number + i) =
-    omega (arith, sum_cons other (take number rules), rule_sets_many other) in
+    omega (arith, sum_by-cons leaves_of other (take number rules), rule_sets_many other) in
     ap (λ n. slice_get (all_sets (other ∷ rules)) n) from
     ∙ get_right (sets_of_rule other) (all_sets rules) (first_position rules number + i)
     ∙ rule_stands rules number rule is_rule i short
@@ -204,4 +196,5 @@ rule_stands (other ∷ rules) (suc number) rule is_rule i short =
 -- there are as many sets as leaves
 pub all_many : (rules : List Rule) → length (all_sets rules) ≡ sum_by leaves_of rules
 all_many [] = refl
-all_many (rule ∷ rules) = omega (arith, length-append (sets_of_rule rule) (all_sets rules), rule_sets_many rule, all_many rules, sum_cons rule rules)
+all_many (rule ∷ rules) =
+    omega (arith, length-append (sets_of_rule rule) (all_sets rules), rule_sets_many rule, all_many rules, sum_by-cons leaves_of rule rules)

@@ -14,9 +14,6 @@ empty_holds row p none = λ holds.
     let zero : bit_at (get_or row (p / 64) 0) (p % 64) ≡ 0 = ap (λ l. bit_at (get_or l (p / 64) 0) (p % 64)) none ∙ bit_at-zero (p % 64) in
     omega (arith, zero, holds)
 
-pub followers_none : (follow : List (List ℕ)) (set candidates : List ℕ) → ((p : ℕ) → ¬ Holds candidates p) → AreFollowersUpTo follow set 0 candidates
-followers_none follow set candidates none p = (λ holds. absurd (none p holds), λ few. absurd (omega (arith, few.1)))
-
 pub followers_all : (rows : PositionRows) (set candidates : List ℕ) (i : ℕ) → length set ≤ i → AreFollowersUpTo rows.follow set (64 * i) candidates →
     AreFollowers rows set candidates
 followers_all rows set candidates i all before p = (

@@ -1,23 +1,24 @@
 -- The status lists are valid, and the automaton is as what follows wants it.
-use Rattle.std.proofs.Common.{◌≡◌, ℕ, zero, suc, ◌+◌, ◌-◌, ◌<◌, ◌≤◌, eqb, List, [], ◌∷◌, length, get_or, sym, refl, ap, ◌∙◌, subst, inl, inr, ⊎_elim, arith}
+use Rattle.std.proofs.Common.{◌≡◌, ℕ, zero, suc, ◌+◌, ◌-◌, ◌<◌, ◌≤◌, List, [], ◌∷◌, length, get_or, sym, refl, ap, ◌∙◌, subst, inl, inr, ⊎_elim, arith}
 use Rattle.std.specs.Prelude.{IfSome, unwrap_or}
 use Rattle.std.specs.List.{AllByRecursion}
-use Rattle.std.proofs.lemmas.Bool.{cases_eq, ne_eqb}
-use Rattle.std.proofs.lemmas.Map.Keys.{IsDistinct-from_apart}
-use Rattle.std.proofs.lemmas.Map.Steps.{length-le_from_distinct_below}
+use Rattle.std.proofs.lemmas.Bool.{cases_eq}
 use Rattle.rbbi_model.specs.Lists.{Member, IsRising}
 use Rattle.rbbi_model.specs.Rules.{Rule, AreLawful, largest_tag}
 use Rattle.rbbi_model.specs.Tables.{Table, CategoryRange, list_of, statuses_of}
 use Rattle.rbbi_model.specs.ValidTables.{IsValidList}
 use Rattle.rbbi_model.specs.Marks.{Marks}
 use Rattle.rbbi_model.proofs.Rising.{rising_tail, less_than_later}
+use Rattle.rbbi_positions.proofs.Codes.{all_at}
+use Rattle.rbbi_positions.proofs.Splits.{all_weaken}
 use Rattle.rbbi_dfa.specs.BitRows.{row_at}
 use Rattle.rbbi_dfa.specs.Automata.{IsDetermined}
 use Rattle.rbbi_dfa.specs.PositionRows.{PositionRows}
 use Rattle.rbbi_dfa.specs.PositionAutomata.{Marked, Tagged, IsOfRules}
 use Rattle.rbbi_dfa.specs.Determinizing.{HasMark, AreTagsOf, IsDeterminized}
 use Rattle.rbbi_dfa.proofs.WalkReading.{same_rule, lawful_rule}
-use Rattle.rbbi_dfa.proofs.Counting.{all_by_index, member_below}
+use Rattle.rbbi_dfa.proofs.MarkLoops.{member_at}
+use Rattle.rbbi_dfa.proofs.Lists.{all_by_index, le_from_choices}
 use Rattle.rbbi_dfa.proofs.Determined.{zero_alone, rule_within, each_row, each_reached}
 use Rattle.rbbi_dfa.proofs.Leading.{each_leads, are_fronted}
 
@@ -29,12 +30,6 @@ all_members P [] each = tt
 all_members P (x ∷ xs) each = (each x (inl refl), all_members P xs (λ t member. each t (inr member)))
 
 -- numbers of a rising list rise by their places
-
-member_at : (xs : List ℕ) (i : ℕ) → i < length xs → Member xs (get_or xs i 0)
-member_at [] i short = absurd (omega (arith, short))
-member_at (x ∷ xs) zero short = inl refl
-member_at (x ∷ xs) (suc i) short = inr (member_at xs i (omega (arith, short)))
-
 rising_places : (xs : List ℕ) (i j : ℕ) → IsRising xs → i < j → j < length xs → get_or xs i 0 < get_or xs j 0
 rising_places [] i j rising less short = absurd (omega (arith, short))
 rising_places (x ∷ xs) i zero rising less short = absurd (omega (arith, less))
@@ -46,26 +41,6 @@ module _ (rules : List Rule) (lawful : AreLawful rules) where
   abbrev pub HasNumber : ℕ → Type 0
   HasNumber tag = (number : ℕ) × Tagged rules number tag
 
-  numbers : (tags : List ℕ) → AllByRecursion HasNumber tags → List ℕ
-  numbers [] all = []
-  numbers (tag ∷ tags) all = all.0.0 ∷ numbers tags all.1
-
-  numbers_many : (tags : List ℕ) (all : AllByRecursion HasNumber tags) → length (numbers tags all) ≡ length tags
-  unfolding numbers
-  numbers_many [] all = refl
-  numbers_many (tag ∷ tags) all = ap (λ n. suc n) (numbers_many tags all.1)
-
-  number_at : (tags : List ℕ) (all : AllByRecursion HasNumber tags) (i d : ℕ) → i < length tags → Tagged rules (get_or (numbers tags all) i d) (get_or tags i 0)
-  unfolding numbers
-  number_at [] all i d short = absurd (omega (arith, short))
-  number_at (tag ∷ tags) all zero d short = all.0.1
-  number_at (tag ∷ tags) all (suc i) d short = number_at tags all.1 i d (omega (arith, short))
-
-  numbers_small : (tags : List ℕ) (all : AllByRecursion HasNumber tags) → AllByRecursion (λ n. n < length rules) (numbers tags all)
-  unfolding numbers
-  numbers_small [] all = tt
-  numbers_small (tag ∷ tags) all = (rule_within rules all.0.0 all.0.1.rule all.0.1.is_rule, numbers_small tags all.1)
-
   same_tag : (number tag other : ℕ) → Tagged rules number tag → Tagged rules number other → tag ≡ other
   same_tag number tag other is is' =
       let rule = same_rule rules number is.rule is'.rule is.is_rule is'.is_rule in
@@ -73,19 +48,11 @@ module _ (rules : List Rule) (lawful : AreLawful rules) where
 
   few_tags : (tags : List ℕ) → IsRising tags → AllByRecursion HasNumber tags → length tags ≤ 4096
   few_tags tags rising all =
-      let those : List ℕ = numbers tags all in
-      let long = numbers_many tags all in
-      let distinct = IsDistinct-from_apart eqb those
-      (λ i j d less short.
-      let short' : j < length tags = omega (arith, short, long) in
-      ne_eqb (get_or those i d) (get_or those j d)
-      (λ same.
-      let tag = same_tag (get_or those j d) (get_or tags i 0) (get_or tags j 0)
-      (subst (λ n. Tagged rules n (get_or tags i 0)) same (number_at tags all i d (omega (arith, less, short')))) (number_at tags all j d short') in
-      omega (arith, tag, rising_places tags i j rising less short'))) in
-      let most = length-le_from_distinct_below those (length rules) distinct
-      (λ q member. member_below those (length rules) q (numbers_small tags all) member) in
-      omega (arith, most, long, lawful.few)
+      let most = le_from_choices (λ i number. Tagged rules number (get_or tags i 0)) (length tags) (length rules)
+      (λ i short. let has = all_at HasNumber tags i 0 short all in (has.0, (rule_within rules has.0 has.1.rule has.1.is_rule, has.1)))
+      (λ i j number less short this that.
+      omega (arith, same_tag number (get_or tags i 0) (get_or tags j 0) this that, rising_places tags i j rising less short)) in
+      omega (arith, most, lawful.few)
 
   pub tag_small : (tag : ℕ) → HasNumber tag → tag ≤ largest_tag
   tag_small tag (number, is) = subst (λ o. IfSome o (λ n. n ≤ largest_tag)) is.tagged (lawful_rule rules number is.rule lawful.each is.is_rule).tag
@@ -108,7 +75,7 @@ module _ (rules : List Rule) (lawful : AreLawful rules) where
           some = omega arith;
           few = few_tags (s ∷ statuses) tags.rising all;
           rising = tags.rising;
-          small = all_tags_small (s ∷ statuses) all;
+          small = all_weaken HasNumber (λ status. status ≤ largest_tag) (s ∷ statuses) tag_small all;
         })
         (λ none.
         let only = zero_alone (s ∷ statuses) tags.rising
@@ -119,10 +86,6 @@ module _ (rules : List Rule) (lawful : AreLawful rules) where
         )) in
         subst IsValidList (sym only) zero_valid)
         ((tags.exactly s).0 (inl refl))
-      where
-        all_tags_small : (xs : List ℕ) → AllByRecursion HasNumber xs → AllByRecursion (λ status. status ≤ largest_tag) xs
-        all_tags_small [] all = tt
-        all_tags_small (x ∷ xs) all = (tag_small x all.0, all_tags_small xs all.1)
 
     module _ (sets : List (List ℕ)) (automaton : Table) (is : IsDeterminized rows sets automaton) where
       list_valid : (list : ℕ) → list < length automaton.lists → IsValidList (statuses_of automaton list)

@@ -1,20 +1,21 @@
 -- How first, last and following positions are told by the words that rules begin to read: by exchanging spelled lists behind a
 -- position that they have in common.
-use Rattle.std.proofs.Common.{◌≡◌, ◌≢◌, ℕ, zero, suc, ◌+◌, ◌-◌, List, [], ◌∷◌, ◌++◌, Option, Some, None, length, take, sym, refl, ap, ◌∙◌, subst, inl}
+use Rattle.std.proofs.Common.{◌≡◌, ◌≢◌, ℕ, zero, suc, ◌+◌, ◌-◌, List, [], ◌∷◌, ◌++◌, Option, Some, None, length, take, sym, refl, ap, ◌∙◌, subst}
 use Rattle.std.proofs.Common.{append_assoc, arith}
 use Rattle.std.specs.Prelude.{slice_get, MatchOption, IfSome, unwrap_or}
 use Rattle.std.specs.List.{AllByRecursion, AllZip}
 use Rattle.std.proofs.lemmas.List.{nil_from_length, append-nil, length_push, take_at}
+use Rattle.std.proofs.lemmas.Slice.Zip.{AllZip-long}
 use Rattle.std.specs.Option.{option_map_or}
-use Rattle.rbbi_model.specs.Spelling.{Spells, Tree, Leaf, Empty, Never, Then, Either, Repeat, Star, Plus, Quest}
+use Rattle.rbbi_model.specs.Spelling.{Spells, Tree}
 use Rattle.rbbi_model.specs.Rules.{Rule, LooksAhead, SpellsBoth, IsWordOf, IsFrontWordOf, leaf_count, IsLawfulTree, IsLawfulRule}
 use Rattle.rbbi_model.specs.Chains.{IsRule}
 use Rattle.rbbi_model.specs.LeafSets.{sets_of, all_sets, first_position, SpellsPositions, RuleSpellsPositions, Reads, ReadsLast}
 use Rattle.rbbi_positions.specs.FollowPositions.{IsSpelled, IsFrontSpelled}
+use Rattle.rbbi_positions.proofs.Nodes.{some_spelled}
 use Rattle.rbbi_positions.proofs.WalkLaws.{exchange, exchange_front}
 use Rattle.rbbi_dfa.proofs.Spellings.{StandsAt, zip_append, zip_parts, sets_many, stands_left, stands_right, rule_stands, spelled_to, spelled_from}
 use Rattle.rbbi_dfa.specs.PositionAutomata.{FirstOf, LastOf, FrontLastOf, FollowsIn}
-use Rattle.rbbi_dfa.proofs.Reading.{ReadingLaws}
 
 -- lists by their last member
 
@@ -48,12 +49,6 @@ around (y ∷ xs) (suc i) x at =
     let rest = around xs i x at in
     record { before = y ∷ rest.before; after = rest.after; whole = ap (λ l. y ∷ l) rest.whole; many = ap (λ n. suc n) rest.many }
 
-zip_long : {A B : Type 0} (R : A → B → Type 0) (xs : List A) (ys : List B) → AllZip R xs ys → length xs ≡ length ys
-zip_long R [] [] z = refl
-zip_long R [] (y ∷ ys) z = absurd z
-zip_long R (x ∷ xs) [] z = absurd z
-zip_long R (x ∷ xs) (y ∷ ys) z = ap (λ n. suc n) (zip_long R xs ys z.1)
-
 -- the last of two lists that match
 pub zip_push : {A B : Type 0} (R : A → B → Type 0) (xs : List A) (ys : List B) (x : A) (y : B) → AllZip R (xs ++ x ∷ []) (ys ++ y ∷ []) → AllZip R xs ys × R x y
 zip_push R [] [] x y z = (tt, z.0)
@@ -70,22 +65,6 @@ pub lawful_rule : (rules : List Rule) (number : ℕ) (rule : Rule) → AllByRecu
 lawful_rule [] number rule lawful is_rule = absurd (cc)
 lawful_rule (other ∷ rules) zero rule lawful is_rule = subst IsLawfulRule (ap (λ o. unwrap_or o rule) is_rule) lawful.0
 lawful_rule (other ∷ rules) (suc number) rule lawful is_rule = lawful_rule rules number rule lawful.1 is_rule
-
--- a lawful tree spells some list
-some_spelled : (tree : Tree) (first : ℕ) → IsLawfulTree tree → (positions : List ℕ) × SpellsPositions tree first positions
-some_spelled (Leaf set) first lawful = (first ∷ [], refl)
-some_spelled Empty first lawful = absurd lawful
-some_spelled Never first lawful = absurd lawful
-some_spelled (Then front rest) first lawful =
-    let one = some_spelled front first lawful.0 in
-    let two = some_spelled rest (first + leaf_count front) lawful.1 in
-    (one.0 ++ two.0, (one.0, two.0, one.1, two.1, refl))
-some_spelled (Either front rest) first lawful = let one = some_spelled front first lawful.0 in (one.0, inl one.1)
-some_spelled (Repeat Star part) first lawful = ([], ([], tt, tt, refl))
-some_spelled (Repeat Plus part) first lawful =
-    let one = some_spelled part first lawful in
-    (one.0, (one.0 ∷ [], (λ none. absurd (cc)), (one.1, tt), sym (append-nil one.0)))
-some_spelled (Repeat Quest part) first lawful = ([], ([], omega arith, tt, refl))
 
 module _ (rules : List Rule) where
   -- a rule that begins to read a word, with its list of positions in parts
@@ -118,7 +97,8 @@ module _ (rules : List Rule) where
 
   pub reads_last : (number p : ℕ) (rule : Rule) (v : List ℕ) → IsRule rules number rule → ReadsUpTo number v p → ReadsLast rules number rule v p
   reads_last number p rule v is_rule reads =
-      let long : length reads.before + 1 ≡ length v = sym (length_push reads.before p) ∙ zip_long (Reads rules) (reads.before ++ p ∷ []) v reads.reads in
+      let long : length reads.before + 1 ≡ length v =
+      sym (length_push reads.before p) ∙ sym (AllZip-long (Reads rules) (reads.before ++ p ∷ []) v reads.reads) in
       let whole : reads.before ++ p ∷ reads.after ≡ (reads.before ++ p ∷ []) ++ reads.after = sym (append_assoc reads.before (p ∷ []) reads.after) in
       let front : take (length v) (reads.before ++ p ∷ reads.after) ≡ reads.before ++ p ∷ [] =
       ap (λ l. take (length v) l) whole ∙ take_at (reads.before ++ p ∷ []) reads.after (length v) (length_push reads.before p ∙ long) in
@@ -132,100 +112,55 @@ module _ (rules : List Rule) where
             ∙ get_at reads.before p reads.after;
       }
 
-module _ (rules : List Rule) where
-  -- what a rule spells, as words and as positions
-  word_to : (rule : Rule) (rest : Option Tree) → rule.rest ≡ rest → (number : ℕ) → IsRule rules number rule → (v : List ℕ) →
-      IsWordOf rule v → (positions : List ℕ) × RuleSpellsPositions rule (first_position rules number) positions × AllZip (Reads rules) positions v
-  word_to rule None same number is_rule v word =
-      let first : ℕ = first_position rules number in
-      let stands = stands_left (all_sets rules) first (sets_of rule.front) (option_map_or sets_of rule.rest []) (rule_stands rules number rule is_rule) in
-      let spells : Spells rule.front v = subst (λ o. MatchOption o (Spells rule.front v) (λ rest. SpellsBoth rule.front rest v)) same word.1 in
-      let one = spelled_to (all_sets rules) rule.front first stands v spells in (
-        one.0,
-        subst (λ o. MatchOption o (SpellsPositions rule.front first one.0) (λ rest. (u : List ℕ) × (w : List ℕ) × SpellsPositions rule.front first u ×
-            SpellsPositions rest (first + leaf_count rule.front) w × (one.0 ≡ u ++ w))) (sym same) one.1,
-        one.2,
-      )
-  word_to rule (Some rest) same number is_rule v word =
-      let first : ℕ = first_position rules number in
-      let placed = rule_stands rules number rule is_rule in
-      let stands = stands_left (all_sets rules) first (sets_of rule.front) (option_map_or sets_of rule.rest []) placed in
-      let stands' = subst (λ o. StandsAt (all_sets rules) (first + leaf_count rule.front) (option_map_or sets_of o [])) same
-      (stands_right (all_sets rules) first (leaf_count rule.front) (sets_of rule.front) (option_map_or sets_of rule.rest []) (sets_many rule.front)
-      placed) in
-      let spells : SpellsBoth rule.front rest v = subst (λ o. MatchOption o (Spells rule.front v) (λ rest. SpellsBoth rule.front rest v)) same word.1 in
-      let one = spelled_to (all_sets rules) rule.front first stands spells.0 spells.2 in
-      let two = spelled_to (all_sets rules) rest (first + leaf_count rule.front) stands' spells.1 spells.3 in
-      let positions : List ℕ = one.0 ++ two.0 in (
-        positions,
-        subst (λ o. MatchOption o (SpellsPositions rule.front first positions) (λ rest. (u : List ℕ) × (w : List ℕ) × SpellsPositions rule.front first u ×
-            SpellsPositions rest (first + leaf_count rule.front) w × (positions ≡ u ++ w))) (sym same)
-            (one.0, two.0, one.1, two.1, refl),
-        subst (λ l. AllZip (Reads rules) positions l) (sym spells.4) (zip_append (Reads rules) one.0 two.0 spells.0 spells.1 one.2 two.2),
+module _ (rules : List Rule) (front : Tree) (first : ℕ) where
+  -- what a front and its rest spell, as words and as positions
+  abbrev SpellWord : Option Tree → List ℕ → Type 0
+  SpellWord rest v = MatchOption rest (Spells front v) (λ rest. SpellsBoth front rest v)
+
+  abbrev SpellTogether : Option Tree → List ℕ → Type 0
+  SpellTogether rest positions = MatchOption rest (SpellsPositions front first positions) (λ rest. (u : List ℕ) × (w : List ℕ) ×
+      SpellsPositions front first u × SpellsPositions rest (first + leaf_count front) w × (positions ≡ u ++ w))
+
+  word_to : (rest : Option Tree) → StandsAt (all_sets rules) first (sets_of front ++ option_map_or sets_of rest []) → (v : List ℕ) → SpellWord rest v →
+      (positions : List ℕ) × SpellTogether rest positions × AllZip (Reads rules) positions v
+  word_to None stands v word = spelled_to (all_sets rules) front first (stands_left (all_sets rules) first (sets_of front) [] stands) v word
+  word_to (Some rest) stands v (u, w, left, right, same) =
+      let one = spelled_to (all_sets rules) front first (stands_left (all_sets rules) first (sets_of front) (sets_of rest) stands) u left in
+      let two = spelled_to (all_sets rules) rest (first + leaf_count front)
+      (stands_right (all_sets rules) first (leaf_count front) (sets_of front) (sets_of rest) (sets_many front) stands) w right in (
+        one.0 ++ two.0,
+        (one.0, two.0, one.1, two.1, refl),
+        subst (λ l. AllZip (Reads rules) (one.0 ++ two.0) l) (sym same) (zip_append (Reads rules) one.0 two.0 u w one.2 two.2),
       )
 
-  word_from : (rule : Rule) (rest : Option Tree) → rule.rest ≡ rest → (number : ℕ) → IsRule rules number rule → (positions v : List ℕ) → v ≢ [] →
-      RuleSpellsPositions rule (first_position rules number) positions → AllZip (Reads rules) positions v → IsWordOf rule v
-  word_from rule None same number is_rule positions v some spells z =
-      let first : ℕ = first_position rules number in
-      let stands = stands_left (all_sets rules) first (sets_of rule.front) (option_map_or sets_of rule.rest []) (rule_stands rules number rule is_rule) in
-      let one : SpellsPositions rule.front first positions =
-      subst (λ o. MatchOption o (SpellsPositions rule.front first positions) (λ rest. (u : List ℕ) × (w : List ℕ) × SpellsPositions rule.front first u ×
-      SpellsPositions rest (first + leaf_count rule.front) w × (positions ≡ u ++ w))) same spells in (
-        some,
-        subst (λ o. MatchOption o (Spells rule.front v) (λ rest. SpellsBoth rule.front rest v)) (sym same)
-            (spelled_from (all_sets rules) rule.front first stands positions v one z),
-      )
-  word_from rule (Some rest) same number is_rule positions v some spells z =
-      let first : ℕ = first_position rules number in
-      let placed = rule_stands rules number rule is_rule in
-      let stands = stands_left (all_sets rules) first (sets_of rule.front) (option_map_or sets_of rule.rest []) placed in
-      let stands' = subst (λ o. StandsAt (all_sets rules) (first + leaf_count rule.front) (option_map_or sets_of o [])) same
-      (stands_right (all_sets rules) first (leaf_count rule.front) (sets_of rule.front) (option_map_or sets_of rule.rest []) (sets_many rule.front)
-      placed) in
-      let both : (u : List ℕ) × (w : List ℕ) × SpellsPositions rule.front first u × SpellsPositions rest (first + leaf_count rule.front) w ×
-      (positions ≡ u ++ w) =
-      subst (λ o. MatchOption o (SpellsPositions rule.front first positions) (λ rest. (u : List ℕ) × (w : List ℕ) × SpellsPositions rule.front first u ×
-      SpellsPositions rest (first + leaf_count rule.front) w × (positions ≡ u ++ w))) same spells in
-      let parts = zip_parts (Reads rules) both.0 both.1 v (subst (λ l. AllZip (Reads rules) l v) both.4 z) in (
-        some,
-        subst (λ o. MatchOption o (Spells rule.front v) (λ rest. SpellsBoth rule.front rest v)) (sym same) (
-          parts.front,
-          parts.back,
-          spelled_from (all_sets rules) rule.front first stands both.0 parts.front both.2 parts.first,
-          spelled_from
-              (all_sets rules) rest (first + leaf_count rule.front) stands' both.1 parts.back both.3 parts.second,
-          parts.whole,
-        ),
+  word_from : (rest : Option Tree) → StandsAt (all_sets rules) first (sets_of front ++ option_map_or sets_of rest []) → (positions v : List ℕ) →
+      SpellTogether rest positions → AllZip (Reads rules) positions v → SpellWord rest v
+  word_from None stands positions v spells z =
+      spelled_from (all_sets rules) front first (stands_left (all_sets rules) first (sets_of front) [] stands) positions v spells z
+  word_from (Some rest) stands positions v (u, w, left, right, same) z =
+      let parts = zip_parts (Reads rules) u w v (subst (λ l. AllZip (Reads rules) l v) same z) in (
+        parts.front,
+        parts.back,
+        spelled_from (all_sets rules) front first (stands_left (all_sets rules) first (sets_of front) (sets_of rest) stands) u parts.front left parts.first,
+        spelled_from (all_sets rules) rest (first + leaf_count front)
+            (stands_right (all_sets rules) first (leaf_count front) (sets_of front) (sets_of rest) (sets_many front) stands) w parts.back right parts.second,
+        parts.whole,
       )
 
   -- a list of the front goes on to one of the rule
-  front_goes_on : (rule : Rule) (rest : Option Tree) → rule.rest ≡ rest → (number : ℕ) → IsRule rules number rule → IsLawfulRule rule → (positions : List ℕ) →
-      SpellsPositions rule.front (first_position rules number) positions → (more : List ℕ) × RuleSpellsPositions rule (first_position rules number)
-      (positions ++ more)
-  front_goes_on rule None same number is_rule lawful positions spelled =
-      let first : ℕ = first_position rules number in (
-        [],
-        subst (λ o. MatchOption o (SpellsPositions rule.front first (positions ++ [])) (λ rest. (u : List ℕ) ×
-            (w : List ℕ) × SpellsPositions rule.front first u × SpellsPositions rest (first + leaf_count rule.front) w × (positions ++ [] ≡ u ++ w))) (sym same)
-            (subst (λ l. SpellsPositions rule.front first l) (sym (append-nil positions)) spelled),
-      )
-  front_goes_on rule (Some rest) same number is_rule lawful positions spelled =
-      let first : ℕ = first_position rules number in
-      let more = some_spelled rest (first + leaf_count rule.front) (subst (λ o. IfSome o IsLawfulTree) same lawful.rest) in (
-        more.0,
-        subst (λ o. MatchOption o (SpellsPositions rule.front first (positions ++ more.0)) (λ rest. (u : List ℕ) ×
-            (w : List ℕ) × SpellsPositions rule.front first u × SpellsPositions rest (first + leaf_count rule.front) w × (positions ++ more.0 ≡ u ++ w)))
-            (sym same)
-            (positions, more.0, spelled, more.1, refl),
-      )
+  front_goes_on : (rest : Option Tree) → IfSome rest IsLawfulTree → (positions : List ℕ) → SpellsPositions front first positions →
+      (more : List ℕ) × SpellTogether rest (positions ++ more)
+  front_goes_on None lawful positions spelled = ([], subst (λ l. SpellsPositions front first l) (sym (append-nil positions)) spelled)
+  front_goes_on (Some rest) lawful positions spelled =
+      let more = some_spelled rest (first + leaf_count front) lawful in
+      (more.0, (positions, more.0, spelled, more.1, refl))
 
 module _ (rules : List Rule) (lawful : AllByRecursion IsLawfulRule rules) where
-  starts : (number p c : ℕ) (rule : Rule) → IsRule rules number rule → FirstOf rules number p → Reads rules p c → ReadsLast rules number rule (c ∷ []) p
+  pub starts : (number p c : ℕ) (rule : Rule) → IsRule rules number rule → FirstOf rules number p → Reads rules p c → ReadsLast rules number rule (c ∷ []) p
   starts number p c rule is_rule first reads =
       reads_last rules number p rule (c ∷ []) is_rule (record { before = []; after = first.0; spelled = first.1; reads = (reads, tt) })
 
-  extends : (number other q p c : ℕ) (rule : Rule) (v : List ℕ) → IsRule rules number rule → ReadsLast rules number rule v q → FollowsIn rules other q p →
+  pub extends : (number other q p c : ℕ) (rule : Rule) (v : List ℕ) → IsRule rules number rule → ReadsLast rules number rule v q → FollowsIn rules other q p →
       Reads rules p c → ReadsLast rules number rule (v ++ c ∷ []) p
   extends number other q p c rule v is_rule reads follows reads' =
       let up = reads_up_to rules number q rule v is_rule reads in
@@ -242,19 +177,19 @@ module _ (rules : List Rule) (lawful : AllByRecursion IsLawfulRule rules) where
   none_before (b ∷ []) p c z = absurd z.1
   none_before (b ∷ d ∷ before) p c z = absurd z.1
 
-  firsts : (number p c : ℕ) (rule : Rule) → IsRule rules number rule → ReadsLast rules number rule (c ∷ []) p → FirstOf rules number p
+  pub firsts : (number p c : ℕ) (rule : Rule) → IsRule rules number rule → ReadsLast rules number rule (c ∷ []) p → FirstOf rules number p
   firsts number p c rule is_rule reads =
       let up = reads_up_to rules number p rule (c ∷ []) is_rule reads in
       (up.after, subst (λ l. IsSpelled rules number (l ++ p ∷ up.after)) (none_before up.before p c up.reads) up.spelled)
 
-  shrinks : (number p c : ℕ) (rule : Rule) (v : List ℕ) → IsRule rules number rule → v ≢ [] → ReadsLast rules number rule (v ++ c ∷ []) p →
+  pub shrinks : (number p c : ℕ) (rule : Rule) (v : List ℕ) → IsRule rules number rule → v ≢ [] → ReadsLast rules number rule (v ++ c ∷ []) p →
       (q : ℕ) × ReadsLast rules number rule v q × FollowsIn rules number q p
   shrinks number p c rule v is_rule some reads =
       let up = reads_up_to rules number p rule (v ++ c ∷ []) is_rule reads in
       let parts = zip_push (Reads rules) up.before v p c up.reads in
-      let long = zip_long (Reads rules) up.before v parts.0 in
+      let long = AllZip-long (Reads rules) up.before v parts.0 in
       let many = ends_with v some in
-      let last = ends_with up.before (λ none. some (nil_from_length v (sym long ∙ ap length none))) in
+      let last = ends_with up.before (λ none. some (nil_from_length v (long ∙ ap length none))) in
       let whole : up.before ++ p ∷ up.after ≡ last.front ++ last.last ∷ p ∷ up.after =
       ap (λ l. l ++ p ∷ up.after) last.whole ∙ append_assoc last.front (last.last ∷ []) (p ∷ up.after) in
       let spelled = subst (λ l. IsSpelled rules number l) whole up.spelled in (
@@ -269,17 +204,17 @@ module _ (rules : List Rule) (lawful : AllByRecursion IsLawfulRule rules) where
         (last.front, up.after, spelled),
       )
 
-  reads_code : (number p c : ℕ) (rule : Rule) (v : List ℕ) → IsRule rules number rule → ReadsLast rules number rule (v ++ c ∷ []) p → Reads rules p c
+  pub reads_code : (number p c : ℕ) (rule : Rule) (v : List ℕ) → IsRule rules number rule → ReadsLast rules number rule (v ++ c ∷ []) p → Reads rules p c
   reads_code number p c rule v is_rule reads =
       let up = reads_up_to rules number p rule (v ++ c ∷ []) is_rule reads in
       (zip_push (Reads rules) up.before v p c up.reads).1
 
-  words : (number : ℕ) (rule : Rule) (v : List ℕ) → IsRule rules number rule → IsWordOf rule v → (p : ℕ) × ReadsLast rules number rule v p ×
+  pub words : (number : ℕ) (rule : Rule) (v : List ℕ) → IsRule rules number rule → IsWordOf rule v → (p : ℕ) × ReadsLast rules number rule v p ×
       LastOf rules number p
   words number rule v is_rule word =
-      let one = word_to rules rule rule.rest refl number is_rule v word in
-      let long = zip_long (Reads rules) one.0 v one.2 in
-      let last = ends_with one.0 (λ none. word.0 (nil_from_length v (sym long ∙ ap length none))) in
+      let one = word_to rules rule.front (first_position rules number) rule.rest (rule_stands rules number rule is_rule) v word.1 in
+      let long = AllZip-long (Reads rules) one.0 v one.2 in
+      let last = ends_with one.0 (λ none. word.0 (nil_from_length v (long ∙ ap length none))) in
       let spelled : IsSpelled rules number (last.front ++ last.last ∷ []) =
       record { rule = rule; is_rule = is_rule; spelled = subst (λ l. RuleSpellsPositions rule (first_position rules number) l) last.whole one.1 } in (
         last.last,
@@ -293,25 +228,27 @@ module _ (rules : List Rule) (lawful : AllByRecursion IsLawfulRule rules) where
         (last.front, spelled),
       )
 
-  wholes : (number other p : ℕ) (rule : Rule) (v : List ℕ) → IsRule rules number rule → ReadsLast rules number rule v p → LastOf rules other p →
+  pub wholes : (number other p : ℕ) (rule : Rule) (v : List ℕ) → IsRule rules number rule → ReadsLast rules number rule v p → LastOf rules other p →
       (number ≡ other) × IsWordOf rule v
   wholes number other p rule v is_rule reads last =
       let up = reads_up_to rules number p rule v is_rule reads in
       let new = exchange rules number other p up.before up.after last.0 [] up.spelled last.1 in
       let spelled = subst (λ r. RuleSpellsPositions r (first_position rules number) (up.before ++ p ∷ []))
       (same_rule rules number new.1.rule rule new.1.is_rule is_rule) new.1.spelled in
-      (new.0, word_from rules rule rule.rest refl number is_rule (up.before ++ p ∷ []) v reads.some spelled up.reads)
+      let stands = rule_stands rules number rule is_rule in
+      (new.0, (reads.some, word_from rules rule.front (first_position rules number) rule.rest stands (up.before ++ p ∷ []) v spelled up.reads))
 
-  front_words : (number : ℕ) (rule : Rule) (v : List ℕ) → IsRule rules number rule → IsFrontWordOf rule v → (p : ℕ) × ReadsLast rules number rule v p ×
+  pub front_words : (number : ℕ) (rule : Rule) (v : List ℕ) → IsRule rules number rule → IsFrontWordOf rule v → (p : ℕ) × ReadsLast rules number rule v p ×
       FrontLastOf rules number p
   front_words number rule v is_rule word =
       let first : ℕ = first_position rules number in
       let stands = stands_left (all_sets rules) first (sets_of rule.front) (option_map_or sets_of rule.rest []) (rule_stands rules number rule is_rule) in
       let one = spelled_to (all_sets rules) rule.front first stands v word.2 in
-      let long = zip_long (Reads rules) one.0 v one.2 in
-      let last = ends_with one.0 (λ none. word.1 (nil_from_length v (sym long ∙ ap length none))) in
+      let long = AllZip-long (Reads rules) one.0 v one.2 in
+      let last = ends_with one.0 (λ none. word.1 (nil_from_length v (long ∙ ap length none))) in
       let spelled = subst (λ l. SpellsPositions rule.front first l) last.whole one.1 in
-      let more = front_goes_on rules rule rule.rest refl number is_rule (lawful_rule rules number rule lawful is_rule) (last.front ++ last.last ∷ []) spelled in
+      let more = front_goes_on rules rule.front first rule.rest (lawful_rule rules number rule lawful is_rule).rest (last.front ++ last.last ∷ [])
+      spelled in
       let whole : IsSpelled rules number (last.front ++ last.last ∷ more.0) =
       record {
         rule = rule;
@@ -330,7 +267,7 @@ module _ (rules : List Rule) (lawful : AllByRecursion IsLawfulRule rules) where
         record { rule = rule; is_rule = is_rule; looks_ahead = word.0; others = last.front; spelled = spelled },
       )
 
-  front_wholes : (number other p : ℕ) (rule : Rule) (v : List ℕ) → IsRule rules number rule → ReadsLast rules number rule v p → FrontLastOf rules other p →
+  pub front_wholes : (number other p : ℕ) (rule : Rule) (v : List ℕ) → IsRule rules number rule → ReadsLast rules number rule v p → FrontLastOf rules other p →
       (number ≡ other) × IsFrontWordOf rule v
   front_wholes number other p rule v is_rule reads last =
       let first : ℕ = first_position rules number in
@@ -345,16 +282,3 @@ module _ (rules : List Rule) (lawful : AllByRecursion IsLawfulRule rules) where
       last.looks_ahead in
       let stands = stands_left (all_sets rules) first (sets_of rule.front) (option_map_or sets_of rule.rest []) (rule_stands rules number rule is_rule) in
       (same, (looks, reads.some, spelled_from (all_sets rules) rule.front first stands (up.before ++ p ∷ []) v spelled up.reads))
-
-  pub reading_laws : ReadingLaws rules (FirstOf rules) (LastOf rules) (FrontLastOf rules) (FollowsIn rules)
-  reading_laws = record {
-    start = starts;
-    extend = extends;
-    first = firsts;
-    shrink = shrinks;
-    reads = reads_code;
-    word = words;
-    whole = wholes;
-    front_word = front_words;
-    front_whole = front_wholes;
-  }

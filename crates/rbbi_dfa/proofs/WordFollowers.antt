@@ -1,15 +1,14 @@
 -- What may follow a set of positions, word by word.
-use Rattle.std.proofs.Common.{◌≡◌, ◌≢◌, ℕ, ◌+◌, ◌-◌, ◌*◌, ◌<◌, ◌≤◌, ◌⊎◌, ◌↔◌, List, [], ◌∷◌, ◌++◌, length, get_or, set, sym, ap, ◌∙◌, subst, inl, inr, ⊎_elim}
+use Rattle.std.proofs.Common.{◌≡◌, ◌≢◌, ℕ, ◌+◌, ◌-◌, ◌*◌, ◌<◌, ◌≤◌, ◌⊎◌, ◌↔◌, List, [], length, get_or, set, sym, ap, ◌∙◌, subst, inl, inr, ⊎_elim}
 use Rattle.std.proofs.Common.{arith}
 use Rattle.std.proofs.lemmas.Bool.{cases_lt, cases_eq}
-use Rattle.std.proofs.lemmas.List.{get_or_past, get_or_append_left, get_or_push, length_push, get_or-set_same, get_or-set_other, length-set}
+use Rattle.std.proofs.lemmas.List.{get_or_past, get_or-set_same, get_or-set_other, length-set}
 use Rattle.std.specs.Int.{bit_at}
 use Rattle.rbbi_dfa.specs.BitRows.{Holds, row_at}
 use Rattle.rbbi_dfa.specs.PositionRows.{PositionRows}
 use Rattle.rbbi_dfa.specs.Determinizing.{AreFollowersUpTo}
 use Rattle.rbbi_dfa.specs.LastWords.{FollowsWord, AddsFollowers, AreKept}
-use Rattle.rbbi_dfa.proofs.Bits.{holds_word}
-use Rattle.rbbi_dfa.proofs.Lead.{word_holds}
+use Rattle.rbbi_dfa.proofs.Bits.{word_bit}
 use Rattle.rbbi_dfa.proofs.Steps.{empty_holds}
 
 pub adds_none : (follow : List (List ℕ)) (i word : ℕ) (row : List ℕ) → AddsFollowers follow i word 0 row row
@@ -62,14 +61,6 @@ adds_past follow i word bit old row before past p = (
       (cases_eq b bit)),
 )
 
--- what was added to nothing
-pub union_is : (follow : List (List ℕ)) (i word : ℕ) (old new : List ℕ) → ((p : ℕ) → ¬ Holds old p) → AddsFollowers follow i word 64 old new →
-    (p : ℕ) → Holds new p ↔ FollowsWord follow i word p
-union_is follow i word old new none adds p = (
-  λ holds. ⊎_elim (λ was. absurd (none p was)) (λ new. new) ((adds p).0 holds),
-  λ follows. (adds p).1 (inr follows),
-)
-
 -- what may follow one word more of the set was added
 pub followers_word : (follow : List (List ℕ)) (set candidates next union : List ℕ) (i word : ℕ) → AreFollowersUpTo follow set (64 * i) candidates →
     word ≡ get_or set i 0 →
@@ -81,7 +72,7 @@ followers_word follow set candidates next union i word before is union_of united
       (λ earlier. let old = (before p).0 earlier in (old.0, omega (arith, old.1), old.2, old.3))
       (λ new.
       let by = (union_of p).0 new in
-      (64 * i + by.0, omega (arith, by.1), holds_word set i by.0 by.1 (ap (λ n. bit_at n by.0) (sym is) ∙ by.2), by.3))
+      (64 * i + by.0, omega (arith, by.1), word_bit set i by.0 by.1 ∙ ap (λ n. bit_at n by.0) (sym is) ∙ by.2, by.3))
       ((united p).0 holds),
   λ (q, short, at, follows). (united p).1
       (⊎_elim
@@ -93,7 +84,7 @@ followers_word follow set candidates next union i word before is union_of united
       inr ((union_of p).1 (
         bit,
         small,
-        ap (λ n. bit_at n bit) is ∙ word_holds set i bit small (subst (Holds set) same at),
+        ap (λ n. bit_at n bit) is ∙ sym (word_bit set i bit small) ∙ subst (Holds set) same at,
         subst (λ n. Holds (row_at follow n) p) same follows,
       )))
       (cases_lt q (64 * i))),
@@ -131,43 +122,3 @@ pub record AreFirstUnions (rows : PositionRows) (unions : List (List ℕ)) (coun
   pub many : length unions ≡ count
   pub wide : (i : ℕ) → i < count → length (row_at unions i) ≡ rows.width
   pub each : (i : ℕ) → i < count → (p : ℕ) → Holds (row_at unions i) p ↔ FollowsWord rows.follow i 0 p
-
-pub unions_none : (rows : PositionRows) (unions : List (List ℕ)) → unions ≡ [] → AreFirstUnions rows unions 0
-unions_none rows unions none = record {
-  many = ap length none;
-  wide = λ i short. absurd (omega (arith, short));
-  each =
-      λ i short. absurd (omega (arith, short));
-}
-
-pub unions_more : (rows : PositionRows) (unions : List (List ℕ)) (union : List ℕ) (count : ℕ) → AreFirstUnions rows unions count → length union ≡ rows.width →
-    ((p : ℕ) → Holds union p ↔ FollowsWord rows.follow count 0 p) → AreFirstUnions rows (unions ++ union ∷ []) (count + 1)
-unions_more rows unions union count are wide is =
-    let last : row_at (unions ++ union ∷ []) count ≡ union = get_or_push unions union [] count are.many in
-    let old = λ (i : ℕ) (short : i < count). get_or_append_left unions (union ∷ []) [] i (omega (arith, short, are.many)) in
-    record {
-      many = omega (arith, length_push unions union, are.many);
-      wide = λ i short.
-          ⊎_elim
-          (λ same. subst (λ n. length (row_at (unions ++ union ∷ []) n) ≡ rows.width) (sym same) (ap length last ∙ wide))
-          (λ other. let before : i < count = omega (arith, short, other) in ap length (old i before) ∙ are.wide i before)
-          (cases_eq i count);
-      each = λ i short p.
-          ⊎_elim
-          (λ same.
-          subst (λ n. Holds (row_at (unions ++ union ∷ []) n) p ↔ FollowsWord rows.follow n 0 p) (sym same)
-          (subst (λ l. Holds l p ↔ FollowsWord rows.follow count 0 p) (sym last) (is p)))
-          (λ other.
-          let before : i < count = omega (arith, short, other) in
-          subst (λ l. Holds l p ↔ FollowsWord rows.follow i 0 p) (sym (old i before)) (are.each i before p))
-          (cases_eq i count);
-    }
-
-pub kept_none : (rows : PositionRows) (words : List ℕ) (unions : List (List ℕ)) (count : ℕ) → count ≡ rows.width → length words ≡ rows.width →
-    ((i : ℕ) → get_or words i 0 ≡ 0) → AreFirstUnions rows unions count → AreKept rows words unions
-kept_none rows words unions count all long zero are = record {
-  many_words = long;
-  many = are.many ∙ all;
-  wide = λ i short. are.wide i (omega (arith, short, all));
-  each = λ i short p. subst (λ n. Holds (row_at unions i) p ↔ FollowsWord rows.follow i n p) (sym (zero i)) (are.each i (omega (arith, short, all)) p);
-}

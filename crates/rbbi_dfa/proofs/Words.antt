@@ -12,36 +12,25 @@ use Rattle.rbbi_model.specs.Marks.{look_ahead_number}
 use Rattle.rbbi_model.specs.LeafSets.{EndedBefore}
 use Rattle.rbbi_dfa.specs.BitRows.{Holds, row_at}
 use Rattle.rbbi_dfa.specs.PositionRows.{PositionRows}
-use Rattle.rbbi_dfa.specs.PositionAutomata.{FirstOf, LastOf, FollowsIn, FrontLastOf, IsOfRules}
-use Rattle.rbbi_dfa.specs.Determinizing.{ComesBy, IsStep, AreFollowers, Completes, IsReached, FromFirst, FromSet, IsSome, IsCell, IsDeterminized}
-use Rattle.rbbi_dfa.proofs.Reading.{ReadBy, ReadingLaws, Comes, reads_next, next_reads, read_ends, ends_read, ends_longer, ends_shorter, some_push}
-use Rattle.rbbi_dfa.proofs.WalkReading.{reading_laws}
+use Rattle.rbbi_dfa.specs.PositionAutomata.{IsOfRules}
+use Rattle.rbbi_dfa.specs.PositionAutomata.{Marked, LookAhead}
+use Rattle.rbbi_dfa.specs.Determinizing.{HasMark, ComesBy, IsStep, AreFollowers, Completes, IsReached, FromFirst, FromSet, IsSome, IsCell, IsDeterminized}
+use Rattle.rbbi_positions.proofs.Splits.{all-append}
+use Rattle.rbbi_dfa.proofs.Reading.{ReadBy, Comes, reads_next, next_reads, read_ends, ends_read, ends_longer, ends_shorter, some_push}
 use Rattle.rbbi_model.proofs.RulesCover.{ends_lie}
 
 module _ (rules : List Rule) where
+  longer : (w : List ℕ) (c e number : ℕ) → LookAheadEndsAt rules w 0 e number → LookAheadEndsAt rules (w ++ c ∷ []) 0 e number
+  longer w c e number ends =
+      record { rule = ends.rule; is_rule = ends.is_rule; looks_ahead = ends.looks_ahead; ends = ends_longer rules w c e number ends.ends }
+
   pub ended_longer : (w : List ℕ) (c : ℕ) → EndedBefore rules w → EndedBefore rules (w ++ c ∷ [])
   ended_longer w c ended =
-      record {
-        e = ended.e;
-        number = ended.number;
-        before = omega (arith, ended.before, length_push w c);
-        ends = record {
-          rule = ended.ends.rule;
-          is_rule = ended.ends.is_rule;
-          looks_ahead = ended.ends.looks_ahead;
-          ends =
-              ends_longer rules w c ended.e ended.number ended.ends.ends;
-        };
-      }
+      let ends = longer w c ended.e ended.number ended.ends in
+      record { e = ended.e; number = ended.number; before = omega (arith, ended.before, length_push w c); ends = ends }
 
   pub ended_now : (w : List ℕ) (c number : ℕ) → LookAheadEndsAt rules w 0 (length w) number → EndedBefore rules (w ++ c ∷ [])
-  ended_now w c number ends =
-      record {
-        e = length w;
-        number = number;
-        before = omega (arith, length_push w c);
-        ends = record { rule = ends.rule; is_rule = ends.is_rule; looks_ahead = ends.looks_ahead; ends = ends_longer rules w c (length w) number ends.ends };
-      }
+  ended_now w c number ends = record { e = length w; number = number; before = omega (arith, length_push w c); ends = longer w c (length w) number ends }
 
   pub not_ended : (w : List ℕ) (c : ℕ) → ¬ EndedBefore rules w → ((number : ℕ) → ¬ LookAheadEndsAt rules w 0 (length w) number) →
       ¬ EndedBefore rules (w ++ c ∷ [])
@@ -66,12 +55,9 @@ nothing_reads rules p =
     ⊎_elim (λ begun. begun.reads.some refl) (λ chained. let lies = ends_lie rules [] 0 chained.m chained.before chained.ends in omega (arith, lies.0, lies.1))
 
 module _ (rules : List Rule) (lawful : AreLawful rules) (ranges : List CategoryRange) (rows : PositionRows) (of : IsOfRules rules ranges rows) where
-  pub laws : ReadingLaws rules (FirstOf rules) (LastOf rules) (FrontLastOf rules) (FollowsIn rules)
-  laws = reading_laws rules lawful.each
-
   -- the position can come next after the word
   abbrev pub IsNext : List ℕ → ℕ → Type 0
-  IsNext w p = Comes rules (FirstOf rules) (LastOf rules) (FrontLastOf rules) (FollowsIn rules) laws w p
+  IsNext w p = Comes rules lawful.each w p
 
   -- the set has the positions that can read the last code point of the word, before which no look-ahead rule ended
   pub record IsSetOf (w set : List ℕ) : Type 0 where
@@ -105,7 +91,7 @@ module _ (rules : List Rule) (lawful : AreLawful rules) (ranges : List CategoryR
   comes_reads : (w candidates : List ℕ) (c p : ℕ) → AreCandidates w candidates → IsCodePoint c → ComesBy rows candidates (category_of ranges c) p →
       ReadBy rules (w ++ c ∷ []) p
   comes_reads w candidates c p are code comes =
-      next_reads rules (FirstOf rules) (LastOf rules) (FrontLastOf rules) (FollowsIn rules) laws w c p (
+      next_reads rules lawful.each w c p (
         (of.reads p c code).0 comes.0,
         ⊎_elim
             (λ candidate. inl ((are p).0 candidate))
@@ -131,7 +117,7 @@ module _ (rules : List Rule) (lawful : AreLawful rules) (ranges : List CategoryR
   reads_comes : (w candidates : List ℕ) (c p : ℕ) → AreCandidates w candidates → IsCodePoint c → ReadBy rules (w ++ c ∷ []) p →
       ComesBy rows candidates (category_of ranges c) p
   reads_comes w candidates c p are code read =
-      let next = reads_next rules (FirstOf rules) (LastOf rules) (FrontLastOf rules) (FollowsIn rules) laws w c p read in (
+      let next = reads_next rules lawful.each w c p read in (
         (of.reads p c code).1 next.0,
         ⊎_elim
             (λ comes. inl ((are p).1 comes))
@@ -149,36 +135,33 @@ module _ (rules : List Rule) (lawful : AreLawful rules) (ranges : List CategoryR
             next.1,
       )
 
-  -- a look-ahead rule is completed at the set where one ends with the word
-  pub completes_ends : (w set : List ℕ) → IsSetOf w set → Completes rows set → (number : ℕ) × LookAheadEndsAt rules w 0 (length w) number
-  completes_ends w set is completes =
-      let last = (of.completed completes.0 completes.1).0 completes.3 in
-      let ends = read_ends rules (FirstOf rules) (LastOf rules) (FrontLastOf rules) (FollowsIn rules) laws w last.0 completes.0
-      ((is.holds completes.0).0 completes.2) last.2 in
-      (last.0, record { rule = last.1.rule; is_rule = last.1.is_rule; looks_ahead = last.1.looks_ahead; ends = ends })
+  -- a look-ahead rule's mark is in the set where the rule ends with the word
+  pub mark_completed : (w set : List ℕ) → IsSetOf w set → (mark : ℕ) → HasMark set (Marked rows.completed) mark →
+      (number : ℕ) × LookAheadEndsAt rules w 0 (length w) number × (look_ahead_number rules number ≡ mark)
+  mark_completed w set is mark has =
+      let last = (of.completed has.0 mark).0 has.2 in
+      let ends = read_ends rules lawful.each w last.0 has.0 ((is.holds has.0).0 has.1) last.2 in
+      (last.0, record { rule = last.1.rule; is_rule = last.1.is_rule; looks_ahead = last.1.looks_ahead; ends = ends }, last.3)
 
-  pub ends_completes : (w set : List ℕ) (number : ℕ) → IsSetOf w set → LookAheadEndsAt rules w 0 (length w) number → Completes rows set
+  pub completed_mark : (w set : List ℕ) → IsSetOf w set → (number : ℕ) → LookAheadEndsAt rules w 0 (length w) number →
+      HasMark set (Marked rows.completed) (look_ahead_number rules number)
+  completed_mark w set is number ends =
+      let read = ends_read rules lawful.each w number ends.ends in
+      let looks : LookAhead rules number = record { rule = ends.rule; is_rule = ends.is_rule; looks_ahead = ends.looks_ahead } in
+      (read.0, (is.holds read.0).1 read.1, (of.completed read.0 (look_ahead_number rules number)).1 (number, looks, read.2, refl))
+
+  -- a look-ahead rule is completed at the set where one ends with the word
+  completes_ends : (w set : List ℕ) → IsSetOf w set → Completes rows set → (number : ℕ) × LookAheadEndsAt rules w 0 (length w) number
+  completes_ends w set is (position, mark, holds, marked) = let ends = mark_completed w set is mark (position, holds, marked) in (ends.0, ends.1)
+
+  ends_completes : (w set : List ℕ) (number : ℕ) → IsSetOf w set → LookAheadEndsAt rules w 0 (length w) number → Completes rows set
   ends_completes w set number is ends =
-      let read = ends_read rules (FirstOf rules) (LastOf rules) (FrontLastOf rules) (FollowsIn rules) laws w number ends.ends in (
-        read.0,
-        look_ahead_number rules number,
-        (is.holds read.0).1 read.1,
-        (of.completed read.0 (look_ahead_number rules number)).1 (
-          number,
-          record {
-            rule = ends.rule;
-            is_rule = ends.is_rule;
-            looks_ahead =
-                ends.looks_ahead;
-          },
-          read.2,
-          refl,
-        ),
-      )
+      let has = completed_mark w set is number ends in
+      (has.0, look_ahead_number rules number, has.1, has.2)
 
   pub none_ends : (w : List ℕ) (number : ℕ) → ((p : ℕ) → ¬ ReadBy rules w p) → ¬ LookAheadEndsAt rules w 0 (length w) number
   none_ends w number none = λ ends.
-      let read = ends_read rules (FirstOf rules) (LastOf rules) (FrontLastOf rules) (FollowsIn rules) laws w number ends.ends in
+      let read = ends_read rules lawful.each w number ends.ends in
       none read.0 read.1
 
   -- nothing ends before the word that is one code point long
@@ -216,7 +199,7 @@ module _ (rules : List Rule) (lawful : AreLawful rules) (ranges : List CategoryR
       where
         reads_before : (p : ℕ) → ReadBy rules (w ++ c ∷ []) p → (q : ℕ) × ReadBy rules w q
         reads_before p read =
-            let next = reads_next rules (FirstOf rules) (LastOf rules) (FrontLastOf rules) (FollowsIn rules) laws w c p read in
+            let next = reads_next rules lawful.each w c p read in
             let from : (r : ℕ) → IsNext w r → (q : ℕ) × ReadBy rules w q = λ r. ⊎_elim (λ first. absurd (some first.none)) (λ after. (after.q, after.read)) in
             ⊎_elim (λ comes. from p comes) (λ chained. from chained.ends.q chained.ends.comes) next.1
 
@@ -260,10 +243,6 @@ module _ (rules : List Rule) (lawful : AreLawful rules) (ranges : List CategoryR
     pub some : w ≢ []
     pub set_of : IsSetOf w set
 
-  push_word : (w : List ℕ) (c : ℕ) → IsWord w → IsCodePoint c → IsWord (w ++ c ∷ [])
-  push_word [] c word code = (code, tt)
-  push_word (d ∷ w) c word code = (word.0, push_word w c word.1 code)
-
   read_used : (category p : ℕ) → category < rows.categories → Holds (row_at rows.reads category) p → (c : ℕ) × IsCodePoint c × (category_of ranges c ≡ category)
   read_used category p within reads =
       ⊎_elim
@@ -302,7 +281,7 @@ module _ (rules : List Rule) (lawful : AreLawful rules) (ranges : List CategoryR
       let before = reached_word earlier reached (follows.0, follows.1) in
       record {
         w = before.w ++ c ∷ [];
-        is_word = push_word before.w c before.is_word used.1;
+        is_word = all-append IsCodePoint before.w (c ∷ []) before.is_word (used.1, tt);
         some = some_push before.w c;
         set_of = set_of_step before.w candidates set c (later_candidates before.w earlier candidates before.some before.set_of followers) used.1
             (subst (λ k. IsStep rows candidates k set) (sym used.2) next)

@@ -7,6 +7,15 @@ ghost use Rattle.rbbi_dfa.specs.Determinizing.{AreFollowersUpTo};
 use crate::determinize::bits::{Span, has, intersect, meet, meet_within, unite_common};
 use crate::determinize::position_rows::Rows;
 
+/// The positions that can read the category.
+fn readers(rows: &Rows, category: usize) -> &[u64]
+    requires category { category < rows.now.categories }
+    ensures readers { result.now ≡ row_at rows.now.reads category }
+    ensures wide { length result.now ≡ rows.now.width }
+{
+    rows.reads[category].as_slice()
+}
+
 /// Whether a candidate reads the category. The candidates have this span.
 pub(crate) fn is_read(rows: &Rows, candidates: &[u64], span: Span, category: usize) -> bool
     requires category { category < rows.now.categories }
@@ -17,7 +26,7 @@ pub(crate) fn is_read(rows: &Rows, candidates: &[u64], span: Span, category: usi
     ensures none { result ≡ false → (position : ℕ) →
         Holds candidates.now position → ¬ Holds (row_at rows.now.reads category) position }
 {
-    meet_within(candidates, rows.reads[category].as_slice(), span)
+    meet_within(candidates, readers(rows, category), span)
 }
 
 /// Makes `next` the positions that come next by the category: the candidates that read it, and
@@ -30,7 +39,7 @@ pub(crate) fn step(rows: &Rows, candidates: &[u64], category: usize, next: &mut 
     ensures step { IsStep rows.now candidates.now category next.new }
     ensures row { IsRow rows.now.width next.new }
 {
-    let reads = rows.reads[category].as_slice();
+    let reads = readers(rows, category);
     intersect(next, candidates, reads);
     if meet(next, &rows.last) {
         unite_common(next, &rows.chained, reads);
