@@ -109,11 +109,24 @@ const FAULTS: &[(&str, &str)] = &[
     ("[[bd]-[[a-d]&[b-e]-[c]]];", "0 EmptySet"),
     ("[[[a-d]-[c]&[b-e]c]-[b-d]];", "0 EmptySet"),
     ("[[b-d]-[[a-d]-[c]&[b-e]c]];", "0 EmptySet"),
-    // Parts that say the same as the part behind them.
-    ("$a = [a-d]; $b = [b]; [[$a$a-$b-$b]-[acd]];", "22 EmptySet"),
-    ("$a = [a-d]; $b = [b]; [[acd]-[$a$a-$b-$b]];", "22 EmptySet"),
-    ("$a = [a-d]; $b = [b]; [[$a&$b&$b]-$b];", "22 EmptySet"),
-    ("$a = [a-d]; $b = [b]; [$b-[$a&$b&$b$b]];", "22 EmptySet"),
+    // names that are joined again, in the same way, behind other parts
+    (
+        "$a = [a-d]; $b = [b]; [[$a$b$a$b$a$b$a$b$a-$b$a-$b]-[acd]];",
+        "22 EmptySet",
+    ),
+    (
+        "$a = [a-d]; $b = [b]; [[acd]-[$a$b$a$b$a$b$a$b$a-$b$a-$b]];",
+        "22 EmptySet",
+    ),
+    (
+        "$a = [a-d]; $b = [b]; [[$a&$b$a&$b$a&$b$a&$b$a&$b$a&$b]-$b];",
+        "22 EmptySet",
+    ),
+    (
+        "$a = [a-d]; $b = [b]; [$b-[$b-$a$b-$a$b-$a$b-$a$b-$a$b]];",
+        "22 EmptySet",
+    ),
+    ("$a = [a-d]; [$a$x$a$x$a$x$a$x$a$x$a$x];", "15 Undefined"),
     ("[[abd]&[^[a-d]-[c]]];", "0 EmptySet"),
     // the first of many faults of a set
     ("[[b-a]$x[z-y]];", "2 BadRange"),
