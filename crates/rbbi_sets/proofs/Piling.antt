@@ -50,6 +50,10 @@ IsRest-all sets set rest count all h c = rw (take_all count sets all) at (h c)
 abbrev pub HoldTogether : List (List Range) → List Range → (ℕ → Type 0) → Type 0
 HoldTogether sets top Told = (c : ℕ) → (HasAny sets c ⊎ Has top c) ↔ Told c
 
+-- the last set taken off is the one more
+pub hold_split : (sets told : List (List Range)) (top : List Range) → told ≡ sets ++ top ∷ [] → HoldTogether sets top (HasAny told)
+hold_split sets told top e c = let more = any_more sets top c in rw e (λ t. more.1 t, λ a. more.0 a)
+
 -- the last set is made one with the one more
 pub hold_joined : (before after : List (List Range)) (below top joined : List Range) (Told : ℕ → Type 0) → before ≡ after ++ below ∷ [] →
     ((c : ℕ) → Has joined c ↔ (Has below c ⊎ Has top c)) → HoldTogether before top Told → HoldTogether after joined Told

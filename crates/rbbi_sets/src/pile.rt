@@ -11,8 +11,9 @@ use std::marker::Model;
 /// Sets that grow by one set after another. Contracts see them as their lists of ranges, and what
 /// counts is the code points that some of them has (`HasAny`).
 ///
-/// Each set is more than twice as long as the one on top of it: one that comes is made one with
-/// those that aren't. So a range takes part in few joins, however many sets come.
+/// Each set is more than twice as long as the one on top of it, but for the top one, which is made
+/// one with those that aren't when the next set comes. So a range takes part in few joins, however
+/// many sets come, and in none for the last.
 #[derive(Debug, Drop)]
 pub struct Pile {
     sets: Vec<CodeSet>,
@@ -42,16 +43,27 @@ impl Pile {
         ensures { OnOk result ((c : ℕ) →
             HasAny self.new c ↔ (HasAny self.old c ⊎ Has set c)) }
     {
+        self.tidy(alloc)?;
         if set.first().is_none() {
             return Ok(());
         }
-        let mut top = set;
-        'due: while is_due(&self.sets, &top) {
-            if let Some(below) = self.sets.pop() {
-                top = below.union(alloc, &top)?;
+        self.sets.push(set)?;
+        Ok(())
+    }
+
+    /// Makes the set on top one with those below it that aren't more than twice as long.
+    fn tidy(&mut self, alloc: Global) -> Result<(), AllocError>
+        ensures { OnOk result ((c : ℕ) → HasAny self.new c ↔ HasAny self.old c) }
+    {
+        if let Some(set) = self.sets.pop() {
+            let mut top = set;
+            'due: while is_due(&self.sets, &top) {
+                if let Some(below) = self.sets.pop() {
+                    top = below.union(alloc, &top)?;
+                }
             }
+            self.sets.push(top)?;
         }
-        self.sets.push(top)?;
         Ok(())
     }
 
