@@ -4,6 +4,7 @@ Everything is made by this file from a fixed seed, so that two machines measure 
 downloaded. A text is made in blocks of 100,000 characters, so that the larger text of a kind begins
 with the smaller one.
 """
+import itertools
 import os
 import random
 import string
@@ -276,6 +277,12 @@ def variables(form):
     return padded(''.join(out) + 'b;')
 
 
+def spellings():
+    """One set of the property of letters, spelled in another way each time."""
+    names = (''.join(gaps) for gaps in itertools.product('_- ', repeat=10))
+    return padded('[' + ''.join(f'\\p{{L{gaps}}}' for gaps in names) + '];')
+
+
 FRONT = {
     'statements': (lambda: repeat('a;'), '524,288 times `a;`'),
     'empty': (lambda: repeat(';', tail='a;'), 'a million empty statements'),
@@ -297,7 +304,12 @@ FRONT = {
     'named': (lambda: repeat('$v', '$v=[\\p{L}];[', '];'), 'one set of 500,000 times one variable'),
     'inturn': (lambda: repeat('$v$w', '$v=[\\p{L}];$w=[\\p{Lu}];[', '];'),
                'one set of two variables in turn, 500,000 times in all'),
+    'spellings': (spellings, 'one set of 59,000 spellings of one property'),
+    'inner': (lambda: repeat('[\\p{L}-\\p{Lu}]', '[', '];'),
+              'one set of 75,000 sets, each a property without another'),
     'variables': (lambda: variables('[\\p{L}]'), '80,000 variables of one property'),
+    'without': (lambda: variables('[\\p{L}-\\p{Lu}]'),
+                '52,000 variables, each a property without another'),
     'different': (lambda: variables('[\\p{L}@]'),
                   '60,000 variables of one property and a letter each'),
     'lone': (lambda: repeat('[\\p{L}];'), '130,000 rules of one property, refused'),
