@@ -27,7 +27,7 @@ const ELSEWHERE: char = '\u{E000}';
 
 /// Notes the faults of a set that stands as an atom.
 ///
-/// That it holds a character is told by one that is in it. Only where the one that is tried isn't
+/// That it holds a character is told by one that is in it. Two are tried, and only where neither is
 /// in it, the set is evaluated.
 pub(crate) fn note_set(
     alloc: Global,
@@ -43,22 +43,24 @@ pub(crate) fn note_set(
         (parts_of_item (placed place (set_atom (set_tree set.now)) quant))) }
     ensures same { properties.new ≡ properties.old }
 {
-    let tried = candidate(alloc, scope, properties, set)?;
-    let is_empty = is_empty_set(alloc, scope, properties, least, set, tried)?;
+    let first = candidate(alloc, scope, properties, End::First, set)?;
+    let last = candidate(alloc, scope, properties, End::Last, set)?;
+    let is_empty = is_empty_set(alloc, scope, properties, least, set, first, last)?;
     note_where(least, is_empty, place, 9);
     Ok(())
 }
 
 /// Whether a set has a value and holds no character. The faults of its parts are noted.
 ///
-/// Where the character that is tried is in the set, that is known without the set's value.
+/// Where one of two characters is in the set, that is known without the set's value.
 fn is_empty_set(
     alloc: Global,
     scope: &Scope,
     properties: &mut Properties,
     least: &mut Option<Fault>,
     set: &SetExpr,
-    tried: char,
+    first: char,
+    last: char,
 ) -> Result<bool, AllocError>
     requires { IsScope properties.old scope.now }
     ensures empty { IfOk result (λ empty. empty ≡ is_empty_value properties.old
@@ -69,18 +71,29 @@ fn is_empty_set(
         (parts_of_set (set_tree set.now))) }
     ensures same { properties.new ≡ properties.old }
 {
-    let found = is_in_set(alloc, scope, properties, least, set, tried)?;
+    let found = is_in_set(alloc, scope, properties, least, set, first)?;
     match found {
         Some(held) => {
             if held {
                 return Ok(false);
             }
             let mut noted: Option<Fault> = None;
+            let again = is_in_set(alloc, scope, properties, &mut noted, set, last)?;
+            if let Some(true) = again {
+                return Ok(false);
+            }
             let value = value_of_set(alloc, scope, properties, &mut noted, set)?;
             Ok(is_empty_value(&value))
         }
         None => Ok(false),
     }
+}
+
+/// Which of the members of a property or a variable is tried.
+#[derive(Clone, Copy)]
+enum End {
+    First,
+    Last,
 }
 
 /// A character that may be in a set: one of the last part that is added.
@@ -89,6 +102,7 @@ fn candidate(
     alloc: Global,
     scope: &Scope,
     properties: &mut Properties,
+    end: End,
     set: &SetExpr,
 ) -> Result<char, AllocError>
     ensures { properties.new ≡ properties.old }
@@ -100,7 +114,7 @@ fn candidate(
         let part = &set.parts.items[i];
         match part.join {
             Join::Add => {
-                let tried = candidate_of_item(alloc, scope, properties, &part.item)?;
+                let tried = candidate_of_item(alloc, scope, properties, end, &part.item)?;
                 return Ok(tried);
             }
             Join::Both | Join::Minus => {}
@@ -109,19 +123,23 @@ fn candidate(
     Ok(ELSEWHERE)
 }
 
-/// A character that may be in an item of a set: its first one, where that is at hand.
+/// A character that may be in an item of a set: its first or last one, where that is at hand.
 #[cycle(candidates)]
 fn candidate_of_item(
     alloc: Global,
     scope: &Scope,
     properties: &mut Properties,
+    end: End,
     item: &SetItem,
 ) -> Result<char, AllocError>
     ensures { properties.new ≡ properties.old }
 {
     match item {
         SetItem::Char(c) => Ok(*c),
-        SetItem::Range(first, _) => Ok(*first),
+        SetItem::Range(first, last) => match end {
+            End::First => Ok(*first),
+            End::Last => Ok(*last),
+        },
         SetItem::Name(name) => Ok(first_of_variable(scope, name)),
         SetItem::Prop {
             negated,
@@ -129,10 +147,10 @@ fn candidate_of_item(
             value,
         } => {
             let set = properties.set_of(alloc, *negated, name, value)?;
-            Ok(first_of_value(set.as_ref()))
+            Ok(member_of_value(end, set.as_ref()))
         }
         SetItem::Set(inner) => {
-            let tried = candidate(alloc, scope, properties, inner)?;
+            let tried = candidate(alloc, scope, properties, end, inner)?;
             Ok(tried)
         }
     }
@@ -157,11 +175,22 @@ fn member_of_variable(value: &Option<SharedSet>) -> char {
     }
 }
 
-/// The first member of a set, where it is a character.
-fn first_of_value(value: &Option<CodeSet>) -> char {
+/// The first or last member of a set, where it is a character.
+fn member_of_value(end: End, value: &Option<CodeSet>) -> char {
     match value {
-        Some(set) => character_or_elsewhere(set.first()),
+        Some(set) => character_or_elsewhere(member_of_set(end, set)),
         None => ELSEWHERE,
+    }
+}
+
+/// The first or last member of a set.
+fn member_of_set(end: End, set: &CodeSet) -> Option<u32> {
+    match end {
+        End::First => set.first(),
+        End::Last => {
+            let range = set.ranges().last()?;
+            Some(range.high)
+        }
     }
 }
 
