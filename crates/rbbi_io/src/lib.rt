@@ -1,5 +1,5 @@
-//! Files and sinks: where bytes come from and go to, with counts of the faults that they had; and the
-//! words of the command line.
+//! Files and sinks: where bytes come from and go to, with counts of the faults that they had; and
+//! the words of the command line.
 //!
 //! A refusal for a fault is tied to a count, so that no code above can invent one.
 #![tactic(auto)]

@@ -26,13 +26,15 @@ pub kept_leaf : (k : Context) (files : List File) (kind : Kind) (value : Option 
     AddsLeaves files (leaves_of_expr k expr) before after
 kept_leaf k files kind value expr before after same lone is kept sound faultless adds =
     subst (λ x. AddsLeaves files (leaves_of_expr k x) before after) (sym lone.is)
-    (of_atom lone.atom lone.of_set (subst (λ h. IsKindOf files h (variable_for k (alternative (item (placed lone.place lone.atom Once) no_items) no_alternatives))) is (subst (λ x. IsKindOf files kind (variable_for k x)) lone.is
-    kept))
+    (of_atom lone.atom lone.of_set
+    (subst (λ h. IsKindOf files h (variable_for k (alternative (item (placed lone.place lone.atom Once) no_items) no_alternatives))) is
+    (subst (λ x. IsKindOf files kind (variable_for k x)) lone.is kept))
     (let e = subst (λ x. faults_of_parts k (parts_of_expr x) ≡ []) lone.is faultless in
     faultless_first k (parts_of_item (placed lone.place lone.atom Once)) [] (faultless_first k (parts_of_seq (item (placed lone.place lone.atom Once) no_items))
     [] e)))
   where
-    of_atom : (atom : AtomTree) → IsSetAtom atom → IsKindOf files (kinds.Set value) (variable_for k (alternative (item (placed lone.place atom Once) no_items) no_alternatives)) →
+    of_atom : (atom : AtomTree) → IsSetAtom atom →
+        IsKindOf files (kinds.Set value) (variable_for k (alternative (item (placed lone.place atom Once) no_items) no_alternatives)) →
         faults_of_parts k (parts_of_item (placed lone.place atom Once)) ≡ [] →
         AddsLeaves files (leaves_of_expr k (alternative (item (placed lone.place atom Once) no_items) no_alternatives)) before after
     of_atom (character c bare) n of e = absurd n

@@ -1,5 +1,6 @@
 -- A part that says what a part behind it says changes nothing.
-use Rattle.std.proofs.Common.{◌≡◌, ℕ, ◌+◌, ◌<◌, ◌↔◌, inl, inr, true, Option, Some, None, List, ◌++◌, [], map, length, drop, get_or, refl, sym, ap, ◌∙◌, subst, is_none, arith}
+use Rattle.std.proofs.Common.{◌≡◌, ℕ, ◌+◌, ◌<◌, ◌↔◌, inl, inr, true, Option, Some, None, List, ◌++◌, [], map, length, drop, get_or, refl, sym, ap, ◌∙◌}
+use Rattle.std.proofs.Common.{subst, is_none, arith}
 use Rattle.std.proofs.Common.{Bool, false, cond, bytes_eq, encode_utf8_all}
 use Rattle.std.proofs.lemmas.Slice.Eq.{bytes_eq-Decides}
 use Rattle.std.specs.HashMap.{get_by_text}
@@ -79,7 +80,8 @@ also files (Some tree) p whole h e = record { tree = tree; is = refl; alike = su
 -- Where two sets differ at most in what a set that is joined to them decides about, they do so with any other set joined before.
 still_hidden : (join other : Join) (S T U D : Type 0) → (model.InJoin (join_of join) S D → model.InJoin (join_of join) T D) →
     model.InJoin (join_of join) (model.InJoin (join_of other) S U) D → model.InJoin (join_of join) (model.InJoin (join_of other) T U) D
-still_hidden Add Add S T U D h j = elim j [ inl k ↦ elim k [ inl a ↦ elim (h (inl a)) [ inl b ↦ inl (inl b) | inr d ↦ inr d ] | inr u ↦ inl (inr u) ] | inr d ↦ inr d ]
+still_hidden Add Add S T U D h j =
+    elim j [ inl k ↦ elim k [ inl a ↦ elim (h (inl a)) [ inl b ↦ inl (inl b) | inr d ↦ inr d ] | inr u ↦ inl (inr u) ] | inr d ↦ inr d ]
 still_hidden Add Both S T U D h j = elim j [ inl k ↦ elim (h (inl k.0)) [ inl b ↦ inl (b, k.1) | inr d ↦ inr d ] | inr d ↦ inr d ]
 still_hidden Add Minus S T U D h j = elim j [ inl k ↦ elim (h (inl k.0)) [ inl b ↦ inl (b, k.1) | inr d ↦ inr d ] | inr d ↦ inr d ]
 still_hidden Both Add S T U D h j = elim j.0 [ inl a ↦ (inl (h (a, j.1)).0, j.1) | inr u ↦ (inr u, j.1) ]
@@ -199,7 +201,9 @@ module _ (context : Context) (parts : PartsTree) (repeats repeats' : Repeats) (w
   by_name way text false e h = behind context parts first way text (noted way text h)
   by_name way text true e h =
       subst (JoinsValue context (part first parts) way) ((bytes_eq-Decides (encode_utf8_all word) text).0 e) (elim (gains way h) [
-        | inl new ↦ record { tree = tree; value_is = value; joins = inl (record { place = place; word = word; is = is ∙ ap (λ j. joined place j (set_name word)) (sym new); bytes = refl }) }
+        | inl new ↦
+            let here = is ∙ ap (λ j. joined place j (set_name word)) (sym new) in
+            record { tree = tree; value_is = value; joins = inl (record { place = place; word = word; is = here; bytes = refl }) }
         | inr old ↦ behind context parts first way (encode_utf8_all word) (noted way (encode_utf8_all word) (sym (was way) ∙ old))
       ])
 

@@ -146,8 +146,8 @@ impl<'a> Builder<'a> {
         }
     }
 
-    /// The tree of the expression that the statement with the number `limit` assigns. `kept` is what
-    /// its variable keeps of it.
+    /// The tree of the expression that the statement with the number `limit` assigns. `kept` is
+    /// what its variable keeps of it.
     #[cycle(build)]
     fn definition(&mut self, alloc: Global, scope: &Scope, kept: &Kind) -> Result<Tree, AllocError>
         requires ready { IsReady self.old.properties scope.now }

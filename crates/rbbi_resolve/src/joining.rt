@@ -1,6 +1,6 @@
 //! The value of the parts of a set, joined from the last to the first.
-ghost use Rattle.std.specs.Prelude.{◌≡◌, ◌≤◌, List, [], ◌∷◌, option_map, IfOk, OnOk, Option, None, Some};
-ghost use Rattle.std.specs.Prelude.{true};
+ghost use Rattle.std.specs.Prelude.{◌≡◌, ◌≤◌, List, [], ◌∷◌, option_map, IfOk, OnOk};
+ghost use Rattle.std.specs.Prelude.{Option, None, Some, true};
 ghost use Rattle.rbbi_model.specs.SetTrees as model;
 ghost use Rattle.rbbi_props.specs.Rows.{File};
 ghost use Rattle.rbbi_tree.specs.declared.syntax.Join as trees;
@@ -110,8 +110,8 @@ impl SoFar {
         }
     }
 
-    /// Whether all of a set is decided about, and it is to be added or taken away, so that to join it
-    /// changes nothing.
+    /// Whether all of a set is decided about, and it is to be added or taken away, so that to join
+    /// it changes nothing.
     pub(crate) fn has_decided(
         &self,
         alloc: Global,

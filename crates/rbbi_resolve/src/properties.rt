@@ -56,8 +56,8 @@ pub(crate) struct Properties<'a> {
     table: &'a PropTable,
     /// What was found for each property so far, by a text that is made of its name and value.
     answers: IndexMap<String, Answer>,
-    /// What was found, by a hash, since a property may be spelled in many ways. Of sets with one hash
-    /// the last one is here.
+    /// What was found, by a hash, since a property may be spelled in many ways. Of sets with one
+    /// hash the last one is here.
     sets: IndexMap<u64, Rc<Option<CodeSet>>>,
     /// The chunks of the sets of variables.
     shelf: Shelf,

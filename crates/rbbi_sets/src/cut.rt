@@ -1,6 +1,6 @@
 //! One pass that takes one set away from another.
-ghost use Rattle.std.specs.Prelude.{◌≡◌, ◌≤◌, ◌<◌, ◌+◌, ◌-◌, ℕ, IfOk, OnOk, length, not, ◌&&◌, nat_lt};
-ghost use Rattle.std.specs.Prelude.{slice_index_or};
+ghost use Rattle.std.specs.Prelude.{◌≡◌, ◌≤◌, ◌<◌, ◌+◌, ◌-◌, ℕ, IfOk, OnOk, length, not, ◌&&◌};
+ghost use Rattle.std.specs.Prelude.{nat_lt, slice_index_or};
 ghost use Rattle.rbbi_model.specs.Ranges.{Range};
 ghost use Rattle.rbbi_sets.specs.Rising.{AreRising, BeginUpTo};
 ghost use Rattle.rbbi_sets.specs.Covers.{covers, is_between};

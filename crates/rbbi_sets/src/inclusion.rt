@@ -10,8 +10,8 @@ use crate::CodeRange;
 
 /// Whether `left` covers each code point of `right`, or where `wanted` is false, none of them.
 ///
-/// The pass goes through both lists once, and ends at the first range of `right` that decides. Lists
-/// that have many ranges in common are compared range by range.
+/// The pass goes through both lists once, and ends at the first range of `right` that decides.
+/// Lists that have many ranges in common are compared range by range.
 pub(crate) fn covers_alike(wanted: bool, left: &[CodeRange], right: &[CodeRange]) -> bool
     requires left_rises { AreRising left.now }
     requires right_rises { AreRising right.now }

@@ -1,5 +1,6 @@
 //! One pass that makes one set of two.
-ghost use Rattle.std.specs.Prelude.{◌≡◌, ◌<◌, ◌≤◌, ◌⊎◌, ℕ, IfOk, true, false, length, ◌||◌, slice_index_or};
+ghost use Rattle.std.specs.Prelude.{◌≡◌, ◌<◌, ◌≤◌, ◌⊎◌, ℕ, IfOk, true, false, length, ◌||◌};
+ghost use Rattle.std.specs.Prelude.{slice_index_or};
 ghost use Rattle.rbbi_model.specs.Ranges.{Range};
 ghost use Rattle.rbbi_sets.specs.Rising.{AreRising};
 ghost use Rattle.rbbi_sets.specs.Covers.{covers};

@@ -365,7 +365,8 @@ pub from_start : (words : List (List ℕ)) (k0 k1 k2 : Option (List ℕ → List
     → TakesFront taken taken' outcome.bytes → (taken' ≡ taken) ⊎ WhereTold k1 k2 (HoldsFile outcome.file)
     → WhereTold k1 k2 (EachHoldsOrIsFile outcome.file w1 w2) → OnSome k1 (OthersUncounted outcome.file w1 w2)
     → IsDelivered words k0 k2 r0 r2 w0 w2 taken taken' faults faults' outcome result
-from_start words k0 k1 k2 r0 r1 r2 w0 w1 w2 taken taken' faults faults' outcome result same reads writes answer status takes holds failed front first each others =
+from_start words k0 k1 k2 r0 r1 r2 w0 w1 w2 taken taken' faults faults' outcome result same reads writes answer status takes holds failed front first each
+    others =
     let reads_are : r1 ≡ r2 = λ i n. sym (reads n) i in
     let writes_are : w1 ≡ w0 = λ i n. writes n i in
     record {

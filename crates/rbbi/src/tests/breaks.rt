@@ -124,8 +124,8 @@ pub(super) const BY_PROPERTIES: Table = (
     )],
 );
 
-/// How many bytes of the table file there are, one of its bytes and what stands there, the text, the
-/// exit status and the output.
+/// How many bytes of the table file there are, one of its bytes and what stands there, the text,
+/// the exit status and the output.
 const TABLES: &[(usize, usize, u8, &[u8], u8, &str)] = &[
     (81, 0, 0x52, b"ab", 0, "0 0\n1 0\n2 0\n"),
     (0, 0, 0x52, b"ab", 4, "table: BadMagic\n"),

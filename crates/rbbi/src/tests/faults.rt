@@ -21,7 +21,8 @@ const SESSION: Held = &[
 
 const TESTS: Held = &[("r.txt", b"a;"), ("c.txt", b"\xC3\xB7")];
 
-/// The words, the files, the call of the files that fails, that of the sink, the status, the output.
+/// The words, the files, the call of the files that fails, that of the sink, the status and the
+/// output.
 const FAULTS: &[(&str, Held, u64, u64, u8, &str)] = &[
     (
         "breaks r.txt t.txt",

@@ -82,8 +82,8 @@ pub(super) const BY_TABLE: Table = (
             &[
                 TABLE,
                 b"ab",
-                b"insert 3 a\ninsert 2 a\ndelete 3 0\ndelete 3 1\ndelete 2 1\ndelete 1 2\nreplace 1 1 ba
-replace 0 3 \ninsert 0 b\ndelete 4294967295 4294967295\ntext",
+                b"insert 3 a\ninsert 2 a\ndelete 3 0\ndelete 3 1\ndelete 2 1\ndelete 1 2
+replace 1 1 ba\nreplace 0 3 \ninsert 0 b\ndelete 4294967295 4294967295\ntext",
             ],
             0,
             "outside\nok 3\nok 3\noutside\nok 2\noutside\nok 3\nok 0\nok 1\noutside\nb\n",
@@ -93,7 +93,8 @@ replace 0 3 \ninsert 0 b\ndelete 4294967295 4294967295\ntext",
             &[
                 TABLE,
                 b"ab",
-                b"following 4294967295\npreceding 4294967295\nis 4294967295\nfollowing 2\npreceding 0",
+                b"following 4294967295\npreceding 4294967295\nis 4294967295\nfollowing 2
+preceding 0",
             ],
             0,
             "done\n2\nno\ndone\ndone\n",

@@ -6,7 +6,8 @@ use Rattle.rbbi_tool.proofs.command.compile.compile.Goals as goal
 
 -- outcomes with equal bytes and files are equal
 same_told : (b b' n n' s s' : List ℕ) → b ≡ b' → n ≡ n' → s ≡ s' →
-    let told : List ℕ → List ℕ → List ℕ → Outcome = λ bytes name held. record { status = 0; bytes = bytes; file = Some (record { name = name; bytes = held }) } in
+    let told : List ℕ → List ℕ → List ℕ → Outcome =
+    λ bytes name held. record { status = 0; bytes = bytes; file = Some (record { name = name; bytes = held }) } in
     told b n s ≡ told b' n' s'
 same_told b b' n n' s s' e f h = λ i. record { status = 0; bytes = e i; file = Some (record { name = f i; bytes = h i }) }
 
@@ -25,5 +26,9 @@ returns g c =
     let rules = rules_of c.in_ok-rules.rules in (
       rules,
       (rules, c.in_ok-rules.ensures.exact, (tt, c.in_ok-table.ensures.exact, refl)),
-      record { table = c.in_ok-table.table; compiled = c.in_ok-table.ensures.compiled; is = same_told _ _ _ _ _ _ c.in_ok-line.ensures c.in_ok-name.ensures c.in_ok-bytes.ensures.spelled },
+      record {
+        table = c.in_ok-table.table;
+        compiled = c.in_ok-table.ensures.compiled;
+        is = same_told _ _ _ _ _ _ c.in_ok-line.ensures c.in_ok-name.ensures c.in_ok-bytes.ensures.spelled;
+      },
     )

@@ -28,6 +28,11 @@ returns g c =
       (
         c.in_ok-tests.tests,
         c.in_ok-tests.ensures,
-        (told.verdicts, verdicts_given basis.0 c.in_ok-table.table c.in_ok-tests.tests told.verdicts (gives_them c.same_marks_give_the_boundaries.ensures basis.0 c.in_ok-table.table basis.2) told.are, is),
+        (
+          told.verdicts,
+          verdicts_given basis.0 c.in_ok-table.table c.in_ok-tests.tests told.verdicts
+              (gives_them c.same_marks_give_the_boundaries.ensures basis.0 c.in_ok-table.table basis.2) told.are,
+          is,
+        ),
       ),
     )
