@@ -12,20 +12,17 @@ mod rules;
 
 use parts::{measure_categories, measure_places, measure_positions, measure_scan};
 use rbbi_io::{Files, RealFiles, words};
-use rbbi_text::{Raw, Steps};
+use rbbi_text::{MOST_BYTES, Raw, Steps};
 use std::alloc::Global;
 use std::io;
 use std::marker::Brand;
 use std::sync::ledger::{Blank, Ledger};
 
-/// The most bytes of a file that is measured.
-const MOST_BYTES: u64 = 100_663_296;
-
 /// All bytes of a file, or nothing where it can't be read.
 fn read<R: std::rt::Files>(alloc: Global, files: &mut RealFiles<'_, R>, name: &str) -> Option<Raw>
     ensures { IfSome result (λ bytes. length bytes ≤ most_bytes) }
 {
-    match files.read(alloc, name, MOST_BYTES) {
+    match files.read(alloc, name, MOST_BYTES as u64) {
         Ok(bytes) => Some(bytes),
         Err(_) => None,
     }

@@ -6,6 +6,7 @@ use Rattle.std.proofs.lemmas.Nat.{mul-le}
 use Rattle.rbbi_model.specs.Tables.{Table, empty_head}
 use Rattle.rbbi_model.specs.ValidTables.{IsWithin, IsValidList, IsValidTable}
 use Rattle.rbbi_model.specs.TableFile.{magic, counts, range_bytes, list_bytes, row_bytes, spelling}
+use Rattle.rbbi_text.specs.Bytes.{most_bytes}
 use Rattle.rbbi_file.specs.Lengths.{rows_size}
 use Rattle.rbbi_file.specs.Fitting.{FitsRange, FitsList, FitsHead, FitsBytes}
 use Rattle.rbbi_table.specs.Parts.{HasFittingParts}
@@ -52,7 +53,7 @@ pub fitting_valid : (table : Table) → IsValidTable table → HasFittingParts t
 fitting_valid table valid = record { cells = valid.well_formed.cells; safe = valid.well_formed.safe }
 
 -- the largest table file is shorter than what is read
-pub short_valid : (table : Table) → IsValidTable table → length (spelling table) ≤ 100663296
+pub short_valid : (table : Table) → IsValidTable table → length (spelling table) ≤ most_bytes
 short_valid table valid =
     let categories : ℕ = table.categories in
     let few : categories ≤ 255 = valid.ranges.few_categories in

@@ -1,6 +1,7 @@
 //! A table from bytes.
 ghost use Rattle.std.specs.Prelude.{◌≡◌, ◌^◌, ◌<◌, ◌≤◌, ◌++◌, length, IfOk, MatchOption};
 ghost use Rattle.rbbi_model.specs.TableFile.{u16 as two_bytes, u32 as four_bytes};
+ghost use Rattle.rbbi_text.specs.Bytes.{most_bytes};
 ghost use Rattle.rbbi_table.specs.Parts.{table_of};
 ghost use Rattle.rbbi_file.specs.Lengths.{u16_at as number_in_two, u32_at as number_in_four};
 ghost use Rattle.rbbi_file.specs.Lengths.{HasMagic, lists_end, parts_end};
@@ -48,7 +49,7 @@ fn counts_of(bytes: &[u8]) -> Counts
 
 /// Where so many status lists end that begin at a place, or none where the file ends before.
 fn end_of_lists(bytes: &[u8], count: u16, at: usize) -> Option<usize>
-    requires short { length bytes.now ≤ 100663296 }
+    requires short { length bytes.now ≤ most_bytes }
     requires start { at < 2 ^ 36 }
     ensures exact { MatchOption result (length bytes.now < lists_end bytes.now count at)
         (λ end. end ≡ lists_end bytes.now count at) }
@@ -67,7 +68,7 @@ fn end_of_lists(bytes: &[u8], count: u16, at: usize) -> Option<usize>
 /// Where the parts end, as the counts and the lengths of the lists say, or none where the file ends
 /// before. It takes no memory, whatever the counts promise.
 fn end_of_parts(bytes: &[u8]) -> Option<usize>
-    requires { length bytes.now ≤ 100663296 }
+    requires { length bytes.now ≤ most_bytes }
     ensures { MatchOption result (length bytes.now < parts_end bytes.now)
         (λ end. (end ≡ parts_end bytes.now) × (end ≤ length bytes.now)) }
 {
@@ -112,7 +113,7 @@ fn parts_of(alloc: Global, bytes: &[u8]) -> Result<Parts, AllocError>
 /// where the file ends before its parts do; otherwise `Trailing` where bytes follow; otherwise
 /// `Part` with the first part that isn't valid. Lengths are checked before memory is taken.
 pub fn read_table(alloc: Global, bytes: &[u8]) -> Result<Table, FileErr>
-    requires { length bytes.now ≤ 100663296 }
+    requires { length bytes.now ≤ most_bytes }
     ensures exact { ReadsTable bytes.now result }
     ensures complete { ReadsEachSpelling bytes.now result }
 {

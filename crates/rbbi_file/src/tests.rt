@@ -1,5 +1,6 @@
 //! The file of the rule `a;`, whole and damaged.
 use crate::{read_table, write_table};
+use rbbi_text::MOST_BYTES;
 use std::alloc::Global;
 use std::process::Abort;
 use std::test::Fail;
@@ -13,8 +14,8 @@ const FILE: [u8; 81] = [
 
 /// The name of the answer, and the byte that it carries or 0. A table that was read is written as
 /// the bytes that it was read from.
-fn answer(rt: &impl Abort, alloc: Global, bytes: &[u8]) -> Result<(String, u32), Fail> {
-    assert!(rt; bytes.len() <= 100_663_296);
+fn outcome(rt: &impl Abort, alloc: Global, bytes: &[u8]) -> Result<(String, u32), Fail> {
+    assert!(rt; bytes.len() <= MOST_BYTES);
     match read_table(alloc, bytes) {
         Ok(table) => {
             let written = write_table(alloc, &table)?;
@@ -56,7 +57,7 @@ fn changed_bytes(rt: HostRuntime) -> Result<(), Fail> {
             assert!(rt; at < bytes.len());
             bytes[at] = byte;
         }
-        let (label, at) = answer(&rt, alloc, &bytes)?;
+        let (label, at) = outcome(&rt, alloc, &bytes)?;
         assert_eq!(rt; label.as_str(), wanted);
         assert_eq!(rt; at, place);
     }
@@ -71,16 +72,16 @@ fn damaged_files(rt: HostRuntime) -> Result<(), Fail> {
             let mut bytes = FILE.to_vec(alloc)?;
             assert!(rt; at < bytes.len());
             bytes[at] = byte;
-            let _refused_or_valid = answer(&rt, alloc, &bytes)?;
+            let _refused_or_valid = outcome(&rt, alloc, &bytes)?;
         }
-        let (label, place) = answer(&rt, alloc, &FILE[..at])?;
+        let (label, place) = outcome(&rt, alloc, &FILE[..at])?;
         let wanted = if at < 8 { "BadMagic" } else { "Short" };
         assert_eq!(rt; label.as_str(), wanted, "of {at} bytes");
         assert_eq!(rt; place as usize, if at < 8 { 0 } else { at });
     }
     let mut longer = FILE.to_vec(alloc)?;
     longer.push(0)?;
-    let (label, place) = answer(&rt, alloc, &longer)?;
+    let (label, place) = outcome(&rt, alloc, &longer)?;
     assert_eq!(rt; label.as_str(), "Trailing");
     assert_eq!(rt; place, 81);
     Ok(())
@@ -94,7 +95,7 @@ fn promised_bytes_take_no_memory(rt: HostRuntime) -> Result<(), Fail> {
     for at in 8..20 {
         bytes[at] = 255;
     }
-    let (label, place) = answer(&rt, alloc, &bytes)?;
+    let (label, place) = outcome(&rt, alloc, &bytes)?;
     assert_eq!(rt; label.as_str(), "Short");
     assert_eq!(rt; place, 81);
     Ok(())

@@ -3,6 +3,7 @@ ghost use Rattle.std.specs.Prelude.{◌≡◌, ◌*◌, ◌≤◌, ◌++◌, len
 ghost use Rattle.std.specs.List.{AllByRecursion};
 ghost use Rattle.rbbi_model.specs.TableFile.{spelling, range_bytes, list_bytes, head_bytes};
 ghost use Rattle.rbbi_model.specs.TableFile.{row_bytes};
+ghost use Rattle.rbbi_text.specs.Bytes.{most_bytes};
 ghost use Rattle.rbbi_file.specs.Fitting.{FitsList};
 
 use crate::MAGIC;
@@ -77,7 +78,7 @@ fn put_rows(
 /// `read_table` takes.
 pub fn write_table(alloc: Global, table: &Table) -> Result<Vec<u8>, AllocError>
     ensures spelled { IfOk result (λ bytes. bytes.items ≡ spelling table.now) }
-    ensures short { IfOk result (λ bytes. length bytes.items ≤ 100663296) }
+    ensures short { IfOk result (λ bytes. length bytes.items ≤ most_bytes) }
 {
     table.valid();
     let parts = table.parts();

@@ -4,6 +4,7 @@ ghost use Rattle.std.specs.Prelude.{IfOk, IfErr, OnOk, OnErr, IsUtf8};
 ghost use Rattle.std.specs.List.{All};
 ghost use Rattle.std.specs.Option.{option_copied};
 ghost use Rattle.rbbi_sets.specs.Rising.{IsRange};
+ghost use Rattle.rbbi_text.specs.Bytes.{most_bytes};
 ghost use Rattle.rbbi_props.specs.Rows.{Row, File};
 ghost use Rattle.rbbi_props.specs.Files.{file_of};
 ghost use Rattle.rbbi_props.specs.Refusals.{HasRowsAlone, IsCause};
@@ -55,7 +56,7 @@ impl PropTable {
     /// Refuses `NotUtf8` with the first byte past the longest valid front, `BadRow` with the first
     /// line that is neither skipped nor of this form, and `Memory`. The table is then as before.
     pub fn add(&mut self, name: &str, bytes: &[u8]) -> Result<(), PropErr>
-        requires { length bytes.now ≤ 100663296 }
+        requires { length bytes.now ≤ most_bytes }
         ensures utf8 { OnOk result (IsUtf8 bytes.now) }
         ensures rows { OnOk result (HasRowsAlone bytes.now) }
         ensures added { OnOk result (self.new ≡ self.old ++ file_of name.now bytes.now ∷ []) }

@@ -1,5 +1,6 @@
 -- The files that words name to be read, each with its limit.
 use Rattle.std.specs.Prelude.{◌≡◌, ◌<◌, ◌≤◌, ℕ, List, [], ◌∷◌, ◌++◌, length, map, codes}
+use Rattle.rbbi_text.specs.Bytes.{most_bytes}
 use Rattle.rbbi_tool.specs.declared.words.setting.Property.{Property}
 use Rattle.rbbi_tool.specs.declared.words.command.Operand.{Operand}
 use Rattle.rbbi_tool.specs.declared.words.command.Operand.TheVariants.{Read, Written, Count}
@@ -18,7 +19,7 @@ use Rattle.rbbi_tool.specs.Words.{Request, operands_of}
 abbrev pub limit_of : Role → ℕ
 limit_of role.Property = 8388608
 limit_of role.Rules = 1048576
-limit_of role.Table = 100663296
+limit_of role.Table = most_bytes
 limit_of role.Text = 67108864
 limit_of role.Script = 1048576
 limit_of role.Tests = 16777216

@@ -8,7 +8,7 @@ ghost use Rattle.rbbi_tool.specs.Reads.{AreWithin, AreRead, EndsReading, MakesSo
 use crate::name::Name;
 use crate::refusal::{Place, Refusal, Subject, fault};
 use rbbi_io::{Files, ReadErr};
-use rbbi_text::Raw;
+use rbbi_text::{MOST_BYTES, Raw};
 use std::alloc::{AllocError, Global};
 
 /// What a file is to the program.
@@ -43,7 +43,7 @@ impl Role {
         match self {
             Role::Property => 8_388_608,
             Role::Rules => 1_048_576,
-            Role::Table => 100_663_296,
+            Role::Table => MOST_BYTES as u64,
             Role::Text => 67_108_864,
             Role::Script => 1_048_576,
             Role::Tests => 16_777_216,

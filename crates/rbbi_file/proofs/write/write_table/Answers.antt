@@ -2,6 +2,7 @@ use Rattle.std.proofs.Common.{◌≡◌, ◌*◌, ◌≤◌, length, ap, sym, �
 use Rattle.std.specs.List.{AllByRecursion}
 use Rattle.rbbi_model.specs.Tables.{Table}
 use Rattle.rbbi_model.specs.TableFile.{spelling}
+use Rattle.rbbi_text.specs.Bytes.{most_bytes}
 use Rattle.rbbi_file.specs.Fitting.{FitsList}
 use Rattle.rbbi_file.proofs.Valid.{fits_valid, fitting_valid, short_valid}
 use Rattle.rbbi_file.proofs.write.write_table.Goals as goal
@@ -22,4 +23,4 @@ put_rows-requires c =
 pub returns-clause-short : goal.returns-clause-short
 returns-clause-short c =
     let is : c.extend_from_slice-2.new.self.items ≡ spelling c.args.table.now = search rules in
-    subst (λ bytes. length bytes ≤ 100663296) (sym is) (short_valid _ c.valid.ensures)
+    subst (λ bytes. length bytes ≤ most_bytes) (sym is) (short_valid _ c.valid.ensures)
