@@ -10,8 +10,8 @@ merged_heads-requires-clause-small c =
     let of_classes = places_as _ _ _ _ _ _ c.deref.ensures.value c.deref-2.ensures.value c.in_ok-class_places.ensures in
     let used = used_as _ _ _ c.deref-3.ensures.value c.in_ok-used.ensures.used in
     let numbered = numbered_as _ _ _ _ _ _ c.deref-5.ensures.value c.deref-4.ensures.value c.in_ok-numbers.ensures in
-    let few = lists_few automaton partition.classes.items partition.firsts.items _ c.args.ranks.now.places.items _ c.in_ok-used.used.items _ _ c.requires.determined
-    c.requires.minimized.partition c.requires.ranks of_classes used numbered in
+    let few = lists_few automaton partition.classes.items partition.firsts.items _ c.args.ranks.now.places.items _ c.in_ok-used.used.items _ _
+    c.requires.determined c.requires.minimized.partition c.requires.ranks of_classes used numbered in
     λ class h.
     let class_first : class < length partition.firsts.items = omega (arith, ap (λ (xs : List ℕ). length xs) c.deref-6.ensures.value, of_classes.many) in
     let within = number_within automaton partition.classes.items partition.firsts.items _ c.args.ranks.now.places.items _ c.in_ok-used.used.items _ _
@@ -28,7 +28,7 @@ returns c =
     let used = used_as _ _ _ c.deref-3.ensures.value c.in_ok-used.ensures.used in
     let numbered = numbered_as _ _ _ _ _ _ c.deref-5.ensures.value c.deref-4.ensures.value c.in_ok-numbers.ensures in
     let heads = heads_as _ _ _ _ _ _ _ c.deref-6.ensures.value c.deref-7.ensures.value c.in_ok-heads.ensures in
-    IsMerged-from_parts automaton partition.classes.items partition.firsts.items _ c.args.ranks.now.places.items _ c.in_ok-used.used.items _ _ c.requires.determined
-    c.requires.minimized.partition c.requires.ranks of_classes used numbered
+    IsMerged-from_parts automaton partition.classes.items partition.firsts.items _ c.args.ranks.now.places.items _ c.in_ok-used.used.items _ _
+    c.requires.determined c.requires.minimized.partition c.requires.ranks of_classes used numbered
     _ _ _ _ (ap (λ (table : Table). table.categories) c.automaton.view_is) (ap (λ (table : Table). table.slashes) c.automaton.view_is) heads
     c.in_ok-cells.ensures

@@ -234,9 +234,10 @@ tree_of_expr-loop-seq-preserved t c =
     let ds : drop l.seq-index xs ≡ p ∷ drop (l.seq-index + 1) xs = drop_more xs l.seq-index p (omega arith)
     ∙ ap (λ q. q ∷ drop (l.seq-index + 1) xs) (sym c.seq-item.is) in
     let here = subst (λ ys. AreBuilding files (statement_trees scope.statements.now) c.args.self.now.sets.items c.args.next.now
-    (map (meaning_of_seq k) (map seq_tree xs)) (leaves_of_expr k (expr_of (map seq_tree xs))) l.self.properties l.self.sets.items l.self.bases.items l.next l.items.items
-    (map (meaning_of_seq k) (map seq_tree ys)) (leaves_of_expr k (expr_of (map seq_tree ys)))) ds l.invariant in
-    building_turn files _ _ _ _ _ _ _ _ _ _ _ _ _ _ _ _ (λ f. meaning_of_seq (context_of f scope) (seq_tree p)) _ (λ f. leaves_of_seq (context_of f scope) (seq_tree p)) _ here
+    (map (meaning_of_seq k) (map seq_tree xs)) (leaves_of_expr k (expr_of (map seq_tree xs))) l.self.properties l.self.sets.items l.self.bases.items
+    l.next l.items.items (map (meaning_of_seq k) (map seq_tree ys)) (leaves_of_expr k (expr_of (map seq_tree ys)))) ds l.invariant in
+    building_turn files _ _ _ _ _ _ _ _ _ _ _ _ _ _ _ _ (λ f. meaning_of_seq (context_of f scope) (seq_tree p)) _
+    (λ f. leaves_of_seq (context_of f scope) (seq_tree p)) _ here
     (record { on = c.in_ok-part.ensures.on; moved = c.in_ok-part.ensures.moved; built = c.in_ok-part.ensures.built }) c.in_ok-part.ensures.same
     c.in_ok-push.ensures.items
 
@@ -317,9 +318,10 @@ tree_of_seq-loop-item-preserved t c =
     let ds : drop l.item-index xs ≡ p ∷ drop (l.item-index + 1) xs = drop_more xs l.item-index p (omega arith)
     ∙ ap (λ q. q ∷ drop (l.item-index + 1) xs) (sym c.item-item.is) in
     let here = subst (λ ys. AreBuilding files (statement_trees scope.statements.now) c.args.self.now.sets.items c.args.next.now
-    (map (meaning_of_item k) (map item_tree xs)) (leaves_of_seq k (seq_of (map item_tree xs))) l.self.properties l.self.sets.items l.self.bases.items l.next l.items.items
-    (map (meaning_of_item k) (map item_tree ys)) (leaves_of_seq k (seq_of (map item_tree ys)))) ds l.invariant in
-    building_turn files _ _ _ _ _ _ _ _ _ _ _ _ _ _ _ _ (λ f. meaning_of_item (context_of f scope) (item_tree p)) _ (λ f. leaves_of_item (context_of f scope) (item_tree p)) _ here
+    (map (meaning_of_item k) (map item_tree xs)) (leaves_of_seq k (seq_of (map item_tree xs))) l.self.properties l.self.sets.items l.self.bases.items
+    l.next l.items.items (map (meaning_of_item k) (map item_tree ys)) (leaves_of_seq k (seq_of (map item_tree ys)))) ds l.invariant in
+    building_turn files _ _ _ _ _ _ _ _ _ _ _ _ _ _ _ _ (λ f. meaning_of_item (context_of f scope) (item_tree p)) _
+    (λ f. leaves_of_item (context_of f scope) (item_tree p)) _ here
     (record { on = c.in_ok-part.ensures.on; moved = c.in_ok-part.ensures.moved; built = c.in_ok-part.ensures.built }) c.in_ok-part.ensures.same
     c.in_ok-push.ensures.items
 
