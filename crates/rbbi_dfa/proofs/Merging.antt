@@ -1,9 +1,9 @@
 -- What is made of a partition, part by part, is the merged table.
 use Rattle.std.proofs.Common.{◌≡◌, ℕ, zero, suc, ◌+◌, ◌*◌, ◌/◌, ◌%◌, ◌<◌, ◌≤◌, Bool, true, false, List, [], ◌∷◌, ◌++◌, length, refl, ap, sym, ◌∙◌, subst, inl}
-use Rattle.std.proofs.Common.{inr, arith, mul_comm, slice_index, slice_index_or}
+use Rattle.std.proofs.Common.{inr, arith, mul_comm, map, Bor, slice_index, slice_index_or}
 use Rattle.std.specs.List.{AllByRecursion}
 use Rattle.std.proofs.lemmas.Nat.{div-mul-add, mod-mul-add, mul-add-lt}
-use Rattle.std.proofs.lemmas.List.{get_or_append_left, get_or_push, length_push}
+use Rattle.std.proofs.lemmas.List.{get_or_append_left, get_or_push, length-map, length_push}
 use borrow.Author.Count.{below_more}
 use Rattle.rbbi_model.specs.Tables.{Table, RowHead, list_of, statuses_of, step}
 use Rattle.rbbi_model.specs.ValidTables.{IsValidList, IsBefore, AreInOrder, BeginsWithZeroAlone}
@@ -179,13 +179,14 @@ module _
             }
 
 -- the same for lists that the code lends as slices
-pub numbered_as : (used lent_used : List Bool) (sorted lent_sorted : List (List ℕ)) (count : ℕ) (numbers : List ℕ) (lists : List (List ℕ)) →
-    lent_used ≡ used → lent_sorted ≡ sorted → count ≡ length sorted →
-    AreNumbered lent_used lent_sorted count numbers lists → AreNumbered used sorted (length sorted) numbers lists
-numbered_as used lent_used sorted lent_sorted count numbers lists u s n h =
-    subst (λ (xs : List Bool). AreNumbered xs sorted (length sorted) numbers lists) u
-    (subst (λ (xs : List (List ℕ)). AreNumbered lent_used xs (length sorted) numbers lists) s
-    (subst (λ (k : ℕ). AreNumbered lent_used lent_sorted k numbers lists) n h))
+pub numbered_as : (used lent_used : List Bool) (sorted lent_sorted : List (Bor (List ℕ))) (numbers : List ℕ) (lists : List (List ℕ)) →
+    lent_used ≡ used → lent_sorted ≡ sorted →
+    AreNumbered lent_used (map (λ statuses. statuses.now) lent_sorted) (length lent_sorted) numbers lists →
+    AreNumbered used (map (λ statuses. statuses.now) sorted) (length (map (λ (statuses : Bor (List ℕ)). statuses.now) sorted)) numbers lists
+numbered_as used lent_used sorted lent_sorted numbers lists u s h =
+    subst (λ (n : ℕ). AreNumbered used (map (λ statuses. statuses.now) sorted) n numbers lists) (sym (length-map sorted (λ statuses. statuses.now)))
+    (subst (λ xs. AreNumbered used (map (λ statuses. statuses.now) xs) (length xs) numbers lists) s
+    (subst (λ xs. AreNumbered xs (map (λ statuses. statuses.now) lent_sorted) (length lent_sorted) numbers lists) u h))
 
 pub places_as : (automaton : Table) (places lent_places firsts lent_firsts class_places : List ℕ) → lent_places ≡ places → lent_firsts ≡ firsts →
     ArePlacesOf automaton lent_places lent_firsts class_places → ArePlacesOf automaton places firsts class_places

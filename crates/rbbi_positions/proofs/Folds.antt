@@ -1,5 +1,6 @@
 -- The tree that a repetition stands for.
-use Rattle.std.proofs.Common.{◌≡◌, ℕ, Bool, List, Box, Global, refl, ap, sym, ◌∙◌}
+use Rattle.std.proofs.Common.{◌≡◌, ◌≤◌, ℕ, Bool, List, length, take, Box, Global, refl, ap, sym, ◌∙◌}
+use Rattle.std.proofs.lemmas.List.{take_all}
 use Rattle.std.proofs.Math.Bool.{or_comm}
 use Rattle.std.specs.Prelude.{map}
 use Rattle.rbbi_model.specs.Ranges.{Range}
@@ -46,6 +47,12 @@ pub tree_of_sequence : (sets : List (List Range)) (parts : Trees-F Tree (Unit {0
     tree_of sets (Seq parts) ≡ spelling.sequence_of (map (tree_of sets) parts.items.items)
 tree_of_sequence sets parts = ap (tree_of sets) (sym (rolls-Seq parts))
     ∙ fold-roll-Tree spelling.Tree (List spelling.Tree) (tree_step sets) trees_step (Tree-F.Seq parts) ∙ ap spelling.sequence_of (trees_of_out sets parts)
+
+-- a sequence, by its first so many parts, which are all
+pub tree_of_all : (sets : List (List Range)) (tree : Tree) (parts : Trees-F Tree (Unit {0})) (n : ℕ) → tree ≡ Seq parts → length parts.items.items ≤ n →
+    tree_of sets tree ≡ spelling.sequence_of (map (tree_of sets) (take n parts.items.items))
+tree_of_all sets tree parts n is past = ap (tree_of sets) is ∙ tree_of_sequence sets parts
+    ∙ ap (λ ts. spelling.sequence_of (map (tree_of sets) ts)) (sym (take_all n parts.items.items past))
 
 pub tree_of_choice : (sets : List (List Range)) (parts : Trees-F Tree (Unit {0})) →
     tree_of sets (Alt parts) ≡ spelling.choice_of (map (tree_of sets) parts.items.items)

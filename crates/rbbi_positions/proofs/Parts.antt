@@ -3,7 +3,7 @@ use Rattle.std.proofs.Common.{◌≡◌, ℕ, ◌+◌, ◌-◌, ◌<◌, ◌≤�
 use Rattle.std.proofs.Math.Bool.{or-false, or_comm, and-false, or-true, or_assoc}
 use Rattle.std.proofs.Common.{sym, ◌∙◌, ⊎_elim, arith}
 use Rattle.std.specs.Prelude.{map}
-use Rattle.std.proofs.lemmas.List.{drop_all, take_all, map_more, get_or-set_same, get_or-set_other}
+use Rattle.std.proofs.lemmas.List.{drop_all, map_more, get_or-set_same, get_or-set_other}
 use Rattle.std.proofs.lemmas.Bool.{cases_eq, eq-eqb, ne_eqb}
 use Rattle.rbbi_model.specs.Spelling.{Tree, Empty, Never, Either, sequence_of, choice_of}
 use Rattle.rbbi_model.specs.Rules.{leaf_count}
@@ -240,9 +240,6 @@ sequence_done measure f parts i past = ap (λ l. measure (sequence_of (map f l))
 pub choice_done : {A : Type 0} (measure : Tree → A) {T : Type 0} (f : T → Tree) (parts : List T) (i : ℕ) → length parts ≤ i →
     measure (choice_of (map f (drop i parts))) ≡ measure Never
 choice_done measure f parts i past = ap (λ l. measure (choice_of (map f l))) (drop_all i parts past)
-
-pub whole : {T : Type 0} (f : T → Tree) (parts : List T) (n : ℕ) → length parts ≤ n → sequence_of (map f parts) ≡ sequence_of (map f (take n parts))
-whole f parts n past = ap (λ l. sequence_of (map f l)) (sym (take_all n parts past))
 
 pub none_left : {A : Type 0} (measure : Tree → A) {T : Type 0} (f : T → Tree) (parts : List T) (n : ℕ) → n ≤ 0 →
     measure (sequence_of (map f (take n parts))) ≡ measure Empty

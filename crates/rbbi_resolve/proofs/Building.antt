@@ -397,25 +397,51 @@ pub record AreBuilding (files : List File) (statements : List StatementTree) (st
   pub stand : StandFrom files sets next leaves
   pub moved : next + length leaves ≡ from + length all
 
+-- before the first part
+pub building_start : (files : List File) (statements : List StatementTree) (sets : List (List Range)) (bases : List (Option ℕ)) (next : ℕ)
+    (whole : List Meaning) (all : List model.SetTree) (ts : List Tree) → IsBuilder files statements sets bases → ts ≡ [] → StandFrom files sets next all →
+    AreBuilding files statements sets next whole all files sets bases next ts whole all
+building_start files statements sets bases next whole all ts builder none stand =
+    record {
+      same = refl;
+      goes = goes_nowhere files statements sets bases builder;
+      done = [];
+      every = refl;
+      parts = subst (AreBuilt files (length sets) sets next next []) (sym none) (none_built files sets next);
+      stand = stand;
+      moved = refl;
+    }
+
 pub building_turn : (files : List File) (statements : List StatementTree) (start : List (List Range)) (from : ℕ) (whole : List Meaning)
     (all : List model.SetTree) (now now' : List File) (sets sets' : List (List Range)) (bases bases' : List (Option ℕ)) (next next' : ℕ) (ts ts' : List Tree)
-    (t : Tree) (m : Meaning) (left : List Meaning) (own leaves : List model.SetTree) →
-    AreBuilding files statements start from whole all now sets bases next ts (m ∷ left) (own ++ leaves) →
-    Builds files statements sets sets' bases' next next' own m t → now' ≡ now → ts' ≡ ts ++ t ∷ [] →
+    (t : Tree) (m : List File → Meaning) (left : List Meaning) (own : List File → List model.SetTree) (leaves : List model.SetTree) →
+    AreBuilding files statements start from whole all now sets bases next ts (m files ∷ left) (own files ++ leaves) →
+    Builds now statements sets sets' bases' next next' (own now) (m now) t → now' ≡ now → ts' ≡ ts ++ t ∷ [] →
     AreBuilding files statements start from whole all now' sets' bases' next' ts' left leaves
-building_turn files statements start from whole all now now' sets sets' bases bases' next next' ts ts' t m left own leaves here step same put =
+building_turn files statements start from whole all now now' sets sets' bases bases' next next' ts ts' t m left own leaves here builds same put =
+    let step = subst (λ f. Builds f statements sets sets' bases' next next' (own f) (m f) t) here.same builds in
     let ext = step.on.more in
     let wider : sets' ≡ sets ++ ext = step.on.is in
-    let built' : IsBuilt files (length sets) (sets ++ ext) next next' m t = subst (λ ss. IsBuilt files (length sets) ss next next' m t) wider step.built in
-    let pushed = push_built files (length start) sets ext from next next' here.done ts m t here.parts built' in
-    let rest = stand_more files sets ext (next + length own) leaves (stand_rest files sets next own leaves here.stand) in
+    let built' : IsBuilt files (length sets) (sets ++ ext) next next' (m files) t =
+    subst (λ ss. IsBuilt files (length sets) ss next next' (m files) t) wider step.built in
+    let pushed = push_built files (length start) sets ext from next next' here.done ts (m files) t here.parts built' in
+    let rest = stand_more files sets ext (next + length (own files)) leaves (stand_rest files sets next (own files) leaves here.stand) in
     record {
       same = same ∙ here.same;
       goes = goes_further files statements start sets sets' bases bases' here.goes step.on;
-      done = here.done ++ m ∷ [];
-      every = append_assoc here.done (m ∷ []) left ∙ here.every;
-      parts = subst (λ ss. AreBuilt files (length start) ss from next' (here.done ++ m ∷ []) ts') (sym wider)
-          (subst (λ xs. AreBuilt files (length start) (sets ++ ext) from next' (here.done ++ m ∷ []) xs) (sym put) pushed);
+      done = here.done ++ m files ∷ [];
+      every = append_assoc here.done (m files ∷ []) left ∙ here.every;
+      parts = subst (λ ss. AreBuilt files (length start) ss from next' (here.done ++ m files ∷ []) ts') (sym wider)
+          (subst (λ xs. AreBuilt files (length start) (sets ++ ext) from next' (here.done ++ m files ∷ []) xs) (sym put) pushed);
       stand = subst (λ ss. StandFrom files ss next' leaves) (sym wider) (subst (λ n. StandFrom files (sets ++ ext) n leaves) (sym step.moved) rest);
-      moved = let l = length-append own leaves in let a = here.moved in let b = step.moved in omega arith;
+      moved = let l = length-append (own files) leaves in let a = here.moved in let b = step.moved in omega arith;
     }
+
+-- after the last part
+pub building_end : (files : List File) (statements : List StatementTree) (start : List (List Range)) (from : ℕ) (whole : List Meaning)
+    (all : List model.SetTree) (now : List File) (sets : List (List Range)) (bases : List (Option ℕ)) (next : ℕ) (ts : List Tree) (left : List Meaning)
+    (leaves : List model.SetTree) → AreBuilding files statements start from whole all now sets bases next ts left leaves → left ≡ [] →
+    AreBuilt files (length start) sets from next whole ts
+building_end files statements start from whole all now sets bases next ts left leaves here none =
+    subst (λ ms. AreBuilt files (length start) sets from next ms ts)
+    (sym (append-nil here.done) ∙ subst (λ ms. here.done ++ ms ≡ whole) none here.every) here.parts

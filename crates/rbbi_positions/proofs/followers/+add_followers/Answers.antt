@@ -11,8 +11,8 @@ use Rattle.rbbi_positions.specs.Rows.{row_bit}
 use Rattle.rbbi_positions.specs.PositionMarks.{in_row}
 use Rattle.rbbi_positions.specs.Trees.{goes, leads}
 use Rattle.rbbi_positions.specs.Rounds.{behind_of}
-use Rattle.rbbi_positions.proofs.Folds.{same_leaves, tree_of_leaf, tree_of_sequence, tree_of_repeat, goes_repeat}
-use Rattle.rbbi_positions.proofs.Parts.{count_choice, count_up_to, goes_on, choice_on, goes_of, choice_done, whole, none_left}
+use Rattle.rbbi_positions.proofs.Folds.{same_leaves, tree_of_leaf, tree_of_all, tree_of_repeat, goes_repeat}
+use Rattle.rbbi_positions.proofs.Parts.{count_choice, count_up_to, goes_on, choice_on, goes_of, choice_done, none_left}
 use Rattle.rbbi_positions.proofs.RowWrites.{all_written, row_within, rows_within}
 use Rattle.rbbi_positions.proofs.followers.+add_followers.Goals as goal
 
@@ -28,11 +28,8 @@ overflow_add-start t c = omega (arith, c.requires.within [], c.requires.short, c
 pub loop-i-init : goal.loop-i-init
 loop-i-init t c =
     let copied = c.in_ok-row-in-Seq.ensures.items_if_clones_equal (λ x y e. e) in
-    let past : length c.in-Seq.parts.items.items ≤ c.len-i.result = omega (arith, c.len-i.ensures, c.in-Seq.parts.items.ok.0) in
-    let same = λ (sets : List (List Range)).
-    let opened : tree_of sets c.args.tree.now ≡ sequence_of (map (tree_of sets) c.in-Seq.parts.items.items) = ap (tree_of sets) c.in-Seq.is
-    ∙ tree_of_sequence sets c.in-Seq.parts in
-    opened ∙ whole (tree_of sets) c.in-Seq.parts.items.items c.len-i.result past in
+    let same = λ (sets : List (List Range)). tree_of_all sets c.args.tree.now c.in-Seq.parts c.len-i.result c.in-Seq.is
+    (omega (arith, c.len-i.ensures, c.in-Seq.parts.items.ok.0)) in
     record {
       many = ap length copied;
       within = omega (arith, c.len-i.ensures, c.in-Seq.parts.items.ok.0);

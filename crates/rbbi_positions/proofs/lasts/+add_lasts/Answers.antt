@@ -1,14 +1,12 @@
-use Rattle.std.proofs.Common.{rules, ◌≡◌, ◌≤◌, ◌-◌, ◌||◌, false, List, [], length, get_or, sym, ap, ◌∙◌, refl, arith}
+use Rattle.std.proofs.Common.{rules, ◌-◌, ◌||◌, false, List, [], get_or, sym, ap, ◌∙◌, refl, arith}
 use Rattle.std.proofs.Math.Bool.{or-false}
-use Rattle.std.specs.Prelude.{map}
 use Rattle.rbbi_model.specs.Ranges.{Range}
-use Rattle.rbbi_model.specs.Spelling.{sequence_of}
 use Rattle.rbbi_model.specs.Rules.{leaf_count}
 use Rattle.rbbi_resolve.specs.RuleTrees.{tree_of}
 use Rattle.rbbi_resolve.specs.declared.rules.Tree.TheViews.{the_lemmas}
 use Rattle.rbbi_positions.specs.Trees.{ends}
-use Rattle.rbbi_positions.proofs.Folds.{same_leaves, of_repeat, tree_of_leaf, tree_of_sequence}
-use Rattle.rbbi_positions.proofs.Parts.{count_choice, count_up_to, ends_on, ends_end, choice_on, ends_of, choice_done, whole, none_left, flag_set}
+use Rattle.rbbi_positions.proofs.Folds.{same_leaves, of_repeat, tree_of_leaf, tree_of_all}
+use Rattle.rbbi_positions.proofs.Parts.{count_choice, count_up_to, ends_on, ends_end, choice_on, ends_of, choice_done, none_left, flag_set}
 use Rattle.rbbi_positions.proofs.lasts.+add_lasts.Goals as goal
 
 pub bounds-flags-first : goal.bounds-flags-first
@@ -20,11 +18,8 @@ overflow_add-start t c = omega (arith, c.requires.within [], c.requires.few, c.c
 
 pub loop-i-init : goal.loop-i-init
 loop-i-init t c =
-    let past : length c.in-Seq.parts.items.items ≤ c.len-i.result = omega (arith, c.len-i.ensures, c.in-Seq.parts.items.ok.0) in
-    let same = λ (sets : List (List Range)).
-    let opened : tree_of sets c.args.tree.now ≡ sequence_of (map (tree_of sets) c.in-Seq.parts.items.items) = ap (tree_of sets) c.in-Seq.is
-    ∙ tree_of_sequence sets c.in-Seq.parts in
-    opened ∙ whole (tree_of sets) c.in-Seq.parts.items.items c.len-i.result past in
+    let same = λ (sets : List (List Range)). tree_of_all sets c.args.tree.now c.in-Seq.parts c.len-i.result c.in-Seq.is
+    (omega (arith, c.len-i.ensures, c.in-Seq.parts.items.ok.0)) in
     record {
       within = omega (arith, c.len-i.ensures, c.in-Seq.parts.items.ok.0);
       at = λ sets. omega (arith, c.count.ensures sets, ap leaf_count (same sets));

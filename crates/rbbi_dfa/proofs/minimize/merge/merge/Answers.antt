@@ -1,5 +1,4 @@
-use Rattle.std.proofs.Common.{◌<◌, ◌≤◌, List, ℕ, Bor, map, slice_index, length, ap, sym, ◌∙◌, subst, arith}
-use Rattle.std.proofs.lemmas.List.{length-map}
+use Rattle.std.proofs.Common.{◌<◌, ◌≤◌, List, ℕ, slice_index, length, ap, sym, subst, arith}
 use Rattle.rbbi_model.specs.Tables.{Table}
 use Rattle.rbbi_dfa.proofs.Merging.{IsMerged-from_parts, lists_few, number_within, numbered_as, places_as, used_as, heads_as}
 use Rattle.rbbi_dfa.proofs.minimize.merge.merge.Goals as goal
@@ -7,22 +6,15 @@ use Rattle.rbbi_dfa.proofs.minimize.merge.merge.Goals as goal
 pub merged_heads-requires-clause-small : goal.merged_heads-requires-clause-small
 merged_heads-requires-clause-small c =
     let automaton = c.args.automaton.now in
-    let ranks = c.args.ranks.now in
     let partition = c.args.partition.now in
-    let sorted = map (λ (statuses : Bor (List ℕ)). statuses.now) ranks.sorted.items in
-    let of_classes = places_as automaton ranks.places.items c.deref.result.now partition.firsts.items c.deref-2.result.now
-    c.in_ok-class_places.class_places.items c.deref.ensures.value c.deref-2.ensures.value c.in_ok-class_places.ensures in
-    let used = used_as c.in_ok-class_places.class_places.items c.deref-3.result.now c.in_ok-used.used.items c.deref-3.ensures.value c.in_ok-used.ensures.used in
-    let lent = ap (λ (xs : List (Bor (List ℕ))). map (λ (statuses : Bor (List ℕ)). statuses.now) xs) c.deref-4.ensures.value in
-    let many = ap (λ (xs : List (Bor (List ℕ))). length xs) c.deref-4.ensures.value
-    ∙ sym (length-map ranks.sorted.items (λ (statuses : Bor (List ℕ)). statuses.now)) in
-    let numbered = numbered_as c.in_ok-used.used.items c.deref-5.result.now (map (λ (statuses : Bor (List ℕ)). statuses.now) ranks.sorted.items) _ _
-    c.in_ok-numbers.numbers.items _ c.deref-5.ensures.value lent many c.in_ok-numbers.ensures in
-    let few = lists_few automaton partition.classes.items partition.firsts.items _ ranks.places.items _ c.in_ok-used.used.items _ _ c.requires.determined
-    c.requires.minimized.partition c.requires.ranks of_classes used numbered in
+    let of_classes = places_as _ _ _ _ _ _ c.deref.ensures.value c.deref-2.ensures.value c.in_ok-class_places.ensures in
+    let used = used_as _ _ _ c.deref-3.ensures.value c.in_ok-used.ensures.used in
+    let numbered = numbered_as _ _ _ _ _ _ c.deref-5.ensures.value c.deref-4.ensures.value c.in_ok-numbers.ensures in
+    let few = lists_few automaton partition.classes.items partition.firsts.items _ c.args.ranks.now.places.items _ c.in_ok-used.used.items _ _
+    c.requires.determined c.requires.minimized.partition c.requires.ranks of_classes used numbered in
     λ class h.
     let class_first : class < length partition.firsts.items = omega (arith, ap (λ (xs : List ℕ). length xs) c.deref-6.ensures.value, of_classes.many) in
-    let within = number_within automaton partition.classes.items partition.firsts.items _ ranks.places.items _ c.in_ok-used.used.items _ _
+    let within = number_within automaton partition.classes.items partition.firsts.items _ c.args.ranks.now.places.items _ c.in_ok-used.used.items _ _
     c.requires.determined c.requires.minimized.partition c.requires.ranks of_classes used numbered class class_first in
     subst (λ (xs : List ℕ). slice_index xs (slice_index c.deref-6.result.now class) ≤ 65535) (sym c.deref-7.ensures.value)
     (subst (λ (xs : List ℕ). slice_index c.in_ok-numbers.numbers.items (slice_index xs class) ≤ 65535) (sym c.deref-6.ensures.value)
@@ -31,19 +23,12 @@ merged_heads-requires-clause-small c =
 pub returns : goal.returns
 returns c =
     let automaton = c.args.automaton.now in
-    let ranks = c.args.ranks.now in
     let partition = c.args.partition.now in
-    let of_classes = places_as automaton ranks.places.items c.deref.result.now partition.firsts.items c.deref-2.result.now
-    c.in_ok-class_places.class_places.items c.deref.ensures.value c.deref-2.ensures.value c.in_ok-class_places.ensures in
-    let used = used_as c.in_ok-class_places.class_places.items c.deref-3.result.now c.in_ok-used.used.items c.deref-3.ensures.value c.in_ok-used.ensures.used in
-    let lent = ap (λ (xs : List (Bor (List ℕ))). map (λ (statuses : Bor (List ℕ)). statuses.now) xs) c.deref-4.ensures.value in
-    let many = ap (λ (xs : List (Bor (List ℕ))). length xs) c.deref-4.ensures.value
-    ∙ sym (length-map ranks.sorted.items (λ (statuses : Bor (List ℕ)). statuses.now)) in
-    let numbered = numbered_as c.in_ok-used.used.items c.deref-5.result.now (map (λ (statuses : Bor (List ℕ)). statuses.now) ranks.sorted.items) _ _
-    c.in_ok-numbers.numbers.items _ c.deref-5.ensures.value lent many c.in_ok-numbers.ensures in
-    let heads = heads_as automaton partition.firsts.items c.in_ok-class_places.class_places.items c.deref-6.result.now c.in_ok-numbers.numbers.items
-    c.deref-7.result.now c.in_ok-heads.heads.items c.deref-6.ensures.value c.deref-7.ensures.value c.in_ok-heads.ensures in
-    IsMerged-from_parts automaton partition.classes.items partition.firsts.items _ ranks.places.items _ c.in_ok-used.used.items _ _ c.requires.determined
-    c.requires.minimized.partition c.requires.ranks of_classes used numbered
+    let of_classes = places_as _ _ _ _ _ _ c.deref.ensures.value c.deref-2.ensures.value c.in_ok-class_places.ensures in
+    let used = used_as _ _ _ c.deref-3.ensures.value c.in_ok-used.ensures.used in
+    let numbered = numbered_as _ _ _ _ _ _ c.deref-5.ensures.value c.deref-4.ensures.value c.in_ok-numbers.ensures in
+    let heads = heads_as _ _ _ _ _ _ _ c.deref-6.ensures.value c.deref-7.ensures.value c.in_ok-heads.ensures in
+    IsMerged-from_parts automaton partition.classes.items partition.firsts.items _ c.args.ranks.now.places.items _ c.in_ok-used.used.items _ _
+    c.requires.determined c.requires.minimized.partition c.requires.ranks of_classes used numbered
     _ _ _ _ (ap (λ (table : Table). table.categories) c.automaton.view_is) (ap (λ (table : Table). table.slashes) c.automaton.view_is) heads
     c.in_ok-cells.ensures

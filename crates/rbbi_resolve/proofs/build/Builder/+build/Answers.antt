@@ -1,5 +1,5 @@
-use Rattle.std.proofs.Common.{◌≡◌, ◌+◌, ◌<◌, [], ◌∷◌, ◌++◌, length, map, drop, sym, refl, ap, ◌∙◌, subst, arith, rules}
-use Rattle.std.proofs.lemmas.List.{drop_all, drop_more, append-nil, length-map}
+use Rattle.std.proofs.Common.{◌≡◌, ◌+◌, ◌<◌, ◌∷◌, length, map, drop, sym, refl, ap, ◌∙◌, subst, arith, rules}
+use Rattle.std.proofs.lemmas.List.{drop_all, drop_more, length-map}
 use Rattle.rbbi_model.specs.SetTrees as model
 use Rattle.rbbi_tree.specs.Trees.{expr_of, seq_of, character, quoted, any, name, property, set}
 use Rattle.rbbi_tree.specs.Values.{statement_trees, expr_tree, seq_tree, item_tree, atom_tree, set_tree, item_tree_out}
@@ -14,7 +14,7 @@ use Rattle.rbbi_resolve.proofs.Counting.{expr_by_items, seq_by_items, exprs_left
 use Rattle.rbbi_resolve.proofs.ItemTrees.{atom_of_character, atom_of_quoted, atom_of_any, atom_of_name, atom_of_property, atom_of_set}
 use Rattle.rbbi_resolve.proofs.Weights.{weight, weight_more, weight_le, smaller_seq, smaller_item, size_of_expr, size_of_seq, size_of_item}
 use Rattle.rbbi_resolve.proofs.Weights.{size_of_atom}
-use Rattle.rbbi_resolve.proofs.Building.{sequence_meaning, choice_meaning, AreBuilding, AreBuilt, Builds, building_turn, none_built, goes_nowhere, stand_low}
+use Rattle.rbbi_resolve.proofs.Building.{AreBuilding, building_start, building_turn, building_end, stand_low}
 use Rattle.rbbi_resolve.proofs.Building.{stand_first, leaf_built, never_built, repeated_built, choice_built, sequence_built, whole_built, other_built}
 use Rattle.rbbi_resolve.proofs.Meant.{named, unnamed, expr_means, seq_means, leaf_means}
 use Rattle.rbbi_resolve.proofs.build.Builder.+build.Goals as goal
@@ -195,18 +195,9 @@ pub tree_of_expr-loop-seq-init : goal.tree_of_expr-loop-seq-init
 tree_of_expr-loop-seq-init t c =
     let files = c.args.self.now.properties in
     let k = context_of files c.args.scope.now in
-    let sets = c.args.self.now.sets.items in
     let tree = expr_by_items c.args.expr.now _ c.deref-seq-items.ensures.value in
-    record {
-      same = refl;
-      goes = goes_nowhere files (statement_trees c.args.scope.now.statements.now) sets c.args.self.now.bases.items c.requires.builder;
-      done = [];
-      every = refl;
-      parts = subst (λ ts. AreBuilt files (length sets) sets c.args.next.now c.args.next.now [] ts) (sym c.new-items.ensures.items)
-          (none_built files sets c.args.next.now);
-      stand = subst (λ x. StandFrom files sets c.args.next.now (leaves_of_expr k x)) tree c.requires.stand;
-      moved = refl;
-    }
+    building_start files _ c.args.self.now.sets.items _ c.args.next.now _ _ _ c.requires.builder c.new-items.ensures.items
+    (subst (λ x. StandFrom files c.args.self.now.sets.items c.args.next.now (leaves_of_expr k x)) tree c.requires.stand)
 
 pub tree_of_expr-tree_of_seq-requires : goal.tree_of_expr-tree_of_seq-requires
 tree_of_expr-tree_of_seq-requires t c =
@@ -235,42 +226,31 @@ tree_of_expr-tree_of_seq-requires t c =
 pub tree_of_expr-loop-seq-preserved : goal.tree_of_expr-loop-seq-preserved
 tree_of_expr-loop-seq-preserved t c =
     let scope = c.args.scope.now in
-    let T = statement_trees scope.statements.now in
     let files = c.args.self.now.properties in
     let k = context_of files scope in
     let l = c.loop-seq in
     let xs = c.deref-seq-items.result.now in
     let p = c.seq-item.result in
-    let n = c.tree_of_seq.new in
     let ds : drop l.seq-index xs ≡ p ∷ drop (l.seq-index + 1) xs = drop_more xs l.seq-index p (omega arith)
     ∙ ap (λ q. q ∷ drop (l.seq-index + 1) xs) (sym c.seq-item.is) in
-    let here = subst (λ ys. AreBuilding files T c.args.self.now.sets.items c.args.next.now (map (meaning_of_seq k) (map seq_tree xs))
-    (leaves_of_expr k (expr_of (map seq_tree xs))) l.self.properties l.self.sets.items l.self.bases.items l.next l.items.items
-    (map (meaning_of_seq k) (map seq_tree ys)) (leaves_of_expr k (expr_of (map seq_tree ys)))) ds l.invariant in
-    let done : Builds l.self.properties T l.self.sets.items n.self.sets.items n.self.bases.items l.next n.next
-    (leaves_of_seq (context_of l.self.properties scope) (seq_tree p)) (meaning_of_seq (context_of l.self.properties scope) (seq_tree p)) c.in_ok-part.part =
-    record { on = c.in_ok-part.ensures.on; moved = c.in_ok-part.ensures.moved; built = c.in_ok-part.ensures.built } in
-    let step = subst (λ f. Builds f T l.self.sets.items n.self.sets.items n.self.bases.items l.next n.next (leaves_of_seq (context_of f scope) (seq_tree p))
-    (meaning_of_seq (context_of f scope) (seq_tree p)) c.in_ok-part.part) l.invariant.same done in
-    building_turn files T c.args.self.now.sets.items c.args.next.now (map (meaning_of_seq k) (map seq_tree xs))
-    (leaves_of_expr k (expr_of (map seq_tree xs))) l.self.properties n.self.properties l.self.sets.items n.self.sets.items l.self.bases.items
-    n.self.bases.items l.next n.next l.items.items c.push.new.self.items c.in_ok-part.part (meaning_of_seq k (seq_tree p))
-    (map (meaning_of_seq k) (map seq_tree (drop (l.seq-index + 1) xs))) (leaves_of_seq k (seq_tree p))
-    (leaves_of_expr k (expr_of (map seq_tree (drop (l.seq-index + 1) xs))))
-    here step c.in_ok-part.ensures.same c.in_ok-push.ensures.items
+    let here = subst (λ ys. AreBuilding files (statement_trees scope.statements.now) c.args.self.now.sets.items c.args.next.now
+    (map (meaning_of_seq k) (map seq_tree xs)) (leaves_of_expr k (expr_of (map seq_tree xs))) l.self.properties l.self.sets.items l.self.bases.items
+    l.next l.items.items (map (meaning_of_seq k) (map seq_tree ys)) (leaves_of_expr k (expr_of (map seq_tree ys)))) ds l.invariant in
+    building_turn files _ _ _ _ _ _ _ _ _ _ _ _ _ _ _ _ (λ f. meaning_of_seq (context_of f scope) (seq_tree p)) _
+    (λ f. leaves_of_seq (context_of f scope) (seq_tree p)) _ here
+    (record { on = c.in_ok-part.ensures.on; moved = c.in_ok-part.ensures.moved; built = c.in_ok-part.ensures.built }) c.in_ok-part.ensures.same
+    c.in_ok-push.ensures.items
 
 pub tree_of_expr-returns-clause-moved : goal.tree_of_expr-returns-clause-moved
 tree_of_expr-returns-clause-moved t c =
-    let files = c.args.self.now.properties in
-    let k = context_of files c.args.scope.now in
-    let l = c.loop-seq in
-    let xs = c.deref-seq-items.result.now in
-    let tree = expr_by_items c.args.expr.now _ c.deref-seq-items.ensures.value in
-    let none : drop l.seq-index xs ≡ [] = drop_all l.seq-index xs (omega arith) in
-    let m = subst (λ ys. l.next + length (leaves_of_expr k (expr_of (map seq_tree ys))) ≡ c.args.next.now + length
-    (leaves_of_expr k (expr_of (map seq_tree xs)))) none l.invariant.moved in
-    let long = ap (λ x. length (leaves_of_expr k x)) tree in
-    omega arith
+    let k = context_of c.args.self.now.properties c.args.scope.now in
+    let none = drop_all c.loop-seq.seq-index c.deref-seq-items.result.now (omega arith) in
+    omega (
+      arith,
+      c.loop-seq.invariant.moved,
+      ap (λ ys. length (leaves_of_expr k (expr_of (map seq_tree ys)))) none,
+      ap (λ x. length (leaves_of_expr k x)) (expr_by_items c.args.expr.now _ c.deref-seq-items.ensures.value),
+    )
 
 pub tree_of_expr-returns-clause-built : goal.tree_of_expr-returns-clause-built
 tree_of_expr-returns-clause-built t c =
@@ -278,15 +258,11 @@ tree_of_expr-returns-clause-built t c =
     let k = context_of files c.args.scope.now in
     let l = c.loop-seq in
     let xs = c.deref-seq-items.result.now in
-    let tree = expr_by_items c.args.expr.now _ c.deref-seq-items.ensures.value in
-    let none : drop l.seq-index xs ≡ [] = drop_all l.seq-index xs (omega arith) in
-    let all : l.invariant.done ≡ map (meaning_of_seq k) (map seq_tree xs) =
-    sym (append-nil l.invariant.done)
-    ∙ subst (λ ys. l.invariant.done ++ map (meaning_of_seq k) (map seq_tree ys) ≡ map (meaning_of_seq k) (map seq_tree xs)) none l.invariant.every in
-    let eq = ap choice_meaning all ∙ sym (expr_means k (map seq_tree xs)) ∙ ap (meaning_of_expr k) (sym tree) in
+    let none = ap (λ ys. map (meaning_of_seq k) (map seq_tree ys)) (drop_all l.seq-index xs (omega arith)) in
+    let eq = sym (expr_means k (map seq_tree xs)) ∙ ap (meaning_of_expr k) (sym (expr_by_items c.args.expr.now _ c.deref-seq-items.ensures.value)) in
     subst (λ m. IsBuilt files (length c.args.self.now.sets.items) l.self.sets.items c.args.next.now l.next m c.in_choice.result) eq
-    (choice_built files (length c.args.self.now.sets.items) l.self.sets.items c.args.next.now l.next l.invariant.done l.items.items c.in_choice.result
-    l.invariant.parts c.in_choice.ensures.tree c.in_choice.ensures.numbers)
+    (choice_built files (length c.args.self.now.sets.items) l.self.sets.items c.args.next.now l.next _ l.items.items c.in_choice.result
+    (building_end files _ _ _ _ _ _ _ _ _ _ _ _ l.invariant none) c.in_choice.ensures.tree c.in_choice.ensures.numbers)
 
 pub tree_of_item-returns-clause-built : goal.tree_of_item-returns-clause-built
 tree_of_item-returns-clause-built t c =
@@ -303,18 +279,9 @@ pub tree_of_seq-loop-item-init : goal.tree_of_seq-loop-item-init
 tree_of_seq-loop-item-init t c =
     let files = c.args.self.now.properties in
     let k = context_of files c.args.scope.now in
-    let sets = c.args.self.now.sets.items in
     let tree = seq_by_items c.args.seq.now _ c.deref-item-items.ensures.value in
-    record {
-      same = refl;
-      goes = goes_nowhere files (statement_trees c.args.scope.now.statements.now) sets c.args.self.now.bases.items c.requires.builder;
-      done = [];
-      every = refl;
-      parts = subst (λ ts. AreBuilt files (length sets) sets c.args.next.now c.args.next.now [] ts) (sym c.new-items.ensures.items)
-          (none_built files sets c.args.next.now);
-      stand = subst (λ x. StandFrom files sets c.args.next.now (leaves_of_seq k x)) tree c.requires.stand;
-      moved = refl;
-    }
+    building_start files _ c.args.self.now.sets.items _ c.args.next.now _ _ _ c.requires.builder c.new-items.ensures.items
+    (subst (λ x. StandFrom files c.args.self.now.sets.items c.args.next.now (leaves_of_seq k x)) tree c.requires.stand)
 
 pub tree_of_seq-tree_of_item-requires : goal.tree_of_seq-tree_of_item-requires
 tree_of_seq-tree_of_item-requires t c =
@@ -343,43 +310,31 @@ tree_of_seq-tree_of_item-requires t c =
 pub tree_of_seq-loop-item-preserved : goal.tree_of_seq-loop-item-preserved
 tree_of_seq-loop-item-preserved t c =
     let scope = c.args.scope.now in
-    let T = statement_trees scope.statements.now in
     let files = c.args.self.now.properties in
     let k = context_of files scope in
     let l = c.loop-item in
     let xs = c.deref-item-items.result.now in
     let p = c.item-item.result in
-    let n = c.tree_of_item.new in
     let ds : drop l.item-index xs ≡ p ∷ drop (l.item-index + 1) xs = drop_more xs l.item-index p (omega arith)
     ∙ ap (λ q. q ∷ drop (l.item-index + 1) xs) (sym c.item-item.is) in
-    let here = subst (λ ys. AreBuilding files T c.args.self.now.sets.items c.args.next.now (map (meaning_of_item k) (map item_tree xs))
-    (leaves_of_seq k (seq_of (map item_tree xs))) l.self.properties l.self.sets.items l.self.bases.items l.next l.items.items
-    (map (meaning_of_item k) (map item_tree ys)) (leaves_of_seq k (seq_of (map item_tree ys)))) ds l.invariant in
-    let done : Builds l.self.properties T l.self.sets.items n.self.sets.items n.self.bases.items l.next n.next
-    (leaves_of_item (context_of l.self.properties scope) (item_tree p)) (meaning_of_item (context_of l.self.properties scope) (item_tree p))
-    c.in_ok-part.part =
-    record { on = c.in_ok-part.ensures.on; moved = c.in_ok-part.ensures.moved; built = c.in_ok-part.ensures.built } in
-    let step = subst (λ f. Builds f T l.self.sets.items n.self.sets.items n.self.bases.items l.next n.next
-    (leaves_of_item (context_of f scope) (item_tree p)) (meaning_of_item (context_of f scope) (item_tree p)) c.in_ok-part.part) l.invariant.same done in
-    building_turn files T c.args.self.now.sets.items c.args.next.now (map (meaning_of_item k) (map item_tree xs))
-    (leaves_of_seq k (seq_of (map item_tree xs))) l.self.properties n.self.properties l.self.sets.items n.self.sets.items l.self.bases.items
-    n.self.bases.items l.next n.next l.items.items c.push.new.self.items c.in_ok-part.part (meaning_of_item k (item_tree p))
-    (map (meaning_of_item k) (map item_tree (drop (l.item-index + 1) xs))) (leaves_of_item k (item_tree p))
-    (leaves_of_seq k (seq_of (map item_tree (drop (l.item-index + 1) xs))))
-    here step c.in_ok-part.ensures.same c.in_ok-push.ensures.items
+    let here = subst (λ ys. AreBuilding files (statement_trees scope.statements.now) c.args.self.now.sets.items c.args.next.now
+    (map (meaning_of_item k) (map item_tree xs)) (leaves_of_seq k (seq_of (map item_tree xs))) l.self.properties l.self.sets.items l.self.bases.items
+    l.next l.items.items (map (meaning_of_item k) (map item_tree ys)) (leaves_of_seq k (seq_of (map item_tree ys)))) ds l.invariant in
+    building_turn files _ _ _ _ _ _ _ _ _ _ _ _ _ _ _ _ (λ f. meaning_of_item (context_of f scope) (item_tree p)) _
+    (λ f. leaves_of_item (context_of f scope) (item_tree p)) _ here
+    (record { on = c.in_ok-part.ensures.on; moved = c.in_ok-part.ensures.moved; built = c.in_ok-part.ensures.built }) c.in_ok-part.ensures.same
+    c.in_ok-push.ensures.items
 
 pub tree_of_seq-returns-clause-moved : goal.tree_of_seq-returns-clause-moved
 tree_of_seq-returns-clause-moved t c =
-    let files = c.args.self.now.properties in
-    let k = context_of files c.args.scope.now in
-    let l = c.loop-item in
-    let xs = c.deref-item-items.result.now in
-    let tree = seq_by_items c.args.seq.now _ c.deref-item-items.ensures.value in
-    let none : drop l.item-index xs ≡ [] = drop_all l.item-index xs (omega arith) in
-    let m = subst (λ ys. l.next + length (leaves_of_seq k (seq_of (map item_tree ys))) ≡ c.args.next.now + length
-    (leaves_of_seq k (seq_of (map item_tree xs)))) none l.invariant.moved in
-    let long = ap (λ x. length (leaves_of_seq k x)) tree in
-    omega arith
+    let k = context_of c.args.self.now.properties c.args.scope.now in
+    let none = drop_all c.loop-item.item-index c.deref-item-items.result.now (omega arith) in
+    omega (
+      arith,
+      c.loop-item.invariant.moved,
+      ap (λ ys. length (leaves_of_seq k (seq_of (map item_tree ys)))) none,
+      ap (λ x. length (leaves_of_seq k x)) (seq_by_items c.args.seq.now _ c.deref-item-items.ensures.value),
+    )
 
 pub tree_of_seq-returns-clause-built : goal.tree_of_seq-returns-clause-built
 tree_of_seq-returns-clause-built t c =
@@ -387,12 +342,8 @@ tree_of_seq-returns-clause-built t c =
     let k = context_of files c.args.scope.now in
     let l = c.loop-item in
     let xs = c.deref-item-items.result.now in
-    let tree = seq_by_items c.args.seq.now _ c.deref-item-items.ensures.value in
-    let none : drop l.item-index xs ≡ [] = drop_all l.item-index xs (omega arith) in
-    let all : l.invariant.done ≡ map (meaning_of_item k) (map item_tree xs) =
-    sym (append-nil l.invariant.done)
-    ∙ subst (λ ys. l.invariant.done ++ map (meaning_of_item k) (map item_tree ys) ≡ map (meaning_of_item k) (map item_tree xs)) none l.invariant.every in
-    let eq = ap sequence_meaning all ∙ sym (seq_means k (map item_tree xs)) ∙ ap (meaning_of_seq k) (sym tree) in
+    let none = ap (λ ys. map (meaning_of_item k) (map item_tree ys)) (drop_all l.item-index xs (omega arith)) in
+    let eq = sym (seq_means k (map item_tree xs)) ∙ ap (meaning_of_seq k) (sym (seq_by_items c.args.seq.now _ c.deref-item-items.ensures.value)) in
     subst (λ m. IsBuilt files (length c.args.self.now.sets.items) l.self.sets.items c.args.next.now l.next m c.in_sequence.result) eq
-    (sequence_built files (length c.args.self.now.sets.items) l.self.sets.items c.args.next.now l.next l.invariant.done l.items.items c.in_sequence.result
-    l.invariant.parts c.in_sequence.ensures.tree c.in_sequence.ensures.numbers)
+    (sequence_built files (length c.args.self.now.sets.items) l.self.sets.items c.args.next.now l.next _ l.items.items c.in_sequence.result
+    (building_end files _ _ _ _ _ _ _ _ _ _ _ _ l.invariant none) c.in_sequence.ensures.tree c.in_sequence.ensures.numbers)

@@ -1,4 +1,4 @@
-use Rattle.std.proofs.Common.{◌≡◌, ◌+◌, ℕ, true, false, ◌&&◌, not, is_some, Some, None, List, bytes_eq, codes, encode_utf8_all, string_bytes}
+use Rattle.std.proofs.Common.{◌≡◌, ◌+◌, ℕ, ◌&&◌, not, is_some, Some, None, List, bytes_eq, codes, encode_utf8_all, string_bytes}
 use Rattle.std.proofs.Common.{sym, refl, ap, ◌∙◌, subst, arith}
 use Rattle.std.specs.Option.{option_copied}
 use Rattle.std.specs.HashMap.{get_by_text}
