@@ -1,10 +1,8 @@
-use Rattle.std.proofs.Common.{◌≡◌, ◌-◌, map, drop, is_none, subst, sym, ap, ◌∙◌, arith, rules}
-use Rattle.rbbi_tree.specs.Trees.{parts_of, set_character, set_range, set_name, set_property, set_within}
-use Rattle.rbbi_tree.specs.Values.{part_tree, set_tree, set_item_tree, part_tree_out}
+use Rattle.std.proofs.Common.{◌≡◌, ◌-◌, map, drop, is_none, sym, ap, ◌∙◌, arith, rules}
+use Rattle.rbbi_tree.specs.Trees.{parts_of}
+use Rattle.rbbi_tree.specs.Values.{part_tree, set_tree}
 use Rattle.rbbi_tree.specs.declared.syntax.SetItem.TheViews.{out-SetPart}
 use Rattle.rbbi_resolve.specs.Contexts.{value_of_name}
-use Rattle.rbbi_resolve.specs.SetValues.{value_of_part}
-use Rattle.rbbi_resolve.specs.SetsSoFar.{IsSoFar}
 use Rattle.rbbi_resolve.specs.Parts.{parts_of_part}
 use Rattle.rbbi_resolve.specs.Faults.{noted, noted_parts, faults_where}
 use Rattle.rbbi_resolve.proofs.ItemTrees.{part_is, of_character, of_range, of_name, of_property, of_inner}

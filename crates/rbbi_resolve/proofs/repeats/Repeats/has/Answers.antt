@@ -1,4 +1,4 @@
-use Rattle.std.proofs.Common.{◌≡◌, ap, ◌∙◌, refl, sym, encode_utf8_all}
+use Rattle.std.proofs.Common.{◌≡◌, ◌∙◌, refl, sym, encode_utf8_all}
 use Rattle.rbbi_tree.specs.Trees.{joined, set_name}
 use Rattle.rbbi_tree.specs.Values.{part_tree}
 use Rattle.rbbi_tree.specs.declared.syntax.SetItem.TheViews.{out-SetPart}
