@@ -8,9 +8,9 @@ use Rattle.std.proofs.lemmas.List.Elements.{All-contains_itself, recursion_from_
 use Rattle.rbbi_model.specs.Lists.{IsRising}
 use Rattle.rbbi_model.specs.Runs.{Entry}
 use Rattle.rbbi_model.proofs.Rising.{rising_tail}
+use Rattle.rbbi_model.proofs.Lists.{all_append, all_through}
 use Rattle.rbbi_cache.specs.Kept.{AreAmong}
 use Rattle.rbbi_cache.specs.Shown.{AreUpTo}
-use Rattle.rbbi_cache.proofs.Lists.{all_join, all_through}
 
 -- all entries of a list are among them, also where more follow
 pub among_itself : (entries : List Entry) → AreAmong entries entries
@@ -25,7 +25,7 @@ pub among_one : (entries others : List Entry) (k : ℕ) (entry : Entry) → k < 
     Contains others entry → AreAmong (take (k + 1) entries) others
 among_one entries others k entry short is each here =
     subst (λ l. AllByRecursion (Contains others) l) (sym (take_more entries k entry short ∙ ap (λ e. take k entries ++ e ∷ []) (sym is)))
-    (all_join (Contains others) (take k entries) (entry ∷ []) each (here, tt))
+    (all_append (Contains others) (take k entries) (entry ∷ []) each (here, tt))
 
 -- an entry that isn't among the others
 pub among_not : (entries others : List Entry) (k : ℕ) (entry : Entry) → k < length entries → entry ≡ get_or entries k entry → (Contains others entry → ⊥) →

@@ -1,7 +1,6 @@
 -- Entries that are moved, one after the other, behind those of a run.
-use Rattle.std.proofs.Common.{◌≡◌, ℕ, zero, suc, ◌+◌, ◌-◌, ◌<◌, ◌≤◌, Bool, eqb, leb, List, [], ◌∷◌, ◌++◌, length, length-append, map, filter, get_or}
+use Rattle.std.proofs.Common.{◌≡◌, ℕ, ◌+◌, ◌-◌, ◌<◌, ◌≤◌, Bool, eqb, leb, List, [], ◌∷◌, ◌++◌, length, length-append, map, filter, get_or}
 use Rattle.std.proofs.Common.{take, sym, ap, ◌∙◌, append_assoc, arith}
-use Rattle.std.specs.List.{AllByRecursion}
 use Rattle.std.proofs.lemmas.Bool.{cond-true, cond-false, le-leb, lt-leb, ne_eqb}
 use Rattle.std.proofs.lemmas.List.{take_more, map-append, length-map, length-take, append-nil}
 use Rattle.std.proofs.lemmas.List.Elements.{filter-append}
@@ -10,11 +9,6 @@ use Rattle.rbbi_model.specs.Runs.{Entry, Run}
 use Rattle.rbbi_cache.specs.Pushed.{pushed}
 use Rattle.rbbi_cache.specs.Edits.{moved_entry}
 use Rattle.rbbi_cache.specs.Parts.{CanMove}
-
-pub all_at : {X : Type 0} (P : X → Type 0) (xs : List X) (k : ℕ) (d : X) → k < length xs → AllByRecursion P xs → P (get_or xs k d)
-all_at P [] k d short each = absurd (omega arith)
-all_at P (x ∷ xs) zero d short each = each.0
-all_at P (x ∷ xs) (suc k) d short each = all_at P xs k d (omega arith) each.1
 
 filter_shorter : {X : Type 0} (test : X → Bool) (xs : List X) → length (filter test xs) ≤ length xs
 filter_shorter test xs = omega (arith, length-filter test xs, count_by-le-length test xs)

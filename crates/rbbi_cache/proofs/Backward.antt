@@ -10,9 +10,9 @@ use Rattle.rbbi_model.specs.ValidTables.{IsValidTable}
 use Rattle.rbbi_model.specs.Searches.{next_boundary, follow_by, fresh}
 use Rattle.rbbi_model.specs.Runs.{Entry, Run, IsAnchor, low, boundary_of}
 use Rattle.rbbi_model.specs.Costs.{settles}
+use Rattle.rbbi_model.proofs.Lists.{all_append, all_right, all_through}
 use Rattle.rbbi_cache.specs.Scans.{HasGoneOn, GoesOn}
 use Rattle.rbbi_cache.specs.Ready.{IsReady, IsReadyBack, HasNoneBefore}
-use Rattle.rbbi_cache.proofs.Lists.{all_join, all_right, all_through}
 use Rattle.rbbi_cache.proofs.Reached.{rest_after}
 use Rattle.rbbi_cache.proofs.RunFacts as facts
 use Rattle.rbbi_cache.proofs.Scanned.{fresh_is, run_ends}
@@ -98,9 +98,9 @@ module _ (table : Table) (valid : IsValidTable table) (x : List ℕ) (i p : ℕ)
       let rest : List Boundary = follow_by (next_boundary table x) (length x) is.reached.most (boundary_of table gone.scan.here) in
       let P : Boundary → Type 0 = λ m. low p ≤ m.at → i ≤ m.at in
       subst (λ bs. AllByRecursion (λ (m : Boundary). low p ≤ m.at → i ≤ m.at) bs) (sym (fresh_is table valid x p (i - 1) gone.scan after is))
-      (all_join (λ (m : Boundary). low p ≤ m.at → i ≤ m.at) (gone.scan.skipped ++ map (boundary_of table) (gone.scan.known ++ gone.scan.found)) (follow_by
+      (all_append (λ (m : Boundary). low p ≤ m.at → i ≤ m.at) (gone.scan.skipped ++ map (boundary_of table) (gone.scan.known ++ gone.scan.found)) (follow_by
       (next_boundary table x) (length x) is.reached.most (boundary_of table gone.scan.here))
-      (all_join (λ (m : Boundary). low p ≤ m.at → i ≤ m.at) gone.scan.skipped (map (boundary_of table) (gone.scan.known ++ gone.scan.found))
+      (all_append (λ (m : Boundary). low p ≤ m.at → i ≤ m.at) gone.scan.skipped (map (boundary_of table) (gone.scan.known ++ gone.scan.found))
       (all_through (λ m. m.at < low p) (λ m. low p ≤ m.at → i ≤ m.at) (λ m less from. absurd (omega arith)) gone.scan.skipped (is.skipped_low known))
       (entries_far (gone.scan.known ++ gone.scan.found) is.last at_most))
       (all_through (λ m. gone.scan.here.at < m.at) (λ m. low p ≤ m.at → i ≤ m.at) (λ m less _. let far = past_here in omega arith) (follow_by (next_boundary

@@ -6,7 +6,8 @@ use Rattle.std.proofs.lemmas.Bool.{le-leb, lt-leb, lt-ltb, le-ltb}
 use Rattle.std.proofs.lemmas.List.{take-append-drop, append-nil}
 use Rattle.std.proofs.lemmas.List.Elements.{filter-append}
 use Rattle.rbbi_model.specs.Runs.{Entry, ReachesRise}
-use Rattle.rbbi_cache.proofs.Lists.{all_through, filter_all, filter_none}
+use Rattle.rbbi_model.proofs.Lists.{all_through}
+use Rattle.rbbi_cache.proofs.Lists.{filter_all, filter_none}
 use Rattle.rbbi_cache.proofs.LeftPart.{reaches_after, reaches_tail}
 
 module _ {X : Type 0} (test : X → Bool) where

@@ -7,9 +7,9 @@ use Rattle.rbbi_model.specs.Tables.{Table}
 use Rattle.rbbi_model.specs.ValidTables.{IsValidTable}
 use Rattle.rbbi_model.specs.Searches.{next_boundary, follow_by, fresh}
 use Rattle.rbbi_model.specs.Runs.{Entry, Run, boundary_of, farthest_look, ReachesRise, LeadsTruly, IsTrueRun}
+use Rattle.rbbi_model.proofs.Lists.{all_append}
 use Rattle.rbbi_cache.specs.Kept.{HaveLeastReaches, last_reach, HasLeastReaches, IsExtendedBy}
 use Rattle.rbbi_cache.specs.Scans.{Scan, IsScan}
-use Rattle.rbbi_cache.proofs.Lists.{all_join}
 use Rattle.rbbi_cache.proofs.Among.{among_more}
 use Rattle.rbbi_cache.proofs.Reached.{done_is}
 use Rattle.rbbi_cache.proofs.Paths.{reached_of}
@@ -68,7 +68,7 @@ module _ (table : Table) (valid : IsValidTable table) (x : List ℕ) (i : ℕ) (
       λ P each. (subst (λ l. AllByRecursion P (l ++ scan.found)) known each).1 in
       let both : (P : Entry → Type 0) → AllByRecursion P former.entries → AllByRecursion P (scan.known ++ scan.found) →
       AllByRecursion P (former.entries ++ scan.found) =
-      λ P old new. all_join P former.entries scan.found old (found P new) in
+      λ P old new. all_append P former.entries scan.found old (found P new) in
       record {
         anchor = is_true.anchor;
         some = omega (arith, length-append former.entries scan.found);

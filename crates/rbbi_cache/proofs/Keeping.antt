@@ -7,11 +7,11 @@ use Rattle.rbbi_model.specs.ValidTables.{IsValidTable}
 use Rattle.rbbi_model.specs.Lists.{IsRising}
 use Rattle.rbbi_model.specs.Searches.{fresh}
 use Rattle.rbbi_model.specs.Runs.{Entry, Run, IsAnchor, boundary_of, AreConsecutive, IsTrueRun}
+use Rattle.rbbi_model.proofs.Lists.{all_append, all_left, all_right, all_through}
 use Rattle.rbbi_cache.specs.Kept.{AreTrueRuns, IsExtendedBy, AreLeft, Extended, HasLeastReaches, IsPutFirst}
 use Rattle.rbbi_cache.specs.Shown.{IsShownAfter, IsShownBefore}
 use Rattle.rbbi_cache.specs.Lists.{IsOrdered, HasAt}
 use Rattle.rbbi_cache.specs.Ready.{GoesOnAs, GoesOnAt, KeepsTrue}
-use Rattle.rbbi_cache.proofs.Lists.{all_join, all_left, all_right, all_through}
 use Rattle.rbbi_cache.proofs.Reached.{first_member}
 use Rattle.rbbi_cache.proofs.RunFacts as facts
 use Rattle.rbbi_cache.proofs.RightPart.{entries_rise}
@@ -70,7 +70,7 @@ module _ (table : Table) (valid : IsValidTable table) (x : List ℕ) where
           },
           subst (AllByRecursion (IsTrueRun table x)) (sym is) (
             is_true,
-            all_join (IsTrueRun table x) before after (all_left (IsTrueRun table x) before (run ∷ after) each) (all_right (IsTrueRun table x)
+            all_append (IsTrueRun table x) before after (all_left (IsTrueRun table x) before (run ∷ after) each) (all_right (IsTrueRun table x)
                 before (run ∷ after) each).1,
           ),
         )

@@ -14,8 +14,9 @@ use Rattle.rbbi_model.specs.ValidTables.{IsValidTable}
 use Rattle.rbbi_model.specs.Searches.{look_end, next_boundary, follow_by, fresh}
 use Rattle.rbbi_model.specs.Runs.{Entry, Run, category_at, IsAnchor, low, boundary_of, farthest_look, ReachesRise, LeadsTruly, IsTrueRun}
 use Rattle.rbbi_model.proofs.SearchesAlike.{finds_alike}
+use Rattle.rbbi_model.proofs.Lists.{all_append, all_left, all_right, all_through}
 use Rattle.rbbi_cache.specs.Edits.{IsEdited, left_part}
-use Rattle.rbbi_cache.proofs.Lists.{all_join, all_left, all_right, all_through, filter_none}
+use Rattle.rbbi_cache.proofs.Lists.{filter_none}
 use Rattle.rbbi_cache.specs.Scans.{Reached}
 use Rattle.rbbi_cache.proofs.Reached.{first_member, farthest_is, rest_after}
 use Rattle.rbbi_cache.proofs.Paths.{Path, IsCarried, carried, path_moved, path_reaches}
@@ -203,7 +204,7 @@ module _ (table : Table) (valid : IsValidTable table) (x y : List ℕ) (at remov
         let reached = reached_stays [] first (more ++ rest) whole each.0 in
         subst (λ bs. AllByRecursion P bs)
         (sym (reached.whole ∙ ap (λ bs. bs ++ b first ∷ follow_by (next_boundary table y) (length y) reached.most (b first)) (append-nil before)))
-        (all_join P before (b first ∷ follow_by (next_boundary table y) (length y) reached.most (b first))
+        (all_append P before (b first ∷ follow_by (next_boundary table y) (length y) reached.most (b first))
         (all_left P before (map b run.entries ++ is_true.consecutive.after)
         (subst (λ bs. AllByRecursion P bs) (is_true.consecutive.whole ∙ append_assoc before (map b run.entries) is_true.consecutive.after) old)) (
           λ _. omega arith,

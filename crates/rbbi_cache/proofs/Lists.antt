@@ -1,29 +1,8 @@
 -- What holds of each element of a list, and what a filter keeps.
-use Rattle.std.proofs.Common.{◌≡◌, ℕ, max, Bool, true, false, cond, List, [], ◌∷◌, ◌++◌, take, drop, map, filter, sym, refl, ap, ◌∙◌, subst, ⊎_elim, arith}
+use Rattle.std.proofs.Common.{◌≡◌, ℕ, max, Bool, true, false, cond, List, [], ◌∷◌, ◌++◌, map, filter, sym, refl, ap, ◌∙◌, subst, ⊎_elim, arith}
 use Rattle.std.specs.List.{AllByRecursion}
 use Rattle.std.proofs.lemmas.Bool.{cond-true, cond-false, cases_Bool}
-use Rattle.std.proofs.lemmas.List.{take-append-drop}
 use Rattle.rbbi_model.specs.Places.{largest}
-
-module _ {X : Type 0} (P : X → Type 0) where
-  pub all_join : (xs ys : List X) → AllByRecursion P xs → AllByRecursion P ys → AllByRecursion P (xs ++ ys)
-  all_join [] ys each each' = each'
-  all_join (x ∷ xs) ys each each' = (each.0, all_join xs ys each.1 each')
-
-  pub all_left : (xs ys : List X) → AllByRecursion P (xs ++ ys) → AllByRecursion P xs
-  all_left [] ys each = tt
-  all_left (x ∷ xs) ys each = (each.0, all_left xs ys each.1)
-
-  pub all_right : (xs ys : List X) → AllByRecursion P (xs ++ ys) → AllByRecursion P ys
-  all_right [] ys each = each
-  all_right (x ∷ xs) ys each = all_right xs ys each.1
-
-pub all_drop : {X : Type 0} (P : X → Type 0) (n : ℕ) (xs : List X) → AllByRecursion P xs → AllByRecursion P (drop n xs)
-all_drop P n xs each = all_right P (take n xs) (drop n xs) (subst (λ l. AllByRecursion P l) (sym (take-append-drop n xs)) each)
-
-pub all_through : {X : Type 0} (P Q : X → Type 0) → ((x : X) → P x → Q x) → (xs : List X) → AllByRecursion P xs → AllByRecursion Q xs
-all_through P Q through [] each = tt
-all_through P Q through (x ∷ xs) each = (through x each.0, all_through P Q through xs each.1)
 
 pub everywhere : {X : Type 0} (P : X → Type 0) → ((x : X) → P x) → (xs : List X) → AllByRecursion P xs
 everywhere P holds [] = tt

@@ -13,8 +13,9 @@ use Rattle.rbbi_model.specs.Searches.{look_end, next_boundary, follow_by, fresh}
 use Rattle.rbbi_model.specs.Runs.{Entry, Run, category_at, low, boundary_of, farthest_look, ReachesRise, LeadsTruly, IsTrueRun}
 use Rattle.rbbi_model.proofs.Found.{found_lies}
 use Rattle.rbbi_model.proofs.SearchesAlike.{finds_alike}
+use Rattle.rbbi_model.proofs.Lists.{all_append, all_left, all_through}
 use Rattle.rbbi_cache.specs.Edits.{IsEdited, moved_entry}
-use Rattle.rbbi_cache.proofs.Lists.{all_join, all_left, all_through, all_map, everywhere}
+use Rattle.rbbi_cache.proofs.Lists.{all_map, everywhere}
 use Rattle.rbbi_cache.specs.Scans.{Reached}
 use Rattle.rbbi_cache.proofs.Reached.{first_member, farthest_is, rest_after, reached_start}
 use Rattle.rbbi_cache.proofs.Paths.{Path, Here, Then, IsCarried, carried, moved, path_moved, path_reaches}
@@ -163,9 +164,9 @@ module _ (table : Table) (valid : IsValidTable table) (x y : List ℕ) (at remov
           (subst (λ bs. AllByRecursion Q bs) (is_true.consecutive.whole ∙ append_assoc before (map b run.entries) is_true.consecutive.after)
           (leading is)) in
           subst (λ bs. AllByRecursion P bs) (sym reached.whole)
-          (all_join P (map mv (before ++ [])) (b first' ∷ follow_by (next_boundary table y) (length y) reached.most (b first'))
+          (all_append P (map mv (before ++ [])) (b first' ∷ follow_by (next_boundary table y) (length y) reached.most (b first'))
           (all_map mv P (before ++ [])
-          (all_join (λ m. P (mv m)) before [] (all_through Q (λ m. P (mv m)) (λ m holds from. omega (arith, holds from)) before old) tt)) (
+          (all_append (λ m. P (mv m)) before [] (all_through Q (λ m. P (mv m)) (λ m holds from. omega (arith, holds from)) before old) tt)) (
             λ _. omega arith,
             all_through (λ m. first'.at < m.at) P (λ m later _. omega (arith, later)) (follow_by (next_boundary table y) (length y) reached.most (b first'))
                 (rest_after table y (run.anchor + inserted - removed) (map mv (before ++ [])) (b first') reached),

@@ -15,8 +15,8 @@ use Rattle.rbbi_model.specs.Runs.{Entry, Run, IsAnchor, from_place, boundary_of,
 use Rattle.rbbi_model.specs.Costs.{characters_read, searches_cost}
 use Rattle.rbbi_model.proofs.FreshTrue.{fresh_true}
 use Rattle.rbbi_model.proofs.Shown.{entry_true}
+use Rattle.rbbi_model.proofs.Lists.{all_append, all_through}
 use Rattle.rbbi_cache.specs.Scans.{Reached}
-use Rattle.rbbi_cache.proofs.Lists.{all_join, all_through}
 use Rattle.rbbi_cache.proofs.Reached.{done_before, cost_is}
 use Rattle.rbbi_cache.proofs.Paths.{Path, Here, Then, path_of_follow, path_reaches, reached_of}
 use Rattle.rbbi_cache.proofs.Members.{Stands, member_stands, member_kept, member_of_kept, by_place, place_of}
@@ -97,7 +97,7 @@ module _ (table : Table) (valid : IsValidTable table) (x : List ℕ) (q : ℕ) (
       start.member before) in
       omega (
         arith,
-        cost_is table x q (start.before ++ alike.done') alike.c' there i (all_join (λ m. m.at ≤ i) start.before alike.done' low alike.up_to) (omega (
+        cost_is table x q (start.before ++ alike.done') alike.c' there i (all_append (λ m. m.at ≤ i) start.before alike.done' low alike.up_to) (omega (
           arith,
           alike.end,
         )),

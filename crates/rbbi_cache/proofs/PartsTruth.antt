@@ -1,5 +1,5 @@
 -- The parts by the first safe pair are those that an edit leaves, and they are true of the new text.
-use Rattle.std.proofs.Common.{◌≡◌, ℕ, zero, suc, ◌+◌, ◌-◌, ◌≤◌, true, false, not, ◌&&◌, ◌||◌, eqb, leb, List, [], ◌∷◌, length}
+use Rattle.std.proofs.Common.{◌≡◌, ℕ, ◌+◌, ◌-◌, ◌≤◌, true, false, not, ◌&&◌, ◌||◌, eqb, leb, List, [], ◌∷◌, length}
 use Rattle.std.proofs.Common.{filter, take, sym, refl, ap, ◌∙◌, subst, inl, inr, ⊎_elim, arith}
 use Rattle.std.specs.Prelude.{Option, Some, None, MatchOption}
 use Rattle.std.specs.List.{AllByRecursion}
@@ -10,6 +10,7 @@ use Rattle.rbbi_model.specs.Tables.{Table}
 use Rattle.rbbi_model.specs.SafePairs.{is_safe}
 use Rattle.rbbi_model.specs.ValidTables.{IsValidTable}
 use Rattle.rbbi_model.specs.Runs.{Run, category_at, boundary_of, IsTrueRun}
+use Rattle.rbbi_model.proofs.Lists.{all_take}
 use Rattle.rbbi_cache.specs.Kept.{AreTrueRuns, most_runs}
 use Rattle.rbbi_cache.specs.Edits.{IsEdited, begins_pair, IsFirstPair, HasNoPair, left_part, moved_run, goes_whole, IsRightPart, Whole, Behind}
 use Rattle.rbbi_cache.specs.Edits.{Nothing, has_entries, AreParts, AreKeptAfter}
@@ -142,14 +143,9 @@ module _ (table : Table) (valid : IsValidTable table) (x y : List ℕ) (at remov
     pub kept_true : (runs now : List Run) → AreTrueRuns table x runs → now ≡ take most_runs (filter has_entries (all_parts at removed inserted pair runs)) →
         AreTrueRuns table y now
     kept_true runs now are_true now_are =
-        subst (AreTrueRuns table y) (sym now_are) (all_take most_runs (filter has_entries (all_parts at removed inserted pair runs))
+        subst (AreTrueRuns table y) (sym now_are) (all_take (IsTrueRun table y) most_runs (filter has_entries (all_parts at removed inserted pair runs))
         (held (all_parts at removed inserted pair runs) (parts_true runs are_true)))
       where
-        all_take : (n : ℕ) (runs : List Run) → AllByRecursion (IsTrueRun table y) runs → AllByRecursion (IsTrueRun table y) (take n runs)
-        all_take zero runs each = tt
-        all_take (suc n) [] each = tt
-        all_take (suc n) (run ∷ runs) each = (each.0, all_take n runs each.1)
-
         held : (runs : List Run) → AllByRecursion (λ part. has_entries part ≡ true → IsTrueRun table y part) runs →
             AllByRecursion (IsTrueRun table y) (filter has_entries runs)
         held [] each = tt

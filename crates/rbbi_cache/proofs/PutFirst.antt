@@ -4,9 +4,9 @@ use Rattle.std.specs.List.{AllByRecursion}
 use Rattle.std.proofs.lemmas.Bool.{cases_lt}
 use Rattle.std.proofs.lemmas.List.{take-append-drop, take_all}
 use Rattle.rbbi_model.specs.Runs.{Run}
+use Rattle.rbbi_model.proofs.Lists.{all_append, all_left, all_right}
 use Rattle.rbbi_cache.specs.Kept.{IsExtendedBy, NoneIsExtended, AreLeft, Added, Extended, Dropped, IsPutFirst}
 use Rattle.rbbi_cache.specs.Lists.{HasAt}
-use Rattle.rbbi_cache.proofs.Lists.{all_join, all_left, all_right}
 
 -- the one element of a list of length 1
 one : (l : List Run) → length l ≡ 1 → (r : Run) × (l ≡ r ∷ [])
@@ -18,7 +18,7 @@ one (r ∷ s ∷ l) is = absurd (omega arith)
 pub all_of_left : (P : Run → Type 0) (first : Run) (former rest : List Run) → AreLeft first former rest → AllByRecursion P former → AllByRecursion P rest
 all_of_left P first _ _ (Added runs room none) each = each
 all_of_left P first _ _ (Extended before after missing extended) each =
-    all_join P before after (all_left P before (missing ∷ after) each) (all_right P before (missing ∷ after) each).1
+    all_append P before after (all_left P before (missing ∷ after) each) (all_right P before (missing ∷ after) each).1
 all_of_left P first _ _ (Dropped before missing full none) each = all_left P before (missing ∷ []) each
 
 -- where it extends none, it stands before the first 15 of them

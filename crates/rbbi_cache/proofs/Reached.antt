@@ -8,7 +8,7 @@ use Rattle.std.proofs.lemmas.List.Elements.{filter-append}
 use Rattle.std.specs.Prelude.{sum_by}
 use Rattle.rbbi_model.proofs.Rising.{rising_tail}
 use Rattle.rbbi_cache.specs.Scans.{Reached}
-use Rattle.rbbi_cache.proofs.Lists.{all_through, filter_all, filter_none, largest_join}
+use Rattle.rbbi_cache.proofs.Lists.{filter_all, filter_none, largest_join}
 use Rattle.rbbi_model.specs.Lists.{IsRising}
 use Rattle.rbbi_model.specs.Places.{largest}
 use Rattle.rbbi_model.specs.Boundaries.{Boundary}
@@ -19,6 +19,7 @@ use Rattle.rbbi_model.specs.Runs.{farthest_look}
 use Rattle.rbbi_model.specs.Costs.{characters_read, searches_cost}
 use Rattle.rbbi_model.proofs.Found.{found_lies}
 use Rattle.rbbi_model.proofs.Covering.{follow_rise}
+use Rattle.rbbi_model.proofs.Lists.{all_through}
 
 -- the first member
 abbrev pub first_member : ℕ → Boundary

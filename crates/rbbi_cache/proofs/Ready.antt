@@ -14,12 +14,12 @@ use Rattle.rbbi_model.specs.Runs.{Entry, Run, IsAnchor, is_anchor, low, boundary
 use Rattle.rbbi_model.specs.Costs.{anchor_below, characters_read, searches_cost}
 use Rattle.rbbi_model.proofs.Found.{greatest_lies}
 use Rattle.rbbi_model.proofs.Anchors.{anchors_stored}
+use Rattle.rbbi_model.proofs.Lists.{all_append}
 use Rattle.rbbi_cache.specs.Kept.{HasLeastReaches, EndFormerRun, IsExtendedBy}
 use Rattle.rbbi_cache.specs.Lists.{GoesOnFrom}
 use Rattle.rbbi_cache.specs.Shown.{IsShownAfter}
 use Rattle.rbbi_cache.specs.Scans.{Scan, IsScan, HasGoneOn}
 use Rattle.rbbi_cache.specs.Ready.{IsReady, IsAmong}
-use Rattle.rbbi_cache.proofs.Lists.{all_join}
 use Rattle.rbbi_cache.proofs.Reached.{cost_is}
 use Rattle.rbbi_cache.proofs.RightPart.{entries_rise}
 use Rattle.rbbi_cache.proofs.RunFacts as facts
@@ -166,7 +166,7 @@ module _ (table : Table) (valid : IsValidTable table) (x : List ℕ) (i : ℕ) w
               (scan_shows table valid x former.anchor i gone.scan run gone.is
               (record { anchor = former.anchor; entries = former.entries ++ gone.scan.found; leads = former.leads }) (former.entries ++ ends.0)
               (ap (λ l. former.entries ++ l) ends.1 ∙ sym (append_assoc former.entries ends.0 (gone.scan.here ∷ [])))
-              (all_join (λ e. e.at ≤ i) former.entries ends.0 old_up_to new_up_to.1) past_here (inl (some_before ends.0)));
+              (all_append (λ e. e.at ≤ i) former.entries ends.0 old_up_to new_up_to.1) past_here (inl (some_before ends.0)));
           reaches = extended_least table valid x i former is_true goes.front from goes.whole gone.scan run gone.is known among.before among.after kept
               among.whole;
         }

@@ -18,7 +18,8 @@ use Rattle.rbbi_model.proofs.Found.{found_lies}
 use Rattle.rbbi_model.proofs.Covering.{follow_rise}
 use Rattle.rbbi_model.proofs.FreshTrue.{fresh_true}
 use Rattle.rbbi_model.proofs.SafeSearch.{look_agrees}
-use Rattle.rbbi_cache.proofs.Lists.{all_join, all_right, all_through, all_map, all_unmap, all_filter, all_by_test, filter_all, filter_twice}
+use Rattle.rbbi_model.proofs.Lists.{all_append, all_right, all_through}
+use Rattle.rbbi_cache.proofs.Lists.{all_map, all_unmap, all_filter, all_by_test, filter_all, filter_twice}
 use Rattle.rbbi_cache.proofs.Reached.{first_member, rest_after, rises_after, rising_right}
 use Rattle.rbbi_cache.proofs.Paths.{Path, Here, Then}
 use Rattle.rbbi_cache.proofs.RunFacts.{all_by_splits, reaches_right}
@@ -152,7 +153,7 @@ module _ (table : Table) (valid : IsValidTable table) (x : List ℕ) (run : Run)
         let follow : List Boundary = follow_by (next_boundary table x) (length x) reached.most (b entry) in
         let there : AllByRecursion (λ m. Ok m.at) (fresh table x run.anchor) =
         subst (λ bs. AllByRecursion (λ m. Ok m.at) bs) (sym reached.whole)
-        (all_join (λ m. Ok m.at) done (b entry ∷ follow)
+        (all_append (λ m. Ok m.at) done (b entry ∷ follow)
         (all_through (λ m. look_end table x m.at ≤ entry.reach) (λ m. Ok m.at) (λ m look _. look) done
         (facts.looks table valid x run is_true front entry rest whole)) (
           λ less. absurd (omega arith),

@@ -1,5 +1,5 @@
 -- The right part of a true run is true of the edited text.
-use Rattle.std.proofs.Common.{◌≡◌, ℕ, ◌+◌, ◌-◌, ◌<◌, ◌≤◌, ◌⊎◌, ◌↔◌, Bool, true, false, not, ◌&&◌, ◌||◌, eqb, leb, ltb, get_or, List, [], ◌∷◌, ◌++◌}
+use Rattle.std.proofs.Common.{◌≡◌, ℕ, ◌+◌, ◌-◌, ◌<◌, ◌≤◌, ◌⊎◌, Bool, true, false, not, ◌&&◌, ◌||◌, eqb, leb, ltb, List, [], ◌∷◌, ◌++◌}
 use Rattle.std.proofs.Common.{length, length-append, map, filter, sym, refl, ap, ◌∙◌, subst, inl, inr, ⊎_elim, append_assoc, arith}
 use Rattle.std.specs.Prelude.{IsTrue}
 use Rattle.std.specs.List.{AllByRecursion}
@@ -16,9 +16,11 @@ use Rattle.rbbi_model.specs.ValidTables.{IsValidTable}
 use Rattle.rbbi_model.specs.Searches.{fresh}
 use Rattle.rbbi_model.specs.Runs.{Entry, Run, category_at, low, boundary_of, farthest_look, ReachesRise, LeadsTruly, IsTrueRun}
 use Rattle.rbbi_model.proofs.Rising.{rising_tail}
-use Rattle.rbbi_model.proofs.Categories.{category_within}
+use Rattle.rbbi_model.proofs.Anchors.{safe_here}
+use Rattle.rbbi_model.proofs.Shown.{rising_left, places_of_entries}
+use Rattle.rbbi_model.proofs.Lists.{all_append, all_left, all_right, all_through}
 use Rattle.rbbi_cache.specs.Edits.{IsEdited, begins_pair, moved_entry, moved_run, run_behind, goes_whole, IsRightPart, Whole, Behind, Nothing}
-use Rattle.rbbi_cache.proofs.Lists.{all_join, all_left, all_right, all_through, filter_all, filter_none, filter_same, everywhere}
+use Rattle.rbbi_cache.proofs.Lists.{filter_all, filter_none, filter_same, everywhere}
 use Rattle.rbbi_cache.proofs.Reached.{done_before, rises_after, rising_right}
 use Rattle.rbbi_cache.proofs.RunFacts.{rises_past, reaches_right}
 use Rattle.rbbi_cache.proofs.RunFacts as facts
@@ -71,15 +73,6 @@ are_later k (e ∷ entries) rising =
     })
     (cases_lt e.at k)
 
-rises_left : (ms ns : List ℕ) → IsRising (ms ++ ns) → IsRising ms
-rises_left [] ns rising = tt
-rises_left (m ∷ []) ns rising = tt
-rises_left (m ∷ k ∷ ms) ns rising = (rising.0, rises_left (k ∷ ms) ns rising.1)
-
-places_are : (table : Table) (entries : List Entry) → places (map (boundary_of table) entries) ≡ map (λ e. e.at) entries
-places_are table [] = refl
-places_are table (e ∷ entries) = ap (λ l. e.at ∷ l) (places_are table entries)
-
 -- a test after a change of each element
 filter_map : {X Y : Type 0} (f : X → Y) (test : Y → Bool) (xs : List X) → filter test (map f xs) ≡ map f (filter (λ x. test (f x)) xs)
 filter_map f test [] = refl
@@ -100,8 +93,8 @@ module _ (table : Table) (valid : IsValidTable table) (x : List ℕ) (run : Run)
       let whole : fresh table x run.anchor ≡ before ++ (entries ++ after) = is_true.consecutive.whole ∙ append_assoc before entries after in
       let rises : IsRising (places (entries ++ after)) =
       rising_right before (entries ++ after) (subst (λ bs. IsRising (places bs)) whole (fresh_rises table x run.anchor)) in
-      subst IsRising (places_are table run.entries)
-      (rises_left (places entries) (places after) (subst IsRising (map-append (λ (b : Boundary). b.at) entries after) rises))
+      subst IsRising (places_of_entries table run.entries)
+      (rising_left (places entries) (places after) (subst IsRising (map-append (λ (b : Boundary). b.at) entries after) rises))
 
   -- the last entries are a true run too
   pub true_suffix : (front : List Entry) (first : Entry) (more : List Entry) → run.entries ≡ front ++ first ∷ more →
@@ -144,8 +137,8 @@ module _ (table : Table) (valid : IsValidTable table) (x : List ℕ) (run : Run)
       let rises : IsRising (places (b first ∷ tail)) =
       rising_right (before ++ map b front) (b first ∷ tail) (subst (λ bs. IsRising (places bs)) fresh_is (fresh_rises table x run.anchor)) in
       subst (λ bs. AllByRecursion P bs) (sym fresh_is)
-      (all_join P (before ++ map b front) (b first ∷ tail)
-      (all_join P before (map b front)
+      (all_append P (before ++ map b front) (b first ∷ tail)
+      (all_append P before (map b front)
       (skipped front whole)
       (entries_before front earlier))
       (λ _. omega arith, all_through (λ m. first.at < m.at) P (λ m less _. omega (arith, less)) tail (rises_after (b first) tail rises)))
@@ -182,22 +175,15 @@ module _ (table : Table) (valid : IsValidTable table) (x : List ℕ) (run : Run)
       skipped (e ∷ front') is = skip e (front' ++ first ∷ more) is
 
 module _ (table : Table) (valid : IsValidTable table) (x : List ℕ) (p : ℕ) where
-  same_test : IsTrue (is_safe table (category_at table x p) (category_at table x (p + 1))) ↔ IsSafePair table (category_at table x p)
-      (category_at table x (p + 1))
-  same_test =
-      valid.safe.exactly (category_at table x p) (category_at table x (p + 1))
-      (category_within table.categories table.ranges (get_or x p 0) valid.ranges)
-      (category_within table.categories table.ranges (get_or x (p + 1) 0) valid.ranges)
-
   -- the test for a pair tells whether there is one
   pub pair_there : begins_pair table x p ≡ true → (p + 2 ≤ length x) × IsSafePair table (category_at table x p) (category_at table x (p + 1))
   pair_there is =
       let parts = and_parts (leb (p + 2) (length x)) (is_safe table (category_at table x p) (category_at table x (p + 1))) is in
-      (leb-true (p + 2) (length x) parts.0, same_test.0 parts.1)
+      (leb-true (p + 2) (length x) parts.0, (safe_here table valid x p).0 parts.1)
 
   pub pair_begins : p + 2 ≤ length x → IsSafePair table (category_at table x p) (category_at table x (p + 1)) → begins_pair table x p ≡ true
   pair_begins room safe = and_from (leb (p + 2) (length x)) (is_safe table (category_at table x p) (category_at table x (p + 1)))
-      (le-leb (p + 2) (length x) room) (same_test.1 safe)
+      (le-leb (p + 2) (length x) room) ((safe_here table valid x p).1 safe)
 
 module _ (table : Table) (valid : IsValidTable table) (x y : List ℕ) (at removed inserted : ℕ) (edited : IsEdited x y at removed inserted) (run : Run)
     (is_true : IsTrueRun table x run) where
@@ -379,7 +365,7 @@ module _ (table : Table) (valid : IsValidTable table) (x y : List ℕ) (at remov
         subst (λ l. IsTrueRun table y (record { anchor = run.anchor + inserted - removed; entries = l; leads = run.leads })) (sym kept)
         (zero_true zero 2 (omega arith) (λ n from. omega (arith, low_other (run.anchor + inserted - removed) moves)) (first.left ++ later.front) later.later
         (first.whole ∙ ap (λ l. first.left ++ l) later.whole ∙ sym (append_assoc first.left later.front later.later))
-        (all_join (λ e. e.at < 2) first.left later.front (all_through (λ e. e.at < 1) (λ e. e.at < 2) (λ e less. omega arith) first.left left_low)
+        (all_append (λ e. e.at < 2) first.left later.front (all_through (λ e. e.at < 1) (λ e. e.at < 2) (λ e less. omega arith) first.left left_low)
         later.earlier)
         (inr (all_through (λ e. 2 ≤ e.at) (λ e. run.anchor + inserted - removed + 2 ≤ e.at + inserted - removed) (λ e past. omega arith) later.later
         later.each))

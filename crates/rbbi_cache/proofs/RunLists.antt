@@ -5,8 +5,8 @@ use Rattle.std.specs.List.{AllByRecursion}
 use Rattle.std.proofs.lemmas.List.{take-append-drop, take_more}
 use Rattle.std.proofs.Math.Seq.{drop-cons, take-append_seam, drop-append_seam}
 use Rattle.rbbi_model.specs.Runs.{Run}
+use Rattle.rbbi_model.proofs.Lists.{all_append}
 use Rattle.rbbi_cache.specs.Lists.{HasAt}
-use Rattle.rbbi_cache.proofs.Lists.{all_join}
 
 pub has_at : (P : Run → Type 0) (runs : List Run) (k : ℕ) (run : Run) → k < length runs → run ≡ get_or runs k run → P run → HasAt runs k P
 has_at P runs k run short is such = record {
@@ -22,7 +22,7 @@ pub one_more : (P : Run → Type 0) (runs : List Run) (k : ℕ) (run : Run) → 
     P run → AllByRecursion P (take (k + 1) runs)
 one_more P runs k run short is each such =
     subst (λ l. AllByRecursion P l) (sym (take_more runs k run short ∙ ap (λ r. take k runs ++ r ∷ []) (sym is)))
-    (all_join P (take k runs) (run ∷ []) each (such, tt))
+    (all_append P (take k runs) (run ∷ []) each (such, tt))
 
 pub rotated : (runs before after : List Run) (run : Run) (k : ℕ) (first : List Run) → runs ≡ before ++ run ∷ after → length before ≡ k →
     first ≡ drop (length (take (k + 1) runs) - 1) (take (k + 1) runs) ++ take (length (take (k + 1) runs) - 1) (take (k + 1) runs) →

@@ -13,12 +13,13 @@ use Rattle.rbbi_model.specs.Runs.{Entry, Run, IsAnchor, low, boundary_of, farthe
 use Rattle.rbbi_cache.specs.Kept.{HasLeastReaches, EndFormerRun}
 use Rattle.rbbi_cache.specs.Shown.{IsShownAfter}
 use Rattle.rbbi_cache.specs.Scans.{Reached, Scan, IsScan}
-use Rattle.rbbi_cache.proofs.Lists.{all_drop, all_join, all_right, all_through, all_unmap}
+use Rattle.rbbi_cache.proofs.Lists.{all_unmap}
 use Rattle.rbbi_cache.proofs.Reached.{first_member, reached_start, farthest_start, done_before, rises_after, rising_right}
 use Rattle.rbbi_cache.proofs.RunFacts.{reaches_right, ends_up_to}
 use Rattle.rbbi_cache.proofs.RunFacts as facts
 use Rattle.rbbi_model.specs.Lists.{IsRising}
 use Rattle.rbbi_model.specs.Cover.{places}
+use Rattle.rbbi_model.proofs.Lists.{all_append, all_right, all_drop, all_through}
 use Rattle.rbbi_cache.proofs.Reanchor.{fresh_rises}
 use Rattle.rbbi_cache.proofs.Scanning.{nonempty}
 
@@ -173,7 +174,7 @@ module _ (table : Table) (valid : IsValidTable table) (x : List ℕ) (p i : ℕ)
           let whole : fresh table x p ≡ scan.skipped ++ (b first ∷ (map b more ++ rest)) =
           fresh_is ∙ ap (λ l. (scan.skipped ++ map b l) ++ rest) (sym are) ∙ append_assoc scan.skipped (map b (first ∷ more)) rest in
           subst (λ bs. AllByRecursion P bs) (sym whole)
-          (all_join P scan.skipped (b first ∷ (map b more ++ rest))
+          (all_append P scan.skipped (b first ∷ (map b more ++ rest))
           (all_through (λ m. m.at < low p) P (λ m less from. absurd (omega arith)) scan.skipped low_skipped) (
             λ _. omega arith,
             all_through (λ m. first.at < m.at) P (λ m less _. omega (arith, less)) (map b more ++ rest)

@@ -10,10 +10,10 @@ use Rattle.rbbi_model.specs.Tables.{Table, statuses_of}
 use Rattle.rbbi_model.specs.Searches.{found, look_end, next_boundary}
 use Rattle.rbbi_model.specs.Runs.{Entry, Run, low, boundary_of, farthest_look, ReachesRise}
 use Rattle.rbbi_model.proofs.Found.{found_lies, look_lies}
+use Rattle.rbbi_model.proofs.Lists.{all_append, all_right}
 use Rattle.rbbi_cache.specs.Kept.{HaveLeastReaches, last_reach}
 use Rattle.rbbi_cache.specs.Pushed.{pushed}
 use Rattle.rbbi_cache.specs.Scans.{Reached, Scan, IsScan, IsNextEntry}
-use Rattle.rbbi_cache.proofs.Lists.{all_join, all_right}
 use Rattle.rbbi_cache.proofs.Reached.{reached_step, farthest_step}
 
 pub nonempty : {X : Type 0} (xs : List X) (x : X) (ys : List X) → xs ++ x ∷ ys ≡ [] → ⊥
@@ -63,7 +63,7 @@ module _ (table : Table) (x : List ℕ) (p i : ℕ) (scan : Scan) (run : Run) (i
   farthest_next = ap (farthest_look table x p) next_is.at ∙ farthest_step table x p scan.done (boundary_of table scan.here) is.reached short
 
   up_to : AllByRecursion (λ b. b.at ≤ i) (scan.done ++ boundary_of table scan.here ∷ [])
-  up_to = all_join (λ b. b.at ≤ i) scan.done (boundary_of table scan.here ∷ []) is.up_to (from, tt)
+  up_to = all_append (λ b. b.at ≤ i) scan.done (boundary_of table scan.here ∷ []) is.up_to (from, tt)
 
   next_enough : farthest_look table x p next.at ≤ next.reach
   next_enough = omega (arith, farthest_next, next_is.reach, is.here_enough)
@@ -123,7 +123,7 @@ module _ (table : Table) (x : List ℕ) (p i : ℕ) (scan : Scan) (run : Run) (i
         ∙ ap (λ bs. scan.skipped ++ bs) (sym (map-append b (scan.known ++ scan.found) (next ∷ [])) ∙ ap (map b) (sym grown))
 
     each : (P : Entry → Type 0) → AllByRecursion P (scan.known ++ scan.found) → P next → AllByRecursion P (scan.known ++ (scan.found ++ next ∷ []))
-    each P all holds = subst (λ l. AllByRecursion P l) (sym grown) (all_join P (scan.known ++ scan.found) (next ∷ []) all (holds, tt))
+    each P all holds = subst (λ l. AllByRecursion P l) (sym grown) (all_append P (scan.known ++ scan.found) (next ∷ []) all (holds, tt))
 
     -- the run keeps the entries from a place on
     kept_so : (run' : Run) (cut : ℕ) → run'.anchor ≡ p → cut ≤ length ((scan.known ++ scan.found) ++ next ∷ []) →
@@ -232,7 +232,7 @@ module _ (table : Table) (x : List ℕ) (p i : ℕ) (scan : Scan) (run : Run) (i
           last = inl still_none;
           places = is.places;
           none = λ _. (near, omega (arith, farthest_next, next_is.reach, none.1));
-          skipped_low = λ unknown. all_join (λ c. c.at < low p) scan.skipped (b next ∷ []) (is.skipped_low unknown) (near, tt);
+          skipped_low = λ unknown. all_append (λ c. c.at < low p) scan.skipped (b next ∷ []) (is.skipped_low unknown) (near, tt);
           enough = is.enough;
           here_enough = next_enough;
           reach_within = next_within;

@@ -10,8 +10,8 @@ use Rattle.rbbi_model.specs.Lists.{IsRising}
 use Rattle.rbbi_model.specs.Runs.{Entry, Run, low, EndsUpTo, StartsFrom, ShowsAfter, ShowsBefore}
 use Rattle.rbbi_cache.specs.Shown.{AreUpTo, IsShownAfter, IsShownBefore}
 use Rattle.rbbi_model.proofs.Rising.{rising_tail}
+use Rattle.rbbi_model.proofs.Lists.{all_left, all_right, all_through}
 use Rattle.rbbi_cache.proofs.RunFacts.{rises_past, ends_up_to}
-use Rattle.rbbi_cache.proofs.Lists.{all_left, all_right, all_through}
 
 -- the list parted at an element
 pub parted_at : (entries : List Entry) (k : ℕ) (d : Entry) → k < length entries → entries ≡ take k entries ++ get_or entries k d ∷ drop (k + 1) entries

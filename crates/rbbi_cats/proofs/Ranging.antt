@@ -8,6 +8,7 @@ use Rattle.std.proofs.lemmas.Bool.{cases_eq, cases_lt, le-leb, lt-leb}
 use Rattle.std.proofs.lemmas.List.{get_or_default}
 use Rattle.rbbi_model.specs.Tables.{CategoryRange, category_from, category_of}
 use Rattle.rbbi_model.specs.ValidTables.{StartsAtZero, AreApart}
+use Rattle.rbbi_model.proofs.Lists.{all_append}
 use Rattle.rbbi_cats.proofs.Classing.{rises}
 use Rattle.rbbi_cats.specs.Numbers.{AreRangesOf}
 
@@ -24,11 +25,6 @@ category_behind [] b c last from all = ap (λ t. cond t last.category b) (le-leb
 category_behind (range ∷ ranges) b c last from all =
     ap (λ t. cond t (category_from range.category (ranges ++ last ∷ []) c) b) (le-leb range.start c all.0) ∙
     category_behind ranges range.category c last from all.1
-
-all_push : (P : CategoryRange → Type 0) (ranges : List CategoryRange) (last : CategoryRange) → AllByRecursion P ranges → P last →
-    AllByRecursion P (ranges ++ last ∷ [])
-all_push P [] last h g = (g, tt)
-all_push P (range ∷ ranges) last h g = (h.0, all_push P ranges last h.1 g)
 
 apart_push : (front : List CategoryRange) (last new : CategoryRange) → AreApart (front ++ last ∷ []) → last.start < new.start → last.category ≢ new.category →
     AreApart ((front ++ last ∷ []) ++ new ∷ [])
@@ -149,11 +145,11 @@ range_made cuts classes numbers ranges k new rising zero_first inside start_is c
         (arith, l.start, start_is, rises cuts rising (k - 1) k (omega (arith, some)) inside))
         (λ e. other (sym l.category_is ∙ e ∙ category_is)))
   ];
-  starts = all_push (IsRangeOf cuts numbers) ranges new h.starts new_is;
+  starts = all_append (IsRangeOf cuts numbers) ranges (new ∷ []) h.starts (new_is, tt);
   below = λ c bound.
       let from : get_or cuts k 0 ≤ c = omega (arith, bound (omega arith), ap (λ n. get_or cuts n 0) back) in
-      all_push (λ (range : CategoryRange). range.start ≤ c) ranges new (h.below c
-      (λ s. omega (arith, from, rises cuts rising (k - 1) k (omega (arith, s)) inside))) (omega (arith, from, start_is));
+      all_append (λ (range : CategoryRange). range.start ≤ c) ranges (new ∷ []) (h.below c
+      (λ s. omega (arith, from, rises cuts rising (k - 1) k (omega (arith, s)) inside))) (omega (arith, from, start_is), tt);
 }
   where
     back : k + 1 - 1 ≡ k

@@ -12,11 +12,11 @@ use Rattle.rbbi_model.specs.Compiled.{IsLeast, IsStatusList, HasStatusLists, Are
 use Rattle.rbbi_dfa.specs.Automata.{IsDetermined, with_ranges}
 use Rattle.rbbi_dfa.specs.Categories.{AreWithin}
 use Rattle.rbbi_dfa.specs.LeastTables.{IsLeastOf, finished}
-use Rattle.rbbi_positions.proofs.Codes.{all_at}
 use Rattle.rbbi_dfa.proofs.Lists.{le_from_choices}
 use Rattle.rbbi_dfa.proofs.Grouping.{row_along-ranges}
 use Rattle.rbbi_dfa.proofs.WordRows.{along_within, word_IsWay}
 use Rattle.rbbi_model.proofs.Categories.{category_within}
+use Rattle.rbbi_model.proofs.Lists.{all_at}
 
 pub AreWithin-from_valid : (categories : ℕ) (ranges : List CategoryRange) → AreValidRanges categories ranges → AreWithin categories ranges
 AreWithin-from_valid categories ranges h c = category_within categories ranges c h

@@ -11,7 +11,7 @@ use Rattle.rbbi_dfa.specs.Automata.{IsDetermined, LeadsToMarks, with_ranges}
 use Rattle.rbbi_dfa.specs.Partitions.{IsPartition, IsToldApart}
 use Rattle.rbbi_dfa.specs.Ranks.{AreRanked}
 use Rattle.rbbi_model.proofs.SearchFacts.{row_along_append}
-use Rattle.rbbi_positions.proofs.Splits.{all-append}
+use Rattle.rbbi_model.proofs.Lists.{all_append}
 use Rattle.rbbi_dfa.proofs.Merged.{IsBefore-irreflexive}
 
 -- lists with one rank are equal, and equal lists have one rank
@@ -66,7 +66,7 @@ module _
         let there = reached 2 (λ e. absurd (omega (arith, e))) (omega (arith, many)) in
         let on = lead 2 (omega arith) (omega (arith, many)) in (
           there.0 ++ on.0,
-          all-append (λ category. category < table.categories) there.0 on.0 there.1 on.1,
+          all_append (λ category. category < table.categories) there.0 on.0 there.1 on.1,
           λ e. on.2 (ap (λ row. marks_of table (row_along table row on.0)) (sym there.2)
               ∙ ap (λ row. marks_of table row) (sym (row_along_append table 1 there.0 on.0)) ∙ e),
         )

@@ -6,11 +6,8 @@ use Rattle.std.proofs.lemmas.Bool.{cases_Bool, eqb-true, ne_eqb, false≢true}
 use Rattle.std.proofs.lemmas.List.{get_or_append_left, get_or_push, length_push}
 use Rattle.std.proofs.lemmas.Map.Keys.{IsDistinct-from_apart}
 use Rattle.std.proofs.lemmas.Map.Steps.{length-le_from_distinct_below}
+use Rattle.rbbi_model.proofs.Lists.{all_by_index}
 use borrow.Author.Count.{below_more}
-
-pub all_by_index : {X : Type 0} (P : X → Type 0) (d : X) (xs : List X) → ((i : ℕ) → i < length xs → P (get_or xs i d)) → AllByRecursion P xs
-all_by_index P d [] each = tt
-all_by_index P d (x ∷ xs) each = (each 0 (omega arith), all_by_index P d xs (λ i short. each (suc i) (omega (arith, short))))
 
 -- what holds of each number of a list holds of each that is in it
 each_member : (P : ℕ → Type 0) (xs : List ℕ) → AllByRecursion P xs → (q : ℕ) → list_any (eqb q) xs ≡ true → P q

@@ -8,13 +8,13 @@ use borrow.Author.Count.{below_more}
 use Rattle.rbbi_model.specs.Tables.{Table, RowHead, list_of, statuses_of, step}
 use Rattle.rbbi_model.specs.ValidTables.{IsValidList, IsBefore, AreInOrder, BeginsWithZeroAlone}
 use Rattle.rbbi_model.specs.Marks.{Marks, marks_of}
+use Rattle.rbbi_model.proofs.Lists.{all_by_index, all_at}
 use Rattle.rbbi_dfa.specs.Automata.{IsDetermined}
 use Rattle.rbbi_dfa.specs.Partitions.{IsPartition, IsMerged}
 use Rattle.rbbi_dfa.specs.Ranks.{AreRising, AreRanked}
 use Rattle.rbbi_dfa.specs.Numbers.{ArePlacesOf, AreUsed, AreNumbered, HaveCells, HaveHeads}
 use Rattle.rbbi_dfa.proofs.Grouping.{marks_by_parts}
-use Rattle.rbbi_positions.proofs.Codes.{all_at}
-use Rattle.rbbi_dfa.proofs.Lists.{all_by_index, le_from_choices}
+use Rattle.rbbi_dfa.proofs.Lists.{le_from_choices}
 
 pub HaveCells-more : (automaton : Table) (classes firsts cells more : List ℕ) (count cell : ℕ) → HaveCells automaton classes firsts count cells →
     cell ≡ slice_index classes (step automaton (slice_index firsts (count / automaton.categories)) (count % automaton.categories)) →

@@ -6,10 +6,10 @@ use Rattle.std.proofs.lemmas.List.{length-take, length-drop, get_or-take, get_or
 use Rattle.rbbi_model.specs.Tables.{Table, step, row_along}
 use Rattle.rbbi_model.specs.ValidTables.{IsWay}
 use Rattle.rbbi_model.specs.Marks.{marks_of}
+use Rattle.rbbi_model.proofs.Lists.{all_by_index, all_at}
 use Rattle.rbbi_dfa.specs.Automata.{IsDetermined}
 use Rattle.rbbi_dfa.specs.Partitions.{IsPartition, IsToldApart, IsStable, NeedsRows}
-use Rattle.rbbi_positions.proofs.Codes.{all_at}
-use Rattle.rbbi_dfa.proofs.Lists.{all_by_index, le_from_choices}
+use Rattle.rbbi_dfa.proofs.Lists.{le_from_choices}
 
 module _ (automaton : Table) (classes firsts : List ℕ) (determined : IsDetermined automaton) (partition : IsPartition automaton classes firsts) where
   class_stop : slice_index classes 0 ≡ 0

@@ -9,11 +9,11 @@ use Rattle.rbbi_model.specs.Tables.{Table, category_of, head_of, statuses_of, ro
 use Rattle.rbbi_model.specs.ValidTables.{IsWay, IsPlain}
 use Rattle.rbbi_model.specs.Marks.{Marks, no_marks, AreMarks, marks_of, HasSameMarks}
 use Rattle.rbbi_model.specs.Compiled.{IsLeast, IsRead, AreClasses, LeadsSomewhere, Needs}
+use Rattle.rbbi_model.proofs.Lists.{all_at}
 use Rattle.rbbi_dfa.specs.Automata.{LeadsToMarks}
 use Rattle.rbbi_dfa.specs.NeededRows.{HasRows, RowsAreNeeded, ValidTablesHaveRows}
 use Rattle.rbbi_dfa.proofs.LawfulLeaves.{each_set}
 use Rattle.rbbi_dfa.proofs.Grouping.{marks_by_parts, stop_along, alive}
-use Rattle.rbbi_positions.proofs.Codes.{all_at}
 use Rattle.rbbi_dfa.proofs.Lists.{le_from_choices}
 use Rattle.rbbi_dfa.proofs.WordRows.{WordOf, HasRowsOfWords, row_of-within, Needs-from_words, not_stop, rows_apart}
 use Rattle.rbbi_dfa.proofs.Compiling.{AreWithin-from_valid, first_zero}

@@ -9,8 +9,7 @@ use Rattle.rbbi_model.specs.Tables.{Table, CategoryRange, list_of, statuses_of}
 use Rattle.rbbi_model.specs.ValidTables.{IsValidList}
 use Rattle.rbbi_model.specs.Marks.{Marks}
 use Rattle.rbbi_model.proofs.Rising.{rising_tail, less_than_later}
-use Rattle.rbbi_positions.proofs.Codes.{all_at}
-use Rattle.rbbi_positions.proofs.Splits.{all_weaken}
+use Rattle.rbbi_model.proofs.Lists.{all_by_index, all_at, all_through}
 use Rattle.rbbi_dfa.specs.BitRows.{row_at}
 use Rattle.rbbi_dfa.specs.Automata.{IsDetermined}
 use Rattle.rbbi_dfa.specs.PositionRows.{PositionRows}
@@ -18,7 +17,7 @@ use Rattle.rbbi_dfa.specs.PositionAutomata.{Marked, Tagged, IsOfRules}
 use Rattle.rbbi_dfa.specs.Determinizing.{HasMark, AreTagsOf, IsDeterminized}
 use Rattle.rbbi_dfa.proofs.WalkReading.{same_rule, lawful_rule}
 use Rattle.rbbi_dfa.proofs.MarkLoops.{member_at}
-use Rattle.rbbi_dfa.proofs.Lists.{all_by_index, le_from_choices}
+use Rattle.rbbi_dfa.proofs.Lists.{le_from_choices}
 use Rattle.rbbi_dfa.proofs.Determined.{zero_alone, rule_within, each_row, each_reached}
 use Rattle.rbbi_dfa.proofs.Leading.{each_leads, are_fronted}
 
@@ -75,7 +74,7 @@ module _ (rules : List Rule) (lawful : AreLawful rules) where
           some = omega arith;
           few = few_tags (s ∷ statuses) tags.rising all;
           rising = tags.rising;
-          small = all_weaken HasNumber (λ status. status ≤ largest_tag) (s ∷ statuses) tag_small all;
+          small = all_through HasNumber (λ status. status ≤ largest_tag) tag_small (s ∷ statuses) all;
         })
         (λ none.
         let only = zero_alone (s ∷ statuses) tags.rising

@@ -10,9 +10,9 @@ use Rattle.rbbi_model.specs.Compiled.{AreToldApart, LeadsSomewhere, Needs}
 use Rattle.rbbi_dfa.specs.Partitions.{IsToldApart}
 use Rattle.rbbi_dfa.specs.Categories.{AreWithin}
 use Rattle.rbbi_model.proofs.SearchFacts.{row_along_append}
-use Rattle.rbbi_positions.proofs.Splits.{all-append}
+use Rattle.rbbi_model.proofs.Lists.{all_append, all_by_index}
 use Rattle.rbbi_dfa.proofs.Grouping.{stop_along}
-use Rattle.rbbi_dfa.proofs.Lists.{all_by_index, picked}
+use Rattle.rbbi_dfa.proofs.Lists.{picked}
 
 pub word_IsWay : (table : Table) (ranges : List CategoryRange) → AreWithin table.categories ranges → (w : List ℕ) → IsWay table (map (category_of ranges) w)
 word_IsWay table ranges within [] = tt
@@ -83,8 +83,8 @@ module _ (rules : List Rule) (table : Table) (ranges : List CategoryRange) (has 
               is_word = rest.1.0;
               marks = marks_of table (row_of table ranges (get_or words.0 i d ++ rest.0));
               others = marks_of table (row_of table ranges (get_or words.0 j d ++ rest.0));
-              are_marks = marks_after (get_or words.0 i d ++ rest.0) (all-append IsCodePoint (get_or words.0 i d) rest.0 this.0 rest.1.0);
-              are_others = marks_after (get_or words.0 j d ++ rest.0) (all-append IsCodePoint (get_or words.0 j d) rest.0 that.0 rest.1.0);
+              are_marks = marks_after (get_or words.0 i d ++ rest.0) (all_append IsCodePoint (get_or words.0 i d) rest.0 this.0 rest.1.0);
+              are_others = marks_after (get_or words.0 j d ++ rest.0) (all_append IsCodePoint (get_or words.0 j d) rest.0 that.0 rest.1.0);
               differ = λ e. way.2 (rest_marks (get_or words.0 i d) (row i) way.0 rest this.1 ∙ e ∙
                   sym (rest_marks (get_or words.0 j d) (row j) way.0 rest that.1));
             };
@@ -97,7 +97,7 @@ module _ (rules : List Rule) (table : Table) (ranges : List CategoryRange) (has 
               rest = rest.0;
               is_word = rest.1.0;
               marks = marks_of table (row_of table ranges (get_or words.0 i [] ++ rest.0));
-              are_marks = marks_after (get_or words.0 i [] ++ rest.0) (all-append IsCodePoint (get_or words.0 i []) rest.0 this.0 rest.1.0);
+              are_marks = marks_after (get_or words.0 i [] ++ rest.0) (all_append IsCodePoint (get_or words.0 i []) rest.0 this.0 rest.1.0);
               some = λ e. way.2 (rest_marks (get_or words.0 i []) (row i) way.0 rest this.1 ∙ e);
             });
       }
@@ -109,7 +109,7 @@ module _ (rules : List Rule) (table : Table) (ranges : List CategoryRange) (has 
 
     pub not_stop : (w : List ℕ) → IsWord w → LeadsSomewhere rules w → row_of table ranges w ≢ 0
     not_stop w h on z =
-        on.some (marks_are (w ++ on.rest) on.marks (all-append IsCodePoint w on.rest h on.is_word) on.are_marks
+        on.some (marks_are (w ++ on.rest) on.marks (all_append IsCodePoint w on.rest h on.is_word) on.are_marks
         ∙ ap (λ row. marks_of table row)
         (row_of-append w on.rest ∙ ap (λ row. row_along table row (map (category_of ranges) on.rest)) z
         ∙ stop_along table has.stop_leads (map (category_of ranges) on.rest) (word_IsWay table ranges has.within on.rest))
@@ -121,7 +121,7 @@ module _ (rules : List Rule) (table : Table) (ranges : List CategoryRange) (has 
       map (category_of ranges) apart.rest,
       word_IsWay table ranges has.within apart.rest,
       λ e. apart.differ
-          (marks_are (this ++ apart.rest) apart.marks (all-append IsCodePoint this apart.rest h apart.is_word) apart.are_marks
+          (marks_are (this ++ apart.rest) apart.marks (all_append IsCodePoint this apart.rest h apart.is_word) apart.are_marks
           ∙ ap (λ row. marks_of table row) (row_of-append this apart.rest) ∙ e ∙ ap (λ row. marks_of table row) (sym (row_of-append that apart.rest))
-          ∙ sym (marks_are (that ++ apart.rest) apart.others (all-append IsCodePoint that apart.rest k apart.is_word) apart.are_others)),
+          ∙ sym (marks_are (that ++ apart.rest) apart.others (all_append IsCodePoint that apart.rest k apart.is_word) apart.are_others)),
     )

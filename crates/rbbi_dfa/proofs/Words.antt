@@ -15,9 +15,9 @@ use Rattle.rbbi_dfa.specs.PositionRows.{PositionRows}
 use Rattle.rbbi_dfa.specs.PositionAutomata.{IsOfRules}
 use Rattle.rbbi_dfa.specs.PositionAutomata.{Marked, LookAhead}
 use Rattle.rbbi_dfa.specs.Determinizing.{HasMark, ComesBy, IsStep, AreFollowers, Completes, IsReached, FromFirst, FromSet, IsSome, IsCell, IsDeterminized}
-use Rattle.rbbi_positions.proofs.Splits.{all-append}
 use Rattle.rbbi_dfa.proofs.Reading.{ReadBy, Comes, reads_next, next_reads, read_ends, ends_read, ends_longer, ends_shorter, some_push}
 use Rattle.rbbi_model.proofs.RulesCover.{ends_lie}
+use Rattle.rbbi_model.proofs.Lists.{all_append}
 
 module _ (rules : List Rule) where
   longer : (w : List ℕ) (c e number : ℕ) → LookAheadEndsAt rules w 0 e number → LookAheadEndsAt rules (w ++ c ∷ []) 0 e number
@@ -281,7 +281,7 @@ module _ (rules : List Rule) (lawful : AreLawful rules) (ranges : List CategoryR
       let before = reached_word earlier reached (follows.0, follows.1) in
       record {
         w = before.w ++ c ∷ [];
-        is_word = all-append IsCodePoint before.w (c ∷ []) before.is_word (used.1, tt);
+        is_word = all_append IsCodePoint before.w (c ∷ []) before.is_word (used.1, tt);
         some = some_push before.w c;
         set_of = set_of_step before.w candidates set c (later_candidates before.w earlier candidates before.some before.set_of followers) used.1
             (subst (λ k. IsStep rows candidates k set) (sym used.2) next)

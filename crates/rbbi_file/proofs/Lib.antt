@@ -1,4 +1,3 @@
-pub mod Members
 pub mod Sizes
 pub mod Valid
 pub mod OneTable

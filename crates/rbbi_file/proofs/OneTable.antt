@@ -5,8 +5,8 @@ use Rattle.std.specs.List.{AllByRecursion, flat_map}
 use Rattle.std.proofs.lemmas.List.{take-append-drop, length-take-le, nil_from_length}
 use Rattle.rbbi_model.specs.Tables.{Table, CategoryRange, RowHead}
 use Rattle.rbbi_model.specs.TableFile.{u16, u32, magic, range_bytes, list_bytes, head_bytes, row_bytes, spelling}
+use Rattle.rbbi_model.proofs.Lists.{all_take, all_drop}
 use Rattle.rbbi_file.specs.Fitting.{FitsRange, FitsList, FitsHead, Spell}
-use Rattle.rbbi_file.proofs.Members.{all_taken, all_dropped}
 
 -- The same bytes in front are the same thing, and what follows is the same.
 pub split_u16 : (a b : ℕ) (x y : List ℕ) → a < 2 ^ 16 → b < 2 ^ 16 → u16 a ++ x ≡ u16 b ++ y → (a ≡ b) × (x ≡ y)
@@ -73,10 +73,10 @@ split_rows w (a ∷ rows) (b ∷ rows') cells cells' x y long whole whole' heads
     (sym (regroup (head_bytes a) (flat_map u16 (take w cells)) (row_bytes w rows (drop w cells)) x) ∙ same
     ∙ regroup (head_bytes b) (flat_map u16 (take w cells')) (row_bytes w rows' (drop w cells')) y) in
     let here = split_all u16 P split_u16 (take w cells) (take w cells') (row_bytes w rows (drop w cells) ++ x) (row_bytes w rows' (drop w cells') ++ y)
-    (length-take-le w cells enough ∙ sym (length-take-le w cells' enough')) (all_taken P w cells small) (all_taken P w cells' small') head.1 in
+    (length-take-le w cells enough ∙ sym (length-take-le w cells' enough')) (all_take P w cells small) (all_take P w cells' small') head.1 in
     let rest = split_rows w rows rows' (drop w cells) (drop w cells') x y many
-    (omega (arith, whole, length-drop w cells)) (omega (arith, whole', length-drop w cells')) heads.1 heads'.1 (all_dropped P w cells small)
-    (all_dropped P w cells' small') here.1 in (
+    (omega (arith, whole, length-drop w cells)) (omega (arith, whole', length-drop w cells')) heads.1 heads'.1 (all_drop P w cells small)
+    (all_drop P w cells' small') here.1 in (
       λ i. head.0 i ∷ rest.0 i,
       sym (take-append-drop w cells) ∙ (λ i. here.0 i ++ rest.1 i) ∙ take-append-drop w cells',
       rest.2,

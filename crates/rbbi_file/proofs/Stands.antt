@@ -5,10 +5,10 @@ use Rattle.std.specs.List.{AllByRecursion, flat_map}
 use Rattle.std.proofs.lemmas.List.{flat_map_more, take-append-le, drop-append-le, take_all, nil_from_length}
 use Rattle.rbbi_model.specs.Tables.{RowHead}
 use Rattle.rbbi_model.specs.TableFile.{u16, list_bytes, head_bytes, row_bytes}
+use Rattle.rbbi_model.proofs.Lists.{all_append}
 use Rattle.rbbi_file.specs.Lengths.{u16_at, lists_end, rows_size}
 use Rattle.rbbi_file.specs.Fitting.{FitsList, FitsHead}
 use Rattle.rbbi_file.specs.Reading.{Stand, AreListsAt, AreCellsAt, AreRowsAt}
-use Rattle.rbbi_file.proofs.Members.{all_joined}
 use Rattle.rbbi_file.proofs.Ends.{lists_go_on}
 
 -- two parts, one behind the other
@@ -37,7 +37,7 @@ lists_more bytes lists statuses at end next are stand fits = record {
   stand =
       stand_both bytes (flat_map list_bytes lists) (list_bytes statuses) at end next are.stand stand
       ∙ ap (λ (l : List ℕ). l ++ drop next bytes) (flat_map_more list_bytes [] lists statuses);
-  fit = all_joined FitsList lists (statuses ∷ []) are.fit (fits, tt);
+  fit = all_append FitsList lists (statuses ∷ []) are.fit (fits, tt);
 }
 
 -- the bytes of one more row
@@ -80,6 +80,6 @@ rows_more bytes w i rows head cells cells' at are stand fits more =
           ∙ ap (λ (l : List ℕ). l ++ drop (at + rows_size (i + 1) w) bytes) (sym bytes_are);
       many = long;
       whole = cells_long;
-      fit = all_joined FitsHead rows (head ∷ []) are.fit (fits, tt);
-      fit_cells = subst (AllByRecursion (λ cell. cell < 2 ^ 16)) (sym more.are) (all_joined (λ cell. cell < 2 ^ 16) cells added are.fit_cells more.fit);
+      fit = all_append FitsHead rows (head ∷ []) are.fit (fits, tt);
+      fit_cells = subst (AllByRecursion (λ cell. cell < 2 ^ 16)) (sym more.are) (all_append (λ cell. cell < 2 ^ 16) cells added are.fit_cells more.fit);
     }

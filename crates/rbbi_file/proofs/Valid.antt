@@ -7,12 +7,12 @@ use Rattle.rbbi_model.specs.Tables.{Table, empty_head}
 use Rattle.rbbi_model.specs.ValidTables.{IsWithin, IsValidList, IsValidTable}
 use Rattle.rbbi_model.specs.TableFile.{magic, counts, range_bytes, list_bytes, row_bytes, spelling}
 use Rattle.rbbi_text.specs.Bytes.{most_bytes}
+use Rattle.rbbi_model.proofs.Lists.{all_by_index, all_through}
 use Rattle.rbbi_file.specs.Lengths.{rows_size}
 use Rattle.rbbi_file.specs.Fitting.{FitsRange, FitsList, FitsHead, FitsBytes}
 use Rattle.rbbi_table.specs.Parts.{HasFittingParts}
 use Rattle.rbbi_table.proofs.RangeLemmas.{few_ranges}
 use Rattle.rbbi_table.proofs.RowLemmas.{steps_within}
-use Rattle.rbbi_file.proofs.Members.{all_so, all_from_places}
 use Rattle.rbbi_file.proofs.Sizes.{length_ranges, length_lists, length_rows}
 
 -- each next row is one of the rows
@@ -34,18 +34,18 @@ fits_valid table valid = record {
   list_count = omega (arith, valid.lists.few);
   row_count = omega (arith, valid.rows.few);
   ranges =
-      all_so (IsWithin table.categories) FitsRange
+      all_through (IsWithin table.categories) FitsRange
       (λ range within. (omega (arith, within.0), omega (arith, within.1, valid.ranges.few_categories)))
       table.ranges valid.ranges.within;
   lists =
-      all_so IsValidList FitsList
-      (λ statuses is. (omega (arith, is.few), all_so _ _ (λ status small. omega (arith, small)) statuses is.small))
+      all_through IsValidList FitsList
+      (λ statuses is. (omega (arith, is.few), all_through _ _ (λ status small. omega (arith, small)) statuses is.small))
       table.lists valid.lists.each;
   rows =
-      all_from_places FitsHead empty_head table.rows (λ i short.
+      all_by_index FitsHead empty_head table.rows (λ i short.
       let is = valid.rows.each i short in
       (omega (arith, is.accept, valid.rows.few_slashes), mask_below _ table.slashes valid.rows.few_slashes is.fronts, omega (arith, is.list, valid.lists.few)));
-  cells = all_from_places (λ cell. cell < 2 ^ 16) 0 table.cells (cell_below table valid);
+  cells = all_by_index (λ cell. cell < 2 ^ 16) 0 table.cells (cell_below table valid);
 }
 
 -- and its parts fit each other

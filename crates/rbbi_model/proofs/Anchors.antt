@@ -10,7 +10,7 @@ use Rattle.rbbi_model.proofs.Categories.{category_within}
 use Rattle.std.specs.Prelude.{slice_index}
 
 module _ (table : Table) (valid : IsValidTable table) (x : List ℕ) (p : ℕ) where
-  safe_here : IsTrue (is_safe table (category_at table x p) (category_at table x (p + 1))) ↔ IsSafePair table (category_at table x p)
+  pub safe_here : IsTrue (is_safe table (category_at table x p) (category_at table x (p + 1))) ↔ IsSafePair table (category_at table x p)
       (category_at table x (p + 1))
   safe_here =
       valid.safe.exactly (category_at table x p) (category_at table x (p + 1))

@@ -1,4 +1,5 @@
 pub mod Rising
+pub mod Lists
 pub mod Uniqueness
 pub mod Unchained
 pub mod Worked

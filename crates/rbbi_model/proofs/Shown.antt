@@ -36,7 +36,7 @@ less_before (u ∷ us) a vs k rising here =
     (λ later. less_before us a vs k (rising_tail u (us ++ a ∷ vs) rising) later)
     here
 
-rising_left : (us vs : List ℕ) → IsRising (us ++ vs) → IsRising us
+pub rising_left : (us vs : List ℕ) → IsRising (us ++ vs) → IsRising us
 rising_left [] vs rising = tt
 rising_left (u ∷ []) vs rising = tt
 rising_left (u ∷ w ∷ us) vs rising = (rising.0, rising_left (w ∷ us) vs rising.1)
@@ -121,7 +121,7 @@ member_of_kept place k (b ∷ bs) here =
 
 -- entries by their places
 
-places_of_entries : (table : Table) (entries : List Entry) → places (map (boundary_of table) entries) ≡ map (λ entry. entry.at) entries
+pub places_of_entries : (table : Table) (entries : List Entry) → places (map (boundary_of table) entries) ≡ map (λ entry. entry.at) entries
 places_of_entries table [] = refl
 places_of_entries table (entry ∷ entries) = ap (λ ks. entry.at ∷ ks) (places_of_entries table entries)
 

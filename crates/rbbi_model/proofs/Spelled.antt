@@ -10,6 +10,7 @@ use Rattle.rbbi_model.specs.Words.{last_code_point}
 use Rattle.rbbi_model.specs.Rules.{largest_tag}
 use Rattle.rbbi_model.specs.Tables.{Table, CategoryRange, RowHead, empty_head}
 use Rattle.rbbi_model.specs.ValidTables.{AreApart, IsWithin, IsValidList, IsValidTable}
+use Rattle.rbbi_model.proofs.Lists.{all_take, all_drop, all_by_index}
 use Rattle.rbbi_model.specs.TableFile.{little_endian, u16, u32, magic, counts, range_bytes, list_bytes, head_bytes, row_bytes, spelling}
 
 -- two lists that begin with parts of one length have the same parts
@@ -102,16 +103,6 @@ head_tells a b u v small small' same =
     let list = number_tells 2 a.list b.list u v small.2 small'.2 fronts.1 in
     (λ i. record { accept = accept.0 i; fronts = fronts.0 i; list = list.0 i }, list.1)
 
-all_take : {X : Type 0} (P : X → Type 0) (n : ℕ) (xs : List X) → AllByRecursion P xs → AllByRecursion P (take n xs)
-all_take P zero xs all = tt
-all_take P (suc n) [] all = tt
-all_take P (suc n) (x ∷ xs) all = (all.0, all_take P n xs all.1)
-
-all_drop : {X : Type 0} (P : X → Type 0) (n : ℕ) (xs : List X) → AllByRecursion P xs → AllByRecursion P (drop n xs)
-all_drop P zero xs all = all
-all_drop P (suc n) [] all = tt
-all_drop P (suc n) (x ∷ xs) all = all_drop P n xs all.1
-
 rows_tell : (width : ℕ) (rows others : List RowHead) (cells those : List ℕ) (u v : List ℕ) →
     length rows ≡ length others → length cells ≡ length rows * width → length those ≡ length others * width → AllByRecursion SmallHead rows →
     AllByRecursion SmallHead others → AllByRecursion (Fits 2) cells → AllByRecursion (Fits 2) those →
@@ -144,10 +135,6 @@ rows_tell width (head ∷ rows) (other ∷ others) cells those u v long many man
     )
 
 -- what is valid fits its width
-
-all_by_index : {X : Type 0} (P : X → Type 0) (d : X) (xs : List X) → ((i : ℕ) → i < length xs → P (get_or xs i d)) → AllByRecursion P xs
-all_by_index P d [] each = tt
-all_by_index P d (x ∷ xs) each = (each 0 (omega arith), all_by_index P d xs (λ i short. each (suc i) (omega (arith, short))))
 
 ranges_fit : (categories : ℕ) (ranges : List CategoryRange) → categories ≤ 255 → AllByRecursion (IsWithin categories) ranges → AllByRecursion SmallRange ranges
 unfolding SmallRange Fits

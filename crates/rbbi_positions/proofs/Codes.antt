@@ -21,11 +21,6 @@ all_get P [] i x is h = absurd (cc)
 all_get P (y ∷ xs) zero x is h = (let same : y ≡ x = cc in subst P same h.0)
 all_get P (y ∷ xs) (suc i) x is h = all_get P xs i x is h.1
 
-pub all_at : {X : Type 0} (P : X → Type 0) (xs : List X) (i : ℕ) (d : X) → i < length xs → AllByRecursion P xs → P (get_or xs i d)
-all_at P [] i d below h = absurd (omega (arith, below))
-all_at P (y ∷ xs) zero d below h = h.0
-all_at P (y ∷ xs) (suc i) d below h = all_at P xs i d (omega (arith, below)) h.1
-
 -- a range of the category starts at the code point
 pub record IsStart (ranges : List CategoryRange) (category code : ℕ) : Type 0 where
   pub place : ℕ

@@ -5,7 +5,8 @@ use Rattle.std.specs.List.{AllByRecursion}
 use Rattle.rbbi_model.specs.Spelling.{Repetition, Star, Plus, Quest, Tree, Leaf, Empty, Never, Then, Either, Repeat, Allows, joined}
 use Rattle.rbbi_model.specs.Rules.{leaf_count}
 use Rattle.rbbi_model.specs.LeafSets.{SpellsPositions}
-use Rattle.rbbi_positions.proofs.Splits.{side_of, piece_of, joined-append, all-append, all_first, all_second}
+use Rattle.rbbi_model.proofs.Lists.{all_append, all_left, all_right}
+use Rattle.rbbi_positions.proofs.Splits.{side_of, piece_of, joined-append}
 use Rattle.rbbi_positions.proofs.Spans.{middle_in_span, apart}
 
 -- the lists that are spelled, of which two with a position in common may be exchanged behind it
@@ -61,13 +62,13 @@ repeat_exchange repetition Part part before after sooner later x (pieces, allowe
     let b = piece_of pieces' sooner later x e' in
     let those : AllByRecursion Part (a.sooner ++ (a.front ++ x ∷ a.back) ∷ a.later) = subst (AllByRecursion Part) a.pieces_are each in
     let these : AllByRecursion Part (b.sooner ++ (b.front ++ x ∷ b.back) ∷ b.later) = subst (AllByRecursion Part) b.pieces_are each' in
-    let behind = all_second Part a.sooner ((a.front ++ x ∷ a.back) ∷ a.later) those in
-    let behind' = all_second Part b.sooner ((b.front ++ x ∷ b.back) ∷ b.later) these in
+    let behind = all_right Part a.sooner ((a.front ++ x ∷ a.back) ∷ a.later) those in
+    let behind' = all_right Part b.sooner ((b.front ++ x ∷ b.back) ∷ b.later) these in
     let new : List ℕ = a.front ++ x ∷ b.back in (
       a.sooner ++ new ∷ b.later,
       allowed_middle repetition a.sooner a.later b.sooner b.later (a.front ++ x ∷ a.back) (b.front ++ x ∷ b.back) new
           (subst (Allows repetition) a.pieces_are allowed) (subst (Allows repetition) b.pieces_are allowed'),
-      all-append Part a.sooner (new ∷ b.later) (all_first Part a.sooner ((a.front ++ x ∷ a.back) ∷ a.later) those)
+      all_append Part a.sooner (new ∷ b.later) (all_left Part a.sooner ((a.front ++ x ∷ a.back) ∷ a.later) those)
           (part a.front a.back b.front b.back x behind.0 behind'.0, behind'.1),
       joins a.sooner b.later a.front b.back before later x a.before_is b.after_is,
     )

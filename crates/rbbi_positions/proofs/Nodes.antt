@@ -6,8 +6,9 @@ use Rattle.std.proofs.lemmas.List.{append-nil}
 use Rattle.rbbi_model.specs.Spelling.{Repetition, Star, Plus, Quest, Tree, Leaf, Empty, Never, Then, Either, Repeat, Allows, joined}
 use Rattle.rbbi_model.specs.Rules.{leaf_count, IsLawfulTree}
 use Rattle.rbbi_model.specs.LeafSets.{SpellsPositions}
+use Rattle.rbbi_model.proofs.Lists.{all_right}
 use Rattle.rbbi_positions.proofs.Exchanges.{Both}
-use Rattle.rbbi_positions.proofs.Splits.{side_of, piece_of, all_second}
+use Rattle.rbbi_positions.proofs.Splits.{side_of, piece_of}
 
 -- the lists that are spelled
 abbrev pub Lists : Type 1
@@ -152,7 +153,7 @@ repeat_begins repetition Part position = (there, λ (others, h). (others, one_pi
         let at = piece_of pieces [] others position e in
         let none = no_parts (joined at.sooner) at.front at.before_is in
         let inner : Part (at.front ++ position ∷ at.back) =
-        (all_second Part at.sooner ((at.front ++ position ∷ at.back) ∷ at.later) (subst (AllByRecursion Part) at.pieces_are each)).0 in
+        (all_right Part at.sooner ((at.front ++ position ∷ at.back) ∷ at.later) (subst (AllByRecursion Part) at.pieces_are each)).0 in
         (at.back, subst (λ (l : List ℕ). Part (l ++ position ∷ at.back)) none.1 inner)
 
 pub repeat_ends : (repetition : Repetition) (Part : Lists) (position : ℕ) → Ends (Repeated repetition Part) position ↔ Ends Part position
@@ -163,7 +164,7 @@ repeat_ends repetition Part position = (there, λ (others, h). (others, one_piec
         let at = piece_of pieces others [] position e in
         let none = no_parts at.back (joined at.later) at.after_is in
         let inner : Part (at.front ++ position ∷ at.back) =
-        (all_second Part at.sooner ((at.front ++ position ∷ at.back) ∷ at.later) (subst (AllByRecursion Part) at.pieces_are each)).0 in
+        (all_right Part at.sooner ((at.front ++ position ∷ at.back) ∷ at.later) (subst (AllByRecursion Part) at.pieces_are each)).0 in
         (at.front, subst (λ (l : List ℕ). Part (at.front ++ position ∷ l)) none.0 inner)
 
 -- where a position and the next stand in joined pieces
@@ -172,7 +173,7 @@ neighbours_there : (Part : Lists) (position next : ℕ) (before after : List ℕ
     Neighbours Part position next ⊎ (Ends Part position × Begins Part next × (2 ≤ length pieces))
 neighbours_there Part position next before after pieces each e =
     let at = piece_of pieces before (next ∷ after) position e in
-    let behind = all_second Part at.sooner ((at.front ++ position ∷ at.back) ∷ at.later) (subst (AllByRecursion Part) at.pieces_are each) in
+    let behind = all_right Part at.sooner ((at.front ++ position ∷ at.back) ∷ at.later) (subst (AllByRecursion Part) at.pieces_are each) in
     across at.front at.back at.later at.sooner behind.0 behind.1 at.after_is (ap length at.pieces_are
     ∙ length-append at.sooner ((at.front ++ position ∷ at.back) ∷ at.later))
   where
@@ -184,7 +185,7 @@ neighbours_there Part position next before after pieces each e =
         let at = piece_of later [] after next e' in
         let none = no_parts (joined at.sooner) at.front at.before_is in
         let inner : Part (at.front ++ next ∷ at.back) =
-        (all_second Part at.sooner ((at.front ++ next ∷ at.back) ∷ at.later) (subst (AllByRecursion Part) at.pieces_are rest)).0 in
+        (all_right Part at.sooner ((at.front ++ next ∷ at.back) ∷ at.later) (subst (AllByRecursion Part) at.pieces_are rest)).0 in
         inr (
           (front, here),
           (at.back, subst (λ (l : List ℕ). Part (l ++ next ∷ at.back)) none.1 inner),

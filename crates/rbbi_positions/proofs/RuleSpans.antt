@@ -8,7 +8,7 @@ use Rattle.rbbi_model.specs.Spelling.{Tree}
 use Rattle.rbbi_model.specs.Rules.{Rule, leaf_count, leaves_of}
 use Rattle.rbbi_model.specs.Chains.{IsRule}
 use Rattle.rbbi_model.specs.LeafSets.{SpellsPositions, RuleSpellsPositions, first_position}
-use Rattle.rbbi_positions.proofs.Splits.{all-append, all_weaken, all_second}
+use Rattle.rbbi_model.proofs.Lists.{all_append, all_right, all_through}
 use Rattle.rbbi_positions.proofs.Spans.{InSpan, sooner_span, later_span, in_span}
 use Rattle.rbbi_positions.proofs.Exchanges.{Spelled}
 
@@ -44,13 +44,13 @@ one_rule rules this that x rule rule' is is' h g =
 spelled_in_span : (front : Tree) (rest : Option Tree) (first : ℕ) (positions : List ℕ) → Spelled front rest first positions →
     AllByRecursion (InSpan first (leaf_count front + option_map_or leaf_count rest 0)) positions
 spelled_in_span front None first positions h =
-    all_weaken (InSpan first (leaf_count front)) (InSpan first (leaf_count front + 0)) positions (sooner_span first (leaf_count front) 0)
+    all_through (InSpan first (leaf_count front)) (InSpan first (leaf_count front + 0)) (sooner_span first (leaf_count front) 0) positions
     (in_span front first positions h)
 spelled_in_span front (Some rest) first positions (u, v, left, right, e) =
     let Within : ℕ → Type 0 = InSpan first (leaf_count front + leaf_count rest) in
-    subst (AllByRecursion Within) (sym e) (all-append Within u v
-    (all_weaken (InSpan first (leaf_count front)) Within u (sooner_span first (leaf_count front) (leaf_count rest)) (in_span front first u left))
-    (all_weaken (InSpan (first + leaf_count front) (leaf_count rest)) Within v (later_span first (leaf_count front) (leaf_count rest))
+    subst (AllByRecursion Within) (sym e) (all_append Within u v
+    (all_through (InSpan first (leaf_count front)) Within (sooner_span first (leaf_count front) (leaf_count rest)) u (in_span front first u left))
+    (all_through (InSpan (first + leaf_count front) (leaf_count rest)) Within (later_span first (leaf_count front) (leaf_count rest)) v
     (in_span rest (first + leaf_count front) v right)))
 
 pub rule_in_span : (rule : Rule) (first : ℕ) (positions : List ℕ) → RuleSpellsPositions rule first positions →
@@ -59,10 +59,10 @@ rule_in_span rule first positions h = spelled_in_span rule.front rule.rest first
 
 pub rule_middle : (rule : Rule) (first : ℕ) (before after : List ℕ) (x : ℕ) → RuleSpellsPositions rule first (before ++ x ∷ after) →
     InSpan first (leaves_of rule) x
-rule_middle rule first before after x h = (all_second (InSpan first (leaves_of rule)) before (x ∷ after) (rule_in_span rule first (before ++ x ∷ after) h)).0
+rule_middle rule first before after x h = (all_right (InSpan first (leaves_of rule)) before (x ∷ after) (rule_in_span rule first (before ++ x ∷ after) h)).0
 
 pub front_middle : (rule : Rule) (first : ℕ) (before after : List ℕ) (x : ℕ) → SpellsPositions rule.front first (before ++ x ∷ after) →
     InSpan first (leaves_of rule) x
 front_middle rule first before after x h =
     sooner_span first (leaf_count rule.front) (option_map_or leaf_count rule.rest 0) x
-    (all_second (InSpan first (leaf_count rule.front)) before (x ∷ after) (in_span rule.front first (before ++ x ∷ after) h)).0
+    (all_right (InSpan first (leaf_count rule.front)) before (x ∷ after) (in_span rule.front first (before ++ x ∷ after) h)).0

@@ -1,6 +1,5 @@
 -- Where a member of joined lists lies.
 use Rattle.std.proofs.Common.{◌≡◌, ℕ, ◌⊎◌, List, [], ◌∷◌, ◌++◌, refl, ap, sym, ◌∙◌, inl, inr, append_assoc}
-use Rattle.std.specs.List.{AllByRecursion}
 use Rattle.rbbi_model.specs.Spelling.{joined}
 
 -- a member of two joined lists lies in the first or in the second
@@ -73,20 +72,3 @@ piece_of (piece ∷ pieces) before after x e =
 pub joined-append : (these those : List (List ℕ)) → joined (these ++ those) ≡ joined these ++ joined those
 joined-append [] those = refl
 joined-append (piece ∷ these) those = ap (λ l. piece ++ l) (joined-append these those) ∙ sym (append_assoc piece (joined these) (joined those))
-
--- what holds of each member holds of the members of the parts
-pub all-append : {X : Type 0} (P : X → Type 0) (xs ys : List X) → AllByRecursion P xs → AllByRecursion P ys → AllByRecursion P (xs ++ ys)
-all-append P [] ys h g = g
-all-append P (x ∷ xs) ys h g = (h.0, all-append P xs ys h.1 g)
-
-pub all_first : {X : Type 0} (P : X → Type 0) (xs ys : List X) → AllByRecursion P (xs ++ ys) → AllByRecursion P xs
-all_first P [] ys h = tt
-all_first P (x ∷ xs) ys h = (h.0, all_first P xs ys h.1)
-
-pub all_second : {X : Type 0} (P : X → Type 0) (xs ys : List X) → AllByRecursion P (xs ++ ys) → AllByRecursion P ys
-all_second P [] ys h = h
-all_second P (x ∷ xs) ys h = all_second P xs ys h.1
-
-pub all_weaken : {X : Type 0} (P Q : X → Type 0) (xs : List X) → ((x : X) → P x → Q x) → AllByRecursion P xs → AllByRecursion Q xs
-all_weaken P Q [] w h = tt
-all_weaken P Q (x ∷ xs) w h = (w x h.0, all_weaken P Q xs w h.1)

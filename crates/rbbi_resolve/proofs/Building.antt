@@ -9,6 +9,7 @@ use Rattle.std.proofs.lemmas.Slice.Zip.{AllZip-long}
 use Rattle.rbbi_model.specs.Ranges.{Range}
 use Rattle.rbbi_model.specs.SetTrees as model
 use Rattle.rbbi_model.specs.Spelling as spelling
+use Rattle.rbbi_model.proofs.Lists.{all_append}
 use Rattle.rbbi_props.specs.Rows.{File}
 use Rattle.rbbi_tree.specs.Trees.{StatementTree}
 use Rattle.rbbi_tree.specs.declared.syntax.Quant.{Quant}
@@ -22,7 +23,6 @@ use Rattle.rbbi_resolve.specs.RuleLists.{IsLeafSet}
 use Rattle.rbbi_resolve.specs.OwnLeaves.{IsSetOfLeaf, AddsLeaves, leaves_of_expr}
 use Rattle.rbbi_resolve.specs.Files.{context_at}
 use Rattle.rbbi_resolve.specs.Builders.{StandFrom, HasLeafSets, IsPart, IsBuilt, IsBuilder, GoesOn}
-use Rattle.rbbi_resolve.proofs.Sound.{all_append}
 
 -- one of several that follow one another, and a choice of several
 abbrev pub sequence_meaning : List Meaning → Meaning

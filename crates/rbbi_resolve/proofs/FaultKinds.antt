@@ -3,6 +3,7 @@ use Rattle.std.proofs.Common.{◌≡◌, ℕ, zero, suc, Bool, true, false, Opti
 use Rattle.std.proofs.Common.{bytes_eq, codes, encode_utf8_all, subst, arith}
 use Rattle.std.specs.Option.{option_or}
 use Rattle.std.specs.List.{AllByRecursion, Contains}
+use Rattle.rbbi_model.proofs.Lists.{all_append}
 use Rattle.rbbi_tree.specs.Trees.{ExprTree, StatementTree, nothing, control, assign, rule}
 use Rattle.rbbi_resolve.specs.declared.fault.Fault.{Fault}
 use Rattle.rbbi_resolve.specs.Meanings.{spells_empty}
@@ -15,7 +16,6 @@ use Rattle.rbbi_resolve.specs.Files.{RuleMeaning, context_after, is_supported, i
 use Rattle.rbbi_resolve.specs.Files.{faults_from}
 use Rattle.rbbi_resolve.specs.Counts.{counted, fault_at, no_rules_at, too_many_rules_at, too_many_leaves_at, too_many_slashes_at, too_tall_at}
 use Rattle.rbbi_resolve.specs.Refusals.{IsKind}
-use Rattle.rbbi_resolve.proofs.Sound.{all_append}
 
 abbrev OfKind : Fault → Type 0
 OfKind f = IsKind f.number

@@ -11,6 +11,7 @@ use Rattle.rbbi_model.specs.Spelling as spelling
 use Rattle.rbbi_model.specs.Spelling.{Spells, joined, Star, Plus, Quest}
 use Rattle.rbbi_model.specs.Rules as model
 use Rattle.rbbi_model.specs.Rules.{IsLawfulTree, IsLawfulRule, AreLawful, look_aheads}
+use Rattle.rbbi_model.proofs.Lists.{all_append}
 use Rattle.rbbi_props.specs.Rows.{File}
 use Rattle.rbbi_tree.specs.Trees.{ExprTree, StatementTree, nothing, control, assign, rule}
 use Rattle.rbbi_tree.specs.WellMade.{AreWellMade, IsWellMade, IsWellMadeRest}
@@ -30,7 +31,7 @@ use Rattle.rbbi_resolve.specs.RuleLists.{IsLeafSet}
 use Rattle.rbbi_resolve.specs.Builders.{HasLeafSets}
 use Rattle.rbbi_resolve.specs.Soundness.{IsFull, AreSound}
 use Rattle.rbbi_resolve.proofs.Counted.{passing_one, passing_leaves, passing_slashes}
-use Rattle.rbbi_resolve.proofs.Sound.{first_empty, second_empty, all_append, not_where, full_expr}
+use Rattle.rbbi_resolve.proofs.Sound.{first_empty, second_empty, not_where, full_expr}
 use Rattle.rbbi_resolve.proofs.SoundFiles.{sound_after}
 use Rattle.rbbi_resolve.proofs.Steps.{meant}
 

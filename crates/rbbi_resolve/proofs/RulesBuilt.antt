@@ -7,6 +7,7 @@ use Rattle.std.proofs.lemmas.List.Elements.{Contains-append_left, Contains-appen
 use Rattle.std.proofs.lemmas.Bool.{cases_lt}
 use Rattle.std.proofs.lemmas.List.{append_assoc, append-nil, drop_all}
 use Rattle.rbbi_model.specs.Ranges.{Range}
+use Rattle.rbbi_model.proofs.Lists.{all_append}
 use Rattle.rbbi_props.specs.Rows.{File}
 use Rattle.rbbi_tree.specs.Trees.{StatementTree}
 use Rattle.rbbi_resolve.specs.declared.rules.Tree.{Tree}
@@ -22,7 +23,6 @@ use Rattle.rbbi_resolve.specs.Outcomes.{BothStand, IsRuleOf}
 use Rattle.rbbi_resolve.specs.RulesSoFar.{IsRest, IsRestBuilt, IsRuleBuilt, AreRulesTo, AreAllRules}
 use Rattle.rbbi_resolve.proofs.Steps.{left_here, context_next, rules_next}
 use Rattle.rbbi_resolve.proofs.Building.{part_more}
-use Rattle.rbbi_resolve.proofs.Sound.{all_append}
 use Rattle.rbbi_resolve.proofs.Lawful.{HasRuleSets}
 
 module _ (files : List File) where

@@ -2,7 +2,6 @@
 use Rattle.std.proofs.Common.{◌≡◌, ℕ, Bool, true, false, nat_lt, nat_le, is_some, is_none, if◌then◌else◌, Option, Some, None}
 use Rattle.std.proofs.Common.{List, [], ◌∷◌, ◌++◌, encode_utf8_all, sym, refl, ap, ◌∙◌}
 use Rattle.std.proofs.Common.{arith}
-use Rattle.std.specs.List.{AllByRecursion}
 use Rattle.std.specs.Option.{option_map}
 use Rattle.std.proofs.lemmas.Bool.Decides.{nat_tests}
 use Rattle.rbbi_model.specs.SetTrees as model
@@ -35,10 +34,6 @@ first_empty (x ∷ a) b e = absurd cc
 pub second_empty : {A : Type 0} (a b : List A) → a ++ b ≡ [] → b ≡ []
 second_empty [] b e = e
 second_empty (x ∷ a) b e = absurd cc
-
-pub all_append : {A : Type 0} (P : A → Type 0) (a b : List A) → AllByRecursion P a → AllByRecursion P b → AllByRecursion P (a ++ b)
-all_append P [] b x y = y
-all_append P (e ∷ a) b x y = (x.0, all_append P a b x.1 y)
 
 pub not_where : (b : Bool) (place number : ℕ) → faults_where b place number ≡ [] → b ≡ false
 not_where false place number e = refl

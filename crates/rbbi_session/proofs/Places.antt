@@ -4,7 +4,7 @@ use Rattle.std.specs.List.{AllByRecursion}
 use Rattle.std.proofs.lemmas.Bool.{cond-true, cond-false, eq-eqb, ne_eqb}
 use Rattle.rbbi_model.specs.Boundaries.{Boundary}
 use Rattle.rbbi_model.specs.Answers.{first_place, last_place, statuses_at}
-pub use Rattle.rbbi_cache.proofs.Lists.{all_through}
+pub use Rattle.rbbi_model.proofs.Lists.{all_through}
 
 -- where the test fails at the first boundaries, it holds first behind them
 pub first_skips : (test : ℕ → Bool) (done rest : List Boundary) → AllByRecursion (λ b. test b.at ≡ false) done →

@@ -10,6 +10,7 @@ use Rattle.std.proofs.lemmas.List.{get_or_append_left, get_or-drop, get_or-take,
 use Rattle.rbbi_model.specs.Words.{IsText, most_characters}
 use Rattle.rbbi_model.specs.Spelling.{joined}
 use Rattle.rbbi_model.specs.Scripts.{splice}
+use Rattle.rbbi_model.proofs.Lists.{all_append}
 use Rattle.rbbi_text.specs.Cuts.{starts_from, IsFilled, AreFilled, ArePieces, AreCut, AreSoFar, HaveRoom, IsIn, moved, pieces_with, starts_with_new}
 use Rattle.rbbi_text.specs.Cuts.{edited_piece, AreWholeCut, IsFound, IsMiddle}
 use Rattle.rbbi_text.proofs.Splices.{length-splice, text-splice}
@@ -130,10 +131,6 @@ filled-append [] ys all filled = filled
 filled-append (x ∷ []) [] all filled = all.0.1
 filled-append (x ∷ []) (y ∷ ys) all filled = (all.0, filled)
 filled-append (x ∷ z ∷ xs) ys all filled = (all.0, filled-append (z ∷ xs) ys all.1 filled)
-
-pub all-append : (xs ys : List (List ℕ)) → AllByRecursion IsFilled xs → AllByRecursion IsFilled ys → AllByRecursion IsFilled (xs ++ ys)
-all-append [] ys all also = also
-all-append (x ∷ xs) ys all also = (all.0, all-append xs ys all.1 also)
 
 -- pieces that aren't more than full start no later than full ones
 pub joined_small : (k : ℕ) (ps : List (List ℕ)) → AreFilled ps → length (joined (take k ps)) ≤ 1024 * k
@@ -301,7 +298,7 @@ edited ps new len w at remove first past cut word few edit =
 
 -- one more piece
 pub all_filled_push : (ps : List (List ℕ)) (p : List ℕ) → AllByRecursion IsFilled ps → IsFilled p → AllByRecursion IsFilled (ps ++ p ∷ [])
-all_filled_push ps p all filled = all-append ps (p ∷ []) all (filled, tt)
+all_filled_push ps p all filled = all_append IsFilled ps (p ∷ []) all (filled, tt)
 
 pub filled_push : (ps : List (List ℕ)) (p : List ℕ) → AllByRecursion IsFilled ps → length p ≤ 1024 → AreFilled (ps ++ p ∷ [])
 filled_push ps p all small = filled-append ps (p ∷ []) all small
