@@ -1,11 +1,11 @@
 -- A rule file has one least fault at most, and none where it has a meaning.
-use Rattle.std.proofs.Common.{◌≡◌, ◌<◌, inl, inr, ⊎_elim, ℕ, zero, suc, Bool, true, false, ltb, eqb, ◌||◌, ◌&&◌, List, [], ◌∷◌, Option, Some}
+use Rattle.std.proofs.Common.{◌≡◌, inl, inr, ⊎_elim, ℕ, Bool, true, false, ltb, eqb, ◌||◌, ◌&&◌, List, [], Option, Some}
 use Rattle.std.proofs.Common.{None}
-use Rattle.std.proofs.Common.{length, get_or, refl, sym, ap, ◌∙◌, subst, arith}
+use Rattle.std.proofs.Common.{length, refl, sym, ap, ◌∙◌, subst, arith}
 use Rattle.std.specs.Prelude.{if◌then◌else◌, ◌==◌}
-use Rattle.std.specs.List.{AllByRecursion}
 use Rattle.std.proofs.lemmas.Bool.{cases_lt, lt-ltb, eq-eqb, false≢true}
 use Rattle.rbbi_model.specs.Rules.{Rule}
+use Rattle.rbbi_model.proofs.Lists.{all_at}
 use Rattle.rbbi_props.specs.Rows.{File}
 use Rattle.rbbi_tree.specs.Trees.{StatementTree}
 use Rattle.rbbi_resolve.specs.declared.fault.Fault.{Fault}
@@ -34,18 +34,13 @@ neither_before a b c d one other =
         ⊎_elim (λ less. absurd (false≢true (sym unlike ∙ lt-ltb m n less)))
         (λ le. ⊎_elim (λ less. absurd (false≢true (sym unlike' ∙ lt-ltb n m less))) (λ ge. omega arith) (cases_lt n m)) (cases_lt m n)
 
-all_at : {A : Type 0} (P : A → Type 0) (xs : List A) (k : ℕ) (d : A) → AllByRecursion P xs → k < length xs → P (get_or xs k d)
-all_at P [] k d each inside = absurd (omega arith)
-all_at P (x ∷ xs) zero d each inside = each.0
-all_at P (x ∷ xs) (suc k) d each inside = all_at P xs k d each.1 (omega arith)
-
 -- there is one least fault
 same_least : (faults : List Fault) (f g : Fault) → IsLeast faults f → IsLeast faults g → f ≡ g
 same_least faults f g is is' =
     let P : Fault → Type 0 = λ h. comes_before h g ≡ false in
     let Q : Fault → Type 0 = λ h. comes_before h f ≡ false in
-    let one : comes_before f g ≡ false = subst P is.one_of.2 (all_at P faults is.one_of.0 f is'.least is.one_of.1) in
-    let other : comes_before g f ≡ false = subst Q is'.one_of.2 (all_at Q faults is'.one_of.0 g is.least is'.one_of.1) in
+    let one : comes_before f g ≡ false = subst P is.one_of.2 (all_at P faults is.one_of.0 f is.one_of.1 is'.least) in
+    let other : comes_before g f ≡ false = subst Q is'.one_of.2 (all_at Q faults is'.one_of.0 g is'.one_of.1 is.least) in
     let same = neither_before f.place g.place f.number g.number one other in
     λ i. record { place = same.0 i; number = same.1 i }
 

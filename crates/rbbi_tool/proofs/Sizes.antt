@@ -1,7 +1,8 @@
 -- How many files a request has, and that none has more bytes than are read at once.
-use Rattle.std.proofs.Common.{◌≡◌, ◌≤◌, ℕ, zero, suc, Bool, true, false, List, [], ◌∷◌, length, map, take, drop, refl, sym, ap}
+use Rattle.std.proofs.Common.{◌≡◌, ◌≤◌, ◌<◌, ℕ, zero, suc, Bool, true, false, List, [], ◌∷◌, length, map, take, drop, refl, sym, ap}
 use Rattle.std.proofs.Common.{◌∙◌, subst, arith}
 use Rattle.std.proofs.lemmas.List.{length-map, length-append, length-take-le, length-drop}
+use Rattle.rbbi_model.proofs.Lists.{all_take, all_drop}
 use Rattle.rbbi_text.specs.Bytes.{most_bytes}
 use Rattle.rbbi_tool.specs.declared.words.command.Command.{Command}
 use Rattle.rbbi_tool.specs.declared.words.command.Command.TheVariants.{Check, Compile, Breaks, Run, Conform, Demo}
@@ -36,16 +37,6 @@ within_short [] (b ∷ files) within = absurd within
 within_short (s ∷ sources) [] within = absurd within
 within_short (s ∷ sources) (b ∷ files) within = (omega (arith, within.0, limit_fits s.role), within_short sources files within.1)
 
-take_short : (n : ℕ) (files : List (List ℕ)) → AreShort files → AreShort (take n files)
-take_short zero files short = tt
-take_short (suc n) [] short = tt
-take_short (suc n) (b ∷ files) short = (short.0, take_short n files short.1)
-
-drop_short : (n : ℕ) (files : List (List ℕ)) → AreShort files → AreShort (drop n files)
-drop_short zero files short = short
-drop_short (suc n) [] short = tt
-drop_short (suc n) (b ∷ files) short = drop_short n files short.1
-
 -- a file of them is short
 nth_short : (k : ℕ) (files : List (List ℕ)) → AreShort files → length (nth files k) ≤ most_bytes
 nth_short k [] short = omega arith
@@ -61,7 +52,7 @@ are_handed request files within =
     let first = length-map request.properties property_source in
     record {
       many = length-take-le (length request.properties) files (omega arith);
-      short = take_short (length request.properties) files (within_short (sources_of request) files within);
+      short = all_take (λ bytes. length bytes ≤ most_bytes) (length request.properties) files (within_short (sources_of request) files within);
     }
 
 -- how many files a command reads beside these
@@ -139,9 +130,10 @@ module _ (request : Request) (files : List (List ℕ)) (within : AreWithin (sour
   pub file_short : (n k : ℕ) (back : List (List ℕ)) (bytes : List ℕ) → back ≡ drop n files → bytes ≡ nth back k → length bytes ≤ most_bytes
   file_short n k back bytes is is' =
       subst (λ b. length b ≤ most_bytes) (sym (is' ∙ ap (λ b. nth b k) is))
-      (nth_short k (drop n files) (drop_short n files (within_short (sources_of request) files within)))
+      (nth_short k (drop n files) (all_drop (λ bytes. length bytes ≤ most_bytes) n files (within_short (sources_of request) files within)))
 
-  -- there are as many as the command reads
-  pub files_behind : (n : ℕ) (back : List (List ℕ)) → length request.operands ≡ length (operands_of request.command request.by_table) → back ≡ drop n files
-      → n ≡ length request.properties → length back ≡ read_by request.command
-  files_behind n back count is same = ap length (is ∙ ap (λ m. drop m files) same) ∙ file_count request files count within
+  -- each file that the command reads is there
+  pub file_there : (n k : ℕ) (back : List (List ℕ)) (command : Command) → length request.operands ≡ length (operands_of request.command request.by_table)
+      → back ≡ drop n files → n ≡ length request.properties → request.command ≡ command → k < read_by command → k < length back
+  file_there n k back command count is same asked read =
+      omega (arith, read, ap length (is ∙ ap (λ m. drop m files) same) ∙ file_count request files count within, ap read_by asked)

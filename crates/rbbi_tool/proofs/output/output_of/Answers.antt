@@ -1,10 +1,10 @@
 use Rattle.std.proofs.Common.{◌≡◌, length, take, drop, ap, ◌∙◌, arith}
 use Rattle.std.specs.String.{string_bytes}
 use Rattle.std.proofs.lemmas.List.{length-map}
-use Rattle.rbbi_tool.specs.declared.words.command.Command.TheVariants.{Check, Compile, Conform, Demo}
+use Rattle.rbbi_tool.specs.declared.words.command.Command.TheVariants.{Check, Compile, Breaks, Run, Conform, Demo}
 use Rattle.rbbi_tool.specs.Requests.{asked_by}
 use Rattle.rbbi_tool.specs.Words.{operands_of}
-use Rattle.rbbi_tool.proofs.Sizes.{handed_fit, handed_are, file_short, files_behind, read_by}
+use Rattle.rbbi_tool.proofs.Sizes.{handed_fit, handed_are, file_short, file_there}
 use Rattle.rbbi_tool.proofs.Commands.{check_answers, compile_answers, breaks_answers, run_answers, conform_answers, demo_answers}
 use Rattle.rbbi_tool.proofs.Counted.{breaks_reads, run_reads, others_read}
 use Rattle.rbbi_tool.proofs.output.output_of.Goals as goal
@@ -14,51 +14,39 @@ split_at-requires g c = omega (arith, c.len.ensures, handed_fit (asked_by c.args
 
 pub file-rules-requires : goal.file-rules-requires
 file-rules-requires g c =
-    let request = asked_by c.args.request.now in
-    let count = length-map c.args.request.now.operands.now string_bytes ∙ c.requires.count in
     let same : c.len.result ≡ length c.args.request.now.options.properties.items = omega (arith, c.len.ensures) in
-    let many = files_behind request c.args.files.now c.requires.within c.len.result c.split_at.result.1.now count c.split_at.ensures.back same in
-    omega (arith, many, ap read_by c.in-Check.is)
+    file_there (asked_by c.args.request.now) c.args.files.now c.requires.within c.len.result 0 c.split_at.result.1.now Check
+    (length-map c.args.request.now.operands.now string_bytes ∙ c.requires.count) c.split_at.ensures.back same c.in-Check.is (omega arith)
 
 pub file-rules-requires-in-Compile : goal.file-rules-requires-in-Compile
 file-rules-requires-in-Compile g c =
-    let request = asked_by c.args.request.now in
-    let count = length-map c.args.request.now.operands.now string_bytes ∙ c.requires.count in
     let same : c.len.result ≡ length c.args.request.now.options.properties.items = omega (arith, c.len.ensures) in
-    let many = files_behind request c.args.files.now c.requires.within c.len.result c.split_at.result.1.now count c.split_at.ensures.back same in
-    omega (arith, many, ap read_by c.in-Compile.is)
+    file_there (asked_by c.args.request.now) c.args.files.now c.requires.within c.len.result 0 c.split_at.result.1.now Compile
+    (length-map c.args.request.now.operands.now string_bytes ∙ c.requires.count) c.split_at.ensures.back same c.in-Compile.is (omega arith)
 
 pub file-source-requires : goal.file-source-requires
 file-source-requires g c =
-    let request = asked_by c.args.request.now in
-    let count = length-map c.args.request.now.operands.now string_bytes ∙ c.requires.count in
     let same : c.len.result ≡ length c.args.request.now.options.properties.items = omega (arith, c.len.ensures) in
-    let many = files_behind request c.args.files.now c.requires.within c.len.result c.split_at.result.1.now count c.split_at.ensures.back same in
-    omega (arith, many, ap read_by c.in-Breaks.is)
+    file_there (asked_by c.args.request.now) c.args.files.now c.requires.within c.len.result 0 c.split_at.result.1.now Breaks
+    (length-map c.args.request.now.operands.now string_bytes ∙ c.requires.count) c.split_at.ensures.back same c.in-Breaks.is (omega arith)
 
 pub file-source-requires-in-Run : goal.file-source-requires-in-Run
 file-source-requires-in-Run g c =
-    let request = asked_by c.args.request.now in
-    let count = length-map c.args.request.now.operands.now string_bytes ∙ c.requires.count in
     let same : c.len.result ≡ length c.args.request.now.options.properties.items = omega (arith, c.len.ensures) in
-    let many = files_behind request c.args.files.now c.requires.within c.len.result c.split_at.result.1.now count c.split_at.ensures.back same in
-    omega (arith, many, ap read_by c.in-Run.is)
+    file_there (asked_by c.args.request.now) c.args.files.now c.requires.within c.len.result 0 c.split_at.result.1.now Run
+    (length-map c.args.request.now.operands.now string_bytes ∙ c.requires.count) c.split_at.ensures.back same c.in-Run.is (omega arith)
 
 pub file-source-requires-in-Conform : goal.file-source-requires-in-Conform
 file-source-requires-in-Conform g c =
-    let request = asked_by c.args.request.now in
-    let count = length-map c.args.request.now.operands.now string_bytes ∙ c.requires.count in
     let same : c.len.result ≡ length c.args.request.now.options.properties.items = omega (arith, c.len.ensures) in
-    let many = files_behind request c.args.files.now c.requires.within c.len.result c.split_at.result.1.now count c.split_at.ensures.back same in
-    omega (arith, many, ap read_by c.in-Conform.is)
+    file_there (asked_by c.args.request.now) c.args.files.now c.requires.within c.len.result 0 c.split_at.result.1.now Conform
+    (length-map c.args.request.now.operands.now string_bytes ∙ c.requires.count) c.split_at.ensures.back same c.in-Conform.is (omega arith)
 
 pub file-text-requires : goal.file-text-requires
 file-text-requires g c =
-    let request = asked_by c.args.request.now in
-    let count = length-map c.args.request.now.operands.now string_bytes ∙ c.requires.count in
     let same : c.len.result ≡ length c.args.request.now.options.properties.items = omega (arith, c.len.ensures) in
-    let many = files_behind request c.args.files.now c.requires.within c.len.result c.split_at.result.1.now count c.split_at.ensures.back same in
-    omega (arith, many, ap read_by c.in-Breaks.is)
+    file_there (asked_by c.args.request.now) c.args.files.now c.requires.within c.len.result 1 c.split_at.result.1.now Breaks
+    (length-map c.args.request.now.operands.now string_bytes ∙ c.requires.count) c.split_at.ensures.back same c.in-Breaks.is (omega arith)
 
 pub check-requires-clause-handed : goal.check-requires-clause-handed
 check-requires-clause-handed g c =
@@ -121,27 +109,21 @@ returns-in-Breaks-clause-exact g c =
 
 pub file-played-requires : goal.file-played-requires
 file-played-requires g c =
-    let request = asked_by c.args.request.now in
-    let count = length-map c.args.request.now.operands.now string_bytes ∙ c.requires.count in
     let same : c.len.result ≡ length c.args.request.now.options.properties.items = omega (arith, c.len.ensures) in
-    let many = files_behind request c.args.files.now c.requires.within c.len.result c.split_at.result.1.now count c.split_at.ensures.back same in
-    omega (arith, many, ap read_by c.in-Run.is)
+    file_there (asked_by c.args.request.now) c.args.files.now c.requires.within c.len.result 1 c.split_at.result.1.now Run
+    (length-map c.args.request.now.operands.now string_bytes ∙ c.requires.count) c.split_at.ensures.back same c.in-Run.is (omega arith)
 
 pub file-script-requires : goal.file-script-requires
 file-script-requires g c =
-    let request = asked_by c.args.request.now in
-    let count = length-map c.args.request.now.operands.now string_bytes ∙ c.requires.count in
     let same : c.len.result ≡ length c.args.request.now.options.properties.items = omega (arith, c.len.ensures) in
-    let many = files_behind request c.args.files.now c.requires.within c.len.result c.split_at.result.1.now count c.split_at.ensures.back same in
-    omega (arith, many, ap read_by c.in-Run.is)
+    file_there (asked_by c.args.request.now) c.args.files.now c.requires.within c.len.result 2 c.split_at.result.1.now Run
+    (length-map c.args.request.now.operands.now string_bytes ∙ c.requires.count) c.split_at.ensures.back same c.in-Run.is (omega arith)
 
 pub file-tests-requires : goal.file-tests-requires
 file-tests-requires g c =
-    let request = asked_by c.args.request.now in
-    let count = length-map c.args.request.now.operands.now string_bytes ∙ c.requires.count in
     let same : c.len.result ≡ length c.args.request.now.options.properties.items = omega (arith, c.len.ensures) in
-    let many = files_behind request c.args.files.now c.requires.within c.len.result c.split_at.result.1.now count c.split_at.ensures.back same in
-    omega (arith, many, ap read_by c.in-Conform.is)
+    file_there (asked_by c.args.request.now) c.args.files.now c.requires.within c.len.result 1 c.split_at.result.1.now Conform
+    (length-map c.args.request.now.operands.now string_bytes ∙ c.requires.count) c.split_at.ensures.back same c.in-Conform.is (omega arith)
 
 pub run-requires-clause-handed : goal.run-requires-clause-handed
 run-requires-clause-handed g c =
