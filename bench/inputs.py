@@ -307,6 +307,8 @@ FRONT = {
     'spellings': (spellings, 'one set of 59,000 spellings of one property'),
     'inner': (lambda: repeat('[\\p{L}-\\p{Lu}]', '[', '];'),
               'one set of 75,000 sets, each a property without another'),
+    'pairs': (lambda: repeat('[$v$w]', '$v=[\\p{L}];$w=[\\p{Lu}];[', '];'),
+              'one set of 175,000 sets of two variables'),
     'variables': (lambda: variables('[\\p{L}]'), '80,000 variables of one property'),
     'without': (lambda: variables('[\\p{L}-\\p{Lu}]'),
                 '52,000 variables, each a property without another'),
