@@ -14,3 +14,4 @@ pub mod LeastTables
 pub mod Categories
 pub mod Builds
 pub mod NeededRows
+pub mod KeptRows

@@ -55,36 +55,13 @@ pub(crate) struct Rows {
 }
 
 impl Model for Rows {
-    ghost use Rattle.std.specs.Prelude.{map};
     ghost use Rattle.rbbi_dfa.specs.PositionRows.{PositionRows, AreRows};
 
     ghost Value = { PositionRows };
 
-    ghost view = { λ rows. record {
-      categories = rows.categories;
-      slashes = rows.slashes;
-      width = rows.width;
-      first = rows.first.items;
-      chained = rows.chained.items;
-      last = rows.last.items;
-      follow = rows.follow.items;
-      reads = map (λ row. row.items) rows.reads.items;
-      completed = rows.completed.items;
-      fronts = rows.fronts.items;
-      tags = rows.tags.items;
-    } };
+    ghost use Rattle.rbbi_dfa.specs.KeptRows.{kept_rows};
 
-    ghost invariant = { λ rows. AreRows (record {
-      categories = rows.categories;
-      slashes = rows.slashes;
-      width = rows.width;
-      first = rows.first.items;
-      chained = rows.chained.items;
-      last = rows.last.items;
-      follow = rows.follow.items;
-      reads = map (λ row. row.items) rows.reads.items;
-      completed = rows.completed.items;
-      fronts = rows.fronts.items;
-      tags = rows.tags.items;
-    }) };
+    ghost view = { kept_rows };
+
+    ghost invariant = { λ rows. AreRows (kept_rows rows) };
 }
