@@ -6,8 +6,10 @@ use Rattle.std.proofs.lemmas.Bool.Decides.{nat_tests}
 use Rattle.rbbi_model.specs.Words.{IsSurrogate}
 use Rattle.rbbi_model.specs.Ranges.{Range, Has}
 use Rattle.rbbi_model.specs.SetTrees as model
+use Rattle.rbbi_sets.specs.Classes.{ClassBits, HasMember}
 use Rattle.rbbi_props.specs.Rows.{File}
 use Rattle.rbbi_resolve.specs.SetValues.{Passes, found, HasProperty, HasMembers, IsValue}
+use Rattle.rbbi_resolve.specs.ClassValues.{IsClassValue}
 use Rattle.rbbi_resolve.specs.Emptiness.{passes, in_property, in_join, in_set, is_no_surrogate, any_below, holds_character}
 use Rattle.rbbi_resolve.specs.Faults.{is_empty_value}
 use Rattle.rbbi_resolve.proofs.PropertySets.{members_are_code_points}
@@ -141,6 +143,15 @@ held_character files tree e =
     let both = (tells_and (is_no_surrogate w.0) (in_set files tree w.0) (¬ IsSurrogate w.0) (model.InSet (HasProperty files) tree w.0) (no_surrogate w.0)
     (tells_in_set files tree w.0)).0 w.2 in
     (w.0, both.1, both.0)
+
+-- the same of classes
+pub classes_emptiness : (files : List File) (bounds : List ℕ) (tree : Option model.SetTree) (set : ClassBits) (holds : Bool) →
+    (IsTrue holds ↔ ((c : ℕ) × HasMember bounds set c × ¬ IsSurrogate c)) → IsClassValue files bounds tree (Some set) → not holds ≡ is_empty_value files tree
+classes_emptiness files bounds None set holds tells is = absurd is
+classes_emptiness files bounds (Some tree) set holds tells is =
+    ap not (same_tests holds (holds_character files tree)
+    (λ e. let w = tells.0 e in character_held files tree w.0 w.1.0 w.2 (in_set_takes files tree w.0 ((is w.0).0 w.1)))
+    (λ e. let w = held_character files tree e in (tells_true holds).1 (tells.1 (w.0, (is w.0).1 w.1, w.2))))
 
 -- the test whether a code point is in the set and no surrogate
 pub in_leaf : List File → model.SetTree → ℕ → Bool

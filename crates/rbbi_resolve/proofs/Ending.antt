@@ -16,6 +16,8 @@ use Rattle.rbbi_resolve.specs.Counts.{counted, leaves_meant}
 use Rattle.rbbi_resolve.specs.Scopes.{Variables, IsUnassigned, IsDefinedBy}
 use Rattle.rbbi_resolve.specs.Switchings.{AreSwitches}
 use Rattle.rbbi_resolve.specs.Countings.{AreCounting, slash_of}
+use Rattle.rbbi_resolve.specs.declared.classes.Classes.{Classes}
+use Rattle.rbbi_resolve.specs.ClassValues.{AreClasses}
 use Rattle.rbbi_resolve.specs.Readings.{IsReadTo}
 use Rattle.rbbi_resolve.proofs.Counted.{passed_at_end}
 use Rattle.rbbi_resolve.proofs.Lawful.{within}
@@ -43,14 +45,15 @@ none_at_start files statements name = λ limit low. let e : limit ≡ 0 = omega 
     ∙ ap (λ k. assigned_to k.variables name) (at_start files statements)
 
 -- before the first statement
-pub read_none : (files : List File) (ignored : Bool) (statements : List StatementTree) (variables : Variables) (switches : Switches)
+pub read_none : (files : List File) (classes : Classes) (ignored : Bool) (statements : List StatementTree) (variables : Variables) (switches : Switches)
     (counts : declared.Counts) → ((name : List ℕ) → get_by_text variables name ≡ None) →
-    AreSwitches switches (start files) → ((all : List RuleMeaning) → AreCounting counts all all) →
-    IsReadTo files ignored statements variables None switches counts 0
-read_none files ignored statements variables switches counts none is counting =
+    AreSwitches switches (start files) → ((all : List RuleMeaning) → AreCounting counts all all) → AreClasses files classes →
+    IsReadTo files classes ignored statements variables None switches counts 0
+read_none files classes ignored statements variables switches counts none is counting classified =
     record {
+      classified = classified;
       defined = record {
-        each = λ name. subst (λ v. MatchOption v (IsUnassigned files statements 0 name) (IsDefinedBy files statements 0 name))
+        each = λ name. subst (λ v. MatchOption v (IsUnassigned files statements 0 name) (IsDefinedBy files classes.layout statements 0 name))
             (sym (none name)) (none_at_start files statements name);
       };
       noted_so_far = ap (λ k. noted None (faults_from ignored k (drop 0 statements))) (at_start files statements)
@@ -69,17 +72,17 @@ unfolding rules_from
 rules_of_none k = refl
 
 -- behind the last statement
-pub least_of_all : (files : List File) (ignored : Bool) (statements : List StatementTree) (variables : Variables) (least : Option Fault)
+pub least_of_all : (files : List File) (classes : Classes) (ignored : Bool) (statements : List StatementTree) (variables : Variables) (least : Option Fault)
     (switches : Switches) (counts : declared.Counts) (n : ℕ) → length statements ≤ n →
-    IsReadTo files ignored statements variables least switches counts n → noted None (faults_of files ignored statements) ≡ least
-least_of_all files ignored statements variables least switches counts n long read =
+    IsReadTo files classes ignored statements variables least switches counts n → noted None (faults_of files ignored statements) ≡ least
+least_of_all files classes ignored statements variables least switches counts n long read =
     let k = context_at files statements n in
     sym read.noted_so_far ∙ ap (λ ss. noted least (faults_from ignored k ss)) (drop_all n statements long) ∙ ap (noted least) (faults_of_none ignored k)
 
-pub counting_all : (files : List File) (ignored : Bool) (statements : List StatementTree) (variables : Variables) (least : Option Fault)
+pub counting_all : (files : List File) (classes : Classes) (ignored : Bool) (statements : List StatementTree) (variables : Variables) (least : Option Fault)
     (switches : Switches) (counts : declared.Counts) (n : ℕ) → length statements ≤ n →
-    IsReadTo files ignored statements variables least switches counts n → AreCounting counts [] (active_rules files statements)
-counting_all files ignored statements variables least switches counts n long read =
+    IsReadTo files classes ignored statements variables least switches counts n → AreCounting counts [] (active_rules files statements)
+counting_all files classes ignored statements variables least switches counts n long read =
     let k = context_at files statements n in
     subst (λ ms. AreCounting counts ms (active_rules files statements)) (ap (rules_from k) (drop_all n statements long) ∙ rules_of_none k) read.counted_so_far
 

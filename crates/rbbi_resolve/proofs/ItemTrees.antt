@@ -1,16 +1,13 @@
 -- The trees of the variants that have values inside.
 use Rattle.std.proofs.Common.{◌≡◌, ℕ, Bool, List, Option, sym, ◌∙◌, ap}
 use Rattle.rbbi_tree.specs.Trees.{SetItemTree, PartsTree, SetSyntax, PartTree, ExprTree, SeqTree, ItemTree, AtomTree, set_property, set_within, character}
-use Rattle.rbbi_tree.specs.Trees.{joined, set_character, set_range, set_name}
 use Rattle.rbbi_tree.specs.Trees.{quoted, any, name, property, set, group}
 use Rattle.rbbi_tree.specs.Values.{set_item_tree, set_tree, atom_tree, expr_tree, set_item_step, parts_step, set_step, part_step, atom_step, expr_step}
-use Rattle.rbbi_tree.specs.Values.{part_tree, part_tree_out, item_step, seq_step}
+use Rattle.rbbi_tree.specs.Values.{item_step, seq_step}
 use Rattle.rbbi_tree.specs.declared.syntax.SetExpr.{SetExpr}
 use Rattle.rbbi_tree.specs.declared.syntax.Expr.{Expr}
-use Rattle.rbbi_tree.specs.declared.syntax.SetPart.{SetPart}
 use Rattle.rbbi_tree.specs.declared.syntax.SetItem as item
 use Rattle.rbbi_tree.specs.declared.syntax.SetItem.{SetItem}
-use Rattle.rbbi_tree.specs.declared.syntax.SetItem.TheViews.{out-SetPart}
 use Rattle.rbbi_tree.specs.declared.syntax.SetItem.TheOpen.{SetItem-F}
 use Rattle.rbbi_tree.specs.declared.syntax.SetItem.TheVariants as item_variants
 use Rattle.rbbi_tree.specs.declared.syntax.SetItem.TheFolds.{fold-roll-SetItem}
@@ -18,21 +15,6 @@ use Rattle.rbbi_tree.specs.declared.syntax.Atom as atom
 use Rattle.rbbi_tree.specs.declared.syntax.Atom.TheOpen.{Atom-F}
 use Rattle.rbbi_tree.specs.declared.syntax.Atom.TheVariants as atom_variants
 use Rattle.rbbi_tree.specs.declared.syntax.Atom.TheFolds.{fold-roll-Atom}
-
-pub of_character : (c : ℕ) → set_item_tree (item.Char c) ≡ set_character c
-of_character c =
-    ap set_item_tree (sym (item_variants.rolls-Char c))
-    ∙ fold-roll-SetItem SetItemTree PartsTree SetSyntax PartTree set_item_step parts_step set_step part_step (SetItem-F.Char c)
-
-pub of_range : (first last : ℕ) → set_item_tree (item.Range first last) ≡ set_range first last
-of_range first last =
-    ap set_item_tree (sym (item_variants.rolls-Range first last))
-    ∙ fold-roll-SetItem SetItemTree PartsTree SetSyntax PartTree set_item_step parts_step set_step part_step (SetItem-F.Range first last)
-
-pub of_name : (word : List ℕ) → set_item_tree (item.Name word) ≡ set_name word
-of_name word =
-    ap set_item_tree (sym (item_variants.rolls-Name word))
-    ∙ fold-roll-SetItem SetItemTree PartsTree SetSyntax PartTree set_item_step parts_step set_step part_step (SetItem-F.Name word)
 
 pub of_property : (negated : Bool) (word : List ℕ) (value : Option (List ℕ)) → set_item_tree (item.Prop negated word value) ≡ set_property negated word value
 of_property negated word value =
@@ -43,11 +25,6 @@ pub of_inner : (inner : SetExpr) → set_item_tree (item.Set inner) ≡ set_with
 of_inner inner =
     ap set_item_tree (sym (item_variants.rolls-Set inner))
     ∙ fold-roll-SetItem SetItemTree PartsTree SetSyntax PartTree set_item_step parts_step set_step part_step (SetItem-F.Set inner)
-
--- the tree of a part, by that of its item
-pub part_is : (p : SetPart) (i : SetItem) (tree : SetItemTree) → (out-SetPart p).item ≡ i → set_item_tree i ≡ tree →
-    part_tree p ≡ joined (out-SetPart p).place (out-SetPart p).join tree
-part_is p i tree is same = part_tree_out p ∙ ap (joined (out-SetPart p).place (out-SetPart p).join) (ap set_item_tree is ∙ same)
 
 pub atom_of_property : (negated : Bool) (word : List ℕ) (value : Option (List ℕ)) → atom_tree (atom.Prop negated word value) ≡ property negated word value
 atom_of_property negated word value =

@@ -1,15 +1,13 @@
 pub mod Words
 pub mod PropertySets
-pub mod SetJoins
 pub mod Noting
 pub mod SetLoops
-pub mod Repeated
 pub mod Answered
 pub mod Named
 pub mod Characters
 pub mod Counting
 pub mod Kept
-pub mod Memberships
+pub mod SetFolds
 pub mod ItemTrees
 pub mod OneMeaning
 pub mod Earliest

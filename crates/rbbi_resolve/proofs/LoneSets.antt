@@ -1,6 +1,7 @@
 -- The kept value of an expression that is a set or a property alone is the set of its one own leaf.
-use Rattle.std.proofs.Common.{◌≡◌, false, Option, Some, List, [], ◌∷◌, sym, subst}
+use Rattle.std.proofs.Common.{◌≡◌, ℕ, false, Option, Some, List, [], ◌∷◌, sym, subst}
 use Rattle.rbbi_model.specs.Ranges.{Range}
+use Rattle.rbbi_sets.specs.Classes.{ClassBits}
 use Rattle.rbbi_model.specs.SetTrees as model
 use Rattle.rbbi_props.specs.Rows.{File}
 use Rattle.rbbi_tree.specs.Trees.{ExprTree, AtomTree, no_alternatives, alternative, no_items, item, placed, character, quoted, any, name, property, set, group}
@@ -11,6 +12,7 @@ use Rattle.rbbi_resolve.specs.Contexts.{Context, value_of_name}
 use Rattle.rbbi_resolve.specs.Expressions.{variable_for}
 use Rattle.rbbi_resolve.specs.Scopes.{IsKindOf}
 use Rattle.rbbi_resolve.specs.SetValues.{IsValue, value_of_set, value_of_property}
+use Rattle.rbbi_resolve.specs.ClassValues.{IsClassValue}
 use Rattle.rbbi_resolve.specs.Parts.{parts_of_expr, parts_of_seq, parts_of_item}
 use Rattle.rbbi_resolve.specs.Faults.{faults_of_parts, is_empty_value}
 use Rattle.rbbi_resolve.specs.Soundness.{AreSound}
@@ -19,31 +21,33 @@ use Rattle.rbbi_resolve.specs.LoneSets.{IsLoneSet, IsSetAtom}
 use Rattle.rbbi_resolve.proofs.Adding.{property_leaf, set_leaf}
 use Rattle.rbbi_resolve.proofs.Sound.{faultless_first}
 
-pub kept_leaf : (k : Context) (files : List File) (kind : Kind) (value : Option (List Range)) (expr : ExprTree) (before after : List (List Range)) →
-    k.files ≡ files → IsLoneSet expr → kind ≡ kinds.Set value → IsKindOf files kind (variable_for k expr) → AreSound k →
-    faults_of_parts k (parts_of_expr expr) ≡ [] →
-    ((tree : model.SetTree) → IsValue files (Some tree) value → is_empty_value files (Some tree) ≡ false → AddsLeaves files (tree ∷ []) before after) →
+pub kept_leaf : (k : Context) (files : List File) (kind : Kind) (bounds : List ℕ) (value : Option ClassBits) (own : Option (List Range)) (expr : ExprTree) (before after : List (List Range)) →
+    k.files ≡ files → IsLoneSet expr → kind ≡ kinds.Set value → IsKindOf files bounds kind (variable_for k expr) → AreSound k →
+    faults_of_parts k (parts_of_expr expr) ≡ [] → ((tree : Option model.SetTree) → IsClassValue files bounds tree value → IsValue files tree own) →
+    ((tree : model.SetTree) → IsValue files (Some tree) own → is_empty_value files (Some tree) ≡ false → AddsLeaves files (tree ∷ []) before after) →
     AddsLeaves files (leaves_of_expr k expr) before after
-kept_leaf k files kind value expr before after same lone is kept sound faultless adds =
+kept_leaf k files kind bounds value own expr before after same lone is kept sound faultless ranges adds =
     subst (λ x. AddsLeaves files (leaves_of_expr k x) before after) (sym lone.is)
     (of_atom lone.atom lone.of_set
-    (subst (λ h. IsKindOf files h (variable_for k (alternative (item (placed lone.place lone.atom Once) no_items) no_alternatives))) is
-    (subst (λ x. IsKindOf files kind (variable_for k x)) lone.is kept))
+    (subst (λ h. IsKindOf files bounds h (variable_for k (alternative (item (placed lone.place lone.atom Once) no_items) no_alternatives))) is
+    (subst (λ x. IsKindOf files bounds kind (variable_for k x)) lone.is kept))
     (let e = subst (λ x. faults_of_parts k (parts_of_expr x) ≡ []) lone.is faultless in
     faultless_first k (parts_of_item (placed lone.place lone.atom Once)) [] (faultless_first k (parts_of_seq (item (placed lone.place lone.atom Once) no_items))
     [] e)))
   where
     of_atom : (atom : AtomTree) → IsSetAtom atom →
-        IsKindOf files (kinds.Set value) (variable_for k (alternative (item (placed lone.place atom Once) no_items) no_alternatives)) →
+        IsKindOf files bounds (kinds.Set value) (variable_for k (alternative (item (placed lone.place atom Once) no_items) no_alternatives)) →
         faults_of_parts k (parts_of_item (placed lone.place atom Once)) ≡ [] →
         AddsLeaves files (leaves_of_expr k (alternative (item (placed lone.place atom Once) no_items) no_alternatives)) before after
     of_atom (character c bare) n of e = absurd n
     of_atom (quoted word) n of e = absurd n
     of_atom any n of e = absurd n
     of_atom (name word) n of e = absurd n
-    of_atom (property negated word own) n of e =
-        property_leaf k files lone.place negated word own Once before after value same e
-        (subst (λ f. IsValue files (value_of_property f negated word own) value) same of) adds
+    of_atom (property negated word text) n of e =
+        property_leaf k files lone.place negated word text Once before after own same e
+        (ranges (value_of_property files negated word text)
+        (subst (λ f. IsClassValue files bounds (value_of_property f negated word text) value) same of)) adds
     of_atom (set s) n of e =
-        set_leaf k files lone.place s Once before after value same sound e (subst (λ f. IsValue files (value_of_set f (value_of_name k) s) value) same of) adds
+        set_leaf k files lone.place s Once before after own same sound e
+        (ranges (value_of_set files (value_of_name k) s) (subst (λ f. IsClassValue files bounds (value_of_set f (value_of_name k) s) value) same of)) adds
     of_atom (group inner) n of e = absurd n

@@ -20,7 +20,7 @@ use Rattle.rbbi_resolve.specs.Contexts.{Set, Expression, Context, assigned_to, v
 use Rattle.rbbi_resolve.specs.Expressions.{leaf_of, word_of, meaning_of_variable, meaning_of_expr, meaning_of_seq, meaning_of_item, meaning_of_atom}
 use Rattle.rbbi_resolve.specs.Expressions.{height_of_expr, set_of_variable, set_of_atom, set_of_item, set_of_expr, variable_with, variable_for}
 use Rattle.rbbi_resolve.specs.Files.{context_at}
-use Rattle.rbbi_resolve.specs.Scopes.{visible, Matches, IsKindOf, IsUnassigned, IsDefinedBy, context_of}
+use Rattle.rbbi_resolve.specs.Scopes.{visible, Matches, IsKindOf, IsUnassigned, IsDefinedBy, context_of, bounds_of}
 use Rattle.rbbi_resolve.specs.OwnLeaves.{set_or_nothing}
 use Rattle.rbbi_resolve.specs.Builders.{IsAssigned, IsReady}
 use Rattle.rbbi_resolve.proofs.Building.{sequence_meaning, choice_meaning}
@@ -80,7 +80,7 @@ pub record IsNamed (files : List File) (scope : Scope) (word : List ℕ) (v : Va
   pub assigned : IsAssigned (statement_trees scope.statements.now) v.statement expr
   pub means : meaning_of_atom (context_of files scope) (name word) ≡ meaning_of_expr (context_at files (statement_trees scope.statements.now) v.statement) expr
   pub kept : (e : ExprTree) → IsAssigned (statement_trees scope.statements.now) v.statement e →
-      IsKindOf files v.kind (variable_for (context_at files (statement_trees scope.statements.now) v.statement) e)
+      IsKindOf files (bounds_of scope) v.kind (variable_for (context_at files (statement_trees scope.statements.now) v.statement) e)
   pub low : v.statement < scope.limit
   pub inside : v.statement < length scope.statements.now
 
@@ -90,8 +90,8 @@ named files scope word v ready e =
     let trees = statement_trees scope.statements.now in
     let text = encode_utf8_all word in
     let s = seen_is scope.limit (get_by_text scope.variables.now text) v e in
-    let d : IsDefinedBy files trees ready.end text v =
-    subst (λ o. MatchOption o (IsUnassigned files trees ready.end text) (IsDefinedBy files trees ready.end text)) s.0 (ready.variables.each text) in
+    let d : IsDefinedBy files (bounds_of scope) trees ready.end text v =
+    subst (λ o. MatchOption o (IsUnassigned files trees ready.end text) (IsDefinedBy files (bounds_of scope) trees ready.end text)) s.0 (ready.variables.each text) in
     let k = context_at files trees v.statement in
     let found : variable_of (context_of files scope) word ≡ Some (variable_for k d.expr) = d.behind scope.limit s.1 ready.low in
     let within = slice_get_within trees v.statement _ d.assigns in
@@ -104,22 +104,22 @@ named files scope word v ready e =
           let at = d.assigns in
           let other = is.at in
           let same : d.expr ≡ e = cc in
-          subst (λ x. IsKindOf files v.kind (variable_for k x)) same d.kind;
+          subst (λ x. IsKindOf files (bounds_of scope) v.kind (variable_for k x)) same d.kind;
       low = s.1;
       inside = omega arith;
     }
 
-unmatched : (files : List File) (b : Option contexts.Variable) → Matches files None b → meaning_of_variable b ≡ Never
-unmatched files None m = refl
-unmatched files (Some v) m = absurd m
+unmatched : (files : List File) (bounds : List ℕ) (b : Option contexts.Variable) → Matches files bounds None b → meaning_of_variable b ≡ Never
+unmatched files bounds None m = refl
+unmatched files bounds (Some v) m = absurd m
 
 -- what a name means that stands for nothing
 pub unnamed : (files : List File) (scope : Scope) (word : List ℕ) → IsReady files scope →
     None ≡ visible scope.limit (get_by_text scope.variables.now (encode_utf8_all word)) →
     meaning_of_atom (context_of files scope) (name word) ≡ Never
 unnamed files scope word ready e =
-    let d = describes files (statement_trees scope.statements.now) scope.variables.now ready.end scope.limit ready.low ready.variables in
-    unmatched files (variable_of (context_of files scope) word) (subst (λ o. Matches files o (variable_of (context_of files scope) word)) (sym e)
+    let d = describes files (bounds_of scope) (statement_trees scope.statements.now) scope.variables.now ready.end scope.limit ready.low ready.variables in
+    unmatched files (bounds_of scope) (variable_of (context_of files scope) word) (subst (λ o. Matches files (bounds_of scope) o (variable_of (context_of files scope) word)) (sym e)
     (d.same (encode_utf8_all word)))
 
 -- an expression is a choice of its sequences, and a sequence its items

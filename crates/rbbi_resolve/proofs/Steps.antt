@@ -30,6 +30,7 @@ use Rattle.rbbi_resolve.specs.Files.{RuleMeaning, rule_in, rules_from, active_ru
 use Rattle.rbbi_resolve.specs.Scopes.{Variables, IsKindOf, Matches, visible, Describes, IsUnassigned, IsDefinedBy, AreVariables}
 use Rattle.rbbi_resolve.specs.Switchings.{AreSwitches}
 use Rattle.rbbi_resolve.specs.Countings.{AreCounting}
+use Rattle.rbbi_resolve.specs.declared.classes.Classes.{Classes}
 use Rattle.rbbi_resolve.specs.Readings.{IsReadTo}
 use Rattle.rbbi_resolve.proofs.Noting.{noted_of_append}
 
@@ -79,41 +80,41 @@ pub control_variables : (k : Context) (text : List ℕ) → (after_control k tex
 control_variables k text = control_keeps k (bytes_eq text (codes "chain")) (bytes_eq text (codes "quoted_literals_only")) (bytes_eq text (codes "forward"))
     (ends_active text)
 
-named_before : (files : List File) (statements : List StatementTree) (end limit : ℕ) (name : List ℕ) (v : Option Variable) → limit ≤ end →
-    MatchOption v (IsUnassigned files statements end name) (IsDefinedBy files statements end name) →
-    Matches files (visible limit v) (assigned_to (context_at files statements limit).variables name)
-named_before files statements end limit name None low is = subst (λ x. Matches files None x) (sym (is limit low)) tt
-named_before files statements end limit name (Some v) low is =
+named_before : (files : List File) (bounds : List ℕ) (statements : List StatementTree) (end limit : ℕ) (name : List ℕ) (v : Option Variable) → limit ≤ end →
+    MatchOption v (IsUnassigned files statements end name) (IsDefinedBy files bounds statements end name) →
+    Matches files bounds (visible limit v) (assigned_to (context_at files statements limit).variables name)
+named_before files bounds statements end limit name None low is = subst (λ x. Matches files bounds None x) (sym (is limit low)) tt
+named_before files bounds statements end limit name (Some v) low is =
     elim (cases_lt v.statement limit) [
       | inl lt ↦
           let test : nat_lt v.statement limit ≡ true = grind (arith, nat_tests) in
           let seen : visible limit (Some v) ≡ Some v = ap (λ b. if b then Some v else None) test in
-          subst (λ a. Matches files a (assigned_to (context_at files statements limit).variables name)) (sym seen)
-          (subst (λ x. Matches files (Some v) x) (sym (is.behind limit lt low)) is.kind)
+          subst (λ a. Matches files bounds a (assigned_to (context_at files statements limit).variables name)) (sym seen)
+          (subst (λ x. Matches files bounds (Some v) x) (sym (is.behind limit lt low)) is.kind)
       | inr ge ↦
           let test : nat_lt v.statement limit ≡ false = grind (arith, nat_tests) in
           let unseen : visible limit (Some v) ≡ None = ap (λ b. if b then Some v else None) test in
-          subst (λ a. Matches files a (assigned_to (context_at files statements limit).variables name)) (sym unseen)
-          (subst (λ x. Matches files None x) (sym (is.before limit ge)) tt)
+          subst (λ a. Matches files bounds a (assigned_to (context_at files statements limit).variables name)) (sym unseen)
+          (subst (λ x. Matches files bounds None x) (sym (is.before limit ge)) tt)
     ]
 
 -- the variables describe what stands before a limit
-pub describes : (files : List File) (statements : List StatementTree) (variables : Variables) (end limit : ℕ) → limit ≤ end →
-    AreVariables files statements variables end → Describes files statements variables limit
-describes files statements variables end limit low are =
-    record { same = λ name. named_before files statements end limit name (get_by_text variables name) low (are.each name) }
+pub describes : (files : List File) (bounds : List ℕ) (statements : List StatementTree) (variables : Variables) (end limit : ℕ) → limit ≤ end →
+    AreVariables files bounds statements variables end → Describes files bounds statements variables limit
+describes files bounds statements variables end limit low are =
+    record { same = λ name. named_before files bounds statements end limit name (get_by_text variables name) low (are.each name) }
 
-stays_named : (files : List File) (statements : List StatementTree) (n : ℕ) (name : List ℕ) (v : Option Variable) →
+stays_named : (files : List File) (bounds : List ℕ) (statements : List StatementTree) (n : ℕ) (name : List ℕ) (v : Option Variable) →
     assigned_to (context_at files statements (n + 1)).variables name ≡ assigned_to (context_at files statements n).variables name →
-    MatchOption v (IsUnassigned files statements n name) (IsDefinedBy files statements n name) →
-    MatchOption v (IsUnassigned files statements (n + 1) name) (IsDefinedBy files statements (n + 1) name)
-stays_named files statements n name None same is =
+    MatchOption v (IsUnassigned files statements n name) (IsDefinedBy files bounds statements n name) →
+    MatchOption v (IsUnassigned files statements (n + 1) name) (IsDefinedBy files bounds statements (n + 1) name)
+stays_named files bounds statements n name None same is =
     λ limit low.
     elim (cases_lt limit (n + 1)) [
       | inl lt ↦ is limit (omega arith)
       | inr ge ↦ let e : limit ≡ n + 1 = omega arith in ap (λ m. assigned_to (context_at files statements m).variables name) e ∙ same ∙ is n (omega arith)
     ]
-stays_named files statements n name (Some v) same is =
+stays_named files bounds statements n name (Some v) same is =
     record {
       word = is.word;
       place = is.place;
@@ -132,32 +133,32 @@ stays_named files statements n name (Some v) same is =
     }
 
 -- where a statement makes no variable, they stay
-pub stay_variables : (files : List File) (statements : List StatementTree) (variables : Variables) (n : ℕ) →
-    (context_at files statements (n + 1)).variables ≡ (context_at files statements n).variables → AreVariables files statements variables n →
-    AreVariables files statements variables (n + 1)
-stay_variables files statements variables n same are =
-    record { each = λ name. stays_named files statements n name (get_by_text variables name) (ap (λ vs. assigned_to vs name) same) (are.each name) }
+pub stay_variables : (files : List File) (bounds : List ℕ) (statements : List StatementTree) (variables : Variables) (n : ℕ) →
+    (context_at files statements (n + 1)).variables ≡ (context_at files statements n).variables → AreVariables files bounds statements variables n →
+    AreVariables files bounds statements variables (n + 1)
+stay_variables files bounds statements variables n same are =
+    record { each = λ name. stays_named files bounds statements n name (get_by_text variables name) (ap (λ vs. assigned_to vs name) same) (are.each name) }
 
 -- the variable that a statement makes
 abbrev pub made : List ℕ → contexts.Variable → contexts.Assigned
 made word variable = record { name = encode_utf8_all word; variable = variable }
 
-module _ (files : List File) (statements : List StatementTree) (variables variables' : Variables) (n : ℕ) (word : List ℕ) (place : ℕ) (expr : ExprTree)
+module _ (files : List File) (bounds : List ℕ) (statements : List StatementTree) (variables variables' : Variables) (n : ℕ) (word : List ℕ) (place : ℕ) (expr : ExprTree)
     (kind : Kind)
     (at : slice_get statements n ≡ Some (assign word place expr))
     (next : (context_at files statements (n + 1)).variables ≡ made word (variable_for (context_at files statements n) expr) ∷
     (context_at files statements n).variables)
     (unknown : get_by_text variables (encode_utf8_all word) ≡ None)
-    (kind_is : IsKindOf files kind (variable_for (context_at files statements n) expr))
+    (kind_is : IsKindOf files bounds kind (variable_for (context_at files statements n) expr))
     (put : (cs : List ℕ) → get_by_text variables' cs ≡ update bytes_eq (get_by_text variables) (encode_utf8_all word)
     (Some (record { statement = n; kind = kind })) cs)
-    (are : AreVariables files statements variables n) where
-  here : (name : List ℕ) → encode_utf8_all word ≡ name → bytes_eq (encode_utf8_all word) name ≡ true → IsDefinedBy files statements (n + 1) name
+    (are : AreVariables files bounds statements variables n) where
+  here : (name : List ℕ) → encode_utf8_all word ≡ name → bytes_eq (encode_utf8_all word) name ≡ true → IsDefinedBy files bounds statements (n + 1) name
       (record { statement = n; kind = kind })
   here name same is =
       let none : get_by_text variables name ≡ None = ap (get_by_text variables) (sym same) ∙ unknown in
       let before : IsUnassigned files statements n name =
-      subst (λ v. MatchOption v (IsUnassigned files statements n name) (IsDefinedBy files statements n name)) none (are.each name) in
+      subst (λ v. MatchOption v (IsUnassigned files statements n name) (IsDefinedBy files bounds statements n name)) none (are.each name) in
       record {
         word = word;
         place = place;
@@ -174,11 +175,11 @@ module _ (files : List File) (statements : List StatementTree) (variables variab
       }
 
   joined_named : (name : List ℕ) (b : Bool) → bytes_eq (encode_utf8_all word) name ≡ b →
-      MatchOption (get_by_text variables' name) (IsUnassigned files statements (n + 1) name) (IsDefinedBy files statements (n + 1) name)
+      MatchOption (get_by_text variables' name) (IsUnassigned files statements (n + 1) name) (IsDefinedBy files bounds statements (n + 1) name)
   joined_named name true is =
       let found : get_by_text variables' name ≡ Some (record { statement = n; kind = kind }) =
       put name ∙ ap (λ b. cond b (Some (record { statement = n; kind = kind })) (get_by_text variables name)) is in
-      subst (λ v. MatchOption v (IsUnassigned files statements (n + 1) name) (IsDefinedBy files statements (n + 1) name)) (sym found)
+      subst (λ v. MatchOption v (IsUnassigned files statements (n + 1) name) (IsDefinedBy files bounds statements (n + 1) name)) (sym found)
       (here name ((bytes_eq-Decides (encode_utf8_all word) name).0 is) is)
   joined_named name false is =
       let found : get_by_text variables' name ≡ get_by_text variables name =
@@ -186,46 +187,47 @@ module _ (files : List File) (statements : List StatementTree) (variables variab
       let same : assigned_to (context_at files statements (n + 1)).variables name ≡ assigned_to (context_at files statements n).variables name =
       ap (λ vs. assigned_to vs name) next
       ∙ ap (λ b. if b then Some (variable_for (context_at files statements n) expr) else assigned_to (context_at files statements n).variables name) is in
-      subst (λ v. MatchOption v (IsUnassigned files statements (n + 1) name) (IsDefinedBy files statements (n + 1) name)) (sym found)
-      (stays_named files statements n name (get_by_text variables name) same (are.each name))
+      subst (λ v. MatchOption v (IsUnassigned files statements (n + 1) name) (IsDefinedBy files bounds statements (n + 1) name)) (sym found)
+      (stays_named files bounds statements n name (get_by_text variables name) same (are.each name))
 
   -- a statement makes a variable
-  pub join_variable : AreVariables files statements variables' (n + 1)
+  pub join_variable : AreVariables files bounds statements variables' (n + 1)
   join_variable = record { each = λ name. joined_named name (bytes_eq (encode_utf8_all word) name) refl }
 
 -- both are there, or both absent
-pub matches_some : (files : List File) (a : Option Variable) (b : Option contexts.Variable) → Matches files a b → is_some a ≡ is_some b
-matches_some files None None m = refl
-matches_some files None (Some w) m = absurd m
-matches_some files (Some v) None m = absurd m
-matches_some files (Some v) (Some w) m = refl
+pub matches_some : (files : List File) (bounds : List ℕ) (a : Option Variable) (b : Option contexts.Variable) → Matches files bounds a b → is_some a ≡ is_some b
+matches_some files bounds None None m = refl
+matches_some files bounds None (Some w) m = absurd m
+matches_some files bounds (Some v) None m = absurd m
+matches_some files bounds (Some v) (Some w) m = refl
 
 -- a variable that isn't seen isn't there
-pub unseen : (files : List File) (statements : List StatementTree) (n : ℕ) (name : List ℕ) (v : Option Variable) →
-    MatchOption v (IsUnassigned files statements n name) (IsDefinedBy files statements n name) → is_some (visible n v) ≡ false → v ≡ None
-unseen files statements n name None is e = refl
-unseen files statements n name (Some v) is e =
+pub unseen : (files : List File) (bounds : List ℕ) (statements : List StatementTree) (n : ℕ) (name : List ℕ) (v : Option Variable) →
+    MatchOption v (IsUnassigned files statements n name) (IsDefinedBy files bounds statements n name) → is_some (visible n v) ≡ false → v ≡ None
+unseen files bounds statements n name None is e = refl
+unseen files bounds statements n name (Some v) is e =
     let low = is.within in
     let test : nat_lt v.statement n ≡ true = grind (arith, nat_tests) in
     let seen : is_some (visible n (Some v)) ≡ true = ap (λ b. is_some (if b then Some v else None)) test in
     absurd cc
 
 -- one statement further
-pub step : (files : List File) (ignored : Bool) (statements : List StatementTree) (n : ℕ) (s : StatementTree) (variables variables' : Variables)
+pub step : (files : List File) (classes : Classes) (ignored : Bool) (statements : List StatementTree) (n : ℕ) (s : StatementTree) (variables variables' : Variables)
     (least least' : Option Fault) (switches switches' : Switches) (counts counts' : declared.Counts) →
-    IsReadTo files ignored statements variables least switches counts n → slice_get statements n ≡ Some s →
-    AreVariables files statements variables' (n + 1) →
+    IsReadTo files classes ignored statements variables least switches counts n → slice_get statements n ≡ Some s →
+    AreVariables files classes.layout statements variables' (n + 1) →
     least' ≡ noted least (faults_of_statement ignored (context_at files statements n) s) →
     AreSwitches switches' (context_after (context_at files statements n) s) →
     ((left all : List RuleMeaning) → AreCounting counts (rule_in (context_at files statements n) s ++ left) all → AreCounting counts' left all) →
-    IsReadTo files ignored statements variables' least' switches' counts' (n + 1)
-step files ignored statements n s variables variables' least least' switches switches' counts counts' read at are note switch count =
+    IsReadTo files classes ignored statements variables' least' switches' counts' (n + 1)
+step files classes ignored statements n s variables variables' least least' switches switches' counts counts' read at are note switch count =
     let k = context_at files statements n in
     let k' = context_at files statements (n + 1) in
     let rest = drop (n + 1) statements in
     let next : k' ≡ context_after k s = context_next files statements n s at in
     let left : drop n statements ≡ s ∷ rest = left_here statements n s at in
     record {
+      classified = read.classified;
       defined = are;
       noted_so_far =
           ap (λ l. noted l (faults_from ignored k' rest)) note

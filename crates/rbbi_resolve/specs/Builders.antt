@@ -13,7 +13,8 @@ use Rattle.rbbi_resolve.specs.Meanings.{Meaning, Stands}
 use Rattle.rbbi_resolve.specs.Parts.{parts_of_expr}
 use Rattle.rbbi_resolve.specs.Faults.{faults_of_parts}
 use Rattle.rbbi_resolve.specs.Files.{context_at, faults_of}
-use Rattle.rbbi_resolve.specs.Scopes.{AreVariables}
+use Rattle.rbbi_resolve.specs.Scopes.{AreVariables, bounds_of}
+use Rattle.rbbi_resolve.specs.ClassValues.{AreClasses}
 use Rattle.rbbi_resolve.specs.Soundness.{AreSound}
 use Rattle.rbbi_resolve.specs.RuleLists.{IsLeafSet}
 use Rattle.rbbi_resolve.specs.RuleTrees.{tree_of, numbers_of}
@@ -72,7 +73,8 @@ pub record GoesOn (files : List File) (statements : List StatementTree) (sets se
 -- the file has no fault, and the variables are those that its statements assign
 pub record IsReady (files : List File) (scope : Scope) : Type 0 where
   pub end : ℕ
-  pub variables : AreVariables files (statement_trees scope.statements.now) scope.variables.now end
+  pub classes : AreClasses files scope.classes.now
+  pub variables : AreVariables files (bounds_of scope) (statement_trees scope.statements.now) scope.variables.now end
   pub low : scope.limit ≤ end
   pub ignored : Bool
   pub none : faults_of files ignored (statement_trees scope.statements.now) ≡ []

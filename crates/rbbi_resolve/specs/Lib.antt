@@ -6,7 +6,6 @@ pub mod Contexts
 pub mod Expressions
 pub mod Parts
 pub mod Emptiness
-pub mod Memberships
 pub mod Faults
 pub mod Files
 pub mod Counts
@@ -25,7 +24,6 @@ pub mod Builders
 pub mod RulesSoFar
 pub mod Outcomes
 pub mod Questions
-pub mod SetsSoFar
-pub mod Repeats
+pub mod ClassValues
 pub mod TextCharacters
 pub mod Laws

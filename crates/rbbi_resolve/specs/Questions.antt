@@ -3,16 +3,17 @@ use Rattle.std.specs.Prelude.{◌≡◌, ℕ, Bool, Option, List, option_map, ch
 use Rattle.std.specs.Rc.{rc_value}
 use Rattle.rbbi_props.specs.Rows.{File}
 use Rattle.rbbi_resolve.specs.declared.properties.Answer.{Answer}
+use Rattle.rbbi_resolve.specs.declared.question.Question.{Question}
 use Rattle.rbbi_resolve.specs.SetValues.{IsValue, value_of_property}
 
--- the answer is that for a property, by the characters of its name and value
-pub record IsFor (answer : Answer) (negated : Bool) (word : List ℕ) (word_of_value : Option (List ℕ)) : Type 0 where
-  pub sign : answer.negated ≡ negated
-  pub name_is : chars (string_bytes answer.name) ≡ word
-  pub value_is : option_map (λ text. chars (string_bytes text)) answer.value ≡ word_of_value
+-- the question is that for a property, by the characters of its name and value
+pub record IsFor (question : Question) (negated : Bool) (word : List ℕ) (word_of_value : Option (List ℕ)) : Type 0 where
+  pub sign : question.negated ≡ negated
+  pub name_is : chars (string_bytes question.name) ≡ word
+  pub value_is : option_map (λ text. chars (string_bytes text)) question.value ≡ word_of_value
 
 -- the answer is right: its set is the value of the property
 abbrev pub IsAnswer : List File → Answer → Type 0
 IsAnswer files answer =
-    IsValue files (value_of_property files answer.negated (chars (string_bytes answer.name)) (option_map (λ text. chars (string_bytes text)) answer.value))
+    IsValue files (value_of_property files (rc_value answer.question).negated (chars (string_bytes (rc_value answer.question).name)) (option_map (λ text. chars (string_bytes text)) (rc_value answer.question).value))
     (rc_value answer.set)

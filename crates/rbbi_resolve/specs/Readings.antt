@@ -7,7 +7,9 @@ use Rattle.rbbi_resolve.specs.declared.fault.Fault.{Fault}
 use Rattle.rbbi_resolve.specs.declared.switches.Switches.{Switches}
 use Rattle.rbbi_resolve.specs.declared.counts.Counts as declared
 use Rattle.rbbi_resolve.specs.declared.file.Reading.{Reading}
+use Rattle.rbbi_resolve.specs.declared.classes.Classes.{Classes}
 use Rattle.rbbi_resolve.specs.Faults.{noted}
+use Rattle.rbbi_resolve.specs.ClassValues.{AreClasses}
 use Rattle.rbbi_resolve.specs.Files.{context_at, faults_from, faults_of, rules_from, active_rules}
 use Rattle.rbbi_resolve.specs.Scopes.{Variables, AreVariables}
 use Rattle.rbbi_resolve.specs.Switchings.{AreSwitches}
@@ -15,16 +17,17 @@ use Rattle.rbbi_resolve.specs.Countings.{AreCounting}
 
 -- The statements before this number were read: the variables and the switches are those before it, and what was noted and
 -- counted goes on with the statements that are left.
-pub record IsReadTo (files : List File) (ignored : Bool) (statements : List StatementTree) (variables : Variables) (least : Option Fault)
+pub record IsReadTo (files : List File) (classes : Classes) (ignored : Bool) (statements : List StatementTree) (variables : Variables) (least : Option Fault)
     (switches : Switches) (counts : declared.Counts) (number : ℕ) : Type 0 where
-  pub defined : AreVariables files statements variables number
+  pub classified : AreClasses files classes
+  pub defined : AreVariables files classes.layout statements variables number
   pub noted_so_far : noted least (faults_from ignored (context_at files statements number) (drop number statements)) ≡ noted None
       (faults_of files ignored statements)
   pub switched : AreSwitches switches (context_at files statements number)
   pub counted_so_far : AreCounting counts (rules_from (context_at files statements number) (drop number statements)) (active_rules files statements)
 
 abbrev pub IsReading : Reading → ℕ → Type 0
-IsReading r number = IsReadTo r.properties r.dictionary_ignored (statement_trees r.statements.now) r.variables r.least r.switches r.counts number
+IsReading r number = IsReadTo r.properties r.classes r.dictionary_ignored (statement_trees r.statements.now) r.variables r.least r.switches r.counts number
 
 -- the reading went on to this number
 pub record ReadsOn (before after : Reading) (number : ℕ) : Type 0 where

@@ -126,6 +126,7 @@ fn rules_with_trees(
         let inner = Scope {
             statements: scope.statements,
             variables: scope.variables,
+            classes: scope.classes,
             limit: number,
             quoted_only: scope.quoted_only,
         };
@@ -151,12 +152,14 @@ pub(crate) fn build_rules(alloc: Global, reading: Reading) -> Result<Rules, Allo
         statements,
         properties,
         variables,
+        classes,
         counts,
         ..
     } = reading;
     let scope = Scope {
         statements,
         variables: &variables,
+        classes: &classes,
         limit: statements.len(),
         quoted_only: false,
     };

@@ -11,7 +11,7 @@ ghost use Rattle.rbbi_resolve.specs.Expressions.{word_of, meaning_of_expr, meani
 ghost use Rattle.rbbi_resolve.specs.Expressions.{meaning_of_item, meaning_of_atom, variable_for};
 ghost use Rattle.rbbi_resolve.specs.Parts.{parts_of_expr};
 ghost use Rattle.rbbi_resolve.specs.Faults.{faults_of_parts};
-ghost use Rattle.rbbi_resolve.specs.Scopes.{IsKindOf, context_of};
+ghost use Rattle.rbbi_resolve.specs.Scopes.{IsKindOf, bounds_of, context_of};
 ghost use Rattle.rbbi_resolve.specs.OwnLeaves.{leaves_of_expr, leaves_of_seq, leaves_of_item};
 ghost use Rattle.rbbi_resolve.specs.OwnLeaves.{leaves_of_atom};
 ghost use Rattle.rbbi_resolve.specs.Builders.{StandFrom, IsBuilt, IsBuilder, IsAssigned, GoesOn};
@@ -84,7 +84,7 @@ impl<'a> Builder<'a> {
             self.old.sets.items self.old.bases.items }
         requires faultless { faults_of_parts (context_of self.old.properties scope.now)
             (parts_of_expr (expr_tree expr.now)) ≡ [] }
-        requires kept { IfSome kept (λ kind. IsKindOf self.old.properties kind.now
+        requires kept { IfSome kept (λ kind. IsKindOf self.old.properties (bounds_of scope.now) kind.now
             (variable_for (context_of self.old.properties scope.now) (expr_tree expr.now))) }
         ensures on { OnOk result (GoesOn self.old.properties
             (statement_trees scope.now.statements.now)
@@ -121,7 +121,7 @@ impl<'a> Builder<'a> {
             self.old.sets.items self.old.bases.items }
         requires assigned { IsAssigned (statement_trees scope.now.statements.now) scope.now.limit
             (expr_tree expr.now) }
-        requires kept { IsKindOf self.old.properties kept.now
+        requires kept { IsKindOf self.old.properties (bounds_of scope.now) kept.now
             (variable_for (context_of self.old.properties scope.now) (expr_tree expr.now)) }
         ensures on { OnOk result (GoesOn self.old.properties
             (statement_trees scope.now.statements.now)
@@ -156,7 +156,7 @@ impl<'a> Builder<'a> {
         requires inside { scope.now.limit < length scope.now.statements.now }
         requires kept { (expr : ExprTree)
             → IsAssigned (statement_trees scope.now.statements.now) scope.now.limit expr
-            → IsKindOf self.old.properties kept.now
+            → IsKindOf self.old.properties (bounds_of scope.now) kept.now
             (variable_for (context_of self.old.properties scope.now) expr) }
         ensures on { OnOk result (GoesOn self.old.properties
             (statement_trees scope.now.statements.now)
@@ -316,6 +316,7 @@ impl<'a> Builder<'a> {
                     let inner = Scope {
                         statements: scope.statements,
                         variables: scope.variables,
+                        classes: scope.classes,
                         limit: variable.statement,
                         quoted_only: scope.quoted_only,
                     };

@@ -1,14 +1,14 @@
 //! The faults of expressions, and their counts.
 ghost use Rattle.std.specs.Prelude.{◌≡◌, ◌+◌, ℕ, List, Option, Some, None, IfOk, OnOk};
 ghost use Rattle.std.specs.Prelude.{[], ◌∷◌};
-ghost use Rattle.std.specs.Rc.{rc_value};
 ghost use Rattle.rbbi_model.specs.SetTrees as model;
 ghost use Rattle.rbbi_props.specs.Rows.{File};
 ghost use Rattle.rbbi_tree.specs.Trees.{name as named_atom, property as property_atom};
 ghost use Rattle.rbbi_tree.specs.Trees.{set as set_atom, placed};
 ghost use Rattle.rbbi_tree.specs.declared.syntax.Quant.{Quant};
 ghost use Rattle.rbbi_tree.specs.Values.{expr_tree, seq_tree, item_tree, atom_tree, set_tree};
-ghost use Rattle.rbbi_resolve.specs.SetValues.{IsValue, value_of_set, value_of_property};
+ghost use Rattle.rbbi_resolve.specs.SetValues.{IsValue, value_of_set};
+ghost use Rattle.rbbi_resolve.specs.ClassValues.{IsClassValue};
 ghost use Rattle.rbbi_resolve.specs.Contexts as contexts;
 ghost use Rattle.rbbi_resolve.specs.Contexts.{value_of_name, variable_of};
 ghost use Rattle.rbbi_resolve.specs.Expressions.{meaning_of_expr, meaning_of_seq, meaning_of_item};
@@ -17,7 +17,7 @@ ghost use Rattle.rbbi_resolve.specs.Expressions.{height_of_expr, height_of_seq, 
 ghost use Rattle.rbbi_resolve.specs.Expressions.{height_of_atom, height_of_variable, variable_for};
 ghost use Rattle.rbbi_resolve.specs.Parts.{Outside, parts_of_expr, parts_of_seq, parts_of_item};
 ghost use Rattle.rbbi_resolve.specs.Faults.{noted_parts, is_empty_value};
-ghost use Rattle.rbbi_resolve.specs.Scopes.{IsScope, KnowsQuotes, IsKindOf, context_of};
+ghost use Rattle.rbbi_resolve.specs.Scopes.{IsScope, KnowsQuotes, IsKindOf, bounds_of, context_of};
 ghost use Rattle.rbbi_resolve.specs.Summaries.{Summarizes};
 
 use crate::fault::{Fault, note, note_where};
@@ -25,12 +25,10 @@ use crate::properties::Properties;
 use crate::scope::Scope;
 use crate::set_value::value_of_set;
 use crate::variables::{Kind, Summary};
-use crate::witness::note_set;
-use rbbi_sets::CodeSet;
+use rbbi_sets::{ClassSet, CodeSet, Layout};
 use rbbi_text::Word;
 use rbbi_tree::{Atom, Expr, Item, Seq, SetExpr};
 use std::alloc::{AllocError, Global};
-use std::rc::Rc;
 
 /// Notes the faults of an expression, and counts it.
 #[cycle(check)]
@@ -146,7 +144,7 @@ fn check_atom(
             Ok(Summary::leaf())
         }
         Atom::Set(set) => {
-            note_set(alloc, scope, properties, least, place, set)?;
+            check_set(alloc, scope, properties, least, place, set)?;
             Ok(Summary::leaf())
         }
         Atom::Group(inner) => {
@@ -176,7 +174,8 @@ fn check_name(scope: &Scope, least: &mut Option<Fault>, place: u32, name: &Word)
 
 /// The counts of a variable, used as an atom.
 fn summary_of(kind: &Kind) -> Summary
-    ensures { (files : List File) (variable : contexts.Variable) → IsKindOf files kind.now variable
+    ensures { (files : List File) (bounds : List ℕ) (variable : contexts.Variable)
+        → IsKindOf files bounds kind.now variable
         → Summarizes result (meaning_of_variable (Some variable))
         (height_of_variable (Some variable)) }
 {
@@ -186,7 +185,7 @@ fn summary_of(kind: &Kind) -> Summary
     }
 }
 
-/// The value of a property that stands as an atom. Notes where it is unknown or holds no character.
+/// Notes where a property that stands as an atom is unknown or holds no character.
 pub(crate) fn check_property(
     alloc: Global,
     properties: &mut Properties,
@@ -195,12 +194,10 @@ pub(crate) fn check_property(
     negated: bool,
     name: &Word,
     value: &Option<Word>,
-) -> Result<Rc<Option<CodeSet>>, AllocError>
+) -> Result<(), AllocError>
     ensures noted { OnOk result ((context : contexts.Context) → context.files ≡ properties.old
         → least.new ≡ noted_parts context least.old
         (Outside place (property_atom negated name.now value.now) ∷ [])) }
-    ensures value { IfOk result (λ set. IsValue properties.old
-        (value_of_property properties.old negated name.now value.now) (rc_value set)) }
     ensures same { properties.new ≡ properties.old }
 {
     let set = properties.set_of(alloc, negated, name, value)?;
@@ -208,10 +205,10 @@ pub(crate) fn check_property(
     note_where(least, found.is_none(), place, 7);
     let is_empty = is_empty_value(found);
     note_where(least, is_empty, place, 9);
-    Ok(set)
+    Ok(())
 }
 
-/// The value of a set that is assigned. Notes the faults in it, and where it holds no
+/// The value of a set that stands as an atom. Notes the faults in it, and where it holds no
 /// character.
 pub(crate) fn check_set(
     alloc: Global,
@@ -220,24 +217,35 @@ pub(crate) fn check_set(
     least: &mut Option<Fault>,
     place: u32,
     set: &SetExpr,
-) -> Result<Option<CodeSet>, AllocError>
+) -> Result<Option<ClassSet>, AllocError>
     requires { IsScope properties.old scope.now }
     ensures noted { OnOk result ((quant : Quant) →
         least.new ≡ noted_parts (context_of properties.old scope.now) least.old
         (parts_of_item (placed place (set_atom (set_tree set.now)) quant))) }
-    ensures value { IfOk result (λ value. IsValue properties.old
+    ensures value { IfOk result (λ value. IsClassValue properties.old (bounds_of scope.now)
         (value_of_set properties.old (value_of_name (context_of properties.old scope.now))
         (set_tree set.now)) value) }
     ensures same { properties.new ≡ properties.old }
 {
     let value = value_of_set(alloc, scope, properties, least, set)?;
-    let is_empty = is_empty_value(&value);
+    let is_empty = is_empty_set(&scope.classes.layout, &value);
     note_where(least, is_empty, place, 9);
     Ok(value)
 }
 
-/// Whether a set has a value and holds no character.
-pub(crate) fn is_empty_value(value: &Option<CodeSet>) -> bool
+/// Whether a set of classes has a value and holds no character.
+fn is_empty_set(layout: &Layout, value: &Option<ClassSet>) -> bool
+    ensures { (files : List File) (tree : Option model.SetTree)
+        → IsClassValue files layout.now tree value.now → result ≡ is_empty_value files tree }
+{
+    match value {
+        Some(set) => !set.holds_character(layout),
+        None => false,
+    }
+}
+
+/// Whether a property is known and holds no character.
+fn is_empty_value(value: &Option<CodeSet>) -> bool
     ensures { (files : List File) (tree : Option model.SetTree)
         → IsValue files tree value.now → result ≡ is_empty_value files tree }
 {

@@ -9,15 +9,16 @@ ghost use Rattle.rbbi_resolve.specs.Expressions.{variable_for, set_of_atom, set_
 ghost use Rattle.rbbi_resolve.specs.Parts.{parts_of_expr, parts_of_item};
 ghost use Rattle.rbbi_resolve.specs.Faults.{noted_parts};
 ghost use Rattle.rbbi_resolve.specs.Contexts as contexts;
-ghost use Rattle.rbbi_resolve.specs.Scopes.{IsScope, KnowsQuotes, IsKindOf, context_of};
+ghost use Rattle.rbbi_resolve.specs.Scopes.{IsScope, KnowsQuotes, IsKindOf, bounds_of, context_of};
 ghost use Rattle.rbbi_resolve.specs.Definitions.{AreSetOf, noted_if_set};
 
 use crate::check::{check_expr, check_property, check_set};
 use crate::fault::Fault;
 use crate::properties::Properties;
 use crate::scope::Scope;
+use crate::set_value::value_of_property;
 use crate::variables::Kind;
-use rbbi_sets::SharedSet;
+use rbbi_sets::SharedClasses;
 use rbbi_tree::{Atom, Expr, Item, Quant};
 use std::alloc::{AllocError, Global};
 
@@ -34,7 +35,7 @@ pub(crate) fn check_definition(
     ensures noted { OnOk result (least.new ≡ noted_parts
         (context_of properties.old scope.now) least.old
         (parts_of_expr (expr_tree expr.now))) }
-    ensures kind { IfOk result (λ kind. IsKindOf properties.old kind
+    ensures kind { IfOk result (λ kind. IsKindOf properties.old (bounds_of scope.now) kind
         (variable_for (context_of properties.old scope.now) (expr_tree expr.now))) }
     ensures same { properties.new ≡ properties.old }
 {
@@ -54,12 +55,12 @@ fn check_lone(
     properties: &mut Properties,
     least: &mut Option<Fault>,
     expr: &Expr,
-) -> Result<Option<Option<SharedSet>>, AllocError>
+) -> Result<Option<Option<SharedClasses>>, AllocError>
     requires { IsScope properties.old scope.now }
     ensures noted { IfOk result (λ found. least.new ≡ noted_if_set
         (context_of properties.old scope.now) least.old
         (parts_of_expr (expr_tree expr.now)) found) }
-    ensures value { IfOk result (λ found. AreSetOf properties.old
+    ensures value { IfOk result (λ found. AreSetOf properties.old (bounds_of scope.now)
         (set_of_expr (context_of properties.old scope.now) (expr_tree expr.now)) found) }
     ensures same { properties.new ≡ properties.old }
 {
@@ -77,12 +78,12 @@ fn check_lone_atom(
     least: &mut Option<Fault>,
     place: u32,
     atom: &Atom,
-) -> Result<Option<Option<SharedSet>>, AllocError>
+) -> Result<Option<Option<SharedClasses>>, AllocError>
     requires { IsScope properties.old scope.now }
     ensures noted { IfOk result (λ found. least.new ≡ noted_if_set
         (context_of properties.old scope.now) least.old
         (parts_of_item (placed place (atom_tree atom.now) Once)) found) }
-    ensures value { IfOk result (λ found. AreSetOf properties.old
+    ensures value { IfOk result (λ found. AreSetOf properties.old (bounds_of scope.now)
         (set_of_atom (context_of properties.old scope.now) (atom_tree atom.now)) found) }
     ensures same { properties.new ≡ properties.old }
 {
@@ -92,8 +93,9 @@ fn check_lone_atom(
             name,
             value,
         } => {
-            let set = check_property(alloc, properties, least, place, *negated, name, value)?;
-            let kept = properties.keep(alloc, set.as_ref())?;
+            check_property(alloc, properties, least, place, *negated, name, value)?;
+            let set = value_of_property(alloc, scope, properties, *negated, name, value)?;
+            let kept = properties.keep(alloc, &set)?;
             Ok(Some(kept))
         }
         Atom::Set(set) => {
@@ -113,7 +115,7 @@ fn check_lone_atom(
 }
 
 /// A copy of a set that may be absent.
-fn copy_of(set: &Option<SharedSet>) -> Result<Option<SharedSet>, AllocError>
+fn copy_of(set: &Option<SharedClasses>) -> Result<Option<SharedClasses>, AllocError>
     ensures { IfOk result (λ copy. copy ≡ set.now) }
 {
     match set {

@@ -5,6 +5,7 @@ ghost use Rattle.rbbi_tree.specs.Trees as trees;
 ghost use Rattle.rbbi_tree.specs.Values.{statement_trees, expr_tree, rest_tree};
 ghost use Rattle.rbbi_resolve.specs.Readings.{IsReading, ReadsOn};
 
+use crate::classes::Classes;
 use crate::counts::Counts;
 use crate::definition::check_definition;
 use crate::fault::{Fault, note_where};
@@ -22,6 +23,7 @@ use std::alloc::{AllocError, Global};
 pub(crate) struct Reading<'a> {
     pub(crate) statements: &'a Statements,
     pub(crate) properties: Properties<'a>,
+    pub(crate) classes: Classes,
     /// Whether an assignment to `$dictionary` is one like any other.
     pub(crate) dictionary_ignored: bool,
     pub(crate) variables: Variables,
@@ -99,6 +101,7 @@ impl<'a> Reading<'a> {
         let scope = Scope {
             statements: self.statements,
             variables: &self.variables,
+            classes: &self.classes,
             limit: number,
             quoted_only: self.switches.quoted_only,
         };
@@ -142,6 +145,7 @@ impl<'a> Reading<'a> {
         let scope = Scope {
             statements: self.statements,
             variables: &self.variables,
+            classes: &self.classes,
             limit: number,
             quoted_only: self.switches.quoted_only,
         };

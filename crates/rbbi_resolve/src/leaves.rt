@@ -1,11 +1,12 @@
 //! The sets of the leaves of expressions.
-ghost use Rattle.std.specs.Prelude.{◌≡◌, ◌≤◌, ℕ, OnOk, List, [], ◌∷◌, Some, map, false};
+ghost use Rattle.std.specs.Prelude.{◌≡◌, ◌≤◌, ℕ, IfOk, OnOk, List, [], ◌∷◌, Option, Some, map, false};
 ghost use Rattle.rbbi_model.specs.Words.{IsSurrogate};
 ghost use Rattle.rbbi_model.specs.Ranges.{Has};
 ghost use Rattle.rbbi_model.specs.SetTrees as model;
 ghost use Rattle.rbbi_props.specs.Rows.{File};
 ghost use Rattle.rbbi_tree.specs.Values.{expr_tree, seq_tree, item_tree};
 ghost use Rattle.rbbi_resolve.specs.SetValues.{IsValue, HasMembers};
+ghost use Rattle.rbbi_resolve.specs.ClassValues.{IsClassValue};
 ghost use Rattle.rbbi_resolve.specs.Parts.{parts_of_expr, parts_of_seq, parts_of_item};
 ghost use Rattle.rbbi_resolve.specs.Faults.{faults_of_parts, is_empty_value};
 ghost use Rattle.rbbi_resolve.specs.Scopes.{IsScope, context_of};
@@ -17,7 +18,7 @@ use crate::fault::Fault;
 use crate::properties::Properties;
 use crate::scope::Scope;
 use crate::set_value::value_of_set;
-use rbbi_sets::CodeSet;
+use rbbi_sets::{ClassSet, CodeSet, Layout};
 use rbbi_text::Word;
 use rbbi_tree::{Atom, Expr, Item, Seq};
 use std::alloc::{AllocError, Global};
@@ -106,13 +107,29 @@ fn add_leaves_of_item(
         Atom::Set(set) => {
             let mut least: Option<Fault> = None;
             let value = value_of_set(alloc, scope, properties, &mut least, set)?;
-            add_value(alloc, sets, &value)?;
+            let whole = set_of_classes(alloc, &scope.classes.layout, &value)?;
+            add_value(alloc, sets, &whole)?;
             Ok(())
         }
         Atom::Group(inner) => {
             add_leaves(alloc, scope, properties, sets, inner)?;
             Ok(())
         }
+    }
+}
+
+/// The same set by its ranges, where there is one.
+pub(crate) fn set_of_classes(
+    alloc: Global,
+    layout: &Layout,
+    value: &Option<ClassSet>,
+) -> Result<Option<CodeSet>, AllocError>
+    ensures { IfOk result (λ set. (files : List File) (tree : Option model.SetTree) →
+        IsClassValue files layout.now tree value.now → IsValue files tree set) }
+{
+    match value {
+        Some(classes) => Ok(Some(classes.to_set(alloc, layout)?)),
+        None => Ok(None),
     }
 }
 

@@ -5,31 +5,30 @@
 mod active;
 mod build;
 mod check;
+mod classes;
+mod collect;
 mod counts;
 mod definition;
+mod division;
 mod error;
 mod fault;
 mod file;
-mod joining;
 mod laws;
 mod leaves;
-mod membership;
 mod outcome;
 mod own_leaves;
 mod properties;
-mod repeats;
+mod question;
 mod rule;
 mod rules;
 mod scope;
 mod set_value;
-mod so_far;
 mod summary;
 mod switches;
 #[cfg(test)]
 mod tests;
 mod tree;
 mod variables;
-mod witness;
 
 pub use error::ResolveErr;
 pub use laws::{

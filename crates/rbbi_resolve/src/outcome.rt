@@ -9,6 +9,7 @@ ghost use Rattle.rbbi_resolve.specs.Refusals.{IsRefusedFor};
 ghost use Rattle.rbbi_resolve.specs.Readings.{IsReading};
 
 use crate::active::build_rules;
+use crate::classes::Classes;
 use crate::counts::Counts;
 use crate::error::{ResolveErr, refusal};
 use crate::file::Reading;
@@ -65,9 +66,12 @@ fn read_all<'a>(
     ensures properties { IfOk result (λ reading. reading.properties ≡ props.now) }
     ensures ignored { IfOk result (λ reading. reading.dictionary_ignored ≡ ignore_dictionary) }
 {
+    let mut properties = Properties::new(alloc, props);
+    let classes = Classes::of(alloc, &mut properties, statements)?;
     let mut reading = Reading {
         statements,
-        properties: Properties::new(alloc, props),
+        properties,
+        classes,
         dictionary_ignored: ignore_dictionary,
         variables: IndexMap::new(alloc),
         least: None,

@@ -4,18 +4,18 @@ ghost use Rattle.rbbi_tree.specs.Values.{expr_tree};
 ghost use Rattle.rbbi_resolve.specs.Expressions.{variable_for};
 ghost use Rattle.rbbi_resolve.specs.Parts.{parts_of_expr};
 ghost use Rattle.rbbi_resolve.specs.Faults.{faults_of_parts};
-ghost use Rattle.rbbi_resolve.specs.Scopes.{IsScope, IsKindOf, context_of};
+ghost use Rattle.rbbi_resolve.specs.Scopes.{IsScope, IsKindOf, bounds_of, context_of};
 ghost use Rattle.rbbi_resolve.specs.Soundness.{AreSound};
 ghost use Rattle.rbbi_resolve.specs.OwnLeaves.{AddsLeaves, leaves_of_expr};
 ghost use Rattle.rbbi_resolve.specs.LoneSets.{IsLoneSet};
 
 use crate::definition::lone_item;
-use crate::leaves::{add_leaves, add_value};
+use crate::leaves::{add_leaves, add_value, set_of_classes};
 use crate::properties::Properties;
 use crate::scope::Scope;
 use crate::set_value::whole_of;
 use crate::variables::Kind;
-use rbbi_sets::{CodeSet, SharedSet};
+use rbbi_sets::{CodeSet, SharedClasses};
 use rbbi_tree::{Atom, Expr};
 use std::alloc::{AllocError, Global};
 
@@ -32,7 +32,7 @@ pub(crate) fn add_own_leaves(
     expr: &Expr,
 ) -> Result<(), AllocError>
     requires scope { IsScope properties.old scope.now }
-    requires kept { IfSome kept (λ kind. IsKindOf properties.old kind.now
+    requires kept { IfSome kept (λ kind. IsKindOf properties.old (bounds_of scope.now) kind.now
         (variable_for (context_of properties.old scope.now) (expr_tree expr.now))) }
     ensures added { OnOk result (AreSound (context_of properties.old scope.now)
         → faults_of_parts (context_of properties.old scope.now)
@@ -45,7 +45,8 @@ pub(crate) fn add_own_leaves(
     if let Some(kind) = kept {
         if let Some(value) = kept_value(kind, expr) {
             let whole = whole_of(alloc, value)?;
-            add_value(alloc, sets, &whole)?;
+            let set = set_of_classes(alloc, &scope.classes.layout, &whole)?;
+            add_value(alloc, sets, &set)?;
             return Ok(());
         }
     }
@@ -54,7 +55,7 @@ pub(crate) fn add_own_leaves(
 }
 
 /// The kept value of an expression that is a set or a property alone.
-fn kept_value<'a>(kind: &'a Kind, expr: &Expr) -> Option<&'a Option<SharedSet>>
+fn kept_value<'a>(kind: &'a Kind, expr: &Expr) -> Option<&'a Option<SharedClasses>>
     ensures kept { IfSome result (λ value. kind.now ≡ Kind.Set value.now) }
     ensures lone { IfSome result (λ value. IsLoneSet (expr_tree expr.now)) }
 {

@@ -1,14 +1,19 @@
 //! The sets of properties, each looked up once.
-ghost use Rattle.std.specs.Prelude.{◌≡◌, IfOk, IfSome, IsTrue};
+ghost use Rattle.std.specs.Prelude.{◌≡◌, IfOk, IfSome, OnOk, IsTrue};
 ghost use Rattle.std.specs.Rc.{rc_value};
 ghost use Rattle.rbbi_props.specs.Lookups.{IsSetOf};
 ghost use Rattle.rbbi_resolve.specs.SetValues.{IsValue, value_of_property, found};
-ghost use Rattle.rbbi_resolve.specs.Questions.{IsFor, IsAnswer};
-ghost use Rattle.std.specs.Prelude.{string_bytes, chars, option_map};
+ghost use Rattle.rbbi_resolve.specs.Questions.{IsAnswer};
+ghost use Rattle.rbbi_resolve.specs.ClassValues.{IsKnown, IsDivided};
+ghost use Rattle.std.specs.HashMap.{values};
+ghost use Rattle.std.specs.List.{All};
 
+use crate::classes::PropertyClasses;
+use crate::division::{Divided, divide_once};
+use crate::question::{Question, key_of, text_of};
 use indexmap::IndexMap;
 use rbbi_props::PropTable;
-use rbbi_sets::{CodeSet, SharedSet, Shelf};
+use rbbi_sets::{ClassSet, ClassShelf, CodeRange, CodeSet, Layout, SharedClasses};
 use rbbi_text::Word;
 use std::alloc::{AllocError, Global};
 use std::marker::Model;
@@ -17,34 +22,8 @@ use std::rc::Rc;
 /// A property that was asked for, and what was found.
 #[derive(Debug, Drop)]
 struct Answer {
-    negated: bool,
-    name: String,
-    value: Option<String>,
+    question: Rc<Question>,
     set: Rc<Option<CodeSet>>,
-}
-
-impl Answer {
-    /// Whether this is the answer for a property.
-    fn is_for(&self, negated: bool, name: &Word, value: &Option<Word>) -> bool
-        ensures { IsTrue result → IsFor self.now negated name.now value.now }
-    {
-        self.negated == negated
-            && self.name.as_str() == name.as_str()
-            && is_text_of(&self.value, value)
-    }
-}
-
-/// Whether both are absent, or the text is that of the word.
-fn is_text_of(text: &Option<String>, word: &Option<Word>) -> bool
-    ensures { IsTrue result → option_map (λ t. chars (string_bytes t)) text.now ≡ word.now }
-{
-    match text {
-        Some(text) => match word {
-            Some(word) => text.as_str() == word.as_str(),
-            None => false,
-        },
-        None => word.is_none(),
-    }
 }
 
 /// The sets of properties, by a table of property files and the database.
@@ -59,8 +38,10 @@ pub(crate) struct Properties<'a> {
     /// What was found, by a hash, since a property may be spelled in many ways. Of sets with one
     /// hash the last one is here.
     sets: IndexMap<u64, Rc<Option<CodeSet>>>,
+    /// All that was found.
+    found: Vec<Rc<Option<CodeSet>>>,
     /// The chunks of the sets of variables.
-    shelf: Shelf,
+    shelf: ClassShelf,
 }
 
 impl<'a> Model for Properties<'a> {
@@ -88,7 +69,8 @@ impl<'a> Properties<'a> {
             table,
             answers: IndexMap::new(alloc),
             sets: IndexMap::new(alloc),
-            shelf: Shelf::new(alloc),
+            found: Vec::new(alloc),
+            shelf: ClassShelf::new(alloc),
         }
     }
 
@@ -109,7 +91,7 @@ impl<'a> Properties<'a> {
             return Ok(found);
         }
         let found = find(alloc, self.table, negated, name, value)?;
-        let set = keep_once(alloc, &mut self.sets, found)?;
+        let set = keep_once(alloc, &mut self.sets, &mut self.found, found)?;
         let answer = answer_of(alloc, self.table, negated, name, value, set.clone()?)?;
         self.answers.insert(key, answer)?;
         Ok(set)
@@ -128,7 +110,7 @@ impl<'a> Properties<'a> {
     {
         match self.answers.get(key) {
             Some(answer) => {
-                if answer.is_for(negated, name, value) {
+                if answer.question.is_for(negated, name, value) {
                     let set = answer.set.clone()?;
                     Ok(Some(set))
                 } else {
@@ -143,8 +125,8 @@ impl<'a> Properties<'a> {
     pub(crate) fn keep(
         &mut self,
         alloc: Global,
-        set: &Option<CodeSet>,
-    ) -> Result<Option<SharedSet>, AllocError>
+        set: &Option<ClassSet>,
+    ) -> Result<Option<SharedClasses>, AllocError>
         ensures value { IfOk result (λ kept. kept ≡ set.now) }
         ensures same { self.new ≡ self.old }
     {
@@ -156,22 +138,63 @@ impl<'a> Properties<'a> {
             None => Ok(None),
         }
     }
+
+    /// Adds the bounds of the sets that were found.
+    pub(crate) fn collect(&self, bounds: &mut Vec<u32>) -> Result<(), AllocError> {
+        for set in &self.found {
+            if let Some(set) = set.as_ref() {
+                push_all_bounds(bounds, set.ranges())?;
+            }
+        }
+        Ok(())
+    }
+
+    /// The sets that were found, by the classes of a layout, each made once.
+    pub(crate) fn by_classes(
+        &self,
+        alloc: Global,
+        layout: &Layout,
+    ) -> Result<IndexMap<String, PropertyClasses>, AllocError>
+        ensures { IfOk result (λ sets. All (IsKnown self.now layout.now) (values sets)) }
+    {
+        let mut divided = IndexMap::new(alloc);
+        let mut known = IndexMap::new(alloc);
+        for number in 0..self.answers.len() {
+            self.add_known(alloc, layout, &mut divided, &mut known, number)?;
+        }
+        Ok(known)
+    }
+
+    /// Adds the set of the answer with this number, by classes.
+    fn add_known(
+        &self,
+        alloc: Global,
+        layout: &Layout,
+        divided: &mut IndexMap<u64, Divided>,
+        known: &mut IndexMap<String, PropertyClasses>,
+        number: usize,
+    ) -> Result<(), AllocError>
+        requires divided { All (IsDivided layout.now) (values divided.old) }
+        requires known { All (IsKnown self.now layout.now) (values known.old) }
+        ensures divided { OnOk result (All (IsDivided layout.now) (values divided.new)) }
+        ensures known { OnOk result (All (IsKnown self.now layout.now) (values known.new)) }
+    {
+        if let Some((key, answer)) = self.answers.get_index(number) {
+            let set = divide_once(alloc, layout, divided, &answer.set)?;
+            let question = answer.question.clone()?;
+            known.insert(key.clone()?, PropertyClasses { question, set })?;
+        }
+        Ok(())
+    }
 }
 
-/// A text for a property, another one for each name, value and sign.
-fn key_of(
-    alloc: Global,
-    negated: bool,
-    name: &Word,
-    value: &Option<Word>,
-) -> Result<String, AllocError> {
-    let mut key = String::from_str(alloc, if negated { "^" } else { "" })?;
-    key.push_str(name.as_str())?;
-    if let Some(value) = value {
-        key.push_str("=")?;
-        key.push_str(value.as_str())?;
+/// Adds the bounds of ranges.
+fn push_all_bounds(bounds: &mut Vec<u32>, ranges: &[CodeRange]) -> Result<(), AllocError> {
+    for range in ranges {
+        bounds.push(range.low)?;
+        bounds.push(range.high.saturating_add(1))?;
     }
-    Ok(key)
+    Ok(())
 }
 
 /// The answer for a property with this set.
@@ -187,10 +210,13 @@ fn answer_of(
         (value_of_property table.now negated name.now value.now) (rc_value set) }
     ensures { IfOk result (IsAnswer table.now) }
 {
-    Ok(Answer {
+    let question = Question {
         negated,
         name: String::from_str(alloc, name.as_str())?,
         value: text_of(alloc, value)?,
+    };
+    Ok(Answer {
+        question: Rc::new(alloc, question)?,
         set,
     })
 }
@@ -199,6 +225,7 @@ fn answer_of(
 fn keep_once(
     alloc: Global,
     sets: &mut IndexMap<u64, Rc<Option<CodeSet>>>,
+    all: &mut Vec<Rc<Option<CodeSet>>>,
     found: Option<CodeSet>,
 ) -> Result<Rc<Option<CodeSet>>, AllocError>
     ensures { IfOk result (λ kept. rc_value kept ≡ found) }
@@ -211,12 +238,13 @@ fn keep_once(
         }
     }
     let set = Rc::new(alloc, found)?;
+    all.push(set.clone()?)?;
     sets.insert(hash, set.clone()?)?;
     Ok(set)
 }
 
 /// Whether both are absent, or have the same code points.
-fn are_same(first: &Option<CodeSet>, second: &Option<CodeSet>) -> bool
+pub(crate) fn are_same(first: &Option<CodeSet>, second: &Option<CodeSet>) -> bool
     ensures { IsTrue result → first.now ≡ second.now }
 {
     match first {
@@ -229,7 +257,7 @@ fn are_same(first: &Option<CodeSet>, second: &Option<CodeSet>) -> bool
 }
 
 /// A hash of the code points at which the ranges begin.
-fn hash_of(set: &Option<CodeSet>) -> u64 {
+pub(crate) fn hash_of(set: &Option<CodeSet>) -> u64 {
     let mut hash: u64 = 0;
     if let Some(set) = set {
         for range in set.ranges() {
@@ -237,16 +265,6 @@ fn hash_of(set: &Option<CodeSet>) -> u64 {
         }
     }
     hash
-}
-
-/// A copy of a word that may be absent.
-fn text_of(alloc: Global, word: &Option<Word>) -> Result<Option<String>, AllocError>
-    ensures { IfOk result (λ text. option_map (λ t. chars (string_bytes t)) text ≡ word.now) }
-{
-    match word {
-        Some(word) => Ok(Some(String::from_str(alloc, word.as_str())?)),
-        None => Ok(None),
-    }
 }
 
 /// The set of a property by a look-up, and None where it is unknown.

@@ -4,6 +4,7 @@ ghost use Rattle.std.specs.Option.{option_copied};
 ghost use Rattle.std.specs.HashMap.{get_by_text};
 ghost use Rattle.rbbi_resolve.specs.Scopes.{visible};
 
+use crate::classes::Classes;
 use crate::variables::{Variable, Variables};
 use rbbi_text::Word;
 use rbbi_tree::Statements;
@@ -14,6 +15,7 @@ use rbbi_tree::Statements;
 pub(crate) struct Scope<'a> {
     pub(crate) statements: &'a Statements,
     pub(crate) variables: &'a Variables,
+    pub(crate) classes: &'a Classes,
     pub(crate) limit: usize,
     /// Whether only quoted characters may stand outside of sets.
     pub(crate) quoted_only: bool,

@@ -1,26 +1,29 @@
 //! The value of a set, and the faults in it.
-ghost use Rattle.std.specs.Prelude.{◌≡◌, nat_lt, List, Option, IfOk, OnOk, [], ◌∷◌};
+ghost use Rattle.std.specs.Prelude.{◌≡◌, ◌≤◌, ◌↔◌, ℕ, nat_lt, List, Option, [], ◌∷◌, Some, IfOk, OnOk};
+ghost use Rattle.std.specs.Prelude.{option_map};
 ghost use Rattle.rbbi_model.specs.SetTrees as model;
+ghost use Rattle.rbbi_sets.specs.Classes.{HasMember};
 ghost use Rattle.rbbi_props.specs.Rows.{File};
-ghost use Rattle.rbbi_tree.specs.Trees.{set_name};
-ghost use Rattle.rbbi_tree.specs.Values.{set_tree, part_tree};
-ghost use Rattle.rbbi_resolve.specs.SetValues.{IsValue, joined_to, value_of_set, value_of_part};
-ghost use Rattle.rbbi_resolve.specs.SetValues.{value_of_range};
-ghost use Rattle.rbbi_resolve.specs.SetsSoFar.{IsSoFar};
+ghost use Rattle.rbbi_tree.specs.Trees.{joined, set_name};
+ghost use Rattle.rbbi_tree.specs.Values.{set_tree, set_item_tree};
+ghost use Rattle.rbbi_tree.specs.declared.syntax.Join as trees;
+ghost use Rattle.rbbi_resolve.specs.SetValues.{joined_to, signed, value_of_set, value_of_item};
+ghost use Rattle.rbbi_resolve.specs.SetValues.{value_of_range, value_of_property};
+ghost use Rattle.rbbi_resolve.specs.ClassValues.{IsClassValue};
 ghost use Rattle.rbbi_resolve.specs.Contexts.{value_of_name};
 ghost use Rattle.rbbi_resolve.specs.Parts.{Within, parts_of_set, parts_of_part};
 ghost use Rattle.rbbi_resolve.specs.Faults.{noted, noted_parts, faults_where};
-ghost use Rattle.rbbi_resolve.specs.Scopes.{IsScope, context_of};
+ghost use Rattle.rbbi_resolve.specs.Scopes.{IsScope, bounds_of, context_of};
 
+use crate::division::divide;
 use crate::fault::{Fault, note, note_where};
 use crate::properties::Properties;
-use crate::repeats::Repeats;
+use crate::question::key_of;
 use crate::scope::Scope;
-use crate::so_far::SoFar;
 use crate::variables::Kind;
-use rbbi_sets::{CodeSet, SharedSet};
+use rbbi_sets::{ClassSet, Layout, SharedClasses};
 use rbbi_text::Word;
-use rbbi_tree::{Join, SetExpr, SetItem, SetPart};
+use rbbi_tree::{Join, SetExpr, SetItem};
 use std::alloc::{AllocError, Global};
 
 /// The value of a set, and None where a part of it has none. The faults of its parts are noted.
@@ -31,9 +34,9 @@ pub(crate) fn value_of_set(
     properties: &mut Properties,
     least: &mut Option<Fault>,
     set: &SetExpr,
-) -> Result<Option<CodeSet>, AllocError>
+) -> Result<Option<ClassSet>, AllocError>
     requires { IsScope properties.old scope.now }
-    ensures value { IfOk result (λ value. IsValue properties.old
+    ensures value { IfOk result (λ value. IsClassValue properties.old (bounds_of scope.now)
         (value_of_set properties.old (value_of_name (context_of properties.old scope.now))
         (set_tree set.now)) value) }
     ensures noted { OnOk result (least.new ≡ noted_parts
@@ -41,88 +44,95 @@ pub(crate) fn value_of_set(
         (parts_of_set (set_tree set.now))) }
     ensures same { properties.new ≡ properties.old }
 {
-    let mut so_far = SoFar::new(alloc);
-    let mut repeats = Repeats::new(alloc);
-    for i in (0..set.parts.items.len()).rev() {
-        let part = &set.parts.items[i];
-        if repeats.has(part) {
-            continue;
-        }
-        join_part(alloc, scope, properties, least, &mut so_far, part)?;
-        repeats.note(alloc, scope, part, i)?;
+    let mut whole = Some(ClassSet::empty(alloc));
+    for part in &set.parts.items {
+        let item = value_of_item(alloc, scope, properties, least, part.place, &part.item)?;
+        whole = join(alloc, whole, part.join, item)?;
     }
-    let value = so_far.finish(alloc, set.negated)?;
+    let value = with_sign(alloc, &scope.classes.layout, set.negated, whole)?;
     Ok(value)
 }
 
-/// Joins a part that stands before those so far, and notes its faults.
+/// The value of an item of a set, and None where it has none. Its faults are noted.
 #[cycle(sets)]
-#[tactic(auto, using(crate::proofs::Noting::noted_parts_of_append))]
-fn join_part(
+fn value_of_item(
     alloc: Global,
     scope: &Scope,
     properties: &mut Properties,
     least: &mut Option<Fault>,
-    so_far: &mut SoFar,
-    part: &SetPart,
-) -> Result<(), AllocError>
+    place: u32,
+    item: &SetItem,
+) -> Result<Option<ClassSet>, AllocError>
     requires { IsScope properties.old scope.now }
-    ensures joined { OnOk result ((worth : Option model.SetTree → Option model.SetTree) →
-        IsSoFar properties.old worth so_far.old
-        → IsSoFar properties.old (λ left. worth (value_of_part properties.old
-        (value_of_name (context_of properties.old scope.now)) left (part_tree part.now)))
-        so_far.new) }
-    ensures noted { OnOk result (least.new ≡ noted_parts
+    ensures value { IfOk result (λ value. IsClassValue properties.old (bounds_of scope.now)
+        (value_of_item properties.old (value_of_name (context_of properties.old scope.now))
+        (set_item_tree item.now)) value) }
+    ensures noted { OnOk result ((join : trees.Join) → least.new ≡ noted_parts
         (context_of properties.old scope.now) least.old
-        (parts_of_part (part_tree part.now))) }
+        (parts_of_part (joined place join (set_item_tree item.now)))) }
     ensures same { properties.new ≡ properties.old }
 {
-    match &part.item {
+    match item {
         SetItem::Char(c) => {
-            so_far.join_char(alloc, part.join, *c)?;
-            Ok(())
+            let code = *c as u32;
+            let value = classes_of_range(alloc, &scope.classes.layout, code, code)?;
+            Ok(Some(value))
         }
         SetItem::Range(first, last) => {
-            join_span(alloc, least, so_far, part.place, part.join, *first, *last)?;
-            Ok(())
+            let layout = &scope.classes.layout;
+            let value = value_of_range(alloc, layout, least, place, *first, *last)?;
+            Ok(value)
         }
         SetItem::Name(name) => {
-            join_name(alloc, scope, least, so_far, part.place, part.join, name)?;
-            Ok(())
+            let value = value_of_variable(alloc, scope, least, place, name)?;
+            Ok(value)
         }
         SetItem::Prop {
             negated,
             name,
             value,
         } => {
-            let set = properties.set_of(alloc, *negated, name, value)?;
-            let found = set.as_ref();
-            note_where(least, found.is_none(), part.place, 7);
-            join_value(alloc, so_far, part.join, found)?;
-            Ok(())
+            let found = value_of_property(alloc, scope, properties, *negated, name, value)?;
+            note_where(least, found.is_none(), place, 7);
+            Ok(found)
         }
         SetItem::Set(inner) => {
-            let set = value_of_set(alloc, scope, properties, least, inner)?;
-            join_value(alloc, so_far, part.join, &set)?;
-            Ok(())
+            let value = value_of_set(alloc, scope, properties, least, inner)?;
+            Ok(value)
         }
     }
 }
 
-/// Joins a range, and notes where its first character is greater than its last.
-fn join_span(
+/// The code points from `low` to `high`. Where the layout lacks a bound of theirs, which it doesn't
+/// for those of its file, that is answered as if memory had run out.
+fn classes_of_range(
     alloc: Global,
+    layout: &Layout,
+    low: u32,
+    high: u32,
+) -> Result<ClassSet, AllocError>
+    requires ordered { low ≤ high }
+    requires code_points { high ≤ 0x10FFFF }
+    ensures { IfOk result (λ set. (c : ℕ) →
+        HasMember layout.now set c ↔ ((low ≤ c) × (c ≤ high))) }
+{
+    match ClassSet::range(alloc, layout, low, high)? {
+        Some(set) => Ok(set),
+        None => Err(AllocError),
+    }
+}
+
+/// The value of a range. Notes where its first character is greater than its last.
+fn value_of_range(
+    alloc: Global,
+    layout: &Layout,
     least: &mut Option<Fault>,
-    so_far: &mut SoFar,
     place: u32,
-    join: Join,
     first: char,
     last: char,
-) -> Result<(), AllocError>
-    ensures joined { OnOk result ((files : List File)
-        (worth : Option model.SetTree → Option model.SetTree) → IsSoFar files worth so_far.old
-        → IsSoFar files (λ left. worth (joined_to join (value_of_range first last) left))
-        so_far.new) }
+) -> Result<Option<ClassSet>, AllocError>
+    ensures value { IfOk result (λ value. (files : List File) →
+        IsClassValue files layout.now (value_of_range first last) value) }
     ensures noted { OnOk result (least.new ≡ noted least.old
         (faults_where (nat_lt last first) place 8)) }
 {
@@ -130,51 +140,23 @@ fn join_span(
     let high = last as u32;
     note_where(least, high < low, place, 8);
     if high < low {
-        so_far.spoil();
-        return Ok(());
+        return Ok(None);
     }
-    so_far.join_range(alloc, join, low, high)?;
-    Ok(())
+    let set = classes_of_range(alloc, layout, low, high)?;
+    Ok(Some(set))
 }
 
-/// Joins a set that may have no value.
-fn join_value(
-    alloc: Global,
-    so_far: &mut SoFar,
-    join: Join,
-    value: &Option<CodeSet>,
-) -> Result<(), AllocError>
-    ensures { OnOk result ((files : List File)
-        (worth : Option model.SetTree → Option model.SetTree) (item : Option model.SetTree) →
-        IsSoFar files worth so_far.old → IsValue files item value.now
-        → IsSoFar files (λ left. worth (joined_to join item left)) so_far.new) }
-{
-    match value {
-        Some(set) => {
-            so_far.join(alloc, join, set)?;
-            Ok(())
-        }
-        None => {
-            so_far.spoil();
-            Ok(())
-        }
-    }
-}
-
-/// Joins the set of a name, and notes where it has none.
-fn join_name(
+/// The value of a name in a set. Notes where it has none.
+fn value_of_variable(
     alloc: Global,
     scope: &Scope,
     least: &mut Option<Fault>,
-    so_far: &mut SoFar,
     place: u32,
-    join: Join,
     name: &Word,
-) -> Result<(), AllocError>
-    ensures joined { OnOk result ((files : List File)
-        (worth : Option model.SetTree → Option model.SetTree) → IsScope files scope.now
-        → IsSoFar files worth so_far.old → IsSoFar files (λ left. worth (joined_to join
-        (value_of_name (context_of files scope.now) name.now) left)) so_far.new) }
+) -> Result<Option<ClassSet>, AllocError>
+    ensures value { IfOk result (λ value. (files : List File) → IsScope files scope.now
+        → IsClassValue files (bounds_of scope.now)
+        (value_of_name (context_of files scope.now) name.now) value) }
     ensures noted { OnOk result ((files : List File) → IsScope files scope.now
         → least.new ≡ noted_parts (context_of files scope.now) least.old
         (Within place (set_name name.now) ∷ [])) }
@@ -182,24 +164,17 @@ fn join_name(
     match scope.variable(name) {
         Some(variable) => match &variable.kind {
             Kind::Set(value) => {
-                let decided = so_far.has_decided(alloc, join, value)?;
-                if decided {
-                    return Ok(());
-                }
-                let set = whole_of(alloc, value)?;
-                join_value(alloc, so_far, join, &set)?;
-                Ok(())
+                let whole = whole_of(alloc, value)?;
+                Ok(whole)
             }
             Kind::Expression(_) => {
                 note(least, place, 6);
-                so_far.spoil();
-                Ok(())
+                Ok(None)
             }
         },
         None => {
             note(least, place, 5);
-            so_far.spoil();
-            Ok(())
+            Ok(None)
         }
     }
 }
@@ -207,12 +182,94 @@ fn join_name(
 /// The set of a variable by itself, where there is one.
 pub(crate) fn whole_of(
     alloc: Global,
-    value: &Option<SharedSet>,
-) -> Result<Option<CodeSet>, AllocError>
+    value: &Option<SharedClasses>,
+) -> Result<Option<ClassSet>, AllocError>
     ensures { IfOk result (λ whole. whole ≡ value.now) }
 {
     match value {
-        Some(set) => Ok(Some(set.to_set(alloc)?)),
+        Some(set) => Ok(Some(set.to_classes(alloc)?)),
         None => Ok(None),
     }
+}
+
+/// The set of a property by classes, and None where it is unknown.
+pub(crate) fn value_of_property(
+    alloc: Global,
+    scope: &Scope,
+    properties: &mut Properties,
+    negated: bool,
+    name: &Word,
+    value: &Option<Word>,
+) -> Result<Option<ClassSet>, AllocError>
+    requires { IsScope properties.old scope.now }
+    ensures value { IfOk result (λ set. IsClassValue properties.old (bounds_of scope.now)
+        (value_of_property properties.old negated name.now value.now) set) }
+    ensures same { properties.new ≡ properties.old }
+{
+    let key = key_of(alloc, negated, name, value)?;
+    match scope.classes.known(key.as_str(), negated, name, value) {
+        Some(set) => {
+            let copy = set.clone()?;
+            Ok(copy)
+        }
+        None => {
+            let found = properties.set_of(alloc, negated, name, value)?;
+            let set = divide(alloc, &scope.classes.layout, found.as_ref())?;
+            Ok(set)
+        }
+    }
+}
+
+/// What stands to the left with an item joined to it, and None where one of them has no value.
+fn join(
+    alloc: Global,
+    left: Option<ClassSet>,
+    join: Join,
+    item: Option<ClassSet>,
+) -> Result<Option<ClassSet>, AllocError>
+    ensures { IfOk result (λ whole. (files : List File) (bounds : List ℕ)
+        (left_tree item_tree : Option model.SetTree) → IsClassValue files bounds left_tree left
+        → IsClassValue files bounds item_tree item
+        → IsClassValue files bounds (joined_to join item_tree left_tree) whole) }
+{
+    let Some(mut whole) = left else {
+        return Ok(None);
+    };
+    let Some(item) = item else {
+        return Ok(None);
+    };
+    match join {
+        Join::Add => {
+            let either = whole.union(alloc, item)?;
+            Ok(Some(either))
+        }
+        Join::Both => {
+            whole.meet(&item);
+            Ok(Some(whole))
+        }
+        Join::Minus => {
+            whole.remove(&item);
+            Ok(Some(whole))
+        }
+    }
+}
+
+/// The same, or where a set is negated, the others.
+fn with_sign(
+    alloc: Global,
+    layout: &Layout,
+    negated: bool,
+    set: Option<ClassSet>,
+) -> Result<Option<ClassSet>, AllocError>
+    ensures { IfOk result (λ whole. (files : List File) (tree : Option model.SetTree)
+        → IsClassValue files layout.now tree set
+        → IsClassValue files layout.now (option_map (signed negated) tree) whole) }
+{
+    let Some(mut whole) = set else {
+        return Ok(None);
+    };
+    if negated {
+        whole.negate(alloc, layout)?;
+    }
+    Ok(Some(whole))
 }

@@ -100,7 +100,7 @@ const FAULTS: &[(&str, &str)] = &[
     ),
     ("!!reverse; b? / c; !!forward; c;", "14 EmptyFront"),
     ("!!reverse; a / b?; !!forward; c;", "13 EmptyRest"),
-    // of parts that differ the last one decides: a set and its value, each without the other
+    // a set and its value, each without the other
     ("[[[a-c][d]-[a-d]a]-[a]];", "0 EmptySet"),
     ("[[a]-[[a-c][d]-[a-d]a]];", "0 EmptySet"),
     ("[[[a]&[b][a-c]&[b]]-[b]];", "0 EmptySet"),
@@ -128,6 +128,12 @@ const FAULTS: &[(&str, &str)] = &[
     ),
     ("$a = [a-d]; [$a$x$a$x$a$x$a$x$a$x$a$x];", "15 Undefined"),
     ("[[abd]&[^[a-d]-[c]]];", "0 EmptySet"),
+    // characters that are far apart
+    ("[[^[^a\u{10FFFF}]]-[a\u{10FFFF}]];", "0 EmptySet"),
+    ("[[a\u{10FFFF}]-[^[^a\u{10FFFF}]]];", "0 EmptySet"),
+    ("[[a-\u{10FFFF}]&[^b-\u{10FFFF}]-[a]];", "0 EmptySet"),
+    // a sign before a property, and in its name
+    ("\\P{L} \\p{^L};", "6 UnknownProperty"),
     // the first of many faults of a set
     ("[[b-a]$x[z-y]];", "2 BadRange"),
     ("[$y[b-a]-[$x]];", "1 Undefined"),

@@ -1,6 +1,7 @@
 -- Two lists of the form of a set that have the same members are equal.
-use Rattle.std.proofs.Common.{◌≡◌, ℕ, ◌+◌, ◌≤◌, List, [], ◌∷◌, refl, ap, sym, ◌∙◌, inl, inr, arith, ◌↔◌}
+use Rattle.std.proofs.Common.{◌≡◌, ℕ, ◌+◌, ◌≤◌, List, [], ◌∷◌, refl, ap, sym, ◌∙◌, inl, inr, arith, ◌↔◌, Decides, eqb, ◌&&◌}
 use Rattle.std.proofs.lemmas.Bool.{cases_order}
+use Rattle.std.proofs.lemmas.Bool.Decides.{Decides-and, Decides-eqb}
 use Rattle.rbbi_model.specs.Ranges.{Range, Has}
 use Rattle.rbbi_sets.specs.Rising.{AreRisingFrom, AreRising}
 use Rattle.rbbi_sets.proofs.Meanings.{members_from}
@@ -44,6 +45,12 @@ pub range_is : (x y : Range) → x.low ≡ y.low → x.high ≡ y.high → x ≡
 range_is x y l h =
     let made : ℕ → ℕ → Range = λ a b. record { low = a; high = b } in
     ap (λ a. made a x.high) l ∙ ap (λ b. made y.low b) h
+
+-- the test of two ranges decides whether they are equal
+pub Decides-range : (x y : Range) → Decides (eqb x.low y.low && eqb x.high y.high) (x ≡ y)
+Decides-range x y =
+    let both = Decides-and _ _ (Decides-eqb x.low y.low) (Decides-eqb x.high y.high) in
+    (λ t. range_is x y (both.0 t).0 (both.0 t).1, λ e. both.1 (ap (λ (r : Range). r.low) e, ap (λ (r : Range). r.high) e))
 
 determined : (bound other : ℕ) (xs ys : List Range) → AreRisingFrom bound xs → AreRisingFrom other ys → SameMembers xs ys → SameMembers ys xs → xs ≡ ys
 unfolding SameMembers

@@ -15,7 +15,7 @@ rising-drop bound i [] d h l = absurd (omega arith)
 rising-drop bound zero (x ∷ xs) d h l = (omega arith, h.1, h.2, h.3)
 rising-drop bound (suc i) (x ∷ xs) d h l = rising-drop (x.high + 2) i xs d h.3 (omega arith)
 
-pub rising-take : (bound n : ℕ) (xs : List Range) → AreRisingFrom bound xs → AreRisingFrom bound (take n xs)
+rising-take : (bound n : ℕ) (xs : List Range) → AreRisingFrom bound xs → AreRisingFrom bound (take n xs)
 rising-take bound zero xs h = tt
 rising-take bound (suc n) [] h = tt
 rising-take bound (suc n) (x ∷ xs) h = (h.0, h.1, h.2, rising-take (x.high + 2) n xs h.3)

@@ -1,5 +1,5 @@
 -- Membership in a list of ranges, as a test that computes.
-use Rattle.std.specs.Prelude.{◌≡◌, ℕ, ◌≤◌, Bool, false, ◌&&◌, ◌||◌, nat_le, List, [], ◌∷◌}
+use Rattle.std.specs.Prelude.{ℕ, Bool, false, ◌&&◌, ◌||◌, nat_le, List, [], ◌∷◌}
 use Rattle.rbbi_model.specs.Ranges.{Range}
 
 -- whether the code point lies from one to another, both counted
@@ -10,7 +10,3 @@ is_between low high c = nat_le low c && nat_le c high
 abbrev pub covers : List Range → ℕ → Bool
 covers [] c = false
 covers (range ∷ ranges) c = is_between range.low range.high c || covers ranges c
-
--- the list covers each code point from one to another, both counted; or where it isn't wanted, none of them
-abbrev pub IsThroughout : Bool → List Range → ℕ → ℕ → Type 0
-IsThroughout wanted ranges low high = (c : ℕ) → low ≤ c → c ≤ high → covers ranges c ≡ wanted

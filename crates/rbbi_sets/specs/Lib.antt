@@ -1,5 +1,6 @@
 pub mod Rising
 pub mod Covers
 pub mod Joins
-pub mod Piles
+pub mod Classes
+pub mod ClassRanges
 pub mod Laws

@@ -7,9 +7,9 @@ ghost use Rattle.rbbi_sets.specs.Covers.{covers, is_between};
 ghost use Rattle.rbbi_sets.specs.Joins.{Joins};
 
 use crate::CodeRange;
-use crate::inclusion::skip_to;
 use crate::join::join_last;
-use crate::run::{has_run, keep_run};
+use crate::run::keep_run;
+use crate::skip::{is_ended, skip_to};
 use std::alloc::{AllocError, Global};
 
 /// One past the last code point.
@@ -40,7 +40,8 @@ pub(crate) fn cut(
         let low = range.low.max(at);
         next_right = skip_to(right, next_right, low);
         let hole = range_or_end(right, next_right);
-        let is_run = has_run(left, next_left + 1, hole.low);
+        // A run is worth the search for its end where it has a second range.
+        let is_run = is_ended(left, next_left + 1, hole.low);
         if is_run && low == range.low && range.high < hole.low {
             next_left = keep_run(&mut kept, left, next_left, hole.low)?;
             at = end_before(left, next_left);

@@ -1,24 +1,27 @@
-//! Sets of code points, as ranges that rise and neither overlap nor touch.
+//! Sets of code points, by ranges that rise and neither overlap nor touch, and by classes as bits.
 #![tactic(auto)]
 
+mod class_members;
+mod class_set;
+mod class_shelf;
 mod cut;
 mod gaps;
-mod inclusion;
 mod join;
 mod laws;
+mod layout;
 mod merge;
-mod pile;
 mod range;
 mod run;
 mod set;
-mod shared;
-mod shelf;
+mod shared_classes;
+mod skip;
 #[cfg(test)]
 mod tests;
 
+pub use class_set::ClassSet;
+pub use class_shelf::ClassShelf;
 pub use laws::members_determine;
-pub use pile::Pile;
+pub use layout::Layout;
 pub use range::CodeRange;
 pub use set::CodeSet;
-pub use shared::SharedSet;
-pub use shelf::Shelf;
+pub use shared_classes::SharedClasses;

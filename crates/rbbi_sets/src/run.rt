@@ -7,8 +7,8 @@ ghost use Rattle.rbbi_sets.specs.Rising.{AreRising, BeginUpTo, IsNextRange};
 ghost use Rattle.rbbi_sets.specs.Joins.{JoinsRun};
 
 use crate::CodeRange;
-use crate::inclusion::skip_to;
 use crate::join::join_last;
+use crate::skip::{is_ended, skip_to};
 use std::alloc::AllocError;
 
 /// Adds the ranges from this number on that end before `end`, as they are, and tells the number of
@@ -52,22 +52,11 @@ pub(crate) fn join_run(
     let range = ranges[next];
     join_last(joined, range.low, range.high)?;
     let after = next + 1;
-    if has_run(ranges, after, end) && range.high < end && ends_at(joined, range.high) {
+    if is_ended(ranges, after, end) && range.high < end && ends_at(joined, range.high) {
         let stop = keep_run(joined, ranges, after, end)?;
         Ok(stop)
     } else {
         Ok(after)
-    }
-}
-
-/// Whether the range with this number is there and ends before `end`, so that to add a run from it
-/// on is worth the search for the run's end.
-pub(crate) fn has_run(ranges: &[CodeRange], from: usize, end: u32) -> bool {
-    if from < ranges.len() {
-        let range = ranges[from];
-        range.high < end
-    } else {
-        false
     }
 }
 

@@ -9,7 +9,6 @@ ghost use Rattle.rbbi_sets.specs.Covers.{covers};
 use crate::CodeRange;
 use crate::cut::cut;
 use crate::gaps::gaps;
-use crate::inclusion::covers_alike;
 use crate::join::join_last;
 use crate::merge::merge;
 use std::alloc::{AllocError, Global};
@@ -77,7 +76,7 @@ impl CodeSet {
     }
 
     /// The set of ranges that have the form of a set.
-    pub(crate) fn from_rising(ranges: Vec<CodeRange>) -> CodeSet
+    pub fn from_rising(ranges: Vec<CodeRange>) -> CodeSet
         requires { AreRising ranges.items }
         ensures { result ≡ ranges.items }
     {
@@ -145,20 +144,6 @@ impl CodeSet {
     {
         let next = self.ranges.partition_point(|range| range.high < c);
         next < self.ranges.len() && self.ranges[next].low <= c
-    }
-
-    /// Whether each member of the other set is a member of this one. It takes no memory.
-    pub fn holds_all(&self, other: &CodeSet) -> bool
-        ensures { IsTrue result ↔ ((c : ℕ) → Has other.now c → Has self.now c) }
-    {
-        covers_alike(true, &self.ranges, &other.ranges)
-    }
-
-    /// Whether no member of the other set is a member of this one. It takes no memory.
-    pub fn holds_none(&self, other: &CodeSet) -> bool
-        ensures { IsTrue result ↔ ((c : ℕ) → Has other.now c → ¬ Has self.now c) }
-    {
-        covers_alike(false, &self.ranges, &other.ranges)
     }
 
     /// Whether a character is in the set, and not surrogates (0xD800 to 0xDFFF) alone.

@@ -3,9 +3,11 @@ ghost use Rattle.std.specs.Prelude.{IfOk};
 ghost use Rattle.std.specs.List.{All};
 ghost use Rattle.rbbi_sets.specs.Rising.{IsRange};
 
-use crate::{CodeRange, CodeSet, Pile, members_determine};
+use crate::{CodeRange, CodeSet, members_determine};
 use std::alloc::{AllocError, Global};
 use std::test::Fail;
+
+mod classes;
 
 type Pairs = &'static [(u32, u32)];
 
@@ -144,46 +146,6 @@ fn operations(rt: HostRuntime) -> Result<(), Fail> {
 }
 
 #[test]
-fn inclusions(rt: HostRuntime) -> Result<(), Fail> {
-    // Two sets, whether the left one holds all of the right one, and whether it holds none of it.
-    let cases: [(Pairs, Pairs, bool, bool); 11] = [
-        (&[], &[], true, true),
-        (&[(1, 3)], &[], true, true),
-        (&[], &[(1, 3)], false, true),
-        (&[(1, 3)], &[(1, 3)], true, false),
-        (&[(1, 3)], &[(1, 4)], false, false),
-        (&[(1, 3)], &[(0, 3)], false, false),
-        (&[(1, 3)], &[(4, 4)], false, true),
-        (&[(5, 9)], &[(2, 4)], false, true),
-        (
-            &[(1, 9), (20, 30)],
-            &[(2, 2), (4, 9), (20, 29)],
-            true,
-            false,
-        ),
-        (
-            &[(1, 9), (20, 30)],
-            &[(0, 0), (10, 19), (31, LAST)],
-            false,
-            true,
-        ),
-        (
-            &[(0, 8), (10, LAST)],
-            &[(0, 0), (9, 9), (11, 12)],
-            false,
-            false,
-        ),
-    ];
-    for (left, right, all, none) in &cases {
-        let left = set_of(rt.alloc(), left)?;
-        let right = set_of(rt.alloc(), right)?;
-        assert_eq!(rt; left.holds_all(&right), *all);
-        assert_eq!(rt; left.holds_none(&right), *none);
-    }
-    Ok(())
-}
-
-#[test]
 fn complements(rt: HostRuntime) -> Result<(), Fail> {
     let cases: [(Pairs, Pairs); 5] = [
         (&[(0, LAST)], &[]),
@@ -280,37 +242,6 @@ fn characters(rt: HostRuntime) -> Result<(), Fail> {
     Ok(())
 }
 
-#[test]
-fn piles(rt: HostRuntime) -> Result<(), Fail> {
-    // Sets that come one after another, and what of each wasn't in the pile yet.
-    let cases: [(Pairs, Pairs); 7] = [
-        (&[(3, 4)], &[(3, 4)]),
-        (&[(1, 9)], &[(1, 2), (5, 9)]),
-        (&[(2, 8)], &[]),
-        (&[], &[]),
-        (
-            &[(0, 0), (20, 20), (30, 33), (40, 40)],
-            &[(0, 0), (20, 20), (30, 33), (40, 40)],
-        ),
-        (&[(22, 22)], &[(22, 22)]),
-        (
-            &[(0, LAST)],
-            &[(10, 19), (21, 21), (23, 29), (34, 39), (41, LAST)],
-        ),
-    ];
-    let mut pile = Pile::new(rt.alloc());
-    for (of, want) in &cases {
-        let set = set_of(rt.alloc(), of)?;
-        let rest = pile.rest(rt.alloc(), &set)?;
-        assert!(rt; is_list(&rest, want));
-        pile.add(rt.alloc(), rest)?;
-    }
-    assert!(rt; is_list(&pile.into_set(rt.alloc())?, &[(0, LAST)]));
-    let nothing = Pile::new(rt.alloc()).into_set(rt.alloc())?;
-    assert!(rt; is_list(&nothing, &[]));
-    Ok(())
-}
-
 /// Each even number below 2,000, as a range of its own.
 fn even_numbers(alloc: Global) -> Result<Vec<CodeRange>, AllocError>
     ensures { IfOk result (λ ranges. All IsRange ranges.items) }
@@ -325,29 +256,8 @@ fn even_numbers(alloc: Global) -> Result<Vec<CodeRange>, AllocError>
 
 #[test]
 fn far_ranges(rt: HostRuntime) -> Result<(), Fail> {
-    // A set of many ranges, and ranges that lie far apart in it.
+    // Ranges that lie far apart in a set of many.
     let evens = CodeSet::from_ranges(rt.alloc(), even_numbers(rt.alloc())?)?;
-    let cases: [(Pairs, bool, bool); 6] = [
-        (&[(0, 0), (1998, 1998)], true, false),
-        (
-            &[(0, 0), (1000, 1000), (1002, 1002), (1996, 1996)],
-            true,
-            false,
-        ),
-        (
-            &[(1, 1), (999, 999), (1997, 1997), (1999, 5000)],
-            false,
-            true,
-        ),
-        (&[(2, 2), (1999, 1999)], false, false),
-        (&[(1000, 1001)], false, false),
-        (&[(2000, 2000)], false, true),
-    ];
-    for (of, all, none) in &cases {
-        let set = set_of(rt.alloc(), of)?;
-        assert_eq!(rt; evens.holds_all(&set), *all);
-        assert_eq!(rt; evens.holds_none(&set), *none);
-    }
     let cut = set_of(rt.alloc(), &[(0, 3), (1990, LAST)])?.minus(rt.alloc(), &evens)?;
     assert!(rt;
         is_list(
@@ -363,39 +273,5 @@ fn far_ranges(rt: HostRuntime) -> Result<(), Fail> {
             ]
         )
     );
-    Ok(())
-}
-
-#[test]
-fn shared_sets(rt: HostRuntime) -> Result<(), Fail> {
-    // Two sets in many chunks, of which they share all but one.
-    let mut shelf = crate::Shelf::new(rt.alloc());
-    let evens = CodeSet::from_ranges(rt.alloc(), even_numbers(rt.alloc())?)?;
-    let one = set_of(rt.alloc(), &[(501, 501)])?;
-    let more = evens.union(rt.alloc(), &one)?;
-    let kept = shelf.keep(rt.alloc(), &evens)?;
-    let kept_more = shelf.keep(rt.alloc(), &more)?.clone()?;
-    let alone = kept.to_set(rt.alloc())?;
-    assert!(rt; alone.ranges() == evens.ranges());
-    for (c, want) in [
-        (0, true),
-        (501, false),
-        (1000, true),
-        (1998, true),
-        (2000, false),
-    ] {
-        assert_eq!(rt; kept.has(c), want);
-    }
-    assert!(rt; kept_more.has(501));
-    assert!(rt; kept.member().is_some());
-    let nothing = shelf.keep(rt.alloc(), &CodeSet::empty(rt.alloc()))?;
-    assert_eq!(rt; nothing.member(), None);
-    assert!(rt; kept_more.to_set(rt.alloc())?.ranges() == more.ranges());
-    let mut pile = Pile::new(rt.alloc());
-    pile.add(rt.alloc(), evens)?;
-    assert!(rt; kept.is_within(rt.alloc(), &pile)?);
-    assert!(rt; !kept_more.is_within(rt.alloc(), &pile)?);
-    pile.add(rt.alloc(), one)?;
-    assert!(rt; kept_more.is_within(rt.alloc(), &pile)?);
     Ok(())
 }

@@ -3,6 +3,7 @@ use Rattle.std.proofs.lemmas.List.{length-map}
 use Rattle.rbbi_tree.specs.Values.{statement_trees}
 use Rattle.rbbi_resolve.specs.Files.{active_rules, context_at, faults_of}
 use Rattle.rbbi_resolve.specs.Scopes.{AreVariables}
+use Rattle.rbbi_resolve.specs.ClassValues.{AreClasses}
 use Rattle.rbbi_resolve.specs.RuleLists.{RuleList, rules_of}
 use Rattle.rbbi_resolve.specs.Outcomes.{Means}
 use Rattle.rbbi_resolve.specs.RulesSoFar.{AreAllRules}
@@ -21,11 +22,12 @@ rules_with_trees-requires-clause-ready c =
     let T = statement_trees r.statements.now in
     let same = c.in_ok-builder.ensures.same in
     let back = sym same in
-    let variables = subst (λ f. AreVariables f T r.variables (length r.statements.now)) back c.requires.reading.defined in
+    let variables = subst (λ f. AreVariables f r.classes.layout T r.variables (length r.statements.now)) back c.requires.reading.defined in
     let none = subst (λ f. faults_of f r.dictionary_ignored T ≡ []) back c.requires.faultless in
     let now = c.in_ok-builder.builder.properties in
     record {
       end = length r.statements.now;
+      classes = subst (λ f. AreClasses f r.classes) back c.requires.reading.classified;
       variables = variables;
       low = omega (arith, c.len.ensures);
       ignored = r.dictionary_ignored;
@@ -66,7 +68,7 @@ new-requires c =
     let long : length T ≡ length r.statements.now = simp length-map in
     let all = built (goal.at.new-requires c).In_ok-rules in
     let stand = rules_stand files sets ms rules all.each in
-    let counting = counting_all files r.dictionary_ignored T r.variables r.least r.switches r.counts (length r.statements.now)
+    let counting = counting_all files r.classes r.dictionary_ignored T r.variables r.least r.switches r.counts (length r.statements.now)
     (omega arith) c.requires.reading in
     record {
       well_formed = rules_formed files T sets rules all;

@@ -29,7 +29,16 @@ add_statement-requires-clause-ready c =
     let r = subst (λ f. IsReady f c.args.scope.now) (sym c.loop-number.invariant.0) c.requires.ready in
     let low = r.low in
     let test = c.loop-number-test.true in
-    record { end = r.end; variables = r.variables; low = omega arith; ignored = r.ignored; none = r.none; sound = r.sound; faultless = r.faultless }
+    record {
+      end = r.end;
+      classes = r.classes;
+      variables = r.variables;
+      low = omega arith;
+      ignored = r.ignored;
+      none = r.none;
+      sound = r.sound;
+      faultless = r.faultless;
+    }
 
 pub loop-number-preserved : goal.loop-number-preserved
 loop-number-preserved c =

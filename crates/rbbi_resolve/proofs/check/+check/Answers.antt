@@ -110,11 +110,11 @@ check_atom-returns-in_ok-check_property-in-Prop-clause-noted t c =
     λ quant. c.in_ok-check_property-in-Prop.ensures.noted k (files_stay c.args.properties.now _ _)
     ∙ ap (λ a. noted_parts k c.args.least.now (parts_of_item (placed c.args.place a quant))) (sym e)
 
-pub check_atom-returns-in_ok-note_set-in-Set-clause-noted : goal.check_atom-returns-in_ok-note_set-in-Set-clause-noted
-check_atom-returns-in_ok-note_set-in-Set-clause-noted t c =
+pub check_atom-returns-in_ok-check_set-in-Set-clause-noted : goal.check_atom-returns-in_ok-check_set-in-Set-clause-noted
+check_atom-returns-in_ok-check_set-in-Set-clause-noted t c =
     let k = context_of c.args.properties.now c.args.scope.now in
     let e : atom_tree c.args.atom.now ≡ set (set_tree c.in-Set.set) = let i = c.in-Set.is in ap atom_tree i ∙ atom_of_set c.in-Set.set in
-    λ quant. c.in_ok-note_set-in-Set.ensures.noted quant ∙ ap (λ a. noted_parts k c.args.least.now (parts_of_item (placed c.args.place a quant))) (sym e)
+    λ quant. c.in_ok-check_set-in-Set.ensures.noted quant ∙ ap (λ a. noted_parts k c.args.least.now (parts_of_item (placed c.args.place a quant))) (sym e)
 
 pub check_atom-returns-in_ok-whole-in-Group-clause-noted : goal.check_atom-returns-in_ok-whole-in-Group-clause-noted
 check_atom-returns-in_ok-whole-in-Group-clause-noted t c =

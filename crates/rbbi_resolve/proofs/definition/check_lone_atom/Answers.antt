@@ -1,5 +1,4 @@
 use Rattle.std.proofs.Common.{◌≡◌, Some, sym, ap, ◌∙◌, subst}
-use Rattle.std.specs.Rc.{rc_value}
 use Rattle.rbbi_tree.specs.Trees.{placed, property, set}
 use Rattle.rbbi_tree.specs.Values.{atom_tree, set_tree}
 use Rattle.rbbi_tree.specs.declared.syntax.Quant.TheVariants.{Once}
@@ -7,8 +6,9 @@ use Rattle.rbbi_resolve.specs.Contexts.{value_of_name}
 use Rattle.rbbi_resolve.specs.Expressions.{set_of_atom}
 use Rattle.rbbi_resolve.specs.Parts.{parts_of_item}
 use Rattle.rbbi_resolve.specs.Faults.{noted_parts}
-use Rattle.rbbi_resolve.specs.SetValues.{IsValue, value_of_property, value_of_set}
-use Rattle.rbbi_resolve.specs.Scopes.{context_of}
+use Rattle.rbbi_resolve.specs.SetValues.{value_of_property, value_of_set}
+use Rattle.rbbi_resolve.specs.ClassValues.{IsClassValue}
+use Rattle.rbbi_resolve.specs.Scopes.{bounds_of, context_of}
 use Rattle.rbbi_resolve.specs.Definitions.{AreSetOf}
 use Rattle.rbbi_resolve.proofs.ItemTrees.{atom_of_property, atom_of_set}
 use Rattle.rbbi_resolve.proofs.Kept.{files_stay}
@@ -19,7 +19,7 @@ returns-in_ok-kept-in-Prop-clause-noted c =
     let k = context_of c.args.properties.now c.args.scope.now in
     let e : atom_tree c.args.atom.now ≡ property c.in-Prop.negated c.in-Prop.name c.in-Prop.value = let i =
     c.in-Prop.is in ap atom_tree i ∙ atom_of_property c.in-Prop.negated c.in-Prop.name c.in-Prop.value in
-    c.in_ok-set-in-Prop.ensures.noted k (files_stay c.args.properties.now _ _)
+    c.in_ok-check_property-in-Prop.ensures.noted k (files_stay c.args.properties.now _ _)
     ∙ ap (λ a. noted_parts k c.args.least.now (parts_of_item (placed c.args.place a Once))) (sym e)
 
 pub returns-in_ok-kept-in-Prop-clause-value : goal.returns-in_ok-kept-in-Prop-clause-value
@@ -28,11 +28,12 @@ returns-in_ok-kept-in-Prop-clause-value c =
     let k = context_of files c.args.scope.now in
     let e : atom_tree c.args.atom.now ≡ property c.in-Prop.negated c.in-Prop.name c.in-Prop.value = let i =
     c.in-Prop.is in ap atom_tree i ∙ atom_of_property c.in-Prop.negated c.in-Prop.name c.in-Prop.value in
-    let set = rc_value c.in_ok-set-in-Prop.set in
-    rw (c.in_ok-kept-in-Prop.ensures.value ∙ c.as_ref.ensures)
-    (subst (λ a. AreSetOf files (set_of_atom k a) (Some set)) (sym e)
-    (subst (λ f. IsValue files (value_of_property f c.in-Prop.negated c.in-Prop.name c.in-Prop.value) set) (sym (files_stay files _ _))
-    c.in_ok-set-in-Prop.ensures.value))
+    let set = c.in_ok-set-in-Prop.set in
+    rw c.in_ok-kept-in-Prop.ensures.value
+    (subst (λ a. AreSetOf files (bounds_of c.args.scope.now) (set_of_atom k a) (Some set)) (sym e)
+    (subst (λ f. IsClassValue files (bounds_of c.args.scope.now) (value_of_property f c.in-Prop.negated c.in-Prop.name c.in-Prop.value) set) (sym (files_stay files _ _))
+    (subst (λ f. IsClassValue f (bounds_of c.args.scope.now) (value_of_property f c.in-Prop.negated c.in-Prop.name c.in-Prop.value) set)
+    c.in_ok-check_property-in-Prop.ensures.same c.in_ok-set-in-Prop.ensures.value)))
 
 pub returns-in_ok-kept-in-Set-clause-noted : goal.returns-in_ok-kept-in-Set-clause-noted
 returns-in_ok-kept-in-Set-clause-noted c =
@@ -46,6 +47,6 @@ returns-in_ok-kept-in-Set-clause-value c =
     let k = context_of files c.args.scope.now in
     let e : atom_tree c.args.atom.now ≡ set (set_tree c.in-Set.set) = let i = c.in-Set.is in ap atom_tree i ∙ atom_of_set c.in-Set.set in
     rw c.in_ok-kept-in-Set.ensures.value
-    (subst (λ a. AreSetOf files (set_of_atom k a) (Some c.in_ok-value-in-Set.value)) (sym e)
-    (subst (λ f. IsValue files (value_of_set f (value_of_name k) (set_tree c.in-Set.set)) c.in_ok-value-in-Set.value) (sym (files_stay files _ _))
+    (subst (λ a. AreSetOf files (bounds_of c.args.scope.now) (set_of_atom k a) (Some c.in_ok-value-in-Set.value)) (sym e)
+    (subst (λ f. IsClassValue files (bounds_of c.args.scope.now) (value_of_set f (value_of_name k) (set_tree c.in-Set.set)) c.in_ok-value-in-Set.value) (sym (files_stay files _ _))
     c.in_ok-value-in-Set.ensures.value))

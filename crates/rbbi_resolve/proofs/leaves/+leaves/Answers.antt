@@ -79,8 +79,8 @@ add_leaves_of_item-returns-in_ok-add_value-in-Set-clause-added t c =
     λ sound faultless.
     subst (λ i. AddsLeaves files (leaves_of_item k i) c.args.sets.now.items c.add_value-in-Set.new.sets.items) (sym e)
     (set_leaf k files c.args.item.now.place (set_tree c.in-Set.set) c.args.item.now.quant c.args.sets.now.items c.add_value-in-Set.new.sets.items
-    c.in_ok-value-in-Set.value (files_stay files _ _) sound
-    (subst (λ i. faults_of_parts k (parts_of_item i) ≡ []) e faultless) c.in_ok-value-in-Set.ensures.value
+    c.in_ok-whole-in-Set.whole (files_stay files _ _) sound
+    (subst (λ i. faults_of_parts k (parts_of_item i) ≡ []) e faultless) (c.in_ok-whole-in-Set.ensures files _ c.in_ok-value-in-Set.ensures.value)
     (λ tree is filled. c.in_ok-add_value-in-Set.ensures files tree is filled))
 
 pub add_leaves_of_item-returns-in_ok-add_leaves-in-Group-clause-added : goal.add_leaves_of_item-returns-in_ok-add_leaves-in-Group-clause-added

@@ -1,4 +1,4 @@
-use Rattle.std.proofs.Common.{◌≡◌, ℕ, List, None, length, refl, ap, ◌∙◌, subst, arith}
+use Rattle.std.proofs.Common.{◌≡◌, ℕ, List, None, length, refl, ap, ◌∙◌, subst, arith, rules}
 use Rattle.std.specs.HashMap.{get_by_text}
 use Rattle.rbbi_tree.specs.Values.{statement_trees}
 use Rattle.rbbi_resolve.specs.Readings.{IsReading}
@@ -7,10 +7,10 @@ use Rattle.rbbi_resolve.proofs.outcome.read_all.Goals as goal
 
 pub loop-number-init : goal.loop-number-init
 loop-number-init c =
-    let none : (name : List ℕ) → get_by_text c.new-2.result name ≡ None = λ name. rw c.new-2.ensures.empty refl in
+    let none : (name : List ℕ) → get_by_text c.new.result name ≡ None = λ name. rw c.new.ensures.empty refl in
     record {
-      reading = read_none c.new.result c.args.ignore_dictionary (statement_trees c.args.statements.now) c.new-2.result c.new-3.result c.new-4.result none
-          (c.new-3.ensures c.new.result) c.new-4.ensures;
+      reading = read_none _ c.in_ok-classes.classes c.args.ignore_dictionary (statement_trees c.args.statements.now) c.new.result c.new-2.result c.new-3.result none
+          (c.new-2.ensures _) c.new-3.ensures (search rules);
       statements = refl;
       properties = refl;
       ignored = refl;
@@ -42,7 +42,7 @@ pub returns-clause-statements : goal.returns-clause-statements
 returns-clause-statements c = c.loop-number.invariant.statements
 
 pub returns-clause-properties : goal.returns-clause-properties
-returns-clause-properties c = c.loop-number.invariant.properties ∙ c.new.ensures
+returns-clause-properties c = c.loop-number.invariant.properties ∙ search rules
 
 pub returns-clause-ignored : goal.returns-clause-ignored
 returns-clause-ignored c = c.loop-number.invariant.ignored

@@ -20,13 +20,13 @@ least_read : (r : Reading) (n : ℕ) → n ≡ length r.statements.now → IsRea
     noted None (faults_of r.properties r.dictionary_ignored (statement_trees r.statements.now)) ≡ r.least
 least_read r n e read =
     let long : length (statement_trees r.statements.now) ≡ length r.statements.now = simp length-map in
-    least_of_all r.properties r.dictionary_ignored (statement_trees r.statements.now) r.variables r.least r.switches r.counts n (omega arith) read
+    least_of_all r.properties r.classes r.dictionary_ignored (statement_trees r.statements.now) r.variables r.least r.switches r.counts n (omega arith) read
 
 counting_read : (r : Reading) (n : ℕ) → n ≡ length r.statements.now → IsReading r n →
     AreCounting r.counts [] (active_rules r.properties (statement_trees r.statements.now))
 counting_read r n e read =
     let long : length (statement_trees r.statements.now) ≡ length r.statements.now = simp length-map in
-    counting_all r.properties r.dictionary_ignored (statement_trees r.statements.now) r.variables r.least r.switches r.counts n (omega arith) read
+    counting_all r.properties r.classes r.dictionary_ignored (statement_trees r.statements.now) r.variables r.least r.switches r.counts n (omega arith) read
 
 -- and its faults are those of the file
 same_faults : (r : Reading) (files : List File) (ignored : Bool) (statements : List Statement) → r.statements.now ≡ statements → r.properties ≡ files →

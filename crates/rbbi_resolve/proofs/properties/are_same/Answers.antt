@@ -1,6 +1,6 @@
 use Rattle.std.proofs.Common.{ap, sym, ◌∙◌, Some}
 use Rattle.std.proofs.lemmas.Slice.Eq.{slice_eq-Decides}
-use Rattle.rbbi_sets.proofs.Chunks.{Decides-range}
+use Rattle.rbbi_sets.proofs.Determined.{Decides-range}
 use Rattle.rbbi_resolve.proofs.properties.are_same.Goals as goal
 
 pub returns-in-Some-second : goal.returns-in-Some-second

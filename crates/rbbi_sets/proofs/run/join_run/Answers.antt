@@ -37,8 +37,8 @@ returns-in_ok-stop c =
     c.keep_run.new.kept.items c.in_ok-stop.stop (omega (arith, c.in_ok-stop.ensures.within)) (omega (arith, c.in_ok-stop.ensures.within))
     c.in_ok-stop.ensures.place.0 ends c.in_ok-stop.ensures.run
 
-pub returns-else-has_run : goal.returns-else-has_run
-returns-else-has_run c =
+pub returns-else-is_ended : goal.returns-else-is_ended
+returns-else-is_ended c =
     let d = c.index-ranges-next.result in
     let low = ap (λ (r : Range). r.low) (c.range.view_is ∙ c.index-ranges-next.is) in
     let high = ap (λ (r : Range). r.high) (c.range.view_is ∙ c.index-ranges-next.is) in

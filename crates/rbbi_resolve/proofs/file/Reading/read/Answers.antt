@@ -13,9 +13,9 @@ returns-in-Nothing c =
     let next = ap (λ x. x.variables) (context_next r.properties trees n nothing at) in
     record {
       reading =
-          step r.properties r.dictionary_ignored trees n nothing r.variables r.variables r.least r.least r.switches r.switches r.counts r.counts
+          step r.properties r.classes r.dictionary_ignored trees n nothing r.variables r.variables r.least r.least r.switches r.switches r.counts r.counts
           c.requires.reading at
-          (stay_variables r.properties trees r.variables n next c.requires.reading.defined)
+          (stay_variables r.properties r.classes.layout trees r.variables n next c.requires.reading.defined)
           refl
           c.requires.reading.switched
           (λ left all so_far. so_far);

@@ -1,0 +1,107 @@
+-- Rows of words that are put together with the words of a set.
+use Rattle.std.proofs.Common.{◌≡◌, ℕ, ◌+◌, ◌-◌, ◌/◌, ◌^◌, ◌<◌, ◌≤◌, ◌⊎◌, ◌↔◌, List, length, get_or, min, max, sym, ap, ◌∙◌, inl, inr, ⊎_elim, arith}
+use Rattle.std.specs.Int.{bit_not, w64}
+use Rattle.std.specs.Prelude.{bit_and}
+use Rattle.std.specs.Int.RustNames.{bit_or}
+use Rattle.std.specs.Int.Bits.{or_zero_r, and_zero_l}
+use Rattle.std.proofs.lemmas.Bool.{cases_lt}
+use Rattle.rbbi_sets.specs.Classes.{ClassBits, word_at, HasClass}
+use Rattle.rbbi_sets.proofs.ClassWords.{bits_of, word_at-before, word_at-from, word_at-past, no_word, has_or, has_and, has_and_not, has_same, has_none}
+
+-- in the words from a place up to before another, each word of a row is put together with that of another set; the others are kept
+pub record AreCombined (f : ℕ → ℕ → ℕ) (from : ℕ) (row new : List ℕ) (other : ClassBits) (start end : ℕ) : Type 0 where
+  pub long : length new ≡ length row
+  pub done : (i : ℕ) → start ≤ i → i < end → word_at (bits_of from new) i ≡ f (word_at (bits_of from row) i) (word_at other i)
+  pub kept : (i : ℕ) → (i < start) ⊎ (end ≤ i) → word_at (bits_of from new) i ≡ word_at (bits_of from row) i
+
+-- words joined
+pub has_joined : (from : ℕ) (row new : List ℕ) (other : ClassBits) (end : ℕ) → other.from + length other.words ≤ end →
+    AreCombined bit_or from row new other other.from end → (k : ℕ) → HasClass (bits_of from new) k ↔ (HasClass (bits_of from row) k ⊎ HasClass other k)
+has_joined from row new other end all combined k =
+    has_or (bits_of from new) (bits_of from row) other k
+    (⊎_elim (λ sooner. outside (combined.kept i (inl sooner)) (word_at-before other i sooner))
+    (λ later.
+    ⊎_elim (λ inside. combined.done i later inside) (λ past. outside (combined.kept i (inr past)) (word_at-past other i (omega (arith, all, past))))
+    (cases_lt i end))
+    (cases_lt i other.from))
+  where
+    i : ℕ
+    i = k / 64
+
+    outside : word_at (bits_of from new) i ≡ word_at (bits_of from row) i → word_at other i ≡ 0 →
+        word_at (bits_of from new) i ≡ bit_or (word_at (bits_of from row) i) (word_at other i)
+    outside same none = same ∙ sym (or_zero_r (word_at (bits_of from row) i)) ∙ ap (bit_or (word_at (bits_of from row) i)) (sym none)
+
+-- words met, where those outside of the other set's are 0
+pub has_met : (from : ℕ) (row new : List ℕ) (other : ClassBits) (end : ℕ) → ((k : ℕ) → from + k < other.from → get_or row k 0 ≡ 0) →
+    from + length row ≤ end → AreCombined bit_and from row new other (max from other.from) end →
+    (k : ℕ) → HasClass (bits_of from new) k ↔ (HasClass (bits_of from row) k × HasClass other k)
+has_met from row new other end before all combined k =
+    has_and (bits_of from new) (bits_of from row) other k
+    (⊎_elim (λ sooner. outside (combined.kept i (inl sooner)) (none sooner))
+    (λ later.
+    ⊎_elim (λ inside. combined.done i later inside)
+    (λ past. outside (combined.kept i (inr past)) (word_at-past (bits_of from row) i (omega (arith, all, past))))
+    (cases_lt i end))
+    (cases_lt i (max from other.from)))
+  where
+    i : ℕ
+    i = k / 64
+
+    none : i < max from other.from → word_at (bits_of from row) i ≡ 0
+    none sooner =
+        ⊎_elim (λ out. word_at-before (bits_of from row) i out)
+        (λ in_row. word_at-from (bits_of from row) i in_row ∙ before (i - from) (omega (arith, sooner, in_row)))
+        (cases_lt i from)
+
+    outside : word_at (bits_of from new) i ≡ word_at (bits_of from row) i → word_at (bits_of from row) i ≡ 0 →
+        word_at (bits_of from new) i ≡ bit_and (word_at (bits_of from row) i) (word_at other i)
+    outside same zero =
+        same ∙ zero ∙ sym (and_zero_l (word_at other i)) ∙ ap (λ n. bit_and n (word_at other i)) (sym zero)
+
+-- a row whose words are kept where another set has some
+pub kept_within : (from : ℕ) (row new : List ℕ) (other : ClassBits) →
+    ((j : ℕ) → other.from - from ≤ j → j < other.from + length other.words - from → get_or new j 0 ≡ get_or row j 0) →
+    (k : ℕ) → HasClass other k → word_at (bits_of from new) (k / 64) ≡ word_at (bits_of from row) (k / 64)
+kept_within from row new other kept k has =
+    ⊎_elim (λ sooner. word_at-before (bits_of from new) (k / 64) sooner ∙ sym (word_at-before (bits_of from row) (k / 64) sooner))
+    (λ later. word_at-from (bits_of from new) (k / 64) later ∙ kept (k / 64 - from) (omega (arith, begun, later)) (omega (arith, ended, later))
+    ∙ sym (word_at-from (bits_of from row) (k / 64) later))
+    (cases_lt (k / 64) from)
+  where
+    begun : other.from ≤ k / 64
+    begun = ⊎_elim (λ sooner. absurd (no_word other k (word_at-before other (k / 64) sooner) has)) (λ later. later) (cases_lt (k / 64) other.from)
+
+    ended : k / 64 < other.from + length other.words
+    ended =
+        ⊎_elim (λ inside. inside) (λ past. absurd (no_word other k (word_at-past other (k / 64) past) has))
+        (cases_lt (k / 64) (other.from + length other.words))
+
+-- words taken away
+pub has_removed : (from : ℕ) (row new : List ℕ) (other : ClassBits) (end : ℕ) → ((i : ℕ) → get_or other.words i 0 < 2 ^ 64) →
+    min (from + length row) (other.from + length other.words) ≤ end →
+    AreCombined (λ (these those : ℕ). bit_and these (bit_not w64 those)) from row new other (max from other.from) end →
+    (k : ℕ) → HasClass (bits_of from new) k ↔ (HasClass (bits_of from row) k × ¬ HasClass other k)
+has_removed from row new other end small all combined k =
+    ⊎_elim (λ sooner. ⊎_elim
+    (λ out. has_none (bits_of from new) (bits_of from row) other k (combined.kept i (inl sooner)) (word_at-before (bits_of from row) i out))
+    (λ in_row. same (combined.kept i (inl sooner)) (word_at-before other i (omega (arith, sooner, in_row))))
+    (cases_lt i from))
+    (λ later. ⊎_elim
+    (λ inside. has_and_not (bits_of from new) (bits_of from row) other k (fits later) (combined.done i later inside))
+    (λ past. ⊎_elim
+    (λ in_row. same (combined.kept i (inr past)) (word_at-past other i (omega (arith, all, past, in_row))))
+    (λ out. has_none (bits_of from new) (bits_of from row) other k (combined.kept i (inr past)) (word_at-past (bits_of from row) i out))
+    (cases_lt i (from + length row)))
+    (cases_lt i end))
+    (cases_lt i (max from other.from))
+  where
+    i : ℕ
+    i = k / 64
+
+    same : word_at (bits_of from new) i ≡ word_at (bits_of from row) i → word_at other i ≡ 0 →
+        HasClass (bits_of from new) k ↔ (HasClass (bits_of from row) k × ¬ HasClass other k)
+    same = has_same (bits_of from new) (bits_of from row) other k
+
+    fits : max from other.from ≤ i → word_at other i < 2 ^ 64
+    fits later = omega (arith, word_at-from other i (omega (arith, later)), small (i - other.from))

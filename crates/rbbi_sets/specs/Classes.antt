@@ -1,0 +1,47 @@
+-- Sets of code points by the classes that bounds divide them into.
+use Rattle.std.specs.Prelude.{◌≡◌, ℕ, ◌+◌, ◌-◌, ◌/◌, ◌%◌, ◌<◌, ◌≤◌, ◌⊎◌, nat_lt, nat_le, List, [], ◌∷◌, slice_index, if◌then◌else◌}
+use Rattle.std.specs.List.{Contains}
+use Rattle.std.specs.Int.{bit_at}
+
+-- The number of a code point's class: how many bounds are up to it. So a class begins at each bound, and the first one at 0.
+abbrev pub class_of : List ℕ → ℕ → ℕ
+class_of [] c = 0
+class_of (bound ∷ bounds) c = if nat_le bound c then class_of bounds c + 1 else 0
+
+-- each bound is past the one before it and the number before them, and a code point
+abbrev pub AreBoundsFrom : ℕ → List ℕ → Type 0
+AreBoundsFrom before [] = Unit {0}
+AreBoundsFrom before (bound ∷ bounds) = (before < bound) × (bound ≤ 0x10FFFF) × AreBoundsFrom bound bounds
+
+-- the bounds rise, and no class is empty
+abbrev pub AreBounds : List ℕ → Type 0
+AreBounds bounds = AreBoundsFrom 0 bounds
+
+-- a class begins at the code point
+abbrev pub IsFirstOfClass : List ℕ → ℕ → Type 0
+IsFirstOfClass bounds c = (c ≡ 0) ⊎ Contains bounds c
+
+-- a class ends at the code point
+abbrev pub IsLastOfClass : List ℕ → ℕ → Type 0
+IsLastOfClass bounds c = (c ≡ 0x10FFFF) ⊎ Contains bounds (c + 1)
+
+-- the code points from one to another, both counted, are whole classes
+abbrev pub AreWholeClasses : List ℕ → ℕ → ℕ → Type 0
+AreWholeClasses bounds low high = IsFirstOfClass bounds low × IsLastOfClass bounds high
+
+-- Classes by their numbers, as bits of words, 64 to a word, the least bit first. The words before the first one here are 0.
+pub record ClassBits : Type 0 where
+  pub from : ℕ
+  pub words : List ℕ
+
+-- the word with this number
+abbrev pub word_at : ClassBits → ℕ → ℕ
+word_at set i = if nat_lt i set.from then 0 else slice_index set.words (i - set.from)
+
+-- the set has the class with this number
+abbrev pub HasClass : ClassBits → ℕ → Type 0
+HasClass set k = bit_at (word_at set (k / 64)) (k % 64) ≡ 1
+
+-- the set has the code point, where these bounds divide the code points into classes
+abbrev pub HasMember : List ℕ → ClassBits → ℕ → Type 0
+HasMember bounds set c = (c ≤ 0x10FFFF) × HasClass set (class_of bounds c)

@@ -1,0 +1,261 @@
+//! Sets of classes.
+ghost use Rattle.std.specs.Prelude.{◌≡◌, ◌+◌, ◌-◌, ◌^◌, ◌<◌, ◌≤◌, ◌↔◌, ◌⊎◌, ℕ, List, length, IfOk};
+ghost use Rattle.std.specs.Prelude.{slice_index, OnOk};
+ghost use Rattle.rbbi_sets.specs.Classes.{HasMember, HasClass, word_at};
+
+use crate::Layout;
+use crate::layout::ClassSpan;
+use std::alloc::{AllocError, Global};
+use std::marker::Model;
+
+/// A set of code points that holds of each class of a `Layout` all or none. It holds their numbers
+/// as bits, so to join two sets takes a step for 64 classes. Contracts see it as its words
+/// (`ClassBits`), and its members by `HasMember`.
+#[derive(Debug, Drop)]
+pub struct ClassSet {
+    /// How many words, all 0, stand before those of `words`.
+    from: usize,
+    /// The classes as bits, 64 to a word, the least bit first.
+    words: Vec<u64>,
+}
+
+impl Model for ClassSet {
+    ghost use Rattle.std.specs.Prelude.{◌≤◌, ◌+◌, ◌^◌, length};
+    ghost use Rattle.rbbi_sets.specs.Classes.{ClassBits};
+
+    ghost Value = { ClassBits };
+
+    ghost view = { λ set. record { from = set.from; words = set.words.items } };
+
+    ghost invariant = { λ set. set.from + length set.words.items ≤ 2 ^ 58 };
+}
+
+impl ClassSet {
+    /// The set that holds nothing.
+    pub fn empty(alloc: Global) -> ClassSet
+        ensures { (bounds : List ℕ) (c : ℕ) → ¬ HasMember bounds result c }
+    {
+        ClassSet {
+            from: 0,
+            words: Vec::new(alloc),
+        }
+    }
+
+    /// The word with this number, counted with those that are left out.
+    pub(crate) fn word(&self, i: usize) -> u64
+        ensures { result ≡ word_at self.now i }
+    {
+        if i < self.from || i - self.from >= self.words.len() {
+            return 0;
+        }
+        self.words[i - self.from]
+    }
+
+    /// The number of a word from which on all are 0.
+    pub(crate) fn end(&self) -> usize
+        ensures { (i : ℕ) → result ≤ i → word_at self.now i ≡ 0 }
+    {
+        self.from + self.words.len()
+    }
+
+    /// The set of some classes.
+    pub(crate) fn of_span(alloc: Global, span: ClassSpan) -> Result<ClassSet, AllocError>
+        requires { span.first ≤ span.last }
+        ensures { IfOk result (λ set. (k : ℕ) →
+            HasClass set k ↔ ((span.first ≤ k) × (k ≤ span.last))) }
+    {
+        let from = span.first / 64;
+        let last = span.last / 64 - from;
+        let mut words = vec![in alloc; u64::MAX; last + 1]?;
+        words[0] &= u64::MAX << (span.first % 64);
+        words[last] &= u64::MAX >> (63 - span.last % 64);
+        Ok(ClassSet { from, words })
+    }
+
+    /// Adds what is in the other set.
+    pub fn add(&mut self, alloc: Global, other: &ClassSet) -> Result<(), AllocError>
+        ensures { OnOk result ((bounds : List ℕ) (c : ℕ) → HasMember bounds self.new c
+            ↔ (HasMember bounds self.old c ⊎ HasMember bounds other.now c)) }
+    {
+        if other.words.is_empty() {
+            return Ok(());
+        }
+        self.make_room(alloc, other)?;
+        join_words(self.words.as_mut_slice(), self.from, other);
+        Ok(())
+    }
+
+    /// What is in either set, in the words of the one that has more of them.
+    pub fn union(self, alloc: Global, other: ClassSet) -> Result<ClassSet, AllocError>
+        ensures { IfOk result (λ set. (bounds : List ℕ) (c : ℕ) → HasMember bounds set c
+            ↔ (HasMember bounds self c ⊎ HasMember bounds other c)) }
+    {
+        if self.words.len() < other.words.len() {
+            let mut whole = other;
+            whole.add(alloc, &self)?;
+            return Ok(whole);
+        }
+        let mut whole = self;
+        whole.add(alloc, &other)?;
+        Ok(whole)
+    }
+
+    /// Sees to it that the words of the other set have a place, and keeps what is in this one.
+    fn make_room(&mut self, alloc: Global, other: &ClassSet) -> Result<(), AllocError>
+        ensures words { OnOk result ((i : ℕ) → word_at self.new i ≡ word_at self.old i) }
+        ensures from { OnOk result (self.new.from ≤ other.now.from) }
+        ensures end { OnOk result (other.now.from + length other.now.words
+            ≤ self.new.from + length self.new.words) }
+    {
+        let end = self.from + self.words.len();
+        if self.from <= other.from && other.from + other.words.len() <= end {
+            return Ok(());
+        }
+        self.grow(alloc, other)
+    }
+
+    /// Takes the words from the first to the last of both sets, and keeps what is in this one.
+    fn grow(&mut self, alloc: Global, other: &ClassSet) -> Result<(), AllocError>
+        ensures words { OnOk result ((i : ℕ) → word_at self.new i ≡ word_at self.old i) }
+        ensures from { OnOk result (self.new.from ≤ other.now.from) }
+        ensures end { OnOk result (other.now.from + length other.now.words
+            ≤ self.new.from + length self.new.words) }
+    {
+        let start = if self.words.is_empty() {
+            other.from
+        } else {
+            self.from
+        };
+        let from = start.min(other.from);
+        let end = (start + self.words.len()).max(other.from + other.words.len());
+        let mut words = Vec::with_capacity(alloc, end - from)?;
+        words.resize(start - from, 0)?;
+        words.extend_from_slice(&self.words)?;
+        words.resize(end - from, 0)?;
+        self.from = from;
+        self.words = words;
+        Ok(())
+    }
+
+    /// Keeps what is in the other set too.
+    pub fn meet(&mut self, other: &ClassSet)
+        ensures { (bounds : List ℕ) (c : ℕ) → HasMember bounds self.new c
+            ↔ (HasMember bounds self.old c × HasMember bounds other.now c) }
+    {
+        let end = other.from + other.words.len();
+        self.words.truncate(end.saturating_sub(self.from));
+        let row = self.words.as_mut_slice();
+        clear(row, other.from.saturating_sub(self.from));
+        meet_words(row, self.from, other);
+    }
+
+    /// Takes away what is in the other set.
+    pub fn remove(&mut self, other: &ClassSet)
+        ensures { (bounds : List ℕ) (c : ℕ) → HasMember bounds self.new c
+            ↔ (HasMember bounds self.old c × ¬ HasMember bounds other.now c) }
+    {
+        remove_words(self.words.as_mut_slice(), self.from, other);
+    }
+
+    /// Makes the set that of the other code points.
+    pub fn negate(&mut self, alloc: Global, layout: &Layout) -> Result<(), AllocError>
+        ensures { OnOk result ((c : ℕ) → HasMember layout.now self.new c
+            ↔ ((c ≤ 0x10FFFF) × ¬ HasMember layout.now self.old c)) }
+    {
+        let mut words = vec![in alloc; u64::MAX; layout.last_class() / 64 + 1]?;
+        remove_words(words.as_mut_slice(), 0, self);
+        self.from = 0;
+        self.words = words;
+        Ok(())
+    }
+
+    /// The words but for those that are left out.
+    pub(crate) fn words(&self) -> &[u64]
+        ensures value { result.now ≡ self.now.words }
+        ensures few { self.now.from + length self.now.words ≤ 2 ^ 58 }
+    {
+        self.words.as_slice()
+    }
+
+    /// How many words, all 0, are left out in front.
+    pub(crate) fn from(&self) -> usize
+        ensures { result ≡ self.now.from }
+    {
+        self.from
+    }
+
+    /// The set with these words, in front of which some that are 0 are left out.
+    pub(crate) fn of_words(from: usize, words: Vec<u64>) -> ClassSet
+        requires { from + length words.items ≤ 2 ^ 58 }
+        ensures { result ≡ record { from = from; words = words.items } }
+    {
+        ClassSet { from, words }
+    }
+}
+
+/// Adds what is in the other set to the row, whose first word has the number `from`. Each word of
+/// the set has a place in the row.
+fn join_words(row: &mut [u64], from: usize, other: &ClassSet)
+    requires from { from ≤ other.now.from }
+    requires end { other.now.from + length other.now.words ≤ from + length row.old }
+    ensures { (k : ℕ) → HasClass (record { from = from; words = row.new }) k
+        ↔ (HasClass (record { from = from; words = row.old }) k ⊎ HasClass other.now k) }
+{
+    let words = other.words.as_slice();
+    let begin = other.from;
+    for i in begin..begin + words.len() {
+        row[i - from] |= words[i - begin];
+    }
+}
+
+/// Makes the first `count` words 0, or all where there are fewer.
+fn clear(row: &mut [u64], count: usize)
+    ensures first { (k : ℕ) → k < count → slice_index row.new k ≡ 0 }
+    ensures others { (k : ℕ) → count ≤ k → slice_index row.new k ≡ slice_index row.old k }
+{
+    for k in 0..count.min(row.len()) {
+        row[k] = 0;
+    }
+}
+
+/// Keeps what is in the other set too, in the row whose first word has the number `from`. It is 0
+/// in front of the set's words, and ends with them or before.
+fn meet_words(row: &mut [u64], from: usize, other: &ClassSet)
+    requires before { (k : ℕ) → from + k < other.now.from → slice_index row.old k ≡ 0 }
+    requires end { length row.old ≤ other.now.from + length other.now.words - from }
+    ensures { (k : ℕ) → HasClass (record { from = from; words = row.new }) k
+        ↔ (HasClass (record { from = from; words = row.old }) k × HasClass other.now k) }
+{
+    let words = other.words.as_slice();
+    let begin = other.from;
+    for i in from.max(begin)..from + row.len() {
+        row[i - from] &= words[i - begin];
+    }
+}
+
+/// Takes what is in the other set away from the row, whose first word has the number `from`.
+fn remove_words(row: &mut [u64], from: usize, other: &ClassSet)
+    requires { from + length row.old ≤ 2 ^ 58 }
+    ensures { (k : ℕ) → HasClass (record { from = from; words = row.new }) k
+        ↔ (HasClass (record { from = from; words = row.old }) k × ¬ HasClass other.now k) }
+{
+    let words = other.words.as_slice();
+    let begin = other.from;
+    let end = (from + row.len()).min(begin + words.len());
+    for i in from.max(begin)..end {
+        row[i - from] &= !words[i - begin];
+    }
+}
+
+impl Clone for ClassSet {
+    ghost is_clone = { λ set copy. copy ≡ set };
+
+    /// A copy.
+    fn clone(&self) -> Result<ClassSet, AllocError> {
+        let words = self.words.clone()?;
+        Ok(ClassSet {
+            from: self.from,
+            words,
+        })
+    }
+}

@@ -1,0 +1,86 @@
+//! Sets of classes that keep their words together.
+ghost use Rattle.std.specs.Prelude.{◌≡◌, ◌≤◌, ◌+◌, ◌^◌, IfOk, length};
+ghost use Rattle.std.specs.List.{flat_map};
+ghost use Rattle.std.specs.Rc.{rc_slice_items};
+
+use crate::ClassSet;
+use std::alloc::{AllocError, Global};
+use std::marker::Model;
+use std::rc::RcSlice;
+
+/// A set of classes whose words stand in chunks, each of which many sets may share. Contracts see
+/// it as a `ClassSet`. A `ClassShelf` makes it.
+#[derive(Debug, Drop)]
+pub struct SharedClasses {
+    /// How many words, all 0, stand before those of the chunks.
+    from: usize,
+    /// The words of one chunk after another are those of the set.
+    chunks: RcSlice<RcSlice<u64>>,
+}
+
+impl Model for SharedClasses {
+    ghost use Rattle.std.specs.Prelude.{◌≤◌, ◌+◌, ◌^◌, length};
+    ghost use Rattle.std.specs.List.{flat_map};
+    ghost use Rattle.std.specs.Rc.{rc_slice_items};
+    ghost use Rattle.rbbi_sets.specs.Classes.{ClassBits};
+
+    ghost Value = { ClassBits };
+
+    ghost view = { λ set. record {
+      from = set.from;
+      words = flat_map rc_slice_items (rc_slice_items set.chunks);
+    } };
+
+    ghost invariant = { λ set.
+        set.from + length (flat_map rc_slice_items (rc_slice_items set.chunks)) ≤ 2 ^ 58 };
+}
+
+impl SharedClasses {
+    /// The set with these words, one chunk after another.
+    pub(crate) fn of_chunks(
+        from: usize,
+        chunks: Vec<RcSlice<u64>>,
+    ) -> Result<SharedClasses, AllocError>
+        requires { from + length (flat_map rc_slice_items chunks.items) ≤ 2 ^ 58 }
+        ensures { IfOk result (λ set.
+            set ≡ record { from = from; words = flat_map rc_slice_items chunks.items }) }
+    {
+        let chunks = RcSlice::from_vec(chunks)?;
+        Ok(SharedClasses { from, chunks })
+    }
+
+    /// The set by itself.
+    pub fn to_classes(&self, alloc: Global) -> Result<ClassSet, AllocError>
+        ensures { IfOk result (λ set. set ≡ self.now) }
+    {
+        let mut words = Vec::with_capacity(alloc, self.word_count())?;
+        for chunk in self.chunks.as_slice() {
+            words.extend_from_slice(chunk.as_slice())?;
+        }
+        Ok(ClassSet::of_words(self.from, words))
+    }
+
+    /// How many words the chunks have.
+    fn word_count(&self) -> usize
+        ensures { result ≡ length self.now.words }
+    {
+        let mut count = 0;
+        for chunk in self.chunks.as_slice() {
+            count += chunk.len();
+        }
+        count
+    }
+}
+
+impl Clone for SharedClasses {
+    ghost is_clone = { λ set copy. copy ≡ set };
+
+    /// The same set, which takes no memory.
+    fn clone(&self) -> Result<SharedClasses, AllocError> {
+        let chunks = self.chunks.clone()?;
+        Ok(SharedClasses {
+            from: self.from,
+            chunks,
+        })
+    }
+}
