@@ -4,3 +4,4 @@ pub mod RowLines
 pub mod Files
 pub mod Lookups
 pub mod Refusals
+pub mod RunStarts

@@ -5,6 +5,7 @@ mod error;
 mod file;
 mod loose;
 mod row;
+mod runs;
 mod single;
 mod table;
 #[cfg(test)]

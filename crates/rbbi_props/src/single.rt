@@ -8,8 +8,10 @@ ghost use Rattle.rbbi_sets.specs.Rising.{AreRising};
 ghost use Rattle.rbbi_props.specs.Lookups as spec;
 
 use crate::loose::is_well_formed;
+use crate::runs::set_of_runs;
 use rbbi_sets::{CodeRange, CodeSet};
 use std::alloc::{AllocError, Global};
+use unicode::properties::{GeneralCategory, Script};
 use unicode::sets::{Set, by_name, normalize};
 
 /// The set that a name stands for on its own: a binary property, a general category or a script.
@@ -43,7 +45,34 @@ fn characters(alloc: Global, text: &str) -> Result<Vec<char>, AllocError>
 }
 
 /// The members of a set of the Unicode Character Database.
+///
+/// The sets that a single name mostly stands for are read in one pass from the runs that the
+/// database's tables have. Of the few others all ranges are listed first.
 fn set_of(alloc: Global, set: Set) -> Result<CodeSet, AllocError>
+    ensures form { IfOk result (λ found. AreRising found) }
+    ensures members { IfOk result (λ found. (c : ℕ) → c ≤ 0x10FFFF →
+        Has found c ↔ IsTrue (in_set set c)) }
+{
+    match set {
+        Set::Binary(property) => set_of_runs(alloc, property.runs(), 1, 1),
+        Set::Category(category) => {
+            let number = category.number();
+            set_of_runs(alloc, GeneralCategory::runs(), number, number)
+        }
+        Set::CategoryGroup(group) => {
+            let (first, last) = group.bounds();
+            set_of_runs(alloc, GeneralCategory::runs(), first, last)
+        }
+        Set::Script(script) => {
+            let number = script.number();
+            set_of_runs(alloc, Script::runs(), number, number)
+        }
+        _ => set_of_ranges(alloc, set),
+    }
+}
+
+/// The members of a set, by a list of its ranges.
+fn set_of_ranges(alloc: Global, set: Set) -> Result<CodeSet, AllocError>
     ensures form { IfOk result (λ found. AreRising found) }
     ensures members { IfOk result (λ found. (c : ℕ) → c ≤ 0x10FFFF →
         Has found c ↔ IsTrue (in_set set c)) }

@@ -91,6 +91,18 @@ fn names_of_the_database(rt: HostRuntime) -> Result<(), Fail> {
         (0x205F, 0x205F),
         (0x3000, 0x3000),
     ]);
+    // A line separator and a paragraph separator, which touch, are one range.
+    let separators: Found = Some(&[
+        (0x20, 0x20),
+        (0xA0, 0xA0),
+        (0x1680, 0x1680),
+        (0x2000, 0x200A),
+        (0x2028, 0x2029),
+        (0x202F, 0x202F),
+        (0x205F, 0x205F),
+        (0x3000, 0x3000),
+    ]);
+    assert!(rt; is_found(&rt, &table, "Separator", None, separators)?);
     assert!(rt; is_found(&rt, &table, "Zs", None, spaces)?);
     assert!(rt; is_found(&rt, &table, "Is_Space Separator", None, spaces)?);
     assert!(rt; is_found(&rt, &table, "gc", Some("Zs"), spaces)?);
