@@ -261,12 +261,12 @@ def operands(form, head='[', tail='];'):
     return padded(''.join(out) + tail)
 
 
-def variables(form):
+def variables(form, head=''):
     """As many variables as fit, each a set of the form, with a character of its own where that has
     one. No two of the characters are neighbours."""
     letters = string.ascii_letters
     names = (a + b + c for a in letters for b in letters for c in letters)
-    out, room, code = [], MIB - 2, 0x10000
+    out, room, code = [head], MIB - 2 - len(head), 0x10000
     for name in names:
         statement = f'${name}={form};'.replace('@', chr(code))
         size = len(statement.encode('utf-8'))
@@ -282,6 +282,12 @@ def spellings():
     names = (''.join(gaps) for gaps in itertools.product('_- ', repeat=10))
     return padded('[' + ''.join(f'\\p{{L{gaps}}}' for gaps in names) + '];')
 
+
+# Two variables of sets with many ranges.
+LARGE = '$v=[\\p{L}];$w=[\\p{Lu}];'
+
+# A variable of 100,000 letters, no two of which are neighbours.
+MANY = '$v=[' + ''.join(chr(code) for code in range(0x30000, 0x30000 + 200000, 2)) + '];'
 
 FRONT = {
     'statements': (lambda: repeat('a;'), '524,288 times `a;`'),
@@ -302,18 +308,28 @@ FRONT = {
                     'one set of 75,000 sets that lack one letter'),
     'cut': (lambda: repeat('&\\p{L}', '[\\p{L}', '];'), 'one set met with a property 170,000 times'),
     'named': (lambda: repeat('$v', '$v=[\\p{L}];[', '];'), 'one set of 500,000 times one variable'),
-    'inturn': (lambda: repeat('$v$w', '$v=[\\p{L}];$w=[\\p{Lu}];[', '];'),
+    'inturn': (lambda: repeat('$v$w', LARGE + '[', '];'),
                'one set of two variables in turn, 500,000 times in all'),
     'spellings': (spellings, 'one set of 59,000 spellings of one property'),
     'inner': (lambda: repeat('[\\p{L}-\\p{Lu}]', '[', '];'),
               'one set of 75,000 sets, each a property without another'),
-    'pairs': (lambda: repeat('[$v$w]', '$v=[\\p{L}];$w=[\\p{Lu}];[', '];'),
+    'pairs': (lambda: repeat('[$v$w]', LARGE + '[', '];'),
               'one set of 175,000 sets of two variables'),
+    'common': (lambda: operands('[@$v&$w]', LARGE + '['),
+               'one set of 95,000 sets of what two variables have in common, and a letter'),
+    'lacking': (lambda: operands('[^@$v-$w]', LARGE + '['),
+                'one set of 87,000 negated sets of a variable without another, and a letter'),
+    'deep': (lambda: repeat('[^' * 60 + '\\p{L}' + ']' * 60, '[', '];'),
+             'one set of 5,600 sets negated 60 deep'),
+    'wide': (lambda: operands('[@$v&$v]', MANY + '['),
+             'one set of 59,000 sets of a variable of 100,000 letters, twice, and a letter'),
     'variables': (lambda: variables('[\\p{L}]'), '80,000 variables of one property'),
     'without': (lambda: variables('[\\p{L}-\\p{Lu}]'),
                 '52,000 variables, each a property without another'),
     'different': (lambda: variables('[\\p{L}@]'),
                   '60,000 variables of one property and a letter each'),
+    'joined': (lambda: variables('[@$v$w]', LARGE),
+               '65,000 variables of two others and a letter each'),
     'lone': (lambda: repeat('[\\p{L}];'), '130,000 rules of one property, refused'),
     'samename': (lambda: '$x=' + '\\p{L}' * 40000 + ';b;', '40,000 times \\p{L} in a sequence'),
     'names': (lambda: repeat('$ab', '$ab=[a-z];$x=', ';b;'), 'one sequence of 350,000 names'),
