@@ -6,7 +6,7 @@ use Rattle.std.specs.Int.RustNames.{bit_or}
 use Rattle.std.specs.Int.Bits.{or_zero_r, and_zero_l}
 use Rattle.std.proofs.lemmas.Bool.{cases_lt}
 use Rattle.rbbi_sets.specs.Classes.{ClassBits, word_at, HasClass}
-use Rattle.rbbi_sets.proofs.ClassWords.{bits_of, word_at-before, word_at-from, word_at-past, no_word, has_or, has_and, has_and_not, has_same, has_none}
+use Rattle.rbbi_sets.proofs.ClassWords.{bits_of, word_at-before, word_at-from, word_at-past, no_word, has_or, has_and, has_and_not, has_turned, has_same, has_none}
 
 -- in the words from a place up to before another, each word of a row is put together with that of another set; the others are kept
 pub record AreCombined (f : ℕ → ℕ → ℕ) (from : ℕ) (row new : List ℕ) (other : ClassBits) (start end : ℕ) : Type 0 where
@@ -105,3 +105,17 @@ has_removed from row new other end small all combined k =
 
     fits : max from other.from ≤ i → word_at other i < 2 ^ 64
     fits later = omega (arith, word_at-from other i (omega (arith, later)), small (i - other.from))
+
+-- the words of a row up to one are turned, and the others are kept
+pub record AreTurned (row new : List ℕ) (end : ℕ) : Type 0 where
+  pub long : length new ≡ length row
+  pub done : (i : ℕ) → i < end → get_or new i 0 ≡ bit_not w64 (get_or row i 0)
+  pub kept : (i : ℕ) → end ≤ i → get_or new i 0 ≡ get_or row i 0
+
+-- a row of which all words are turned
+pub has_others : (row new : List ℕ) (end : ℕ) → ((i : ℕ) → get_or row i 0 < 2 ^ 64) → length row ≤ end → AreTurned row new end →
+    (k : ℕ) → k / 64 < length row → HasClass (bits_of 0 new) k ↔ ¬ HasClass (bits_of 0 row) k
+has_others row new end small all turned k inside =
+    has_turned (bits_of 0 new) (bits_of 0 row) (bits_of 0 row) k (omega (arith, word_at-from (bits_of 0 row) (k / 64) (omega arith), small (k / 64 - 0)))
+    (word_at-from (bits_of 0 new) (k / 64) (omega arith) ∙ turned.done (k / 64 - 0) (omega (arith, all, inside))
+    ∙ ap (bit_not w64) (sym (word_at-from (bits_of 0 row) (k / 64) (omega arith))))

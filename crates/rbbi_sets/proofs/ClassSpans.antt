@@ -74,12 +74,6 @@ le-by_last first last k short ordered later below =
     ⊎_elim (λ here. let place = below here in omega (arith, ordered, later, here, place)) (λ apart. omega (arith, short, ordered, later, apart))
     (cases_eq (k / 64 - first / 64) (last / 64 - first / 64))
 
--- a row of ones has each class that has a place in it
-pub has_all : (row : List ℕ) (n k : ℕ) → row ≡ replicate n (2 ^ 64 - 1) → k / 64 < n → HasClass (bits_of 0 row) k
-has_all row n k full inside =
-    ap (λ word. bit_at word (k % 64)) (word_at-from (bits_of 0 row) (k / 64) (omega arith))
-    ∙ ap (λ (list : List ℕ). bit_at (get_or list (k / 64 - 0) 0) (k % 64)) full ∙ all_ones n (k / 64 - 0) (k % 64) (omega (arith, inside)) (omega arith)
-
 -- the words of a span: all ones, but for the low bits of the first and the high bits of the last
 module _ (first last : ℕ) (ordered : first ≤ last) where
   abbrev pub from : ℕ

@@ -67,6 +67,15 @@ module _ (new these those : ClassBits) (k : ℕ) where
         λ both. let apart : bit_at (word_at those (k / 64)) (k % 64) ≢ 1 = both.1 in omega (arith, same, turned, both.0, apart, low'),
       )
 
+  pub has_turned : word_at these (k / 64) < 2 ^ 64 → word_at new (k / 64) ≡ bit_not w64 (word_at these (k / 64)) → HasClass new k ↔ ¬ HasClass these k
+  has_turned small word =
+      let low = bit_at-lt (word_at these (k / 64)) (k % 64) in
+      let turned = bit_at_not w64 (word_at these (k / 64)) (k % 64) small (omega arith) in
+      let same = ap (λ n. bit_at n (k % 64)) word in (
+        λ has. λ other. omega (arith, same, turned, has, other),
+        λ none. let apart : bit_at (word_at these (k / 64)) (k % 64) ≢ 1 = none in omega (arith, same, turned, apart, low),
+      )
+
   pub has_same : word_at new (k / 64) ≡ word_at these (k / 64) → word_at those (k / 64) ≡ 0 → HasClass new k ↔ (HasClass these k × ¬ HasClass those k)
   has_same word none =
       let same = ap (λ n. bit_at n (k % 64)) word in

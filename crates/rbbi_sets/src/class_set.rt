@@ -1,5 +1,5 @@
 //! Sets of classes.
-ghost use Rattle.std.specs.Prelude.{◌≡◌, ◌+◌, ◌-◌, ◌^◌, ◌<◌, ◌≤◌, ◌↔◌, ◌⊎◌, ℕ, List, length, IfOk};
+ghost use Rattle.std.specs.Prelude.{◌≡◌, ◌+◌, ◌-◌, ◌/◌, ◌^◌, ◌<◌, ◌≤◌, ◌↔◌, ◌⊎◌, ℕ, List, length, IfOk};
 ghost use Rattle.std.specs.Prelude.{slice_index, OnOk};
 ghost use Rattle.rbbi_sets.specs.Classes.{HasMember, HasClass, word_at};
 
@@ -80,7 +80,7 @@ impl ClassSet {
         if other.words.is_empty() {
             return Ok(());
         }
-        self.make_room(alloc, other)?;
+        self.make_room(alloc, other.from, other.from + other.words.len())?;
         join_words(self.words.as_mut_slice(), self.from, other);
         Ok(())
     }
@@ -100,34 +100,38 @@ impl ClassSet {
         Ok(whole)
     }
 
-    /// Sees to it that the words of the other set have a place, and keeps what is in this one.
-    fn make_room(&mut self, alloc: Global, other: &ClassSet) -> Result<(), AllocError>
+    /// Sees to it that the words from `first` to before `last` have a place, and keeps what is in
+    /// the set.
+    fn make_room(&mut self, alloc: Global, first: usize, last: usize) -> Result<(), AllocError>
+        requires ordered { first ≤ last }
+        requires few { last ≤ 2 ^ 58 }
         ensures words { OnOk result ((i : ℕ) → word_at self.new i ≡ word_at self.old i) }
-        ensures from { OnOk result (self.new.from ≤ other.now.from) }
-        ensures end { OnOk result (other.now.from + length other.now.words
-            ≤ self.new.from + length self.new.words) }
+        ensures from { OnOk result (self.new.from ≤ first) }
+        ensures end { OnOk result (last ≤ self.new.from + length self.new.words) }
     {
         let end = self.from + self.words.len();
-        if self.from <= other.from && other.from + other.words.len() <= end {
+        if self.from <= first && last <= end {
             return Ok(());
         }
-        self.grow(alloc, other)
+        self.grow(alloc, first, last)
     }
 
-    /// Takes the words from the first to the last of both sets, and keeps what is in this one.
-    fn grow(&mut self, alloc: Global, other: &ClassSet) -> Result<(), AllocError>
+    /// Takes the words from the first to the last of its own and of these, and keeps what is in the
+    /// set.
+    fn grow(&mut self, alloc: Global, first: usize, last: usize) -> Result<(), AllocError>
+        requires ordered { first ≤ last }
+        requires few { last ≤ 2 ^ 58 }
         ensures words { OnOk result ((i : ℕ) → word_at self.new i ≡ word_at self.old i) }
-        ensures from { OnOk result (self.new.from ≤ other.now.from) }
-        ensures end { OnOk result (other.now.from + length other.now.words
-            ≤ self.new.from + length self.new.words) }
+        ensures from { OnOk result (self.new.from ≤ first) }
+        ensures end { OnOk result (last ≤ self.new.from + length self.new.words) }
     {
         let start = if self.words.is_empty() {
-            other.from
+            first
         } else {
             self.from
         };
-        let from = start.min(other.from);
-        let end = (start + self.words.len()).max(other.from + other.words.len());
+        let from = start.min(first);
+        let end = (start + self.words.len()).max(last);
         let mut words = Vec::with_capacity(alloc, end - from)?;
         words.resize(start - from, 0)?;
         words.extend_from_slice(&self.words)?;
@@ -162,10 +166,8 @@ impl ClassSet {
         ensures { OnOk result ((c : ℕ) → HasMember layout.now self.new c
             ↔ ((c ≤ 0x10FFFF) × ¬ HasMember layout.now self.old c)) }
     {
-        let mut words = vec![in alloc; u64::MAX; layout.last_class() / 64 + 1]?;
-        remove_words(words.as_mut_slice(), 0, self);
-        self.from = 0;
-        self.words = words;
+        self.make_room(alloc, 0, layout.last_class() / 64 + 1)?;
+        flip(self.words.as_mut_slice());
         Ok(())
     }
 
@@ -205,6 +207,16 @@ fn join_words(row: &mut [u64], from: usize, other: &ClassSet)
     let begin = other.from;
     for i in begin..begin + words.len() {
         row[i - from] |= words[i - begin];
+    }
+}
+
+/// Turns each bit of the row.
+fn flip(row: &mut [u64])
+    ensures { (k : ℕ) → k / 64 < length row.old → HasClass (record { from = 0; words = row.new }) k
+        ↔ ¬ HasClass (record { from = 0; words = row.old }) k }
+{
+    for i in 0..row.len() {
+        row[i] = !row[i];
     }
 }
 
