@@ -27,6 +27,5 @@ pub mod RulesBuilt
 pub mod FaultKinds
 pub mod Ending
 pub mod Good
-pub mod RangesOf
 pub mod Existence
 mod WorkedSets

@@ -1,7 +1,9 @@
 -- The numbers of the classes that bounds divide the code points into.
 use Rattle.std.proofs.Common.{◌≡◌, ℕ, ◌+◌, ◌<◌, ◌≤◌, zero, suc, List, [], ◌∷◌, ◌++◌, ◌↔◌, length, get_or, cond, ap, sym, ◌∙◌, inl, inr, arith}
-use Rattle.std.proofs.Common.{subst, ◌-◌, ◌⊎◌}
-use Rattle.std.proofs.lemmas.Bool.{cases_lt, le-leb, lt-leb}
+use Rattle.std.proofs.Common.{subst, ◌-◌, ◌⊎◌, leb, true, false}
+use Rattle.std.specs.List.Sorted.{IsNonDecreasingBy, IsPartitionPoint}
+use Rattle.std.proofs.Math.Numerals.{add-one}
+use Rattle.std.proofs.lemmas.Bool.{cases_eq, cases_lt, le-leb, lt-leb, leb-true, leb-false}
 use Rattle.std.proofs.lemmas.List.{get_or_default}
 use Rattle.rbbi_sets.specs.Classes.{class_of, AreBoundsFrom, AreBounds}
 
@@ -161,3 +163,26 @@ bounds-push before (first ∷ bounds) last bound h l m = (h.0, h.1, bounds-push 
 pub bounds-form : (before : ℕ) (bounds : List ℕ) (last : ℕ) → AreBoundsTo before bounds last → AreBoundsFrom before bounds
 bounds-form before [] last h = tt
 bounds-form before (bound ∷ bounds) last h = (h.0, h.1, bounds-form bound bounds last h.2)
+
+-- bounds rise
+pub bounds-sorted : (bounds : List ℕ) → AreBounds bounds → IsNonDecreasingBy (λ n. n) bounds
+bounds-sorted bounds h i j d l m =
+    let first = get_or_default bounds i d 0 (omega arith) in
+    let second = get_or_default bounds j d 0 m in
+    elim (cases_eq i j) [
+      | inl same ↦ let e = ap (λ k. get_or bounds k d) same in omega arith
+      | inr apart ↦ let rise = bounds-rise 0 bounds h i j (omega arith) m in omega arith
+    ]
+
+-- where those before a place are up to a code point, and those from it on aren't, the place is the number of its class
+pub class-from_point : (bounds : List ℕ) (c k : ℕ) → k ≤ length bounds →
+    IsPartitionPoint (λ n. leb n c ≡ true) (λ n. leb n c ≡ false) bounds k → class_of bounds c ≡ k
+class-from_point [] c k l point = omega arith
+class-from_point (bound ∷ bounds) c zero l point =
+    class-before bound bounds c (leb-false bound c (point.1 0 0 (omega arith) (omega arith)))
+class-from_point (bound ∷ bounds) c (suc k) l point =
+    let up = leb-true bound c (point.0 0 0 (omega arith) (omega arith)) in
+    let rest =
+    class-from_point bounds c k (omega arith)
+    (λ j d a b. point.0 (suc j) d (omega arith) (omega arith), λ j d a b. point.1 (suc j) d (omega arith) (omega arith)) in
+    class-from bound bounds c up ∙ ap (λ n. n + 1) rest ∙ add-one k

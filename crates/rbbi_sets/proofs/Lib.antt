@@ -19,3 +19,5 @@ pub mod ClassRows
 pub mod ClassRoom
 pub mod ClassSpans
 pub mod ClassChunks
+pub mod PassingRanges
+pub mod CharacterMembers

@@ -3,4 +3,6 @@ pub mod Covers
 pub mod Joins
 pub mod Classes
 pub mod ClassRanges
+pub mod Passing
+pub mod CharacterSets
 pub mod Laws

@@ -100,7 +100,7 @@ fn word_count(set: &ClassSet, layout: &Layout) -> usize
 }
 
 /// Whether the bit of the word is set.
-fn is_set(word: u64, bit: usize) -> bool
+pub(crate) fn is_set(word: u64, bit: usize) -> bool
     requires { bit < 64 }
     ensures { IsTrue result ↔ (bit_at word bit ≡ 1) }
 {

@@ -56,6 +56,13 @@ impl Layout {
         Ok(Layout { bounds: rising })
     }
 
+    /// The number of the class of a code point, by a binary search.
+    pub(crate) fn class_at(&self, c: u32) -> usize
+        ensures { result ≡ class_of self.now c }
+    {
+        self.bounds.partition_point(|bound| *bound <= c)
+    }
+
     /// The number of the last class.
     pub(crate) fn last_class(&self) -> usize
         ensures { result ≡ length self.now }

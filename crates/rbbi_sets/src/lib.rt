@@ -1,6 +1,7 @@
 //! Sets of code points, by ranges that rise and neither overlap nor touch, and by classes as bits.
 #![tactic(auto)]
 
+mod character_set;
 mod class_members;
 mod class_set;
 mod class_shelf;
@@ -9,6 +10,7 @@ mod gaps;
 mod join;
 mod laws;
 mod layout;
+mod membership;
 mod merge;
 mod range;
 mod run;
@@ -18,6 +20,7 @@ mod skip;
 #[cfg(test)]
 mod tests;
 
+pub use character_set::CharacterSet;
 pub use class_set::ClassSet;
 pub use class_shelf::ClassShelf;
 pub use laws::members_determine;

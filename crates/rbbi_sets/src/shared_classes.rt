@@ -2,6 +2,7 @@
 ghost use Rattle.std.specs.Prelude.{◌≡◌, ◌≤◌, ◌+◌, ◌^◌, IfOk, length};
 ghost use Rattle.std.specs.List.{flat_map};
 ghost use Rattle.std.specs.Rc.{rc_slice_items};
+ghost use Rattle.rbbi_sets.specs.Classes.{word_at};
 
 use crate::ClassSet;
 use std::alloc::{AllocError, Global};
@@ -58,6 +59,23 @@ impl SharedClasses {
             words.extend_from_slice(chunk.as_slice())?;
         }
         Ok(ClassSet::of_words(self.from, words))
+    }
+
+    /// The word with this number, counted with those that are left out.
+    pub(crate) fn word(&self, i: usize) -> u64
+        ensures { result ≡ word_at self.now i }
+    {
+        if i < self.from {
+            return 0;
+        }
+        let mut left = i - self.from;
+        for chunk in self.chunks.as_slice() {
+            if left < chunk.len() {
+                return chunk.as_slice()[left];
+            }
+            left -= chunk.len();
+        }
+        0
     }
 
     /// How many words the chunks have.

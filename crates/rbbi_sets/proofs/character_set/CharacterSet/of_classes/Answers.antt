@@ -1,0 +1,16 @@
+-- The characters of classes are those of the copies.
+use Rattle.std.proofs.Common.{◌≡◌, rules}
+use Rattle.std.specs.Rc.{rc_value}
+use Rattle.rbbi_sets.specs.CharacterSets.{is_character_of}
+use Rattle.rbbi_sets.proofs.PassingRanges.{passing-rises}
+use Rattle.rbbi_sets.proofs.CharacterMembers.{has-characters}
+use Rattle.rbbi_sets.proofs.character_set.CharacterSet.of_classes.Goals as goal
+
+pub returns-clause-members : goal.returns-clause-members
+returns-clause-members c =
+    let layout : rc_value c.in_ok-layout.layout ≡ rc_value c.args.layout.now = search rules in
+    let classes : c.in_ok-classes.classes ≡ c.args.classes.now = search rules in
+    λ code. rw (layout, classes) (has-characters (rc_value c.args.layout.now) c.args.classes.now code)
+
+pub returns-clause-form : goal.returns-clause-form
+returns-clause-form c = passing-rises (is_character_of (rc_value c.in_ok-layout.layout) c.in_ok-classes.classes)
