@@ -32,7 +32,8 @@ pub(crate) fn classes_of(
     let mut sizes = vec![in alloc; cuts.len()]?;
     let mut members = Vec::new(alloc);
     for i in 0..sets.len() {
-        let set = sets.get(i);
+        let kept = sets.get(i);
+        let set = kept.to_set(alloc)?;
         members_of(cuts, set.ranges(), &mut members)?;
         refine(alloc, &mut classes, &mut sizes, &members)?;
         if sizes.len() > MOST_CATEGORIES {

@@ -16,7 +16,8 @@ pub(crate) fn cuts_of(alloc: Global, sets: &SetList) -> Result<Vec<u32>, AllocEr
     let mut cuts = Vec::new(alloc);
     cuts.push(0)?;
     for i in 0..sets.len() {
-        let set = sets.get(i);
+        let kept = sets.get(i);
+        let set = kept.to_set(alloc)?;
         push_ends(&mut cuts, set.ranges())?;
     }
     cuts.sort_unstable();

@@ -1,6 +1,6 @@
 -- The sets of leaves, one after another.
 use Rattle.std.proofs.Common.{◌≡◌, ℕ, ◌+◌, ◌<◌, ◌≤◌, ⊎_elim, inl, inr, Bool, false, true, not, Option, Some, List, [], ◌∷◌, ◌++◌, map, length}
-use Rattle.std.proofs.Common.{drop, get_or, sym, refl, ap, ◌∙◌, subst, arith}
+use Rattle.std.proofs.Common.{drop, get_or, sym, refl, ap, ◌∙◌, subst, arith, ◌↔◌}
 use Rattle.std.specs.List.{AllZip}
 use Rattle.std.proofs.lemmas.List.{append_assoc, append-nil}
 use Rattle.std.proofs.Math.Utf8.{scalar, scalar_cases}
@@ -16,7 +16,9 @@ use Rattle.rbbi_tree.specs.Values.{seq_tree, item_tree}
 use Rattle.rbbi_tree.specs.declared.syntax.Quant.{Quant}
 use Rattle.rbbi_tree.specs.declared.syntax.Seq.{Seq}
 use Rattle.rbbi_tree.specs.declared.syntax.Item.{Item}
-use Rattle.rbbi_resolve.specs.SetValues.{HasMembers, IsValue, value_of_property, value_of_set}
+use Rattle.rbbi_sets.specs.Classes.{ClassBits, HasMember}
+use Rattle.rbbi_resolve.specs.SetValues.{HasMembers, value_of_property, value_of_set}
+use Rattle.rbbi_resolve.specs.ClassValues.{AreClassesOf}
 use Rattle.rbbi_resolve.specs.Emptiness.{holds_character}
 use Rattle.rbbi_resolve.specs.Contexts.{Context, value_of_name}
 use Rattle.rbbi_resolve.specs.Parts.{Part, Outside, parts_of_expr, parts_of_seq, parts_of_item, parts_in_atom}
@@ -24,7 +26,7 @@ use Rattle.rbbi_resolve.specs.Faults.{faults_of_parts, is_empty_value}
 use Rattle.rbbi_resolve.specs.Soundness.{AreSound}
 use Rattle.rbbi_resolve.specs.OwnLeaves.{IsSetOfLeaf, AddsLeaves, set_or_nothing, leaves_of_expr, leaves_of_seq, leaves_of_item}
 use Rattle.rbbi_resolve.proofs.PropertySets.{members_are_code_points}
-use Rattle.rbbi_resolve.proofs.Characters.{character_of}
+use Rattle.rbbi_resolve.proofs.Characters.{character_of, held_character}
 use Rattle.rbbi_resolve.proofs.Counting.{exprs_left, seqs_left}
 use Rattle.rbbi_resolve.proofs.Sound.{faultless_first, faultless_second, faultless_part, known_there, set_there}
 
@@ -91,12 +93,31 @@ pub in_character : (c : ℕ) → Has (record { low = c; high = c } ∷ []) c
 in_character c = inl (omega arith, omega arith)
 
 -- a value that isn't empty holds a character
+holds : (files : List File) (tree : model.SetTree) → is_empty_value files (Some tree) ≡ false → holds_character files tree ≡ true
+holds files tree e =
+    elim (holds_character files tree) as (λ b. not b ≡ false → b ≡ true) [ true ↦ λ n. refl | false ↦ λ n. absurd cc ] e
+
 pub filled_value : (files : List File) (tree : model.SetTree) (set : List Range) → HasMembers files tree set → is_empty_value files (Some tree) ≡ false →
     (c : ℕ) × Has set c × ¬ IsSurrogate c
-filled_value files tree set is e =
-    let holds : holds_character files tree ≡ true =
-    elim (holds_character files tree) as (λ b. not b ≡ false → b ≡ true) [ true ↦ λ n. refl | false ↦ λ n. absurd cc ] e in
-    character_of files tree set is holds
+filled_value files tree set is e = character_of files tree set is (holds files tree e)
+
+-- the characters of classes that hold one are those of a leaf
+pub of_classes : (files : List File) (bounds : List ℕ) (tree : model.SetTree) (classes : ClassBits) (set : List Range) → AreClassesOf files bounds tree classes →
+    is_empty_value files (Some tree) ≡ false → AreRising set → ((c : ℕ) → Has set c ↔ (HasMember bounds classes c × ¬ IsSurrogate c)) →
+    IsSetOfLeaf files tree set
+of_classes files bounds tree classes set is e rising same =
+    let w = held_character files tree (holds files tree e) in
+    record {
+      of_leaf = record {
+        rising = rising;
+        members = λ c. (λ h. let b = (same c).0 h in ((is c).0 b.0, b.1), λ p. (same c).1 ((is c).1 p.0, p.1));
+      };
+      form = record {
+        rising = rising;
+        some = (w.0, (same w.0).1 ((is w.0).1 w.1, w.2));
+        characters = λ c h. let b = (same c).0 h in (b.0.0, b.1);
+      };
+    }
 
 -- what is left of an expression or a sequence
 pub record IsAdding (files : List File) (k : Context) (start : List (List Range)) (whole : List model.SetTree) (all : List Part) (now : List File)
@@ -159,28 +180,28 @@ adding_seq context files start whole all now sets sets' now' items i p inside is
 
 -- the value of a property or a set that stands as an atom, in a file without faults
 pub property_leaf : (k : Context) (files : List File) (place : ℕ) (negated : Bool) (word : List ℕ) (value : Option (List ℕ)) (quantity : Quant)
-    (before after : List (List Range)) (set : Option (List Range)) → k.files ≡ files →
+    (before after : List (List Range)) (IsOwn : Option model.SetTree → Type 0) → k.files ≡ files →
     faults_of_parts k (parts_of_item (placed place (property negated word value) quantity)) ≡ [] →
-    IsValue files (value_of_property files negated word value) set →
-    ((tree : model.SetTree) → IsValue files (Some tree) set → is_empty_value files (Some tree) ≡ false → AddsLeaves files (tree ∷ []) before after) →
+    IsOwn (value_of_property files negated word value) →
+    ((tree : model.SetTree) → IsOwn (Some tree) → is_empty_value files (Some tree) ≡ false → AddsLeaves files (tree ∷ []) before after) →
     AddsLeaves files (leaves_of_item k (placed place (property negated word value) quantity)) before after
-property_leaf k files place negated word value quantity before after set same e is adds =
+property_leaf k files place negated word value quantity before after IsOwn same e is adds =
     let f = faultless_part k (Outside place (property negated word value)) e in
     let t = known_there k.files negated word value f.known in
     let here : value_of_property files negated word value ≡ Some t.0 = ap (λ x. value_of_property x negated word value) (sym same) ∙ t.1 in
     let filled : is_empty_value files (Some t.0) ≡ false = ap (λ x. is_empty_value x (Some t.0)) (sym same) ∙ ap (is_empty_value k.files) (sym t.1)
     ∙ f.filled in
-    subst (λ v. AddsLeaves files (set_or_nothing v ∷ []) before after) (sym t.1) (adds t.0 (subst (λ v. IsValue files v set) here is) filled)
+    subst (λ v. AddsLeaves files (set_or_nothing v ∷ []) before after) (sym t.1) (adds t.0 (subst IsOwn here is) filled)
 
-pub set_leaf : (k : Context) (files : List File) (place : ℕ) (s : SetSyntax) (quantity : Quant) (before after : List (List Range)) (own : Option (List Range))
-    → k.files ≡ files → AreSound k →
-    faults_of_parts k (parts_of_item (placed place (trees.set s) quantity)) ≡ [] → IsValue files (value_of_set files (value_of_name k) s) own →
-    ((tree : model.SetTree) → IsValue files (Some tree) own → is_empty_value files (Some tree) ≡ false → AddsLeaves files (tree ∷ []) before after) →
+pub set_leaf : (k : Context) (files : List File) (place : ℕ) (s : SetSyntax) (quantity : Quant) (before after : List (List Range))
+    (IsOwn : Option model.SetTree → Type 0) → k.files ≡ files → AreSound k →
+    faults_of_parts k (parts_of_item (placed place (trees.set s) quantity)) ≡ [] → IsOwn (value_of_set files (value_of_name k) s) →
+    ((tree : model.SetTree) → IsOwn (Some tree) → is_empty_value files (Some tree) ≡ false → AddsLeaves files (tree ∷ []) before after) →
     AddsLeaves files (leaves_of_item k (placed place (trees.set s) quantity)) before after
-set_leaf k files place s quantity before after own same sound e is adds =
+set_leaf k files place s quantity before after IsOwn same sound e is adds =
     let f = faultless_part k (Outside place (trees.set s)) (faultless_second k (parts_in_atom (trees.set s)) (Outside place (trees.set s) ∷ []) e) in
     let t = set_there k sound s (faultless_first k (parts_in_atom (trees.set s)) (Outside place (trees.set s) ∷ []) e) in
     let here : value_of_set files (value_of_name k) s ≡ Some t.0 = ap (λ x. value_of_set x (value_of_name k) s) (sym same) ∙ t.1 in
     let filled : is_empty_value files (Some t.0) ≡ false = ap (λ x. is_empty_value x (Some t.0)) (sym same) ∙ ap (is_empty_value k.files) (sym t.1)
     ∙ f.filled in
-    subst (λ v. AddsLeaves files (set_or_nothing v ∷ []) before after) (sym t.1) (adds t.0 (subst (λ v. IsValue files v own) here is) filled)
+    subst (λ v. AddsLeaves files (set_or_nothing v ∷ []) before after) (sym t.1) (adds t.0 (subst IsOwn here is) filled)

@@ -3,6 +3,7 @@ use Rattle.std.proofs.Common.{◌≡◌, ℕ, zero, suc, ◌≤◌, Bool, true, 
 use Rattle.std.proofs.Common.{◌++◌, drop, length, slice_get, sum_by, sym, refl, ap, ◌∙◌, subst, arith}
 use Rattle.std.proofs.lemmas.List.{drop_all}
 use Rattle.std.specs.HashMap.{get_by_text}
+use Rattle.std.specs.Rc.{rc_value}
 use Rattle.rbbi_props.specs.Rows.{File}
 use Rattle.rbbi_tree.specs.Trees.{ExprTree, StatementTree}
 use Rattle.rbbi_resolve.specs.declared.fault.Fault.{Fault}
@@ -53,7 +54,7 @@ read_none files classes ignored statements variables switches counts none is cou
     record {
       classified = classified;
       defined = record {
-        each = λ name. subst (λ v. MatchOption v (IsUnassigned files statements 0 name) (IsDefinedBy files classes.layout statements 0 name))
+        each = λ name. subst (λ v. MatchOption v (IsUnassigned files statements 0 name) (IsDefinedBy files (rc_value classes.layout) statements 0 name))
             (sym (none name)) (none_at_start files statements name);
       };
       noted_so_far = ap (λ k. noted None (faults_from ignored k (drop 0 statements))) (at_start files statements)

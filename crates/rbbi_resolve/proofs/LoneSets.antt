@@ -11,7 +11,7 @@ use Rattle.rbbi_resolve.specs.declared.variables.Kind.TheVariants as kinds
 use Rattle.rbbi_resolve.specs.Contexts.{Context, value_of_name}
 use Rattle.rbbi_resolve.specs.Expressions.{variable_for}
 use Rattle.rbbi_resolve.specs.Scopes.{IsKindOf}
-use Rattle.rbbi_resolve.specs.SetValues.{IsValue, value_of_set, value_of_property}
+use Rattle.rbbi_resolve.specs.SetValues.{value_of_set, value_of_property}
 use Rattle.rbbi_resolve.specs.ClassValues.{IsClassValue}
 use Rattle.rbbi_resolve.specs.Parts.{parts_of_expr, parts_of_seq, parts_of_item}
 use Rattle.rbbi_resolve.specs.Faults.{faults_of_parts, is_empty_value}
@@ -21,12 +21,14 @@ use Rattle.rbbi_resolve.specs.LoneSets.{IsLoneSet, IsSetAtom}
 use Rattle.rbbi_resolve.proofs.Adding.{property_leaf, set_leaf}
 use Rattle.rbbi_resolve.proofs.Sound.{faultless_first}
 
-pub kept_leaf : (k : Context) (files : List File) (kind : Kind) (bounds : List ℕ) (value : Option ClassBits) (own : Option (List Range)) (expr : ExprTree) (before after : List (List Range)) →
+pub kept_leaf : (k : Context) (files : List File) (kind : Kind) (bounds : List ℕ) (value : Option ClassBits) (expr : ExprTree)
+    (before after : List (List Range)) →
     k.files ≡ files → IsLoneSet expr → kind ≡ kinds.Set value → IsKindOf files bounds kind (variable_for k expr) → AreSound k →
-    faults_of_parts k (parts_of_expr expr) ≡ [] → ((tree : Option model.SetTree) → IsClassValue files bounds tree value → IsValue files tree own) →
-    ((tree : model.SetTree) → IsValue files (Some tree) own → is_empty_value files (Some tree) ≡ false → AddsLeaves files (tree ∷ []) before after) →
+    faults_of_parts k (parts_of_expr expr) ≡ [] →
+    ((tree : model.SetTree) → IsClassValue files bounds (Some tree) value → is_empty_value files (Some tree) ≡ false →
+    AddsLeaves files (tree ∷ []) before after) →
     AddsLeaves files (leaves_of_expr k expr) before after
-kept_leaf k files kind bounds value own expr before after same lone is kept sound faultless ranges adds =
+kept_leaf k files kind bounds value expr before after same lone is kept sound faultless adds =
     subst (λ x. AddsLeaves files (leaves_of_expr k x) before after) (sym lone.is)
     (of_atom lone.atom lone.of_set
     (subst (λ h. IsKindOf files bounds h (variable_for k (alternative (item (placed lone.place lone.atom Once) no_items) no_alternatives))) is
@@ -44,10 +46,9 @@ kept_leaf k files kind bounds value own expr before after same lone is kept soun
     of_atom any n of e = absurd n
     of_atom (name word) n of e = absurd n
     of_atom (property negated word text) n of e =
-        property_leaf k files lone.place negated word text Once before after own same e
-        (ranges (value_of_property files negated word text)
-        (subst (λ f. IsClassValue files bounds (value_of_property f negated word text) value) same of)) adds
+        property_leaf k files lone.place negated word text Once before after (λ v. IsClassValue files bounds v value) same e
+        (subst (λ f. IsClassValue files bounds (value_of_property f negated word text) value) same of) adds
     of_atom (set s) n of e =
-        set_leaf k files lone.place s Once before after own same sound e
-        (ranges (value_of_set files (value_of_name k) s) (subst (λ f. IsClassValue files bounds (value_of_set f (value_of_name k) s) value) same of)) adds
+        set_leaf k files lone.place s Once before after (λ v. IsClassValue files bounds v value) same sound e
+        (subst (λ f. IsClassValue files bounds (value_of_set f (value_of_name k) s) value) same of) adds
     of_atom (group inner) n of e = absurd n

@@ -11,6 +11,7 @@ use Rattle.std.proofs.lemmas.List.Sums.{fold-append}
 use Rattle.std.specs.HashMap.{get_by_text}
 use Rattle.std.specs.Map.{update}
 use Rattle.std.specs.Option.{option_map, option_map_or}
+use Rattle.std.specs.Rc.{rc_value}
 use Rattle.rbbi_props.specs.Rows.{File}
 use Rattle.rbbi_tree.specs.declared.syntax.Expr.{Expr}
 use Rattle.rbbi_tree.specs.declared.syntax.Statement.{Statement}
@@ -215,7 +216,7 @@ unseen files bounds statements n name (Some v) is e =
 pub step : (files : List File) (classes : Classes) (ignored : Bool) (statements : List StatementTree) (n : ℕ) (s : StatementTree) (variables variables' : Variables)
     (least least' : Option Fault) (switches switches' : Switches) (counts counts' : declared.Counts) →
     IsReadTo files classes ignored statements variables least switches counts n → slice_get statements n ≡ Some s →
-    AreVariables files classes.layout statements variables' (n + 1) →
+    AreVariables files (rc_value classes.layout) statements variables' (n + 1) →
     least' ≡ noted least (faults_of_statement ignored (context_at files statements n) s) →
     AreSwitches switches' (context_after (context_at files statements n) s) →
     ((left all : List RuleMeaning) → AreCounting counts (rule_in (context_at files statements n) s ++ left) all → AreCounting counts' left all) →

@@ -33,7 +33,7 @@ IsKnown files bounds known =
 
 -- the sets of properties are right
 abbrev pub AreClasses : List File → Classes → Type 0
-AreClasses files classes = All (IsKnown files classes.layout) (values classes.sets)
+AreClasses files classes = All (IsKnown files (rc_value classes.layout)) (values classes.sets)
 
 -- the classes have the code points of the ranges, and where the one is absent, so is the other
 abbrev pub AreSame : List ℕ → Option (List Range) → Option ClassBits → Type 0

@@ -1,5 +1,6 @@
 -- How far the code has read a rule file.
 use Rattle.std.specs.Prelude.{◌≡◌, ℕ, Bool, Option, None, List, drop}
+use Rattle.std.specs.Rc.{rc_value}
 use Rattle.rbbi_props.specs.Rows.{File}
 use Rattle.rbbi_tree.specs.Trees.{StatementTree}
 use Rattle.rbbi_tree.specs.Values.{statement_trees}
@@ -20,7 +21,7 @@ use Rattle.rbbi_resolve.specs.Countings.{AreCounting}
 pub record IsReadTo (files : List File) (classes : Classes) (ignored : Bool) (statements : List StatementTree) (variables : Variables) (least : Option Fault)
     (switches : Switches) (counts : declared.Counts) (number : ℕ) : Type 0 where
   pub classified : AreClasses files classes
-  pub defined : AreVariables files classes.layout statements variables number
+  pub defined : AreVariables files (rc_value classes.layout) statements variables number
   pub noted_so_far : noted least (faults_from ignored (context_at files statements number) (drop number statements)) ≡ noted None
       (faults_of files ignored statements)
   pub switched : AreSwitches switches (context_at files statements number)

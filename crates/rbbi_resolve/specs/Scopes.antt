@@ -1,6 +1,7 @@
 -- What the variables of the code stand for.
 use Rattle.std.specs.Prelude.{◌≡◌, ℕ, ◌<◌, ◌≤◌, nat_lt, Option, Some, None, List, slice_get, MatchOption, if◌then◌else◌}
 use Rattle.std.specs.HashMap.{HashMap, get_by_text}
+use Rattle.std.specs.Rc.{rc_value}
 use Rattle.std.specs.declared.string.String.{String}
 use Rattle.std.specs.declared.alloc.Global.{Global}
 use Rattle.std.specs.declared.hash.FoldHasher.{FoldHasher}
@@ -72,7 +73,7 @@ context_of files scope = context_at files (statement_trees scope.statements.now)
 
 -- the bounds of the scope's classes
 abbrev pub bounds_of : Scope → List ℕ
-bounds_of scope = scope.classes.now.layout
+bounds_of scope = rc_value scope.classes.now.layout
 
 -- the variables of the scope are those before its limit, and its classes are right
 pub record IsScope (files : List File) (scope : Scope) : Type 0 where

@@ -23,7 +23,7 @@ use crate::rules::Tree;
 use crate::scope::Scope;
 use crate::tree::{in_choice, in_sequence, next_leaf, no_tree, repeated_tree};
 use crate::variables::Kind;
-use rbbi_sets::CodeSet;
+use rbbi_sets::CharacterSet;
 use rbbi_text::Word;
 use rbbi_tree::{Atom, Expr, Item, Seq, Statement, Statements};
 use std::alloc::{AllocError, Global};
@@ -38,7 +38,7 @@ const MOST_SETS: usize = 4_294_967_295;
 #[derive(Drop)]
 pub(crate) struct Builder<'a> {
     pub(crate) properties: Properties<'a>,
-    pub(crate) sets: Vec<CodeSet>,
+    pub(crate) sets: Vec<CharacterSet>,
     /// For each statement the number of the first set of its own leaves, where it assigns a
     /// variable that was used.
     pub(crate) bases: Vec<Option<usize>>,

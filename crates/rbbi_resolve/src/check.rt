@@ -228,7 +228,7 @@ pub(crate) fn check_set(
     ensures same { properties.new ≡ properties.old }
 {
     let value = value_of_set(alloc, scope, properties, least, set)?;
-    let is_empty = is_empty_set(&scope.classes.layout, &value);
+    let is_empty = is_empty_set(scope.layout(), &value);
     note_where(least, is_empty, place, 9);
     Ok(value)
 }

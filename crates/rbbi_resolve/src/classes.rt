@@ -1,5 +1,6 @@
 //! The classes of code points that no set of a rule file tells apart.
 ghost use Rattle.std.specs.Prelude.{◌≡◌, List, IfOk, IfSome};
+ghost use Rattle.std.specs.Rc.{rc_value};
 ghost use Rattle.rbbi_props.specs.Rows.{File};
 ghost use Rattle.rbbi_resolve.specs.SetValues.{value_of_property};
 ghost use Rattle.rbbi_resolve.specs.ClassValues.{AreClasses, IsClassValue};
@@ -28,7 +29,7 @@ pub(crate) struct PropertyClasses {
 /// that the layout lacked would be answered as if memory had run out.
 #[derive(Drop)]
 pub(crate) struct Classes {
-    pub(crate) layout: Layout,
+    pub(crate) layout: Rc<Layout>,
     /// The sets of the file's properties, by the keys of `Properties`.
     pub(crate) sets: IndexMap<String, PropertyClasses>,
 }
@@ -48,8 +49,8 @@ impl Classes {
             collect_statement(alloc, properties, &mut bounds, statements.get(number))?;
         }
         properties.collect(&mut bounds)?;
-        let layout = Layout::new(alloc, bounds)?;
-        let sets = properties.by_classes(alloc, &layout)?;
+        let layout = Rc::new(alloc, Layout::new(alloc, bounds)?)?;
+        let sets = properties.by_classes(alloc, layout.as_ref())?;
         Ok(Classes { layout, sets })
     }
 
@@ -62,7 +63,7 @@ impl Classes {
         value: &Option<Word>,
     ) -> Option<&Option<ClassSet>>
         ensures { IfSome result (λ set. (files : List File) → AreClasses files self.now
-            → IsClassValue files self.now.layout
+            → IsClassValue files (rc_value self.now.layout)
             (value_of_property files negated name.now value.now) set.now) }
     {
         let known = self.sets.get(key)?;

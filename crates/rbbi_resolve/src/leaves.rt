@@ -1,5 +1,6 @@
 //! The sets of the leaves of expressions.
-ghost use Rattle.std.specs.Prelude.{◌≡◌, ◌≤◌, ℕ, IfOk, OnOk, List, [], ◌∷◌, Option, Some, map, false};
+ghost use Rattle.std.specs.Prelude.{◌≡◌, ℕ, OnOk, List, [], ◌∷◌, Some, map, false};
+ghost use Rattle.std.specs.Rc.{rc_value};
 ghost use Rattle.rbbi_model.specs.Words.{IsSurrogate};
 ghost use Rattle.rbbi_model.specs.Ranges.{Has};
 ghost use Rattle.rbbi_model.specs.SetTrees as model;
@@ -18,10 +19,11 @@ use crate::fault::Fault;
 use crate::properties::Properties;
 use crate::scope::Scope;
 use crate::set_value::value_of_set;
-use rbbi_sets::{ClassSet, CodeSet, Layout};
+use rbbi_sets::{CharacterSet, CodeSet, Layout, SharedClasses};
 use rbbi_text::Word;
 use rbbi_tree::{Atom, Expr, Item, Seq};
 use std::alloc::{AllocError, Global};
+use std::rc::Rc;
 
 /// Adds the sets of the leaves of an expression without faults, but for those that come from
 /// variables.
@@ -30,7 +32,7 @@ pub(crate) fn add_leaves(
     alloc: Global,
     scope: &Scope,
     properties: &mut Properties,
-    sets: &mut Vec<CodeSet>,
+    sets: &mut Vec<CharacterSet>,
     expr: &Expr,
 ) -> Result<(), AllocError>
     requires { IsScope properties.old scope.now }
@@ -54,7 +56,7 @@ fn add_leaves_of_seq(
     alloc: Global,
     scope: &Scope,
     properties: &mut Properties,
-    sets: &mut Vec<CodeSet>,
+    sets: &mut Vec<CharacterSet>,
     seq: &Seq,
 ) -> Result<(), AllocError>
     requires { IsScope properties.old scope.now }
@@ -78,7 +80,7 @@ fn add_leaves_of_item(
     alloc: Global,
     scope: &Scope,
     properties: &mut Properties,
-    sets: &mut Vec<CodeSet>,
+    sets: &mut Vec<CharacterSet>,
     item: &Item,
 ) -> Result<(), AllocError>
     requires { IsScope properties.old scope.now }
@@ -107,8 +109,8 @@ fn add_leaves_of_item(
         Atom::Set(set) => {
             let mut least: Option<Fault> = None;
             let value = value_of_set(alloc, scope, properties, &mut least, set)?;
-            let whole = set_of_classes(alloc, &scope.classes.layout, &value)?;
-            add_value(alloc, sets, &whole)?;
+            let kept = properties.keep(alloc, &value)?;
+            add_classes(sets, &scope.classes.layout, &kept)?;
             Ok(())
         }
         Atom::Group(inner) => {
@@ -118,35 +120,20 @@ fn add_leaves_of_item(
     }
 }
 
-/// The same set by its ranges, where there is one.
-pub(crate) fn set_of_classes(
-    alloc: Global,
-    layout: &Layout,
-    value: &Option<ClassSet>,
-) -> Result<Option<CodeSet>, AllocError>
-    ensures { IfOk result (λ set. (files : List File) (tree : Option model.SetTree) →
-        IsClassValue files layout.now tree value.now → IsValue files tree set) }
-{
-    match value {
-        Some(classes) => Ok(Some(classes.to_set(alloc, layout)?)),
-        None => Ok(None),
-    }
-}
-
 /// Adds the characters of a set that holds one.
-fn add_set(alloc: Global, sets: &mut Vec<CodeSet>, set: &CodeSet) -> Result<(), AllocError>
+fn add_set(alloc: Global, sets: &mut Vec<CharacterSet>, set: &CodeSet) -> Result<(), AllocError>
     ensures { OnOk result ((files : List File) (tree : model.SetTree) →
         HasMembers files tree set.now
         → ((c : ℕ) × Has set.now c × ¬ IsSurrogate c) →
         AddsLeaves files (tree ∷ []) sets.old.items sets.new.items) }
 {
-    let characters = set.without_surrogates(alloc)?;
+    let characters = CharacterSet::of_set(alloc, set)?;
     sets.push(characters)?;
     Ok(())
 }
 
 /// Adds the set of a character.
-fn add_character(alloc: Global, sets: &mut Vec<CodeSet>, c: char) -> Result<(), AllocError>
+fn add_character(alloc: Global, sets: &mut Vec<CharacterSet>, c: char) -> Result<(), AllocError>
     ensures { OnOk result ((files : List File)
         → AddsLeaves files (model.Character c ∷ []) sets.old.items sets.new.items) }
 {
@@ -157,7 +144,7 @@ fn add_character(alloc: Global, sets: &mut Vec<CodeSet>, c: char) -> Result<(), 
 }
 
 /// Adds the sets of the characters of a word.
-fn add_word(alloc: Global, sets: &mut Vec<CodeSet>, word: &Word) -> Result<(), AllocError>
+fn add_word(alloc: Global, sets: &mut Vec<CharacterSet>, word: &Word) -> Result<(), AllocError>
     ensures { OnOk result ((files : List File)
         → AddsLeaves files (map model.Character word.now) sets.old.items sets.new.items) }
 {
@@ -168,7 +155,7 @@ fn add_word(alloc: Global, sets: &mut Vec<CodeSet>, word: &Word) -> Result<(), A
 }
 
 /// Adds the set of all characters.
-fn add_any(alloc: Global, sets: &mut Vec<CodeSet>) -> Result<(), AllocError>
+fn add_any(alloc: Global, sets: &mut Vec<CharacterSet>) -> Result<(), AllocError>
     ensures { OnOk result ((files : List File)
         → AddsLeaves files (model.Others model.Nothing ∷ []) sets.old.items sets.new.items) }
 {
@@ -181,7 +168,7 @@ fn add_any(alloc: Global, sets: &mut Vec<CodeSet>) -> Result<(), AllocError>
 /// Adds the characters of a set that has a value and holds a character.
 pub(crate) fn add_value(
     alloc: Global,
-    sets: &mut Vec<CodeSet>,
+    sets: &mut Vec<CharacterSet>,
     value: &Option<CodeSet>,
 ) -> Result<(), AllocError>
     ensures { OnOk result ((files : List File) (tree : model.SetTree) →
@@ -192,6 +179,28 @@ pub(crate) fn add_value(
     match value {
         Some(set) => {
             add_set(alloc, sets, set)?;
+            Ok(())
+        }
+        None => Ok(()),
+    }
+}
+
+/// Adds the characters of a set by classes that has a value and holds a character. They stay in the
+/// chunks that they share.
+pub(crate) fn add_classes(
+    sets: &mut Vec<CharacterSet>,
+    layout: &Rc<Layout>,
+    value: &Option<SharedClasses>,
+) -> Result<(), AllocError>
+    ensures { OnOk result ((files : List File) (tree : model.SetTree) →
+        IsClassValue files (rc_value layout.now) (Some tree) value.now
+        → is_empty_value files (Some tree) ≡ false →
+        AddsLeaves files (tree ∷ []) sets.old.items sets.new.items) }
+{
+    match value {
+        Some(classes) => {
+            let characters = CharacterSet::of_classes(layout, classes)?;
+            sets.push(characters)?;
             Ok(())
         }
         None => Ok(()),

@@ -10,12 +10,11 @@ ghost use Rattle.rbbi_resolve.specs.OwnLeaves.{AddsLeaves, leaves_of_expr};
 ghost use Rattle.rbbi_resolve.specs.LoneSets.{IsLoneSet};
 
 use crate::definition::lone_item;
-use crate::leaves::{add_leaves, add_value, set_of_classes};
+use crate::leaves::{add_classes, add_leaves};
 use crate::properties::Properties;
 use crate::scope::Scope;
-use crate::set_value::whole_of;
 use crate::variables::Kind;
-use rbbi_sets::{CodeSet, SharedClasses};
+use rbbi_sets::{CharacterSet, SharedClasses};
 use rbbi_tree::{Atom, Expr};
 use std::alloc::{AllocError, Global};
 
@@ -27,7 +26,7 @@ pub(crate) fn add_own_leaves(
     alloc: Global,
     scope: &Scope,
     properties: &mut Properties,
-    sets: &mut Vec<CodeSet>,
+    sets: &mut Vec<CharacterSet>,
     kept: Option<&Kind>,
     expr: &Expr,
 ) -> Result<(), AllocError>
@@ -44,9 +43,7 @@ pub(crate) fn add_own_leaves(
 {
     if let Some(kind) = kept {
         if let Some(value) = kept_value(kind, expr) {
-            let whole = whole_of(alloc, value)?;
-            let set = set_of_classes(alloc, &scope.classes.layout, &whole)?;
-            add_value(alloc, sets, &set)?;
+            add_classes(sets, &scope.classes.layout, value)?;
             return Ok(());
         }
     }

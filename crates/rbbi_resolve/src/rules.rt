@@ -3,7 +3,7 @@ ghost use Rattle.std.specs.Prelude.{◌≡◌, ◌<◌, length, slice_get, sum_b
 ghost use Rattle.rbbi_model.specs.Rules.{leaves_of, look_aheads};
 ghost use Rattle.rbbi_resolve.specs.RuleLists.{rules_of, AreWellFormed, AreCounted};
 
-use rbbi_sets::CodeSet;
+use rbbi_sets::CharacterSet;
 use rbbi_tree::Quant;
 use std::marker::Model;
 
@@ -46,7 +46,7 @@ pub struct Rule {
 /// The sets of the leaves of rules. Contracts see it as the list of their lists of ranges.
 #[derive(Debug, Drop)]
 pub struct SetList {
-    items: Vec<CodeSet>,
+    items: Vec<CharacterSet>,
 }
 
 impl Model for SetList {
@@ -67,7 +67,7 @@ impl SetList {
     }
 
     /// The set with this number, from 0.
-    pub fn get(&self, i: usize) -> &CodeSet
+    pub fn get(&self, i: usize) -> &CharacterSet
         requires { i < length self.now }
         ensures { slice_get self.now i ≡ Some result.now }
     {
@@ -104,7 +104,7 @@ impl Model for Rules {
 
 impl Rules {
     /// These rules with these sets, and so many leaves and rules with a rest.
-    pub(crate) fn new(rules: Vec<Rule>, sets: Vec<CodeSet>, leaves: u32, slashes: u32) -> Rules
+    pub(crate) fn new(rules: Vec<Rule>, sets: Vec<CharacterSet>, leaves: u32, slashes: u32) -> Rules
         requires { AreCounted (record { rules = rules.items; sets = sets.items }) leaves slashes }
         ensures { result ≡ record { rules = rules.items; sets = sets.items } }
     {

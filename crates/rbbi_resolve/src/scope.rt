@@ -2,10 +2,11 @@
 ghost use Rattle.std.specs.Prelude.{◌≡◌, encode_utf8_all};
 ghost use Rattle.std.specs.Option.{option_copied};
 ghost use Rattle.std.specs.HashMap.{get_by_text};
-ghost use Rattle.rbbi_resolve.specs.Scopes.{visible};
+ghost use Rattle.rbbi_resolve.specs.Scopes.{bounds_of, visible};
 
 use crate::classes::Classes;
 use crate::variables::{Variable, Variables};
+use rbbi_sets::Layout;
 use rbbi_text::Word;
 use rbbi_tree::Statements;
 
@@ -22,6 +23,13 @@ pub(crate) struct Scope<'a> {
 }
 
 impl<'a> Scope<'a> {
+    /// The division of the code points into the classes of the file.
+    pub(crate) fn layout(&self) -> &'a Layout
+        ensures { result.now ≡ bounds_of self.now }
+    {
+        self.classes.layout.as_ref()
+    }
+
     /// The variable of this name, where a statement before the limit assigns it.
     pub(crate) fn variable(&self, name: &Word) -> Option<&'a Variable>
         ensures { option_copied result ≡ visible self.now.limit

@@ -49,7 +49,7 @@ pub(crate) fn value_of_set(
         let item = value_of_item(alloc, scope, properties, least, part.place, &part.item)?;
         whole = join(alloc, whole, part.join, item)?;
     }
-    let value = with_sign(alloc, &scope.classes.layout, set.negated, whole)?;
+    let value = with_sign(alloc, scope.layout(), set.negated, whole)?;
     Ok(value)
 }
 
@@ -75,12 +75,11 @@ fn value_of_item(
     match item {
         SetItem::Char(c) => {
             let code = *c as u32;
-            let value = classes_of_range(alloc, &scope.classes.layout, code, code)?;
+            let value = classes_of_range(alloc, scope.layout(), code, code)?;
             Ok(Some(value))
         }
         SetItem::Range(first, last) => {
-            let layout = &scope.classes.layout;
-            let value = value_of_range(alloc, layout, least, place, *first, *last)?;
+            let value = value_of_range(alloc, scope.layout(), least, place, *first, *last)?;
             Ok(value)
         }
         SetItem::Name(name) => {
@@ -180,10 +179,7 @@ fn value_of_variable(
 }
 
 /// The set of a variable by itself, where there is one.
-pub(crate) fn whole_of(
-    alloc: Global,
-    value: &Option<SharedClasses>,
-) -> Result<Option<ClassSet>, AllocError>
+fn whole_of(alloc: Global, value: &Option<SharedClasses>) -> Result<Option<ClassSet>, AllocError>
     ensures { IfOk result (λ whole. whole ≡ value.now) }
 {
     match value {
@@ -214,7 +210,7 @@ pub(crate) fn value_of_property(
         }
         None => {
             let found = properties.set_of(alloc, negated, name, value)?;
-            let set = divide(alloc, &scope.classes.layout, found.as_ref())?;
+            let set = divide(alloc, scope.layout(), found.as_ref())?;
             Ok(set)
         }
     }

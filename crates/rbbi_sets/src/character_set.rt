@@ -92,8 +92,8 @@ impl CharacterSet {
             Held::Classes(layout, classes) => {
                 let whole = classes.to_classes(alloc)?;
                 let set = whole.to_set(alloc, layout.as_ref())?;
-                let characters = set.without_surrogates(alloc)?;
-                Ok(characters)
+                let without = set.without_surrogates(alloc)?;
+                Ok(without)
             }
         }
     }

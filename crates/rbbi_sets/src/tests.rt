@@ -7,6 +7,7 @@ use crate::{CodeRange, CodeSet, members_determine};
 use std::alloc::{AllocError, Global};
 use std::test::Fail;
 
+mod character_sets;
 mod classes;
 
 type Pairs = &'static [(u32, u32)];

@@ -11,8 +11,8 @@ use Rattle.rbbi_cats.proofs.cuts.cuts_of.Goals as goal
 pub loop-i-preserved : goal.loop-i-preserved
 loop-i-preserved c =
     c.in_ok-push_ends.ensures ∙ ap (λ (l : List ℕ). l ++ set_ends c.ranges-in-loop-i.result.now) c.loop-i.invariant
-    ∙ ap (λ (l : List Range). (0 ∷ flat_map set_ends (take c.loop-i.i c.args.sets.now)) ++ set_ends l) c.ranges-in-loop-i.ensures.value
-    ∙ ends_more c.args.sets.now c.loop-i.i c.get-set.result.now c.get-set.ensures
+    ∙ ap (λ (l : List Range). (0 ∷ flat_map set_ends (take c.loop-i.i c.args.sets.now)) ++ set_ends l) (c.ranges-in-loop-i.ensures.value ∙ c.in_ok-set.ensures)
+    ∙ ends_more c.args.sets.now c.loop-i.i c.get-kept.result.now c.get-kept.ensures
 
 pub returns : goal.returns
 returns c =

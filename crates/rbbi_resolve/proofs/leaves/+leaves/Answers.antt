@@ -4,7 +4,9 @@ use Rattle.rbbi_tree.specs.Trees.{expr_of, seq_of, placed, property, set, group}
 use Rattle.rbbi_tree.specs.Values.{expr_tree, seq_tree, item_tree, atom_tree, set_tree, item_tree_out}
 use Rattle.rbbi_resolve.specs.Parts.{Outside, parts_of_expr, parts_of_seq, parts_of_item}
 use Rattle.rbbi_resolve.specs.Faults.{faults_of_parts}
-use Rattle.rbbi_resolve.specs.Scopes.{context_of}
+use Rattle.rbbi_resolve.specs.SetValues.{IsValue}
+use Rattle.rbbi_resolve.specs.ClassValues.{IsClassValue}
+use Rattle.rbbi_resolve.specs.Scopes.{bounds_of, context_of}
 use Rattle.rbbi_resolve.specs.OwnLeaves.{AddsLeaves, leaves_of_expr, leaves_of_seq, leaves_of_item}
 use Rattle.rbbi_resolve.proofs.Counting.{expr_by_items, seq_by_items}
 use Rattle.rbbi_resolve.proofs.ItemTrees.{atom_of_property, atom_of_set, atom_of_group}
@@ -65,23 +67,24 @@ add_leaves_of_item-returns-in_ok-add_value-in-Prop-clause-added t c =
     λ sound faultless.
     subst (λ i. AddsLeaves files (leaves_of_item k i) c.args.sets.now.items c.add_value.new.sets.items) (sym e)
     (property_leaf k files c.args.item.now.place c.in-Prop.negated c.in-Prop.name c.in-Prop.value c.args.item.now.quant c.args.sets.now.items
-    c.add_value.new.sets.items c.as_ref.result.now (files_stay files _ _)
+    c.add_value.new.sets.items (λ v. IsValue files v c.as_ref.result.now) (files_stay files _ _)
     (subst (λ i. faults_of_parts k (parts_of_item i) ≡ []) e faultless) (rw c.as_ref.ensures c.in_ok-set-in-Prop.ensures.value)
     (λ tree is filled. c.in_ok-add_value-in-Prop.ensures files tree is filled))
 
-pub add_leaves_of_item-returns-in_ok-add_value-in-Set-clause-added : goal.add_leaves_of_item-returns-in_ok-add_value-in-Set-clause-added
-add_leaves_of_item-returns-in_ok-add_value-in-Set-clause-added t c =
+pub add_leaves_of_item-returns-in_ok-add_classes-in-Set-clause-added : goal.add_leaves_of_item-returns-in_ok-add_classes-in-Set-clause-added
+add_leaves_of_item-returns-in_ok-add_classes-in-Set-clause-added t c =
     let files = c.args.properties.now in
     let k = context_of files c.args.scope.now in
     let e : item_tree c.args.item.now ≡ placed c.args.item.now.place (set (set_tree c.in-Set.set)) c.args.item.now.quant =
     item_tree_out c.args.item.now ∙ ap (λ a. placed c.args.item.now.place a c.args.item.now.quant) (let i =
     c.in-Set.is in ap atom_tree i ∙ atom_of_set c.in-Set.set) in
     λ sound faultless.
-    subst (λ i. AddsLeaves files (leaves_of_item k i) c.args.sets.now.items c.add_value-in-Set.new.sets.items) (sym e)
-    (set_leaf k files c.args.item.now.place (set_tree c.in-Set.set) c.args.item.now.quant c.args.sets.now.items c.add_value-in-Set.new.sets.items
-    c.in_ok-whole-in-Set.whole (files_stay files _ _) sound
-    (subst (λ i. faults_of_parts k (parts_of_item i) ≡ []) e faultless) (c.in_ok-whole-in-Set.ensures files _ c.in_ok-value-in-Set.ensures.value)
-    (λ tree is filled. c.in_ok-add_value-in-Set.ensures files tree is filled))
+    subst (λ i. AddsLeaves files (leaves_of_item k i) c.args.sets.now.items c.add_classes.new.sets.items) (sym e)
+    (set_leaf k files c.args.item.now.place (set_tree c.in-Set.set) c.args.item.now.quant c.args.sets.now.items c.add_classes.new.sets.items
+    (λ v. IsClassValue files (bounds_of c.args.scope.now) v c.in_ok-kept-in-Set.kept) (files_stay files _ _) sound
+    (subst (λ i. faults_of_parts k (parts_of_item i) ≡ []) e faultless)
+    (rw c.in_ok-kept-in-Set.ensures.value c.in_ok-value-in-Set.ensures.value)
+    (λ tree is filled. c.in_ok-add_classes-in-Set.ensures files tree is filled))
 
 pub add_leaves_of_item-returns-in_ok-add_leaves-in-Group-clause-added : goal.add_leaves_of_item-returns-in_ok-add_leaves-in-Group-clause-added
 add_leaves_of_item-returns-in_ok-add_leaves-in-Group-clause-added t c =

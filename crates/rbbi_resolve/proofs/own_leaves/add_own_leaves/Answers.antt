@@ -12,7 +12,7 @@ returns-in-Some-kept_value-clause-added c =
     let e = expr_tree c.args.expr.now in
     let kept : IsKindOf files (bounds_of c.args.scope.now) c.in-Some.kind.now (variable_for k e) = rw c.in-Some.is at c.requires.kept in
     λ sound faultless.
-    kept_leaf k files c.in-Some.kind.now (bounds_of c.args.scope.now) c.in-Some-kept_value.value.now c.in_ok-set.set e c.args.sets.now.items c.add_value.new.sets.items (files_stay files _ _)
+    kept_leaf k files c.in-Some.kind.now (bounds_of c.args.scope.now) c.in-Some-kept_value.value.now e c.args.sets.now.items c.add_classes.new.sets.items
+    (files_stay files _ _)
     c.in-Some-kept_value.ensures.lone c.in-Some-kept_value.ensures.kept kept sound faultless
-    (λ tree is. c.in_ok-set.ensures files tree (rw c.in_ok-whole.ensures is))
-    (λ tree is filled. c.in_ok-add_value.ensures files tree is filled)
+    (λ tree is filled. c.in_ok-add_classes.ensures files tree is filled)

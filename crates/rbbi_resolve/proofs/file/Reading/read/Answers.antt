@@ -1,4 +1,5 @@
 use Rattle.std.proofs.Common.{◌≡◌, Some, slice_get, refl, ap, ◌∙◌}
+use Rattle.std.specs.Rc.{rc_value}
 use Rattle.rbbi_tree.specs.Trees.{nothing}
 use Rattle.rbbi_tree.specs.Values.{statement_trees}
 use Rattle.rbbi_resolve.proofs.Steps.{tree_at, step, context_next, stay_variables}
@@ -15,7 +16,7 @@ returns-in-Nothing c =
       reading =
           step r.properties r.classes r.dictionary_ignored trees n nothing r.variables r.variables r.least r.least r.switches r.switches r.counts r.counts
           c.requires.reading at
-          (stay_variables r.properties r.classes.layout trees r.variables n next c.requires.reading.defined)
+          (stay_variables r.properties (rc_value r.classes.layout) trees r.variables n next c.requires.reading.defined)
           refl
           c.requires.reading.switched
           (λ left all so_far. so_far);

@@ -1,4 +1,5 @@
 use Rattle.std.proofs.Common.{◌≡◌, ◌&&◌, not, encode_utf8_all, refl, ap, ◌∙◌, subst}
+use Rattle.std.specs.Rc.{rc_value}
 use Rattle.rbbi_tree.specs.Trees.{control}
 use Rattle.rbbi_tree.specs.Values.{statement_trees}
 use Rattle.rbbi_resolve.specs.Files.{after_control, context_at, is_supported, is_unsupported}
@@ -23,7 +24,7 @@ returns c =
       reading =
           step r.properties r.classes r.dictionary_ignored trees n (control c.args.name.now c.args.place) r.variables r.variables r.least c.note_where-2.new.least
           r.switches c.after-self.result r.counts r.counts c.requires.reading c.requires.at
-          (stay_variables r.properties r.classes.layout trees r.variables n next c.requires.reading.defined)
+          (stay_variables r.properties (rc_value r.classes.layout) trees r.variables n next c.requires.reading.defined)
           (note_two r.least c.note_where.new.least c.note_where-2.new.least
           (faults_where (not (is_supported text) && not (is_unsupported text)) c.args.place 1) (faults_where (is_unsupported text) c.args.place 2)
           (c.note_where.ensures ∙ ap (λ b. noted r.least (faults_where b c.args.place 1)) unknown)

@@ -1,4 +1,5 @@
 use Rattle.std.proofs.Common.{◌≡◌, ◌+◌, ◌∷◌, [], ◌++◌, true, false, List, if◌then◌else◌, sym, refl, ap, ◌∙◌, subst}
+use Rattle.std.specs.Rc.{rc_value}
 use Rattle.rbbi_tree.specs.Trees.{rule}
 use Rattle.rbbi_tree.specs.Values.{statement_trees, expr_tree, rest_tree}
 use Rattle.rbbi_resolve.specs.declared.counts.Counts as declared
@@ -27,7 +28,7 @@ read_to c counts go_on =
     let next = ap (λ x. x.variables) (context_next files trees n s c.requires.at) in
     subst (λ p. IsReadTo p r.classes r.dictionary_ignored trees r.variables c.check_rule.new.least r.switches counts (n + 1)) (sym c.in_ok-whole.ensures.same)
     (step files r.classes r.dictionary_ignored trees n s r.variables r.variables r.least c.check_rule.new.least r.switches r.switches r.counts counts
-    c.requires.reading c.requires.at (stay_variables files r.classes.layout trees r.variables n next c.requires.reading.defined) c.in_ok-whole.ensures.noted
+    c.requires.reading c.requires.at (stay_variables files (rc_value r.classes.layout) trees r.variables n next c.requires.reading.defined) c.in_ok-whole.ensures.noted
     c.requires.reading.switched go_on)
 
 pub returns-then-self : goal.returns-then-self
