@@ -12,4 +12,4 @@ returns-clause-noted c =
     c.note_where.ensures ∙ ap (λ l. noted l (faults_where c.is_empty_set-is_empty.result c.args.place 9)) c.in_ok-value.ensures.noted
     ∙ set_noted (context_of c.args.properties.now c.args.scope.now) c.args.properties.now c.args.least.now c.args.place (set_tree c.args.set.now)
     c.is_empty_set-is_empty.result (files_stay c.args.properties.now _ _)
-    (c.is_empty_set-is_empty.ensures c.args.properties.now _ c.in_ok-value.ensures.value)
+    ((rw c.layout.ensures at (c.is_empty_set-is_empty.ensures c.args.properties.now)) _ c.in_ok-value.ensures.value)

@@ -24,13 +24,13 @@ pub value_of_set-returns-clause-value : goal.value_of_set-returns-clause-value
 value_of_set-returns-clause-value t c =
     (folding_gives c.args.properties.now (bounds_of c.args.scope.now) (context_of c.args.properties.now c.args.scope.now) c.args.least.now c.args.set.now
     c.deref-part-items.result.now c.loop-part.part-index c.loop-part.whole c.in_ok-value.value c.loop-part.least c.loop-part.properties
-    c.deref-part-items.ensures.value (omega arith) c.loop-part.invariant (c.in_ok-value.ensures c.args.properties.now)).0
+    c.deref-part-items.ensures.value (omega arith) c.loop-part.invariant (rw c.layout.ensures at (c.in_ok-value.ensures c.args.properties.now))).0
 
 pub value_of_set-returns-clause-noted : goal.value_of_set-returns-clause-noted
 value_of_set-returns-clause-noted t c =
     (folding_gives c.args.properties.now (bounds_of c.args.scope.now) (context_of c.args.properties.now c.args.scope.now) c.args.least.now c.args.set.now
     c.deref-part-items.result.now c.loop-part.part-index c.loop-part.whole c.in_ok-value.value c.loop-part.least c.loop-part.properties
-    c.deref-part-items.ensures.value (omega arith) c.loop-part.invariant (c.in_ok-value.ensures c.args.properties.now)).1
+    c.deref-part-items.ensures.value (omega arith) c.loop-part.invariant (rw c.layout.ensures at (c.in_ok-value.ensures c.args.properties.now))).1
 
 pub value_of_item-returns-in_ok-found-in-Prop-clause-noted : goal.value_of_item-returns-in_ok-found-in-Prop-clause-noted
 value_of_item-returns-in_ok-found-in-Prop-clause-noted t c =
