@@ -53,7 +53,7 @@ impl ClassSet {
 
     /// The number of a word from which on all are 0.
     pub(crate) fn end(&self) -> usize
-        ensures { (i : ℕ) → result ≤ i → word_at self.now i ≡ 0 }
+        ensures { result ≡ self.now.from + length self.now.words }
     {
         self.from + self.words.len()
     }
