@@ -17,6 +17,8 @@ mod shared_classes;
 mod skip;
 #[cfg(test)]
 mod tests;
+mod word_chunks;
+mod word_rows;
 
 pub use class_set::ClassSet;
 pub use class_shelf::ClassShelf;

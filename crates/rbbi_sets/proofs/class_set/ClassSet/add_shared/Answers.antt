@@ -1,0 +1,23 @@
+use Rattle.std.proofs.Common.{◌≡◌, ◌+◌, ◌<◌, ◌≤◌, ◌⊎◌, ℕ, List, length, ◌∙◌, ap, arith}
+use Rattle.std.specs.List.{flat_map}
+use Rattle.std.specs.Rc.{rc_slice_items}
+use Rattle.std.specs.Vec.{with_items}
+use Rattle.std.proofs.lemmas.List.{with_items_is}
+use Rattle.rbbi_sets.specs.Classes.{ClassBits, class_of, word_at}
+use Rattle.rbbi_sets.proofs.ClassMembers.{AreAlike, joined_members}
+use Rattle.rbbi_sets.proofs.ClassWords.{bits_of}
+use Rattle.rbbi_sets.proofs.class_set.ClassSet.add_shared.Goals as goal
+
+pub returns-clause-members : goal.returns-clause-members
+returns-clause-members c = λ bounds point.
+    let from : ℕ = c.self.inside.from in
+    let new : ClassBits = bits_of from c.join_chunks.new.row in
+    let made : ClassBits = bits_of from (with_items c.self.inside.words c.join_chunks.new.row).items in
+    let those : ClassBits = bits_of c.from-first.result (flat_map rc_slice_items c.chunks.result.now) in
+    let row : ClassBits = bits_of from c.as_mut_slice-row.result.now in
+    let is : AreAlike made new = λ i.
+    ap (λ (words : List ℕ). word_at (bits_of from words) i) (with_items_is c.self.inside.words c.join_chunks.new.row (omega arith)) in
+    let given : AreAlike those c.args.other.now = λ i. ap (λ (words : List ℕ). word_at (bits_of c.from-first.result words) i) c.chunks.ensures.words ∙ ap (λ n. word_at (bits_of n c.args.other.now.words) i) c.from-first.ensures in
+    let was : AreAlike row c.args.self.now = λ i.
+    ap (λ (words : List ℕ). word_at (bits_of from words) i) c.as_mut_slice-row.ensures.value ∙ ap (λ (set : ClassBits). word_at set i) c.self.view_is ∙ c.in_ok-make_room.ensures.words i in
+    joined_members new made those c.args.other.now is given bounds point c.args.self.now row was (c.join_chunks.ensures (class_of bounds point))
