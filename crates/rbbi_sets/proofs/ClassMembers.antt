@@ -1,5 +1,5 @@
 -- The members of sets that are made word by word.
-use Rattle.std.proofs.Common.{◌≡◌, ℕ, ◌+◌, ◌/◌, ◌<◌, ◌≤◌, ◌⊎◌, ◌↔◌, List, length, sym, ◌∙◌, inl, inr, ⊎_elim, arith}
+use Rattle.std.proofs.Common.{◌≡◌, ℕ, ◌+◌, ◌/◌, ◌<◌, ◌≤◌, ◌⊎◌, ◌↔◌, List, length, sym, inl, inr, ⊎_elim}
 use Rattle.std.proofs.lemmas.Bool.{cases_lt}
 use Rattle.rbbi_sets.specs.Classes.{ClassBits, word_at, HasClass, HasMember, IsOutside, class_of}
 use Rattle.rbbi_sets.proofs.ClassWords.{word_at-before, word_at-past, no_word, has_alike}

@@ -1,7 +1,5 @@
-use Rattle.std.proofs.Common.{◌+◌, ◌≤◌, length, inl, ⊎_elim, take_all, subst, arith}
-use Rattle.std.specs.List.{flat_map}
+use Rattle.std.proofs.Common.{inl, ⊎_elim, take_all, arith}
 use Rattle.std.specs.Rc.{rc_slice_items}
-use Rattle.rbbi_sets.specs.Classes.{HasClass}
 use Rattle.rbbi_sets.proofs.ClassChunks.{no-part, place-next, fits, joined-next}
 use Rattle.rbbi_sets.proofs.ClassWords.{bits_of}
 use Rattle.rbbi_sets.proofs.word_chunks.join_chunks.Goals as goal

@@ -1,7 +1,5 @@
-use Rattle.std.proofs.Common.{◌+◌, ◌≤◌, length, inr, take_all, subst, arith}
-use Rattle.std.specs.List.{flat_map}
+use Rattle.std.proofs.Common.{inr, take_all, arith}
 use Rattle.std.specs.Rc.{rc_slice_items}
-use Rattle.rbbi_sets.specs.Classes.{HasClass, IsOutside}
 use Rattle.rbbi_sets.proofs.ClassChunks.{outside-no-part, place-next, fits, met-next}
 use Rattle.rbbi_sets.proofs.ClassWords.{bits_of}
 use Rattle.rbbi_sets.proofs.word_chunks.meet_chunks.Goals as goal

@@ -1,6 +1,4 @@
 use Rattle.std.proofs.Common.{◌≡◌, ◌+◌, ◌<◌, ◌≤◌, ◌⊎◌, ℕ, List, length, ◌∙◌, ap, inl, inr, ⊎_elim, arith}
-use Rattle.std.specs.List.{flat_map}
-use Rattle.std.specs.Rc.{rc_slice_items}
 use Rattle.std.specs.Vec.{with_items}
 use Rattle.std.proofs.lemmas.List.{with_items_is}
 use Rattle.rbbi_sets.specs.Classes.{ClassBits, class_of, word_at}

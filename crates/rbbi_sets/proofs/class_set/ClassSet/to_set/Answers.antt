@@ -1,5 +1,5 @@
 -- The classes of a word are joined, and a word that is 0 has none.
-use Rattle.std.proofs.Common.{◌≡◌, ◌+◌, ◌*◌, subst, sym, ◌∙◌, arith}
+use Rattle.std.proofs.Common.{◌≡◌, ◌+◌, ◌*◌, subst, ◌∙◌, arith}
 use Rattle.rbbi_sets.specs.ClassRanges.{AreClassRanges}
 use Rattle.rbbi_sets.proofs.ClassWalks.{no-class-of-zero, no-ranges, ranges-skip}
 use Rattle.rbbi_sets.proofs.ClassWords.{word_at-read}
