@@ -1,12 +1,25 @@
 -- The members of sets that are made word by word.
-use Rattle.std.proofs.Common.{◌≡◌, ℕ, ◌+◌, ◌/◌, ◌<◌, ◌≤◌, ◌⊎◌, ◌↔◌, List, length, sym, inl, inr, ⊎_elim}
+use Rattle.std.proofs.Common.{◌≡◌, ℕ, ◌+◌, ◌/◌, ◌<◌, ◌≤◌, ◌⊎◌, ◌↔◌, List, length, ap, sym, ◌∙◌, inl, inr, ⊎_elim}
 use Rattle.std.proofs.lemmas.Bool.{cases_lt}
 use Rattle.rbbi_sets.specs.Classes.{ClassBits, word_at, HasClass, HasMember, IsOutside, class_of}
-use Rattle.rbbi_sets.proofs.ClassWords.{word_at-before, word_at-past, no_word, has_alike}
+use Rattle.rbbi_sets.proofs.ClassWords.{word_at-before, word_at-past, bits_of, no_word, has_alike}
 
 -- each word of one set is that of the other
 abbrev pub AreAlike : ClassBits → ClassBits → Type 0
 AreAlike these those = (i : ℕ) → word_at these i ≡ word_at those i
+
+-- words read from a set, in one piece or by its parts
+pub alike_view : (from : ℕ) (words items : List ℕ) (set : ClassBits) → words ≡ items → bits_of from items ≡ set → AreAlike (bits_of from words) set
+alike_view from words items set same is = λ i.
+    ap (λ (list : List ℕ). word_at (bits_of from list) i) same ∙ ap (λ (bits : ClassBits). word_at bits i) is
+
+pub alike_parts : (from : ℕ) (words : List ℕ) (set : ClassBits) → from ≡ set.from → words ≡ set.words → AreAlike (bits_of from words) set
+alike_parts from words set first same = λ i.
+    ap (λ n. word_at (bits_of n words) i) first ∙ ap (λ (list : List ℕ). word_at (bits_of set.from list) i) same
+
+-- words written back into a set
+pub alike_made : (from : ℕ) (made new : List ℕ) → made ≡ new → AreAlike (bits_of from made) (bits_of from new)
+alike_made from made new same = λ i. ap (λ (list : List ℕ). word_at (bits_of from list) i) same
 
 module _ (new made those other : ClassBits) (is : AreAlike made new) (given : AreAlike those other) (bounds : List ℕ) (c : ℕ) where
   to_made : HasClass new (class_of bounds c) → HasClass made (class_of bounds c)

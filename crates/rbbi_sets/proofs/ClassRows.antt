@@ -6,7 +6,8 @@ use Rattle.std.specs.Int.RustNames.{bit_or}
 use Rattle.std.specs.Int.Bits.{or_zero_r}
 use Rattle.std.proofs.lemmas.Bool.{cases_lt}
 use Rattle.rbbi_sets.specs.Classes.{ClassBits, word_at, HasClass, IsOutside}
-use Rattle.rbbi_sets.proofs.ClassWords.{bits_of, word_at-before, word_at-from, word_at-past, no_word, has_alike, has_or, has_and, has_and_not, has_turned, has_same, has_none}
+use Rattle.rbbi_sets.proofs.ClassWords.{bits_of, word_at-before, word_at-from, word_at-past, no_word, has_alike}
+use Rattle.rbbi_sets.proofs.ClassWords.{has_or, has_and, has_and_not, has_turned, has_same, has_none}
 
 -- in the words from a place up to before another, each word of a row is put together with that of another set; the others are kept
 pub record AreCombined (f : ℕ → ℕ → ℕ) (from : ℕ) (row new : List ℕ) (other : ClassBits) (start end : ℕ) : Type 0 where

@@ -10,5 +10,6 @@ invariant-loop-chunk l =
     let taken = flat_map rc_slice_items (take l.chunk-index l.chunks) in
     record {
       place : l.place ≡ l.first + length taken;
-      met : (k : ℕ) → HasClass (bits_of l.from l.row) k ↔ (HasClass (bits_of l.from l.initial.row) k × (HasClass (bits_of l.first taken) k ⊎ IsOutside (bits_of l.first taken) k));
+      met : (k : ℕ) → HasClass (bits_of l.from l.row) k
+          ↔ (HasClass (bits_of l.from l.initial.row) k × (HasClass (bits_of l.first taken) k ⊎ IsOutside (bits_of l.first taken) k));
     }

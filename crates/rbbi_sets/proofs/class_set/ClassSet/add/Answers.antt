@@ -1,8 +1,8 @@
-use Rattle.std.proofs.Common.{ℕ, List, ◌∙◌, ap, arith}
+use Rattle.std.proofs.Common.{ℕ, ◌∙◌, arith}
 use Rattle.std.specs.Vec.{with_items}
 use Rattle.std.proofs.lemmas.List.{with_items_is}
-use Rattle.rbbi_sets.specs.Classes.{ClassBits, class_of, word_at}
-use Rattle.rbbi_sets.proofs.ClassMembers.{AreAlike, joined_members}
+use Rattle.rbbi_sets.specs.Classes.{ClassBits, class_of}
+use Rattle.rbbi_sets.proofs.ClassMembers.{AreAlike, alike_made, alike_view, joined_members}
 use Rattle.rbbi_sets.proofs.ClassWords.{bits_of}
 use Rattle.rbbi_sets.proofs.class_set.ClassSet.add.Goals as goal
 
@@ -13,9 +13,12 @@ returns-clause-members c = λ bounds point.
     let made : ClassBits = bits_of from (with_items c.self.inside.words c.join_words.new.row).items in
     let those : ClassBits = bits_of c.other.inside.from c.as_slice.result.now in
     let row : ClassBits = bits_of from c.as_mut_slice-row.result.now in
-    let is : AreAlike made new = λ i.
-    ap (λ (words : List ℕ). word_at (bits_of from words) i) (with_items_is c.self.inside.words c.join_words.new.row (omega arith)) in
-    let given : AreAlike those c.args.other.now = λ i. ap (λ (words : List ℕ). word_at (bits_of c.other.inside.from words) i) c.as_slice.ensures.value ∙ ap (λ (set : ClassBits). word_at set i) c.other.view_is in
+    let is : AreAlike made new =
+    alike_made from (with_items c.self.inside.words c.join_words.new.row).items c.join_words.new.row
+    (with_items_is c.self.inside.words c.join_words.new.row (omega arith)) in
+    let given : AreAlike those c.args.other.now =
+    alike_view c.other.inside.from c.as_slice.result.now c.other.inside.words.items c.args.other.now c.as_slice.ensures.value c.other.view_is in
     let was : AreAlike row c.args.self.now = λ i.
-    ap (λ (words : List ℕ). word_at (bits_of from words) i) c.as_mut_slice-row.ensures.value ∙ ap (λ (set : ClassBits). word_at set i) c.self.view_is ∙ c.in_ok-make_room.ensures.words i in
+    alike_view from c.as_mut_slice-row.result.now c.self.inside.words.items c.make_room.new.self c.as_mut_slice-row.ensures.value c.self.view_is i
+    ∙ c.in_ok-make_room.ensures.words i in
     joined_members new made those c.args.other.now is given bounds point c.args.self.now row was (c.join_words.ensures (class_of bounds point))
