@@ -3,10 +3,11 @@ use Rattle.std.proofs.Common.{◌≡◌, ℕ, ◌+◌, ◌-◌, ◌/◌, ◌^◌
 use Rattle.std.specs.Int.{bit_not, w64}
 use Rattle.std.specs.Prelude.{bit_and}
 use Rattle.std.specs.Int.RustNames.{bit_or}
-use Rattle.std.specs.Int.Bits.{or_zero_r, and_zero_l}
+use Rattle.std.specs.Int.Bits.{or_zero_r}
 use Rattle.std.proofs.lemmas.Bool.{cases_lt}
-use Rattle.rbbi_sets.specs.Classes.{ClassBits, word_at, HasClass}
-use Rattle.rbbi_sets.proofs.ClassWords.{bits_of, word_at-before, word_at-from, word_at-past, no_word, has_or, has_and, has_and_not, has_turned, has_same, has_none}
+use Rattle.rbbi_sets.specs.Classes.{ClassBits, word_at, HasClass, IsOutside}
+use Rattle.rbbi_sets.proofs.ClassWords.{bits_of, word_at-before, word_at-from, word_at-past, no_word, has_alike}
+use Rattle.rbbi_sets.proofs.ClassWords.{has_or, has_and, has_and_not, has_turned, has_same, has_none}
 
 -- in the words from a place up to before another, each word of a row is put together with that of another set; the others are kept
 pub record AreCombined (f : ℕ → ℕ → ℕ) (from : ℕ) (row new : List ℕ) (other : ClassBits) (start end : ℕ) : Type 0 where
@@ -32,50 +33,51 @@ has_joined from row new other end all combined k =
         word_at (bits_of from new) i ≡ bit_or (word_at (bits_of from row) i) (word_at other i)
     outside same none = same ∙ sym (or_zero_r (word_at (bits_of from row) i)) ∙ ap (bit_or (word_at (bits_of from row) i)) (sym none)
 
--- words met, where those outside of the other set's are 0
-pub has_met : (from : ℕ) (row new : List ℕ) (other : ClassBits) (end : ℕ) → ((k : ℕ) → from + k < other.from → get_or row k 0 ≡ 0) →
-    from + length row ≤ end → AreCombined bit_and from row new other (max from other.from) end →
-    (k : ℕ) → HasClass (bits_of from new) k ↔ (HasClass (bits_of from row) k × HasClass other k)
-has_met from row new other end before all combined k =
-    has_and (bits_of from new) (bits_of from row) other k
-    (⊎_elim (λ sooner. outside (combined.kept i (inl sooner)) (none sooner))
-    (λ later.
-    ⊎_elim (λ inside. combined.done i later inside)
-    (λ past. outside (combined.kept i (inr past)) (word_at-past (bits_of from row) i (omega (arith, all, past))))
-    (cases_lt i end))
-    (cases_lt i (max from other.from)))
+-- words met in the places of another set's
+pub has_met : (from : ℕ) (row new : List ℕ) (other : ClassBits) (end : ℕ) →
+    min (from + length row) (other.from + length other.words) ≤ end →
+    ((i : ℕ) → max from other.from ≤ i → i < end → i < other.from + length other.words) →
+    AreCombined bit_and from row new other (max from other.from) end →
+    (k : ℕ) → HasClass (bits_of from new) k ↔ (HasClass (bits_of from row) k × (HasClass other k ⊎ IsOutside other k))
+has_met from row new other end all short combined k =
+    ⊎_elim (λ sooner. unmet (combined.kept i (inl sooner)) (in_front sooner))
+    (λ later. ⊎_elim (λ inside. met later inside) (λ past. unmet (combined.kept i (inr past)) (behind past)) (cases_lt i end))
+    (cases_lt i (max from other.from))
   where
     i : ℕ
     i = k / 64
 
-    none : i < max from other.from → word_at (bits_of from row) i ≡ 0
-    none sooner =
-        ⊎_elim (λ out. word_at-before (bits_of from row) i out)
-        (λ in_row. word_at-from (bits_of from row) i in_row ∙ before (i - from) (omega (arith, sooner, in_row)))
-        (cases_lt i from)
+    unmet : word_at (bits_of from new) i ≡ word_at (bits_of from row) i → (HasClass (bits_of from row) k → IsOutside other k) →
+        HasClass (bits_of from new) k ↔ (HasClass (bits_of from row) k × (HasClass other k ⊎ IsOutside other k))
+    unmet same out = (
+      λ has. let old = has_alike (bits_of from new) (bits_of from row) k same has in (old, inr (out old)),
+      λ both. has_alike (bits_of from row) (bits_of from new) k (sym same) both.0,
+    )
 
-    outside : word_at (bits_of from new) i ≡ word_at (bits_of from row) i → word_at (bits_of from row) i ≡ 0 →
-        word_at (bits_of from new) i ≡ bit_and (word_at (bits_of from row) i) (word_at other i)
-    outside same zero =
-        same ∙ zero ∙ sym (and_zero_l (word_at other i)) ∙ ap (λ n. bit_and n (word_at other i)) (sym zero)
+    in_front : i < max from other.from → HasClass (bits_of from row) k → IsOutside other k
+    in_front sooner has =
+        ⊎_elim (λ before. inl before)
+        (λ begun. absurd (no_word (bits_of from row) k (word_at-before (bits_of from row) i (omega (arith, sooner, begun))) has))
+        (cases_lt i other.from)
 
--- a row whose words are kept where another set has some
-pub kept_within : (from : ℕ) (row new : List ℕ) (other : ClassBits) →
-    ((j : ℕ) → other.from - from ≤ j → j < other.from + length other.words - from → get_or new j 0 ≡ get_or row j 0) →
-    (k : ℕ) → HasClass other k → word_at (bits_of from new) (k / 64) ≡ word_at (bits_of from row) (k / 64)
-kept_within from row new other kept k has =
-    ⊎_elim (λ sooner. word_at-before (bits_of from new) (k / 64) sooner ∙ sym (word_at-before (bits_of from row) (k / 64) sooner))
-    (λ later. word_at-from (bits_of from new) (k / 64) later ∙ kept (k / 64 - from) (omega (arith, begun, later)) (omega (arith, ended, later))
-    ∙ sym (word_at-from (bits_of from row) (k / 64) later))
-    (cases_lt (k / 64) from)
-  where
-    begun : other.from ≤ k / 64
-    begun = ⊎_elim (λ sooner. absurd (no_word other k (word_at-before other (k / 64) sooner) has)) (λ later. later) (cases_lt (k / 64) other.from)
+    behind : end ≤ i → HasClass (bits_of from row) k → IsOutside other k
+    behind past has =
+        ⊎_elim (λ inside. absurd (no_word (bits_of from row) k (word_at-past (bits_of from row) i (omega (arith, all, past, inside))) has))
+        (λ ended. inr ended)
+        (cases_lt i (other.from + length other.words))
 
-    ended : k / 64 < other.from + length other.words
-    ended =
-        ⊎_elim (λ inside. inside) (λ past. absurd (no_word other k (word_at-past other (k / 64) past) has))
-        (cases_lt (k / 64) (other.from + length other.words))
+    met : max from other.from ≤ i → i < end →
+        HasClass (bits_of from new) k ↔ (HasClass (bits_of from row) k × (HasClass other k ⊎ IsOutside other k))
+    met later inside =
+        let both_have = has_and (bits_of from new) (bits_of from row) other k (combined.done i later inside) in
+        let ended = short i later inside in (
+          λ has. let both = both_have.0 has in (both.0, inl both.1),
+          λ both. both_have.1 (
+            both.0,
+            ⊎_elim (λ has. has)
+                (λ out. absurd (⊎_elim (λ before. omega (arith, later, before)) (λ past. omega (arith, ended, past)) out)) both.1,
+          ),
+        )
 
 -- words taken away
 pub has_removed : (from : ℕ) (row new : List ℕ) (other : ClassBits) (end : ℕ) → ((i : ℕ) → get_or other.words i 0 < 2 ^ 64) →
@@ -119,3 +121,26 @@ has_others row new end small all turned k inside =
     has_turned (bits_of 0 new) (bits_of 0 row) (bits_of 0 row) k (omega (arith, word_at-from (bits_of 0 row) (k / 64) (omega arith), small (k / 64 - 0)))
     (word_at-from (bits_of 0 new) (k / 64) (omega arith) ∙ turned.done (k / 64 - 0) (omega (arith, all, inside))
     ∙ ap (bit_not w64) (sym (word_at-from (bits_of 0 row) (k / 64) (omega arith))))
+
+-- words of which all bits are 1, in which those of a row are put with each bit turned
+pub has_flipped : (from : ℕ) (row ones new : List ℕ) (end : ℕ) → ((i : ℕ) → get_or row i 0 < 2 ^ 64) →
+    ((i : ℕ) → i < length ones → get_or ones i 0 ≡ 2 ^ 64 - 1) → from + length row ≤ end →
+    AreCombined (λ (these those : ℕ). bit_not w64 those) 0 ones new (bits_of from row) from end →
+    (k : ℕ) → k / 64 < length ones → HasClass (bits_of 0 new) k ↔ ¬ HasClass (bits_of from row) k
+has_flipped from row ones new end small all long combined k inside =
+    has_turned (bits_of 0 new) (bits_of from row) (bits_of from row) k
+    (⊎_elim (λ sooner. omega (arith, word_at-before (bits_of from row) i sooner))
+    (λ later. omega (arith, word_at-from (bits_of from row) i later, small (i - from))) (cases_lt i from))
+    (⊎_elim (λ sooner. untouched (combined.kept i (inl sooner)) (word_at-before (bits_of from row) i sooner))
+    (λ later.
+    ⊎_elim (λ short. combined.done i later short)
+    (λ past. untouched (combined.kept i (inr past)) (word_at-past (bits_of from row) i (omega (arith, long, past)))) (cases_lt i end))
+    (cases_lt i from))
+  where
+    i : ℕ
+    i = k / 64
+
+    untouched : word_at (bits_of 0 new) i ≡ word_at (bits_of 0 ones) i → word_at (bits_of from row) i ≡ 0 →
+        word_at (bits_of 0 new) i ≡ bit_not w64 (word_at (bits_of from row) i)
+    untouched same none =
+        same ∙ word_at-from (bits_of 0 ones) i (omega arith) ∙ all (i - 0) (omega (arith, inside)) ∙ ap (bit_not w64) (sym none)

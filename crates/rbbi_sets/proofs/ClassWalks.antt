@@ -15,6 +15,7 @@ use Rattle.rbbi_sets.specs.ClassRanges.{AreClassRanges, AreSurrogates}
 use Rattle.rbbi_sets.proofs.Coverage.{Decides-covers, Decides-is_between, has-append}
 use Rattle.rbbi_sets.proofs.Rise.{begin-weaker}
 use Rattle.rbbi_sets.proofs.ClassBounds.{class-monotone}
+use Rattle.rbbi_sets.proofs.ClassWords.{no_word, word_at-before}
 
 -- the set has no member of the classes from one to before another
 abbrev pub HasNone : List ℕ → ClassBits → ℕ → ℕ → Type 0
@@ -39,6 +40,11 @@ module _ (set : ClassBits) (i bit word : ℕ) (small : bit < 64) (is : word ≡ 
   no-class-of-bit bounds none c member from to =
       let same : class_of bounds c ≡ 64 * i + bit = omega arith in
       none (there ∙ subst (λ k. HasClass set k) same member.1)
+
+-- a set has no class in front of its words
+pub none-before : (bounds : List ℕ) (set : ClassBits) → HasNone bounds set 0 (64 * set.from)
+none-before bounds set c member from to =
+    no_word set (class_of bounds c) (word_at-before set (class_of bounds c / 64) (omega (arith, to))) member.1
 
 -- a word that is 0 has no class
 pub zero-has-none : (bounds : List ℕ) (set : ClassBits) (i c : ℕ) → word_at set i ≡ 0 → class_of bounds c / 64 ≡ i → HasMember bounds set c → ⊥
@@ -100,6 +106,13 @@ module _ (bounds : List ℕ) (set : ClassBits) (ranges : List Range) (k : ℕ) (
               | inr from ↦ begin-weaker more low c from joins.begin
             ];
       }
+
+-- no range is in front of a set's words
+pub no-ranges : (bounds : List ℕ) (set : ClassBits) → AreClassRanges bounds set [] (64 * set.from)
+no-ranges bounds set = ranges-skip bounds set [] 0 none (64 * set.from) (omega arith) (none-before bounds set)
+  where
+    none : AreClassRanges bounds set [] 0
+    none = record { members = λ c. (λ g. absurd g, λ g. absurd (omega (arith, g.1))); rising = tt; begin = λ c l. tt }
 
 -- past classes that the set hasn't
 pub surrogates-skip : (bounds : List ℕ) (set : ClassBits) (from k next : ℕ) → AreSurrogates bounds set from k → HasNone bounds set k next →

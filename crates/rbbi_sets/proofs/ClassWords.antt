@@ -29,6 +29,13 @@ pub word_at-past : (set : ClassBits) (i : ℕ) → set.from + length set.words �
 word_at-past set i past =
     word_at-from set i (omega (arith, past)) ∙ get_or_past set.words (i - set.from) 0 (omega (arith, past))
 
+-- a word as it is read from the set's words
+pub word_at-read : (set : ClassBits) (words : List ℕ) (from i : ℕ) → words ≡ set.words → from ≡ set.from → from ≤ i →
+    word_at set i ≡ get_or words (i - from) 0
+word_at-read set words from i same first later =
+    word_at-from set i (omega (arith, first, later)) ∙ ap (λ (list : List ℕ). get_or list (i - set.from) 0) (sym same)
+    ∙ ap (λ n. get_or words (i - n) 0) (sym first)
+
 -- a set of which no word is in that place has no class there
 pub no_word : (set : ClassBits) (k : ℕ) → word_at set (k / 64) ≡ 0 → ¬ HasClass set k
 no_word set k none = λ has. let zero : bit_at (word_at set (k / 64)) (k % 64) ≡ 0 = ap (λ n. bit_at n (k % 64)) none ∙ bit_at-zero (k % 64) in

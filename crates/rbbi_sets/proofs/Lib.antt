@@ -16,6 +16,7 @@ pub mod ClassCuts
 pub mod ClassWalks
 pub mod ClassWords
 pub mod ClassRows
+pub mod ClassMembers
 pub mod ClassRoom
 pub mod ClassSpans
 pub mod ClassChunks

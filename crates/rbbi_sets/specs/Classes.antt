@@ -1,5 +1,5 @@
 -- Sets of code points by the classes that bounds divide them into.
-use Rattle.std.specs.Prelude.{◌≡◌, ℕ, ◌+◌, ◌-◌, ◌/◌, ◌%◌, ◌<◌, ◌≤◌, ◌⊎◌, nat_lt, nat_le, List, [], ◌∷◌, slice_index, if◌then◌else◌}
+use Rattle.std.specs.Prelude.{◌≡◌, ℕ, ◌+◌, ◌-◌, ◌/◌, ◌%◌, ◌<◌, ◌≤◌, ◌⊎◌, nat_lt, nat_le, List, [], ◌∷◌, length, slice_index, if◌then◌else◌}
 use Rattle.std.specs.List.{Contains}
 use Rattle.std.specs.Int.{bit_at}
 
@@ -41,6 +41,10 @@ word_at set i = if nat_lt i set.from then 0 else slice_index set.words (i - set.
 -- the set has the class with this number
 abbrev pub HasClass : ClassBits → ℕ → Type 0
 HasClass set k = bit_at (word_at set (k / 64)) (k % 64) ≡ 1
+
+-- no word of the set is in the place of the class with this number
+abbrev pub IsOutside : ClassBits → ℕ → Type 0
+IsOutside set k = (k / 64 < set.from) ⊎ (set.from + length set.words ≤ k / 64)
 
 -- the set has the code point, where these bounds divide the code points into classes
 abbrev pub HasMember : List ℕ → ClassBits → ℕ → Type 0

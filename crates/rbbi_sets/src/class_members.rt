@@ -68,8 +68,10 @@ impl ClassSet {
         ensures form { IfOk result (λ set. AreRising set) }
     {
         let mut ranges = Vec::new(alloc);
-        for i in 0..word_count(self, layout) {
-            if self.word(i) != 0 {
+        let words = self.words();
+        let from = self.from();
+        for i in from..word_count(self, layout) {
+            if words[i - from] != 0 {
                 join_word(&mut ranges, layout, self, i)?;
             }
         }
@@ -81,8 +83,10 @@ impl ClassSet {
         ensures { IsTrue result
             ↔ ((c : ℕ) × HasMember layout.now self.now c × ¬ IsSurrogate c) }
     {
-        for i in 0..word_count(self, layout) {
-            if self.word(i) != 0 && word_holds_character(layout, self, i) {
+        let words = self.words();
+        let from = self.from();
+        for i in from..word_count(self, layout) {
+            if words[i - from] != 0 && word_holds_character(layout, self, i) {
                 return true;
             }
         }
@@ -90,9 +94,10 @@ impl ClassSet {
     }
 }
 
-/// The number of words of the set that hold classes of the layout.
+/// The number of the word from which on the set has no class of the layout.
 fn word_count(set: &ClassSet, layout: &Layout) -> usize
     ensures within { (i : ℕ) → i < result → 64 * i ≤ length layout.now }
+    ensures end { result ≤ set.now.from + length set.now.words }
     ensures all { (c : ℕ) → HasMember layout.now set.now c
         → class_of layout.now c < 64 * result }
 {

@@ -1,10 +1,13 @@
 //! Sets of classes.
-ghost use Rattle.std.specs.Prelude.{◌≡◌, ◌+◌, ◌-◌, ◌/◌, ◌^◌, ◌<◌, ◌≤◌, ◌↔◌, ◌⊎◌, ℕ, List, length, IfOk};
-ghost use Rattle.std.specs.Prelude.{slice_index, OnOk};
+ghost use Rattle.std.specs.Prelude.{◌≡◌, ◌+◌, ◌^◌, ◌<◌, ◌≤◌, ◌↔◌, ◌⊎◌, ℕ, List, length};
+ghost use Rattle.std.specs.Prelude.{IfOk, OnOk};
+ghost use Rattle.std.specs.Result.{OnErr};
 ghost use Rattle.rbbi_sets.specs.Classes.{HasMember, HasClass, word_at};
 
-use crate::Layout;
 use crate::layout::ClassSpan;
+use crate::word_chunks::{join_chunks, meet_chunks, remove_chunks};
+use crate::word_rows::{clear, flip, flipped, join_words, meet_words, remove_words};
+use crate::{Layout, SharedClasses};
 use std::alloc::{AllocError, Global};
 use std::marker::Model;
 
@@ -53,7 +56,7 @@ impl ClassSet {
 
     /// The number of a word from which on all are 0.
     pub(crate) fn end(&self) -> usize
-        ensures { (i : ℕ) → result ≤ i → word_at self.now i ≡ 0 }
+        ensures { result ≡ self.now.from + length self.now.words }
     {
         self.from + self.words.len()
     }
@@ -72,16 +75,36 @@ impl ClassSet {
         Ok(ClassSet { from, words })
     }
 
-    /// Adds what is in the other set.
+    /// Adds what is in the other set. Where it is refused, the set is as it was.
     pub fn add(&mut self, alloc: Global, other: &ClassSet) -> Result<(), AllocError>
-        ensures { OnOk result ((bounds : List ℕ) (c : ℕ) → HasMember bounds self.new c
+        ensures members { OnOk result ((bounds : List ℕ) (c : ℕ) → HasMember bounds self.new c
             ↔ (HasMember bounds self.old c ⊎ HasMember bounds other.now c)) }
+        ensures refused { OnErr result (self.new ≡ self.old) }
     {
+        let first = other.from;
         if other.words.is_empty() {
             return Ok(());
         }
-        self.make_room(alloc, other.from, other.from + other.words.len())?;
-        join_words(self.words.as_mut_slice(), self.from, other);
+        self.make_room(alloc, first, first + other.words.len())?;
+        let row = self.words.as_mut_slice();
+        join_words(row, self.from, other.words.as_slice(), first);
+        Ok(())
+    }
+
+    /// Adds what is in the other set. Where it is refused, the set is as it was.
+    pub fn add_shared(&mut self, alloc: Global, other: &SharedClasses) -> Result<(), AllocError>
+        ensures members { OnOk result ((bounds : List ℕ) (c : ℕ) → HasMember bounds self.new c
+            ↔ (HasMember bounds self.old c ⊎ HasMember bounds other.now c)) }
+        ensures refused { OnErr result (self.new ≡ self.old) }
+    {
+        let first = other.from();
+        let count = other.word_count();
+        if count == 0 {
+            return Ok(());
+        }
+        self.make_room(alloc, first, first + count)?;
+        let row = self.words.as_mut_slice();
+        join_chunks(row, self.from, other.chunks(), first);
         Ok(())
     }
 
@@ -108,6 +131,7 @@ impl ClassSet {
         ensures words { OnOk result ((i : ℕ) → word_at self.new i ≡ word_at self.old i) }
         ensures from { OnOk result (self.new.from ≤ first) }
         ensures end { OnOk result (last ≤ self.new.from + length self.new.words) }
+        ensures refused { OnErr result (self.new ≡ self.old) }
     {
         let end = self.from + self.words.len();
         if self.from <= first && last <= end {
@@ -124,6 +148,7 @@ impl ClassSet {
         ensures words { OnOk result ((i : ℕ) → word_at self.new i ≡ word_at self.old i) }
         ensures from { OnOk result (self.new.from ≤ first) }
         ensures end { OnOk result (last ≤ self.new.from + length self.new.words) }
+        ensures refused { OnErr result (self.new ≡ self.old) }
     {
         let start = if self.words.is_empty() {
             first
@@ -146,11 +171,32 @@ impl ClassSet {
         ensures { (bounds : List ℕ) (c : ℕ) → HasMember bounds self.new c
             ↔ (HasMember bounds self.old c × HasMember bounds other.now c) }
     {
-        let end = other.from + other.words.len();
-        self.words.truncate(end.saturating_sub(self.from));
+        let first = other.from;
+        self.keep_words(first, first + other.words.len());
         let row = self.words.as_mut_slice();
-        clear(row, other.from.saturating_sub(self.from));
-        meet_words(row, self.from, other);
+        meet_words(row, self.from, other.words.as_slice(), first);
+    }
+
+    /// Keeps what is in the other set too.
+    pub fn meet_shared(&mut self, other: &SharedClasses)
+        ensures { (bounds : List ℕ) (c : ℕ) → HasMember bounds self.new c
+            ↔ (HasMember bounds self.old c × HasMember bounds other.now c) }
+    {
+        let first = other.from();
+        self.keep_words(first, first + other.word_count());
+        let row = self.words.as_mut_slice();
+        meet_chunks(row, self.from, other.chunks(), first);
+    }
+
+    /// Keeps the words from `first` to before `last`, and makes the others 0.
+    fn keep_words(&mut self, first: usize, last: usize)
+        ensures inside { (i : ℕ) → first ≤ i → i < last
+            → word_at self.new i ≡ word_at self.old i }
+        ensures outside { (i : ℕ) → (i < first) ⊎ (last ≤ i) → word_at self.new i ≡ 0 }
+    {
+        self.words.truncate(last.saturating_sub(self.from));
+        let row = self.words.as_mut_slice();
+        clear(row, first.saturating_sub(self.from));
     }
 
     /// Takes away what is in the other set.
@@ -158,16 +204,33 @@ impl ClassSet {
         ensures { (bounds : List ℕ) (c : ℕ) → HasMember bounds self.new c
             ↔ (HasMember bounds self.old c × ¬ HasMember bounds other.now c) }
     {
-        remove_words(self.words.as_mut_slice(), self.from, other);
+        let row = self.words.as_mut_slice();
+        remove_words(row, self.from, other.words.as_slice(), other.from);
     }
 
-    /// Makes the set that of the other code points.
-    pub fn negate(&mut self, alloc: Global, layout: &Layout) -> Result<(), AllocError>
-        ensures { OnOk result ((c : ℕ) → HasMember layout.now self.new c
-            ↔ ((c ≤ 0x10FFFF) × ¬ HasMember layout.now self.old c)) }
+    /// Takes away what is in the other set.
+    pub fn remove_shared(&mut self, other: &SharedClasses)
+        ensures { (bounds : List ℕ) (c : ℕ) → HasMember bounds self.new c
+            ↔ (HasMember bounds self.old c × ¬ HasMember bounds other.now c) }
     {
-        self.make_room(alloc, 0, layout.last_class() / 64 + 1)?;
-        flip(self.words.as_mut_slice());
+        let row = self.words.as_mut_slice();
+        remove_chunks(row, self.from, other.chunks(), other.from());
+    }
+
+    /// Makes the set that of the other code points. Where it is refused, the set is as it was.
+    pub fn negate(&mut self, alloc: Global, layout: &Layout) -> Result<(), AllocError>
+        ensures members { OnOk result ((c : ℕ) → HasMember layout.now self.new c
+            ↔ ((c ≤ 0x10FFFF) × ¬ HasMember layout.now self.old c)) }
+        ensures refused { OnErr result (self.new ≡ self.old) }
+    {
+        let end = layout.last_class() / 64 + 1;
+        if self.from == 0 && end <= self.words.len() {
+            flip(self.words.as_mut_slice());
+            return Ok(());
+        }
+        let words = flipped(alloc, self.words.as_slice(), self.from, end)?;
+        self.from = 0;
+        self.words = words;
         Ok(())
     }
 
@@ -192,70 +255,6 @@ impl ClassSet {
         ensures { result ≡ record { from = from; words = words.items } }
     {
         ClassSet { from, words }
-    }
-}
-
-/// Adds what is in the other set to the row, whose first word has the number `from`. Each word of
-/// the set has a place in the row.
-fn join_words(row: &mut [u64], from: usize, other: &ClassSet)
-    requires from { from ≤ other.now.from }
-    requires end { other.now.from + length other.now.words ≤ from + length row.old }
-    ensures { (k : ℕ) → HasClass (record { from = from; words = row.new }) k
-        ↔ (HasClass (record { from = from; words = row.old }) k ⊎ HasClass other.now k) }
-{
-    let words = other.words.as_slice();
-    let begin = other.from;
-    for i in begin..begin + words.len() {
-        row[i - from] |= words[i - begin];
-    }
-}
-
-/// Turns each bit of the row.
-fn flip(row: &mut [u64])
-    ensures { (k : ℕ) → k / 64 < length row.old → HasClass (record { from = 0; words = row.new }) k
-        ↔ ¬ HasClass (record { from = 0; words = row.old }) k }
-{
-    for i in 0..row.len() {
-        row[i] = !row[i];
-    }
-}
-
-/// Makes the first `count` words 0, or all where there are fewer.
-fn clear(row: &mut [u64], count: usize)
-    ensures first { (k : ℕ) → k < count → slice_index row.new k ≡ 0 }
-    ensures others { (k : ℕ) → count ≤ k → slice_index row.new k ≡ slice_index row.old k }
-{
-    for k in 0..count.min(row.len()) {
-        row[k] = 0;
-    }
-}
-
-/// Keeps what is in the other set too, in the row whose first word has the number `from`. It is 0
-/// in front of the set's words, and ends with them or before.
-fn meet_words(row: &mut [u64], from: usize, other: &ClassSet)
-    requires before { (k : ℕ) → from + k < other.now.from → slice_index row.old k ≡ 0 }
-    requires end { length row.old ≤ other.now.from + length other.now.words - from }
-    ensures { (k : ℕ) → HasClass (record { from = from; words = row.new }) k
-        ↔ (HasClass (record { from = from; words = row.old }) k × HasClass other.now k) }
-{
-    let words = other.words.as_slice();
-    let begin = other.from;
-    for i in from.max(begin)..from + row.len() {
-        row[i - from] &= words[i - begin];
-    }
-}
-
-/// Takes what is in the other set away from the row, whose first word has the number `from`.
-fn remove_words(row: &mut [u64], from: usize, other: &ClassSet)
-    requires { from + length row.old ≤ 2 ^ 58 }
-    ensures { (k : ℕ) → HasClass (record { from = from; words = row.new }) k
-        ↔ (HasClass (record { from = from; words = row.old }) k × ¬ HasClass other.now k) }
-{
-    let words = other.words.as_slice();
-    let begin = other.from;
-    let end = (from + row.len()).min(begin + words.len());
-    for i in from.max(begin)..end {
-        row[i - from] &= !words[i - begin];
     }
 }
 

@@ -1,5 +1,5 @@
 //! Chunks of words, of which each is kept once.
-ghost use Rattle.std.specs.Prelude.{◌≡◌, ◌<◌, ◌≤◌, ◌+◌, ◌^◌, IfOk, length};
+ghost use Rattle.std.specs.Prelude.{◌≡◌, ◌↔◌, ◌<◌, ◌≤◌, ◌+◌, ◌^◌, IfOk, IsTrue, length};
 ghost use Rattle.std.specs.Rc.{rc_slice_items};
 
 use crate::{ClassSet, SharedClasses};
@@ -55,7 +55,7 @@ impl ClassShelf {
     {
         let hash = hash_of(words);
         if let Some(chunk) = self.chunks.get(&hash) {
-            if chunk.as_slice() == words {
+            if are_same(chunk.as_slice(), words) {
                 let copy = chunk.clone()?;
                 return Ok(copy);
             }
@@ -78,12 +78,45 @@ fn end_of_chunk(from: usize, words: &[u64], start: usize) -> usize
     end.min(words.len())
 }
 
-/// A hash of the words: a product for each, by 2 to the power of 64 over the golden ratio.
-fn hash_of(words: &[u64]) -> u64 {
-    let mut hash: u64 = 0;
-    for word in words {
-        hash = (hash ^ *word).wrapping_mul(0x9E37_79B9_7F4A_7C15);
-        hash ^= hash >> 32;
+/// Whether the words are the same.
+fn are_same(left: &[u64], right: &[u64]) -> bool
+    ensures { IsTrue result ↔ (left.now ≡ right.now) }
+{
+    if left.len() != right.len() {
+        return false;
     }
-    hash
+    // All words are read, also past a difference, so that many are compared in one step.
+    let mut same = true;
+    for i in 0..left.len() {
+        same &= left[i] == right[i];
+    }
+    same
+}
+
+/// A hash of the words. Those of each four are taken into four numbers, of which none waits for
+/// another.
+fn hash_of(words: &[u64]) -> u64 {
+    let mut first = words.len() as u64;
+    let mut second = 1;
+    let mut third = 2;
+    let mut fourth = 3;
+    let count = words.len() / 4;
+    for i in 0..count {
+        first = mixed(first, words[4 * i]);
+        second = mixed(second, words[4 * i + 1]);
+        third = mixed(third, words[4 * i + 2]);
+        fourth = mixed(fourth, words[4 * i + 3]);
+    }
+    for i in 4 * count..words.len() {
+        first = mixed(first, words[i]);
+    }
+    mixed(mixed(mixed(first, second), third), fourth)
+}
+
+/// A hash with one word more: a product by 2 to the power of 64 over the golden ratio, whose upper
+/// bits, on which all bits of the word tell, come to be the lower ones.
+fn mixed(hash: u64, word: u64) -> u64 {
+    (hash ^ word)
+        .wrapping_mul(0x9E37_79B9_7F4A_7C15)
+        .rotate_left(32)
 }

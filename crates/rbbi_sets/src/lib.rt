@@ -19,6 +19,8 @@ mod shared_classes;
 mod skip;
 #[cfg(test)]
 mod tests;
+mod word_chunks;
+mod word_rows;
 
 pub use character_set::CharacterSet;
 pub use class_set::ClassSet;

@@ -78,9 +78,25 @@ impl SharedClasses {
         0
     }
 
+    /// How many words, all 0, are left out in front.
+    pub(crate) fn from(&self) -> usize
+        ensures { result ≡ self.now.from }
+    {
+        self.from
+    }
+
+    /// The chunks, one after another.
+    pub(crate) fn chunks(&self) -> &[RcSlice<u64>]
+        ensures words { flat_map rc_slice_items result.now ≡ self.now.words }
+        ensures few { self.now.from + length (flat_map rc_slice_items result.now) ≤ 2 ^ 58 }
+    {
+        self.chunks.as_slice()
+    }
+
     /// How many words the chunks have.
-    fn word_count(&self) -> usize
-        ensures { result ≡ length self.now.words }
+    pub(crate) fn word_count(&self) -> usize
+        ensures count { result ≡ length self.now.words }
+        ensures few { self.now.from + result ≤ 2 ^ 58 }
     {
         let mut count = 0;
         for chunk in self.chunks.as_slice() {

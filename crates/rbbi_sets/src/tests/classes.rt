@@ -1,6 +1,6 @@
 //! Sets of classes, from ranges and back.
 use super::{Case, LAST, Pairs, is_list, set_of};
-use crate::{ClassSet, CodeSet, Layout};
+use crate::{ClassSet, ClassShelf, CodeSet, Layout};
 use std::alloc::{AllocError, Global};
 use std::test::Fail;
 
@@ -11,10 +11,10 @@ fn layout_of(alloc: Global, bounds: &[u32]) -> Result<Layout, AllocError> {
     Layout::new(alloc, Vec::from_slice(alloc, bounds)?)
 }
 
-/// A layout of which each code point below 2,000 is a class of its own, and the others are one.
-fn fine_layout(alloc: Global) -> Result<Layout, AllocError> {
+/// A layout of which each code point before the last bound is a class of its own.
+fn fine_layout(alloc: Global, end: u32) -> Result<Layout, AllocError> {
     let mut bounds = Vec::new(alloc);
-    for bound in 1..2001 {
+    for bound in 1..end {
         bounds.push(bound)?;
     }
     Layout::new(alloc, bounds)
@@ -131,7 +131,7 @@ fn operations(rt: HostRuntime) -> Result<(), Fail> {
             minus: &[(100, 199), (950, 999)],
         },
     ];
-    let layout = fine_layout(rt.alloc())?;
+    let layout = fine_layout(rt.alloc(), 2001)?;
     for case in &cases {
         let left = classes_of(rt.alloc(), &layout, case.left)?;
         let right = classes_of(rt.alloc(), &layout, case.right)?;
@@ -155,15 +155,80 @@ fn operations(rt: HostRuntime) -> Result<(), Fail> {
 }
 
 #[test]
+fn shared_operations(rt: HostRuntime) -> Result<(), Fail> {
+    // The words 1 to 148, in chunks that end before the words 64 and 128.
+    let right: Pairs = &[(100, 110), (4090, 4100), (8190, 8195), (9001, 9500)];
+    // The same ranges, with some before, across the ends of chunks, and past the last chunk.
+    let left: Pairs = &[
+        (0, 63),
+        (4000, 4200),
+        (8191, 8191),
+        (9000, 9001),
+        (9999, LAST),
+    ];
+    let layout = fine_layout(rt.alloc(), 10_001)?;
+    let other = classes_of(rt.alloc(), &layout, right)?;
+    let kept = ClassShelf::new(rt.alloc()).keep(rt.alloc(), &other)?;
+    let set = classes_of(rt.alloc(), &layout, left)?;
+    let mut union = set.clone()?;
+    union.add_shared(rt.alloc(), &kept)?;
+    assert!(rt;
+        is_list(
+            &union.to_set(rt.alloc(), &layout)?,
+            &[
+                (0, 63),
+                (100, 110),
+                (4000, 4200),
+                (8190, 8195),
+                (9000, 9500),
+                (9999, LAST),
+            ]
+        )
+    );
+    let mut both = set.clone()?;
+    both.meet_shared(&kept);
+    assert!(rt;
+        is_list(
+            &both.to_set(rt.alloc(), &layout)?,
+            &[(4090, 4100), (8191, 8191), (9001, 9001),]
+        )
+    );
+    let mut rest = set.clone()?;
+    rest.remove_shared(&kept);
+    assert!(rt;
+        is_list(
+            &rest.to_set(rt.alloc(), &layout)?,
+            &[
+                (0, 63),
+                (4000, 4089),
+                (4101, 4200),
+                (9000, 9000),
+                (9999, LAST),
+            ]
+        )
+    );
+    // A set of fewer words than the shared one.
+    let mut one = classes_of(rt.alloc(), &layout, &[(4095, 4096)])?;
+    one.meet_shared(&kept);
+    assert!(rt; is_list(&one.to_set(rt.alloc(), &layout)?, &[(4095, 4096)]));
+    one.remove_shared(&kept);
+    assert!(rt; is_list(&one.to_set(rt.alloc(), &layout)?, &[]));
+    one.add_shared(rt.alloc(), &kept)?;
+    assert!(rt; is_list(&one.to_set(rt.alloc(), &layout)?, right));
+    Ok(())
+}
+
+#[test]
 fn complements(rt: HostRuntime) -> Result<(), Fail> {
-    let cases: [(Pairs, Pairs); 5] = [
+    let cases: [(Pairs, Pairs); 6] = [
         (&[], &[(0, LAST)]),
+        (&[(700, 701)], &[(0, 699), (702, LAST)]),
         (&[(0, LAST)], &[]),
         (&[(0, 9)], &[(10, LAST)]),
         (&[(1999, LAST)], &[(0, 1998)]),
         (&[(1, 1), (640, 1343)], &[(0, 0), (2, 639), (1344, LAST)]),
     ];
-    let layout = fine_layout(rt.alloc())?;
+    let layout = fine_layout(rt.alloc(), 2001)?;
     for (of, want) in &cases {
         let mut classes = classes_of(rt.alloc(), &layout, of)?;
         classes.negate(rt.alloc(), &layout)?;

@@ -4,6 +4,7 @@ use Rattle.std.proofs.lemmas.Bool.{cases_lt}
 use Rattle.rbbi_sets.specs.Classes.{class_of}
 use Rattle.rbbi_sets.proofs.ClassBounds.{class-within}
 use Rattle.rbbi_sets.proofs.ClassWalks.{zero-has-none}
+use Rattle.rbbi_sets.proofs.ClassWords.{word_at-past}
 use Rattle.rbbi_sets.proofs.class_members.word_count.Goals as goal
 
 pub returns-clause-all : goal.returns-clause-all
@@ -13,5 +14,7 @@ returns-clause-all c = λ code member.
     let within = class-within bounds code in
     elim (cases_lt (class / 64) c.end.result) [
       | inl before ↦ omega (arith, within)
-      | inr from ↦ absurd (zero-has-none bounds c.args.set.now (class / 64) code (c.end.ensures (class / 64) from) refl member)
+      | inr from ↦
+          let past = word_at-past c.args.set.now (class / 64) (omega (arith, c.end.ensures, from)) in
+          absurd (zero-has-none bounds c.args.set.now (class / 64) code past refl member)
     ]

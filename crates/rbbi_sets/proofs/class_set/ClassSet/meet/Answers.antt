@@ -1,31 +1,29 @@
-use Rattle.std.proofs.Common.{◌≡◌, ◌+◌, ◌-◌, ◌<◌, ◌≤◌, ◌/◌, ℕ, List, length, get_or, ◌∙◌, arith, ap, sym}
-use Rattle.std.proofs.lemmas.List.{with_items_is, get_or-take}
+use Rattle.std.proofs.Common.{◌≡◌, ◌+◌, ◌<◌, ◌≤◌, ◌⊎◌, ℕ, length, ◌∙◌, inl, inr, ⊎_elim, arith}
+use Rattle.std.specs.Vec.{with_items}
+use Rattle.std.proofs.lemmas.List.{with_items_is}
 use Rattle.rbbi_sets.specs.Classes.{ClassBits, class_of, word_at}
-use Rattle.rbbi_sets.proofs.ClassRows.{kept_within}
-use Rattle.rbbi_sets.proofs.ClassWords.{bits_of, has_alike}
+use Rattle.rbbi_sets.proofs.ClassMembers.{AreAlike, alike_made, alike_view, met_members}
+use Rattle.rbbi_sets.proofs.ClassWords.{bits_of}
 use Rattle.rbbi_sets.proofs.class_set.ClassSet.meet.Goals as goal
 
 pub returns : goal.returns
 returns c = λ bounds point.
-    let k : ℕ = class_of bounds point in
-    let i : ℕ = k / 64 in
     let from : ℕ = c.self.inside.from in
-    let row : List ℕ = c.self.inside.words.items in
-    let begin = ap (λ (set : ClassBits). set.from) c.other.view_is in
-    let end = ap (λ (set : ClassBits). set.from + length set.words) c.other.view_is in
-    let cleared : (j : ℕ) → c.args.other.now.from - from ≤ j → j < c.args.other.now.from + length c.args.other.now.words - from →
-    get_or c.clear.new.row j 0 ≡ get_or row j 0 = λ j later short.
-    c.clear.ensures.others j (omega (arith, later, begin))
-    ∙ ap (λ (list : List ℕ). get_or list j 0) (c.as_mut_slice-row.ensures.value ∙ c.truncate.ensures.items)
-    ∙ get_or-take c.saturating_sub.result row j 0 (omega (arith, short, end)) in
-    let kept = kept_within from row c.clear.new.row c.args.other.now cleared k in
-    let old = ap (λ (set : ClassBits). word_at set i) c.self.view_is in
-    let made = ap (λ (list : List ℕ). word_at (bits_of from list) i) (with_items_is c.truncate.new.self c.meet_words.new.row (omega arith)) in
-    let met = c.meet_words.ensures k in (
-      λ member.
-          let both = met.0 (has_alike _ (bits_of from c.meet_words.new.row) k made member.1) in
-          ((member.0, has_alike (bits_of from c.clear.new.row) c.args.self.now k (kept both.1 ∙ old) both.0), (member.0, both.1)),
-      λ both.
-          let has = has_alike c.args.self.now (bits_of from c.clear.new.row) k (sym (kept both.1.1 ∙ old)) both.0.1 in
-          (both.0.0, has_alike (bits_of from c.meet_words.new.row) _ k (sym made) (met.1 (has, both.1.1))),
-    )
+    let new : ClassBits = bits_of from c.meet_words.new.row in
+    let made : ClassBits = bits_of from (with_items c.self.inside.words c.meet_words.new.row).items in
+    let those : ClassBits = bits_of c.other.inside.from c.as_slice.result.now in
+    let row : ClassBits = bits_of from c.as_mut_slice-row.result.now in
+    let is : AreAlike made new =
+    alike_made from (with_items c.self.inside.words c.meet_words.new.row).items c.meet_words.new.row
+    (with_items_is c.self.inside.words c.meet_words.new.row (omega arith)) in
+    let given : AreAlike those c.args.other.now =
+    alike_view c.other.inside.from c.as_slice.result.now c.other.inside.words.items c.args.other.now c.as_slice.ensures.value c.other.view_is in
+    let kept : AreAlike row c.keep_words.new.self =
+    alike_view from c.as_mut_slice-row.result.now c.self.inside.words.items c.keep_words.new.self c.as_mut_slice-row.ensures.value c.self.view_is in
+    let inside : (i : ℕ) → those.from ≤ i → i < those.from + length those.words → word_at row i ≡ word_at c.args.self.now i = λ i later short.
+    kept i ∙ c.keep_words.ensures.inside i later (omega (arith, short, c.as_slice.ensures.len, c.len.ensures)) in
+    let outside : (i : ℕ) → (i < those.from) ⊎ (those.from + length those.words ≤ i) → word_at row i ≡ 0 = λ i out.
+    kept i
+    ∙ c.keep_words.ensures.outside i
+    (⊎_elim (λ before. inl before) (λ past. inr (omega (arith, past, c.as_slice.ensures.len, c.len.ensures))) out) in
+    met_members new made those c.args.other.now is given bounds point c.args.self.now row inside outside (c.meet_words.ensures (class_of bounds point))

@@ -35,7 +35,7 @@ loop-range-preserved c =
     record {
       members =
           classes-more bounds c.loop-range.classes c.in-Some.more c.add.new.self ranges i c.range-item.result (omega arith) c.range-item.is
-          c.loop-range.invariant.members more (c.in_ok-add-in-Some.ensures bounds);
+          c.loop-range.invariant.members more (c.in_ok-add-in-Some.ensures.members bounds);
       whole = AllWithin-more Whole ranges 0 i c.loop-range.invariant.whole (at_read ranges Whole i c.range-item.result (omega arith) c.range-item.is here);
     }
 

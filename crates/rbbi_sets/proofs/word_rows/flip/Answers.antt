@@ -1,6 +1,6 @@
 use Rattle.std.proofs.Common.{ℕ, ◌<◌, ◌^◌, get_or, Fits, w64, arith, rules}
 use Rattle.rbbi_sets.proofs.ClassRows.{has_others}
-use Rattle.rbbi_sets.proofs.class_set.flip.Goals as goal
+use Rattle.rbbi_sets.proofs.word_rows.flip.Goals as goal
 
 pub returns : goal.returns
 returns c =

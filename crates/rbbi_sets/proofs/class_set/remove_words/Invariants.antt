@@ -1,8 +1,0 @@
-use Rattle.std.proofs.Common.{ℕ, max}
-use Rattle.std.specs.Prelude.{bit_and}
-use Rattle.std.specs.Int.{bit_not, w64}
-use Rattle.rbbi_sets.proofs.ClassRows.{AreCombined}
-use Rattle.rbbi_sets.proofs.class_set.remove_words.Given as goal
-
-abbrev pub invariant-loop-i : goal.invariant-loop-i
-invariant-loop-i l = AreCombined (λ (these those : ℕ). bit_and these (bit_not w64 those)) l.from l.initial.row l.row l.other (max l.from l.other.from) l.i
