@@ -9,7 +9,8 @@ ghost use Rattle.rbbi_resolve.specs.SetValues.{IsValue, HasMembers};
 ghost use Rattle.rbbi_resolve.specs.ClassValues.{IsClassValue};
 ghost use Rattle.rbbi_resolve.specs.Parts.{parts_of_expr, parts_of_seq, parts_of_item};
 ghost use Rattle.rbbi_resolve.specs.Faults.{faults_of_parts, is_empty_value};
-ghost use Rattle.rbbi_resolve.specs.Scopes.{IsScope, context_of};
+ghost use Rattle.rbbi_resolve.specs.Scopes.{IsScope, bounds_of, context_of};
+ghost use Rattle.rbbi_resolve.specs.Covered.{AreCovered};
 ghost use Rattle.rbbi_resolve.specs.Soundness.{AreSound};
 ghost use Rattle.rbbi_resolve.specs.OwnLeaves.{AddsLeaves, leaves_of_expr, leaves_of_seq};
 ghost use Rattle.rbbi_resolve.specs.OwnLeaves.{leaves_of_item};
@@ -33,7 +34,9 @@ pub(crate) fn add_leaves(
     sets: &mut Vec<CodeSet>,
     expr: &Expr,
 ) -> Result<(), AllocError>
-    requires { IsScope properties.old scope.now }
+    requires scope { IsScope properties.old scope.now }
+    requires covered { AreCovered properties.old (bounds_of scope.now)
+        (parts_of_expr (expr_tree expr.now)) }
     ensures added { OnOk result (AreSound (context_of properties.old scope.now)
         → faults_of_parts (context_of properties.old scope.now)
         (parts_of_expr (expr_tree expr.now)) ≡ []
@@ -57,7 +60,9 @@ fn add_leaves_of_seq(
     sets: &mut Vec<CodeSet>,
     seq: &Seq,
 ) -> Result<(), AllocError>
-    requires { IsScope properties.old scope.now }
+    requires scope { IsScope properties.old scope.now }
+    requires covered { AreCovered properties.old (bounds_of scope.now)
+        (parts_of_seq (seq_tree seq.now)) }
     ensures added { OnOk result (AreSound (context_of properties.old scope.now)
         → faults_of_parts (context_of properties.old scope.now)
         (parts_of_seq (seq_tree seq.now)) ≡ []
@@ -81,7 +86,9 @@ fn add_leaves_of_item(
     sets: &mut Vec<CodeSet>,
     item: &Item,
 ) -> Result<(), AllocError>
-    requires { IsScope properties.old scope.now }
+    requires scope { IsScope properties.old scope.now }
+    requires covered { AreCovered properties.old (bounds_of scope.now)
+        (parts_of_item (item_tree item.now)) }
     ensures added { OnOk result (AreSound (context_of properties.old scope.now)
         → faults_of_parts (context_of properties.old scope.now)
         (parts_of_item (item_tree item.now)) ≡ []
