@@ -19,6 +19,7 @@ use Rattle.rbbi_resolve.specs.Switchings.{AreSwitches}
 use Rattle.rbbi_resolve.specs.Countings.{AreCounting, slash_of}
 use Rattle.rbbi_resolve.specs.declared.classes.Classes.{Classes}
 use Rattle.rbbi_resolve.specs.ClassValues.{AreClasses}
+use Rattle.rbbi_resolve.specs.Covered.{CoversAll}
 use Rattle.rbbi_resolve.specs.Readings.{IsReadTo}
 use Rattle.rbbi_resolve.proofs.Counted.{passed_at_end}
 use Rattle.rbbi_resolve.proofs.Lawful.{within}
@@ -49,10 +50,11 @@ none_at_start files statements name = λ limit low. let e : limit ≡ 0 = omega 
 pub read_none : (files : List File) (classes : Classes) (ignored : Bool) (statements : List StatementTree) (variables : Variables) (switches : Switches)
     (counts : declared.Counts) → ((name : List ℕ) → get_by_text variables name ≡ None) →
     AreSwitches switches (start files) → ((all : List RuleMeaning) → AreCounting counts all all) → AreClasses files classes →
-    IsReadTo files classes ignored statements variables None switches counts 0
-read_none files classes ignored statements variables switches counts none is counting classified =
+    CoversAll files (rc_value classes.layout) statements → IsReadTo files classes ignored statements variables None switches counts 0
+read_none files classes ignored statements variables switches counts none is counting classified covered =
     record {
       classified = classified;
+      covered = covered;
       defined = record {
         each = λ name. subst (λ v. MatchOption v (IsUnassigned files statements 0 name) (IsDefinedBy files (rc_value classes.layout) statements 0 name))
             (sym (none name)) (none_at_start files statements name);

@@ -1,6 +1,7 @@
 -- The trees of the variants that have values inside.
 use Rattle.std.proofs.Common.{◌≡◌, ℕ, Bool, List, Option, sym, ◌∙◌, ap}
 use Rattle.rbbi_tree.specs.Trees.{SetItemTree, PartsTree, SetSyntax, PartTree, ExprTree, SeqTree, ItemTree, AtomTree, set_property, set_within, character}
+use Rattle.rbbi_tree.specs.Trees.{set_character, set_range}
 use Rattle.rbbi_tree.specs.Trees.{quoted, any, name, property, set, group}
 use Rattle.rbbi_tree.specs.Values.{set_item_tree, set_tree, atom_tree, expr_tree, set_item_step, parts_step, set_step, part_step, atom_step, expr_step}
 use Rattle.rbbi_tree.specs.Values.{item_step, seq_step}
@@ -20,6 +21,16 @@ pub of_property : (negated : Bool) (word : List ℕ) (value : Option (List ℕ))
 of_property negated word value =
     ap set_item_tree (sym (item_variants.rolls-Prop negated word value))
     ∙ fold-roll-SetItem SetItemTree PartsTree SetSyntax PartTree set_item_step parts_step set_step part_step (SetItem-F.Prop negated word value)
+
+pub of_character : (c : ℕ) → set_item_tree (item.Char c) ≡ set_character c
+of_character c =
+    ap set_item_tree (sym (item_variants.rolls-Char c))
+    ∙ fold-roll-SetItem SetItemTree PartsTree SetSyntax PartTree set_item_step parts_step set_step part_step (SetItem-F.Char c)
+
+pub of_range : (first last : ℕ) → set_item_tree (item.Range first last) ≡ set_range first last
+of_range first last =
+    ap set_item_tree (sym (item_variants.rolls-Range first last))
+    ∙ fold-roll-SetItem SetItemTree PartsTree SetSyntax PartTree set_item_step parts_step set_step part_step (SetItem-F.Range first last)
 
 pub of_inner : (inner : SetExpr) → set_item_tree (item.Set inner) ≡ set_within (set_tree inner)
 of_inner inner =

@@ -8,6 +8,8 @@ pub mod Characters
 pub mod Counting
 pub mod Kept
 pub mod SetFolds
+pub mod Covering
+pub mod Collecting
 pub mod ItemTrees
 pub mod OneMeaning
 pub mod Earliest

@@ -229,6 +229,7 @@ step files classes ignored statements n s variables variables' least least' swit
     let left : drop n statements ≡ s ∷ rest = left_here statements n s at in
     record {
       classified = read.classified;
+      covered = read.covered;
       defined = are;
       noted_so_far =
           ap (λ l. noted l (faults_from ignored k' rest)) note

@@ -15,6 +15,7 @@ use Rattle.rbbi_resolve.specs.Faults.{faults_of_parts}
 use Rattle.rbbi_resolve.specs.Files.{context_at, faults_of}
 use Rattle.rbbi_resolve.specs.Scopes.{AreVariables, bounds_of}
 use Rattle.rbbi_resolve.specs.ClassValues.{AreClasses}
+use Rattle.rbbi_resolve.specs.Covered.{CoversAll}
 use Rattle.rbbi_resolve.specs.Soundness.{AreSound}
 use Rattle.rbbi_resolve.specs.RuleLists.{IsLeafSet}
 use Rattle.rbbi_resolve.specs.RuleTrees.{tree_of, numbers_of}
@@ -74,6 +75,7 @@ pub record GoesOn (files : List File) (statements : List StatementTree) (sets se
 pub record IsReady (files : List File) (scope : Scope) : Type 0 where
   pub end : ℕ
   pub classes : AreClasses files scope.classes.now
+  pub covered : CoversAll files (bounds_of scope) (statement_trees scope.statements.now)
   pub variables : AreVariables files (bounds_of scope) (statement_trees scope.statements.now) scope.variables.now end
   pub low : scope.limit ≤ end
   pub ignored : Bool

@@ -25,5 +25,6 @@ pub mod RulesSoFar
 pub mod Outcomes
 pub mod Questions
 pub mod ClassValues
+pub mod Covered
 pub mod TextCharacters
 pub mod Laws

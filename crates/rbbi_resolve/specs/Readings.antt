@@ -11,6 +11,7 @@ use Rattle.rbbi_resolve.specs.declared.file.Reading.{Reading}
 use Rattle.rbbi_resolve.specs.declared.classes.Classes.{Classes}
 use Rattle.rbbi_resolve.specs.Faults.{noted}
 use Rattle.rbbi_resolve.specs.ClassValues.{AreClasses}
+use Rattle.rbbi_resolve.specs.Covered.{CoversAll}
 use Rattle.rbbi_resolve.specs.Files.{context_at, faults_from, faults_of, rules_from, active_rules}
 use Rattle.rbbi_resolve.specs.Scopes.{Variables, AreVariables}
 use Rattle.rbbi_resolve.specs.Switchings.{AreSwitches}
@@ -21,6 +22,7 @@ use Rattle.rbbi_resolve.specs.Countings.{AreCounting}
 pub record IsReadTo (files : List File) (classes : Classes) (ignored : Bool) (statements : List StatementTree) (variables : Variables) (least : Option Fault)
     (switches : Switches) (counts : declared.Counts) (number : ℕ) : Type 0 where
   pub classified : AreClasses files classes
+  pub covered : CoversAll files (rc_value classes.layout) statements
   pub defined : AreVariables files (rc_value classes.layout) statements variables number
   pub noted_so_far : noted least (faults_from ignored (context_at files statements number) (drop number statements)) ≡ noted None
       (faults_of files ignored statements)

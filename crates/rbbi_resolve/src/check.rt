@@ -16,6 +16,8 @@ ghost use Rattle.rbbi_resolve.specs.Expressions.{meaning_of_atom, meaning_of_var
 ghost use Rattle.rbbi_resolve.specs.Expressions.{height_of_expr, height_of_seq, height_of_item};
 ghost use Rattle.rbbi_resolve.specs.Expressions.{height_of_atom, height_of_variable, variable_for};
 ghost use Rattle.rbbi_resolve.specs.Parts.{Outside, parts_of_expr, parts_of_seq, parts_of_item};
+ghost use Rattle.rbbi_resolve.specs.Parts.{parts_of_set, parts_in_atom};
+ghost use Rattle.rbbi_resolve.specs.Covered.{AreCovered};
 ghost use Rattle.rbbi_resolve.specs.Faults.{noted_parts, is_empty_value};
 ghost use Rattle.rbbi_resolve.specs.Scopes.{IsScope, KnowsQuotes, IsKindOf, bounds_of, context_of};
 ghost use Rattle.rbbi_resolve.specs.Summaries.{Summarizes};
@@ -41,6 +43,8 @@ pub(crate) fn check_expr(
 ) -> Result<Summary, AllocError>
     requires scope { IsScope properties.old scope.now }
     requires quotes { KnowsQuotes properties.old scope.now }
+    requires covered { AreCovered properties.old (bounds_of scope.now)
+        (parts_of_expr (expr_tree expr.now)) }
     ensures noted { OnOk result (least.new ≡ noted_parts
         (context_of properties.old scope.now) least.old
         (parts_of_expr (expr_tree expr.now))) }
@@ -68,6 +72,8 @@ fn check_seq(
 ) -> Result<Summary, AllocError>
     requires scope { IsScope properties.old scope.now }
     requires quotes { KnowsQuotes properties.old scope.now }
+    requires covered { AreCovered properties.old (bounds_of scope.now)
+        (parts_of_seq (seq_tree seq.now)) }
     ensures noted { OnOk result (least.new ≡ noted_parts
         (context_of properties.old scope.now) least.old
         (parts_of_seq (seq_tree seq.now))) }
@@ -95,6 +101,8 @@ fn check_item(
 ) -> Result<Summary, AllocError>
     requires scope { IsScope properties.old scope.now }
     requires quotes { KnowsQuotes properties.old scope.now }
+    requires covered { AreCovered properties.old (bounds_of scope.now)
+        (parts_of_item (item_tree item.now)) }
     ensures noted { OnOk result (least.new ≡ noted_parts
         (context_of properties.old scope.now) least.old
         (parts_of_item (item_tree item.now))) }
@@ -119,6 +127,8 @@ fn check_atom(
 ) -> Result<Summary, AllocError>
     requires scope { IsScope properties.old scope.now }
     requires quotes { KnowsQuotes properties.old scope.now }
+    requires covered { AreCovered properties.old (bounds_of scope.now)
+        (parts_in_atom (atom_tree atom.now)) }
     ensures noted { OnOk result ((quant : Quant) →
         least.new ≡ noted_parts (context_of properties.old scope.now) least.old
         (parts_of_item (placed place (atom_tree atom.now) quant))) }
@@ -218,7 +228,9 @@ pub(crate) fn check_set(
     place: u32,
     set: &SetExpr,
 ) -> Result<Option<ClassSet>, AllocError>
-    requires { IsScope properties.old scope.now }
+    requires scope { IsScope properties.old scope.now }
+    requires covered { AreCovered properties.old (bounds_of scope.now)
+        (parts_of_set (set_tree set.now)) }
     ensures noted { OnOk result ((quant : Quant) →
         least.new ≡ noted_parts (context_of properties.old scope.now) least.old
         (parts_of_item (placed place (set_atom (set_tree set.now)) quant))) }

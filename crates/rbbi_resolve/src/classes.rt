@@ -3,9 +3,11 @@ ghost use Rattle.std.specs.Prelude.{◌≡◌, List, IfOk, IfSome};
 ghost use Rattle.std.specs.Rc.{rc_value};
 ghost use Rattle.rbbi_props.specs.Rows.{File};
 ghost use Rattle.rbbi_resolve.specs.SetValues.{value_of_property};
+ghost use Rattle.rbbi_tree.specs.Values.{statement_trees};
 ghost use Rattle.rbbi_resolve.specs.ClassValues.{AreClasses, IsClassValue};
+ghost use Rattle.rbbi_resolve.specs.Covered.{CoversAll};
 
-use crate::collect::collect_statement;
+use crate::collect::{Collection, collect_statement};
 use crate::properties::Properties;
 use crate::question::Question;
 use indexmap::IndexMap;
@@ -24,9 +26,6 @@ pub(crate) struct PropertyClasses {
 
 /// The classes of a rule file: a bound of the layout stands wherever a range or a property of the
 /// file begins or ends. So each set of the file holds of a class all or nothing.
-///
-/// That no bound is missed rests on the walk of `collect`, and on no contract. A set with a bound
-/// that the layout lacked would be answered as if memory had run out.
 #[derive(Drop)]
 pub(crate) struct Classes {
     pub(crate) layout: Rc<Layout>,
@@ -42,16 +41,25 @@ impl Classes {
         statements: &Statements,
     ) -> Result<Classes, AllocError>
         ensures classes { IfOk result (AreClasses properties.old) }
+        ensures covers { IfOk result (λ classes.
+            CoversAll properties.old (rc_value classes.layout) (statement_trees statements.now)) }
         ensures same { properties.new ≡ properties.old }
     {
-        let mut bounds = Vec::new(alloc);
+        let mut collection = Collection {
+            bounds: Vec::new(alloc),
+        };
         for number in 0..statements.len() {
-            collect_statement(alloc, properties, &mut bounds, statements.get(number))?;
+            collect_statement(alloc, properties, &mut collection, statements.get(number))?;
         }
+        let Collection { mut bounds } = collection;
         properties.collect(&mut bounds)?;
-        let layout = Rc::new(alloc, Layout::new(alloc, bounds)?)?;
-        let sets = properties.by_classes(alloc, layout.as_ref())?;
-        Ok(Classes { layout, sets })
+        let layout = Layout::new(alloc, bounds)?;
+        let sets = properties.by_classes(alloc, &layout)?;
+        let shared = Rc::new(alloc, layout)?;
+        Ok(Classes {
+            layout: shared,
+            sets,
+        })
     }
 
     /// The set of a property under its key, and None where another property has that key.

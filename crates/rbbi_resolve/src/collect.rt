@@ -1,31 +1,45 @@
 //! The bounds of the ranges in the sets of a rule file, and its properties.
-ghost use Rattle.std.specs.Prelude.{◌≡◌};
+ghost use Rattle.std.specs.Prelude.{◌≡◌, ◌+◌, ◌++◌, ◌∷◌, [], OnOk};
+ghost use Rattle.rbbi_tree.specs.Values.{statement_tree, expr_tree, seq_tree, item_tree};
+ghost use Rattle.rbbi_tree.specs.Values.{set_tree, part_tree};
+ghost use Rattle.rbbi_resolve.specs.Parts.{parts_of_expr, parts_of_seq, parts_of_item};
+ghost use Rattle.rbbi_resolve.specs.Parts.{parts_of_set, parts_of_part};
+ghost use Rattle.rbbi_resolve.specs.Covered.{Collects, parts_of_statement};
 
 use crate::properties::Properties;
 use rbbi_text::Word;
-use rbbi_tree::{Atom, Expr, SetExpr, SetItem, Statement};
+use rbbi_tree::{Atom, Expr, Item, Seq, SetExpr, SetItem, SetPart, Statement};
 use std::alloc::{AllocError, Global};
+
+/// What a walk over statements collected.
+#[derive(Drop)]
+pub(crate) struct Collection {
+    /// Where the ranges begin, and what follows their ends.
+    pub(crate) bounds: Vec<u32>,
+}
 
 /// Adds the bounds of the ranges in the sets of a statement, and looks its properties up.
 pub(crate) fn collect_statement(
     alloc: Global,
     properties: &mut Properties,
-    bounds: &mut Vec<u32>,
+    collection: &mut Collection,
     statement: &Statement,
 ) -> Result<(), AllocError>
-    ensures { properties.new ≡ properties.old }
+    ensures collected { OnOk result (Collects properties.old collection.old collection.new
+        (parts_of_statement (statement_tree statement.now))) }
+    ensures same { properties.new ≡ properties.old }
 {
     match statement {
         Statement::Nothing => Ok(()),
         Statement::Control { .. } => Ok(()),
         Statement::Assign { expr, .. } => {
-            collect_expr(alloc, properties, bounds, expr)?;
+            collect_expr(alloc, properties, collection, expr)?;
             Ok(())
         }
         Statement::Rule { front, rest, .. } => {
-            collect_expr(alloc, properties, bounds, front)?;
+            collect_expr(alloc, properties, collection, front)?;
             if let Some(rest) = rest {
-                collect_expr(alloc, properties, bounds, rest)?;
+                collect_expr(alloc, properties, collection, rest)?;
             }
             Ok(())
         }
@@ -37,30 +51,50 @@ pub(crate) fn collect_statement(
 fn collect_expr(
     alloc: Global,
     properties: &mut Properties,
-    bounds: &mut Vec<u32>,
+    collection: &mut Collection,
     expr: &Expr,
 ) -> Result<(), AllocError>
-    ensures { properties.new ≡ properties.old }
+    ensures collected { OnOk result (Collects properties.old collection.old collection.new
+        (parts_of_expr (expr_tree expr.now))) }
+    ensures same { properties.new ≡ properties.old }
 {
     for seq in &expr.items {
-        for item in &seq.items {
-            collect_atom(alloc, properties, bounds, &item.atom)?;
-        }
+        collect_seq(alloc, properties, collection, seq)?;
     }
     Ok(())
 }
 
-/// Adds those of an atom.
+/// Adds those of a sequence.
 #[cycle(collect)]
-fn collect_atom(
+fn collect_seq(
     alloc: Global,
     properties: &mut Properties,
-    bounds: &mut Vec<u32>,
-    atom: &Atom,
+    collection: &mut Collection,
+    seq: &Seq,
 ) -> Result<(), AllocError>
-    ensures { properties.new ≡ properties.old }
+    ensures collected { OnOk result (Collects properties.old collection.old collection.new
+        (parts_of_seq (seq_tree seq.now))) }
+    ensures same { properties.new ≡ properties.old }
 {
-    match atom {
+    for item in &seq.items {
+        collect_item(alloc, properties, collection, item)?;
+    }
+    Ok(())
+}
+
+/// Adds those of an item.
+#[cycle(collect)]
+fn collect_item(
+    alloc: Global,
+    properties: &mut Properties,
+    collection: &mut Collection,
+    item: &Item,
+) -> Result<(), AllocError>
+    ensures collected { OnOk result (Collects properties.old collection.old collection.new
+        (parts_of_item (item_tree item.now))) }
+    ensures same { properties.new ≡ properties.old }
+{
+    match &item.atom {
         Atom::Char { .. } => Ok(()),
         Atom::Quoted(_) => Ok(()),
         Atom::Any => Ok(()),
@@ -74,11 +108,11 @@ fn collect_atom(
             Ok(())
         }
         Atom::Set(set) => {
-            collect_set(alloc, properties, bounds, set)?;
+            collect_set(alloc, properties, collection, set)?;
             Ok(())
         }
         Atom::Group(inner) => {
-            collect_expr(alloc, properties, bounds, inner)?;
+            collect_expr(alloc, properties, collection, inner)?;
             Ok(())
         }
     }
@@ -89,34 +123,38 @@ fn collect_atom(
 fn collect_set(
     alloc: Global,
     properties: &mut Properties,
-    bounds: &mut Vec<u32>,
+    collection: &mut Collection,
     set: &SetExpr,
 ) -> Result<(), AllocError>
-    ensures { properties.new ≡ properties.old }
+    ensures collected { OnOk result (Collects properties.old collection.old collection.new
+        (parts_of_set (set_tree set.now))) }
+    ensures same { properties.new ≡ properties.old }
 {
     for part in &set.parts.items {
-        collect_item(alloc, properties, bounds, &part.item)?;
+        collect_part(alloc, properties, collection, part)?;
     }
     Ok(())
 }
 
-/// Adds those of an item of a set.
+/// Adds those of a part of a set.
 #[cycle(collect_sets)]
-fn collect_item(
+fn collect_part(
     alloc: Global,
     properties: &mut Properties,
-    bounds: &mut Vec<u32>,
-    item: &SetItem,
+    collection: &mut Collection,
+    part: &SetPart,
 ) -> Result<(), AllocError>
-    ensures { properties.new ≡ properties.old }
+    ensures collected { OnOk result (Collects properties.old collection.old collection.new
+        (parts_of_part (part_tree part.now))) }
+    ensures same { properties.new ≡ properties.old }
 {
-    match item {
+    match &part.item {
         SetItem::Char(c) => {
-            push_bounds(bounds, *c, *c)?;
+            push_bounds(collection, *c, *c)?;
             Ok(())
         }
         SetItem::Range(first, last) => {
-            push_bounds(bounds, *first, *last)?;
+            push_bounds(collection, *first, *last)?;
             Ok(())
         }
         SetItem::Name(_) => Ok(()),
@@ -129,7 +167,7 @@ fn collect_item(
             Ok(())
         }
         SetItem::Set(inner) => {
-            collect_set(alloc, properties, bounds, inner)?;
+            collect_set(alloc, properties, collection, inner)?;
             Ok(())
         }
     }
@@ -150,10 +188,13 @@ fn look_up(
 }
 
 /// Adds the bounds of a range: its first code point, and that behind its last.
-fn push_bounds(bounds: &mut Vec<u32>, first: char, last: char) -> Result<(), AllocError> {
+fn push_bounds(collection: &mut Collection, first: char, last: char) -> Result<(), AllocError>
+    ensures { OnOk result (collection.new.bounds.items
+        ≡ collection.old.bounds.items ++ first ∷ (last + 1) ∷ []) }
+{
     let low = first as u32;
     let end = last as u32 + 1;
-    bounds.push(low)?;
-    bounds.push(end)?;
+    collection.bounds.push(low)?;
+    collection.bounds.push(end)?;
     Ok(())
 }

@@ -10,7 +10,8 @@ ghost use Rattle.rbbi_resolve.specs.SetValues.{IsValue, HasMembers};
 ghost use Rattle.rbbi_resolve.specs.ClassValues.{IsClassValue};
 ghost use Rattle.rbbi_resolve.specs.Parts.{parts_of_expr, parts_of_seq, parts_of_item};
 ghost use Rattle.rbbi_resolve.specs.Faults.{faults_of_parts, is_empty_value};
-ghost use Rattle.rbbi_resolve.specs.Scopes.{IsScope, context_of};
+ghost use Rattle.rbbi_resolve.specs.Scopes.{IsScope, bounds_of, context_of};
+ghost use Rattle.rbbi_resolve.specs.Covered.{AreCovered};
 ghost use Rattle.rbbi_resolve.specs.Soundness.{AreSound};
 ghost use Rattle.rbbi_resolve.specs.OwnLeaves.{AddsLeaves, leaves_of_expr, leaves_of_seq};
 ghost use Rattle.rbbi_resolve.specs.OwnLeaves.{leaves_of_item};
@@ -35,7 +36,9 @@ pub(crate) fn add_leaves(
     sets: &mut Vec<CharacterSet>,
     expr: &Expr,
 ) -> Result<(), AllocError>
-    requires { IsScope properties.old scope.now }
+    requires scope { IsScope properties.old scope.now }
+    requires covered { AreCovered properties.old (bounds_of scope.now)
+        (parts_of_expr (expr_tree expr.now)) }
     ensures added { OnOk result (AreSound (context_of properties.old scope.now)
         → faults_of_parts (context_of properties.old scope.now)
         (parts_of_expr (expr_tree expr.now)) ≡ []
@@ -59,7 +62,9 @@ fn add_leaves_of_seq(
     sets: &mut Vec<CharacterSet>,
     seq: &Seq,
 ) -> Result<(), AllocError>
-    requires { IsScope properties.old scope.now }
+    requires scope { IsScope properties.old scope.now }
+    requires covered { AreCovered properties.old (bounds_of scope.now)
+        (parts_of_seq (seq_tree seq.now)) }
     ensures added { OnOk result (AreSound (context_of properties.old scope.now)
         → faults_of_parts (context_of properties.old scope.now)
         (parts_of_seq (seq_tree seq.now)) ≡ []
@@ -83,7 +88,9 @@ fn add_leaves_of_item(
     sets: &mut Vec<CharacterSet>,
     item: &Item,
 ) -> Result<(), AllocError>
-    requires { IsScope properties.old scope.now }
+    requires scope { IsScope properties.old scope.now }
+    requires covered { AreCovered properties.old (bounds_of scope.now)
+        (parts_of_item (item_tree item.now)) }
     ensures added { OnOk result (AreSound (context_of properties.old scope.now)
         → faults_of_parts (context_of properties.old scope.now)
         (parts_of_item (item_tree item.now)) ≡ []

@@ -5,6 +5,7 @@ ghost use Rattle.rbbi_resolve.specs.Expressions.{variable_for};
 ghost use Rattle.rbbi_resolve.specs.Parts.{parts_of_expr};
 ghost use Rattle.rbbi_resolve.specs.Faults.{faults_of_parts};
 ghost use Rattle.rbbi_resolve.specs.Scopes.{IsScope, IsKindOf, bounds_of, context_of};
+ghost use Rattle.rbbi_resolve.specs.Covered.{AreCovered};
 ghost use Rattle.rbbi_resolve.specs.Soundness.{AreSound};
 ghost use Rattle.rbbi_resolve.specs.OwnLeaves.{AddsLeaves, leaves_of_expr};
 ghost use Rattle.rbbi_resolve.specs.LoneSets.{IsLoneSet};
@@ -33,6 +34,8 @@ pub(crate) fn add_own_leaves(
     requires scope { IsScope properties.old scope.now }
     requires kept { IfSome kept (λ kind. IsKindOf properties.old (bounds_of scope.now) kind.now
         (variable_for (context_of properties.old scope.now) (expr_tree expr.now))) }
+    requires covered { AreCovered properties.old (bounds_of scope.now)
+        (parts_of_expr (expr_tree expr.now)) }
     ensures added { OnOk result (AreSound (context_of properties.old scope.now)
         → faults_of_parts (context_of properties.old scope.now)
         (parts_of_expr (expr_tree expr.now)) ≡ []

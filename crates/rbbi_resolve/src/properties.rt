@@ -1,12 +1,12 @@
 //! The sets of properties, each looked up once.
-ghost use Rattle.std.specs.Prelude.{◌≡◌, IfOk, IfSome, OnOk, IsTrue};
+ghost use Rattle.std.specs.Prelude.{◌≡◌, ℕ, IfOk, IfSome, OnOk, IsTrue};
 ghost use Rattle.std.specs.Rc.{rc_value};
 ghost use Rattle.rbbi_props.specs.Lookups.{IsSetOf};
 ghost use Rattle.rbbi_resolve.specs.SetValues.{IsValue, value_of_property, found};
 ghost use Rattle.rbbi_resolve.specs.Questions.{IsAnswer};
 ghost use Rattle.rbbi_resolve.specs.ClassValues.{IsKnown, IsDivided};
 ghost use Rattle.std.specs.HashMap.{values};
-ghost use Rattle.std.specs.List.{All};
+ghost use Rattle.std.specs.List.{All, Contains};
 
 use crate::classes::PropertyClasses;
 use crate::division::{Divided, divide_once};
@@ -140,7 +140,10 @@ impl<'a> Properties<'a> {
     }
 
     /// Adds the bounds of the sets that were found.
-    pub(crate) fn collect(&self, bounds: &mut Vec<u32>) -> Result<(), AllocError> {
+    pub(crate) fn collect(&self, bounds: &mut Vec<u32>) -> Result<(), AllocError>
+        ensures { OnOk result ((bound : ℕ) → Contains bounds.old.items bound
+            → Contains bounds.new.items bound) }
+    {
         for set in &self.found {
             if let Some(set) = set.as_ref() {
                 push_all_bounds(bounds, set.ranges())?;
@@ -189,7 +192,10 @@ impl<'a> Properties<'a> {
 }
 
 /// Adds the bounds of ranges.
-fn push_all_bounds(bounds: &mut Vec<u32>, ranges: &[CodeRange]) -> Result<(), AllocError> {
+fn push_all_bounds(bounds: &mut Vec<u32>, ranges: &[CodeRange]) -> Result<(), AllocError>
+    ensures { OnOk result ((bound : ℕ) → Contains bounds.old.items bound
+        → Contains bounds.new.items bound) }
+{
     for range in ranges {
         bounds.push(range.low)?;
         bounds.push(range.high.saturating_add(1))?;

@@ -2,16 +2,18 @@
 ghost use Rattle.std.specs.Prelude.{◌≡◌, ◌≤◌, ◌↔◌, ℕ, nat_lt, List, Option, [], ◌∷◌, Some, IfOk, OnOk};
 ghost use Rattle.std.specs.Prelude.{option_map};
 ghost use Rattle.rbbi_model.specs.SetTrees as model;
-ghost use Rattle.rbbi_sets.specs.Classes.{HasMember};
+ghost use Rattle.rbbi_sets.specs.Classes.{HasMember, AreWholeClasses};
 ghost use Rattle.rbbi_props.specs.Rows.{File};
 ghost use Rattle.rbbi_tree.specs.Trees.{joined, set_name};
 ghost use Rattle.rbbi_tree.specs.Values.{set_tree, set_item_tree};
 ghost use Rattle.rbbi_tree.specs.declared.syntax.Join as trees;
+ghost use Rattle.rbbi_tree.specs.declared.syntax.Join.TheVariants.{Add};
 ghost use Rattle.rbbi_resolve.specs.SetValues.{joined_to, signed, value_of_set, value_of_item};
 ghost use Rattle.rbbi_resolve.specs.SetValues.{value_of_range, value_of_property};
 ghost use Rattle.rbbi_resolve.specs.ClassValues.{IsClassValue};
 ghost use Rattle.rbbi_resolve.specs.Contexts.{value_of_name};
 ghost use Rattle.rbbi_resolve.specs.Parts.{Within, parts_of_set, parts_of_part};
+ghost use Rattle.rbbi_resolve.specs.Covered.{AreCovered, IsWhole};
 ghost use Rattle.rbbi_resolve.specs.Faults.{noted, noted_parts, faults_where};
 ghost use Rattle.rbbi_resolve.specs.Scopes.{IsScope, bounds_of, context_of};
 
@@ -35,7 +37,9 @@ pub(crate) fn value_of_set(
     least: &mut Option<Fault>,
     set: &SetExpr,
 ) -> Result<Option<ClassSet>, AllocError>
-    requires { IsScope properties.old scope.now }
+    requires scope { IsScope properties.old scope.now }
+    requires covered { AreCovered properties.old (bounds_of scope.now)
+        (parts_of_set (set_tree set.now)) }
     ensures value { IfOk result (λ value. IsClassValue properties.old (bounds_of scope.now)
         (value_of_set properties.old (value_of_name (context_of properties.old scope.now))
         (set_tree set.now)) value) }
@@ -63,7 +67,9 @@ fn value_of_item(
     place: u32,
     item: &SetItem,
 ) -> Result<Option<ClassSet>, AllocError>
-    requires { IsScope properties.old scope.now }
+    requires scope { IsScope properties.old scope.now }
+    requires covered { AreCovered properties.old (bounds_of scope.now)
+        (parts_of_part (joined place Add (set_item_tree item.now))) }
     ensures value { IfOk result (λ value. IsClassValue properties.old (bounds_of scope.now)
         (value_of_item properties.old (value_of_name (context_of properties.old scope.now))
         (set_item_tree item.now)) value) }
@@ -102,8 +108,7 @@ fn value_of_item(
     }
 }
 
-/// The code points from `low` to `high`. Where the layout lacks a bound of theirs, which it doesn't
-/// for those of its file, that is answered as if memory had run out.
+/// The code points from `low` to `high`, which are whole classes.
 fn classes_of_range(
     alloc: Global,
     layout: &Layout,
@@ -112,13 +117,12 @@ fn classes_of_range(
 ) -> Result<ClassSet, AllocError>
     requires ordered { low ≤ high }
     requires code_points { high ≤ 0x10FFFF }
+    requires whole { AreWholeClasses layout.now low high }
     ensures { IfOk result (λ set. (c : ℕ) →
         HasMember layout.now set c ↔ ((low ≤ c) × (c ≤ high))) }
 {
-    match ClassSet::range(alloc, layout, low, high)? {
-        Some(set) => Ok(set),
-        None => Err(AllocError),
-    }
+    let set = ClassSet::range(alloc, layout, low, high)?;
+    Ok(set.unwrap())
 }
 
 /// The value of a range. Notes where its first character is greater than its last.
@@ -130,6 +134,7 @@ fn value_of_range(
     first: char,
     last: char,
 ) -> Result<Option<ClassSet>, AllocError>
+    requires { IsWhole layout.now first last }
     ensures value { IfOk result (λ value. (files : List File) →
         IsClassValue files layout.now (value_of_range first last) value) }
     ensures noted { OnOk result (least.new ≡ noted least.old

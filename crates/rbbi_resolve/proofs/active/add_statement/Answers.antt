@@ -21,6 +21,9 @@ use Rattle.rbbi_resolve.proofs.Steps.{tree_at, meant}
 use Rattle.rbbi_resolve.proofs.Building.{part_more, goes_nowhere, goes_further}
 use Rattle.rbbi_resolve.proofs.RulesBuilt.{statement_built, rule_fresh}
 use Rattle.rbbi_resolve.proofs.Ending.{switches_kept}
+use Rattle.rbbi_resolve.specs.Scopes.{bounds_of}
+use Rattle.rbbi_resolve.specs.Covered.{AreCovered, parts_of_rest}
+use Rattle.rbbi_resolve.proofs.Covering.{covered_left, covered_right}
 use Rattle.rbbi_resolve.proofs.active.add_statement.Goals as goal
 use Rattle.rbbi_resolve.proofs.active.add_statement.Goals.{After-get, In-Rule}
 
@@ -156,3 +159,23 @@ returns-in_ok-push-in-Rule-clause-added c =
     (subst (λ b. AllZip (IsRuleBuilt files last) (if b then means ∷ [] else []) (new ∷ [])) (sym active) (built, tt))
     c.in_ok-push-in-Rule.ensures.items
     (rule_fresh files (length sets) (length mid) mid last (meaning_of_expr k front) (option_map (meaning_of_expr k) rest) new refl own behind)
+
+-- the expressions of an active rule are covered
+covered : (c : In-Rule) →
+    AreCovered c.args.builder.now.properties (bounds_of c.args.scope.now) (parts_of_expr (expr_tree c.in-Rule.front) ++ parts_of_rest (rest_tree c.in-Rule.rest))
+covered c =
+    let xs = c.args.scope.now.statements.now in
+    let n = c.args.scope.now.limit in
+    c.requires.ready.covered.each n _ (tree_at xs n _ (c.get.ensures ∙ ap Some c.in-Rule.is))
+
+pub tree-requires-clause-covered : goal.tree-requires-clause-covered
+tree-requires-clause-covered c =
+    covered_left c.args.builder.now.properties (bounds_of c.args.scope.now) (parts_of_expr (expr_tree c.in-Rule.front)) (parts_of_rest (rest_tree c.in-Rule.rest))
+    (covered (goal.at.tree-requires-clause-covered c).In-Rule)
+
+pub tree_of_rest-requires-clause-covered : goal.tree_of_rest-requires-clause-covered
+tree_of_rest-requires-clause-covered c =
+    let rest = parts_of_rest (rest_tree c.in-Rule.rest) in
+    subst (λ f. AreCovered f (bounds_of c.args.scope.now) rest) (sym c.in_ok-front-in-Rule.ensures.same)
+    (covered_right c.args.builder.now.properties (bounds_of c.args.scope.now) (parts_of_expr (expr_tree c.in-Rule.front)) rest
+    (covered (goal.at.tree_of_rest-requires-clause-covered c).In-Rule))

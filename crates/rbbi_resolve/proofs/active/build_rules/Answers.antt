@@ -5,6 +5,7 @@ use Rattle.rbbi_tree.specs.Values.{statement_trees}
 use Rattle.rbbi_resolve.specs.Files.{active_rules, context_at, faults_of}
 use Rattle.rbbi_resolve.specs.Scopes.{AreVariables}
 use Rattle.rbbi_resolve.specs.ClassValues.{AreClasses}
+use Rattle.rbbi_resolve.specs.Covered.{CoversAll}
 use Rattle.rbbi_resolve.specs.RuleLists.{RuleList, rules_of}
 use Rattle.rbbi_resolve.specs.Outcomes.{Means}
 use Rattle.rbbi_resolve.specs.RulesSoFar.{AreAllRules}
@@ -29,6 +30,7 @@ rules_with_trees-requires-clause-ready c =
     record {
       end = length r.statements.now;
       classes = subst (λ f. AreClasses f r.classes) back c.requires.reading.classified;
+      covered = subst (λ f. CoversAll f (rc_value r.classes.layout) T) back c.requires.reading.covered;
       variables = variables;
       low = omega (arith, c.len.ensures);
       ignored = r.dictionary_ignored;

@@ -32,6 +32,7 @@ add_statement-requires-clause-ready c =
     record {
       end = r.end;
       classes = r.classes;
+      covered = r.covered;
       variables = r.variables;
       low = omega arith;
       ignored = r.ignored;

@@ -10,6 +10,14 @@ use Rattle.rbbi_resolve.proofs.Noting.{noted_parts_of_append}
 use Rattle.rbbi_resolve.proofs.ItemTrees.{atom_of_property, atom_of_set, atom_of_group}
 use Rattle.rbbi_resolve.proofs.Kept.{files_stay}
 use Rattle.rbbi_resolve.proofs.Counting.{expr_turn, seq_turn, expr_gives, seq_gives, repeated_sums}
+use Rattle.std.proofs.Common.{◌<◌}
+use Rattle.rbbi_tree.specs.Values.{seq_tree, item_tree}
+use Rattle.rbbi_resolve.specs.Parts.{parts_of_seq, parts_in_atom}
+use Rattle.rbbi_resolve.specs.Covered.{AreCovered}
+use Rattle.rbbi_resolve.specs.Scopes.{IsScope, KnowsQuotes, bounds_of}
+use Rattle.rbbi_resolve.proofs.Counting.{expr_by_items, seq_by_items}
+use Rattle.rbbi_resolve.proofs.Weights.{size_of_expr, size_of_seq, size_of_item, size_of_atom, smaller_seq, smaller_item, smaller_atom}
+use Rattle.rbbi_resolve.proofs.Covering.{covered_seq, covered_item, covered_atom}
 use Rattle.rbbi_resolve.proofs.check.+check.Goals as goal
 
 pub check_expr-loop-seq-init : goal.check_expr-loop-seq-init
@@ -131,3 +139,58 @@ check_atom-returns-in_ok-whole-in-Group-clause-counts t c =
     let k = context_of c.args.properties.now c.args.scope.now in
     let e : atom_tree c.args.atom.now ≡ group (expr_tree c.in-Group.inner) = let i = c.in-Group.is in ap atom_tree i ∙ atom_of_group c.in-Group.inner in
     subst (λ a. Summarizes c.higher.result (meaning_of_atom k a) (height_of_atom k a)) (sym e) (c.higher.ensures _ _ _ c.in_ok-whole-in-Group.ensures.counts)
+
+pub check_expr-check_seq-requires : goal.check_expr-check_seq-requires
+check_expr-check_seq-requires t c =
+    let scope = c.args.scope.now in
+    let files = c.args.properties.now in
+    let l = c.loop-seq in
+    let xs = c.deref-seq-items.result.now in
+    let p = c.seq-item.result in
+    let inside : l.seq-index < length xs = omega arith in
+    let part = smaller_seq xs l.seq-index p inside c.seq-item.is in
+    let size = ap size_of_expr (expr_by_items c.args.expr.now _ c.deref-seq-items.ensures.value) in
+    let smaller : size_of_seq (seq_tree p) < size_of_expr (expr_tree c.args.expr.now) = omega arith in
+    let back = sym l.invariant.same in
+    let is_scope : IsScope l.properties scope = subst (λ f. IsScope f scope) back c.requires.scope in
+    let knows : KnowsQuotes l.properties scope = subst (λ f. KnowsQuotes f scope) back c.requires.quotes in
+    let covered : AreCovered l.properties (bounds_of scope) (parts_of_seq (seq_tree p)) =
+    covered_seq files l.properties (bounds_of scope) l.invariant.same c.args.expr.now xs l.seq-index p c.requires.covered c.deref-seq-items.ensures.value
+    c.seq-item.is inside in
+    search rules
+
+pub check_seq-check_item-requires : goal.check_seq-check_item-requires
+check_seq-check_item-requires t c =
+    let scope = c.args.scope.now in
+    let files = c.args.properties.now in
+    let l = c.loop-item in
+    let xs = c.deref-item-items.result.now in
+    let p = c.item-item.result in
+    let inside : l.item-index < length xs = omega arith in
+    let part = smaller_item xs l.item-index p inside c.item-item.is in
+    let size = ap size_of_seq (seq_by_items c.args.seq.now _ c.deref-item-items.ensures.value) in
+    let smaller : size_of_item (item_tree p) < size_of_seq (seq_tree c.args.seq.now) = omega arith in
+    let back = sym l.invariant.same in
+    let is_scope : IsScope l.properties scope = subst (λ f. IsScope f scope) back c.requires.scope in
+    let knows : KnowsQuotes l.properties scope = subst (λ f. KnowsQuotes f scope) back c.requires.quotes in
+    let covered : AreCovered l.properties (bounds_of scope) (parts_of_item (item_tree p)) =
+    covered_item files l.properties (bounds_of scope) l.invariant.same c.args.seq.now xs l.item-index p c.requires.covered c.deref-item-items.ensures.value
+    c.item-item.is inside in
+    search rules
+
+pub check_item-check_atom-requires : goal.check_item-check_atom-requires
+check_item-check_atom-requires t c =
+    let smaller = smaller_atom c.args.item.now in
+    let covered = covered_atom c.args.properties.now (bounds_of c.args.scope.now) c.args.item.now c.requires.covered in
+    search rules
+
+pub check_atom-check_expr-requires : goal.check_atom-check_expr-requires
+check_atom-check_expr-requires t c =
+    let files = c.args.properties.now in
+    let bounds = bounds_of c.args.scope.now in
+    let inner = expr_tree c.in-Group.inner in
+    let e : atom_tree c.args.atom.now ≡ group inner = let i = c.in-Group.is in ap atom_tree i ∙ atom_of_group c.in-Group.inner in
+    let size = ap size_of_atom e in
+    let smaller : size_of_expr inner < size_of_atom (atom_tree c.args.atom.now) = omega arith in
+    let covered : AreCovered files bounds (parts_of_expr inner) = subst (λ a. AreCovered files bounds (parts_in_atom a)) e c.requires.covered in
+    search rules

@@ -12,6 +12,10 @@ use Rattle.rbbi_resolve.specs.Scopes.{bounds_of, context_of}
 use Rattle.rbbi_resolve.specs.Definitions.{AreSetOf}
 use Rattle.rbbi_resolve.proofs.ItemTrees.{atom_of_property, atom_of_set}
 use Rattle.rbbi_resolve.proofs.Kept.{files_stay}
+use Rattle.std.proofs.Common.{[], ◌∷◌}
+use Rattle.rbbi_resolve.specs.Parts.{Outside, parts_of_set}
+use Rattle.rbbi_resolve.specs.Covered.{AreCovered}
+use Rattle.rbbi_resolve.proofs.Covering.{covered_left}
 use Rattle.rbbi_resolve.proofs.definition.check_lone_atom.Goals as goal
 
 pub returns-in_ok-kept-in-Prop-clause-noted : goal.returns-in_ok-kept-in-Prop-clause-noted
@@ -50,3 +54,11 @@ returns-in_ok-kept-in-Set-clause-value c =
     (subst (λ a. AreSetOf files (bounds_of c.args.scope.now) (set_of_atom k a) (Some c.in_ok-value-in-Set.value)) (sym e)
     (subst (λ f. IsClassValue files (bounds_of c.args.scope.now) (value_of_set f (value_of_name k) (set_tree c.in-Set.set)) c.in_ok-value-in-Set.value) (sym (files_stay files _ _))
     c.in_ok-value-in-Set.ensures.value))
+
+pub check_set-requires-clause-covered : goal.check_set-requires-clause-covered
+check_set-requires-clause-covered c =
+    let files = c.args.properties.now in
+    let bounds = bounds_of c.args.scope.now in
+    let e : atom_tree c.args.atom.now ≡ set (set_tree c.in-Set.set) = let i = c.in-Set.is in ap atom_tree i ∙ atom_of_set c.in-Set.set in
+    covered_left files bounds (parts_of_set (set_tree c.in-Set.set)) (Outside c.args.place (set (set_tree c.in-Set.set)) ∷ [])
+    (subst (λ a. AreCovered files bounds (parts_of_item (placed c.args.place a Once))) e c.requires.covered)

@@ -13,6 +13,11 @@ use Rattle.rbbi_resolve.proofs.ItemTrees.{atom_of_property, atom_of_set, atom_of
 use Rattle.rbbi_resolve.proofs.Kept.{files_stay}
 use Rattle.rbbi_resolve.proofs.Sound.{faultless_first}
 use Rattle.rbbi_resolve.proofs.Adding.{adding_expr, adding_seq, property_leaf, set_leaf, no_leaves}
+use Rattle.std.proofs.Common.{◌<◌, length, rules}
+use Rattle.rbbi_resolve.specs.Covered.{AreCovered}
+use Rattle.rbbi_resolve.specs.Scopes.{IsScope, bounds_of}
+use Rattle.rbbi_resolve.proofs.Weights.{size_of_expr, size_of_seq, size_of_item, smaller_seq, smaller_item}
+use Rattle.rbbi_resolve.proofs.Covering.{covered_seq, covered_item, covered_set, covered_group}
 use Rattle.rbbi_resolve.proofs.leaves.+leaves.Goals as goal
 
 pub add_leaves-loop-seq-init : goal.add_leaves-loop-seq-init
@@ -98,3 +103,51 @@ add_leaves_of_item-returns-in_ok-add_leaves-in-Group-clause-added t c =
     (c.in_ok-add_leaves-in-Group.ensures.added sound
     (faultless_first k (parts_of_expr (expr_tree c.in-Group.inner)) (Outside c.args.item.now.place (group (expr_tree c.in-Group.inner)) ∷ [])
     (subst (λ i. faults_of_parts k (parts_of_item i) ≡ []) e faultless)))
+
+pub add_leaves-add_leaves_of_seq-requires : goal.add_leaves-add_leaves_of_seq-requires
+add_leaves-add_leaves_of_seq-requires t c =
+    let scope = c.args.scope.now in
+    let files = c.args.properties.now in
+    let l = c.loop-seq in
+    let xs = c.deref-seq-items.result.now in
+    let p = c.seq-item.result in
+    let inside : l.seq-index < length xs = omega arith in
+    let part = smaller_seq xs l.seq-index p inside c.seq-item.is in
+    let size = ap size_of_expr (expr_by_items c.args.expr.now _ c.deref-seq-items.ensures.value) in
+    let smaller : size_of_seq (seq_tree p) < size_of_expr (expr_tree c.args.expr.now) = omega arith in
+    let is_scope : IsScope l.properties scope = subst (λ f. IsScope f scope) (sym l.invariant.same) c.requires.scope in
+    let covered : AreCovered l.properties (bounds_of scope) (parts_of_seq (seq_tree p)) =
+    covered_seq files l.properties (bounds_of scope) l.invariant.same c.args.expr.now xs l.seq-index p c.requires.covered c.deref-seq-items.ensures.value
+    c.seq-item.is inside in
+    search rules
+
+pub add_leaves_of_seq-add_leaves_of_item-requires : goal.add_leaves_of_seq-add_leaves_of_item-requires
+add_leaves_of_seq-add_leaves_of_item-requires t c =
+    let scope = c.args.scope.now in
+    let files = c.args.properties.now in
+    let l = c.loop-item in
+    let xs = c.deref-item-items.result.now in
+    let p = c.item-item.result in
+    let inside : l.item-index < length xs = omega arith in
+    let part = smaller_item xs l.item-index p inside c.item-item.is in
+    let size = ap size_of_seq (seq_by_items c.args.seq.now _ c.deref-item-items.ensures.value) in
+    let smaller : size_of_item (item_tree p) < size_of_seq (seq_tree c.args.seq.now) = omega arith in
+    let is_scope : IsScope l.properties scope = subst (λ f. IsScope f scope) (sym l.invariant.same) c.requires.scope in
+    let covered : AreCovered l.properties (bounds_of scope) (parts_of_item (item_tree p)) =
+    covered_item files l.properties (bounds_of scope) l.invariant.same c.args.seq.now xs l.item-index p c.requires.covered c.deref-item-items.ensures.value
+    c.item-item.is inside in
+    search rules
+
+pub add_leaves_of_item-value_of_set-requires-clause-covered : goal.add_leaves_of_item-value_of_set-requires-clause-covered
+add_leaves_of_item-value_of_set-requires-clause-covered t c =
+    covered_set c.args.properties.now (bounds_of c.args.scope.now) c.args.item.now c.in-Set.set c.in-Set.is c.requires.covered
+
+pub add_leaves_of_item-add_leaves-requires : goal.add_leaves_of_item-add_leaves-requires
+add_leaves_of_item-add_leaves-requires t c =
+    let e : item_tree c.args.item.now ≡ placed c.args.item.now.place (group (expr_tree c.in-Group.inner)) c.args.item.now.quant =
+    item_tree_out c.args.item.now ∙ ap (λ a. placed c.args.item.now.place a c.args.item.now.quant) (let i =
+    c.in-Group.is in ap atom_tree i ∙ atom_of_group c.in-Group.inner) in
+    let size = ap size_of_item e in
+    let smaller : size_of_expr (expr_tree c.in-Group.inner) < size_of_item (item_tree c.args.item.now) = omega arith in
+    let covered = covered_group c.args.properties.now (bounds_of c.args.scope.now) c.args.item.now c.in-Group.inner c.in-Group.is c.requires.covered in
+    search rules

@@ -5,7 +5,18 @@ use Rattle.rbbi_resolve.specs.Parts.{parts_of_expr, parts_of_seq}
 use Rattle.rbbi_resolve.specs.Scopes.{context_of}
 use Rattle.rbbi_resolve.specs.OwnLeaves.{leaves_of_expr, leaves_of_seq}
 use Rattle.rbbi_resolve.proofs.Adding.{IsAdding}
+use Rattle.rbbi_tree.specs.Values.{expr_tree}
+use Rattle.rbbi_resolve.proofs.Weights.{size_of_expr, size_of_seq, size_of_item}
 use Rattle.rbbi_resolve.proofs.leaves.+leaves.Given as goal
+
+abbrev pub decreases-add_leaves : goal.decreases-add_leaves
+decreases-add_leaves l = size_of_expr (expr_tree l.expr.now)
+
+abbrev pub decreases-add_leaves_of_seq : goal.decreases-add_leaves_of_seq
+decreases-add_leaves_of_seq l = size_of_seq (seq_tree l.seq.now)
+
+abbrev pub decreases-add_leaves_of_item : goal.decreases-add_leaves_of_item
+decreases-add_leaves_of_item l = size_of_item (item_tree l.item.now)
 
 abbrev pub invariant-add_leaves-loop-seq : goal.invariant-add_leaves-loop-seq
 invariant-add_leaves-loop-seq l =

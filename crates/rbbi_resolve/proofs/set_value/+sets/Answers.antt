@@ -8,6 +8,15 @@ use Rattle.rbbi_resolve.proofs.ItemTrees.{of_property, of_inner}
 use Rattle.rbbi_resolve.proofs.Kept.{files_stay}
 use Rattle.rbbi_resolve.proofs.Named.{within_noted, known_classes, property_noted}
 use Rattle.rbbi_resolve.proofs.SetFolds.{folding_starts, folding_turn, folding_gives}
+use Rattle.std.proofs.Common.{◌<◌, length, map, subst}
+use Rattle.rbbi_tree.specs.Trees.{parts_of}
+use Rattle.rbbi_tree.specs.Values.{part_tree}
+use Rattle.rbbi_tree.specs.declared.syntax.Join.TheVariants.{Add}
+use Rattle.rbbi_resolve.specs.Covered.{AreCovered}
+use Rattle.rbbi_resolve.specs.Scopes.{IsScope}
+use Rattle.rbbi_resolve.proofs.SetLoops.{set_is}
+use Rattle.rbbi_resolve.proofs.Weights.{size_of_set, size_of_parts, size_of_member, smaller_member}
+use Rattle.rbbi_resolve.proofs.Covering.{covered_part, covered_inner}
 use Rattle.rbbi_resolve.proofs.set_value.+sets.Goals as goal
 
 pub value_of_set-loop-part-init : goal.value_of_set-loop-part-init
@@ -56,3 +65,30 @@ value_of_item-returns-in_ok-value-in-Set-clause-noted t c =
     c.in_ok-value-in-Set.ensures.noted
     ∙ within_noted k old c.args.place join (set_tree c.in-Set.inner)
     ∙ ap (λ i. noted_parts k old (parts_of_part (joined c.args.place join i))) (sym e)
+
+pub value_of_set-value_of_item-requires : goal.value_of_set-value_of_item-requires
+value_of_set-value_of_item-requires t c =
+    let scope = c.args.scope.now in
+    let files = c.args.properties.now in
+    let l = c.loop-part in
+    let xs = c.deref-part-items.result.now in
+    let p = c.part-item.result in
+    let inside : l.part-index < length xs = omega arith in
+    let part = smaller_member xs l.part-index p inside c.part-item.is in
+    let size = ap size_of_set (set_is c.args.set.now) in
+    let own = ap (λ ps. size_of_parts (parts_of (map part_tree ps))) c.deref-part-items.ensures.value in
+    let smaller : size_of_member (set_item_tree p.item) < size_of_set (set_tree c.args.set.now) = omega arith in
+    let is_scope : IsScope l.properties scope = subst (λ f. IsScope f scope) (sym l.invariant.same) c.requires.scope in
+    let covered : AreCovered l.properties (bounds_of scope) (parts_of_part (joined p.place Add (set_item_tree p.item))) =
+    covered_part files l.properties (bounds_of scope) l.invariant.same c.args.set.now xs l.part-index p c.requires.covered c.deref-part-items.ensures.value
+    c.part-item.is inside in
+    search rules
+
+pub value_of_item-value_of_set-requires : goal.value_of_item-value_of_set-requires
+value_of_item-value_of_set-requires t c =
+    let inner = c.in-Set.inner in
+    let i : set_item_tree c.args.item.now ≡ set_within (set_tree inner) = let s = c.in-Set.is in ap set_item_tree s ∙ of_inner inner in
+    let size = ap size_of_member i in
+    let smaller : size_of_set (set_tree inner) < size_of_member (set_item_tree c.args.item.now) = omega arith in
+    let covered = covered_inner c.args.properties.now (bounds_of c.args.scope.now) c.args.place c.args.item.now inner c.in-Set.is c.requires.covered in
+    search rules

@@ -3,7 +3,15 @@ use Rattle.rbbi_tree.specs.Trees.{parts_of}
 use Rattle.rbbi_tree.specs.Values.{part_tree}
 use Rattle.rbbi_resolve.specs.Scopes.{bounds_of, context_of}
 use Rattle.rbbi_resolve.proofs.SetFolds.{IsFolding}
+use Rattle.rbbi_tree.specs.Values.{set_tree, set_item_tree}
+use Rattle.rbbi_resolve.proofs.Weights.{size_of_set, size_of_member}
 use Rattle.rbbi_resolve.proofs.set_value.+sets.Given as goal
+
+abbrev pub decreases-value_of_set : goal.decreases-value_of_set
+decreases-value_of_set l = size_of_set (set_tree l.set.now)
+
+abbrev pub decreases-value_of_item : goal.decreases-value_of_item
+decreases-value_of_item l = size_of_member (set_item_tree l.item.now)
 
 abbrev pub invariant-value_of_set-loop-part : goal.invariant-value_of_set-loop-part
 invariant-value_of_set-loop-part l =

@@ -85,6 +85,7 @@ tree_of_atom-definition-requires t c =
     record {
       end = r.end;
       classes = r.classes;
+      covered = r.covered;
       variables = r.variables;
       low = omega (arith, r.low, below);
       ignored = r.ignored;

@@ -105,3 +105,6 @@ returns c =
       properties = c.in_ok-kind.ensures.same;
       ignored = refl;
     }
+
+pub check_definition-requires-clause-covered : goal.check_definition-requires-clause-covered
+check_definition-requires-clause-covered c = c.requires.reading.covered.each c.args.number _ c.requires.at

@@ -7,6 +7,9 @@ use Rattle.rbbi_resolve.specs.Files.{RuleMeaning, context_at, rule_in}
 use Rattle.rbbi_resolve.specs.Countings.{AreCounting}
 use Rattle.rbbi_resolve.specs.Readings.{IsReadTo}
 use Rattle.rbbi_resolve.proofs.Steps.{step, context_next, stay_variables, meant, rest_there}
+use Rattle.rbbi_resolve.specs.Parts.{parts_of_expr}
+use Rattle.rbbi_resolve.specs.Covered.{parts_of_rest}
+use Rattle.rbbi_resolve.proofs.Covering.{covered_left, covered_right}
 use Rattle.rbbi_resolve.proofs.file.Reading.read_rule.Goals as goal
 use Rattle.rbbi_resolve.proofs.file.Reading.read_rule.Goals.{In_ok-whole}
 
@@ -60,3 +63,15 @@ returns-else-self c =
       properties = c.in_ok-whole.ensures.same;
       ignored = refl;
     }
+
+pub check_rule-requires-clause-front : goal.check_rule-requires-clause-front
+check_rule-requires-clause-front c =
+    let r = c.args.self.now in
+    covered_left r.properties (rc_value r.classes.layout) (parts_of_expr (expr_tree c.args.front.now)) (parts_of_rest (rest_tree c.args.rest.now))
+    (c.requires.reading.covered.each c.args.number _ c.requires.at)
+
+pub check_rule-requires-clause-rest : goal.check_rule-requires-clause-rest
+check_rule-requires-clause-rest c =
+    let r = c.args.self.now in
+    covered_right r.properties (rc_value r.classes.layout) (parts_of_expr (expr_tree c.args.front.now)) (parts_of_rest (rest_tree c.args.rest.now))
+    (c.requires.reading.covered.each c.args.number _ c.requires.at)

@@ -1,0 +1,37 @@
+use Rattle.std.proofs.Common.{◌≡◌, ◌<◌, length, ◌∙◌, subst, arith, rules}
+use Rattle.std.specs.Rc.{rc_value}
+use Rattle.std.proofs.lemmas.List.{length-map}
+use Rattle.std.proofs.lemmas.Option.{slice_get_within}
+use Rattle.rbbi_tree.specs.Values.{statement_tree, statement_trees}
+use Rattle.rbbi_resolve.specs.Covered.{Collects, parts_of_statement}
+use Rattle.rbbi_resolve.proofs.Covering.{covered_kept}
+use Rattle.rbbi_resolve.proofs.Collecting.{statements_covered}
+use Rattle.rbbi_resolve.proofs.classes.Classes.of.Goals as goal
+
+pub loop-number-preserved : goal.loop-number-preserved
+loop-number-preserved c =
+    let files = c.args.properties.now in
+    let l = c.loop-number in
+    let collects = subst (λ f. Collects f l.collection c.collect_statement.new.collection (parts_of_statement (statement_tree c.get.result.now)))
+    l.invariant.same c.in_ok-collect_statement.ensures.collected in
+    record {
+      same = c.in_ok-collect_statement.ensures.same ∙ l.invariant.same;
+      covers = statements_covered files l.collection c.collect_statement.new.collection c.args.statements.now l.number c.get.result.now c.get.ensures collects
+          l.invariant.covers;
+    }
+
+pub returns-clause-covers : goal.returns-clause-covers
+returns-clause-covers c =
+    let files = c.args.properties.now in
+    let l = c.loop-number in
+    let statements = statement_trees c.args.statements.now in
+    let long : length statements ≡ length c.args.statements.now = simp length-map in
+    let test = c.loop-number-test.false in
+    let shared : rc_value c.in_ok-shared.shared ≡ c.in_ok-layout.layout = search rules in
+    rw shared (record {
+      each = λ number s at.
+          let inside = slice_get_within statements number s at in
+          let before : number < l.number = omega (arith, c.len-number-end.ensures) in
+          covered_kept files l.collection.bounds.items c.in_ok-layout.layout (parts_of_statement s)
+          (λ bound has above below. (c.in_ok-layout.ensures bound).1 (c.in_ok-collect.ensures bound has, above, below)) (l.invariant.covers number s before at);
+    })
