@@ -25,6 +25,7 @@ pub mod RulesSoFar
 pub mod Outcomes
 pub mod Questions
 pub mod ClassValues
+pub mod Worths
 pub mod Covered
 pub mod TextCharacters
 pub mod Laws

@@ -11,6 +11,7 @@ ghost use Rattle.rbbi_tree.specs.declared.syntax.Join.TheVariants.{Add};
 ghost use Rattle.rbbi_resolve.specs.SetValues.{joined_to, signed, value_of_set, value_of_item};
 ghost use Rattle.rbbi_resolve.specs.SetValues.{value_of_range, value_of_property};
 ghost use Rattle.rbbi_resolve.specs.ClassValues.{IsClassValue};
+ghost use Rattle.rbbi_resolve.specs.Worths.{classes_of};
 ghost use Rattle.rbbi_resolve.specs.Contexts.{value_of_name};
 ghost use Rattle.rbbi_resolve.specs.Parts.{Within, parts_of_set, parts_of_part};
 ghost use Rattle.rbbi_resolve.specs.Covered.{AreCovered, IsWhole};
@@ -27,6 +28,13 @@ use rbbi_sets::{ClassSet, Layout, SharedClasses};
 use rbbi_text::Word;
 use rbbi_tree::{Join, SetExpr, SetItem};
 use std::alloc::{AllocError, Global};
+
+/// What an item of a set is worth: a set of its own, or that which a variable keeps.
+#[derive(Debug, Drop)]
+enum Worth<'a> {
+    Own(ClassSet),
+    Kept(&'a SharedClasses),
+}
 
 /// The value of a set, and None where a part of it has none. The faults of its parts are noted.
 #[cycle(sets)]
@@ -59,20 +67,20 @@ pub(crate) fn value_of_set(
 
 /// The value of an item of a set, and None where it has none. Its faults are noted.
 #[cycle(sets)]
-fn value_of_item(
+fn value_of_item<'a>(
     alloc: Global,
-    scope: &Scope,
+    scope: &Scope<'a>,
     properties: &mut Properties,
     least: &mut Option<Fault>,
     place: u32,
     item: &SetItem,
-) -> Result<Option<ClassSet>, AllocError>
+) -> Result<Option<Worth<'a>>, AllocError>
     requires scope { IsScope properties.old scope.now }
     requires covered { AreCovered properties.old (bounds_of scope.now)
         (parts_of_part (joined place Add (set_item_tree item.now))) }
     ensures value { IfOk result (λ value. IsClassValue properties.old (bounds_of scope.now)
         (value_of_item properties.old (value_of_name (context_of properties.old scope.now))
-        (set_item_tree item.now)) value) }
+        (set_item_tree item.now)) (option_map classes_of value)) }
     ensures noted { OnOk result ((join : trees.Join) → least.new ≡ noted_parts
         (context_of properties.old scope.now) least.old
         (parts_of_part (joined place join (set_item_tree item.now)))) }
@@ -82,16 +90,13 @@ fn value_of_item(
         SetItem::Char(c) => {
             let code = *c as u32;
             let value = classes_of_range(alloc, scope.layout(), code, code)?;
-            Ok(Some(value))
+            Ok(Some(Worth::Own(value)))
         }
         SetItem::Range(first, last) => {
             let value = value_of_range(alloc, scope.layout(), least, place, *first, *last)?;
-            Ok(value)
+            Ok(own(value))
         }
-        SetItem::Name(name) => {
-            let value = value_of_variable(alloc, scope, least, place, name)?;
-            Ok(value)
-        }
+        SetItem::Name(name) => { Ok(value_of_variable(scope, least, place, name)) }
         SetItem::Prop {
             negated,
             name,
@@ -99,12 +104,22 @@ fn value_of_item(
         } => {
             let found = value_of_property(alloc, scope, properties, *negated, name, value)?;
             note_where(least, found.is_none(), place, 7);
-            Ok(found)
+            Ok(own(found))
         }
         SetItem::Set(inner) => {
             let value = value_of_set(alloc, scope, properties, least, inner)?;
-            Ok(value)
+            Ok(own(value))
         }
+    }
+}
+
+/// A set of its own, where there is one.
+fn own<'a>(value: Option<ClassSet>) -> Option<Worth<'a>>
+    ensures { option_map classes_of result ≡ value }
+{
+    match value {
+        Some(set) => Some(Worth::Own(set)),
+        None => None,
     }
 }
 
@@ -151,45 +166,41 @@ fn value_of_range(
 }
 
 /// The value of a name in a set. Notes where it has none.
-fn value_of_variable(
-    alloc: Global,
-    scope: &Scope,
+fn value_of_variable<'a>(
+    scope: &Scope<'a>,
     least: &mut Option<Fault>,
     place: u32,
     name: &Word,
-) -> Result<Option<ClassSet>, AllocError>
-    ensures value { IfOk result (λ value. (files : List File) → IsScope files scope.now
+) -> Option<Worth<'a>>
+    ensures value { (files : List File) → IsScope files scope.now
         → IsClassValue files (bounds_of scope.now)
-        (value_of_name (context_of files scope.now) name.now) value) }
-    ensures noted { OnOk result ((files : List File) → IsScope files scope.now
+        (value_of_name (context_of files scope.now) name.now) (option_map classes_of result) }
+    ensures noted { (files : List File) → IsScope files scope.now
         → least.new ≡ noted_parts (context_of files scope.now) least.old
-        (Within place (set_name name.now) ∷ [])) }
+        (Within place (set_name name.now) ∷ []) }
 {
     match scope.variable(name) {
         Some(variable) => match &variable.kind {
-            Kind::Set(value) => {
-                let whole = whole_of(alloc, value)?;
-                Ok(whole)
-            }
+            Kind::Set(value) => kept(value),
             Kind::Expression(_) => {
                 note(least, place, 6);
-                Ok(None)
+                None
             }
         },
         None => {
             note(least, place, 5);
-            Ok(None)
+            None
         }
     }
 }
 
-/// The set of a variable by itself, where there is one.
-fn whole_of(alloc: Global, value: &Option<SharedClasses>) -> Result<Option<ClassSet>, AllocError>
-    ensures { IfOk result (λ whole. whole ≡ value.now) }
+/// The set that a variable keeps, where there is one.
+fn kept(value: &Option<SharedClasses>) -> Option<Worth<'_>>
+    ensures { option_map classes_of result ≡ value.now }
 {
     match value {
-        Some(set) => Ok(Some(set.to_classes(alloc)?)),
-        None => Ok(None),
+        Some(set) => Some(Worth::Kept(set)),
+        None => None,
     }
 }
 
@@ -226,31 +237,86 @@ fn join(
     alloc: Global,
     left: Option<ClassSet>,
     join: Join,
-    item: Option<ClassSet>,
+    item: Option<Worth>,
 ) -> Result<Option<ClassSet>, AllocError>
     ensures { IfOk result (λ whole. (files : List File) (bounds : List ℕ)
         (left_tree item_tree : Option model.SetTree) → IsClassValue files bounds left_tree left
-        → IsClassValue files bounds item_tree item
+        → IsClassValue files bounds item_tree (option_map classes_of item.entry)
         → IsClassValue files bounds (joined_to join item_tree left_tree) whole) }
 {
-    let Some(mut whole) = left else {
+    let Some(left) = left else {
         return Ok(None);
     };
-    let Some(item) = item else {
-        return Ok(None);
-    };
+    match item {
+        Some(Worth::Own(item)) => {
+            let whole = join_own(alloc, left, join, item)?;
+            Ok(Some(whole))
+        }
+        Some(Worth::Kept(item)) => {
+            let whole = join_kept(alloc, left, join, item)?;
+            Ok(Some(whole))
+        }
+        None => Ok(None),
+    }
+}
+
+/// What stands to the left with a set joined to it.
+fn join_own(
+    alloc: Global,
+    left: ClassSet,
+    join: Join,
+    item: ClassSet,
+) -> Result<ClassSet, AllocError>
+    ensures { IfOk result (λ whole. (files : List File) (bounds : List ℕ)
+        (left_tree item_tree : Option model.SetTree)
+        → IsClassValue files bounds left_tree (Some left)
+        → IsClassValue files bounds item_tree (Some item)
+        → IsClassValue files bounds (joined_to join item_tree left_tree) (Some whole)) }
+{
+    let mut whole = left;
     match join {
         Join::Add => {
             let either = whole.union(alloc, item)?;
-            Ok(Some(either))
+            Ok(either)
         }
         Join::Both => {
             whole.meet(&item);
-            Ok(Some(whole))
+            Ok(whole)
         }
         Join::Minus => {
             whole.remove(&item);
-            Ok(Some(whole))
+            Ok(whole)
+        }
+    }
+}
+
+/// What stands to the left with the set of a variable joined to it, which isn't copied but where
+/// the whole stands on it.
+fn join_kept(
+    alloc: Global,
+    left: ClassSet,
+    join: Join,
+    item: &SharedClasses,
+) -> Result<ClassSet, AllocError>
+    ensures { IfOk result (λ whole. (files : List File) (bounds : List ℕ)
+        (left_tree item_tree : Option model.SetTree)
+        → IsClassValue files bounds left_tree (Some left)
+        → IsClassValue files bounds item_tree (Some item.now)
+        → IsClassValue files bounds (joined_to join item_tree left_tree) (Some whole)) }
+{
+    let mut whole = left;
+    match join {
+        Join::Add => {
+            let either = whole.union_shared(alloc, item)?;
+            Ok(either)
+        }
+        Join::Both => {
+            whole.meet_shared(item);
+            Ok(whole)
+        }
+        Join::Minus => {
+            whole.remove_shared(item);
+            Ok(whole)
         }
     }
 }

@@ -123,6 +123,22 @@ impl ClassSet {
         Ok(whole)
     }
 
+    /// What is in either set, in the words of the one that has more of them, which are copied where
+    /// they are the other's.
+    pub fn union_shared(self, alloc: Global, other: &SharedClasses) -> Result<ClassSet, AllocError>
+        ensures { IfOk result (λ set. (bounds : List ℕ) (c : ℕ) → HasMember bounds set c
+            ↔ (HasMember bounds self c ⊎ HasMember bounds other.now c)) }
+    {
+        if self.words.len() < other.word_count() {
+            let mut whole = other.to_classes(alloc)?;
+            whole.add(alloc, &self)?;
+            return Ok(whole);
+        }
+        let mut whole = self;
+        whole.add_shared(alloc, other)?;
+        Ok(whole)
+    }
+
     /// Sees to it that the words from `first` to before `last` have a place, and keeps what is in
     /// the set.
     fn make_room(&mut self, alloc: Global, first: usize, last: usize) -> Result<(), AllocError>
