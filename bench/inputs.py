@@ -289,6 +289,14 @@ LARGE = '$v=[\\p{L}];$w=[\\p{Lu}];'
 # A variable of 100,000 letters, no two of which are neighbours.
 MANY = '$v=[' + ''.join(chr(code) for code in range(0x30000, 0x30000 + 200000, 2)) + '];'
 
+
+
+def large_leaves():
+    """4,096 rules of two leaves, each with a letter of its own beside the many or lacking both."""
+    letters_ = [chr(0x10000 + 2 * i) for i in range(4096)]
+    return padded(MANY + ''.join(f'[{letter}$v][^{letter}$v];' for letter in letters_))
+
+
 FRONT = {
     'statements': (lambda: repeat('a;'), '524,288 times `a;`'),
     'empty': (lambda: repeat(';', tail='a;'), 'a million empty statements'),
@@ -323,6 +331,11 @@ FRONT = {
              'one set of 5,600 sets negated 60 deep'),
     'wide': (lambda: operands('[@$v&$v]', MANY + '['),
              'one set of 59,000 sets of a variable of 100,000 letters, twice, and a letter'),
+    'complements': (lambda: repeat('[^$v]', MANY + '[', '];'),
+                    'one set of 130,000 complements of a variable of 100,000 letters'),
+    'meets': (lambda: repeat('[$v&$v]', MANY + '[', '];'),
+              'one set of 92,000 sets of a variable of 100,000 letters met with itself'),
+    'leaves': (large_leaves, '8,192 leaves, each with a set of 100,000 ranges of its own'),
     'variables': (lambda: variables('[\\p{L}]'), '80,000 variables of one property'),
     'without': (lambda: variables('[\\p{L}-\\p{Lu}]'),
                 '52,000 variables, each a property without another'),

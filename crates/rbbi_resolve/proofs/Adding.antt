@@ -102,7 +102,8 @@ pub filled_value : (files : List File) (tree : model.SetTree) (set : List Range)
 filled_value files tree set is e = character_of files tree set is (holds files tree e)
 
 -- the characters of classes that hold one are those of a leaf
-pub of_classes : (files : List File) (bounds : List ℕ) (tree : model.SetTree) (classes : ClassBits) (set : List Range) → AreClassesOf files bounds tree classes →
+pub of_classes : (files : List File) (bounds : List ℕ) (tree : model.SetTree) (classes : ClassBits) (set : List Range) →
+    AreClassesOf files bounds tree classes →
     is_empty_value files (Some tree) ≡ false → AreRising set → ((c : ℕ) → Has set c ↔ (HasMember bounds classes c × ¬ IsSurrogate c)) →
     IsSetOfLeaf files tree set
 of_classes files bounds tree classes set is e rising same =

@@ -91,7 +91,8 @@ named files scope word v ready e =
     let text = encode_utf8_all word in
     let s = seen_is scope.limit (get_by_text scope.variables.now text) v e in
     let d : IsDefinedBy files (bounds_of scope) trees ready.end text v =
-    subst (λ o. MatchOption o (IsUnassigned files trees ready.end text) (IsDefinedBy files (bounds_of scope) trees ready.end text)) s.0 (ready.variables.each text) in
+    subst (λ o. MatchOption o (IsUnassigned files trees ready.end text) (IsDefinedBy files (bounds_of scope) trees ready.end text)) s.0
+    (ready.variables.each text) in
     let k = context_at files trees v.statement in
     let found : variable_of (context_of files scope) word ≡ Some (variable_for k d.expr) = d.behind scope.limit s.1 ready.low in
     let within = slice_get_within trees v.statement _ d.assigns in
@@ -119,7 +120,8 @@ pub unnamed : (files : List File) (scope : Scope) (word : List ℕ) → IsReady 
     meaning_of_atom (context_of files scope) (name word) ≡ Never
 unnamed files scope word ready e =
     let d = describes files (bounds_of scope) (statement_trees scope.statements.now) scope.variables.now ready.end scope.limit ready.low ready.variables in
-    unmatched files (bounds_of scope) (variable_of (context_of files scope) word) (subst (λ o. Matches files (bounds_of scope) o (variable_of (context_of files scope) word)) (sym e)
+    unmatched files (bounds_of scope) (variable_of (context_of files scope) word) (subst (λ o. Matches files (bounds_of scope) o (variable_of
+    (context_of files scope) word)) (sym e)
     (d.same (encode_utf8_all word)))
 
 -- an expression is a choice of its sequences, and a sequence its items

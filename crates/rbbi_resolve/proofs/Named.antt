@@ -23,10 +23,12 @@ use Rattle.rbbi_resolve.proofs.Noting.{noted_parts_of_append}
 use Rattle.rbbi_resolve.specs.Summaries.{Sums, Summarizes}
 
 -- the counts of a variable that is no set
-pub counts_of_expression : (files : List File) (bounds : List ℕ) (here : Kind) (summary higher : Summary) (there : contexts.Variable) → here ≡ kind.Expression summary →
+pub counts_of_expression : (files : List File) (bounds : List ℕ) (here : Kind) (summary higher : Summary) (there : contexts.Variable) →
+    here ≡ kind.Expression summary →
     ((a h : ℕ) (e : Bool) → Sums summary a h e → Sums higher a (h + 1) e) → IsKindOf files bounds here there →
     Summarizes higher (meaning_of_variable (Some there)) (height_of_variable (Some there))
-counts_of_expression files bounds here summary higher (contexts.Set value) is raises same = absurd (subst (λ k. IsKindOf files bounds k (contexts.Set value)) is same)
+counts_of_expression files bounds here summary higher (contexts.Set value) is raises same = absurd (subst (λ k. IsKindOf files bounds k
+    (contexts.Set value)) is same)
 counts_of_expression files bounds here summary higher (contexts.Expression meaning height) is raises same =
     let sums : Summarizes summary meaning height = subst (λ k. IsKindOf files bounds k (contexts.Expression meaning height)) is same in
     raises _ _ _ sums

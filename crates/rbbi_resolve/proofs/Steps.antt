@@ -144,7 +144,8 @@ stay_variables files bounds statements variables n same are =
 abbrev pub made : List ℕ → contexts.Variable → contexts.Assigned
 made word variable = record { name = encode_utf8_all word; variable = variable }
 
-module _ (files : List File) (bounds : List ℕ) (statements : List StatementTree) (variables variables' : Variables) (n : ℕ) (word : List ℕ) (place : ℕ) (expr : ExprTree)
+module _ (files : List File) (bounds : List ℕ) (statements : List StatementTree) (variables variables' : Variables) (n : ℕ) (word : List ℕ) (place : ℕ)
+    (expr : ExprTree)
     (kind : Kind)
     (at : slice_get statements n ≡ Some (assign word place expr))
     (next : (context_at files statements (n + 1)).variables ≡ made word (variable_for (context_at files statements n) expr) ∷
@@ -213,7 +214,8 @@ unseen files bounds statements n name (Some v) is e =
     absurd cc
 
 -- one statement further
-pub step : (files : List File) (classes : Classes) (ignored : Bool) (statements : List StatementTree) (n : ℕ) (s : StatementTree) (variables variables' : Variables)
+pub step : (files : List File) (classes : Classes) (ignored : Bool) (statements : List StatementTree) (n : ℕ) (s : StatementTree)
+    (variables variables' : Variables)
     (least least' : Option Fault) (switches switches' : Switches) (counts counts' : declared.Counts) →
     IsReadTo files classes ignored statements variables least switches counts n → slice_get statements n ≡ Some s →
     AreVariables files (rc_value classes.layout) statements variables' (n + 1) →

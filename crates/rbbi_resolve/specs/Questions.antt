@@ -15,5 +15,6 @@ pub record IsFor (question : Question) (negated : Bool) (word : List ℕ) (word_
 -- the answer is right: its set is the value of the property
 abbrev pub IsAnswer : List File → Answer → Type 0
 IsAnswer files answer =
-    IsValue files (value_of_property files (rc_value answer.question).negated (chars (string_bytes (rc_value answer.question).name)) (option_map (λ text. chars (string_bytes text)) (rc_value answer.question).value))
+    IsValue files (value_of_property files (rc_value answer.question).negated (chars (string_bytes (rc_value answer.question).name)) (option_map
+    (λ text. chars (string_bytes text)) (rc_value answer.question).value))
     (rc_value answer.set)

@@ -45,7 +45,8 @@ visible limit (Some variable) = if nat_lt variable.statement limit then Some var
 
 -- before the limit each name stands in the code for what it does in the specification
 pub record Describes (files : List File) (bounds : List ℕ) (statements : List StatementTree) (variables : Variables) (limit : ℕ) : Type 0 where
-  pub same : (name : List ℕ) → Matches files bounds (visible limit (get_by_text variables name)) (assigned_to (context_at files statements limit).variables name)
+  pub same : (name : List ℕ) → Matches files bounds (visible limit (get_by_text variables name)) (assigned_to
+      (context_at files statements limit).variables name)
 
 -- The variable is that of the name: its statement assigns it first, of those before the end.
 pub record IsDefinedBy (files : List File) (bounds : List ℕ) (statements : List StatementTree) (end : ℕ) (name : List ℕ) (variable : Variable) : Type 0 where

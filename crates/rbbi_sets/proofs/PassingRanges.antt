@@ -87,7 +87,8 @@ from_has : (test : ℕ → Bool) (c n d : ℕ) → c + n ≤ 0x110000 → (Has (
 unfolding passing_from
 from_has test c zero d low = (λ h. absurd h, λ p. let a = p.0 in let b = p.1 in absurd (omega arith))
 from_has test c (suc n) d low =
-    let s = passing_has test (test c) c n d (passing_from test (c + 1) n) refl (from_rises test (c + 1) n (omega arith)) (from_has test (c + 1) n d (omega arith)) in
+    let s = passing_has test (test c) c n d (passing_from test (c + 1) n) refl (from_rises test (c + 1) n (omega arith)) (from_has test (c + 1) n d
+    (omega arith)) in
     (λ h. let p = s.0 h in let b = p.1 in (p.0, omega arith, p.2), λ p. let b = p.1 in s.1 (p.0, omega arith, p.2))
 
 -- they rise, and neither overlap nor touch

@@ -162,7 +162,8 @@ returns-in_ok-push-in-Rule-clause-added c =
 
 -- the expressions of an active rule are covered
 covered : (c : In-Rule) →
-    AreCovered c.args.builder.now.properties (bounds_of c.args.scope.now) (parts_of_expr (expr_tree c.in-Rule.front) ++ parts_of_rest (rest_tree c.in-Rule.rest))
+    AreCovered c.args.builder.now.properties (bounds_of c.args.scope.now) (parts_of_expr (expr_tree c.in-Rule.front) ++ parts_of_rest
+    (rest_tree c.in-Rule.rest))
 covered c =
     let xs = c.args.scope.now.statements.now in
     let n = c.args.scope.now.limit in
@@ -170,7 +171,8 @@ covered c =
 
 pub tree-requires-clause-covered : goal.tree-requires-clause-covered
 tree-requires-clause-covered c =
-    covered_left c.args.builder.now.properties (bounds_of c.args.scope.now) (parts_of_expr (expr_tree c.in-Rule.front)) (parts_of_rest (rest_tree c.in-Rule.rest))
+    covered_left c.args.builder.now.properties (bounds_of c.args.scope.now) (parts_of_expr (expr_tree c.in-Rule.front)) (parts_of_rest
+    (rest_tree c.in-Rule.rest))
     (covered (goal.at.tree-requires-clause-covered c).In-Rule)
 
 pub tree_of_rest-requires-clause-covered : goal.tree_of_rest-requires-clause-covered

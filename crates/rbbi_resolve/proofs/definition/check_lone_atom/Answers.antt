@@ -35,7 +35,8 @@ returns-in_ok-kept-in-Prop-clause-value c =
     let set = c.in_ok-set-in-Prop.set in
     rw c.in_ok-kept-in-Prop.ensures.value
     (subst (λ a. AreSetOf files (bounds_of c.args.scope.now) (set_of_atom k a) (Some set)) (sym e)
-    (subst (λ f. IsClassValue files (bounds_of c.args.scope.now) (value_of_property f c.in-Prop.negated c.in-Prop.name c.in-Prop.value) set) (sym (files_stay files _ _))
+    (subst (λ f. IsClassValue files (bounds_of c.args.scope.now) (value_of_property f c.in-Prop.negated c.in-Prop.name c.in-Prop.value) set) (sym
+    (files_stay files _ _))
     (subst (λ f. IsClassValue f (bounds_of c.args.scope.now) (value_of_property f c.in-Prop.negated c.in-Prop.name c.in-Prop.value) set)
     c.in_ok-check_property-in-Prop.ensures.same c.in_ok-set-in-Prop.ensures.value)))
 
@@ -52,7 +53,8 @@ returns-in_ok-kept-in-Set-clause-value c =
     let e : atom_tree c.args.atom.now ≡ set (set_tree c.in-Set.set) = let i = c.in-Set.is in ap atom_tree i ∙ atom_of_set c.in-Set.set in
     rw c.in_ok-kept-in-Set.ensures.value
     (subst (λ a. AreSetOf files (bounds_of c.args.scope.now) (set_of_atom k a) (Some c.in_ok-value-in-Set.value)) (sym e)
-    (subst (λ f. IsClassValue files (bounds_of c.args.scope.now) (value_of_set f (value_of_name k) (set_tree c.in-Set.set)) c.in_ok-value-in-Set.value) (sym (files_stay files _ _))
+    (subst (λ f. IsClassValue files (bounds_of c.args.scope.now) (value_of_set f (value_of_name k) (set_tree c.in-Set.set)) c.in_ok-value-in-Set.value)
+    (sym (files_stay files _ _))
     c.in_ok-value-in-Set.ensures.value))
 
 pub check_set-requires-clause-covered : goal.check_set-requires-clause-covered

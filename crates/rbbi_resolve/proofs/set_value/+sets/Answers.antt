@@ -26,7 +26,8 @@ value_of_set-loop-part-init t c = folding_starts c.args.properties.now _ _ c.arg
 pub value_of_set-loop-part-preserved : goal.value_of_set-loop-part-preserved
 value_of_set-loop-part-preserved t c =
     folding_turn (λ files. context_of files c.args.scope.now) c.args.properties.now (bounds_of c.args.scope.now) c.args.least.now _ c.loop-part.whole
-    (option_map classes_of c.in_ok-item.item) c.in_ok-whole.whole c.loop-part.least c.value_of_item.new.least c.loop-part.properties c.value_of_item.new.properties
+    (option_map classes_of c.in_ok-item.item) c.in_ok-whole.whole c.loop-part.least c.value_of_item.new.least c.loop-part.properties
+    c.value_of_item.new.properties
     c.deref-part-items.result.now c.loop-part.part-index c.part-item.result (omega arith) c.part-item.is c.loop-part.invariant
     (record { value = c.in_ok-item.ensures.value; noted = c.in_ok-item.ensures.noted; same = c.in_ok-item.ensures.same }) c.in_ok-whole.ensures
 

@@ -34,13 +34,16 @@ assigned c =
     let r = c.args.self.now in
     let n = c.args.number in
     shown c
-    ∙ matches_some r.properties (rc_value r.classes.layout) _ _ ((describes r.properties (rc_value r.classes.layout) (statement_trees r.statements.now) r.variables n n (omega arith) c.requires.reading.defined).same
+    ∙ matches_some r.properties (rc_value r.classes.layout) _ _ ((describes r.properties (rc_value r.classes.layout)
+    (statement_trees r.statements.now) r.variables n n (omega arith) c.requires.reading.defined).same
     (encode_utf8_all c.args.name.now))
 
 -- the assignment is read, where the variables are those behind it
 read_to : (c : In_ok-kind) (variables : Variables) →
-    AreVariables c.args.self.now.properties (rc_value c.args.self.now.classes.layout) (statement_trees c.args.self.now.statements.now) variables (c.args.number + 1) →
-    IsReadTo c.check_definition.new.properties c.args.self.now.classes c.args.self.now.dictionary_ignored (statement_trees c.args.self.now.statements.now) variables
+    AreVariables c.args.self.now.properties (rc_value c.args.self.now.classes.layout) (statement_trees c.args.self.now.statements.now) variables
+    (c.args.number + 1) →
+    IsReadTo c.check_definition.new.properties c.args.self.now.classes c.args.self.now.dictionary_ignored
+    (statement_trees c.args.self.now.statements.now) variables
     c.check_definition.new.least c.args.self.now.switches c.args.self.now.counts (c.args.number + 1)
 read_to c variables are =
     let r = c.args.self.now in
@@ -50,8 +53,10 @@ read_to c variables are =
     let word = c.args.name.now in
     let expr = expr_tree c.args.expr.now in
     let k = context_at files trees n in
-    subst (λ p. IsReadTo p r.classes r.dictionary_ignored trees variables c.check_definition.new.least r.switches r.counts (n + 1)) (sym c.in_ok-kind.ensures.same)
-    (step files r.classes r.dictionary_ignored trees n (assign word c.args.place expr) r.variables variables r.least c.check_definition.new.least r.switches r.switches
+    subst (λ p. IsReadTo p r.classes r.dictionary_ignored trees variables c.check_definition.new.least r.switches r.counts (n + 1))
+    (sym c.in_ok-kind.ensures.same)
+    (step files r.classes r.dictionary_ignored trees n (assign word c.args.place expr) r.variables variables r.least c.check_definition.new.least
+    r.switches r.switches
     r.counts r.counts c.requires.reading c.requires.at are
     (note_three r.least c.note_where.new.least c.note_where-2.new.least c.check_definition.new.least
     (faults_where (bytes_eq (encode_utf8_all word) (codes "dictionary") && not r.dictionary_ignored) c.args.place 3)
@@ -90,7 +95,8 @@ returns c =
     let text = encode_utf8_all word in
     let expr = expr_tree c.args.expr.now in
     let unknown : get_by_text r.variables text ≡ None =
-    unseen files (rc_value r.classes.layout) trees n text (get_by_text r.variables text) (c.requires.reading.defined.each text) (sym (shown read) ∙ c.if-is_assigned.false) in
+    unseen files (rc_value r.classes.layout) trees n text (get_by_text r.variables text) (c.requires.reading.defined.each text) (sym
+    (shown read) ∙ c.if-is_assigned.false) in
     let joins = with_new (context_at files trees n) word expr (sym (assigned read) ∙ c.if-is_assigned.false) in
     let next = ap (λ x. x.variables) (context_next files trees n (assign word c.args.place expr) c.requires.at ∙ joins) in
     let key : string_bytes c.in_ok-key.key ≡ text = c.in_ok-key.ensures.ok ∙ c.as_str.ensures.bytes in
@@ -99,7 +105,8 @@ returns c =
     λ cs. hash_map_updates_text (string_bytes c.in_ok-key.key) r.variables c.insert.new.self _ c.in_ok-insert.ensures.updates cs
     ∙ ap (λ b. update bytes_eq (get_by_text r.variables) b (Some (record { statement = n; kind = c.in_ok-kind.kind })) cs) key in
     record {
-      reading = read_to read c.insert.new.self (join_variable files (rc_value r.classes.layout) trees r.variables c.insert.new.self n word c.args.place expr c.in_ok-kind.kind
+      reading = read_to read c.insert.new.self (join_variable files
+      (rc_value r.classes.layout) trees r.variables c.insert.new.self n word c.args.place expr c.in_ok-kind.kind
           c.requires.at next unknown c.in_ok-kind.ensures.kind put c.requires.reading.defined);
       statements = refl;
       properties = c.in_ok-kind.ensures.same;

@@ -22,7 +22,8 @@ returns c =
     let unsupported : c.is_unsupported.result ≡ is_unsupported text = c.is_unsupported.ensures ∙ ap is_unsupported same in
     record {
       reading =
-          step r.properties r.classes r.dictionary_ignored trees n (control c.args.name.now c.args.place) r.variables r.variables r.least c.note_where-2.new.least
+          step r.properties r.classes r.dictionary_ignored trees n
+          (control c.args.name.now c.args.place) r.variables r.variables r.least c.note_where-2.new.least
           r.switches c.after-self.result r.counts r.counts c.requires.reading c.requires.at
           (stay_variables r.properties (rc_value r.classes.layout) trees r.variables n next c.requires.reading.defined)
           (note_two r.least c.note_where.new.least c.note_where-2.new.least

@@ -20,7 +20,8 @@ read_to : (c : In_ok-whole) (counts : declared.Counts) →
     (rule_in (context_at c.args.self.now.properties (statement_trees c.args.self.now.statements.now) c.args.number)
     (rule c.args.place c.args.no_chain_in (expr_tree c.args.front.now) c.args.slash (rest_tree c.args.rest.now) c.args.tag) ++ left) all →
     AreCounting counts left all) →
-    IsReadTo c.check_rule.new.properties c.args.self.now.classes c.args.self.now.dictionary_ignored (statement_trees c.args.self.now.statements.now) c.args.self.now.variables
+    IsReadTo c.check_rule.new.properties c.args.self.now.classes c.args.self.now.dictionary_ignored
+    (statement_trees c.args.self.now.statements.now) c.args.self.now.variables
     c.check_rule.new.least c.args.self.now.switches counts (c.args.number + 1)
 read_to c counts go_on =
     let r = c.args.self.now in
@@ -31,7 +32,8 @@ read_to c counts go_on =
     let next = ap (λ x. x.variables) (context_next files trees n s c.requires.at) in
     subst (λ p. IsReadTo p r.classes r.dictionary_ignored trees r.variables c.check_rule.new.least r.switches counts (n + 1)) (sym c.in_ok-whole.ensures.same)
     (step files r.classes r.dictionary_ignored trees n s r.variables r.variables r.least c.check_rule.new.least r.switches r.switches r.counts counts
-    c.requires.reading c.requires.at (stay_variables files (rc_value r.classes.layout) trees r.variables n next c.requires.reading.defined) c.in_ok-whole.ensures.noted
+    c.requires.reading c.requires.at (stay_variables files (rc_value r.classes.layout) trees r.variables n next c.requires.reading.defined)
+    c.in_ok-whole.ensures.noted
     c.requires.reading.switched go_on)
 
 pub returns-then-self : goal.returns-then-self
