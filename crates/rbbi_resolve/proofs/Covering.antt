@@ -121,6 +121,7 @@ module _ (files now : List File) (bounds : List ℕ) (same : now ≡ files) wher
 abbrev pub HaveBounds : List ℕ → List ℕ → Type 0
 HaveBounds bounds' bounds = (bound : ℕ) → Contains bounds bound → 0 < bound → bound ≤ 0x10FFFF → Contains bounds' bound
 
+-- where a class begins or ends, one does so where there are more bounds
 first_kept : (bounds bounds' : List ℕ) (c : ℕ) → HaveBounds bounds' bounds → c ≤ 0x10FFFF → IsFirstOfClass bounds c → IsFirstOfClass bounds' c
 first_kept bounds bounds' zero have within first = inl refl
 first_kept bounds bounds' (suc c) have within first =
@@ -136,11 +137,13 @@ last_kept bounds bounds' c have within last =
       ]
     ]
 
+-- what is whole classes stays so
 whole_kept : (bounds bounds' : List ℕ) (low high : ℕ) → HaveBounds bounds' bounds → IsWhole bounds low high → IsWhole bounds' low high
 whole_kept bounds bounds' low high have whole order within =
     let classes = whole order within in
     (first_kept bounds bounds' low have (omega arith) classes.0, last_kept bounds bounds' high have within classes.1)
 
+-- a part that is covered stays so
 part_kept : (files : List File) (bounds bounds' : List ℕ) → HaveBounds bounds' bounds → (part : Part) →
     IsCovered files bounds part → IsCovered files bounds' part
 part_kept files bounds bounds' have (Outside place atom) is = tt

@@ -46,7 +46,7 @@ pub(crate) fn divide_once(
 }
 
 /// The set by classes, where it is there. Where the layout lacks a bound of its ranges, which it
-/// doesn't for those of its file, that is answered as if memory had run out.
+/// doesn't for the properties of its file, that is answered as if memory had run out.
 pub(crate) fn divide(
     alloc: Global,
     layout: &Layout,
