@@ -89,7 +89,8 @@ impl<'a> Builder<'a> {
             (parts_of_expr (expr_tree expr.now)) ≡ [] }
         requires covered { AreCovered self.old.properties (bounds_of scope.now)
             (parts_of_expr (expr_tree expr.now)) }
-        requires kept { IfSome kept (λ kind. IsKindOf self.old.properties (bounds_of scope.now) kind.now
+        requires kept { IfSome kept (λ kind.
+            IsKindOf self.old.properties (bounds_of scope.now) kind.now
             (variable_for (context_of self.old.properties scope.now) (expr_tree expr.now))) }
         ensures on { OnOk result (GoesOn self.old.properties
             (statement_trees scope.now.statements.now)

@@ -1,6 +1,6 @@
 //! The value of a set, and the faults in it.
-ghost use Rattle.std.specs.Prelude.{◌≡◌, ◌≤◌, ◌↔◌, ℕ, nat_lt, List, Option, [], ◌∷◌, Some, IfOk, OnOk};
-ghost use Rattle.std.specs.Prelude.{option_map};
+ghost use Rattle.std.specs.Prelude.{◌≡◌, ◌≤◌, ◌↔◌, ℕ, nat_lt, List, Option, [], ◌∷◌, Some};
+ghost use Rattle.std.specs.Prelude.{IfOk, OnOk, option_map};
 ghost use Rattle.rbbi_model.specs.SetTrees as model;
 ghost use Rattle.rbbi_sets.specs.Classes.{HasMember, AreWholeClasses};
 ghost use Rattle.rbbi_props.specs.Rows.{File};

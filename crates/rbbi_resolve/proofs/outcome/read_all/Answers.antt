@@ -10,7 +10,7 @@ loop-number-init c =
     let none : (name : List ℕ) → get_by_text c.new.result name ≡ None = λ name. rw c.new.ensures.empty refl in
     record {
       reading = read_none _ c.in_ok-classes.classes c.args.ignore_dictionary
-      (statement_trees c.args.statements.now) c.new.result c.new-2.result c.new-3.result none
+          (statement_trees c.args.statements.now) c.new.result c.new-2.result c.new-3.result none
           (c.new-2.ensures _) c.new-3.ensures (search rules) (search rules);
       statements = refl;
       properties = refl;

@@ -81,8 +81,13 @@ tree_of_atom-definition-requires t c =
     let lighter = weight_le T (v.statement + 1) scope.limit (omega arith) in
     let smaller : weight T (v.statement + 1) < weight T scope.limit + (size_of_atom (atom_tree c.args.atom.now) + 1) = omega arith in
     let r = c.requires.ready in
-    let ready : IsReady files (record { statements = scope.statements; variables = scope.variables; classes = scope.classes; limit = v.statement;
-    quoted_only = scope.quoted_only }) =
+    let ready : IsReady files (record {
+      statements = scope.statements;
+      variables = scope.variables;
+      classes = scope.classes;
+      limit = v.statement;
+      quoted_only = scope.quoted_only;
+    }) =
     record {
       end = r.end;
       classes = r.classes;

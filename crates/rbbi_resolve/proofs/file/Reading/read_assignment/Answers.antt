@@ -106,7 +106,7 @@ returns c =
     ∙ ap (λ b. update bytes_eq (get_by_text r.variables) b (Some (record { statement = n; kind = c.in_ok-kind.kind })) cs) key in
     record {
       reading = read_to read c.insert.new.self (join_variable files
-      (rc_value r.classes.layout) trees r.variables c.insert.new.self n word c.args.place expr c.in_ok-kind.kind
+          (rc_value r.classes.layout) trees r.variables c.insert.new.self n word c.args.place expr c.in_ok-kind.kind
           c.requires.at next unknown c.in_ok-kind.ensures.kind put c.requires.reading.defined);
       statements = refl;
       properties = c.in_ok-kind.ensures.same;
