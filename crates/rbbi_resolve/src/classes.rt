@@ -31,7 +31,8 @@ pub(crate) struct PropertyClasses {
 }
 
 /// The classes of a rule file: a bound of the layout stands wherever a range or a property of the
-/// file begins or ends. So each set of the file holds of a class all or nothing.
+/// file begins or ends. So each set of the file holds of a class all or nothing. Of ranges `of`
+/// ensures it; of properties it rests on the walk of `collect`, and on no contract.
 #[derive(Drop)]
 pub(crate) struct Classes {
     pub(crate) layout: Layout,
