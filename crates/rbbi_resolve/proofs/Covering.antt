@@ -4,11 +4,11 @@ use Rattle.std.proofs.Common.{sym, ap, ◌∙◌, subst, arith}
 use Rattle.std.specs.List.{Contains}
 use Rattle.std.proofs.lemmas.Bool.{cases_lt}
 use Rattle.rbbi_model.proofs.Lists.{all_append, all_left, all_right, all_through}
-use Rattle.rbbi_sets.specs.Classes.{IsFirstOfClass, IsLastOfClass}
-use Rattle.std.proofs.Common.{Bool, None, IfSome}
+use Rattle.rbbi_sets.specs.Classes.{IsFirstOfClass, IsLastOfClass, AreWholeClasses}
+use Rattle.std.proofs.Common.{Bool, Option, Some, None, IfSome}
 use Rattle.std.specs.HashMap.{values}
 use Rattle.std.specs.Rc.{rc_value}
-use Rattle.std.specs.List.{All}
+use Rattle.std.specs.List.{All, AllByRecursion}
 use Rattle.std.proofs.lemmas.List.Elements.{All-weaker, All-from_recursion}
 use Rattle.rbbi_model.specs.Ranges.{Range}
 use Rattle.rbbi_model.specs.SetTrees as model
@@ -133,6 +133,7 @@ module _ (files now : List File) (bounds : List ℕ) (same : now ≡ files) wher
 abbrev pub HaveBounds : List ℕ → List ℕ → Type 0
 HaveBounds bounds' bounds = (bound : ℕ) → Contains bounds bound → 0 < bound → bound ≤ 0x10FFFF → Contains bounds' bound
 
+-- where a class begins or ends, one does so where there are more bounds
 first_kept : (bounds bounds' : List ℕ) (c : ℕ) → HaveBounds bounds' bounds → c ≤ 0x10FFFF → IsFirstOfClass bounds c → IsFirstOfClass bounds' c
 first_kept bounds bounds' zero have within first = inl refl
 first_kept bounds bounds' (suc c) have within first =
@@ -148,6 +149,7 @@ last_kept bounds bounds' c have within last =
       ]
     ]
 
+-- what is whole classes stays so
 whole_kept : (bounds bounds' : List ℕ) (low high : ℕ) → HaveBounds bounds' bounds → IsWhole bounds low high → IsWhole bounds' low high
 whole_kept bounds bounds' low high have whole order within =
     let classes = whole order within in
@@ -165,6 +167,7 @@ property_kept : (files : List File) (bounds bounds' : List ℕ) (negated : Bool)
 property_kept files bounds bounds' negated word value have is =
     record { set = is.set; value_is = is.value_is; whole = ranges_kept bounds bounds' is.set have is.whole }
 
+-- a part that is covered stays so
 part_kept : (files : List File) (bounds bounds' : List ℕ) → HaveBounds bounds' bounds → (part : Part) →
     IsCovered files bounds part → IsCovered files bounds' part
 part_kept files bounds bounds' have (Outside place (character c bare)) is = tt
@@ -186,6 +189,12 @@ pub covered_kept : (files : List File) (bounds bounds' : List ℕ) (parts : List
     AreCovered files bounds' parts
 covered_kept files bounds bounds' parts have are =
     record { each = all_through (IsCovered files bounds) (IsCovered files bounds') (part_kept files bounds bounds' have) parts are.each }
+
+-- ranges with one more
+pub ranges_more : (bounds bounds' : List ℕ) (ranges : List Range) (range : Range) → HaveBounds bounds' bounds → AreWhole bounds ranges →
+    IsWhole bounds' range.low range.high → AreWhole bounds' (ranges ++ range ∷ [])
+ranges_more bounds bounds' ranges range have whole own =
+    all_append (λ r. IsWhole bounds' r.low r.high) ranges (range ∷ []) (ranges_kept bounds bounds' (Some ranges) have whole) (own, tt)
 
 -- what was collected stays right where there are more bounds
 pub collection_kept : (files : List File) (before after : Collection) →

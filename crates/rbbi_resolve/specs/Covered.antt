@@ -11,7 +11,7 @@ use Rattle.rbbi_resolve.specs.declared.collection.Collection.{Collection}
 use Rattle.rbbi_resolve.specs.declared.properties.Answer.{Answer}
 use Rattle.rbbi_resolve.specs.SetValues.{IsValue, value_of_property}
 use Rattle.rbbi_resolve.specs.Questions.{IsAnswer}
-use Rattle.rbbi_resolve.specs.Parts.{Part, Within, parts_of_expr}
+use Rattle.rbbi_resolve.specs.Parts.{Part, Outside, Within, parts_of_expr}
 
 -- where code points go from the one to the other, they are whole classes
 abbrev pub IsWhole : List ℕ → ℕ → ℕ → Type 0
