@@ -8,4 +8,4 @@ pub divide-requires : goal.divide-requires
 divide-requires c =
     subst (λ s. IfSome s (AreWholeRanges (bounds_of c.args.scope.now))) (sym c.as_ref.ensures)
     (property_whole c.members_determine.ensures c.args.properties.now (bounds_of c.args.scope.now) c.args.negated c.args.name.now c.args.value.now _
-    c.requires.covered c.in_ok-found.ensures.value)
+    c.requires.covered c.in_ok-found-in-None.ensures.value)

@@ -5,7 +5,7 @@ use Rattle.rbbi_tree.specs.Values.{statement_tree, statement_trees}
 use Rattle.rbbi_resolve.specs.Covered.{Collects, parts_of_statement}
 use Rattle.rbbi_resolve.proofs.Covering.{covered_kept}
 use Rattle.rbbi_resolve.proofs.Collecting.{statements_covered}
-use Rattle.std.proofs.Common.{IfSome}
+use Rattle.std.proofs.Common.{IfSome, refl}
 use Rattle.std.specs.HashMap.{values}
 use Rattle.std.specs.Rc.{rc_value}
 use Rattle.std.proofs.lemmas.List.Elements.{All-weaker}
@@ -56,3 +56,6 @@ returns-clause-classes c =
     let l = c.loop-number in
     c.in_ok-sets.ensures files (All-weaker (IsCoveredAnswer files l.collection.bounds.items) (IsAnswer files) (λ answer a. a.right)
     (values l.collection.answers) l.invariant.kept.answers)
+
+pub loop-number-init : goal.loop-number-init
+loop-number-init c = record { same = refl; kept = c.new-collection.ensures c.args.properties.now; covers = λ number s low. absurd (omega arith) }
