@@ -17,17 +17,17 @@ use Rattle.rbbi_tree.specs.declared.syntax.SetPart.{SetPart}
 use Rattle.rbbi_tree.specs.declared.syntax.SetItem.{SetItem}
 use Rattle.rbbi_tree.specs.declared.syntax.SetItem.TheViews.{out-SetPart}
 use Rattle.rbbi_tree.specs.declared.syntax.Atom.TheViews.{out-Expr, out-Seq}
-use Rattle.rbbi_resolve.specs.declared.collect.Collection.{Collection}
+use Rattle.rbbi_resolve.specs.declared.collection.Collection.{Collection}
 use Rattle.rbbi_resolve.specs.Parts.{Part, parts_of_expr, parts_of_seq, parts_of_item, parts_of_set, parts_of_parts, parts_of_part}
-use Rattle.rbbi_resolve.specs.Covered.{IsWhole, IsCovered, AreCovered, Collects, parts_of_statement}
+use Rattle.rbbi_resolve.specs.Covered.{IsWhole, IsCovered, AreCovered, IsCollection, Collects, parts_of_statement}
 use Rattle.rbbi_resolve.proofs.Counting.{expr_by_items, seq_by_items, exprs_left, seqs_left}
 use Rattle.rbbi_resolve.proofs.SetLoops.{parts_in, parts_left, set_is}
 use Rattle.rbbi_resolve.proofs.Covering.{covered_append, covered_kept}
 use Rattle.rbbi_resolve.proofs.Steps.{tree_at}
 
 -- nothing is added for no parts
-pub collects_none : (files : List File) (now : Collection) → Collects files now now []
-collects_none files now = record { keeps = λ bound has. has; covers = record { each = tt } }
+pub collects_none : (files : List File) (now : Collection) → IsCollection files now → Collects files now now []
+collects_none files now kept = record { keeps = λ bound has. has; covers = record { each = tt }; kept = kept }
 
 -- what was covered stays so
 pub collects_more : (files : List File) (before between after : Collection) (a b : List Part) → Collects files before between a →
@@ -38,15 +38,18 @@ collects_more files before between after a b first second =
       covers = covered_append files after.bounds.items a b
           (covered_kept files between.bounds.items after.bounds.items a (λ bound has above below. second.keeps bound has) first.covers)
           second.covers;
+      kept = second.kept;
     }
 
 -- a loop over parts: the files stay, and with the bounds of the parts left, those of all parts are added
 pub record IsCollecting (files now : List File) (start between : Collection) (whole left : List Part) : Type 0 where
   pub same : now ≡ files
+  pub kept : IsCollection files between
   pub goes_on : (after : Collection) → Collects files between after left → Collects files start after whole
 
-pub collecting_starts : (files : List File) (start : Collection) (whole : List Part) → IsCollecting files files start start whole whole
-collecting_starts files start whole = record { same = refl; goes_on = λ after rest. rest }
+pub collecting_starts : (files : List File) (start : Collection) (whole : List Part) → IsCollection files start →
+    IsCollecting files files start start whole whole
+collecting_starts files start whole kept = record { same = refl; kept = kept; goes_on = λ after rest. rest }
 
 -- one turn of it
 turn : (files now now' : List File) (start between between' : Collection) (whole part left : List Part) →
@@ -55,6 +58,7 @@ turn : (files now now' : List File) (start between between' : Collection) (whole
 turn files now now' start between between' whole part left collecting step next =
     record {
       same = next ∙ collecting.same;
+      kept = (subst (λ f. Collects f between between' part) collecting.same step).kept;
       goes_on = λ after rest. collecting.goes_on after (collects_more files between between' after part left
           (subst (λ f. Collects f between between' part) collecting.same step) rest);
     }
@@ -62,7 +66,7 @@ turn files now now' start between between' whole part left collecting step next 
 -- its end
 ended : (files now : List File) (start between : Collection) (whole : List Part) → IsCollecting files now start between whole [] →
     Collects files start between whole
-ended files now start between whole collecting = collecting.goes_on between (collects_none files between)
+ended files now start between whole collecting = collecting.goes_on between (collects_none files between collecting.kept)
 
 module _ (files now : List File) (start between : Collection) where
   -- the loop over the sequences of an expression
@@ -137,14 +141,15 @@ pub pushed_keeps : (before after : List ℕ) (first last : ℕ) → after ≡ be
 pushed_keeps before after first last is bound has =
     subst (λ bounds. Contains bounds bound) (sym is) (Contains-append_left before (first ∷ (last + 1) ∷ []) bound has)
 
--- a part whose range was added, and a part that wants no bounds of its own
+-- a part whose range was added, and one after parts whose bounds were added
 pub range_collected : (files : List File) (before after : Collection) (first last : ℕ) (part : Part) →
     after.bounds.items ≡ before.bounds.items ++ first ∷ (last + 1) ∷ [] →
-    (IsWhole after.bounds.items first last → IsCovered files after.bounds.items part) → Collects files before after (part ∷ [])
-range_collected files before after first last part is covers =
+    (IsWhole after.bounds.items first last → IsCovered files after.bounds.items part) → IsCollection files after → Collects files before after (part ∷ [])
+range_collected files before after first last part is covers kept =
     record {
       keeps = pushed_keeps before.bounds.items after.bounds.items first last is;
       covers = record { each = (covers (pushed_whole before.bounds.items after.bounds.items first last is), tt) };
+      kept = kept;
     }
 
 pub collected_with : (files : List File) (before after : Collection) (parts : List Part) (part : Part) → Collects files before after parts →
@@ -153,6 +158,7 @@ collected_with files before after parts part collected covered =
     record {
       keeps = collected.keeps;
       covers = covered_append files after.bounds.items parts (part ∷ []) collected.covers (record { each = (covered, tt) });
+      kept = collected.kept;
     }
 
 -- the tree of a part with such an item

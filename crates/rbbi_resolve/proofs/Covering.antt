@@ -4,10 +4,22 @@ use Rattle.std.proofs.Common.{sym, ap, ◌∙◌, subst, arith}
 use Rattle.std.specs.List.{Contains}
 use Rattle.std.proofs.lemmas.Bool.{cases_lt}
 use Rattle.rbbi_model.proofs.Lists.{all_append, all_left, all_right, all_through}
-use Rattle.rbbi_sets.specs.Classes.{IsFirstOfClass, IsLastOfClass}
+use Rattle.rbbi_sets.specs.Classes.{IsFirstOfClass, IsLastOfClass, AreWholeClasses}
+use Rattle.std.proofs.Common.{Bool, Option, Some, None, IfSome}
+use Rattle.std.specs.HashMap.{values}
+use Rattle.std.specs.Rc.{rc_value}
+use Rattle.std.specs.List.{All, AllByRecursion}
+use Rattle.std.proofs.lemmas.List.Elements.{All-weaker, All-from_recursion}
+use Rattle.rbbi_model.specs.Ranges.{Range}
+use Rattle.rbbi_model.specs.SetTrees as model
+use Rattle.rbbi_sets.specs.Rising.{AreRisingFrom}
+use Rattle.rbbi_sets.specs.Laws.{MembersDetermine}
 use Rattle.rbbi_props.specs.Rows.{File}
+use Rattle.rbbi_tree.specs.Trees.{character, quoted, any, name, property, set, group, set_character, set_range, set_name, set_property, set_within}
+use Rattle.rbbi_resolve.specs.declared.collection.Collection.{Collection}
+use Rattle.rbbi_resolve.specs.SetValues.{IsValue, value_of_property}
+use Rattle.rbbi_resolve.specs.Covered.{AreWhole, AreWholeRanges, IsCoveredProperty, IsCoveredAnswer, IsCollection}
 use Rattle.rbbi_tree.specs.Trees.{expr_of, seq_of, parts_of, joined}
-use Rattle.rbbi_tree.specs.Trees.{set_character, set_range, set_name, set_property, set_within}
 use Rattle.rbbi_tree.specs.Values.{expr_tree, seq_tree, item_tree, atom_tree, set_tree, part_tree, set_item_tree, item_tree_out, part_tree_out}
 use Rattle.rbbi_tree.specs.declared.syntax.Join.TheVariants.{Add}
 use Rattle.rbbi_tree.specs.declared.syntax.Expr.{Expr}
@@ -143,14 +155,33 @@ whole_kept bounds bounds' low high have whole order within =
     let classes = whole order within in
     (first_kept bounds bounds' low have (omega arith) classes.0, last_kept bounds bounds' high have within classes.1)
 
+ranges_kept : (bounds bounds' : List ℕ) (ranges : Option (List Range)) → HaveBounds bounds' bounds → IfSome ranges (AreWhole bounds) →
+    IfSome ranges (AreWhole bounds')
+ranges_kept bounds bounds' None have whole = tt
+ranges_kept bounds bounds' (Some ranges) have whole =
+    all_through (λ range. IsWhole bounds range.low range.high) (λ range. IsWhole bounds' range.low range.high)
+    (λ range. whole_kept bounds bounds' range.low range.high have) ranges whole
+
+property_kept : (files : List File) (bounds bounds' : List ℕ) (negated : Bool) (word : List ℕ) (value : Option (List ℕ)) → HaveBounds bounds' bounds →
+    IsCoveredProperty files bounds negated word value → IsCoveredProperty files bounds' negated word value
+property_kept files bounds bounds' negated word value have is =
+    record { set = is.set; value_is = is.value_is; whole = ranges_kept bounds bounds' is.set have is.whole }
+
 -- a part that is covered stays so
 part_kept : (files : List File) (bounds bounds' : List ℕ) → HaveBounds bounds' bounds → (part : Part) →
     IsCovered files bounds part → IsCovered files bounds' part
-part_kept files bounds bounds' have (Outside place atom) is = tt
+part_kept files bounds bounds' have (Outside place (character c bare)) is = tt
+part_kept files bounds bounds' have (Outside place (quoted word)) is = tt
+part_kept files bounds bounds' have (Outside place any) is = tt
+part_kept files bounds bounds' have (Outside place (name word)) is = tt
+part_kept files bounds bounds' have (Outside place (property negated word value)) is = property_kept files bounds bounds' negated word value have is
+part_kept files bounds bounds' have (Outside place (set s)) is = tt
+part_kept files bounds bounds' have (Outside place (group inner)) is = tt
 part_kept files bounds bounds' have (Within place (set_character c)) is = whole_kept bounds bounds' c c have is
 part_kept files bounds bounds' have (Within place (set_range first last)) is = whole_kept bounds bounds' first last have is
 part_kept files bounds bounds' have (Within place (set_name word)) is = tt
-part_kept files bounds bounds' have (Within place (set_property negated word value)) is = tt
+part_kept files bounds bounds' have (Within place (set_property negated word value)) is =
+    property_kept files bounds bounds' negated word value have is
 part_kept files bounds bounds' have (Within place (set_within inner)) is = tt
 
 -- what is covered stays so where there are more bounds
@@ -158,3 +189,61 @@ pub covered_kept : (files : List File) (bounds bounds' : List ℕ) (parts : List
     AreCovered files bounds' parts
 covered_kept files bounds bounds' parts have are =
     record { each = all_through (IsCovered files bounds) (IsCovered files bounds') (part_kept files bounds bounds' have) parts are.each }
+
+-- ranges with one more
+pub ranges_more : (bounds bounds' : List ℕ) (ranges : List Range) (range : Range) → HaveBounds bounds' bounds → AreWhole bounds ranges →
+    IsWhole bounds' range.low range.high → AreWhole bounds' (ranges ++ range ∷ [])
+ranges_more bounds bounds' ranges range have whole own =
+    all_append (λ r. IsWhole bounds' r.low r.high) ranges (range ∷ []) (ranges_kept bounds bounds' (Some ranges) have whole) (own, tt)
+
+-- what was collected stays right where there are more bounds
+pub collection_kept : (files : List File) (before after : Collection) →
+    ((bound : ℕ) → Contains before.bounds.items bound → Contains after.bounds.items bound) → after.answers ≡ before.answers →
+    after.sets ≡ before.sets → IsCollection files before → IsCollection files after
+collection_kept files before after keeps answers sets is =
+    let b = before.bounds.items in
+    let b' = after.bounds.items in
+    let have : HaveBounds b' b = λ bound has above below. keeps bound has in
+    record {
+      answers = subst (λ m. All (IsCoveredAnswer files b') (values m)) (sym answers)
+          (All-weaker (IsCoveredAnswer files b) (IsCoveredAnswer files b')
+          (λ answer a. record { right = a.right; whole = ranges_kept b b' (rc_value answer.set) have a.whole }) (values before.answers) is.answers);
+      sets = subst (λ m. All (λ found. IfSome (rc_value found) (AreWhole b')) (values m)) (sym sets)
+          (All-weaker (λ found. IfSome (rc_value found) (AreWhole b)) (λ found. IfSome (rc_value found) (AreWhole b'))
+          (λ found w. ranges_kept b b' (rc_value found) have w) (values before.sets) is.sets);
+    }
+
+-- a property has one value
+same_value : MembersDetermine → (files : List File) (v : Option model.SetTree) (a b : Option (List Range)) → IsValue files v a → IsValue files v b → a ≡ b
+same_value determine files None None None p q = refl
+same_value determine files None None (Some b) p q = absurd q
+same_value determine files None (Some a) b p q = absurd p
+same_value determine files (Some tree) None b p q = absurd p
+same_value determine files (Some tree) (Some a) None p q = absurd q
+same_value determine files (Some tree) (Some a) (Some b) p q =
+    ap Some (determine a b p.rising q.rising (λ c. (λ h. (q.members c).1 ((p.members c).0 h), λ h. (p.members c).1 ((q.members c).0 h))))
+
+ranges_whole : (bounds bounds' : List ℕ) (from : ℕ) (ranges : List Range) → HaveBounds bounds' bounds → AreRisingFrom from ranges → AreWhole bounds ranges →
+    AllByRecursion (λ range. AreWholeClasses bounds' range.low range.high) ranges
+ranges_whole bounds bounds' from [] have rising whole = tt
+ranges_whole bounds bounds' from (range ∷ ranges) have rising whole =
+    (whole_kept bounds bounds' range.low range.high have whole.0 rising.1 rising.2, ranges_whole bounds bounds' (range.high + 2) ranges have rising.3 whole.1)
+
+-- the ranges of a value that is covered are whole classes
+pub value_whole : (files : List File) (bounds bounds' : List ℕ) (v : Option model.SetTree) (ranges : Option (List Range)) → HaveBounds bounds' bounds →
+    IsValue files v ranges → IfSome ranges (AreWhole bounds) → IfSome ranges (AreWholeRanges bounds')
+value_whole files bounds bounds' None None have is whole = tt
+value_whole files bounds bounds' None (Some ranges) have is whole = absurd is
+value_whole files bounds bounds' (Some tree) None have is whole = absurd is
+value_whole files bounds bounds' (Some tree) (Some ranges) have is whole =
+    All-from_recursion (λ range. AreWholeClasses bounds' range.low range.high) ranges (ranges_whole bounds bounds' 0 ranges have is.rising whole)
+
+-- so are those of any value of a covered property
+pub property_whole : MembersDetermine → (files : List File) (bounds : List ℕ) (negated : Bool) (word : List ℕ) (value : Option (List ℕ))
+    (ranges : Option (List Range)) → IsCoveredProperty files bounds negated word value → IsValue files (value_of_property files negated word value) ranges →
+    IfSome ranges (AreWholeRanges bounds)
+property_whole determine files bounds negated word value ranges covered is =
+    let v = value_of_property files negated word value in
+    let same = same_value determine files v covered.set ranges covered.value_is is in
+    subst (λ s. IfSome s (AreWholeRanges bounds)) same
+    (value_whole files bounds bounds v covered.set (λ bound has above below. has) covered.value_is covered.whole)

@@ -1,14 +1,21 @@
 //! The classes of code points that no set of a rule file tells apart.
-ghost use Rattle.std.specs.Prelude.{◌≡◌, List, IfOk, IfSome};
+ghost use Rattle.std.specs.Prelude.{◌≡◌, List, IfOk, IfSome, OnOk};
 ghost use Rattle.std.specs.Rc.{rc_value};
 ghost use Rattle.rbbi_props.specs.Rows.{File};
 ghost use Rattle.rbbi_resolve.specs.SetValues.{value_of_property};
 ghost use Rattle.rbbi_tree.specs.Values.{statement_trees};
 ghost use Rattle.rbbi_resolve.specs.ClassValues.{AreClasses, IsClassValue};
-ghost use Rattle.rbbi_resolve.specs.Covered.{CoversAll};
+ghost use Rattle.rbbi_resolve.specs.ClassValues.{IsKnown, IsDivided};
+ghost use Rattle.rbbi_resolve.specs.Questions.{IsAnswer};
+ghost use Rattle.rbbi_resolve.specs.Covered.{CoversAll, AreWholeRanges};
+ghost use Rattle.std.specs.HashMap.{values};
+ghost use Rattle.std.specs.List.{All};
+ghost use Rattle.std.specs.Rc.{rc_value};
 
-use crate::collect::{Collection, collect_statement};
-use crate::properties::Properties;
+use crate::collect::collect_statement;
+use crate::collection::Collection;
+use crate::division::{Divided, divide_once};
+use crate::properties::{Answer, Properties};
 use crate::question::Question;
 use indexmap::IndexMap;
 use rbbi_sets::{ClassSet, Layout};
@@ -25,8 +32,7 @@ pub(crate) struct PropertyClasses {
 }
 
 /// The classes of a rule file: a bound of the layout stands wherever a range or a property of the
-/// file begins or ends. So each set of the file holds of a class all or nothing. Of ranges `of`
-/// ensures it; of properties it rests on the walk of `collect`, and on no contract.
+/// file begins or ends. So each set of the file holds of a class all or nothing, as `of` ensures.
 #[derive(Drop)]
 pub(crate) struct Classes {
     pub(crate) layout: Rc<Layout>,
@@ -46,16 +52,17 @@ impl Classes {
             CoversAll properties.old (rc_value classes.layout) (statement_trees statements.now)) }
         ensures same { properties.new ≡ properties.old }
     {
-        let mut collection = Collection {
-            bounds: Vec::new(alloc),
-        };
+        let mut collection = Collection::new(alloc);
         for number in 0..statements.len() {
             collect_statement(alloc, properties, &mut collection, statements.get(number))?;
         }
-        let Collection { mut bounds } = collection;
-        properties.collect(&mut bounds)?;
+        let Collection {
+            bounds,
+            answers,
+            ..
+        } = collection;
         let layout = Layout::new(alloc, bounds)?;
-        let sets = properties.by_classes(alloc, &layout)?;
+        let sets = by_classes(alloc, &layout, &answers)?;
         let shared = Rc::new(alloc, layout)?;
         Ok(Classes {
             layout: shared,
@@ -82,4 +89,48 @@ impl Classes {
             None
         }
     }
+}
+
+/// The sets that were found, by the classes of a layout, each made once.
+fn by_classes(
+    alloc: Global,
+    layout: &Layout,
+    answers: &IndexMap<String, Answer>,
+) -> Result<IndexMap<String, PropertyClasses>, AllocError>
+    requires { All (λ answer. IfSome (rc_value answer.set) (AreWholeRanges layout.now))
+        (values answers.now) }
+    ensures { IfOk result (λ sets. (files : List File) → All (IsAnswer files) (values answers.now)
+        → All (IsKnown files layout.now) (values sets)) }
+{
+    let mut divided = IndexMap::new(alloc);
+    let mut known = IndexMap::new(alloc);
+    for number in 0..answers.len() {
+        add_known(alloc, layout, answers, &mut divided, &mut known, number)?;
+    }
+    Ok(known)
+}
+
+/// Adds the set of the answer with this number, by classes.
+fn add_known(
+    alloc: Global,
+    layout: &Layout,
+    answers: &IndexMap<String, Answer>,
+    divided: &mut IndexMap<u64, Divided>,
+    known: &mut IndexMap<String, PropertyClasses>,
+    number: usize,
+) -> Result<(), AllocError>
+    requires whole { All (λ answer. IfSome (rc_value answer.set) (AreWholeRanges layout.now))
+        (values answers.now) }
+    requires divided { All (IsDivided layout.now) (values divided.old) }
+    ensures divided { OnOk result (All (IsDivided layout.now) (values divided.new)) }
+    ensures known { OnOk result ((files : List File) → All (IsAnswer files) (values answers.now)
+        → All (IsKnown files layout.now) (values known.old)
+        → All (IsKnown files layout.now) (values known.new)) }
+{
+    if let Some((key, answer)) = answers.get_index(number) {
+        let set = divide_once(alloc, layout, divided, &answer.set)?;
+        let question = answer.question.clone()?;
+        known.insert(key.clone()?, PropertyClasses { question, set })?;
+    }
+    Ok(())
 }

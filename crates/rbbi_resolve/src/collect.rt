@@ -1,22 +1,15 @@
 //! The bounds of the ranges in the sets of a rule file, and its properties.
-ghost use Rattle.std.specs.Prelude.{◌≡◌, ◌+◌, ◌++◌, ◌∷◌, [], OnOk};
+ghost use Rattle.std.specs.Prelude.{◌≡◌, OnOk};
 ghost use Rattle.rbbi_tree.specs.Values.{statement_tree, expr_tree, seq_tree, item_tree};
 ghost use Rattle.rbbi_tree.specs.Values.{set_tree, part_tree};
 ghost use Rattle.rbbi_resolve.specs.Parts.{parts_of_expr, parts_of_seq, parts_of_item};
 ghost use Rattle.rbbi_resolve.specs.Parts.{parts_of_set, parts_of_part};
-ghost use Rattle.rbbi_resolve.specs.Covered.{Collects, parts_of_statement};
+ghost use Rattle.rbbi_resolve.specs.Covered.{Collects, IsCollection, parts_of_statement};
 
+use crate::collection::Collection;
 use crate::properties::Properties;
-use rbbi_text::Word;
 use rbbi_tree::{Atom, Expr, Item, Seq, SetExpr, SetItem, SetPart, Statement};
 use std::alloc::{AllocError, Global};
-
-/// What a walk over statements collected.
-#[derive(Drop)]
-pub(crate) struct Collection {
-    /// Where the ranges begin, and what follows their ends.
-    pub(crate) bounds: Vec<u32>,
-}
 
 /// Adds the bounds of the ranges in the sets of a statement, and looks its properties up.
 pub(crate) fn collect_statement(
@@ -25,6 +18,7 @@ pub(crate) fn collect_statement(
     collection: &mut Collection,
     statement: &Statement,
 ) -> Result<(), AllocError>
+    requires { IsCollection properties.old collection.old }
     ensures collected { OnOk result (Collects properties.old collection.old collection.new
         (parts_of_statement (statement_tree statement.now))) }
     ensures same { properties.new ≡ properties.old }
@@ -54,6 +48,7 @@ fn collect_expr(
     collection: &mut Collection,
     expr: &Expr,
 ) -> Result<(), AllocError>
+    requires { IsCollection properties.old collection.old }
     ensures collected { OnOk result (Collects properties.old collection.old collection.new
         (parts_of_expr (expr_tree expr.now))) }
     ensures same { properties.new ≡ properties.old }
@@ -72,6 +67,7 @@ fn collect_seq(
     collection: &mut Collection,
     seq: &Seq,
 ) -> Result<(), AllocError>
+    requires { IsCollection properties.old collection.old }
     ensures collected { OnOk result (Collects properties.old collection.old collection.new
         (parts_of_seq (seq_tree seq.now))) }
     ensures same { properties.new ≡ properties.old }
@@ -90,6 +86,7 @@ fn collect_item(
     collection: &mut Collection,
     item: &Item,
 ) -> Result<(), AllocError>
+    requires { IsCollection properties.old collection.old }
     ensures collected { OnOk result (Collects properties.old collection.old collection.new
         (parts_of_item (item_tree item.now))) }
     ensures same { properties.new ≡ properties.old }
@@ -104,7 +101,7 @@ fn collect_item(
             name,
             value,
         } => {
-            look_up(alloc, properties, *negated, name, value)?;
+            collection.add_property(alloc, properties, *negated, name, value)?;
             Ok(())
         }
         Atom::Set(set) => {
@@ -126,6 +123,7 @@ fn collect_set(
     collection: &mut Collection,
     set: &SetExpr,
 ) -> Result<(), AllocError>
+    requires { IsCollection properties.old collection.old }
     ensures collected { OnOk result (Collects properties.old collection.old collection.new
         (parts_of_set (set_tree set.now))) }
     ensures same { properties.new ≡ properties.old }
@@ -144,17 +142,18 @@ fn collect_part(
     collection: &mut Collection,
     part: &SetPart,
 ) -> Result<(), AllocError>
+    requires { IsCollection properties.old collection.old }
     ensures collected { OnOk result (Collects properties.old collection.old collection.new
         (parts_of_part (part_tree part.now))) }
     ensures same { properties.new ≡ properties.old }
 {
     match &part.item {
         SetItem::Char(c) => {
-            push_bounds(collection, *c, *c)?;
+            collection.add_range(*c, *c)?;
             Ok(())
         }
         SetItem::Range(first, last) => {
-            push_bounds(collection, *first, *last)?;
+            collection.add_range(*first, *last)?;
             Ok(())
         }
         SetItem::Name(_) => Ok(()),
@@ -163,7 +162,7 @@ fn collect_part(
             name,
             value,
         } => {
-            look_up(alloc, properties, *negated, name, value)?;
+            collection.add_property(alloc, properties, *negated, name, value)?;
             Ok(())
         }
         SetItem::Set(inner) => {
@@ -171,30 +170,4 @@ fn collect_part(
             Ok(())
         }
     }
-}
-
-/// Looks a property up, so that it is known.
-fn look_up(
-    alloc: Global,
-    properties: &mut Properties,
-    negated: bool,
-    name: &Word,
-    value: &Option<Word>,
-) -> Result<(), AllocError>
-    ensures { properties.new ≡ properties.old }
-{
-    let _set = properties.set_of(alloc, negated, name, value)?;
-    Ok(())
-}
-
-/// Adds the bounds of a range: its first code point, and that behind its last.
-fn push_bounds(collection: &mut Collection, first: char, last: char) -> Result<(), AllocError>
-    ensures { OnOk result (collection.new.bounds.items
-        ≡ collection.old.bounds.items ++ first ∷ (last + 1) ∷ []) }
-{
-    let low = first as u32;
-    let end = last as u32 + 1;
-    collection.bounds.push(low)?;
-    collection.bounds.push(end)?;
-    Ok(())
 }

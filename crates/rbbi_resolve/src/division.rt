@@ -1,9 +1,10 @@
 //! Sets of ranges by classes, each made once.
-ghost use Rattle.std.specs.Prelude.{IfOk, OnOk};
+ghost use Rattle.std.specs.Prelude.{IfOk, IfSome, OnOk};
 ghost use Rattle.std.specs.HashMap.{values};
 ghost use Rattle.std.specs.List.{All};
 ghost use Rattle.std.specs.Rc.{rc_value};
 ghost use Rattle.rbbi_resolve.specs.ClassValues.{IsDivided, AreSame};
+ghost use Rattle.rbbi_resolve.specs.Covered.{AreWholeRanges};
 
 use crate::properties::{are_same, hash_of};
 use indexmap::IndexMap;
@@ -25,7 +26,8 @@ pub(crate) fn divide_once(
     divided: &mut IndexMap<u64, Divided>,
     set: &Rc<Option<CodeSet>>,
 ) -> Result<Rc<Option<ClassSet>>, AllocError>
-    requires { All (IsDivided layout.now) (values divided.old) }
+    requires divided { All (IsDivided layout.now) (values divided.old) }
+    requires whole { IfSome (rc_value set.now) (AreWholeRanges layout.now) }
     ensures divided { OnOk result (All (IsDivided layout.now) (values divided.new)) }
     ensures classes { IfOk result (λ classes.
         AreSame layout.now (rc_value set.now) (rc_value classes)) }
@@ -45,20 +47,18 @@ pub(crate) fn divide_once(
     Ok(classes)
 }
 
-/// The set by classes, where it is there. Where the layout lacks a bound of its ranges, which it
-/// doesn't for the properties of its file, that is answered as if memory had run out.
+/// The set by classes, where it is there. Its ranges are whole classes each.
 pub(crate) fn divide(
     alloc: Global,
     layout: &Layout,
     set: &Option<CodeSet>,
 ) -> Result<Option<ClassSet>, AllocError>
+    requires { IfSome set.now (AreWholeRanges layout.now) }
     ensures { IfOk result (λ classes. AreSame layout.now set.now classes) }
 {
     let Some(set) = set else {
         return Ok(None);
     };
-    match ClassSet::of_set(alloc, layout, set)? {
-        Some(classes) => Ok(Some(classes)),
-        None => Err(AllocError),
-    }
+    let classes = ClassSet::of_set(alloc, layout, set)?;
+    Ok(Some(classes.unwrap()))
 }

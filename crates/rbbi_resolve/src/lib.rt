@@ -7,6 +7,7 @@ mod build;
 mod check;
 mod classes;
 mod collect;
+mod collection;
 mod counts;
 mod definition;
 mod division;

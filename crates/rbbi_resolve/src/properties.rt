@@ -1,19 +1,17 @@
 //! The sets of properties, each looked up once.
-ghost use Rattle.std.specs.Prelude.{◌≡◌, ℕ, IfOk, IfSome, OnOk, IsTrue};
+ghost use Rattle.std.specs.Prelude.{◌≡◌, List, IfOk, IfSome, OnOk, IsTrue};
 ghost use Rattle.std.specs.Rc.{rc_value};
 ghost use Rattle.rbbi_props.specs.Lookups.{IsSetOf};
 ghost use Rattle.rbbi_resolve.specs.SetValues.{IsValue, value_of_property, found};
 ghost use Rattle.rbbi_resolve.specs.Questions.{IsAnswer};
-ghost use Rattle.rbbi_resolve.specs.ClassValues.{IsKnown, IsDivided};
+ghost use Rattle.rbbi_props.specs.Rows.{File};
 ghost use Rattle.std.specs.HashMap.{values};
-ghost use Rattle.std.specs.List.{All, Contains};
+ghost use Rattle.std.specs.List.{All};
 
-use crate::classes::PropertyClasses;
-use crate::division::{Divided, divide_once};
 use crate::question::{Question, key_of, text_of};
 use indexmap::IndexMap;
 use rbbi_props::PropTable;
-use rbbi_sets::{ClassSet, ClassShelf, CodeRange, CodeSet, Layout, SharedClasses};
+use rbbi_sets::{ClassSet, ClassShelf, CodeSet, SharedClasses};
 use rbbi_text::Word;
 use std::alloc::{AllocError, Global};
 use std::marker::Model;
@@ -21,9 +19,9 @@ use std::rc::Rc;
 
 /// A property that was asked for, and what was found.
 #[derive(Debug, Drop)]
-struct Answer {
-    question: Rc<Question>,
-    set: Rc<Option<CodeSet>>,
+pub(crate) struct Answer {
+    pub(crate) question: Rc<Question>,
+    pub(crate) set: Rc<Option<CodeSet>>,
 }
 
 /// The sets of properties, by a table of property files and the database.
@@ -38,8 +36,6 @@ pub(crate) struct Properties<'a> {
     /// What was found, by a hash, since a property may be spelled in many ways. Of sets with one
     /// hash the last one is here.
     sets: IndexMap<u64, Rc<Option<CodeSet>>>,
-    /// All that was found.
-    found: Vec<Rc<Option<CodeSet>>>,
     /// The chunks of the sets of variables.
     shelf: ClassShelf,
 }
@@ -69,7 +65,6 @@ impl<'a> Properties<'a> {
             table,
             answers: IndexMap::new(alloc),
             sets: IndexMap::new(alloc),
-            found: Vec::new(alloc),
             shelf: ClassShelf::new(alloc),
         }
     }
@@ -91,8 +86,8 @@ impl<'a> Properties<'a> {
             return Ok(found);
         }
         let found = find(alloc, self.table, negated, name, value)?;
-        let set = keep_once(alloc, &mut self.sets, &mut self.found, found)?;
-        let answer = answer_of(alloc, self.table, negated, name, value, set.clone()?)?;
+        let set = keep_once(alloc, &mut self.sets, found)?;
+        let answer = answer_of(alloc, negated, name, value, set.clone()?)?;
         self.answers.insert(key, answer)?;
         Ok(set)
     }
@@ -138,83 +133,20 @@ impl<'a> Properties<'a> {
             None => Ok(None),
         }
     }
-
-    /// Adds the bounds of the sets that were found.
-    pub(crate) fn collect(&self, bounds: &mut Vec<u32>) -> Result<(), AllocError>
-        ensures { OnOk result ((bound : ℕ) → Contains bounds.old.items bound
-            → Contains bounds.new.items bound) }
-    {
-        for set in &self.found {
-            if let Some(set) = set.as_ref() {
-                push_all_bounds(bounds, set.ranges())?;
-            }
-        }
-        Ok(())
-    }
-
-    /// The sets that were found, by the classes of a layout, each made once.
-    pub(crate) fn by_classes(
-        &self,
-        alloc: Global,
-        layout: &Layout,
-    ) -> Result<IndexMap<String, PropertyClasses>, AllocError>
-        ensures { IfOk result (λ sets. All (IsKnown self.now layout.now) (values sets)) }
-    {
-        let mut divided = IndexMap::new(alloc);
-        let mut known = IndexMap::new(alloc);
-        for number in 0..self.answers.len() {
-            self.add_known(alloc, layout, &mut divided, &mut known, number)?;
-        }
-        Ok(known)
-    }
-
-    /// Adds the set of the answer with this number, by classes.
-    fn add_known(
-        &self,
-        alloc: Global,
-        layout: &Layout,
-        divided: &mut IndexMap<u64, Divided>,
-        known: &mut IndexMap<String, PropertyClasses>,
-        number: usize,
-    ) -> Result<(), AllocError>
-        requires divided { All (IsDivided layout.now) (values divided.old) }
-        requires known { All (IsKnown self.now layout.now) (values known.old) }
-        ensures divided { OnOk result (All (IsDivided layout.now) (values divided.new)) }
-        ensures known { OnOk result (All (IsKnown self.now layout.now) (values known.new)) }
-    {
-        if let Some((key, answer)) = self.answers.get_index(number) {
-            let set = divide_once(alloc, layout, divided, &answer.set)?;
-            let question = answer.question.clone()?;
-            known.insert(key.clone()?, PropertyClasses { question, set })?;
-        }
-        Ok(())
-    }
-}
-
-/// Adds the bounds of ranges.
-fn push_all_bounds(bounds: &mut Vec<u32>, ranges: &[CodeRange]) -> Result<(), AllocError>
-    ensures { OnOk result ((bound : ℕ) → Contains bounds.old.items bound
-        → Contains bounds.new.items bound) }
-{
-    for range in ranges {
-        bounds.push(range.low)?;
-        bounds.push(range.high.saturating_add(1))?;
-    }
-    Ok(())
 }
 
 /// The answer for a property with this set.
-fn answer_of(
+pub(crate) fn answer_of(
     alloc: Global,
-    table: &PropTable,
     negated: bool,
     name: &Word,
     value: &Option<Word>,
     set: Rc<Option<CodeSet>>,
 ) -> Result<Answer, AllocError>
-    requires { IsValue table.now
-        (value_of_property table.now negated name.now value.now) (rc_value set) }
-    ensures { IfOk result (IsAnswer table.now) }
+    ensures right { IfOk result (λ answer. (files : List File) → IsValue files
+        (value_of_property files negated name.now value.now) (rc_value set)
+        → IsAnswer files answer) }
+    ensures set { IfOk result (λ answer. rc_value answer.set ≡ rc_value set) }
 {
     let question = Question {
         negated,
@@ -231,7 +163,6 @@ fn answer_of(
 fn keep_once(
     alloc: Global,
     sets: &mut IndexMap<u64, Rc<Option<CodeSet>>>,
-    all: &mut Vec<Rc<Option<CodeSet>>>,
     found: Option<CodeSet>,
 ) -> Result<Rc<Option<CodeSet>>, AllocError>
     ensures { IfOk result (λ kept. rc_value kept ≡ found) }
@@ -244,7 +175,6 @@ fn keep_once(
         }
     }
     let set = Rc::new(alloc, found)?;
-    all.push(set.clone()?)?;
     sets.insert(hash, set.clone()?)?;
     Ok(set)
 }

@@ -14,7 +14,7 @@ ghost use Rattle.rbbi_resolve.specs.ClassValues.{IsClassValue};
 ghost use Rattle.rbbi_resolve.specs.Worths.{classes_of};
 ghost use Rattle.rbbi_resolve.specs.Contexts.{value_of_name};
 ghost use Rattle.rbbi_resolve.specs.Parts.{Within, parts_of_set, parts_of_part};
-ghost use Rattle.rbbi_resolve.specs.Covered.{AreCovered, IsWhole};
+ghost use Rattle.rbbi_resolve.specs.Covered.{AreCovered, IsCoveredProperty, IsWhole};
 ghost use Rattle.rbbi_resolve.specs.Faults.{noted, noted_parts, faults_where};
 ghost use Rattle.rbbi_resolve.specs.Scopes.{IsScope, bounds_of, context_of};
 
@@ -24,7 +24,7 @@ use crate::properties::Properties;
 use crate::question::key_of;
 use crate::scope::Scope;
 use crate::variables::Kind;
-use rbbi_sets::{ClassSet, Layout, SharedClasses};
+use rbbi_sets::{ClassSet, Layout, SharedClasses, members_determine};
 use rbbi_text::Word;
 use rbbi_tree::{Join, SetExpr, SetItem};
 use std::alloc::{AllocError, Global};
@@ -213,7 +213,9 @@ pub(crate) fn value_of_property(
     name: &Word,
     value: &Option<Word>,
 ) -> Result<Option<ClassSet>, AllocError>
-    requires { IsScope properties.old scope.now }
+    requires scope { IsScope properties.old scope.now }
+    requires covered { IsCoveredProperty properties.old (bounds_of scope.now)
+        negated name.now value.now }
     ensures value { IfOk result (λ set. IsClassValue properties.old (bounds_of scope.now)
         (value_of_property properties.old negated name.now value.now) set) }
     ensures same { properties.new ≡ properties.old }
@@ -225,6 +227,7 @@ pub(crate) fn value_of_property(
             Ok(copy)
         }
         None => {
+            members_determine();
             let found = properties.set_of(alloc, negated, name, value)?;
             let set = divide(alloc, scope.layout(), found.as_ref())?;
             Ok(set)

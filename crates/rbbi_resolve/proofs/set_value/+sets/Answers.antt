@@ -94,3 +94,10 @@ value_of_item-value_of_set-requires t c =
     let smaller : size_of_set (set_tree inner) < size_of_member (set_item_tree c.args.item.now) = omega arith in
     let covered = covered_inner c.args.properties.now (bounds_of c.args.scope.now) c.args.place c.args.item.now inner c.in-Set.is c.requires.covered in
     search rules
+
+pub value_of_item-value_of_property-requires-clause-covered : goal.value_of_item-value_of_property-requires-clause-covered
+value_of_item-value_of_property-requires-clause-covered t c =
+    let r = c.in-Prop in
+    let e : set_item_tree c.args.item.now ≡ set_property r.negated r.name r.value = let i =
+    r.is in ap set_item_tree i ∙ of_property r.negated r.name r.value in
+    (subst (λ i. AreCovered c.args.properties.now (bounds_of c.args.scope.now) (parts_of_part (joined c.args.place Add i))) e c.requires.covered).each.0
