@@ -1,13 +1,17 @@
 //! Sets of characters, by ranges and by classes.
 use super::{Pairs, is_list, set_of};
-use crate::{CharacterSet, ClassSet, ClassShelf, CodeRange, CodeSet, Layout};
+use crate::{CharacterSet, ClassSet, ClassShelf, CodeSet, Layout};
 use std::alloc::{AllocError, Global};
 use std::rc::Rc;
 use std::test::Fail;
 
-/// The characters of some ranges by classes, of which each begins or ends with one of them.
-fn characters_of(alloc: Global, set: &CodeSet) -> Result<CharacterSet, AllocError> {
+/// The characters of a set by classes. Each range of the set begins and ends with one, and so does
+/// each code point before `end`.
+fn characters_of(alloc: Global, set: &CodeSet, end: u32) -> Result<CharacterSet, AllocError> {
     let mut bounds = Vec::new(alloc);
+    for bound in 0..end {
+        bounds.push(bound)?;
+    }
     for range in set.ranges() {
         bounds.push(range.low)?;
         bounds.push(range.high.saturating_add(1))?;
@@ -34,7 +38,7 @@ fn characters_of_sets(rt: HostRuntime) -> Result<(), Fail> {
     for (of, want) in &cases {
         let set = set_of(rt.alloc(), of)?;
         let own = CharacterSet::of_set(rt.alloc(), &set)?;
-        let shared = characters_of(rt.alloc(), &set)?;
+        let shared = characters_of(rt.alloc(), &set, 0)?;
         assert!(rt; is_list(&own.to_set(rt.alloc())?, want));
         assert!(rt; is_list(&shared.to_set(rt.alloc())?, want));
         for c in [
@@ -54,19 +58,28 @@ fn characters_of_sets(rt: HostRuntime) -> Result<(), Fail> {
 
 #[test]
 fn characters_of_many_chunks(rt: HostRuntime) -> Result<(), Fail> {
-    // 20,000 classes, in 313 words and some five chunks, of which every second one is in the set.
-    let mut ranges = Vec::new(rt.alloc());
-    for half in 0..10_000 {
-        let low = half * 2;
-        ranges.push(CodeRange { low, high: low })?;
-    }
-    let set = CodeSet::from_ranges(rt.alloc(), ranges)?;
-    let shared = characters_of(rt.alloc(), &set)?;
-    for c in [
-        0, 1, 63, 64, 4_095, 4_096, 8_191, 8_192, 12_289, 19_998, 19_999, 20_000,
+    // The words 1 to 148, in chunks that end before the words 64 and 128.
+    let pairs: Pairs = &[(100, 110), (4090, 4100), (8190, 8195), (9001, 9500)];
+    let set = set_of(rt.alloc(), pairs)?;
+    let shared = characters_of(rt.alloc(), &set, 10_001)?;
+    assert!(rt; is_list(&shared.to_set(rt.alloc())?, pairs));
+    for (c, want) in [
+        (0, false),
+        (99, false),
+        (100, true),
+        (110, true),
+        (111, false),
+        (4095, true),
+        (4096, true),
+        (4101, false),
+        (8191, true),
+        (8192, true),
+        (8196, false),
+        (9500, true),
+        (9501, false),
+        (10_001, false),
     ] {
-        assert_eq!(rt; shared.has(c), c % 2 == 0 && c < 20_000, "at {c}");
+        assert_eq!(rt; shared.has(c), want, "at {c}");
     }
-    assert_eq!(rt; shared.to_set(rt.alloc())?.ranges().len(), 10_000);
     Ok(())
 }
