@@ -1,6 +1,6 @@
--- The numbers of the classes that bounds divide the code points into.
-use Rattle.std.proofs.Common.{◌≡◌, ℕ, ◌+◌, ◌<◌, ◌≤◌, zero, suc, List, [], ◌∷◌, ◌++◌, ◌↔◌, length, get_or, cond, ap, sym, ◌∙◌, inl, inr, arith}
-use Rattle.std.proofs.Common.{subst, ◌-◌, ◌⊎◌, leb, true, false}
+-- The numbers of the last classes that begin up to code points.
+use Rattle.std.proofs.Common.{◌≡◌, ℕ, ◌+◌, ◌<◌, ◌≤◌, zero, suc, List, [], ◌∷◌, ◌++◌, ◌↔◌, length, get_or, cond, ap, ◌∙◌, inl, inr, arith}
+use Rattle.std.proofs.Common.{leb, true, false}
 use Rattle.std.specs.List.Sorted.{IsNonDecreasingBy, IsPartitionPoint}
 use Rattle.std.proofs.Math.Numerals.{add-one}
 use Rattle.std.proofs.lemmas.Bool.{cases_eq, cases_lt, le-leb, lt-leb, leb-true, leb-false}
@@ -11,7 +11,7 @@ use Rattle.rbbi_sets.specs.Classes.{class_of, AreBoundsFrom, AreBounds}
 class-from : (bound : ℕ) (bounds : List ℕ) (c : ℕ) → bound ≤ c → class_of (bound ∷ bounds) c ≡ class_of bounds c + 1
 class-from bound bounds c l = ap (λ b. cond b (class_of bounds c + 1) 0) (le-leb bound c l)
 
-class-before : (bound : ℕ) (bounds : List ℕ) (c : ℕ) → c < bound → class_of (bound ∷ bounds) c ≡ 0
+pub class-before : (bound : ℕ) (bounds : List ℕ) (c : ℕ) → c < bound → class_of (bound ∷ bounds) c ≡ 0
 class-before bound bounds c l = ap (λ b. cond b (class_of bounds c + 1) 0) (lt-leb bound c l)
 
 -- there is a class for each bound, and the first one
@@ -64,91 +64,6 @@ class-past before (bound ∷ bounds) h (suc k) c l =
       | inl early ↦ let none = class-before bound bounds c early in (λ g. absurd (omega arith), λ g. absurd (omega arith))
       | inr from ↦ let some = class-from bound bounds c from in (λ g. rest.0 (omega arith), λ g. omega (arith, rest.1 g))
     ]
-
--- a bound that is read with any default
-pub bound-read : (bounds : List ℕ) (k d bound : ℕ) → k < length bounds → bound ≡ get_or bounds k d → bound ≡ get_or bounds k 0
-bound-read bounds k d bound l is = is ∙ get_or_default bounds k d 0 l
-
--- where a class begins, and where it ends
-abbrev pub BeginsAt : List ℕ → ℕ → ℕ → Type 0
-BeginsAt bounds k low = (c : ℕ) → (k ≤ class_of bounds c) ↔ (low ≤ c)
-
-abbrev pub EndsAt : List ℕ → ℕ → ℕ → Type 0
-EndsAt bounds k high = (c : ℕ) → c ≤ 0x10FFFF → (class_of bounds c ≤ k) ↔ (c ≤ high)
-
-pub begins-first : (bounds : List ℕ) → BeginsAt bounds 0 0
-begins-first bounds c = (λ h. omega arith, λ h. omega arith)
-
-pub begins-at : (bounds : List ℕ) → AreBounds bounds → (k low : ℕ) → k < length bounds → low ≡ get_or bounds k 0 → BeginsAt bounds (k + 1) low
-begins-at bounds h k low l is c =
-    let past = class-past 0 bounds h k c l in
-    (λ g. omega (arith, is, past.0 (omega arith)), λ g. omega (arith, past.1 (omega (arith, is))))
-
-pub ends-at : (bounds : List ℕ) → AreBounds bounds → (k high : ℕ) → k < length bounds → high + 1 ≡ get_or bounds k 0 → EndsAt bounds k high
-ends-at bounds h k high l is c m =
-    let past = class-past 0 bounds h k c l in
-    elim (cases_lt high c) [
-      | inl after ↦ let more = past.1 (omega (arith, is)) in (λ g. absurd (omega arith), λ g. absurd (omega arith))
-      | inr upto ↦ (
-        λ g. upto,
-        λ g. elim (cases_lt k (class_of bounds c)) [ inl more ↦ absurd (omega (arith, is, past.0 more)) | inr less ↦ less ],
-      )
-    ]
-
-pub ends-last : (bounds : List ℕ) (k high : ℕ) → length bounds ≤ k → high ≡ 0x10FFFF → EndsAt bounds k high
-ends-last bounds k high l is c m = (λ g. omega arith, λ g. omega (arith, class-within bounds c))
-
--- a class that begins no later than another ends
-pub begins-ends : (bounds : List ℕ) (first last low high : ℕ) → BeginsAt bounds first low → EndsAt bounds last high → low ≤ high → high ≤ 0x10FFFF →
-    first ≤ last
-begins-ends bounds first last low high b e l m = omega (arith, (b low).1 (omega arith), (e low (omega arith)).1 l)
-
--- the first code point of a class, and its last one
-abbrev pub IsLow : List ℕ → ℕ → ℕ → Type 0
-IsLow bounds k low = ((k ≡ 0) × (low ≡ 0)) ⊎ ((0 < k) × (low ≡ get_or bounds (k - 1) 0))
-
-abbrev pub IsHigh : List ℕ → ℕ → ℕ → Type 0
-IsHigh bounds k high = ((k < length bounds) × (high ≡ get_or bounds k 0 - 1)) ⊎ ((length bounds ≤ k) × (high ≡ 0x10FFFF))
-
-module _ (bounds : List ℕ) (k low high : ℕ) (h : AreBounds bounds) (l : k ≤ length bounds) (first : IsLow bounds k low) (last : IsHigh bounds k high) where
-  begins : BeginsAt bounds k low
-  begins =
-      elim first [
-        | inl none ↦ let P : ℕ → ℕ → Type 0 = λ i n. BeginsAt bounds i n in
-            subst (λ i. P i low) (sym none.0) (subst (λ n. P 0 n) (sym none.1) (begins-first bounds))
-        | inr some ↦
-            let next : k - 1 + 1 ≡ k = omega (arith, some.0) in
-            subst (λ i. BeginsAt bounds i low) next (begins-at bounds h (k - 1) low (omega (arith, some.0)) some.1)
-      ]
-
-  ends : EndsAt bounds k high
-  ends =
-      elim last [
-        | inl some ↦ ends-at bounds h k high some.0 (omega (arith, some.1, (bounds-range 0 bounds h k some.0).0))
-        | inr none ↦ ends-last bounds k high none.0 none.1
-      ]
-
-  pub class-range : (low ≤ high) × (high ≤ 0x10FFFF)
-  class-range =
-      elim last [
-        | inl some ↦
-            let range = bounds-range 0 bounds h k some.0 in
-            elim first [
-              | inl start ↦ (omega (arith, start.1), omega (arith, some.1, range.1))
-              | inr after ↦
-                  let rise = bounds-rise 0 bounds h (k - 1) k (omega (arith, after.0)) some.0 in
-                  (omega (arith, after.1, some.1, rise), omega (arith, some.1, range.1))
-            ]
-        | inr none ↦
-            elim first [
-              | inl start ↦ (omega (arith, start.1), omega (arith, none.1))
-              | inr after ↦ (omega (arith, after.1, none.1, (bounds-range 0 bounds h (k - 1) (omega (arith, after.0))).1), omega (arith, none.1))
-            ]
-      ]
-
-  pub class-members : (c : ℕ) → c ≤ 0x10FFFF → (class_of bounds c ≡ k) ↔ ((low ≤ c) × (c ≤ high))
-  class-members c m =
-      (λ is. ((begins c).0 (omega arith), (ends c m).0 (omega arith)), λ both. omega (arith, (begins c).1 both.0, (ends c m).1 both.1))
 
 -- bounds that rise to a last one, and one more
 abbrev pub AreBoundsTo : ℕ → List ℕ → ℕ → Type 0

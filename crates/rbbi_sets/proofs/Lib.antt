@@ -12,7 +12,8 @@ pub mod Determined
 pub mod Sorting
 pub mod Search
 pub mod ClassBounds
-pub mod ClassCuts
+pub mod FirstCodePoints
+pub mod DividedMembers
 pub mod ClassWalks
 pub mod ClassWords
 pub mod ClassRows
@@ -22,3 +23,8 @@ pub mod ClassSpans
 pub mod ClassChunks
 pub mod PassingRanges
 pub mod CharacterMembers
+pub mod Stepping
+pub mod StepFirsts
+pub mod StepMerges
+pub mod SetSteps
+pub mod Dividing

@@ -1,9 +1,10 @@
--- Sets of code points by the classes that bounds divide them into.
+-- Sets of classes, by the code points at which these begin.
 use Rattle.std.specs.Prelude.{◌≡◌, ℕ, ◌+◌, ◌-◌, ◌/◌, ◌%◌, ◌<◌, ◌≤◌, ◌⊎◌, nat_lt, nat_le, List, [], ◌∷◌, length, slice_index, if◌then◌else◌}
 use Rattle.std.specs.List.{Contains}
 use Rattle.std.specs.Int.{bit_at}
 
--- The number of a code point's class: how many bounds are up to it. So a class begins at each bound, and the first one at 0.
+-- How many bounds are up to a code point. So where a class begins at each bound, and the first one at 0, this is the number of the last
+-- class that begins up to the code point, and of that which begins at it.
 abbrev pub class_of : List ℕ → ℕ → ℕ
 class_of [] c = 0
 class_of (bound ∷ bounds) c = if nat_le bound c then class_of bounds c + 1 else 0
@@ -20,14 +21,6 @@ AreBounds bounds = AreBoundsFrom 0 bounds
 -- a class begins at the code point
 abbrev pub IsFirstOfClass : List ℕ → ℕ → Type 0
 IsFirstOfClass bounds c = (c ≡ 0) ⊎ Contains bounds c
-
--- a class ends at the code point
-abbrev pub IsLastOfClass : List ℕ → ℕ → Type 0
-IsLastOfClass bounds c = (c ≡ 0x10FFFF) ⊎ Contains bounds (c + 1)
-
--- the code points from one to another, both counted, are whole classes
-abbrev pub AreWholeClasses : List ℕ → ℕ → ℕ → Type 0
-AreWholeClasses bounds low high = IsFirstOfClass bounds low × IsLastOfClass bounds high
 
 -- Classes by their numbers, as bits of words, 64 to a word, the least bit first. The words before the first one here are 0.
 pub record ClassBits : Type 0 where
@@ -46,6 +39,6 @@ HasClass set k = bit_at (word_at set (k / 64)) (k % 64) ≡ 1
 abbrev pub IsOutside : ClassBits → ℕ → Type 0
 IsOutside set k = (k / 64 < set.from) ⊎ (set.from + length set.words ≤ k / 64)
 
--- the set has the code point, where these bounds divide the code points into classes
+-- the set has the last class that begins up to the code point, and so that which begins at it
 abbrev pub HasMember : List ℕ → ClassBits → ℕ → Type 0
 HasMember bounds set c = (c ≤ 0x10FFFF) × HasClass set (class_of bounds c)

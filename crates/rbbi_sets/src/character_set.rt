@@ -4,9 +4,9 @@ ghost use Rattle.std.specs.Rc.{rc_value};
 ghost use Rattle.rbbi_model.specs.Words.{IsSurrogate};
 ghost use Rattle.rbbi_model.specs.Ranges.{Has};
 ghost use Rattle.rbbi_sets.specs.Rising.{AreRising};
-ghost use Rattle.rbbi_sets.specs.Classes.{HasMember};
+ghost use Rattle.rbbi_sets.specs.Divisions.{HasDivided};
 
-use crate::{CodeSet, Layout, SharedClasses};
+use crate::{CodeSet, Division, SharedClasses};
 use std::alloc::{AllocError, Global};
 use std::marker::Model;
 use std::rc::Rc;
@@ -14,7 +14,7 @@ use std::rc::Rc;
 /// A set of characters: it holds no surrogates (0xD800 to 0xDFFF). Contracts see it as its list of
 /// ranges, which rise and neither overlap nor touch.
 ///
-/// It keeps ranges of its own, or classes under a layout, in chunks that it shares with other sets;
+/// It keeps ranges of its own, or classes of a division, in chunks that it shares with other sets;
 /// then it takes little memory, however many ranges it has, and surrogates are left out as it is
 /// read.
 #[derive(Debug, Drop)]
@@ -28,7 +28,7 @@ enum Held {
     /// The set by itself, without surrogates.
     Ranges(CodeSet),
     /// A set by classes, which may have surrogates.
-    Classes(Rc<Layout>, SharedClasses),
+    Classes(Rc<Division>, SharedClasses),
 }
 
 impl Model for CharacterSet {
@@ -55,19 +55,20 @@ impl CharacterSet {
         })
     }
 
-    /// The characters of a set by classes, in its own chunks. It takes no memory but for itself.
+    /// The characters of the classes of a division that are in a set, in its own chunks. It takes
+    /// no memory but for itself.
     pub fn of_classes(
-        layout: &Rc<Layout>,
+        division: &Rc<Division>,
         classes: &SharedClasses,
     ) -> Result<CharacterSet, AllocError>
         ensures members { IfOk result (λ characters. (c : ℕ) → Has characters c
-            ↔ (HasMember (rc_value layout.now) classes.now c × ¬ IsSurrogate c)) }
+            ↔ (HasDivided (rc_value division.now) classes.now c × ¬ IsSurrogate c)) }
         ensures form { IfOk result (λ characters. AreRising characters) }
     {
-        let layout = layout.clone()?;
+        let division = division.clone()?;
         let classes = classes.clone()?;
         Ok(CharacterSet {
-            held: Held::Classes(layout, classes),
+            held: Held::Classes(division, classes),
         })
     }
 
@@ -77,8 +78,8 @@ impl CharacterSet {
     {
         match &self.held {
             Held::Ranges(set) => set.has(c),
-            Held::Classes(layout, classes) => {
-                !is_surrogate(c) && classes.has(layout.as_ref(), c)
+            Held::Classes(division, classes) => {
+                !is_surrogate(c) && division.as_ref().has(classes, c)
             }
         }
     }
@@ -89,9 +90,9 @@ impl CharacterSet {
     {
         match &self.held {
             Held::Ranges(set) => Ok(set.clone()?),
-            Held::Classes(layout, classes) => {
+            Held::Classes(division, classes) => {
                 let whole = classes.to_classes(alloc)?;
-                let set = whole.to_set(alloc, layout.as_ref())?;
+                let set = division.as_ref().members(alloc, &whole)?;
                 let without = set.without_surrogates(alloc)?;
                 Ok(without)
             }

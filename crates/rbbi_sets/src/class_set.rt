@@ -11,9 +11,9 @@ use crate::{Layout, SharedClasses};
 use std::alloc::{AllocError, Global};
 use std::marker::Model;
 
-/// A set of code points that holds of each class of a `Layout` all or none. It holds their numbers
-/// as bits, so to join two sets takes a step for 64 classes. Contracts see it as its words
-/// (`ClassBits`), and its members by `HasMember`.
+/// A set of classes, whose first code points a `Layout` has. It holds their numbers as bits, so to
+/// join two sets takes a step for 64 classes. Contracts see it as its words (`ClassBits`), and by
+/// `HasMember` whether it has the class that begins at a code point.
 #[derive(Debug, Drop)]
 pub struct ClassSet {
     /// How many words, all 0, stand before those of `words`.

@@ -1,23 +1,49 @@
-//! Whether a code point is in a set of classes.
-ghost use Rattle.std.specs.Prelude.{◌≡◌, ◌↔◌, IsTrue};
-ghost use Rattle.rbbi_sets.specs.Classes.{class_of, HasMember, word_at};
+//! The code points of classes.
+ghost use Rattle.std.specs.Prelude.{◌↔◌, ℕ, IfOk, IsTrue};
+ghost use Rattle.rbbi_model.specs.Ranges.{Has};
+ghost use Rattle.rbbi_sets.specs.Rising.{AreRising};
+ghost use Rattle.rbbi_sets.specs.Divisions.{HasDivided};
 
 use crate::class_members::is_set;
-use crate::{Layout, SharedClasses};
+use crate::join::join_last;
+use crate::{ClassSet, CodeSet, Division, SharedClasses};
+use std::alloc::{AllocError, Global};
 
 /// The last code point.
 const LAST: u32 = 0x10_FFFF;
 
-impl SharedClasses {
-    /// Whether the set has the code point under a layout. It goes over the chunks up to that of the
-    /// code point's class, and looks at one word.
-    pub fn has(&self, layout: &Layout, c: u32) -> bool
-        ensures { IsTrue result ↔ HasMember layout.now self.now c }
+impl Division {
+    /// Whether the class of the code point is in the set.
+    pub fn has(&self, set: &SharedClasses, c: u32) -> bool
+        ensures { IsTrue result ↔ HasDivided self.now set.now c }
     {
-        if c > LAST {
-            return false;
+        // By its layout it is known what form the division has.
+        let _ = self.layout();
+        let class = self.class_at(c);
+        c <= LAST && is_set(set.word(class / 64), class % 64)
+    }
+
+    /// The code points whose classes are in the set, by one pass over the steps.
+    pub fn members(&self, alloc: Global, set: &ClassSet) -> Result<CodeSet, AllocError>
+        ensures members { IfOk result (λ found. (c : ℕ) →
+            Has found c ↔ HasDivided self.now set.now c) }
+        ensures form { IfOk result (λ found. AreRising found) }
+    {
+        // By its layout it is known what form the division has.
+        let _ = self.layout();
+        let mut ranges = Vec::new(alloc);
+        let mut start = 0;
+        let mut class = 0;
+        for step in self.steps() {
+            if is_set(set.word(class / 64), class % 64) {
+                join_last(&mut ranges, start, step.start - 1)?;
+            }
+            start = step.start;
+            class = step.number as usize;
         }
-        let class = layout.class_at(c);
-        is_set(self.word(class / 64), class % 64)
+        if is_set(set.word(class / 64), class % 64) {
+            join_last(&mut ranges, start, LAST)?;
+        }
+        Ok(CodeSet::from_rising(ranges))
     }
 }

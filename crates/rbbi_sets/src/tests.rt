@@ -9,6 +9,7 @@ use std::test::Fail;
 
 mod character_sets;
 mod classes;
+mod divisions;
 
 type Pairs = &'static [(u32, u32)];
 

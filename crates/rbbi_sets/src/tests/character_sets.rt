@@ -1,26 +1,22 @@
 //! Sets of characters, by ranges and by classes.
 use super::{Pairs, is_list, set_of};
-use crate::{CharacterSet, ClassSet, ClassShelf, CodeSet, Layout};
+use crate::{CharacterSet, ClassSet, ClassShelf, CodeSet, Division};
 use std::alloc::{AllocError, Global};
 use std::rc::Rc;
 use std::test::Fail;
 
-/// The characters of a set by classes. Each range of the set begins and ends with one, and so does
-/// each code point before `end`.
+/// The characters of a set by classes, of a division by the set and by each code point before
+/// `end`.
 fn characters_of(alloc: Global, set: &CodeSet, end: u32) -> Result<CharacterSet, AllocError> {
-    let mut bounds = Vec::new(alloc);
-    for bound in 0..end {
-        bounds.push(bound)?;
+    let mut sets = Vec::new(alloc);
+    sets.push(set.clone()?)?;
+    for c in 0..end {
+        sets.push(set_of(alloc, &[(c, c)])?)?;
     }
-    for range in set.ranges() {
-        bounds.push(range.low)?;
-        bounds.push(range.high.saturating_add(1))?;
-    }
-    let layout = Rc::new(alloc, Layout::new(alloc, bounds)?)?;
-    let found = ClassSet::of_set(alloc, layout.as_ref(), set)?;
-    let classes = found.unwrap_or(ClassSet::empty(alloc));
+    let division = Rc::new(alloc, Division::new(alloc, &sets)?)?;
+    let classes = ClassSet::of_set(alloc, division.as_ref().layout(), set)?;
     let kept = ClassShelf::new(alloc).keep(alloc, &classes)?;
-    CharacterSet::of_classes(&layout, &kept)
+    CharacterSet::of_classes(&division, &kept)
 }
 
 #[test]

@@ -1,68 +1,144 @@
 //! Sets of classes, from ranges and back.
 use super::{Case, LAST, Pairs, is_list, set_of};
-use crate::{ClassSet, ClassShelf, CodeSet, Layout};
+use crate::{ClassSet, ClassShelf, CodeSet, Division, Layout};
 use std::alloc::{AllocError, Global};
 use std::test::Fail;
 
-/// Bounds of a layout, two ends of a range, and whether these are whole classes.
-type Span = (&'static [u32], u32, u32, bool);
+/// Two ends of a range, and the code points of the classes that begin in it.
+type Span = (u32, u32, Pairs);
 
-fn layout_of(alloc: Global, bounds: &[u32]) -> Result<Layout, AllocError> {
-    Layout::new(alloc, Vec::from_slice(alloc, bounds)?)
-}
+/// Digits, letters, and hexadecimal digits. So these are the classes, by their first code points: 0
+/// what is none of them, 0x30 the digits, 0x41 the hexadecimal digits that are letters, 0x47 the
+/// other letters, and 0xD800 the surrogates.
+const SETS: [Pairs; 3] = [
+    &[(0x30, 0x39)],
+    &[(0x41, 0x5A), (0x61, 0x7A)],
+    &[(0x30, 0x39), (0x41, 0x46), (0x61, 0x66)],
+];
 
-/// A layout of which each code point before the last bound is a class of its own.
-fn fine_layout(alloc: Global, end: u32) -> Result<Layout, AllocError> {
-    let mut bounds = Vec::new(alloc);
-    for bound in 1..end {
-        bounds.push(bound)?;
+/// What is in none of the sets.
+const OTHERS: Pairs = &[
+    (0, 0x2F),
+    (0x3A, 0x40),
+    (0x5B, 0x60),
+    (0x7B, 0xD7FF),
+    (0xE000, LAST),
+];
+
+/// The division by some sets.
+fn division_by(alloc: Global, sets: &[Pairs]) -> Result<Division, AllocError> {
+    let mut made = Vec::new(alloc);
+    for pairs in sets {
+        made.push(set_of(alloc, pairs)?)?;
     }
-    Layout::new(alloc, bounds)
+    Division::new(alloc, &made)
 }
 
-/// The set of some ranges by classes, which is empty where they aren't whole classes.
+/// A division of which each of the first `count` code points is a class of its own.
+fn fine_division(alloc: Global, count: u32) -> Result<Division, AllocError> {
+    let mut sets = Vec::new(alloc);
+    for c in 0..count {
+        sets.push(set_of(alloc, &[(c, c)])?)?;
+    }
+    Division::new(alloc, &sets)
+}
+
+/// The classes whose first code points are in some ranges.
 fn classes_of(
     alloc: Global,
     layout: &Layout,
     pairs: &[(u32, u32)],
 ) -> Result<ClassSet, AllocError> {
-    let classes = ClassSet::of_set(alloc, layout, &set_of(alloc, pairs)?)?;
-    Ok(classes.unwrap_or(ClassSet::empty(alloc)))
+    ClassSet::of_set(alloc, layout, &set_of(alloc, pairs)?)
 }
 
 #[test]
 fn spans(rt: HostRuntime) -> Result<(), Fail> {
-    const BOUNDS: &[u32] = &[0x61, 5, 0, 0x61, 0x11_0000, 0x7B, u32::MAX, LAST];
     let cases: [Span; 15] = [
-        (BOUNDS, 0, 4, true),
-        (BOUNDS, 0, 0x60, true),
-        (BOUNDS, 5, 0x7A, true),
-        (BOUNDS, 0x7B, LAST - 1, true),
-        (BOUNDS, LAST, LAST, true),
-        (BOUNDS, 0, LAST, true),
-        // One end is no bound.
-        (BOUNDS, 0, 0, false),
-        (BOUNDS, 0, 5, false),
-        (BOUNDS, 1, 4, false),
-        (BOUNDS, 6, 0x60, false),
-        (BOUNDS, 5, LAST - 2, false),
-        // There is one class.
-        (&[], 0, LAST, true),
-        (&[], 0, LAST - 1, false),
-        (&[], 1, LAST, false),
-        (&[], LAST, LAST, false),
+        (0, 0, OTHERS),
+        (0, 0x2F, OTHERS),
+        (0x30, 0x30, &[(0x30, 0x39)]),
+        (0x41, 0x46, &[(0x41, 0x46), (0x61, 0x66)]),
+        (0x46, 0x48, &[(0x47, 0x5A), (0x67, 0x7A)]),
+        (0x31, 0xD7FF, &[(0x41, 0x5A), (0x61, 0x7A)]),
+        (
+            1,
+            LAST,
+            &[(0x30, 0x39), (0x41, 0x5A), (0x61, 0x7A), (0xD800, 0xDFFF)],
+        ),
+        (0xD800, 0xD800, &[(0xD800, 0xDFFF)]),
+        (0, LAST, &[(0, LAST)]),
+        // No class begins there.
+        (1, 0x2F, &[]),
+        (0x31, 0x40, &[]),
+        (0x61, 0x66, &[]),
+        (0xD801, LAST, &[]),
+        // No code point is there.
+        (0x47, 0x41, &[]),
+        (LAST + 1, u32::MAX, &[]),
     ];
-    for (bounds, low, high, whole) in &cases {
-        let layout = layout_of(rt.alloc(), bounds)?;
-        let set = CodeSet::range(rt.alloc(), *low, *high)?;
-        let found = ClassSet::range(rt.alloc(), &layout, *low, *high)?;
-        let same = ClassSet::of_set(rt.alloc(), &layout, &set)?;
-        assert_eq!(rt; found.is_some(), *whole);
-        assert_eq!(rt; same.is_some(), *whole);
-        for classes in [found, same].iter().flatten() {
-            let back = classes.to_set(rt.alloc(), &layout)?;
-            assert!(rt; is_list(&back, &[(*low, *high)]));
-        }
+    let division = division_by(rt.alloc(), &SETS)?;
+    for (low, high, want) in &cases {
+        let layout = division.layout();
+        let found = ClassSet::range(rt.alloc(), layout, *low, *high)?;
+        assert!(rt; is_list(&division.members(rt.alloc(), &found)?, want));
+        let same = classes_of(rt.alloc(), layout, &[(*low, *high)])?;
+        assert!(rt; is_list(&division.members(rt.alloc(), &same)?, want));
+    }
+    // There are the surrogates and the others.
+    let coarse = division_by(rt.alloc(), &[])?;
+    let coarse_cases: [Span; 4] = [
+        (0, 0xD7FF, &[(0, 0xD7FF), (0xE000, LAST)]),
+        (1, LAST, &[(0xD800, 0xDFFF)]),
+        (0, LAST, &[(0, LAST)]),
+        (0xE000, LAST, &[]),
+    ];
+    for (low, high, want) in &coarse_cases {
+        let found = ClassSet::range(rt.alloc(), coarse.layout(), *low, *high)?;
+        assert!(rt; is_list(&coarse.members(rt.alloc(), &found)?, want));
+    }
+    Ok(())
+}
+
+#[test]
+fn sets_of_a_division(rt: HostRuntime) -> Result<(), Fail> {
+    let division = division_by(rt.alloc(), &SETS)?;
+    let layout = division.layout();
+    for pairs in &SETS {
+        let classes = classes_of(rt.alloc(), layout, pairs)?;
+        assert!(rt; is_list(&division.members(rt.alloc(), &classes)?, pairs));
+    }
+    // Letters that are no hexadecimal digits, and then what is none of these.
+    let mut letters = classes_of(rt.alloc(), layout, SETS[1])?;
+    letters.remove(&classes_of(rt.alloc(), layout, SETS[2])?);
+    assert!(rt;
+        is_list(
+            &division.members(rt.alloc(), &letters)?,
+            &[(0x47, 0x5A), (0x67, 0x7A)]
+        )
+    );
+    letters.negate(rt.alloc(), layout)?;
+    let want: Pairs = &[(0, 0x46), (0x5B, 0x66), (0x7B, LAST)];
+    assert!(rt; is_list(&division.members(rt.alloc(), &letters)?, want));
+    let kept = ClassShelf::new(rt.alloc()).keep(rt.alloc(), &letters)?;
+    for (c, is_member) in [
+        (0, true),
+        (0x30, true),
+        (0x46, true),
+        (0x47, false),
+        (0x5A, false),
+        (0x5B, true),
+        (0x66, true),
+        (0x67, false),
+        (0x7A, false),
+        (0x7B, true),
+        (0xD800, true),
+        (0xE000, true),
+        (LAST, true),
+        (LAST + 1, false),
+        (u32::MAX, false),
+    ] {
+        assert_eq!(rt; division.has(&kept, c), is_member, "at {c}");
     }
     Ok(())
 }
@@ -131,25 +207,26 @@ fn operations(rt: HostRuntime) -> Result<(), Fail> {
             minus: &[(100, 199), (950, 999)],
         },
     ];
-    let layout = fine_layout(rt.alloc(), 2001)?;
+    let division = fine_division(rt.alloc(), 2000)?;
+    let layout = division.layout();
     for case in &cases {
-        let left = classes_of(rt.alloc(), &layout, case.left)?;
-        let right = classes_of(rt.alloc(), &layout, case.right)?;
+        let left = classes_of(rt.alloc(), layout, case.left)?;
+        let right = classes_of(rt.alloc(), layout, case.right)?;
         let mut union = left.clone()?;
         union.add(rt.alloc(), &right)?;
-        assert!(rt; is_list(&union.to_set(rt.alloc(), &layout)?, case.union));
+        assert!(rt; is_list(&division.members(rt.alloc(), &union)?, case.union));
         let mut turned = right.clone()?;
         turned.add(rt.alloc(), &left)?;
-        assert!(rt; is_list(&turned.to_set(rt.alloc(), &layout)?, case.union));
+        assert!(rt; is_list(&division.members(rt.alloc(), &turned)?, case.union));
         let mut both = left.clone()?;
         both.meet(&right);
-        assert!(rt; is_list(&both.to_set(rt.alloc(), &layout)?, case.intersect));
+        assert!(rt; is_list(&division.members(rt.alloc(), &both)?, case.intersect));
         let mut both_turned = right.clone()?;
         both_turned.meet(&left);
-        assert!(rt; is_list(&both_turned.to_set(rt.alloc(), &layout)?, case.intersect));
+        assert!(rt; is_list(&division.members(rt.alloc(), &both_turned)?, case.intersect));
         let mut rest = left.clone()?;
         rest.remove(&right);
-        assert!(rt; is_list(&rest.to_set(rt.alloc(), &layout)?, case.minus));
+        assert!(rt; is_list(&division.members(rt.alloc(), &rest)?, case.minus));
     }
     Ok(())
 }
@@ -166,15 +243,16 @@ fn shared_operations(rt: HostRuntime) -> Result<(), Fail> {
         (9000, 9001),
         (9999, LAST),
     ];
-    let layout = fine_layout(rt.alloc(), 10_001)?;
-    let other = classes_of(rt.alloc(), &layout, right)?;
+    let division = fine_division(rt.alloc(), 10_000)?;
+    let layout = division.layout();
+    let other = classes_of(rt.alloc(), layout, right)?;
     let kept = ClassShelf::new(rt.alloc()).keep(rt.alloc(), &other)?;
-    let set = classes_of(rt.alloc(), &layout, left)?;
+    let set = classes_of(rt.alloc(), layout, left)?;
     let mut union = set.clone()?;
     union.add_shared(rt.alloc(), &kept)?;
     assert!(rt;
         is_list(
-            &union.to_set(rt.alloc(), &layout)?,
+            &division.members(rt.alloc(), &union)?,
             &[
                 (0, 63),
                 (100, 110),
@@ -189,7 +267,7 @@ fn shared_operations(rt: HostRuntime) -> Result<(), Fail> {
     both.meet_shared(&kept);
     assert!(rt;
         is_list(
-            &both.to_set(rt.alloc(), &layout)?,
+            &division.members(rt.alloc(), &both)?,
             &[(4090, 4100), (8191, 8191), (9001, 9001),]
         )
     );
@@ -197,7 +275,7 @@ fn shared_operations(rt: HostRuntime) -> Result<(), Fail> {
     rest.remove_shared(&kept);
     assert!(rt;
         is_list(
-            &rest.to_set(rt.alloc(), &layout)?,
+            &division.members(rt.alloc(), &rest)?,
             &[
                 (0, 63),
                 (4000, 4089),
@@ -208,13 +286,13 @@ fn shared_operations(rt: HostRuntime) -> Result<(), Fail> {
         )
     );
     // A set of fewer words than the shared one.
-    let mut one = classes_of(rt.alloc(), &layout, &[(4095, 4096)])?;
+    let mut one = classes_of(rt.alloc(), layout, &[(4095, 4096)])?;
     one.meet_shared(&kept);
-    assert!(rt; is_list(&one.to_set(rt.alloc(), &layout)?, &[(4095, 4096)]));
+    assert!(rt; is_list(&division.members(rt.alloc(), &one)?, &[(4095, 4096)]));
     one.remove_shared(&kept);
-    assert!(rt; is_list(&one.to_set(rt.alloc(), &layout)?, &[]));
+    assert!(rt; is_list(&division.members(rt.alloc(), &one)?, &[]));
     one.add_shared(rt.alloc(), &kept)?;
-    assert!(rt; is_list(&one.to_set(rt.alloc(), &layout)?, right));
+    assert!(rt; is_list(&division.members(rt.alloc(), &one)?, right));
     Ok(())
 }
 
@@ -228,13 +306,14 @@ fn complements(rt: HostRuntime) -> Result<(), Fail> {
         (&[(1999, LAST)], &[(0, 1998)]),
         (&[(1, 1), (640, 1343)], &[(0, 0), (2, 639), (1344, LAST)]),
     ];
-    let layout = fine_layout(rt.alloc(), 2001)?;
+    let division = fine_division(rt.alloc(), 2000)?;
+    let layout = division.layout();
     for (of, want) in &cases {
-        let mut classes = classes_of(rt.alloc(), &layout, of)?;
-        classes.negate(rt.alloc(), &layout)?;
-        assert!(rt; is_list(&classes.to_set(rt.alloc(), &layout)?, want));
-        classes.negate(rt.alloc(), &layout)?;
-        assert!(rt; is_list(&classes.to_set(rt.alloc(), &layout)?, of));
+        let mut classes = classes_of(rt.alloc(), layout, of)?;
+        classes.negate(rt.alloc(), layout)?;
+        assert!(rt; is_list(&division.members(rt.alloc(), &classes)?, want));
+        classes.negate(rt.alloc(), layout)?;
+        assert!(rt; is_list(&division.members(rt.alloc(), &classes)?, of));
     }
     Ok(())
 }
@@ -251,18 +330,22 @@ fn characters(rt: HostRuntime) -> Result<(), Fail> {
         (&[(0, 0xD7FF), (0xE000, LAST)], true, false),
         (&[(0, LAST)], true, false),
     ];
-    let layout = layout_of(rt.alloc(), &[0xD800, 0xD802, 0xDFFF, 0xE000])?;
+    let division = division_by(
+        rt.alloc(),
+        &[&[(0, 0xD7FF)], &[(0xD800, 0xD801)], &[(0xDFFF, 0xDFFF)]],
+    )?;
+    let layout = division.layout();
     for (of, some, others) in &cases {
-        let mut classes = classes_of(rt.alloc(), &layout, of)?;
-        assert_eq!(rt; classes.holds_character(&layout), *some);
-        classes.negate(rt.alloc(), &layout)?;
-        assert_eq!(rt; classes.holds_character(&layout), *others);
+        let mut classes = classes_of(rt.alloc(), layout, of)?;
+        assert_eq!(rt; classes.holds_character(layout), *some);
+        classes.negate(rt.alloc(), layout)?;
+        assert_eq!(rt; classes.holds_character(layout), *others);
     }
-    // A class that is partly surrogates has characters.
-    let coarse = layout_of(rt.alloc(), &[0xDFFF])?;
+    // Sets that are partly surrogates have characters.
+    let coarse = division_by(rt.alloc(), &[&[(0xDFFF, LAST)]])?;
     for (low, high) in [(0, 0xDFFE), (0xDFFF, LAST)] {
-        let classes = classes_of(rt.alloc(), &coarse, &[(low, high)])?;
-        assert!(rt; classes.holds_character(&coarse));
+        let classes = classes_of(rt.alloc(), coarse.layout(), &[(low, high)])?;
+        assert!(rt; classes.holds_character(coarse.layout()));
     }
     Ok(())
 }

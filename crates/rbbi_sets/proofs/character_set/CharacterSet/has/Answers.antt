@@ -4,18 +4,18 @@ use Rattle.std.proofs.lemmas.Bool.{false≢true}
 use Rattle.std.specs.Rc.{rc_value}
 use Rattle.rbbi_model.specs.Words.{IsSurrogate}
 use Rattle.rbbi_model.specs.Ranges.{Has}
-use Rattle.rbbi_sets.specs.Classes.{HasMember}
+use Rattle.rbbi_sets.specs.Divisions.{HasDivided}
 use Rattle.rbbi_sets.specs.CharacterSets.{ranges_held}
 use Rattle.rbbi_sets.proofs.CharacterMembers.{has-characters}
 use Rattle.rbbi_sets.proofs.character_set.CharacterSet.has.Goals as goal
 use Rattle.rbbi_sets.proofs.character_set.CharacterSet.has.Goals.{In-Classes}
 
 -- what the set has
-has : (c : In-Classes) → Has c.args.self.now c.args.c ↔ (HasMember (rc_value c.in-Classes.layout) c.in-Classes.classes c.args.c × ¬ IsSurrogate c.args.c)
+has : (c : In-Classes) → Has c.args.self.now c.args.c ↔ (HasDivided (rc_value c.in-Classes.division) c.in-Classes.classes c.args.c × ¬ IsSurrogate c.args.c)
 has c =
-    subst (λ s. Has s c.args.c ↔ (HasMember (rc_value c.in-Classes.layout) c.in-Classes.classes c.args.c × ¬ IsSurrogate c.args.c))
+    subst (λ s. Has s c.args.c ↔ (HasDivided (rc_value c.in-Classes.division) c.in-Classes.classes c.args.c × ¬ IsSurrogate c.args.c))
     (ap ranges_held (sym c.in-Classes.is) ∙ c.self.view_is)
-    (has-characters (rc_value c.in-Classes.layout) c.in-Classes.classes c.args.c)
+    (has-characters (rc_value c.in-Classes.division) c.in-Classes.classes c.args.c)
 
 -- a truth value isn't both
 not_of : (b : Bool) → not b ≡ true → b ≡ true → ⊥

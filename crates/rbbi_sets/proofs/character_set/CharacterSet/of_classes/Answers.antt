@@ -8,9 +8,9 @@ use Rattle.rbbi_sets.proofs.character_set.CharacterSet.of_classes.Goals as goal
 
 pub returns-clause-members : goal.returns-clause-members
 returns-clause-members c =
-    let layout : rc_value c.in_ok-layout.layout ≡ rc_value c.args.layout.now = search rules in
+    let division : rc_value c.in_ok-division.division ≡ rc_value c.args.division.now = search rules in
     let classes : c.in_ok-classes.classes ≡ c.args.classes.now = search rules in
-    λ code. rw (layout, classes) (has-characters (rc_value c.args.layout.now) c.args.classes.now code)
+    λ code. rw (division, classes) (has-characters (rc_value c.args.division.now) c.args.classes.now code)
 
 pub returns-clause-form : goal.returns-clause-form
-returns-clause-form c = passing-rises (is_character_of (rc_value c.in_ok-layout.layout) c.in_ok-classes.classes)
+returns-clause-form c = passing-rises (is_character_of (rc_value c.in_ok-division.division) c.in_ok-classes.classes)

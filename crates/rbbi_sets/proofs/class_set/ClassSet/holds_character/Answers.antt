@@ -10,7 +10,7 @@ use Rattle.rbbi_sets.proofs.class_set.ClassSet.holds_character.Goals.{
 }
 
 pub loop-i-init : goal.loop-i-init
-loop-i-init c = λ code member from to. absurd (none-before c.args.layout.now c.args.self.now code member from (omega (arith, to, c.from-from.ensures)))
+loop-i-init c = λ code first member from to. absurd (none-before c.args.layout.now c.args.self.now code member from (omega (arith, to, c.from-from.ensures)))
 
 pub loop-i-preserved : goal.loop-i-preserved
 loop-i-preserved c =
