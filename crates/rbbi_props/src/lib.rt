@@ -1,6 +1,7 @@
 //! Property files that a caller hands in, and what the name and value of a property stand for.
 #![tactic(auto)]
 
+mod common;
 mod error;
 mod file;
 mod loose;
@@ -12,5 +13,6 @@ mod table;
 mod tests;
 mod text;
 
+pub use common::{are_alike, push_common_form};
 pub use error::PropErr;
 pub use table::PropTable;

@@ -1,5 +1,5 @@
 //! Tables of cases by hand: lines of property files, and each line of the table of look-ups.
-use crate::{PropErr, PropTable};
+use crate::{PropErr, PropTable, are_alike, push_common_form};
 use std::test::Fail;
 
 /// Grapheme clusters, an extract in the form of the Unicode Character Database.
@@ -206,5 +206,63 @@ fn refusals(rt: HostRuntime) -> Result<(), Fail> {
     }
     assert_eq!(rt; PropErr::Memory.label(), "Memory");
     assert_eq!(rt; PropErr::Memory.place(), None);
+    Ok(())
+}
+
+#[test]
+fn spellings(rt: HostRuntime) -> Result<(), Fail> {
+    let cases: [(&str, Option<&str>, &str, Option<&str>, bool); 14] = [
+        (
+            "General_Category",
+            Some("Lu"),
+            "GENERAL cat-egory",
+            Some("l_U"),
+            true,
+        ),
+        ("gc", Some("L"), "g c", Some("M"), false),
+        ("gc", Some("L"), "gcb", Some("L"), false),
+        ("gc", Some("L"), "gc", None, false),
+        ("L", None, "--l ", None, true),
+        ("L", None, "L", Some("L"), false),
+        ("L.1", None, "L1", None, false),
+        // The names of the database are found without "is", where nothing stands between.
+        ("isL", None, "IS_l", None, true),
+        ("isL", None, "L", None, false),
+        ("isL", None, "i sL", None, false),
+        // What isn't well formed is never found.
+        ("a,b", None, "", None, true),
+        ("a,b", None, "ab", None, false),
+        ("gc", Some("a,b"), "GC", Some("\u{e9}"), true),
+        ("gc", Some("a,b"), "gc", Some("ab"), false),
+    ];
+    for (name, value, other, other_value, want) in cases {
+        assert_eq!(rt;
+            are_alike(name, value, other, other_value),
+            want,
+            "{name} {other}"
+        );
+        assert_eq!(rt;
+            are_alike(other, other_value, name, value),
+            want,
+            "{other} {name}"
+        );
+    }
+    Ok(())
+}
+
+#[test]
+fn common_forms(rt: HostRuntime) -> Result<(), Fail> {
+    let cases: [(&str, &str); 5] = [
+        ("General_Category", "+=generalcategory"),
+        (" L-u.1", "+=lu.1"),
+        ("Is_Latin", "+!islatin"),
+        ("a,b", "+?"),
+        ("", "+?"),
+    ];
+    for (text, want) in cases {
+        let mut key = String::from_str(rt.alloc(), "+")?;
+        push_common_form(&mut key, text)?;
+        assert_eq!(rt; key.as_str(), want, "{text}");
+    }
     Ok(())
 }
