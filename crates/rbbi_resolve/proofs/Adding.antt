@@ -16,8 +16,11 @@ use Rattle.rbbi_tree.specs.Values.{seq_tree, item_tree}
 use Rattle.rbbi_tree.specs.declared.syntax.Quant.{Quant}
 use Rattle.rbbi_tree.specs.declared.syntax.Seq.{Seq}
 use Rattle.rbbi_tree.specs.declared.syntax.Item.{Item}
-use Rattle.rbbi_sets.specs.Classes.{ClassBits, HasMember}
-use Rattle.rbbi_resolve.specs.SetValues.{HasMembers, value_of_property, value_of_set}
+use Rattle.rbbi_sets.specs.Classes.{ClassBits}
+use Rattle.rbbi_sets.specs.Divisions.{ClassDivision, IsDivision, HasDivided, stand_in}
+use Rattle.rbbi_sets.proofs.FirstCodePoints.{stand-in_is_first}
+use Rattle.rbbi_resolve.specs.Covered.{Respects}
+use Rattle.rbbi_resolve.specs.SetValues.{HasMembers, HasProperty, value_of_property, value_of_set}
 use Rattle.rbbi_resolve.specs.ClassValues.{AreClassesOf}
 use Rattle.rbbi_resolve.specs.Emptiness.{holds_character}
 use Rattle.rbbi_resolve.specs.Contexts.{Context, value_of_name}
@@ -101,24 +104,32 @@ pub filled_value : (files : List File) (tree : model.SetTree) (set : List Range)
     (c : ℕ) × Has set c × ¬ IsSurrogate c
 filled_value files tree set is e = character_of files tree set is (holds files tree e)
 
--- the characters of classes that hold one are those of a leaf
-pub of_classes : (files : List File) (bounds : List ℕ) (tree : model.SetTree) (classes : ClassBits) (set : List Range) →
-    AreClassesOf files bounds tree classes →
-    is_empty_value files (Some tree) ≡ false → AreRising set → ((c : ℕ) → Has set c ↔ (HasMember bounds classes c × ¬ IsSurrogate c)) →
+-- the characters of classes that hold one are those of a leaf, where its set has all or nothing of each
+pub of_classes : (files : List File) (division : ClassDivision) (tree : model.SetTree) (classes : ClassBits) (set : List Range) → IsDivision division →
+    AreClassesOf files division.bounds tree classes → Respects files (stand_in division) tree →
+    is_empty_value files (Some tree) ≡ false → AreRising set → ((c : ℕ) → Has set c ↔ (HasDivided division classes c × ¬ IsSurrogate c)) →
     IsSetOfLeaf files tree set
-of_classes files bounds tree classes set is e rising same =
+of_classes files division tree classes set divides is respects e rising same =
     let w = held_character files tree (holds files tree e) in
     record {
       of_leaf = record {
         rising = rising;
-        members = λ c. (λ h. let b = (same c).0 h in ((is c).0 b.0, b.1), λ p. (same c).1 ((is c).1 p.0, p.1));
+        members = λ c. (λ h. let b = (same c).0 h in (divided c b.0, b.1), λ p. (same c).1 (dividing c p.0, p.1));
       };
       form = record {
         rising = rising;
-        some = (w.0, (same w.0).1 ((is w.0).1 w.1, w.2));
+        some = (w.0, (same w.0).1 (dividing w.0 w.1, w.2));
         characters = λ c h. let b = (same c).0 h in (b.0.0, b.1);
       };
     }
+  where
+    divided : (c : ℕ) → HasDivided division classes c → model.InSet (HasProperty files) tree c
+    divided c has = (respects.same c has.0).1 ((is (stand_in division c) (stand-in_is_first division divides c has.0)).0 has.1)
+
+    dividing : (c : ℕ) → model.InSet (HasProperty files) tree c → HasDivided division classes c
+    dividing c h =
+        let low = respects.low c h in
+        (low, (is (stand_in division c) (stand-in_is_first division divides c low)).1 ((respects.same c low).0 h))
 
 -- what is left of an expression or a sequence
 pub record IsAdding (files : List File) (k : Context) (start : List (List Range)) (whole : List model.SetTree) (all : List Part) (now : List File)

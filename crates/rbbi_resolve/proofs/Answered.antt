@@ -40,7 +40,7 @@ classes_of_value files bounds None (Some set) classes is same = absurd is
 classes_of_value files bounds (Some tree) None classes is same = absurd is
 classes_of_value files bounds (Some tree) (Some set) None is same = absurd same
 classes_of_value files bounds (Some tree) (Some set) (Some classes) is same =
-    λ c. (λ h. (is.members c).0 ((same c).0 h), λ m. (same c).1 ((is.members c).1 m))
+    λ c first. (λ h. (is.members c).0 ((same c first).0 h), λ m. (same c first).1 ((is.members c).1 m))
 
 -- an answer is known by classes
 pub answer_known : (files : List File) (bounds : List ℕ) (answer : Answer) (known : PropertyClasses) → IsAnswer files answer →

@@ -6,7 +6,11 @@ use Rattle.std.proofs.lemmas.Bool.Decides.{nat_tests}
 use Rattle.rbbi_model.specs.Words.{IsSurrogate}
 use Rattle.rbbi_model.specs.Ranges.{Range, Has}
 use Rattle.rbbi_model.specs.SetTrees as model
-use Rattle.rbbi_sets.specs.Classes.{ClassBits, HasMember}
+use Rattle.rbbi_sets.specs.Classes.{ClassBits, HasMember, IsFirstOfClass}
+use Rattle.rbbi_sets.specs.Divisions.{ClassDivision, IsDivision, stand_in}
+use Rattle.rbbi_sets.proofs.FirstCodePoints.{stand-in_is_first}
+use Rattle.rbbi_resolve.specs.Covered.{Respects}
+use Rattle.std.proofs.Common.{IfSome}
 use Rattle.rbbi_props.specs.Rows.{File}
 use Rattle.rbbi_resolve.specs.SetValues.{Passes, found, HasProperty, HasMembers, IsValue}
 use Rattle.rbbi_resolve.specs.ClassValues.{IsClassValue}
@@ -144,14 +148,24 @@ held_character files tree e =
     (tells_in_set files tree w.0)).0 w.2 in
     (w.0, both.1, both.0)
 
--- the same of classes
-pub classes_emptiness : (files : List File) (bounds : List ℕ) (tree : Option model.SetTree) (set : ClassBits) (holds : Bool) →
-    (IsTrue holds ↔ ((c : ℕ) × HasMember bounds set c × ¬ IsSurrogate c)) → IsClassValue files bounds tree (Some set) → not holds ≡ is_empty_value files tree
-classes_emptiness files bounds None set holds tells is = absurd is
-classes_emptiness files bounds (Some tree) set holds tells is =
+-- the same of classes, where the set has all or nothing of each
+pub classes_emptiness : (files : List File) (division : ClassDivision) (tree : Option model.SetTree) (set : ClassBits) (holds : Bool) → IsDivision division →
+    (IsTrue holds ↔ ((c : ℕ) × IsFirstOfClass division.bounds c × HasMember division.bounds set c × ¬ IsSurrogate c)) →
+    IsClassValue files division.bounds tree (Some set) → IfSome tree (Respects files (stand_in division)) → not holds ≡ is_empty_value files tree
+classes_emptiness files division None set holds divides tells is respects = absurd is
+classes_emptiness files division (Some tree) set holds divides tells is respects =
     ap not (same_tests holds (holds_character files tree)
-    (λ e. let w = tells.0 e in character_held files tree w.0 w.1.0 w.2 (in_set_takes files tree w.0 ((is w.0).0 w.1)))
-    (λ e. let w = held_character files tree e in (tells_true holds).1 (tells.1 (w.0, (is w.0).1 w.1, w.2))))
+    (λ e. let w = tells.0 e in character_held files tree w.0 w.2.0 w.3 (in_set_takes files tree w.0 ((is w.0 w.1).0 w.2)))
+    (λ e.
+    let w = held_character files tree e in
+    let low = respects.low w.0 w.1 in
+    let first = stand-in_is_first division divides w.0 low in
+    (tells_true holds).1 (tells.1 (
+      stand_in division w.0,
+      first,
+      (is (stand_in division w.0) first).1 ((respects.same w.0 low).0 w.1),
+      λ surrogate. w.2 ((divides.surrogates w.0 low).1 surrogate),
+    ))))
 
 -- the test whether a code point is in the set and no surrogate
 pub in_leaf : List File → model.SetTree → ℕ → Bool

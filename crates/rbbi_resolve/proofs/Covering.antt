@@ -1,249 +1,243 @@
--- Parts of covered expressions are covered.
-use Rattle.std.proofs.Common.{◌≡◌, ℕ, zero, suc, ◌+◌, ◌<◌, ◌≤◌, inl, inr, refl, List, [], ◌∷◌, ◌++◌, map, length, drop, get_or}
-use Rattle.std.proofs.Common.{sym, ap, ◌∙◌, subst, arith}
-use Rattle.std.specs.List.{Contains}
-use Rattle.std.proofs.lemmas.Bool.{cases_lt}
-use Rattle.rbbi_model.proofs.Lists.{all_append, all_left, all_right, all_through}
-use Rattle.rbbi_sets.specs.Classes.{IsFirstOfClass, IsLastOfClass, AreWholeClasses}
-use Rattle.std.proofs.Common.{Bool, Option, Some, None, IfSome}
-use Rattle.std.specs.HashMap.{values}
-use Rattle.std.specs.Rc.{rc_value}
-use Rattle.std.specs.List.{All, AllByRecursion}
-use Rattle.std.proofs.lemmas.List.Elements.{All-weaker, All-from_recursion}
-use Rattle.rbbi_model.specs.Ranges.{Range}
+-- Parts of covered expressions are covered, and sets that are made of those that stand for all of a class respect it.
+use Rattle.std.proofs.Common.{◌≡◌, ℕ, zero, suc, ◌+◌, ◌<◌, ◌≤◌, ◌↔◌, ◌⊎◌, inl, inr, List, [], ◌∷◌, ◌++◌, map, length, drop, get_or}
+use Rattle.std.proofs.Common.{sym, ap, ◌∙◌, subst, arith, Bool, true, false, Option, Some, None, IfSome, option_map, ⊎_elim}
+use Rattle.std.specs.List.{Contains, AllByRecursion}
+use Rattle.rbbi_model.proofs.Lists.{all_append, all_left, all_right}
+use Rattle.rbbi_model.specs.Ranges.{Range, InRange, Has}
 use Rattle.rbbi_model.specs.SetTrees as model
-use Rattle.rbbi_sets.specs.Rising.{AreRisingFrom}
-use Rattle.rbbi_sets.specs.Laws.{MembersDetermine}
+use Rattle.rbbi_resolve.proofs.PropertySets.{members_are_code_points}
 use Rattle.rbbi_props.specs.Rows.{File}
-use Rattle.rbbi_tree.specs.Trees.{character, quoted, any, name, property, set, group, set_character, set_range, set_name, set_property, set_within}
-use Rattle.rbbi_resolve.specs.declared.collection.Collection.{Collection}
-use Rattle.rbbi_resolve.specs.SetValues.{IsValue, value_of_property}
-use Rattle.rbbi_resolve.specs.Covered.{AreWhole, AreWholeRanges, IsCoveredProperty, IsCoveredAnswer, IsCollection}
-use Rattle.rbbi_tree.specs.Trees.{expr_of, seq_of, parts_of, joined}
-use Rattle.rbbi_tree.specs.Values.{expr_tree, seq_tree, item_tree, atom_tree, set_tree, part_tree, set_item_tree, item_tree_out, part_tree_out}
-use Rattle.rbbi_tree.specs.declared.syntax.Join.TheVariants.{Add}
+use Rattle.rbbi_tree.specs.Trees.{AtomTree, placed, SetSyntax, PartsTree, PartTree, SetItemTree, set_of, no_parts, part}
+use Rattle.rbbi_tree.specs.Trees.{set, group, set_character, set_range, set_name, set_property, set_within}
+use Rattle.rbbi_tree.specs.Trees.{expr_of, seq_of, joined}
+use Rattle.rbbi_tree.specs.Values.{expr_tree, seq_tree, item_tree, atom_tree, set_tree, item_tree_out}
+use Rattle.rbbi_tree.specs.declared.syntax.Quant.TheVariants.{Once}
+use Rattle.rbbi_tree.specs.declared.syntax.Join.{Join}
+use Rattle.rbbi_tree.specs.declared.syntax.Join.TheVariants.{Add, Both, Minus}
 use Rattle.rbbi_tree.specs.declared.syntax.Expr.{Expr}
 use Rattle.rbbi_tree.specs.declared.syntax.Seq.{Seq}
 use Rattle.rbbi_tree.specs.declared.syntax.Item.{Item}
 use Rattle.rbbi_tree.specs.declared.syntax.SetExpr.{SetExpr}
-use Rattle.rbbi_tree.specs.declared.syntax.SetPart.{SetPart}
-use Rattle.rbbi_tree.specs.declared.syntax.SetItem.{SetItem}
-use Rattle.rbbi_tree.specs.declared.syntax.SetItem as variants
 use Rattle.rbbi_tree.specs.declared.syntax.Atom as atoms
 use Rattle.rbbi_tree.specs.declared.syntax.Atom.TheViews.{out-Expr, out-Seq, out-Item}
-use Rattle.rbbi_tree.specs.declared.syntax.SetItem.TheViews.{out-SetPart}
+use Rattle.rbbi_resolve.specs.SetValues.{HasProperty, IsValue, joined_to, signed}
 use Rattle.rbbi_resolve.specs.Parts.{Part, Outside, Within, parts_of_expr, parts_of_seq, parts_of_item, parts_in_atom, parts_of_set, parts_of_parts}
-use Rattle.rbbi_resolve.specs.Parts.{parts_of_part}
-use Rattle.rbbi_resolve.specs.Covered.{IsWhole, IsCovered, AreCovered}
+use Rattle.rbbi_resolve.specs.Parts.{parts_of_part, parts_in_item}
+use Rattle.rbbi_resolve.specs.Covered.{Respects, SetRespects, IsCovered, AreCovered, AreRespected}
+use Rattle.rbbi_resolve.specs.LiteralRuns.{FollowsRun}
 use Rattle.rbbi_resolve.proofs.Counting.{expr_by_items, seq_by_items, exprs_left, seqs_left}
-use Rattle.rbbi_resolve.proofs.ItemTrees.{of_inner, atom_of_group, atom_of_set}
-use Rattle.rbbi_resolve.proofs.SetLoops.{parts_in, parts_left, set_is}
+use Rattle.rbbi_resolve.proofs.ItemTrees.{atom_of_group, atom_of_set}
 
-module _ (files : List File) (bounds : List ℕ) where
+module _ (files : List File) (stand : ℕ → ℕ) where
   -- of two lists of parts
-  pub covered_left : (a b : List Part) → AreCovered files bounds (a ++ b) → AreCovered files bounds a
-  covered_left a b are = record { each = all_left (IsCovered files bounds) a b are.each }
+  pub covered_left : (a b : List Part) → AreCovered files stand (a ++ b) → AreCovered files stand a
+  covered_left a b are = record { each = all_left (IsCovered files stand) a b are.each }
 
-  pub covered_right : (a b : List Part) → AreCovered files bounds (a ++ b) → AreCovered files bounds b
-  covered_right a b are = record { each = all_right (IsCovered files bounds) a b are.each }
+  pub covered_right : (a b : List Part) → AreCovered files stand (a ++ b) → AreCovered files stand b
+  covered_right a b are = record { each = all_right (IsCovered files stand) a b are.each }
 
-  pub covered_append : (a b : List Part) → AreCovered files bounds a → AreCovered files bounds b → AreCovered files bounds (a ++ b)
-  covered_append a b are also = record { each = all_append (IsCovered files bounds) a b are.each also.each }
+  pub covered_append : (a b : List Part) → AreCovered files stand a → AreCovered files stand b → AreCovered files stand (a ++ b)
+  covered_append a b are also = record { each = all_append (IsCovered files stand) a b are.each also.each }
 
   -- what is left of covered sequences, items and parts is covered
-  pub seqs_covered : (i : ℕ) (items : List Seq) → AreCovered files bounds (parts_of_expr (expr_of (map seq_tree items))) →
-      AreCovered files bounds (parts_of_expr (expr_of (map seq_tree (drop i items))))
+  pub seqs_covered : (i : ℕ) (items : List Seq) → AreCovered files stand (parts_of_expr (expr_of (map seq_tree items))) →
+      AreCovered files stand (parts_of_expr (expr_of (map seq_tree (drop i items))))
   seqs_covered zero items are = are
   seqs_covered (suc i) [] are = are
   seqs_covered (suc i) (s ∷ items) are =
       seqs_covered i items (covered_right (parts_of_seq (seq_tree s)) (parts_of_expr (expr_of (map seq_tree items))) are)
 
-  pub items_covered : (i : ℕ) (items : List Item) → AreCovered files bounds (parts_of_seq (seq_of (map item_tree items))) →
-      AreCovered files bounds (parts_of_seq (seq_of (map item_tree (drop i items))))
+  pub items_covered : (i : ℕ) (items : List Item) → AreCovered files stand (parts_of_seq (seq_of (map item_tree items))) →
+      AreCovered files stand (parts_of_seq (seq_of (map item_tree (drop i items))))
   items_covered zero items are = are
   items_covered (suc i) [] are = are
   items_covered (suc i) (s ∷ items) are =
       items_covered i items (covered_right (parts_of_item (item_tree s)) (parts_of_seq (seq_of (map item_tree items))) are)
 
-  pub parts_covered : (i : ℕ) (items : List SetPart) → AreCovered files bounds (parts_of_parts (parts_of (map part_tree items))) →
-      AreCovered files bounds (parts_of_parts (parts_of (map part_tree (drop i items))))
-  parts_covered zero items are = are
-  parts_covered (suc i) [] are = are
-  parts_covered (suc i) (s ∷ items) are =
-      parts_covered i items (covered_right (parts_of_part (part_tree s)) (parts_of_parts (parts_of (map part_tree items))) are)
-
-  -- what stands in the atom of a covered item
-  pub covered_atom : (i : Item) → AreCovered files bounds (parts_of_item (item_tree i)) →
-      AreCovered files bounds (parts_in_atom (atom_tree (out-Item i).atom))
-  covered_atom i are =
-      covered_left (parts_in_atom (atom_tree (out-Item i).atom)) (Outside (out-Item i).place (atom_tree (out-Item i).atom) ∷ [])
-      (subst (λ x. AreCovered files bounds (parts_of_item x)) (item_tree_out i) are)
-
-  -- a set in a part of a covered set
-  pub covered_inner : (place : ℕ) (member : SetItem) (inner : SetExpr) → member ≡ variants.Set inner →
-      AreCovered files bounds (parts_of_part (joined place Add (set_item_tree member))) → AreCovered files bounds (parts_of_set (set_tree inner))
-  covered_inner place member inner is are =
-      covered_left (parts_of_set (set_tree inner)) (Within place (set_within (set_tree inner)) ∷ [])
-      (subst (λ x. AreCovered files bounds (parts_of_part (joined place Add x))) (ap set_item_tree is ∙ of_inner inner) are)
+  -- the atom of a covered item
+  pub covered_atom : (i : Item) → AreCovered files stand (parts_of_item (item_tree i)) →
+      AreCovered files stand (parts_of_item (placed (out-Item i).place (atom_tree (out-Item i).atom) Once))
+  covered_atom i are = subst (λ x. AreCovered files stand (parts_of_item x)) (item_tree_out i) are
 
   -- the expression in the brackets of a covered item
-  pub covered_group : (i : Item) (inner : Expr) → (out-Item i).atom ≡ atoms.Group inner → AreCovered files bounds (parts_of_item (item_tree i)) →
-      AreCovered files bounds (parts_of_expr (expr_tree inner))
+  pub covered_group : (i : Item) (inner : Expr) → (out-Item i).atom ≡ atoms.Group inner → AreCovered files stand (parts_of_item (item_tree i)) →
+      AreCovered files stand (parts_of_expr (expr_tree inner))
   covered_group i inner is are =
-      subst (λ a. AreCovered files bounds (parts_in_atom a)) (ap atom_tree is ∙ atom_of_group inner) (covered_atom i are)
+      covered_left (parts_of_expr (expr_tree inner)) (Outside (out-Item i).place (group (expr_tree inner)) ∷ [])
+      (subst (λ a. AreCovered files stand (parts_of_item (placed (out-Item i).place a Once))) (ap atom_tree is ∙ atom_of_group inner) (covered_atom i are))
+
+  -- what stands for an atom alone
+  pub covered_alone : (place : ℕ) (a : AtomTree) → AreCovered files stand (parts_of_item (placed place a Once)) → IsCovered files stand (Outside place a)
+  covered_alone place a are = (covered_right (parts_in_atom a) (Outside place a ∷ []) are).each.0
 
   -- the set that a covered item is
-  pub covered_set : (i : Item) (s : SetExpr) → (out-Item i).atom ≡ atoms.Set s → AreCovered files bounds (parts_of_item (item_tree i)) →
-      AreCovered files bounds (parts_of_set (set_tree s))
+  pub covered_set : (i : Item) (s : SetExpr) → (out-Item i).atom ≡ atoms.Set s → AreCovered files stand (parts_of_item (item_tree i)) →
+      SetRespects files stand (set_tree s)
   covered_set i s is are =
-      subst (λ a. AreCovered files bounds (parts_in_atom a)) (ap atom_tree is ∙ atom_of_set s) (covered_atom i are)
+      covered_alone (out-Item i).place (set (set_tree s))
+      (subst (λ a. AreCovered files stand (parts_of_item (placed (out-Item i).place a Once))) (ap atom_tree is ∙ atom_of_set s) (covered_atom i are))
 
-module _ (files now : List File) (bounds : List ℕ) (same : now ≡ files) where
+module _ (files now : List File) (stand : ℕ → ℕ) (same : now ≡ files) where
   -- a sequence of a covered expression
-  pub covered_seq : (e : Expr) (items : List Seq) (i : ℕ) (p : Seq) → AreCovered files bounds (parts_of_expr (expr_tree e)) →
-      items ≡ (out-Expr e).items.items → p ≡ get_or items i p → i < length items → AreCovered now bounds (parts_of_seq (seq_tree p))
+  pub covered_seq : (e : Expr) (items : List Seq) (i : ℕ) (p : Seq) → AreCovered files stand (parts_of_expr (expr_tree e)) →
+      items ≡ (out-Expr e).items.items → p ≡ get_or items i p → i < length items → AreCovered now stand (parts_of_seq (seq_tree p))
   covered_seq e items i p are of is inside =
-      let whole = subst (λ x. AreCovered files bounds (parts_of_expr x)) (expr_by_items e items of) are in
-      subst (λ f. AreCovered f bounds (parts_of_seq (seq_tree p))) (sym same)
-      (covered_left files bounds (parts_of_seq (seq_tree p)) (parts_of_expr (expr_of (map seq_tree (drop (i + 1) items))))
-      (subst (λ x. AreCovered files bounds (parts_of_expr x)) (exprs_left items i p inside is) (seqs_covered files bounds i items whole)))
+      let whole = subst (λ x. AreCovered files stand (parts_of_expr x)) (expr_by_items e items of) are in
+      subst (λ f. AreCovered f stand (parts_of_seq (seq_tree p))) (sym same)
+      (covered_left files stand (parts_of_seq (seq_tree p)) (parts_of_expr (expr_of (map seq_tree (drop (i + 1) items))))
+      (subst (λ x. AreCovered files stand (parts_of_expr x)) (exprs_left items i p inside is) (seqs_covered files stand i items whole)))
 
   -- an item of a covered sequence
-  pub covered_item : (s : Seq) (items : List Item) (i : ℕ) (p : Item) → AreCovered files bounds (parts_of_seq (seq_tree s)) →
-      items ≡ (out-Seq s).items.items → p ≡ get_or items i p → i < length items → AreCovered now bounds (parts_of_item (item_tree p))
+  pub covered_item : (s : Seq) (items : List Item) (i : ℕ) (p : Item) → AreCovered files stand (parts_of_seq (seq_tree s)) →
+      items ≡ (out-Seq s).items.items → p ≡ get_or items i p → i < length items → AreCovered now stand (parts_of_item (item_tree p))
   covered_item s items i p are of is inside =
-      let whole = subst (λ x. AreCovered files bounds (parts_of_seq x)) (seq_by_items s items of) are in
-      subst (λ f. AreCovered f bounds (parts_of_item (item_tree p))) (sym same)
-      (covered_left files bounds (parts_of_item (item_tree p)) (parts_of_seq (seq_of (map item_tree (drop (i + 1) items))))
-      (subst (λ x. AreCovered files bounds (parts_of_seq x)) (seqs_left items i p inside is) (items_covered files bounds i items whole)))
+      let whole = subst (λ x. AreCovered files stand (parts_of_seq x)) (seq_by_items s items of) are in
+      subst (λ f. AreCovered f stand (parts_of_item (item_tree p))) (sym same)
+      (covered_left files stand (parts_of_item (item_tree p)) (parts_of_seq (seq_of (map item_tree (drop (i + 1) items))))
+      (subst (λ x. AreCovered files stand (parts_of_seq x)) (seqs_left items i p inside is) (items_covered files stand i items whole)))
 
-  -- a part of a covered set
-  pub covered_part : (s : SetExpr) (items : List SetPart) (i : ℕ) (p : SetPart) → AreCovered files bounds (parts_of_set (set_tree s)) →
-      items ≡ parts_in s → p ≡ get_or items i p → i < length items →
-      AreCovered now bounds (parts_of_part (joined (out-SetPart p).place Add (set_item_tree (out-SetPart p).item)))
-  covered_part s items i p are of is inside =
-      let whole = subst (λ x. AreCovered files bounds (parts_of_set x)) (set_is s) are in
-      let own = subst (λ xs. AreCovered files bounds (parts_of_parts (parts_of (map part_tree xs)))) (sym of) whole in
-      let here = covered_left files bounds (parts_of_part (part_tree p)) (parts_of_parts (parts_of (map part_tree (drop (i + 1) items))))
-      (subst (λ x. AreCovered files bounds (parts_of_parts x)) (parts_left items i p inside is) (parts_covered files bounds i items own)) in
-      subst (λ f. AreCovered f bounds (parts_of_part (joined (out-SetPart p).place Add (set_item_tree (out-SetPart p).item)))) (sym same)
-      (subst (λ x. AreCovered files bounds (parts_of_part x)) (part_tree_out p) here)
+-- sets that are respected where more are
+pub fewer_respected : (stand : ℕ → ℕ) (bases bases' : List (List Range)) → ((base : List Range) → Contains bases base → Contains bases' base) →
+    AreRespected stand bases' → AreRespected stand bases
+fewer_respected stand bases bases' keeps are = record { low = are.low; each = λ base has. are.each base (keeps base has) }
 
--- bounds that have these, but for 0 and what is no code point
-abbrev pub HaveBounds : List ℕ → List ℕ → Type 0
-HaveBounds bounds' bounds = (bound : ℕ) → Contains bounds bound → 0 < bound → bound ≤ 0x10FFFF → Contains bounds' bound
+module _ (files : List File) (stand : ℕ → ℕ) where
+  -- the parts within a set ask for nothing
+  mutual
+    pub set_covered : (s : SetSyntax) → AllByRecursion (IsCovered files stand) (parts_of_set s)
+    set_covered (set_of place negated parts) = parts_covered parts
 
--- where a class begins or ends, one does so where there are more bounds
-first_kept : (bounds bounds' : List ℕ) (c : ℕ) → HaveBounds bounds' bounds → c ≤ 0x10FFFF → IsFirstOfClass bounds c → IsFirstOfClass bounds' c
-first_kept bounds bounds' zero have within first = inl refl
-first_kept bounds bounds' (suc c) have within first =
-    elim first [ inl none ↦ absurd (omega arith) | inr has ↦ inr (have (suc c) has (omega arith) within) ]
+    parts_covered : (parts : PartsTree) → AllByRecursion (IsCovered files stand) (parts_of_parts parts)
+    parts_covered no_parts = tt
+    parts_covered (part first more) = all_append (IsCovered files stand) (parts_of_part first) (parts_of_parts more) (part_covered first) (parts_covered more)
 
-last_kept : (bounds bounds' : List ℕ) (c : ℕ) → HaveBounds bounds' bounds → c ≤ 0x10FFFF → IsLastOfClass bounds c → IsLastOfClass bounds' c
-last_kept bounds bounds' c have within last =
-    elim last [
-      | inl end ↦ inl end
-      | inr has ↦ elim (cases_lt c 0x10FFFF) [
-        | inl lt ↦ inr (have (c + 1) has (omega arith) (omega arith))
-        | inr ge ↦ inl (omega arith)
-      ]
-    ]
+    part_covered : (p : PartTree) → AllByRecursion (IsCovered files stand) (parts_of_part p)
+    part_covered (joined place join member) =
+        all_append (IsCovered files stand) (parts_in_item member) (Within place member ∷ []) (item_covered member) (tt, tt)
 
--- what is whole classes stays so
-whole_kept : (bounds bounds' : List ℕ) (low high : ℕ) → HaveBounds bounds' bounds → IsWhole bounds low high → IsWhole bounds' low high
-whole_kept bounds bounds' low high have whole order within =
-    let classes = whole order within in
-    (first_kept bounds bounds' low have (omega arith) classes.0, last_kept bounds bounds' high have within classes.1)
+    item_covered : (member : SetItemTree) → AllByRecursion (IsCovered files stand) (parts_in_item member)
+    item_covered (set_character c) = tt
+    item_covered (set_range first last) = tt
+    item_covered (set_name word) = tt
+    item_covered (set_property negated word value) = tt
+    item_covered (set_within inner) = set_covered inner
 
-ranges_kept : (bounds bounds' : List ℕ) (ranges : Option (List Range)) → HaveBounds bounds' bounds → IfSome ranges (AreWhole bounds) →
-    IfSome ranges (AreWhole bounds')
-ranges_kept bounds bounds' None have whole = tt
-ranges_kept bounds bounds' (Some ranges) have whole =
-    all_through (λ range. IsWhole bounds range.low range.high) (λ range. IsWhole bounds' range.low range.high)
-    (λ range. whole_kept bounds bounds' range.low range.high have) ranges whole
+  -- nothing, and what isn't in a set
+  pub nothing_respects : Respects files stand model.Nothing
+  nothing_respects = record { low = λ c h. absurd h; same = λ c l. (λ h. h, λ h. h) }
 
-property_kept : (files : List File) (bounds bounds' : List ℕ) (negated : Bool) (word : List ℕ) (value : Option (List ℕ)) → HaveBounds bounds' bounds →
-    IsCoveredProperty files bounds negated word value → IsCoveredProperty files bounds' negated word value
-property_kept files bounds bounds' negated word value have is =
-    record { set = is.set; value_is = is.value_is; whole = ranges_kept bounds bounds' is.set have is.whole }
+  -- the others
+  pub signed_respects : ((c : ℕ) → c ≤ 0x10FFFF → stand c ≤ 0x10FFFF) → (negated : Bool) (value : Option model.SetTree) →
+      IfSome value (Respects files stand) → IfSome (option_map (signed negated) value) (Respects files stand)
+  signed_respects low negated None is = tt
+  signed_respects low false (Some tree) is = is
+  signed_respects low true (Some tree) is =
+      record {
+        low = λ c h. h.0;
+        same = λ c l. (
+          λ h. (low c l, λ there. h.1 ((is.same c l).1 there)),
+          λ h. (l, λ there. h.1 ((is.same c l).0 there)),
+        );
+      }
 
--- a part that is covered stays so
-part_kept : (files : List File) (bounds bounds' : List ℕ) → HaveBounds bounds' bounds → (part : Part) →
-    IsCovered files bounds part → IsCovered files bounds' part
-part_kept files bounds bounds' have (Outside place (character c bare)) is = tt
-part_kept files bounds bounds' have (Outside place (quoted word)) is = tt
-part_kept files bounds bounds' have (Outside place any) is = tt
-part_kept files bounds bounds' have (Outside place (name word)) is = tt
-part_kept files bounds bounds' have (Outside place (property negated word value)) is = property_kept files bounds bounds' negated word value have is
-part_kept files bounds bounds' have (Outside place (set s)) is = tt
-part_kept files bounds bounds' have (Outside place (group inner)) is = tt
-part_kept files bounds bounds' have (Within place (set_character c)) is = whole_kept bounds bounds' c c have is
-part_kept files bounds bounds' have (Within place (set_range first last)) is = whole_kept bounds bounds' first last have is
-part_kept files bounds bounds' have (Within place (set_name word)) is = tt
-part_kept files bounds bounds' have (Within place (set_property negated word value)) is =
-    property_kept files bounds bounds' negated word value have is
-part_kept files bounds bounds' have (Within place (set_within inner)) is = tt
+  -- what is joined
+  pub joined_respects : (join : Join) (left item : Option model.SetTree) → IfSome left (Respects files stand) → IfSome item (Respects files stand) →
+      IfSome (joined_to join item left) (Respects files stand)
+  joined_respects join left None l i = tt
+  joined_respects join None (Some item) l i = tt
+  joined_respects Add (Some left) (Some item) l i =
+      record {
+        low = λ c h. ⊎_elim (l.low c) (i.low c) h;
+        same = λ c w. (
+          λ h. ⊎_elim (λ a. inl ((l.same c w).0 a)) (λ b. inr ((i.same c w).0 b)) h,
+          λ h. ⊎_elim (λ a. inl ((l.same c w).1 a)) (λ b. inr ((i.same c w).1 b)) h,
+        );
+      }
+  joined_respects Both (Some left) (Some item) l i =
+      record {
+        low = λ c h. l.low c h.0;
+        same = λ c w. (λ h. ((l.same c w).0 h.0, (i.same c w).0 h.1), λ h. ((l.same c w).1 h.0, (i.same c w).1 h.1));
+      }
+  joined_respects Minus (Some left) (Some item) l i =
+      record {
+        low = λ c h. l.low c h.0;
+        same = λ c w. (
+          λ h. ((l.same c w).0 h.0, λ n. h.1 ((i.same c w).1 n)),
+          λ h. ((l.same c w).1 h.0, λ n. h.1 ((i.same c w).0 n)),
+        );
+      }
 
--- what is covered stays so where there are more bounds
-pub covered_kept : (files : List File) (bounds bounds' : List ℕ) (parts : List Part) → HaveBounds bounds' bounds → AreCovered files bounds parts →
-    AreCovered files bounds' parts
-covered_kept files bounds bounds' parts have are =
-    record { each = all_through (IsCovered files bounds) (IsCovered files bounds') (part_kept files bounds bounds' have) parts are.each }
+  -- a tree with the members of a set that is respected
+  pub members_respect : (tree : model.SetTree) (ranges base : List Range) (bases : List (List Range)) → AreRespected stand bases → Contains bases base →
+      ((c : ℕ) → Has base c ↔ Has ranges c) → ((c : ℕ) → Has ranges c → c ≤ 0x10FFFF) →
+      ((c : ℕ) → model.InSet (HasProperty files) tree c ↔ Has ranges c) → Respects files stand tree
+  members_respect tree ranges base bases are has same low members =
+      record {
+        low = λ c h. low c ((members c).0 h);
+        same = λ c w. (
+          λ h. (members (stand c)).1 ((same (stand c)).0 ((are.each base has c w).0 ((same c).1 ((members c).0 h)))),
+          λ h. (members c).1 ((same c).0 ((are.each base has c w).1 ((same (stand c)).1 ((members (stand c)).0 h)))),
+        );
+      }
 
--- ranges with one more
-pub ranges_more : (bounds bounds' : List ℕ) (ranges : List Range) (range : Range) → HaveBounds bounds' bounds → AreWhole bounds ranges →
-    IsWhole bounds' range.low range.high → AreWhole bounds' (ranges ++ range ∷ [])
-ranges_more bounds bounds' ranges range have whole own =
-    all_append (λ r. IsWhole bounds' r.low r.high) ranges (range ∷ []) (ranges_kept bounds bounds' (Some ranges) have whole) (own, tt)
+  -- the value of a property that was collected
+  pub based_respects : (bases : List (List Range)) (v : Option model.SetTree) (ranges : Option (List Range)) → AreRespected stand bases →
+      IsValue files v ranges → IfSome ranges (Contains bases) → IfSome v (Respects files stand)
+  based_respects bases None ranges are is own = tt
+  based_respects bases (Some tree) None are is own = absurd is
+  based_respects bases (Some tree) (Some ranges) are is own =
+      members_respect tree ranges ranges bases are own (λ c. (λ h. h, λ h. h)) (members_are_code_points 0 ranges is.rising)
+      (λ c. ((is.members c).1, (is.members c).0))
 
--- what was collected stays right where there are more bounds
-pub collection_kept : (files : List File) (before after : Collection) →
-    ((bound : ℕ) → Contains before.bounds.items bound → Contains after.bounds.items bound) → after.answers ≡ before.answers →
-    after.sets ≡ before.sets → IsCollection files before → IsCollection files after
-collection_kept files before after keeps answers sets is =
-    let b = before.bounds.items in
-    let b' = after.bounds.items in
-    let have : HaveBounds b' b = λ bound has above below. keeps bound has in
-    record {
-      answers = subst (λ m. All (IsCoveredAnswer files b') (values m)) (sym answers)
-          (All-weaker (IsCoveredAnswer files b) (IsCoveredAnswer files b')
-          (λ answer a. record { right = a.right; whole = ranges_kept b b' (rc_value answer.set) have a.whole }) (values before.answers) is.answers);
-      sets = subst (λ m. All (λ found. IfSome (rc_value found) (AreWhole b')) (values m)) (sym sets)
-          (All-weaker (λ found. IfSome (rc_value found) (AreWhole b)) (λ found. IfSome (rc_value found) (AreWhole b'))
-          (λ found w. ranges_kept b b' (rc_value found) have w) (values before.sets) is.sets);
-    }
+  -- a value that follows no run, and one that follows a run which is respected
+  pub follows_none : (value : Option model.SetTree) → IfSome value (Respects files stand) → IfSome value (FollowsRun files stand [])
+  follows_none None is = tt
+  follows_none (Some tree) is =
+      record {
+        low = is.low;
+        held = λ c h. absurd h;
+        onward = λ c w h. inr ((is.same c w).0 h);
+        back = λ c w h. inr ((is.same c w).1 h);
+      }
 
--- a property has one value
-same_value : MembersDetermine → (files : List File) (v : Option model.SetTree) (a b : Option (List Range)) → IsValue files v a → IsValue files v b → a ≡ b
-same_value determine files None None None p q = refl
-same_value determine files None None (Some b) p q = absurd q
-same_value determine files None (Some a) b p q = absurd p
-same_value determine files (Some tree) None b p q = absurd p
-same_value determine files (Some tree) (Some a) None p q = absurd q
-same_value determine files (Some tree) (Some a) (Some b) p q =
-    ap Some (determine a b p.rising q.rising (λ c. (λ h. (q.members c).1 ((p.members c).0 h), λ h. (p.members c).1 ((q.members c).0 h))))
+  pub run_respects : (run base : List Range) (bases : List (List Range)) → AreRespected stand bases → Contains bases base →
+      ((c : ℕ) → Has base c ↔ Has run c) → (value : Option model.SetTree) → IfSome value (FollowsRun files stand run) →
+      IfSome value (Respects files stand)
+  run_respects run base bases are has same None is = tt
+  run_respects run base bases are has same (Some tree) is =
+      record {
+        low = is.low;
+        same = λ c w. (
+          λ h. ⊎_elim (λ r. is.held (stand c) ((same (stand c)).0 ((are.each base has c w).0 ((same c).1 r)))) (λ there. there) (is.onward c w h),
+          λ h. ⊎_elim (λ r. is.held c ((same c).0 ((are.each base has c w).1 ((same (stand c)).1 r)))) (λ there. there) (is.back c w h),
+        );
+      }
 
-ranges_whole : (bounds bounds' : List ℕ) (from : ℕ) (ranges : List Range) → HaveBounds bounds' bounds → AreRisingFrom from ranges → AreWhole bounds ranges →
-    AllByRecursion (λ range. AreWholeClasses bounds' range.low range.high) ranges
-ranges_whole bounds bounds' from [] have rising whole = tt
-ranges_whole bounds bounds' from (range ∷ ranges) have rising whole =
-    (whole_kept bounds bounds' range.low range.high have whole.0 rising.1 rising.2, ranges_whole bounds bounds' (range.high + 2) ranges have rising.3 whole.1)
+  -- a literal makes the run longer
+  has_pushed : (run : List Range) (range : Range) (c : ℕ) → Has run c → Has (run ++ range ∷ []) c
+  has_pushed [] range c h = absurd h
+  has_pushed (first ∷ run) range c h = ⊎_elim inl (λ more. inr (has_pushed run range c more)) h
 
--- the ranges of a value that is covered are whole classes
-pub value_whole : (files : List File) (bounds bounds' : List ℕ) (v : Option model.SetTree) (ranges : Option (List Range)) → HaveBounds bounds' bounds →
-    IsValue files v ranges → IfSome ranges (AreWhole bounds) → IfSome ranges (AreWholeRanges bounds')
-value_whole files bounds bounds' None None have is whole = tt
-value_whole files bounds bounds' None (Some ranges) have is whole = absurd is
-value_whole files bounds bounds' (Some tree) None have is whole = absurd is
-value_whole files bounds bounds' (Some tree) (Some ranges) have is whole =
-    All-from_recursion (λ range. AreWholeClasses bounds' range.low range.high) ranges (ranges_whole bounds bounds' 0 ranges have is.rising whole)
+  has_last : (run : List Range) (range : Range) (c : ℕ) → InRange range c → Has (run ++ range ∷ []) c
+  has_last [] range c h = inl h
+  has_last (first ∷ run) range c h = inr (has_last run range c h)
 
--- so are those of any value of a covered property
-pub property_whole : MembersDetermine → (files : List File) (bounds : List ℕ) (negated : Bool) (word : List ℕ) (value : Option (List ℕ))
-    (ranges : Option (List Range)) → IsCoveredProperty files bounds negated word value → IsValue files (value_of_property files negated word value) ranges →
-    IfSome ranges (AreWholeRanges bounds)
-property_whole determine files bounds negated word value ranges covered is =
-    let v = value_of_property files negated word value in
-    let same = same_value determine files v covered.set ranges covered.value_is is in
-    subst (λ s. IfSome s (AreWholeRanges bounds)) same
-    (value_whole files bounds bounds v covered.set (λ bound has above below. has) covered.value_is covered.whole)
+  pushed_has : (run : List Range) (range : Range) (c : ℕ) → Has (run ++ range ∷ []) c → Has run c ⊎ InRange range c
+  pushed_has [] range c h = ⊎_elim inr (λ none. absurd none) h
+  pushed_has (first ∷ run) range c h =
+      ⊎_elim (λ own. inl (inl own)) (λ more. ⊎_elim (λ old. inl (inr old)) inr (pushed_has run range c more)) h
+
+  pub literal_follows : (run : List Range) (range : Range) (tree : model.SetTree) → range.high ≤ 0x10FFFF →
+      ((c : ℕ) → model.InSet (HasProperty files) tree c ↔ InRange range c) →
+      (left : Option model.SetTree) → IfSome left (FollowsRun files stand run) →
+      IfSome (joined_to Add (Some tree) left) (FollowsRun files stand (run ++ range ∷ []))
+  literal_follows run range tree below members None is = tt
+  literal_follows run range tree below members (Some left) is =
+      record {
+        low = λ c h. ⊎_elim (is.low c) (λ own. omega (arith, below, ((members c).0 own).1)) h;
+        held = λ c h. ⊎_elim (λ old. inl (is.held c old)) (λ own. inr ((members c).1 own)) (pushed_has run range c h);
+        onward = λ c w h. ⊎_elim (λ old. ⊎_elim (λ r. inl (has_pushed run range c r)) (λ there. inr (inl there)) (is.onward c w old))
+            (λ own. inl (has_last run range c ((members c).0 own))) h;
+        back = λ c w h. ⊎_elim (λ old. ⊎_elim (λ r. inl (has_pushed run range (stand c) r)) (λ there. inr (inl there)) (is.back c w old))
+            (λ own. inl (has_last run range (stand c) ((members (stand c)).0 own))) h;
+      }

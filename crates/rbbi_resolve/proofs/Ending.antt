@@ -6,6 +6,7 @@ use Rattle.std.specs.HashMap.{get_by_text}
 use Rattle.std.specs.Rc.{rc_value}
 use Rattle.rbbi_props.specs.Rows.{File}
 use Rattle.rbbi_tree.specs.Trees.{ExprTree, StatementTree}
+use Rattle.rbbi_sets.specs.Divisions.{stand_in}
 use Rattle.rbbi_resolve.specs.declared.fault.Fault.{Fault}
 use Rattle.rbbi_resolve.specs.declared.switches.Switches.{Switches}
 use Rattle.rbbi_resolve.specs.declared.counts.Counts as declared
@@ -50,14 +51,14 @@ none_at_start files statements name = λ limit low. let e : limit ≡ 0 = omega 
 pub read_none : (files : List File) (classes : Classes) (ignored : Bool) (statements : List StatementTree) (variables : Variables) (switches : Switches)
     (counts : declared.Counts) → ((name : List ℕ) → get_by_text variables name ≡ None) →
     AreSwitches switches (start files) → ((all : List RuleMeaning) → AreCounting counts all all) → AreClasses files classes →
-    CoversAll files (rc_value classes.layout) statements → IsReadTo files classes ignored statements variables None switches counts 0
+    CoversAll files (stand_in (rc_value classes.division)) statements → IsReadTo files classes ignored statements variables None switches counts 0
 read_none files classes ignored statements variables switches counts none is counting classified covered =
     record {
       classified = classified;
       covered = covered;
       defined = record {
-        each = λ name. subst (λ v. MatchOption v (IsUnassigned files statements 0 name) (IsDefinedBy files (rc_value classes.layout) statements 0 name))
-            (sym (none name)) (none_at_start files statements name);
+        each = λ name. subst (λ v. MatchOption v (IsUnassigned files statements 0 name) (IsDefinedBy files (rc_value classes.division).bounds
+            statements 0 name)) (sym (none name)) (none_at_start files statements name);
       };
       noted_so_far = ap (λ k. noted None (faults_from ignored k (drop 0 statements))) (at_start files statements)
           ∙ ap (λ ss. noted None (faults_from ignored (start files) ss)) (all_left statements);

@@ -1,7 +1,7 @@
 -- The trees of the variants that have values inside.
 use Rattle.std.proofs.Common.{◌≡◌, ℕ, Bool, List, Option, sym, ◌∙◌, ap}
 use Rattle.rbbi_tree.specs.Trees.{SetItemTree, PartsTree, SetSyntax, PartTree, ExprTree, SeqTree, ItemTree, AtomTree, set_property, set_within, character}
-use Rattle.rbbi_tree.specs.Trees.{set_character, set_range}
+use Rattle.rbbi_tree.specs.Trees.{set_character, set_range, set_name}
 use Rattle.rbbi_tree.specs.Trees.{quoted, any, name, property, set, group}
 use Rattle.rbbi_tree.specs.Values.{set_item_tree, set_tree, atom_tree, expr_tree, set_item_step, parts_step, set_step, part_step, atom_step, expr_step}
 use Rattle.rbbi_tree.specs.Values.{item_step, seq_step}
@@ -31,6 +31,11 @@ pub of_range : (first last : ℕ) → set_item_tree (item.Range first last) ≡ 
 of_range first last =
     ap set_item_tree (sym (item_variants.rolls-Range first last))
     ∙ fold-roll-SetItem SetItemTree PartsTree SetSyntax PartTree set_item_step parts_step set_step part_step (SetItem-F.Range first last)
+
+pub of_name : (word : List ℕ) → set_item_tree (item.Name word) ≡ set_name word
+of_name word =
+    ap set_item_tree (sym (item_variants.rolls-Name word))
+    ∙ fold-roll-SetItem SetItemTree PartsTree SetSyntax PartTree set_item_step parts_step set_step part_step (SetItem-F.Name word)
 
 pub of_inner : (inner : SetExpr) → set_item_tree (item.Set inner) ≡ set_within (set_tree inner)
 of_inner inner =

@@ -1,5 +1,6 @@
 pub mod Words
 pub mod PropertySets
+pub mod SameProperties
 pub mod Noting
 pub mod SetLoops
 pub mod Answered
@@ -9,6 +10,8 @@ pub mod Counting
 pub mod Kept
 pub mod SetFolds
 pub mod Covering
+pub mod SetRuns
+pub mod Respecting
 pub mod Collecting
 pub mod ItemTrees
 pub mod OneMeaning

@@ -218,7 +218,7 @@ pub step : (files : List File) (classes : Classes) (ignored : Bool) (statements 
     (variables variables' : Variables)
     (least least' : Option Fault) (switches switches' : Switches) (counts counts' : declared.Counts) →
     IsReadTo files classes ignored statements variables least switches counts n → slice_get statements n ≡ Some s →
-    AreVariables files (rc_value classes.layout) statements variables' (n + 1) →
+    AreVariables files (rc_value classes.division).bounds statements variables' (n + 1) →
     least' ≡ noted least (faults_of_statement ignored (context_at files statements n) s) →
     AreSwitches switches' (context_after (context_at files statements n) s) →
     ((left all : List RuleMeaning) → AreCounting counts (rule_in (context_at files statements n) s ++ left) all → AreCounting counts' left all) →

@@ -109,3 +109,9 @@ smaller_member (s ∷ items) zero p inside is =
     let o = ap size_of_part (part_tree_out p) in
     omega arith
 smaller_member (s ∷ items) (suc i) p inside is = let r = smaller_member items i p (omega arith) is in omega arith
+
+pub smaller_part : (items : List SetPart) (i : ℕ) (p : SetPart) → i < length items → p ≡ get_or items i p →
+    size_of_part (part_tree p) < size_of_parts (parts_of (map part_tree items))
+smaller_part [] i p inside is = absurd (omega arith)
+smaller_part (s ∷ items) zero p inside is = let e = ap (λ x. size_of_part (part_tree x)) is in omega arith
+smaller_part (s ∷ items) (suc i) p inside is = let r = smaller_part items i p (omega arith) is in omega arith

@@ -13,7 +13,7 @@ use Rattle.rbbi_resolve.specs.Meanings.{Meaning, Stands}
 use Rattle.rbbi_resolve.specs.Parts.{parts_of_expr}
 use Rattle.rbbi_resolve.specs.Faults.{faults_of_parts}
 use Rattle.rbbi_resolve.specs.Files.{context_at, faults_of}
-use Rattle.rbbi_resolve.specs.Scopes.{AreVariables, bounds_of}
+use Rattle.rbbi_resolve.specs.Scopes.{AreVariables, bounds_of, stand_of}
 use Rattle.rbbi_resolve.specs.ClassValues.{AreClasses}
 use Rattle.rbbi_resolve.specs.Covered.{CoversAll}
 use Rattle.rbbi_resolve.specs.Soundness.{AreSound}
@@ -75,7 +75,7 @@ pub record GoesOn (files : List File) (statements : List StatementTree) (sets se
 pub record IsReady (files : List File) (scope : Scope) : Type 0 where
   pub end : ℕ
   pub classes : AreClasses files scope.classes.now
-  pub covered : CoversAll files (bounds_of scope) (statement_trees scope.statements.now)
+  pub covered : CoversAll files (stand_of scope) (statement_trees scope.statements.now)
   pub variables : AreVariables files (bounds_of scope) (statement_trees scope.statements.now) scope.variables.now end
   pub low : scope.limit ≤ end
   pub ignored : Bool

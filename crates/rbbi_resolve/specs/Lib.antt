@@ -27,5 +27,6 @@ pub mod Questions
 pub mod ClassValues
 pub mod Worths
 pub mod Covered
+pub mod LiteralRuns
 pub mod TextCharacters
 pub mod Laws

@@ -4,13 +4,13 @@ use Rattle.std.specs.Rc.{rc_value}
 use Rattle.rbbi_props.specs.Rows.{File}
 use Rattle.rbbi_resolve.specs.declared.properties.Answer.{Answer}
 use Rattle.rbbi_resolve.specs.declared.question.Question.{Question}
-use Rattle.rbbi_resolve.specs.SetValues.{IsValue, value_of_property}
+use Rattle.rbbi_resolve.specs.SetValues.{IsValue, value_of_property, found}
 
--- the question is that for a property, by the characters of its name and value
+-- the question is that for a property, in whatever spelling: the sign is the same, and so is what is found
 pub record IsFor (question : Question) (negated : Bool) (word : List ℕ) (word_of_value : Option (List ℕ)) : Type 0 where
   pub sign : question.negated ≡ negated
-  pub name_is : chars (string_bytes question.name) ≡ word
-  pub value_is : option_map (λ text. chars (string_bytes text)) question.value ≡ word_of_value
+  pub same : (files : List File) →
+      found files (chars (string_bytes question.name)) (option_map (λ text. chars (string_bytes text)) question.value) ≡ found files word word_of_value
 
 -- the answer is right: its set is the value of the property
 abbrev pub IsAnswer : List File → Answer → Type 0

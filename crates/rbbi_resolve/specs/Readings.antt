@@ -12,6 +12,7 @@ use Rattle.rbbi_resolve.specs.declared.classes.Classes.{Classes}
 use Rattle.rbbi_resolve.specs.Faults.{noted}
 use Rattle.rbbi_resolve.specs.ClassValues.{AreClasses}
 use Rattle.rbbi_resolve.specs.Covered.{CoversAll}
+use Rattle.rbbi_sets.specs.Divisions.{stand_in}
 use Rattle.rbbi_resolve.specs.Files.{context_at, faults_from, faults_of, rules_from, active_rules}
 use Rattle.rbbi_resolve.specs.Scopes.{Variables, AreVariables}
 use Rattle.rbbi_resolve.specs.Switchings.{AreSwitches}
@@ -22,8 +23,8 @@ use Rattle.rbbi_resolve.specs.Countings.{AreCounting}
 pub record IsReadTo (files : List File) (classes : Classes) (ignored : Bool) (statements : List StatementTree) (variables : Variables) (least : Option Fault)
     (switches : Switches) (counts : declared.Counts) (number : ℕ) : Type 0 where
   pub classified : AreClasses files classes
-  pub covered : CoversAll files (rc_value classes.layout) statements
-  pub defined : AreVariables files (rc_value classes.layout) statements variables number
+  pub covered : CoversAll files (stand_in (rc_value classes.division)) statements
+  pub defined : AreVariables files (rc_value classes.division).bounds statements variables number
   pub noted_so_far : noted least (faults_from ignored (context_at files statements number) (drop number statements)) ≡ noted None
       (faults_of files ignored statements)
   pub switched : AreSwitches switches (context_at files statements number)

@@ -15,7 +15,9 @@ use Rattle.rbbi_resolve.specs.declared.variables.Kind.{Kind}
 use Rattle.rbbi_resolve.specs.declared.variables.Kind.TheVariants as kind
 use Rattle.rbbi_resolve.specs.ClassValues.{IsClassValue, AreClasses}
 use Rattle.rbbi_resolve.specs.Contexts as contexts
-use Rattle.rbbi_resolve.specs.Contexts.{assigned_to}
+use Rattle.rbbi_resolve.specs.Contexts.{assigned_to, value_of_name}
+use Rattle.rbbi_resolve.specs.Covered.{NamesRespect}
+use Rattle.rbbi_sets.specs.Divisions.{stand_in}
 use Rattle.rbbi_resolve.specs.Expressions.{variable_for}
 use Rattle.rbbi_resolve.specs.Files.{context_at}
 use Rattle.rbbi_resolve.specs.Summaries.{Summarizes}
@@ -74,10 +76,15 @@ context_of files scope = context_at files (statement_trees scope.statements.now)
 
 -- the bounds of the scope's classes
 abbrev pub bounds_of : Scope → List ℕ
-bounds_of scope = rc_value scope.classes.now.layout
+bounds_of scope = (rc_value scope.classes.now.division).bounds
 
--- the variables of the scope are those before its limit, and its classes are right
+-- the code point that stands for those of its class
+abbrev pub stand_of : Scope → ℕ → ℕ
+stand_of scope c = stand_in (rc_value scope.classes.now.division) c
+
+-- the variables of the scope are those before its limit, their sets have all or nothing of a class, and its classes are right
 pub record IsScope (files : List File) (scope : Scope) : Type 0 where
+  pub respects : NamesRespect files (stand_of scope) (value_of_name (context_of files scope))
   pub describes : Describes files (bounds_of scope) (statement_trees scope.statements.now) scope.variables.now scope.limit
   pub classes : AreClasses files scope.classes.now
 

@@ -7,7 +7,7 @@ ghost use Rattle.rbbi_tree.specs.WellMade.{AreWellMade};
 ghost use Rattle.rbbi_resolve.specs.Expressions.{meaning_of_expr};
 ghost use Rattle.rbbi_resolve.specs.Files.{faults_of, faults_of_rest, active_rules};
 ghost use Rattle.rbbi_resolve.specs.Counts.{counted};
-ghost use Rattle.rbbi_resolve.specs.Scopes.{bounds_of, context_of};
+ghost use Rattle.rbbi_resolve.specs.Scopes.{stand_of, context_of};
 ghost use Rattle.rbbi_resolve.specs.Covered.{AreCovered, parts_of_rest};
 ghost use Rattle.rbbi_resolve.specs.Builders.{IsBuilder, IsReady, GoesOn};
 ghost use Rattle.rbbi_resolve.specs.RulesSoFar.{IsRestBuilt, AreRulesTo, AreAllRules};
@@ -36,7 +36,7 @@ fn tree_of_rest(
         builder.old.sets.items builder.old.bases.items }
     requires faultless { faults_of_rest (context_of builder.old.properties scope.now)
         (rest_tree rest.now) ≡ [] }
-    requires covered { AreCovered builder.old.properties (bounds_of scope.now)
+    requires covered { AreCovered builder.old.properties (stand_of scope.now)
         (parts_of_rest (rest_tree rest.now)) }
     ensures on { OnOk result (GoesOn builder.old.properties
         (statement_trees scope.now.statements.now)

@@ -11,7 +11,7 @@ ghost use Rattle.rbbi_resolve.specs.Expressions.{word_of, meaning_of_expr, meani
 ghost use Rattle.rbbi_resolve.specs.Expressions.{meaning_of_item, meaning_of_atom, variable_for};
 ghost use Rattle.rbbi_resolve.specs.Parts.{parts_of_expr};
 ghost use Rattle.rbbi_resolve.specs.Faults.{faults_of_parts};
-ghost use Rattle.rbbi_resolve.specs.Scopes.{IsKindOf, bounds_of, context_of};
+ghost use Rattle.rbbi_resolve.specs.Scopes.{IsKindOf, bounds_of, context_of, stand_of};
 ghost use Rattle.rbbi_resolve.specs.Covered.{AreCovered};
 ghost use Rattle.rbbi_resolve.specs.OwnLeaves.{leaves_of_expr, leaves_of_seq, leaves_of_item};
 ghost use Rattle.rbbi_resolve.specs.OwnLeaves.{leaves_of_atom};
@@ -58,7 +58,7 @@ impl<'a> Builder<'a> {
             self.old.sets.items self.old.bases.items }
         requires faultless { faults_of_parts (context_of self.old.properties scope.now)
             (parts_of_expr (expr_tree expr.now)) ≡ [] }
-        requires covered { AreCovered self.old.properties (bounds_of scope.now)
+        requires covered { AreCovered self.old.properties (stand_of scope.now)
             (parts_of_expr (expr_tree expr.now)) }
         ensures on { OnOk result (GoesOn self.old.properties
             (statement_trees scope.now.statements.now)
@@ -87,7 +87,7 @@ impl<'a> Builder<'a> {
             self.old.sets.items self.old.bases.items }
         requires faultless { faults_of_parts (context_of self.old.properties scope.now)
             (parts_of_expr (expr_tree expr.now)) ≡ [] }
-        requires covered { AreCovered self.old.properties (bounds_of scope.now)
+        requires covered { AreCovered self.old.properties (stand_of scope.now)
             (parts_of_expr (expr_tree expr.now)) }
         requires kept { IfSome kept (λ kind.
             IsKindOf self.old.properties (bounds_of scope.now) kind.now

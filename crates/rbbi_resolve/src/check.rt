@@ -1,11 +1,12 @@
 //! The faults of expressions, and their counts.
-ghost use Rattle.std.specs.Prelude.{◌≡◌, ◌+◌, ℕ, List, Option, Some, None, IfOk, OnOk};
+ghost use Rattle.std.specs.Prelude.{◌≡◌, ◌+◌, ℕ, List, Option, Some, None, IfOk, IfSome, OnOk};
 ghost use Rattle.std.specs.Prelude.{[], ◌∷◌};
 ghost use Rattle.rbbi_model.specs.SetTrees as model;
 ghost use Rattle.rbbi_props.specs.Rows.{File};
 ghost use Rattle.rbbi_tree.specs.Trees.{name as named_atom, property as property_atom};
 ghost use Rattle.rbbi_tree.specs.Trees.{set as set_atom, placed};
 ghost use Rattle.rbbi_tree.specs.declared.syntax.Quant.{Quant};
+ghost use Rattle.rbbi_tree.specs.declared.syntax.Quant.TheVariants.{Once};
 ghost use Rattle.rbbi_tree.specs.Values.{expr_tree, seq_tree, item_tree, atom_tree, set_tree};
 ghost use Rattle.rbbi_resolve.specs.SetValues.{IsValue, value_of_set};
 ghost use Rattle.rbbi_resolve.specs.ClassValues.{IsClassValue};
@@ -16,10 +17,12 @@ ghost use Rattle.rbbi_resolve.specs.Expressions.{meaning_of_atom, meaning_of_var
 ghost use Rattle.rbbi_resolve.specs.Expressions.{height_of_expr, height_of_seq, height_of_item};
 ghost use Rattle.rbbi_resolve.specs.Expressions.{height_of_atom, height_of_variable, variable_for};
 ghost use Rattle.rbbi_resolve.specs.Parts.{Outside, parts_of_expr, parts_of_seq, parts_of_item};
-ghost use Rattle.rbbi_resolve.specs.Parts.{parts_of_set, parts_in_atom};
-ghost use Rattle.rbbi_resolve.specs.Covered.{AreCovered};
+ghost use Rattle.rbbi_resolve.specs.Parts.{parts_of_set};
+ghost use Rattle.rbbi_resolve.specs.Covered.{AreCovered, Respects, SetRespects};
+ghost use Rattle.rbbi_sets.specs.Divisions.{stand_in};
 ghost use Rattle.rbbi_resolve.specs.Faults.{noted_parts, is_empty_value};
 ghost use Rattle.rbbi_resolve.specs.Scopes.{IsScope, KnowsQuotes, IsKindOf, bounds_of, context_of};
+ghost use Rattle.rbbi_resolve.specs.Scopes.{stand_of};
 ghost use Rattle.rbbi_resolve.specs.Summaries.{Summarizes};
 
 use crate::fault::{Fault, note, note_where};
@@ -27,7 +30,7 @@ use crate::properties::Properties;
 use crate::scope::Scope;
 use crate::set_value::value_of_set;
 use crate::variables::{Kind, Summary};
-use rbbi_sets::{ClassSet, CodeSet, Layout};
+use rbbi_sets::{ClassSet, CodeSet, Division};
 use rbbi_text::Word;
 use rbbi_tree::{Atom, Expr, Item, Seq, SetExpr};
 use std::alloc::{AllocError, Global};
@@ -43,7 +46,7 @@ pub(crate) fn check_expr(
 ) -> Result<Summary, AllocError>
     requires scope { IsScope properties.old scope.now }
     requires quotes { KnowsQuotes properties.old scope.now }
-    requires covered { AreCovered properties.old (bounds_of scope.now)
+    requires covered { AreCovered properties.old (stand_of scope.now)
         (parts_of_expr (expr_tree expr.now)) }
     ensures noted { OnOk result (least.new ≡ noted_parts
         (context_of properties.old scope.now) least.old
@@ -72,7 +75,7 @@ fn check_seq(
 ) -> Result<Summary, AllocError>
     requires scope { IsScope properties.old scope.now }
     requires quotes { KnowsQuotes properties.old scope.now }
-    requires covered { AreCovered properties.old (bounds_of scope.now)
+    requires covered { AreCovered properties.old (stand_of scope.now)
         (parts_of_seq (seq_tree seq.now)) }
     ensures noted { OnOk result (least.new ≡ noted_parts
         (context_of properties.old scope.now) least.old
@@ -101,7 +104,7 @@ fn check_item(
 ) -> Result<Summary, AllocError>
     requires scope { IsScope properties.old scope.now }
     requires quotes { KnowsQuotes properties.old scope.now }
-    requires covered { AreCovered properties.old (bounds_of scope.now)
+    requires covered { AreCovered properties.old (stand_of scope.now)
         (parts_of_item (item_tree item.now)) }
     ensures noted { OnOk result (least.new ≡ noted_parts
         (context_of properties.old scope.now) least.old
@@ -127,8 +130,8 @@ fn check_atom(
 ) -> Result<Summary, AllocError>
     requires scope { IsScope properties.old scope.now }
     requires quotes { KnowsQuotes properties.old scope.now }
-    requires covered { AreCovered properties.old (bounds_of scope.now)
-        (parts_in_atom (atom_tree atom.now)) }
+    requires covered { AreCovered properties.old (stand_of scope.now)
+        (parts_of_item (placed place (atom_tree atom.now) Once)) }
     ensures noted { OnOk result ((quant : Quant) →
         least.new ≡ noted_parts (context_of properties.old scope.now) least.old
         (parts_of_item (placed place (atom_tree atom.now) quant))) }
@@ -229,8 +232,8 @@ pub(crate) fn check_set(
     set: &SetExpr,
 ) -> Result<Option<ClassSet>, AllocError>
     requires scope { IsScope properties.old scope.now }
-    requires covered { AreCovered properties.old (bounds_of scope.now)
-        (parts_of_set (set_tree set.now)) }
+    requires covered { SetRespects properties.old (stand_of scope.now)
+        (set_tree set.now) }
     ensures noted { OnOk result ((quant : Quant) →
         least.new ≡ noted_parts (context_of properties.old scope.now) least.old
         (parts_of_item (placed place (set_atom (set_tree set.now)) quant))) }
@@ -240,18 +243,20 @@ pub(crate) fn check_set(
     ensures same { properties.new ≡ properties.old }
 {
     let value = value_of_set(alloc, scope, properties, least, set)?;
-    let is_empty = is_empty_set(scope.layout(), &value);
+    let is_empty = is_empty_set(scope.classes.division.as_ref(), &value);
     note_where(least, is_empty, place, 9);
     Ok(value)
 }
 
 /// Whether a set of classes has a value and holds no character.
-fn is_empty_set(layout: &Layout, value: &Option<ClassSet>) -> bool
+fn is_empty_set(division: &Division, value: &Option<ClassSet>) -> bool
     ensures { (files : List File) (tree : Option model.SetTree)
-        → IsClassValue files layout.now tree value.now → result ≡ is_empty_value files tree }
+        → IsClassValue files division.now.bounds tree value.now
+        → IfSome tree (Respects files (stand_in division.now))
+        → result ≡ is_empty_value files tree }
 {
     match value {
-        Some(set) => !set.holds_character(layout),
+        Some(set) => !set.holds_character(division.layout()),
         None => false,
     }
 }

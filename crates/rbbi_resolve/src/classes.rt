@@ -7,10 +7,10 @@ ghost use Rattle.rbbi_tree.specs.Values.{statement_trees};
 ghost use Rattle.rbbi_resolve.specs.ClassValues.{AreClasses, IsClassValue};
 ghost use Rattle.rbbi_resolve.specs.ClassValues.{IsKnown, IsDivided};
 ghost use Rattle.rbbi_resolve.specs.Questions.{IsAnswer};
-ghost use Rattle.rbbi_resolve.specs.Covered.{CoversAll, AreWholeRanges};
+ghost use Rattle.rbbi_resolve.specs.Covered.{CoversAll};
 ghost use Rattle.std.specs.HashMap.{values};
 ghost use Rattle.std.specs.List.{All};
-ghost use Rattle.std.specs.Rc.{rc_value};
+ghost use Rattle.rbbi_sets.specs.Divisions.{stand_in};
 
 use crate::collect::collect_statement;
 use crate::collection::Collection;
@@ -18,7 +18,7 @@ use crate::division::{Divided, divide_once};
 use crate::properties::{Answer, Properties};
 use crate::question::Question;
 use indexmap::IndexMap;
-use rbbi_sets::{ClassSet, Layout};
+use rbbi_sets::{ClassSet, Division, Layout};
 use rbbi_text::Word;
 use rbbi_tree::Statements;
 use std::alloc::{AllocError, Global};
@@ -31,11 +31,12 @@ pub(crate) struct PropertyClasses {
     pub(crate) set: Rc<Option<ClassSet>>,
 }
 
-/// The classes of a rule file: a bound of the layout stands wherever a range or a property of the
-/// file begins or ends. So each set of the file holds of a class all or nothing, as `of` ensures.
+/// The classes of a rule file: code points that no property of the file, and no characters and
+/// ranges that follow one another in a set, tell apart. So each set of the file has of a class all
+/// or nothing, as `of` ensures.
 #[derive(Drop)]
 pub(crate) struct Classes {
-    pub(crate) layout: Rc<Layout>,
+    pub(crate) division: Rc<Division>,
     /// The sets of the file's properties, by the keys of `Properties`.
     pub(crate) sets: IndexMap<String, PropertyClasses>,
 }
@@ -49,23 +50,20 @@ impl Classes {
     ) -> Result<Classes, AllocError>
         ensures classes { IfOk result (AreClasses properties.old) }
         ensures covers { IfOk result (λ classes.
-            CoversAll properties.old (rc_value classes.layout) (statement_trees statements.now)) }
+            CoversAll properties.old (stand_in (rc_value classes.division))
+            (statement_trees statements.now)) }
         ensures same { properties.new ≡ properties.old }
     {
         let mut collection = Collection::new(alloc);
         for number in 0..statements.len() {
             collect_statement(alloc, properties, &mut collection, statements.get(number))?;
         }
-        let Collection {
-            bounds,
-            answers,
-            ..
-        } = collection;
-        let layout = Layout::new(alloc, bounds)?;
-        let sets = by_classes(alloc, &layout, &answers)?;
-        let shared = Rc::new(alloc, layout)?;
+        let Collection { bases, answers } = collection;
+        let division = Division::new(alloc, &bases)?;
+        let sets = by_classes(alloc, division.layout(), &answers)?;
+        let shared = Rc::new(alloc, division)?;
         Ok(Classes {
-            layout: shared,
+            division: shared,
             sets,
         })
     }
@@ -79,7 +77,7 @@ impl Classes {
         value: &Option<Word>,
     ) -> Option<&Option<ClassSet>>
         ensures { IfSome result (λ set. (files : List File) → AreClasses files self.now
-            → IsClassValue files (rc_value self.now.layout)
+            → IsClassValue files (rc_value self.now.division).bounds
             (value_of_property files negated name.now value.now) set.now) }
     {
         let known = self.sets.get(key)?;
@@ -97,8 +95,6 @@ fn by_classes(
     layout: &Layout,
     answers: &IndexMap<String, Answer>,
 ) -> Result<IndexMap<String, PropertyClasses>, AllocError>
-    requires { All (λ answer. IfSome (rc_value answer.set) (AreWholeRanges layout.now))
-        (values answers.now) }
     ensures { IfOk result (λ sets. (files : List File) → All (IsAnswer files) (values answers.now)
         → All (IsKnown files layout.now) (values sets)) }
 {
@@ -119,8 +115,6 @@ fn add_known(
     known: &mut IndexMap<String, PropertyClasses>,
     number: usize,
 ) -> Result<(), AllocError>
-    requires whole { All (λ answer. IfSome (rc_value answer.set) (AreWholeRanges layout.now))
-        (values answers.now) }
     requires divided { All (IsDivided layout.now) (values divided.old) }
     ensures divided { OnOk result (All (IsDivided layout.now) (values divided.new)) }
     ensures known { OnOk result ((files : List File) → All (IsAnswer files) (values answers.now)

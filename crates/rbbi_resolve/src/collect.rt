@@ -1,17 +1,20 @@
-//! The bounds of the ranges in the sets of a rule file, and its properties.
-ghost use Rattle.std.specs.Prelude.{◌≡◌, OnOk};
+//! The sets of which all sets of a rule file are made.
+ghost use Rattle.std.specs.Prelude.{◌≡◌, IfSome, OnOk};
 ghost use Rattle.rbbi_tree.specs.Values.{statement_tree, expr_tree, seq_tree, item_tree};
 ghost use Rattle.rbbi_tree.specs.Values.{set_tree, part_tree};
+ghost use Rattle.rbbi_sets.specs.Rising.{IsRange};
 ghost use Rattle.rbbi_resolve.specs.Parts.{parts_of_expr, parts_of_seq, parts_of_item};
-ghost use Rattle.rbbi_resolve.specs.Parts.{parts_of_set, parts_of_part};
-ghost use Rattle.rbbi_resolve.specs.Covered.{Collects, IsCollection, parts_of_statement};
+ghost use Rattle.rbbi_resolve.specs.Covered.{Collects, CollectsSet, CollectsPart, IsCollection};
+ghost use Rattle.rbbi_resolve.specs.Covered.{parts_of_statement};
+ghost use Rattle.rbbi_resolve.specs.LiteralRuns.{IsLiteral};
 
 use crate::collection::Collection;
 use crate::properties::Properties;
-use rbbi_tree::{Atom, Expr, Item, Seq, SetExpr, SetItem, SetPart, Statement};
+use rbbi_sets::CodeRange;
+use rbbi_tree::{Atom, Expr, Item, Join, Seq, SetExpr, SetItem, SetPart, Statement};
 use std::alloc::{AllocError, Global};
 
-/// Adds the bounds of the ranges in the sets of a statement, and looks its properties up.
+/// Collects the sets of which those of a statement are made, and looks its properties up.
 pub(crate) fn collect_statement(
     alloc: Global,
     properties: &mut Properties,
@@ -40,7 +43,7 @@ pub(crate) fn collect_statement(
     }
 }
 
-/// Adds those of an expression.
+/// Collects those of an expression.
 #[cycle(collect)]
 fn collect_expr(
     alloc: Global,
@@ -59,7 +62,7 @@ fn collect_expr(
     Ok(())
 }
 
-/// Adds those of a sequence.
+/// Collects those of a sequence.
 #[cycle(collect)]
 fn collect_seq(
     alloc: Global,
@@ -78,7 +81,7 @@ fn collect_seq(
     Ok(())
 }
 
-/// Adds those of an item.
+/// Collects those of an item.
 #[cycle(collect)]
 fn collect_item(
     alloc: Global,
@@ -115,7 +118,8 @@ fn collect_item(
     }
 }
 
-/// Adds those of a set.
+/// Collects those of a set: of characters and ranges that follow one another one set is made, since
+/// nothing tells them apart here.
 #[cycle(collect_sets)]
 fn collect_set(
     alloc: Global,
@@ -124,17 +128,53 @@ fn collect_set(
     set: &SetExpr,
 ) -> Result<(), AllocError>
     requires { IsCollection properties.old collection.old }
-    ensures collected { OnOk result (Collects properties.old collection.old collection.new
-        (parts_of_set (set_tree set.now))) }
+    ensures collected { OnOk result (CollectsSet properties.old collection.old collection.new
+        (set_tree set.now)) }
     ensures same { properties.new ≡ properties.old }
 {
+    let mut run = Vec::new(alloc);
     for part in &set.parts.items {
-        collect_part(alloc, properties, collection, part)?;
+        if let Some(range) = literal(part) {
+            run.push(range)?;
+        } else {
+            collection.add_run(alloc, run)?;
+            run = Vec::new(alloc);
+            collect_part(alloc, properties, collection, part)?;
+        }
     }
+    collection.add_run(alloc, run)?;
     Ok(())
 }
 
-/// Adds those of a part of a set.
+/// The range of a part that adds it to what stands to its left.
+fn literal(part: &SetPart) -> Option<CodeRange>
+    ensures range { IfSome result IsRange }
+    ensures literal { IfSome result (λ range. IsLiteral range (part_tree part.now)) }
+{
+    match part.join {
+        Join::Add => match &part.item {
+            SetItem::Char(c) => range_of(*c, *c),
+            SetItem::Range(first, last) => range_of(*first, *last),
+            SetItem::Name(_) | SetItem::Prop { .. } | SetItem::Set(_) => None,
+        },
+        Join::Both | Join::Minus => None,
+    }
+}
+
+/// The range from one character to another, where it isn't greater.
+fn range_of(first: char, last: char) -> Option<CodeRange>
+    ensures { IfSome result (λ range. IsRange range × (range.low ≡ first) × (range.high ≡ last)) }
+{
+    if first > last {
+        return None;
+    }
+    Some(CodeRange {
+        low: first as u32,
+        high: last as u32,
+    })
+}
+
+/// Collects those of a part of a set.
 #[cycle(collect_sets)]
 fn collect_part(
     alloc: Global,
@@ -143,17 +183,17 @@ fn collect_part(
     part: &SetPart,
 ) -> Result<(), AllocError>
     requires { IsCollection properties.old collection.old }
-    ensures collected { OnOk result (Collects properties.old collection.old collection.new
-        (parts_of_part (part_tree part.now))) }
+    ensures collected { OnOk result (CollectsPart properties.old collection.old collection.new
+        (part_tree part.now)) }
     ensures same { properties.new ≡ properties.old }
 {
     match &part.item {
         SetItem::Char(c) => {
-            collection.add_range(*c, *c)?;
+            collection.add_range(alloc, *c, *c)?;
             Ok(())
         }
         SetItem::Range(first, last) => {
-            collection.add_range(*first, *last)?;
+            collection.add_range(alloc, *first, *last)?;
             Ok(())
         }
         SetItem::Name(_) => Ok(()),

@@ -10,6 +10,7 @@ ghost use Rattle.rbbi_resolve.specs.Parts.{parts_of_expr, parts_of_item};
 ghost use Rattle.rbbi_resolve.specs.Faults.{noted_parts};
 ghost use Rattle.rbbi_resolve.specs.Contexts as contexts;
 ghost use Rattle.rbbi_resolve.specs.Scopes.{IsScope, KnowsQuotes, IsKindOf, bounds_of, context_of};
+ghost use Rattle.rbbi_resolve.specs.Scopes.{stand_of};
 ghost use Rattle.rbbi_resolve.specs.Covered.{AreCovered};
 ghost use Rattle.rbbi_resolve.specs.Definitions.{AreSetOf, noted_if_set};
 
@@ -33,7 +34,7 @@ pub(crate) fn check_definition(
 ) -> Result<Kind, AllocError>
     requires scope { IsScope properties.old scope.now }
     requires quotes { KnowsQuotes properties.old scope.now }
-    requires covered { AreCovered properties.old (bounds_of scope.now)
+    requires covered { AreCovered properties.old (stand_of scope.now)
         (parts_of_expr (expr_tree expr.now)) }
     ensures noted { OnOk result (least.new ≡ noted_parts
         (context_of properties.old scope.now) least.old
@@ -60,7 +61,7 @@ fn check_lone(
     expr: &Expr,
 ) -> Result<Option<Option<SharedClasses>>, AllocError>
     requires scope { IsScope properties.old scope.now }
-    requires covered { AreCovered properties.old (bounds_of scope.now)
+    requires covered { AreCovered properties.old (stand_of scope.now)
         (parts_of_expr (expr_tree expr.now)) }
     ensures noted { IfOk result (λ found. least.new ≡ noted_if_set
         (context_of properties.old scope.now) least.old
@@ -85,7 +86,7 @@ fn check_lone_atom(
     atom: &Atom,
 ) -> Result<Option<Option<SharedClasses>>, AllocError>
     requires scope { IsScope properties.old scope.now }
-    requires covered { AreCovered properties.old (bounds_of scope.now)
+    requires covered { AreCovered properties.old (stand_of scope.now)
         (parts_of_item (placed place (atom_tree atom.now) Once)) }
     ensures noted { IfOk result (λ found. least.new ≡ noted_if_set
         (context_of properties.old scope.now) least.old

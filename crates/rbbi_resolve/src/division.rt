@@ -1,10 +1,9 @@
 //! Sets of ranges by classes, each made once.
-ghost use Rattle.std.specs.Prelude.{IfOk, IfSome, OnOk};
+ghost use Rattle.std.specs.Prelude.{IfOk, OnOk};
 ghost use Rattle.std.specs.HashMap.{values};
 ghost use Rattle.std.specs.List.{All};
 ghost use Rattle.std.specs.Rc.{rc_value};
 ghost use Rattle.rbbi_resolve.specs.ClassValues.{IsDivided, AreSame};
-ghost use Rattle.rbbi_resolve.specs.Covered.{AreWholeRanges};
 
 use crate::properties::{are_same, hash_of};
 use indexmap::IndexMap;
@@ -26,8 +25,7 @@ pub(crate) fn divide_once(
     divided: &mut IndexMap<u64, Divided>,
     set: &Rc<Option<CodeSet>>,
 ) -> Result<Rc<Option<ClassSet>>, AllocError>
-    requires divided { All (IsDivided layout.now) (values divided.old) }
-    requires whole { IfSome (rc_value set.now) (AreWholeRanges layout.now) }
+    requires { All (IsDivided layout.now) (values divided.old) }
     ensures divided { OnOk result (All (IsDivided layout.now) (values divided.new)) }
     ensures classes { IfOk result (λ classes.
         AreSame layout.now (rc_value set.now) (rc_value classes)) }
@@ -47,18 +45,17 @@ pub(crate) fn divide_once(
     Ok(classes)
 }
 
-/// The set by classes, where it is there. Its ranges are whole classes each.
+/// The set by classes, where it is there.
 pub(crate) fn divide(
     alloc: Global,
     layout: &Layout,
     set: &Option<CodeSet>,
 ) -> Result<Option<ClassSet>, AllocError>
-    requires { IfSome set.now (AreWholeRanges layout.now) }
     ensures { IfOk result (λ classes. AreSame layout.now set.now classes) }
 {
     let Some(set) = set else {
         return Ok(None);
     };
     let classes = ClassSet::of_set(alloc, layout, set)?;
-    Ok(Some(classes.unwrap()))
+    Ok(Some(classes))
 }

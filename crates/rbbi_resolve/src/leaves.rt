@@ -10,8 +10,9 @@ ghost use Rattle.rbbi_resolve.specs.SetValues.{IsValue, HasMembers};
 ghost use Rattle.rbbi_resolve.specs.ClassValues.{IsClassValue};
 ghost use Rattle.rbbi_resolve.specs.Parts.{parts_of_expr, parts_of_seq, parts_of_item};
 ghost use Rattle.rbbi_resolve.specs.Faults.{faults_of_parts, is_empty_value};
-ghost use Rattle.rbbi_resolve.specs.Scopes.{IsScope, bounds_of, context_of};
-ghost use Rattle.rbbi_resolve.specs.Covered.{AreCovered};
+ghost use Rattle.rbbi_resolve.specs.Scopes.{IsScope, context_of, stand_of};
+ghost use Rattle.rbbi_resolve.specs.Covered.{AreCovered, Respects};
+ghost use Rattle.rbbi_sets.specs.Divisions.{IsDivision, stand_in};
 ghost use Rattle.rbbi_resolve.specs.Soundness.{AreSound};
 ghost use Rattle.rbbi_resolve.specs.OwnLeaves.{AddsLeaves, leaves_of_expr, leaves_of_seq};
 ghost use Rattle.rbbi_resolve.specs.OwnLeaves.{leaves_of_item};
@@ -20,7 +21,7 @@ use crate::fault::Fault;
 use crate::properties::Properties;
 use crate::scope::Scope;
 use crate::set_value::value_of_set;
-use rbbi_sets::{CharacterSet, CodeSet, Layout, SharedClasses};
+use rbbi_sets::{CharacterSet, CodeSet, Division, SharedClasses};
 use rbbi_text::Word;
 use rbbi_tree::{Atom, Expr, Item, Seq};
 use std::alloc::{AllocError, Global};
@@ -37,7 +38,7 @@ pub(crate) fn add_leaves(
     expr: &Expr,
 ) -> Result<(), AllocError>
     requires scope { IsScope properties.old scope.now }
-    requires covered { AreCovered properties.old (bounds_of scope.now)
+    requires covered { AreCovered properties.old (stand_of scope.now)
         (parts_of_expr (expr_tree expr.now)) }
     ensures added { OnOk result (AreSound (context_of properties.old scope.now)
         → faults_of_parts (context_of properties.old scope.now)
@@ -63,7 +64,7 @@ fn add_leaves_of_seq(
     seq: &Seq,
 ) -> Result<(), AllocError>
     requires scope { IsScope properties.old scope.now }
-    requires covered { AreCovered properties.old (bounds_of scope.now)
+    requires covered { AreCovered properties.old (stand_of scope.now)
         (parts_of_seq (seq_tree seq.now)) }
     ensures added { OnOk result (AreSound (context_of properties.old scope.now)
         → faults_of_parts (context_of properties.old scope.now)
@@ -89,7 +90,7 @@ fn add_leaves_of_item(
     item: &Item,
 ) -> Result<(), AllocError>
     requires scope { IsScope properties.old scope.now }
-    requires covered { AreCovered properties.old (bounds_of scope.now)
+    requires covered { AreCovered properties.old (stand_of scope.now)
         (parts_of_item (item_tree item.now)) }
     ensures added { OnOk result (AreSound (context_of properties.old scope.now)
         → faults_of_parts (context_of properties.old scope.now)
@@ -117,7 +118,7 @@ fn add_leaves_of_item(
             let mut least: Option<Fault> = None;
             let value = value_of_set(alloc, scope, properties, &mut least, set)?;
             let kept = properties.keep(alloc, &value)?;
-            add_classes(sets, &scope.classes.layout, &kept)?;
+            add_classes(sets, &scope.classes.division, &kept)?;
             Ok(())
         }
         Atom::Group(inner) => {
@@ -196,17 +197,19 @@ pub(crate) fn add_value(
 /// chunks that they share.
 pub(crate) fn add_classes(
     sets: &mut Vec<CharacterSet>,
-    layout: &Rc<Layout>,
+    division: &Rc<Division>,
     value: &Option<SharedClasses>,
 ) -> Result<(), AllocError>
     ensures { OnOk result ((files : List File) (tree : model.SetTree) →
-        IsClassValue files (rc_value layout.now) (Some tree) value.now
+        IsDivision (rc_value division.now)
+        → IsClassValue files (rc_value division.now).bounds (Some tree) value.now
+        → Respects files (stand_in (rc_value division.now)) tree
         → is_empty_value files (Some tree) ≡ false →
         AddsLeaves files (tree ∷ []) sets.old.items sets.new.items) }
 {
     match value {
         Some(classes) => {
-            let characters = CharacterSet::of_classes(layout, classes)?;
+            let characters = CharacterSet::of_classes(division, classes)?;
             sets.push(characters)?;
             Ok(())
         }

@@ -4,7 +4,7 @@ ghost use Rattle.rbbi_tree.specs.Values.{expr_tree};
 ghost use Rattle.rbbi_resolve.specs.Expressions.{variable_for};
 ghost use Rattle.rbbi_resolve.specs.Parts.{parts_of_expr};
 ghost use Rattle.rbbi_resolve.specs.Faults.{faults_of_parts};
-ghost use Rattle.rbbi_resolve.specs.Scopes.{IsScope, IsKindOf, bounds_of, context_of};
+ghost use Rattle.rbbi_resolve.specs.Scopes.{IsScope, IsKindOf, bounds_of, context_of, stand_of};
 ghost use Rattle.rbbi_resolve.specs.Covered.{AreCovered};
 ghost use Rattle.rbbi_resolve.specs.Soundness.{AreSound};
 ghost use Rattle.rbbi_resolve.specs.OwnLeaves.{AddsLeaves, leaves_of_expr};
@@ -34,7 +34,7 @@ pub(crate) fn add_own_leaves(
     requires scope { IsScope properties.old scope.now }
     requires kept { IfSome kept (λ kind. IsKindOf properties.old (bounds_of scope.now) kind.now
         (variable_for (context_of properties.old scope.now) (expr_tree expr.now))) }
-    requires covered { AreCovered properties.old (bounds_of scope.now)
+    requires covered { AreCovered properties.old (stand_of scope.now)
         (parts_of_expr (expr_tree expr.now)) }
     ensures added { OnOk result (AreSound (context_of properties.old scope.now)
         → faults_of_parts (context_of properties.old scope.now)
@@ -46,7 +46,7 @@ pub(crate) fn add_own_leaves(
 {
     if let Some(kind) = kept {
         if let Some(value) = kept_value(kind, expr) {
-            add_classes(sets, &scope.classes.layout, value)?;
+            add_classes(sets, &scope.classes.division, value)?;
             return Ok(());
         }
     }

@@ -31,9 +31,9 @@ pub(crate) struct Answer {
 #[derive(Drop)]
 pub(crate) struct Properties<'a> {
     table: &'a PropTable,
-    /// What was found for each property so far, by a text that is made of its name and value.
+    /// What was found for each property so far, by a text that all spellings of it share.
     answers: IndexMap<String, Answer>,
-    /// What was found, by a hash, since a property may be spelled in many ways. Of sets with one
+    /// What was found, by a hash, since properties of many names may be the same. Of sets with one
     /// hash the last one is here.
     sets: IndexMap<u64, Rc<Option<CodeSet>>>,
     /// The chunks of the sets of variables.
@@ -159,7 +159,7 @@ pub(crate) fn answer_of(
     })
 }
 
-/// What was found, or what is the same and was found before, by another spelling.
+/// What was found, or what is the same and was found before, by another name.
 fn keep_once(
     alloc: Global,
     sets: &mut IndexMap<u64, Rc<Option<CodeSet>>>,

@@ -2,10 +2,14 @@
 ghost use Rattle.std.specs.Prelude.{◌≡◌, IfOk, IsTrue, string_bytes, chars, option_map};
 ghost use Rattle.rbbi_resolve.specs.Questions.{IsFor};
 
+use rbbi_props::{are_alike, push_common_form};
 use rbbi_text::Word;
 use std::alloc::{AllocError, Global};
 
-/// A property that is asked for.
+/// Room for the key of most properties.
+const FIRST_ROOM: usize = 48;
+
+/// A property that is asked for, as it was spelled the first time.
 #[derive(Debug, Drop)]
 pub(crate) struct Question {
     pub(crate) negated: bool,
@@ -14,41 +18,40 @@ pub(crate) struct Question {
 }
 
 impl Question {
-    /// Whether it asks for a property.
+    /// Whether it asks for a property, in whatever spelling: a look-up takes the two alike.
     pub(crate) fn is_for(&self, negated: bool, name: &Word, value: &Option<Word>) -> bool
         ensures { IsTrue result → IsFor self.now negated name.now value.now }
     {
-        self.negated == negated
-            && self.name.as_str() == name.as_str()
-            && is_text_of(&self.value, value)
+        if self.negated != negated {
+            return false;
+        }
+        let own = self.name.as_str();
+        let asked = name.as_str();
+        match &self.value {
+            Some(own_value) => match value {
+                Some(value) => {
+                    are_alike(own, Some(own_value.as_str()), asked, Some(value.as_str()))
+                }
+                None => false,
+            },
+            None => value.is_none() && are_alike(own, None, asked, None),
+        }
     }
 }
 
-/// Whether both are absent, or the text is that of the word.
-fn is_text_of(text: &Option<String>, word: &Option<Word>) -> bool
-    ensures { IsTrue result → option_map (λ t. chars (string_bytes t)) text.now ≡ word.now }
-{
-    match text {
-        Some(text) => match word {
-            Some(word) => text.as_str() == word.as_str(),
-            None => false,
-        },
-        None => word.is_none(),
-    }
-}
-
-/// A text for a property, another one for each name, value and sign.
+/// A text for a property, which all its spellings share: another one for each name, value and sign
+/// that a look-up tells apart.
 pub(crate) fn key_of(
     alloc: Global,
     negated: bool,
     name: &Word,
     value: &Option<Word>,
 ) -> Result<String, AllocError> {
-    let mut key = String::from_str(alloc, if negated { "-" } else { "+" })?;
-    key.push_str(name.as_str())?;
+    let mut key = String::with_capacity(alloc, FIRST_ROOM)?;
+    key.push(if negated { '-' } else { '+' })?;
+    push_common_form(&mut key, name.as_str())?;
     if let Some(value) = value {
-        key.push_str("=")?;
-        key.push_str(value.as_str())?;
+        push_common_form(&mut key, value.as_str())?;
     }
     Ok(key)
 }

@@ -4,7 +4,7 @@ ghost use Rattle.rbbi_tree.specs.Values.{expr_tree, rest_tree};
 ghost use Rattle.rbbi_resolve.specs.Parts.{parts_of_expr};
 ghost use Rattle.rbbi_resolve.specs.Faults.{noted, faults_of_parts};
 ghost use Rattle.rbbi_resolve.specs.Files.{faults_of_rest, faults_at_slash};
-ghost use Rattle.rbbi_resolve.specs.Scopes.{IsScope, KnowsQuotes, bounds_of, context_of};
+ghost use Rattle.rbbi_resolve.specs.Scopes.{IsScope, KnowsQuotes, stand_of, context_of};
 ghost use Rattle.rbbi_resolve.specs.Covered.{AreCovered, parts_of_rest};
 ghost use Rattle.rbbi_resolve.specs.RuleSums.{AreSumsOf, faults_where_empty};
 
@@ -28,9 +28,9 @@ pub(crate) fn check_rule(
 ) -> Result<Summary, AllocError>
     requires scope { IsScope properties.old scope.now }
     requires quotes { KnowsQuotes properties.old scope.now }
-    requires front { AreCovered properties.old (bounds_of scope.now)
+    requires front { AreCovered properties.old (stand_of scope.now)
         (parts_of_expr (expr_tree front.now)) }
-    requires rest { AreCovered properties.old (bounds_of scope.now)
+    requires rest { AreCovered properties.old (stand_of scope.now)
         (parts_of_rest (rest_tree rest.now)) }
     ensures noted { OnOk result (least.new ≡ noted least.old (
         faults_of_parts (context_of properties.old scope.now) (parts_of_expr (expr_tree front.now))

@@ -23,11 +23,11 @@ pub(crate) struct Scope<'a> {
 }
 
 impl<'a> Scope<'a> {
-    /// The division of the code points into the classes of the file.
+    /// The first code points of the classes of the file.
     pub(crate) fn layout(&self) -> &'a Layout
         ensures { result.now ≡ bounds_of self.now }
     {
-        self.classes.layout.as_ref()
+        self.classes.division.as_ref().layout()
     }
 
     /// The variable of this name, where a statement before the limit assigns it.

@@ -1,20 +1,17 @@
 //! The value of a set, and the faults in it.
-ghost use Rattle.std.specs.Prelude.{◌≡◌, ◌≤◌, ◌↔◌, ℕ, nat_lt, List, Option, [], ◌∷◌, Some};
+ghost use Rattle.std.specs.Prelude.{◌≡◌, ℕ, nat_lt, List, Option, [], ◌∷◌, Some};
 ghost use Rattle.std.specs.Prelude.{IfOk, OnOk, option_map};
 ghost use Rattle.rbbi_model.specs.SetTrees as model;
-ghost use Rattle.rbbi_sets.specs.Classes.{HasMember, AreWholeClasses};
 ghost use Rattle.rbbi_props.specs.Rows.{File};
 ghost use Rattle.rbbi_tree.specs.Trees.{joined, set_name};
 ghost use Rattle.rbbi_tree.specs.Values.{set_tree, set_item_tree};
 ghost use Rattle.rbbi_tree.specs.declared.syntax.Join as trees;
-ghost use Rattle.rbbi_tree.specs.declared.syntax.Join.TheVariants.{Add};
 ghost use Rattle.rbbi_resolve.specs.SetValues.{joined_to, signed, value_of_set, value_of_item};
 ghost use Rattle.rbbi_resolve.specs.SetValues.{value_of_range, value_of_property};
 ghost use Rattle.rbbi_resolve.specs.ClassValues.{IsClassValue};
 ghost use Rattle.rbbi_resolve.specs.Worths.{classes_of};
 ghost use Rattle.rbbi_resolve.specs.Contexts.{value_of_name};
 ghost use Rattle.rbbi_resolve.specs.Parts.{Within, parts_of_set, parts_of_part};
-ghost use Rattle.rbbi_resolve.specs.Covered.{AreCovered, IsCoveredProperty, IsWhole};
 ghost use Rattle.rbbi_resolve.specs.Faults.{noted, noted_parts, faults_where};
 ghost use Rattle.rbbi_resolve.specs.Scopes.{IsScope, bounds_of, context_of};
 
@@ -24,7 +21,7 @@ use crate::properties::Properties;
 use crate::question::key_of;
 use crate::scope::Scope;
 use crate::variables::Kind;
-use rbbi_sets::{ClassSet, Layout, SharedClasses, members_determine};
+use rbbi_sets::{ClassSet, Layout, SharedClasses};
 use rbbi_text::Word;
 use rbbi_tree::{Join, SetExpr, SetItem};
 use std::alloc::{AllocError, Global};
@@ -45,9 +42,7 @@ pub(crate) fn value_of_set(
     least: &mut Option<Fault>,
     set: &SetExpr,
 ) -> Result<Option<ClassSet>, AllocError>
-    requires scope { IsScope properties.old scope.now }
-    requires covered { AreCovered properties.old (bounds_of scope.now)
-        (parts_of_set (set_tree set.now)) }
+    requires { IsScope properties.old scope.now }
     ensures value { IfOk result (λ value. IsClassValue properties.old (bounds_of scope.now)
         (value_of_set properties.old (value_of_name (context_of properties.old scope.now))
         (set_tree set.now)) value) }
@@ -75,9 +70,7 @@ fn value_of_item<'a>(
     place: u32,
     item: &SetItem,
 ) -> Result<Option<Worth<'a>>, AllocError>
-    requires scope { IsScope properties.old scope.now }
-    requires covered { AreCovered properties.old (bounds_of scope.now)
-        (parts_of_part (joined place Add (set_item_tree item.now))) }
+    requires { IsScope properties.old scope.now }
     ensures value { IfOk result (λ value. IsClassValue properties.old (bounds_of scope.now)
         (value_of_item properties.old (value_of_name (context_of properties.old scope.now))
         (set_item_tree item.now)) (option_map classes_of value)) }
@@ -89,7 +82,7 @@ fn value_of_item<'a>(
     match item {
         SetItem::Char(c) => {
             let code = *c as u32;
-            let value = classes_of_range(alloc, scope.layout(), code, code)?;
+            let value = ClassSet::range(alloc, scope.layout(), code, code)?;
             Ok(Some(Worth::Own(value)))
         }
         SetItem::Range(first, last) => {
@@ -123,23 +116,6 @@ fn own<'a>(value: Option<ClassSet>) -> Option<Worth<'a>>
     }
 }
 
-/// The code points from `low` to `high`, which are whole classes.
-fn classes_of_range(
-    alloc: Global,
-    layout: &Layout,
-    low: u32,
-    high: u32,
-) -> Result<ClassSet, AllocError>
-    requires ordered { low ≤ high }
-    requires code_points { high ≤ 0x10FFFF }
-    requires whole { AreWholeClasses layout.now low high }
-    ensures { IfOk result (λ set. (c : ℕ) →
-        HasMember layout.now set c ↔ ((low ≤ c) × (c ≤ high))) }
-{
-    let set = ClassSet::range(alloc, layout, low, high)?;
-    Ok(set.unwrap())
-}
-
 /// The value of a range. Notes where its first character is greater than its last.
 fn value_of_range(
     alloc: Global,
@@ -149,7 +125,6 @@ fn value_of_range(
     first: char,
     last: char,
 ) -> Result<Option<ClassSet>, AllocError>
-    requires { IsWhole layout.now first last }
     ensures value { IfOk result (λ value. (files : List File) →
         IsClassValue files layout.now (value_of_range first last) value) }
     ensures noted { OnOk result (least.new ≡ noted least.old
@@ -161,7 +136,7 @@ fn value_of_range(
     if high < low {
         return Ok(None);
     }
-    let set = classes_of_range(alloc, layout, low, high)?;
+    let set = ClassSet::range(alloc, layout, low, high)?;
     Ok(Some(set))
 }
 
@@ -213,9 +188,7 @@ pub(crate) fn value_of_property(
     name: &Word,
     value: &Option<Word>,
 ) -> Result<Option<ClassSet>, AllocError>
-    requires scope { IsScope properties.old scope.now }
-    requires covered { IsCoveredProperty properties.old (bounds_of scope.now)
-        negated name.now value.now }
+    requires { IsScope properties.old scope.now }
     ensures value { IfOk result (λ set. IsClassValue properties.old (bounds_of scope.now)
         (value_of_property properties.old negated name.now value.now) set) }
     ensures same { properties.new ≡ properties.old }
@@ -227,7 +200,6 @@ pub(crate) fn value_of_property(
             Ok(copy)
         }
         None => {
-            members_determine();
             let found = properties.set_of(alloc, negated, name, value)?;
             let set = divide(alloc, scope.layout(), found.as_ref())?;
             Ok(set)

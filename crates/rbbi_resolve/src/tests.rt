@@ -134,6 +134,16 @@ const FAULTS: &[(&str, &str)] = &[
     ("[[a-\u{10FFFF}]&[^b-\u{10FFFF}]-[a]];", "0 EmptySet"),
     // a sign before a property, and in its name
     ("\\P{L} \\p{^L};", "6 UnknownProperty"),
+    // one property in many spellings, which are alike
+    ("[\\p{Lu}-[\\p{ l_U }]];", "0 EmptySet"),
+    ("[\\P{Lu}&[\\p{L-u}]];", "0 EmptySet"),
+    ("[\\p{Kind=Low}-[\\p{k i_nd = LOW}]];", "0 EmptySet"),
+    ("[\\p{Lu}-[\\p{Ll}]-[\\p{gc=l_u}]];", "0 EmptySet"),
+    // names that differ in a space alone, and aren't: a name is found without "is", and not "i s"
+    ("\\p{isL} \\p{i sL};", "8 UnknownProperty"),
+    // names that aren't well formed
+    ("\\p{a,b};", "0 UnknownProperty"),
+    ("\\p{L} \\p{a,b} \\p{c,d};", "6 UnknownProperty"),
     // the first of many faults of a set
     ("[[b-a]$x[z-y]];", "2 BadRange"),
     ("[$y[b-a]-[$x]];", "1 Undefined"),

@@ -21,7 +21,7 @@ use Rattle.rbbi_resolve.proofs.Steps.{tree_at, meant}
 use Rattle.rbbi_resolve.proofs.Building.{part_more, goes_nowhere, goes_further}
 use Rattle.rbbi_resolve.proofs.RulesBuilt.{statement_built, rule_fresh}
 use Rattle.rbbi_resolve.proofs.Ending.{switches_kept}
-use Rattle.rbbi_resolve.specs.Scopes.{bounds_of}
+use Rattle.rbbi_resolve.specs.Scopes.{stand_of}
 use Rattle.rbbi_resolve.specs.Covered.{AreCovered, parts_of_rest}
 use Rattle.rbbi_resolve.proofs.Covering.{covered_left, covered_right}
 use Rattle.rbbi_resolve.proofs.active.add_statement.Goals as goal
@@ -162,7 +162,7 @@ returns-in_ok-push-in-Rule-clause-added c =
 
 -- the expressions of an active rule are covered
 covered : (c : In-Rule) →
-    AreCovered c.args.builder.now.properties (bounds_of c.args.scope.now) (parts_of_expr (expr_tree c.in-Rule.front) ++ parts_of_rest
+    AreCovered c.args.builder.now.properties (stand_of c.args.scope.now) (parts_of_expr (expr_tree c.in-Rule.front) ++ parts_of_rest
     (rest_tree c.in-Rule.rest))
 covered c =
     let xs = c.args.scope.now.statements.now in
@@ -171,13 +171,13 @@ covered c =
 
 pub tree-requires-clause-covered : goal.tree-requires-clause-covered
 tree-requires-clause-covered c =
-    covered_left c.args.builder.now.properties (bounds_of c.args.scope.now) (parts_of_expr (expr_tree c.in-Rule.front)) (parts_of_rest
+    covered_left c.args.builder.now.properties (stand_of c.args.scope.now) (parts_of_expr (expr_tree c.in-Rule.front)) (parts_of_rest
     (rest_tree c.in-Rule.rest))
     (covered (goal.at.tree-requires-clause-covered c).In-Rule)
 
 pub tree_of_rest-requires-clause-covered : goal.tree_of_rest-requires-clause-covered
 tree_of_rest-requires-clause-covered c =
     let rest = parts_of_rest (rest_tree c.in-Rule.rest) in
-    subst (λ f. AreCovered f (bounds_of c.args.scope.now) rest) (sym c.in_ok-front-in-Rule.ensures.same)
-    (covered_right c.args.builder.now.properties (bounds_of c.args.scope.now) (parts_of_expr (expr_tree c.in-Rule.front)) rest
+    subst (λ f. AreCovered f (stand_of c.args.scope.now) rest) (sym c.in_ok-front-in-Rule.ensures.same)
+    (covered_right c.args.builder.now.properties (stand_of c.args.scope.now) (parts_of_expr (expr_tree c.in-Rule.front)) rest
     (covered (goal.at.tree_of_rest-requires-clause-covered c).In-Rule))

@@ -2,6 +2,7 @@ use Rattle.std.proofs.Common.{◌≡◌, [], length, sym, ◌∙◌, subst, arit
 use Rattle.std.proofs.lemmas.List.{length-map}
 use Rattle.std.specs.Rc.{rc_value}
 use Rattle.rbbi_tree.specs.Values.{statement_trees}
+use Rattle.rbbi_sets.specs.Divisions.{stand_in}
 use Rattle.rbbi_resolve.specs.Files.{active_rules, context_at, faults_of}
 use Rattle.rbbi_resolve.specs.Scopes.{AreVariables}
 use Rattle.rbbi_resolve.specs.ClassValues.{AreClasses}
@@ -24,13 +25,13 @@ rules_with_trees-requires-clause-ready c =
     let T = statement_trees r.statements.now in
     let same = c.in_ok-builder.ensures.same in
     let back = sym same in
-    let variables = subst (λ f. AreVariables f (rc_value r.classes.layout) T r.variables (length r.statements.now)) back c.requires.reading.defined in
+    let variables = subst (λ f. AreVariables f (rc_value r.classes.division).bounds T r.variables (length r.statements.now)) back c.requires.reading.defined in
     let none = subst (λ f. faults_of f r.dictionary_ignored T ≡ []) back c.requires.faultless in
     let now = c.in_ok-builder.builder.properties in
     record {
       end = length r.statements.now;
       classes = subst (λ f. AreClasses f r.classes) back c.requires.reading.classified;
-      covered = subst (λ f. CoversAll f (rc_value r.classes.layout) T) back c.requires.reading.covered;
+      covered = subst (λ f. CoversAll f (stand_in (rc_value r.classes.division)) T) back c.requires.reading.covered;
       variables = variables;
       low = omega (arith, c.len.ensures);
       ignored = r.dictionary_ignored;

@@ -12,12 +12,13 @@ use Rattle.rbbi_resolve.proofs.Kept.{files_stay}
 use Rattle.rbbi_resolve.proofs.Counting.{expr_turn, seq_turn, expr_gives, seq_gives, repeated_sums}
 use Rattle.std.proofs.Common.{◌<◌}
 use Rattle.rbbi_tree.specs.Values.{seq_tree, item_tree}
-use Rattle.rbbi_resolve.specs.Parts.{parts_of_seq, parts_in_atom}
+use Rattle.rbbi_resolve.specs.Parts.{parts_of_seq}
+use Rattle.rbbi_tree.specs.declared.syntax.Quant.TheVariants.{Once}
 use Rattle.rbbi_resolve.specs.Covered.{AreCovered}
-use Rattle.rbbi_resolve.specs.Scopes.{IsScope, KnowsQuotes, bounds_of}
+use Rattle.rbbi_resolve.specs.Scopes.{IsScope, KnowsQuotes, stand_of}
 use Rattle.rbbi_resolve.proofs.Counting.{expr_by_items, seq_by_items}
 use Rattle.rbbi_resolve.proofs.Weights.{size_of_expr, size_of_seq, size_of_item, size_of_atom, smaller_seq, smaller_item, smaller_atom}
-use Rattle.rbbi_resolve.proofs.Covering.{covered_seq, covered_item, covered_atom}
+use Rattle.rbbi_resolve.proofs.Covering.{covered_seq, covered_item, covered_atom, covered_alone, covered_left}
 use Rattle.rbbi_resolve.proofs.check.+check.Goals as goal
 
 pub check_expr-loop-seq-init : goal.check_expr-loop-seq-init
@@ -154,8 +155,8 @@ check_expr-check_seq-requires t c =
     let back = sym l.invariant.same in
     let is_scope : IsScope l.properties scope = subst (λ f. IsScope f scope) back c.requires.scope in
     let knows : KnowsQuotes l.properties scope = subst (λ f. KnowsQuotes f scope) back c.requires.quotes in
-    let covered : AreCovered l.properties (bounds_of scope) (parts_of_seq (seq_tree p)) =
-    covered_seq files l.properties (bounds_of scope) l.invariant.same c.args.expr.now xs l.seq-index p c.requires.covered c.deref-seq-items.ensures.value
+    let covered : AreCovered l.properties (stand_of scope) (parts_of_seq (seq_tree p)) =
+    covered_seq files l.properties (stand_of scope) l.invariant.same c.args.expr.now xs l.seq-index p c.requires.covered c.deref-seq-items.ensures.value
     c.seq-item.is inside in
     search rules
 
@@ -173,24 +174,35 @@ check_seq-check_item-requires t c =
     let back = sym l.invariant.same in
     let is_scope : IsScope l.properties scope = subst (λ f. IsScope f scope) back c.requires.scope in
     let knows : KnowsQuotes l.properties scope = subst (λ f. KnowsQuotes f scope) back c.requires.quotes in
-    let covered : AreCovered l.properties (bounds_of scope) (parts_of_item (item_tree p)) =
-    covered_item files l.properties (bounds_of scope) l.invariant.same c.args.seq.now xs l.item-index p c.requires.covered c.deref-item-items.ensures.value
+    let covered : AreCovered l.properties (stand_of scope) (parts_of_item (item_tree p)) =
+    covered_item files l.properties (stand_of scope) l.invariant.same c.args.seq.now xs l.item-index p c.requires.covered c.deref-item-items.ensures.value
     c.item-item.is inside in
     search rules
 
 pub check_item-check_atom-requires : goal.check_item-check_atom-requires
 check_item-check_atom-requires t c =
     let smaller = smaller_atom c.args.item.now in
-    let covered = covered_atom c.args.properties.now (bounds_of c.args.scope.now) c.args.item.now c.requires.covered in
+    let covered = covered_atom c.args.properties.now (stand_of c.args.scope.now) c.args.item.now c.requires.covered in
     search rules
 
 pub check_atom-check_expr-requires : goal.check_atom-check_expr-requires
 check_atom-check_expr-requires t c =
     let files = c.args.properties.now in
-    let bounds = bounds_of c.args.scope.now in
+    let stand = stand_of c.args.scope.now in
     let inner = expr_tree c.in-Group.inner in
     let e : atom_tree c.args.atom.now ≡ group inner = let i = c.in-Group.is in ap atom_tree i ∙ atom_of_group c.in-Group.inner in
     let size = ap size_of_atom e in
     let smaller : size_of_expr inner < size_of_atom (atom_tree c.args.atom.now) = omega arith in
-    let covered : AreCovered files bounds (parts_of_expr inner) = subst (λ a. AreCovered files bounds (parts_in_atom a)) e c.requires.covered in
+    let covered : AreCovered files stand (parts_of_expr inner) =
+    covered_left files stand (parts_of_expr inner) (Outside c.args.place (group inner) ∷ [])
+    (subst (λ a. AreCovered files stand (parts_of_item (placed c.args.place a Once))) e c.requires.covered) in
     search rules
+
+pub check_atom-check_set-requires-clause-covered : goal.check_atom-check_set-requires-clause-covered
+check_atom-check_set-requires-clause-covered t c =
+    let files = c.args.properties.now in
+    let stand = stand_of c.args.scope.now in
+    let s = set_tree c.in-Set.set in
+    let e : atom_tree c.args.atom.now ≡ set s = let i = c.in-Set.is in ap atom_tree i ∙ atom_of_set c.in-Set.set in
+    covered_alone files stand c.args.place (set s)
+    (subst (λ a. AreCovered files stand (parts_of_item (placed c.args.place a Once))) e c.requires.covered)

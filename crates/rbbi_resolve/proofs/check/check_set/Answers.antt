@@ -1,6 +1,7 @@
 use Rattle.std.proofs.Common.{ap, ◌∙◌}
 use Rattle.rbbi_tree.specs.Values.{set_tree}
 use Rattle.rbbi_resolve.specs.Faults.{noted, faults_where}
+use Rattle.rbbi_resolve.specs.Contexts.{value_of_name}
 use Rattle.rbbi_resolve.specs.Scopes.{context_of}
 use Rattle.rbbi_resolve.proofs.Kept.{files_stay}
 use Rattle.rbbi_resolve.proofs.Named.{set_noted}
@@ -12,4 +13,5 @@ returns-clause-noted c =
     c.note_where.ensures ∙ ap (λ l. noted l (faults_where c.is_empty_set-is_empty.result c.args.place 9)) c.in_ok-value.ensures.noted
     ∙ set_noted (context_of c.args.properties.now c.args.scope.now) c.args.properties.now c.args.least.now c.args.place (set_tree c.args.set.now)
     c.is_empty_set-is_empty.result (files_stay c.args.properties.now _ _)
-    ((rw c.layout.ensures at (c.is_empty_set-is_empty.ensures c.args.properties.now)) _ c.in_ok-value.ensures.value)
+    ((rw c.as_ref.ensures at (c.is_empty_set-is_empty.ensures c.args.properties.now)) _ c.in_ok-value.ensures.value
+    (c.requires.covered (value_of_name (context_of c.args.properties.now c.args.scope.now)) c.requires.scope.respects))

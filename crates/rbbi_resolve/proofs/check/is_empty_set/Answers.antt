@@ -5,5 +5,6 @@ use Rattle.rbbi_resolve.proofs.check.is_empty_set.Goals as goal
 
 pub returns-in-Some : goal.returns-in-Some
 returns-in-Some c =
-    λ files tree is. classes_emptiness files c.args.layout.now tree _ c.holds_character.result c.holds_character.ensures
-    (subst (IsClassValue files c.args.layout.now tree) c.in-Some.is is)
+    let d = c.args.division.now in
+    λ files tree is respects. classes_emptiness files d tree _ c.holds_character.result c.layout.ensures.form
+    (rw c.layout.ensures.value at c.holds_character.ensures) (subst (IsClassValue files d.bounds tree) c.in-Some.is is) respects

@@ -1,18 +1,11 @@
-use Rattle.std.proofs.Common.{IfSome, sym, subst, rules}
+use Rattle.std.proofs.Common.{sym, subst, rules}
 use Rattle.std.specs.List.{AllByRecursion}
 use Rattle.std.specs.Map.{values_of}
-use Rattle.std.specs.Rc.{rc_value}
 use Rattle.std.proofs.lemmas.List.Elements.{recursion_from_All, All-from_recursion}
 use Rattle.rbbi_resolve.specs.ClassValues.{IsKnown}
-use Rattle.rbbi_resolve.specs.Covered.{AreWholeRanges}
 use Rattle.rbbi_resolve.specs.Questions.{IsAnswer}
 use Rattle.rbbi_resolve.proofs.Answered.{values_insert, value_at, answer_known}
 use Rattle.rbbi_resolve.proofs.classes.add_known.Goals as goal
-
-pub divide_once-requires-clause-whole : goal.divide_once-requires-clause-whole
-divide_once-requires-clause-whole c =
-    value_at (λ answer. IfSome (rc_value answer.set) (AreWholeRanges c.args.layout.now)) c.args.answers.now.entries c.args.number
-    (c.in-Some.key.now, c.in-Some.answer.now) (recursion_from_All _ _ c.requires.whole) (search rules)
 
 pub returns-in_ok-insert-clause-known : goal.returns-in_ok-insert-clause-known
 returns-in_ok-insert-clause-known c =

@@ -1,11 +1,16 @@
 use Rattle.std.proofs.Common.{arith}
-use Rattle.rbbi_resolve.proofs.Collecting.{collecting_starts, seqs_turn, seqs_end, items_turn, items_end}
-use Rattle.std.proofs.Common.{◌≡◌, sym, ap, ◌∙◌, subst}
-use Rattle.rbbi_tree.specs.Trees.{placed, property}
-use Rattle.rbbi_tree.specs.Values.{item_tree, atom_tree, item_tree_out}
-use Rattle.rbbi_resolve.specs.Parts.{parts_of_item}
+use Rattle.rbbi_resolve.proofs.Collecting.{atom_collected, collecting_starts, seqs_turn, seqs_end, items_turn, items_end}
+use Rattle.std.proofs.Common.{◌≡◌, [], sym, ap, ◌∙◌, subst}
+use Rattle.rbbi_tree.specs.Trees.{AtomTree, placed, property, set, group}
+use Rattle.rbbi_tree.specs.declared.syntax.Item.{Item}
+use Rattle.rbbi_tree.specs.declared.syntax.Atom.{Atom}
+use Rattle.rbbi_tree.specs.declared.syntax.Atom.TheViews.{out-Item}
+use Rattle.rbbi_tree.specs.Values.{item_tree, atom_tree, set_tree, expr_tree, item_tree_out}
+use Rattle.rbbi_resolve.specs.SetValues.{value_of_property}
+use Rattle.rbbi_resolve.specs.Parts.{Outside, parts_of_item, parts_of_set, parts_of_expr}
 use Rattle.rbbi_resolve.specs.Covered.{Collects}
-use Rattle.rbbi_resolve.proofs.ItemTrees.{atom_of_property}
+use Rattle.rbbi_resolve.proofs.ItemTrees.{atom_of_property, atom_of_set, atom_of_group}
+use Rattle.rbbi_resolve.proofs.Covering.{based_respects, set_covered}
 use Rattle.rbbi_resolve.proofs.collect.+collect.Goals as goal
 
 pub collect_expr-loop-seq-init : goal.collect_expr-loop-seq-init
@@ -36,16 +41,48 @@ collect_seq-returns-clause-collected t c =
     items_end c.args.properties.now c.loop-item.properties c.args.collection.now c.loop-item.collection c.args.seq.now c.deref-item-items.result.now
     c.loop-item.item-index c.deref-item-items.ensures.value (omega arith) c.loop-item.invariant
 
+-- the tree of an item with such an atom
+item_is : (i : Item) (a : Atom) (tree : AtomTree) → (out-Item i).atom ≡ a → atom_tree a ≡ tree →
+    item_tree i ≡ placed (out-Item i).place tree (out-Item i).quant
+item_is i a tree is same = item_tree_out i ∙ ap (λ x. placed (out-Item i).place x (out-Item i).quant) (ap atom_tree is ∙ same)
+
 pub collect_item-returns-in_ok-add_property-in-Prop-clause-collected : goal.collect_item-returns-in_ok-add_property-in-Prop-clause-collected
 collect_item-returns-in_ok-add_property-in-Prop-clause-collected t c =
     let files = c.args.properties.now in
+    let now = c.args.collection.now in
+    let after = c.add_property.new.self in
     let i = c.args.item.now in
     let r = c.in-Prop in
-    let e : item_tree i ≡ placed i.place (property r.negated r.name r.value) i.quant =
-    item_tree_out i ∙ ap (λ a. placed i.place a i.quant) (let is = r.is in ap atom_tree is ∙ atom_of_property r.negated r.name r.value) in
-    subst (λ x. Collects files c.args.collection.now c.add_property.new.self (parts_of_item x)) (sym e)
-    (record {
-      keeps = c.in_ok-add_property-in-Prop.ensures.bounds;
-      covers = record { each = (c.in_ok-add_property-in-Prop.ensures.covered, tt) };
-      kept = c.in_ok-add_property-in-Prop.ensures.kept;
-    })
+    let done = c.in_ok-add_property-in-Prop.ensures in
+    subst (λ x. Collects files now after (parts_of_item x))
+    (sym (item_is i _ (property r.negated r.name r.value) r.is (atom_of_property r.negated r.name r.value)))
+    (atom_collected files now after [] (Outside i.place (property r.negated r.name r.value)) done.keeps done.kept
+    (λ stand are. (
+      record { each = tt },
+      based_respects files stand after.bases.items (value_of_property files r.negated r.name r.value) done.based.set are
+          done.based.value_is done.based.own,
+    )))
+
+pub collect_item-returns-in_ok-collect_set-in-Set-clause-collected : goal.collect_item-returns-in_ok-collect_set-in-Set-clause-collected
+collect_item-returns-in_ok-collect_set-in-Set-clause-collected t c =
+    let files = c.args.properties.now in
+    let now = c.args.collection.now in
+    let after = c.collect_set.new.collection in
+    let i = c.args.item.now in
+    let s = set_tree c.in-Set.set in
+    let done = c.in_ok-collect_set-in-Set.ensures.collected in
+    subst (λ x. Collects files now after (parts_of_item x)) (sym (item_is i _ (set s) c.in-Set.is (atom_of_set c.in-Set.set)))
+    (atom_collected files now after (parts_of_set s) (Outside i.place (set s)) done.keeps done.kept
+    (λ stand are. (record { each = set_covered files stand s }, done.covers stand are)))
+
+pub collect_item-returns-in_ok-collect_expr-in-Group-clause-collected : goal.collect_item-returns-in_ok-collect_expr-in-Group-clause-collected
+collect_item-returns-in_ok-collect_expr-in-Group-clause-collected t c =
+    let files = c.args.properties.now in
+    let now = c.args.collection.now in
+    let after = c.collect_expr.new.collection in
+    let i = c.args.item.now in
+    let inner = expr_tree c.in-Group.inner in
+    let done = c.in_ok-collect_expr-in-Group.ensures.collected in
+    subst (λ x. Collects files now after (parts_of_item x)) (sym (item_is i _ (group inner) c.in-Group.is (atom_of_group c.in-Group.inner)))
+    (atom_collected files now after (parts_of_expr inner) (Outside i.place (group inner)) done.keeps done.kept
+    (λ stand are. (done.covers stand are, tt)))

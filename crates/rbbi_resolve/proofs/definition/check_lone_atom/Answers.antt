@@ -8,15 +8,12 @@ use Rattle.rbbi_resolve.specs.Parts.{parts_of_item}
 use Rattle.rbbi_resolve.specs.Faults.{noted_parts}
 use Rattle.rbbi_resolve.specs.SetValues.{value_of_property, value_of_set}
 use Rattle.rbbi_resolve.specs.ClassValues.{IsClassValue}
-use Rattle.rbbi_resolve.specs.Scopes.{bounds_of, context_of}
+use Rattle.rbbi_resolve.specs.Scopes.{bounds_of, context_of, stand_of}
 use Rattle.rbbi_resolve.specs.Definitions.{AreSetOf}
 use Rattle.rbbi_resolve.proofs.ItemTrees.{atom_of_property, atom_of_set}
 use Rattle.rbbi_resolve.proofs.Kept.{files_stay}
-use Rattle.std.proofs.Common.{[], ◌∷◌}
-use Rattle.rbbi_resolve.specs.Parts.{Outside, parts_of_set}
 use Rattle.rbbi_resolve.specs.Covered.{AreCovered}
-use Rattle.rbbi_resolve.proofs.Covering.{covered_left}
-use Rattle.rbbi_resolve.specs.Covered.{IsCoveredProperty}
+use Rattle.rbbi_resolve.proofs.Covering.{covered_alone}
 use Rattle.rbbi_resolve.proofs.definition.check_lone_atom.Goals as goal
 
 pub returns-in_ok-kept-in-Prop-clause-noted : goal.returns-in_ok-kept-in-Prop-clause-noted
@@ -61,16 +58,8 @@ returns-in_ok-kept-in-Set-clause-value c =
 pub check_set-requires-clause-covered : goal.check_set-requires-clause-covered
 check_set-requires-clause-covered c =
     let files = c.args.properties.now in
-    let bounds = bounds_of c.args.scope.now in
-    let e : atom_tree c.args.atom.now ≡ set (set_tree c.in-Set.set) = let i = c.in-Set.is in ap atom_tree i ∙ atom_of_set c.in-Set.set in
-    covered_left files bounds (parts_of_set (set_tree c.in-Set.set)) (Outside c.args.place (set (set_tree c.in-Set.set)) ∷ [])
-    (subst (λ a. AreCovered files bounds (parts_of_item (placed c.args.place a Once))) e c.requires.covered)
-
-pub value_of_property-requires-clause-covered : goal.value_of_property-requires-clause-covered
-value_of_property-requires-clause-covered c =
-    let files = c.args.properties.now in
-    let bounds = bounds_of c.args.scope.now in
-    let r = c.in-Prop in
-    let e : atom_tree c.args.atom.now ≡ property r.negated r.name r.value = let i = r.is in ap atom_tree i ∙ atom_of_property r.negated r.name r.value in
-    subst (λ f. IsCoveredProperty f bounds r.negated r.name r.value) (sym c.in_ok-check_property-in-Prop.ensures.same)
-    (subst (λ a. AreCovered files bounds (parts_of_item (placed c.args.place a Once))) e c.requires.covered).each.0
+    let stand = stand_of c.args.scope.now in
+    let s = set_tree c.in-Set.set in
+    let e : atom_tree c.args.atom.now ≡ set s = let i = c.in-Set.is in ap atom_tree i ∙ atom_of_set c.in-Set.set in
+    covered_alone files stand c.args.place (set s)
+    (subst (λ a. AreCovered files stand (parts_of_item (placed c.args.place a Once))) e c.requires.covered)

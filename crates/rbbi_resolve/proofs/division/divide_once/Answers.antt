@@ -11,4 +11,4 @@ returns-clause-divided c =
     let P = IsDivided c.args.layout.now in
     All-from_recursion P _
     (subst (λ entries. AllByRecursion P (values_of entries)) (sym c.in_ok-insert.ensures.entries)
-    (values_insert _ P _ _ _ (recursion_from_All P _ c.requires.divided) (search rules)))
+    (values_insert _ P _ _ _ (recursion_from_All P _ c.requires) (search rules)))

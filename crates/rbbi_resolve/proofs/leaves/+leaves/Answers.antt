@@ -14,8 +14,10 @@ use Rattle.rbbi_resolve.proofs.Kept.{files_stay}
 use Rattle.rbbi_resolve.proofs.Sound.{faultless_first}
 use Rattle.rbbi_resolve.proofs.Adding.{adding_expr, adding_seq, property_leaf, set_leaf, no_leaves}
 use Rattle.std.proofs.Common.{◌<◌, length, rules}
-use Rattle.rbbi_resolve.specs.Covered.{AreCovered}
-use Rattle.rbbi_resolve.specs.Scopes.{IsScope, bounds_of}
+use Rattle.std.proofs.Common.{IfSome}
+use Rattle.rbbi_resolve.specs.Contexts.{value_of_name}
+use Rattle.rbbi_resolve.specs.Covered.{AreCovered, Respects}
+use Rattle.rbbi_resolve.specs.Scopes.{IsScope, stand_of}
 use Rattle.rbbi_resolve.proofs.Weights.{size_of_expr, size_of_seq, size_of_item, smaller_seq, smaller_item}
 use Rattle.rbbi_resolve.proofs.Covering.{covered_seq, covered_item, covered_set, covered_group}
 use Rattle.rbbi_resolve.proofs.leaves.+leaves.Goals as goal
@@ -86,10 +88,13 @@ add_leaves_of_item-returns-in_ok-add_classes-in-Set-clause-added t c =
     λ sound faultless.
     subst (λ i. AddsLeaves files (leaves_of_item k i) c.args.sets.now.items c.add_classes.new.sets.items) (sym e)
     (set_leaf k files c.args.item.now.place (set_tree c.in-Set.set) c.args.item.now.quant c.args.sets.now.items c.add_classes.new.sets.items
-    (λ v. IsClassValue files (bounds_of c.args.scope.now) v c.in_ok-kept-in-Set.kept) (files_stay files _ _) sound
-    (subst (λ i. faults_of_parts k (parts_of_item i) ≡ []) e faultless)
-    (rw c.in_ok-kept-in-Set.ensures.value c.in_ok-value-in-Set.ensures.value)
-    (λ tree is filled. c.in_ok-add_classes-in-Set.ensures files tree is filled))
+    (λ v. IsClassValue files (bounds_of c.args.scope.now) v c.in_ok-kept-in-Set.kept × IfSome v (Respects files (stand_of c.args.scope.now)))
+    (files_stay files _ _) sound
+    (subst (λ i. faults_of_parts k (parts_of_item i) ≡ []) e faultless) (
+      rw c.in_ok-kept-in-Set.ensures.value c.in_ok-value-in-Set.ensures.value,
+      covered_set files (stand_of c.args.scope.now) c.args.item.now c.in-Set.set c.in-Set.is c.requires.covered (value_of_name k) c.requires.scope.respects,
+    )
+    (λ tree is filled. c.in_ok-add_classes-in-Set.ensures files tree c.requires.scope.classes.divides is.0 is.1 filled))
 
 pub add_leaves_of_item-returns-in_ok-add_leaves-in-Group-clause-added : goal.add_leaves_of_item-returns-in_ok-add_leaves-in-Group-clause-added
 add_leaves_of_item-returns-in_ok-add_leaves-in-Group-clause-added t c =
@@ -116,8 +121,8 @@ add_leaves-add_leaves_of_seq-requires t c =
     let size = ap size_of_expr (expr_by_items c.args.expr.now _ c.deref-seq-items.ensures.value) in
     let smaller : size_of_seq (seq_tree p) < size_of_expr (expr_tree c.args.expr.now) = omega arith in
     let is_scope : IsScope l.properties scope = subst (λ f. IsScope f scope) (sym l.invariant.same) c.requires.scope in
-    let covered : AreCovered l.properties (bounds_of scope) (parts_of_seq (seq_tree p)) =
-    covered_seq files l.properties (bounds_of scope) l.invariant.same c.args.expr.now xs l.seq-index p c.requires.covered c.deref-seq-items.ensures.value
+    let covered : AreCovered l.properties (stand_of scope) (parts_of_seq (seq_tree p)) =
+    covered_seq files l.properties (stand_of scope) l.invariant.same c.args.expr.now xs l.seq-index p c.requires.covered c.deref-seq-items.ensures.value
     c.seq-item.is inside in
     search rules
 
@@ -133,14 +138,10 @@ add_leaves_of_seq-add_leaves_of_item-requires t c =
     let size = ap size_of_seq (seq_by_items c.args.seq.now _ c.deref-item-items.ensures.value) in
     let smaller : size_of_item (item_tree p) < size_of_seq (seq_tree c.args.seq.now) = omega arith in
     let is_scope : IsScope l.properties scope = subst (λ f. IsScope f scope) (sym l.invariant.same) c.requires.scope in
-    let covered : AreCovered l.properties (bounds_of scope) (parts_of_item (item_tree p)) =
-    covered_item files l.properties (bounds_of scope) l.invariant.same c.args.seq.now xs l.item-index p c.requires.covered c.deref-item-items.ensures.value
+    let covered : AreCovered l.properties (stand_of scope) (parts_of_item (item_tree p)) =
+    covered_item files l.properties (stand_of scope) l.invariant.same c.args.seq.now xs l.item-index p c.requires.covered c.deref-item-items.ensures.value
     c.item-item.is inside in
     search rules
-
-pub add_leaves_of_item-value_of_set-requires-clause-covered : goal.add_leaves_of_item-value_of_set-requires-clause-covered
-add_leaves_of_item-value_of_set-requires-clause-covered t c =
-    covered_set c.args.properties.now (bounds_of c.args.scope.now) c.args.item.now c.in-Set.set c.in-Set.is c.requires.covered
 
 pub add_leaves_of_item-add_leaves-requires : goal.add_leaves_of_item-add_leaves-requires
 add_leaves_of_item-add_leaves-requires t c =
@@ -149,5 +150,5 @@ add_leaves_of_item-add_leaves-requires t c =
     c.in-Group.is in ap atom_tree i ∙ atom_of_group c.in-Group.inner) in
     let size = ap size_of_item e in
     let smaller : size_of_expr (expr_tree c.in-Group.inner) < size_of_item (item_tree c.args.item.now) = omega arith in
-    let covered = covered_group c.args.properties.now (bounds_of c.args.scope.now) c.args.item.now c.in-Group.inner c.in-Group.is c.requires.covered in
+    let covered = covered_group c.args.properties.now (stand_of c.args.scope.now) c.args.item.now c.in-Group.inner c.in-Group.is c.requires.covered in
     search rules

@@ -12,12 +12,9 @@ use Rattle.rbbi_resolve.proofs.SetFolds.{folding_starts, folding_turn, folding_g
 use Rattle.std.proofs.Common.{◌<◌, length, map, subst}
 use Rattle.rbbi_tree.specs.Trees.{parts_of}
 use Rattle.rbbi_tree.specs.Values.{part_tree}
-use Rattle.rbbi_tree.specs.declared.syntax.Join.TheVariants.{Add}
-use Rattle.rbbi_resolve.specs.Covered.{AreCovered}
 use Rattle.rbbi_resolve.specs.Scopes.{IsScope}
 use Rattle.rbbi_resolve.proofs.SetLoops.{set_is}
 use Rattle.rbbi_resolve.proofs.Weights.{size_of_set, size_of_parts, size_of_member, smaller_member}
-use Rattle.rbbi_resolve.proofs.Covering.{covered_part, covered_inner}
 use Rattle.rbbi_resolve.proofs.set_value.+sets.Goals as goal
 
 pub value_of_set-loop-part-init : goal.value_of_set-loop-part-init
@@ -80,10 +77,7 @@ value_of_set-value_of_item-requires t c =
     let size = ap size_of_set (set_is c.args.set.now) in
     let own = ap (λ ps. size_of_parts (parts_of (map part_tree ps))) c.deref-part-items.ensures.value in
     let smaller : size_of_member (set_item_tree p.item) < size_of_set (set_tree c.args.set.now) = omega arith in
-    let is_scope : IsScope l.properties scope = subst (λ f. IsScope f scope) (sym l.invariant.same) c.requires.scope in
-    let covered : AreCovered l.properties (bounds_of scope) (parts_of_part (joined p.place Add (set_item_tree p.item))) =
-    covered_part files l.properties (bounds_of scope) l.invariant.same c.args.set.now xs l.part-index p c.requires.covered c.deref-part-items.ensures.value
-    c.part-item.is inside in
+    let is_scope : IsScope l.properties scope = subst (λ f. IsScope f scope) (sym l.invariant.same) c.requires in
     search rules
 
 pub value_of_item-value_of_set-requires : goal.value_of_item-value_of_set-requires
@@ -92,12 +86,4 @@ value_of_item-value_of_set-requires t c =
     let i : set_item_tree c.args.item.now ≡ set_within (set_tree inner) = let s = c.in-Set.is in ap set_item_tree s ∙ of_inner inner in
     let size = ap size_of_member i in
     let smaller : size_of_set (set_tree inner) < size_of_member (set_item_tree c.args.item.now) = omega arith in
-    let covered = covered_inner c.args.properties.now (bounds_of c.args.scope.now) c.args.place c.args.item.now inner c.in-Set.is c.requires.covered in
     search rules
-
-pub value_of_item-value_of_property-requires-clause-covered : goal.value_of_item-value_of_property-requires-clause-covered
-value_of_item-value_of_property-requires-clause-covered t c =
-    let r = c.in-Prop in
-    let e : set_item_tree c.args.item.now ≡ set_property r.negated r.name r.value = let i =
-    r.is in ap set_item_tree i ∙ of_property r.negated r.name r.value in
-    (subst (λ i. AreCovered c.args.properties.now (bounds_of c.args.scope.now) (parts_of_part (joined c.args.place Add i))) e c.requires.covered).each.0

@@ -1,8 +1,10 @@
 use Rattle.std.proofs.Common.{◌≡◌, ◌≤◌, length, sym, subst, arith}
 use Rattle.rbbi_tree.specs.Values.{statement_trees, expr_tree}
-use Rattle.rbbi_resolve.specs.Scopes.{context_of}
+use Rattle.rbbi_resolve.specs.Scopes.{bounds_of, context_of, stand_of}
 use Rattle.rbbi_resolve.specs.OwnLeaves.{AddsLeaves, leaves_of_expr}
 use Rattle.rbbi_resolve.specs.Builders.{StandFrom}
+use Rattle.rbbi_resolve.proofs.Respecting.{context_respects}
+use Rattle.rbbi_resolve.proofs.Steps.{describes}
 use Rattle.rbbi_resolve.proofs.Building.{builder_more, sets_formed, stand_added, added_length}
 use Rattle.rbbi_resolve.proofs.build.Builder.add_own.Goals as goal
 
@@ -37,3 +39,15 @@ returns-clause-stand c =
     let base : c.len-base.result ≡ length c.args.self.now.sets.items = omega (arith, c.len-base.ensures, c.args.self.now.sets.ok.0) in
     subst (λ n. StandFrom files c.add_own_leaves.new.sets.items n leaves) (sym base)
     (stand_added files c.args.self.now.sets.items c.add_own_leaves.new.sets.items leaves added)
+
+pub add_own_leaves-requires-clause-scope : goal.add_own_leaves-requires-clause-scope
+add_own_leaves-requires-clause-scope c =
+    let files = c.args.self.now.properties in
+    let scope = c.args.scope.now in
+    let trees = statement_trees scope.statements.now in
+    let ready = c.requires.ready in
+    record {
+      respects = context_respects files (stand_of scope) trees scope.limit ready.covered;
+      describes = describes files (bounds_of scope) trees scope.variables.now ready.end scope.limit ready.low ready.variables;
+      classes = ready.classes;
+    }

@@ -1,13 +1,13 @@
 use Rattle.std.proofs.Common.{◌≡◌, ℕ, ◌<◌, Some, slice_get}
 use Rattle.rbbi_tree.specs.Trees.{StatementTree}
 use Rattle.rbbi_tree.specs.Values.{statement_trees}
-use Rattle.rbbi_resolve.specs.Covered.{AreCovered, IsCollection, parts_of_statement}
+use Rattle.rbbi_resolve.specs.Covered.{AreCovered, AreRespected, IsCollection, parts_of_statement}
 use Rattle.rbbi_resolve.proofs.classes.Classes.of.Given as goal
 
 abbrev pub invariant-loop-number : goal.invariant-loop-number
 invariant-loop-number l = record {
   same : l.properties ≡ l.initial.properties;
   kept : IsCollection l.initial.properties l.collection;
-  covers : (number : ℕ) (s : StatementTree) → number < l.number → slice_get (statement_trees l.statements) number ≡ Some s →
-      AreCovered l.initial.properties l.collection.bounds.items (parts_of_statement s);
+  covers : (stand : ℕ → ℕ) → AreRespected stand l.collection.bases.items → (number : ℕ) (s : StatementTree) → number < l.number →
+      slice_get (statement_trees l.statements) number ≡ Some s → AreCovered l.initial.properties stand (parts_of_statement s);
 }

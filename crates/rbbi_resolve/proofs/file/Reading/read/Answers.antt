@@ -16,7 +16,7 @@ returns-in-Nothing c =
       reading =
           step r.properties r.classes r.dictionary_ignored trees n nothing r.variables r.variables r.least r.least r.switches r.switches r.counts r.counts
           c.requires.reading at
-          (stay_variables r.properties (rc_value r.classes.layout) trees r.variables n next c.requires.reading.defined)
+          (stay_variables r.properties (rc_value r.classes.division).bounds trees r.variables n next c.requires.reading.defined)
           refl
           c.requires.reading.switched
           (λ left all so_far. so_far);

@@ -15,6 +15,8 @@ use Rattle.rbbi_resolve.specs.Scopes.{Variables, AreVariables, visible}
 use Rattle.rbbi_resolve.specs.Readings.{IsReadTo}
 use Rattle.rbbi_resolve.proofs.Steps.{step, context_next, stay_variables, join_variable, note_three, with_known, with_new, describes, matches_some, unseen}
 use Rattle.rbbi_resolve.proofs.Ending.{switches_kept}
+use Rattle.rbbi_sets.specs.Divisions.{stand_in}
+use Rattle.rbbi_resolve.proofs.Respecting.{context_respects}
 use Rattle.rbbi_resolve.proofs.file.Reading.read_assignment.Goals as goal
 use Rattle.rbbi_resolve.proofs.file.Reading.read_assignment.Goals.{In_ok-kind}
 
@@ -34,13 +36,13 @@ assigned c =
     let r = c.args.self.now in
     let n = c.args.number in
     shown c
-    ∙ matches_some r.properties (rc_value r.classes.layout) _ _ ((describes r.properties (rc_value r.classes.layout)
+    ∙ matches_some r.properties (rc_value r.classes.division).bounds _ _ ((describes r.properties (rc_value r.classes.division).bounds
     (statement_trees r.statements.now) r.variables n n (omega arith) c.requires.reading.defined).same
     (encode_utf8_all c.args.name.now))
 
 -- the assignment is read, where the variables are those behind it
 read_to : (c : In_ok-kind) (variables : Variables) →
-    AreVariables c.args.self.now.properties (rc_value c.args.self.now.classes.layout) (statement_trees c.args.self.now.statements.now) variables
+    AreVariables c.args.self.now.properties (rc_value c.args.self.now.classes.division).bounds (statement_trees c.args.self.now.statements.now) variables
     (c.args.number + 1) →
     IsReadTo c.check_definition.new.properties c.args.self.now.classes c.args.self.now.dictionary_ignored
     (statement_trees c.args.self.now.statements.now) variables
@@ -78,7 +80,7 @@ returns-then-is_assigned c =
     let stays = with_known (context_at r.properties trees n) word expr (sym (assigned read) ∙ c.if-is_assigned.true) in
     let next = ap (λ x. x.variables) (context_next r.properties trees n (assign word c.args.place expr) c.requires.at ∙ stays) in
     record {
-      reading = read_to read r.variables (stay_variables r.properties (rc_value r.classes.layout) trees r.variables n next c.requires.reading.defined);
+      reading = read_to read r.variables (stay_variables r.properties (rc_value r.classes.division).bounds trees r.variables n next c.requires.reading.defined);
       statements = refl;
       properties = c.in_ok-kind.ensures.same;
       ignored = refl;
@@ -95,7 +97,7 @@ returns c =
     let text = encode_utf8_all word in
     let expr = expr_tree c.args.expr.now in
     let unknown : get_by_text r.variables text ≡ None =
-    unseen files (rc_value r.classes.layout) trees n text (get_by_text r.variables text) (c.requires.reading.defined.each text) (sym
+    unseen files (rc_value r.classes.division).bounds trees n text (get_by_text r.variables text) (c.requires.reading.defined.each text) (sym
     (shown read) ∙ c.if-is_assigned.false) in
     let joins = with_new (context_at files trees n) word expr (sym (assigned read) ∙ c.if-is_assigned.false) in
     let next = ap (λ x. x.variables) (context_next files trees n (assign word c.args.place expr) c.requires.at ∙ joins) in
@@ -106,7 +108,7 @@ returns c =
     ∙ ap (λ b. update bytes_eq (get_by_text r.variables) b (Some (record { statement = n; kind = c.in_ok-kind.kind })) cs) key in
     record {
       reading = read_to read c.insert.new.self (join_variable files
-          (rc_value r.classes.layout) trees r.variables c.insert.new.self n word c.args.place expr c.in_ok-kind.kind
+          (rc_value r.classes.division).bounds trees r.variables c.insert.new.self n word c.args.place expr c.in_ok-kind.kind
           c.requires.at next unknown c.in_ok-kind.ensures.kind put c.requires.reading.defined);
       statements = refl;
       properties = c.in_ok-kind.ensures.same;
@@ -115,3 +117,14 @@ returns c =
 
 pub check_definition-requires-clause-covered : goal.check_definition-requires-clause-covered
 check_definition-requires-clause-covered c = c.requires.reading.covered.each c.args.number _ c.requires.at
+
+pub check_definition-requires-clause-scope : goal.check_definition-requires-clause-scope
+check_definition-requires-clause-scope c =
+    let r = c.args.self.now in
+    let trees = statement_trees r.statements.now in
+    let n = c.args.number in
+    record {
+      respects = context_respects r.properties (stand_in (rc_value r.classes.division)) trees n c.requires.reading.covered;
+      describes = describes r.properties (rc_value r.classes.division).bounds trees r.variables n n (omega arith) c.requires.reading.defined;
+      classes = c.requires.reading.classified;
+    }

@@ -25,7 +25,7 @@ returns c =
           step r.properties r.classes r.dictionary_ignored trees n
           (control c.args.name.now c.args.place) r.variables r.variables r.least c.note_where-2.new.least
           r.switches c.after-self.result r.counts r.counts c.requires.reading c.requires.at
-          (stay_variables r.properties (rc_value r.classes.layout) trees r.variables n next c.requires.reading.defined)
+          (stay_variables r.properties (rc_value r.classes.division).bounds trees r.variables n next c.requires.reading.defined)
           (note_two r.least c.note_where.new.least c.note_where-2.new.least
           (faults_where (not (is_supported text) && not (is_unsupported text)) c.args.place 1) (faults_where (is_unsupported text) c.args.place 2)
           (c.note_where.ensures ∙ ap (λ b. noted r.least (faults_where b c.args.place 1)) unknown)

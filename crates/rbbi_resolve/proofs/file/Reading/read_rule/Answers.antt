@@ -1,15 +1,17 @@
-use Rattle.std.proofs.Common.{◌≡◌, ◌+◌, ◌∷◌, [], ◌++◌, true, false, List, if◌then◌else◌, sym, refl, ap, ◌∙◌, subst}
+use Rattle.std.proofs.Common.{◌≡◌, ◌+◌, ◌∷◌, [], ◌++◌, true, false, List, if◌then◌else◌, sym, refl, ap, ◌∙◌, subst, arith}
 use Rattle.std.specs.Rc.{rc_value}
 use Rattle.rbbi_tree.specs.Trees.{rule}
 use Rattle.rbbi_tree.specs.Values.{statement_trees, expr_tree, rest_tree}
+use Rattle.rbbi_sets.specs.Divisions.{stand_in}
 use Rattle.rbbi_resolve.specs.declared.counts.Counts as declared
 use Rattle.rbbi_resolve.specs.Files.{RuleMeaning, context_at, rule_in}
 use Rattle.rbbi_resolve.specs.Countings.{AreCounting}
 use Rattle.rbbi_resolve.specs.Readings.{IsReadTo}
-use Rattle.rbbi_resolve.proofs.Steps.{step, context_next, stay_variables, meant, rest_there}
+use Rattle.rbbi_resolve.proofs.Steps.{describes, step, context_next, stay_variables, meant, rest_there}
 use Rattle.rbbi_resolve.specs.Parts.{parts_of_expr}
 use Rattle.rbbi_resolve.specs.Covered.{parts_of_rest}
 use Rattle.rbbi_resolve.proofs.Covering.{covered_left, covered_right}
+use Rattle.rbbi_resolve.proofs.Respecting.{context_respects}
 use Rattle.rbbi_resolve.proofs.file.Reading.read_rule.Goals as goal
 use Rattle.rbbi_resolve.proofs.file.Reading.read_rule.Goals.{In_ok-whole}
 
@@ -32,7 +34,7 @@ read_to c counts go_on =
     let next = ap (λ x. x.variables) (context_next files trees n s c.requires.at) in
     subst (λ p. IsReadTo p r.classes r.dictionary_ignored trees r.variables c.check_rule.new.least r.switches counts (n + 1)) (sym c.in_ok-whole.ensures.same)
     (step files r.classes r.dictionary_ignored trees n s r.variables r.variables r.least c.check_rule.new.least r.switches r.switches r.counts counts
-    c.requires.reading c.requires.at (stay_variables files (rc_value r.classes.layout) trees r.variables n next c.requires.reading.defined)
+    c.requires.reading c.requires.at (stay_variables files (rc_value r.classes.division).bounds trees r.variables n next c.requires.reading.defined)
     c.in_ok-whole.ensures.noted
     c.requires.reading.switched go_on)
 
@@ -69,11 +71,22 @@ returns-else-self c =
 pub check_rule-requires-clause-front : goal.check_rule-requires-clause-front
 check_rule-requires-clause-front c =
     let r = c.args.self.now in
-    covered_left r.properties (rc_value r.classes.layout) (parts_of_expr (expr_tree c.args.front.now)) (parts_of_rest (rest_tree c.args.rest.now))
+    covered_left r.properties (stand_in (rc_value r.classes.division)) (parts_of_expr (expr_tree c.args.front.now)) (parts_of_rest (rest_tree c.args.rest.now))
     (c.requires.reading.covered.each c.args.number _ c.requires.at)
 
 pub check_rule-requires-clause-rest : goal.check_rule-requires-clause-rest
 check_rule-requires-clause-rest c =
     let r = c.args.self.now in
-    covered_right r.properties (rc_value r.classes.layout) (parts_of_expr (expr_tree c.args.front.now)) (parts_of_rest (rest_tree c.args.rest.now))
+    covered_right r.properties (stand_in (rc_value r.classes.division)) (parts_of_expr (expr_tree c.args.front.now)) (parts_of_rest (rest_tree c.args.rest.now))
     (c.requires.reading.covered.each c.args.number _ c.requires.at)
+
+pub check_rule-requires-clause-scope : goal.check_rule-requires-clause-scope
+check_rule-requires-clause-scope c =
+    let r = c.args.self.now in
+    let trees = statement_trees r.statements.now in
+    let n = c.args.number in
+    record {
+      respects = context_respects r.properties (stand_in (rc_value r.classes.division)) trees n c.requires.reading.covered;
+      describes = describes r.properties (rc_value r.classes.division).bounds trees r.variables n n (omega arith) c.requires.reading.defined;
+      classes = c.requires.reading.classified;
+    }
