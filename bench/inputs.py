@@ -290,6 +290,41 @@ LARGE = '$v=[\\p{L}];$w=[\\p{Lu}];'
 MANY = '$v=[' + ''.join(chr(code) for code in range(0x30000, 0x30000 + 200000, 2)) + '];'
 
 
+def apart(count):
+    """A variable of so many letters, no two of which are neighbours, each in a set of its own."""
+    return '$v=[' + ''.join(f'[{chr(0x80000 + 2 * i)}]' for i in range(count)) + '];'
+
+
+def overlapping():
+    """One set of sets of one range, from a random character to another further behind."""
+    source = random.Random('overlapping')
+    out, room = ['['], MIB - 3
+    while room >= 10:
+        piece = f'[{chr(source.randrange(0x800, 0xD7FF))}-{chr(source.randrange(0x20000, 0x10FFFF))}]'
+        out.append(piece)
+        room -= len(piece.encode('utf-8'))
+    return padded(''.join(out) + '];')
+
+
+def combinations():
+    """Variables of what some of eight sets of 12,000 random letters have, with one letter beside."""
+    source = random.Random('combinations')
+    letters_ = [chr(0x20000 + 2 * i) for i in range(60000)]
+    out = [f'${name}=[{"".join(sorted(source.sample(letters_, 12000)))}];' for name in 'ABCDEFGH']
+    names = (a + b + c for a in string.ascii_lowercase for b in string.ascii_letters
+             for c in string.ascii_letters)
+    room = MIB - 2 - sum(len(piece.encode('utf-8')) for piece in out)
+    for name in names:
+        parts = ''.join(source.choice(['', '-', '&']) + '$' + source.choice('ABCDEFGH')
+                        for _ in range(4)).lstrip('-&')
+        piece = f'${name}=[{parts}[b]];'
+        if room < len(piece):
+            break
+        out.append(piece)
+        room -= len(piece)
+    return padded(''.join(out) + 'b;')
+
+
 
 def large_leaves():
     """4,096 rules of two leaves, each with a letter of its own beside the many or lacking both."""
@@ -335,6 +370,13 @@ FRONT = {
                     'one set of 130,000 complements of a variable of 100,000 letters'),
     'meets': (lambda: repeat('[$v&$v]', MANY + '[', '];'),
               'one set of 92,000 sets of a variable of 100,000 letters met with itself'),
+    'others': (lambda: operands('[^@]'), 'one set of 150,000 complements of one letter'),
+    'apart': (lambda: repeat('$v', apart(80000) + '[', '];'),
+              'one set of 280,000 times a variable of 80,000 letters, each in a set of its own'),
+    'lackingmany': (lambda: operands('[^@$v]', apart(20000) + '['),
+                    'one set of 103,000 complements of a variable of 20,000 such letters, and a letter'),
+    'overlapping': (overlapping, 'one set of 100,000 sets of a range each, which overlap'),
+    'combinations': (combinations, '31,000 variables of what eight sets of 12,000 random letters have'),
     'leaves': (large_leaves, '8,192 leaves, each with a set of 100,000 ranges of its own'),
     'variables': (lambda: variables('[\\p{L}]'), '80,000 variables of one property'),
     'without': (lambda: variables('[\\p{L}-\\p{Lu}]'),
