@@ -1,6 +1,6 @@
 //! Sets of classes, from ranges and back.
 use super::{Case, LAST, Pairs, is_list, set_of};
-use crate::{ClassSet, ClassShelf, CodeSet, Division, Layout};
+use crate::{ClassSet, ClassShelf, Division, Layout, SharedClasses};
 use std::alloc::{AllocError, Global};
 use std::test::Fail;
 
@@ -52,6 +52,31 @@ fn classes_of(
     ClassSet::of_set(alloc, layout, &set_of(alloc, pairs)?)
 }
 
+/// Whether the code points of the classes in the set are these.
+fn are(
+    alloc: Global,
+    division: &Division,
+    set: &ClassSet,
+    want: &[(u32, u32)],
+) -> Result<bool, AllocError> {
+    let members = division.members(alloc, set)?;
+    Ok(is_list(&members, want))
+}
+
+/// Whether the code points of the classes that begin in a range are these, and also where the range
+/// is a set.
+fn is_span(
+    alloc: Global,
+    division: &Division,
+    low: u32,
+    high: u32,
+    want: &[(u32, u32)],
+) -> Result<bool, AllocError> {
+    let found = ClassSet::range(alloc, division.layout(), low, high)?;
+    let same = classes_of(alloc, division.layout(), &[(low, high)])?;
+    Ok(are(alloc, division, &found, want)? && are(alloc, division, &same, want)?)
+}
+
 #[test]
 fn spans(rt: HostRuntime) -> Result<(), Fail> {
     let cases: [Span; 15] = [
@@ -79,23 +104,23 @@ fn spans(rt: HostRuntime) -> Result<(), Fail> {
     ];
     let division = division_by(rt.alloc(), &SETS)?;
     for (low, high, want) in &cases {
-        let layout = division.layout();
-        let found = ClassSet::range(rt.alloc(), layout, *low, *high)?;
-        assert!(rt; is_list(&division.members(rt.alloc(), &found)?, want));
-        let same = classes_of(rt.alloc(), layout, &[(*low, *high)])?;
-        assert!(rt; is_list(&division.members(rt.alloc(), &same)?, want));
+        assert!(rt; is_span(rt.alloc(), &division, *low, *high, want)?, "{low}");
     }
+    Ok(())
+}
+
+#[test]
+fn spans_without_sets(rt: HostRuntime) -> Result<(), Fail> {
     // There are the surrogates and the others.
-    let coarse = division_by(rt.alloc(), &[])?;
-    let coarse_cases: [Span; 4] = [
+    let cases: [Span; 4] = [
         (0, 0xD7FF, &[(0, 0xD7FF), (0xE000, LAST)]),
         (1, LAST, &[(0xD800, 0xDFFF)]),
         (0, LAST, &[(0, LAST)]),
         (0xE000, LAST, &[]),
     ];
-    for (low, high, want) in &coarse_cases {
-        let found = ClassSet::range(rt.alloc(), coarse.layout(), *low, *high)?;
-        assert!(rt; is_list(&coarse.members(rt.alloc(), &found)?, want));
+    let division = division_by(rt.alloc(), &[])?;
+    for (low, high, want) in &cases {
+        assert!(rt; is_span(rt.alloc(), &division, *low, *high, want)?, "{low}");
     }
     Ok(())
 }
@@ -103,44 +128,110 @@ fn spans(rt: HostRuntime) -> Result<(), Fail> {
 #[test]
 fn sets_of_a_division(rt: HostRuntime) -> Result<(), Fail> {
     let division = division_by(rt.alloc(), &SETS)?;
-    let layout = division.layout();
     for pairs in &SETS {
-        let classes = classes_of(rt.alloc(), layout, pairs)?;
-        assert!(rt; is_list(&division.members(rt.alloc(), &classes)?, pairs));
+        let classes = classes_of(rt.alloc(), division.layout(), pairs)?;
+        assert!(rt; are(rt.alloc(), &division, &classes, pairs)?);
     }
-    // Letters that are no hexadecimal digits, and then what is none of these.
-    let mut letters = classes_of(rt.alloc(), layout, SETS[1])?;
-    letters.remove(&classes_of(rt.alloc(), layout, SETS[2])?);
-    assert!(rt;
-        is_list(
-            &division.members(rt.alloc(), &letters)?,
-            &[(0x47, 0x5A), (0x67, 0x7A)]
-        )
-    );
-    letters.negate(rt.alloc(), layout)?;
+    Ok(())
+}
+
+/// The letters that are no hexadecimal digits.
+fn other_letters(alloc: Global, layout: &Layout) -> Result<ClassSet, AllocError> {
+    let mut letters = classes_of(alloc, layout, SETS[1])?;
+    let digits = classes_of(alloc, layout, SETS[2])?;
+    letters.remove(&digits);
+    Ok(letters)
+}
+
+#[test]
+fn sets_made_of_others(rt: HostRuntime) -> Result<(), Fail> {
+    let division = division_by(rt.alloc(), &SETS)?;
+    let mut letters = other_letters(rt.alloc(), division.layout())?;
+    let want: Pairs = &[(0x47, 0x5A), (0x67, 0x7A)];
+    assert!(rt; are(rt.alloc(), &division, &letters, want)?);
+    letters.negate(rt.alloc(), division.layout())?;
     let want: Pairs = &[(0, 0x46), (0x5B, 0x66), (0x7B, LAST)];
-    assert!(rt; is_list(&division.members(rt.alloc(), &letters)?, want));
+    assert!(rt; are(rt.alloc(), &division, &letters, want)?);
+    Ok(())
+}
+
+#[test]
+fn members_of_shared_classes(rt: HostRuntime) -> Result<(), Fail> {
+    let division = division_by(rt.alloc(), &SETS)?;
+    let letters = other_letters(rt.alloc(), division.layout())?;
     let kept = ClassShelf::new(rt.alloc()).keep(rt.alloc(), &letters)?;
     for (c, is_member) in [
-        (0, true),
-        (0x30, true),
-        (0x46, true),
-        (0x47, false),
-        (0x5A, false),
-        (0x5B, true),
-        (0x66, true),
-        (0x67, false),
-        (0x7A, false),
-        (0x7B, true),
-        (0xD800, true),
-        (0xE000, true),
-        (LAST, true),
+        (0, false),
+        (0x30, false),
+        (0x46, false),
+        (0x47, true),
+        (0x5A, true),
+        (0x5B, false),
+        (0x66, false),
+        (0x67, true),
+        (0x7A, true),
+        (0x7B, false),
+        (0xD800, false),
+        (0xE000, false),
+        (LAST, false),
         (LAST + 1, false),
         (u32::MAX, false),
     ] {
         assert_eq!(rt; division.has(&kept, c), is_member, "at {c}");
     }
     Ok(())
+}
+
+/// Whether what is in either set is this.
+fn is_union(
+    alloc: Global,
+    division: &Division,
+    left: &ClassSet,
+    right: &ClassSet,
+    want: &[(u32, u32)],
+) -> Result<bool, AllocError> {
+    let mut union = left.clone()?;
+    union.add(alloc, right)?;
+    are(alloc, division, &union, want)
+}
+
+/// Whether what is in both sets is this.
+fn is_meet(
+    alloc: Global,
+    division: &Division,
+    left: &ClassSet,
+    right: &ClassSet,
+    want: &[(u32, u32)],
+) -> Result<bool, AllocError> {
+    let mut both = left.clone()?;
+    both.meet(right);
+    are(alloc, division, &both, want)
+}
+
+/// Whether what is in the first set alone is this.
+fn is_rest(
+    alloc: Global,
+    division: &Division,
+    left: &ClassSet,
+    right: &ClassSet,
+    want: &[(u32, u32)],
+) -> Result<bool, AllocError> {
+    let mut rest = left.clone()?;
+    rest.remove(right);
+    are(alloc, division, &rest, want)
+}
+
+/// Whether each operation gives what the case says, and those that may be turned give it turned too.
+fn is_case(alloc: Global, division: &Division, case: &Case) -> Result<bool, AllocError> {
+    let left = classes_of(alloc, division.layout(), case.left)?;
+    let right = classes_of(alloc, division.layout(), case.right)?;
+    Ok(
+        is_union(alloc, division, &left, &right, case.union)?
+            && is_union(alloc, division, &right, &left, case.union)?
+            && is_meet(alloc, division, &left, &right, case.intersect)?
+            && is_meet(alloc, division, &right, &left, case.intersect)?
+            && is_rest(alloc, division, &left, &right, case.minus)?,
+    )
 }
 
 #[test]
@@ -208,92 +299,107 @@ fn operations(rt: HostRuntime) -> Result<(), Fail> {
         },
     ];
     let division = fine_division(rt.alloc(), 2000)?;
-    let layout = division.layout();
     for case in &cases {
-        let left = classes_of(rt.alloc(), layout, case.left)?;
-        let right = classes_of(rt.alloc(), layout, case.right)?;
-        let mut union = left.clone()?;
-        union.add(rt.alloc(), &right)?;
-        assert!(rt; is_list(&division.members(rt.alloc(), &union)?, case.union));
-        let mut turned = right.clone()?;
-        turned.add(rt.alloc(), &left)?;
-        assert!(rt; is_list(&division.members(rt.alloc(), &turned)?, case.union));
-        let mut both = left.clone()?;
-        both.meet(&right);
-        assert!(rt; is_list(&division.members(rt.alloc(), &both)?, case.intersect));
-        let mut both_turned = right.clone()?;
-        both_turned.meet(&left);
-        assert!(rt; is_list(&division.members(rt.alloc(), &both_turned)?, case.intersect));
-        let mut rest = left.clone()?;
-        rest.remove(&right);
-        assert!(rt; is_list(&division.members(rt.alloc(), &rest)?, case.minus));
+        let first = if case.left.is_empty() {
+            0
+        } else {
+            case.left[0].0
+        };
+        assert!(rt; is_case(rt.alloc(), &division, case)?, "{first}");
     }
     Ok(())
 }
 
+/// The words 1 to 148, in chunks that end before the words 64 and 128.
+const CHUNKS: Pairs = &[(100, 110), (4090, 4100), (8190, 8195), (9001, 9500)];
+
+/// The same ranges, with some before, across the ends of chunks, and past the last chunk.
+const ACROSS: Pairs = &[
+    (0, 63),
+    (4000, 4200),
+    (8191, 8191),
+    (9000, 9001),
+    (9999, LAST),
+];
+
+/// A set in chunks.
+fn kept_classes(alloc: Global, layout: &Layout) -> Result<SharedClasses, AllocError> {
+    let classes = classes_of(alloc, layout, CHUNKS)?;
+    ClassShelf::new(alloc).keep(alloc, &classes)
+}
+
 #[test]
-fn shared_operations(rt: HostRuntime) -> Result<(), Fail> {
-    // The words 1 to 148, in chunks that end before the words 64 and 128.
-    let right: Pairs = &[(100, 110), (4090, 4100), (8190, 8195), (9001, 9500)];
-    // The same ranges, with some before, across the ends of chunks, and past the last chunk.
-    let left: Pairs = &[
+fn union_with_shared_classes(rt: HostRuntime) -> Result<(), Fail> {
+    let division = fine_division(rt.alloc(), 10_000)?;
+    let kept = kept_classes(rt.alloc(), division.layout())?;
+    let mut union = classes_of(rt.alloc(), division.layout(), ACROSS)?;
+    union.add_shared(rt.alloc(), &kept)?;
+    let want: Pairs = &[
         (0, 63),
+        (100, 110),
         (4000, 4200),
-        (8191, 8191),
-        (9000, 9001),
+        (8190, 8195),
+        (9000, 9500),
         (9999, LAST),
     ];
-    let division = fine_division(rt.alloc(), 10_000)?;
-    let layout = division.layout();
-    let other = classes_of(rt.alloc(), layout, right)?;
-    let kept = ClassShelf::new(rt.alloc()).keep(rt.alloc(), &other)?;
-    let set = classes_of(rt.alloc(), layout, left)?;
-    let mut union = set.clone()?;
-    union.add_shared(rt.alloc(), &kept)?;
-    assert!(rt;
-        is_list(
-            &division.members(rt.alloc(), &union)?,
-            &[
-                (0, 63),
-                (100, 110),
-                (4000, 4200),
-                (8190, 8195),
-                (9000, 9500),
-                (9999, LAST),
-            ]
-        )
-    );
-    let mut both = set.clone()?;
-    both.meet_shared(&kept);
-    assert!(rt;
-        is_list(
-            &division.members(rt.alloc(), &both)?,
-            &[(4090, 4100), (8191, 8191), (9001, 9001),]
-        )
-    );
-    let mut rest = set.clone()?;
-    rest.remove_shared(&kept);
-    assert!(rt;
-        is_list(
-            &division.members(rt.alloc(), &rest)?,
-            &[
-                (0, 63),
-                (4000, 4089),
-                (4101, 4200),
-                (9000, 9000),
-                (9999, LAST),
-            ]
-        )
-    );
-    // A set of fewer words than the shared one.
-    let mut one = classes_of(rt.alloc(), layout, &[(4095, 4096)])?;
-    one.meet_shared(&kept);
-    assert!(rt; is_list(&division.members(rt.alloc(), &one)?, &[(4095, 4096)]));
-    one.remove_shared(&kept);
-    assert!(rt; is_list(&division.members(rt.alloc(), &one)?, &[]));
-    one.add_shared(rt.alloc(), &kept)?;
-    assert!(rt; is_list(&division.members(rt.alloc(), &one)?, right));
+    assert!(rt; are(rt.alloc(), &division, &union, want)?);
     Ok(())
+}
+
+#[test]
+fn meet_with_shared_classes(rt: HostRuntime) -> Result<(), Fail> {
+    let division = fine_division(rt.alloc(), 10_000)?;
+    let kept = kept_classes(rt.alloc(), division.layout())?;
+    let mut both = classes_of(rt.alloc(), division.layout(), ACROSS)?;
+    both.meet_shared(&kept);
+    let want: Pairs = &[(4090, 4100), (8191, 8191), (9001, 9001)];
+    assert!(rt; are(rt.alloc(), &division, &both, want)?);
+    Ok(())
+}
+
+#[test]
+fn rest_without_shared_classes(rt: HostRuntime) -> Result<(), Fail> {
+    let division = fine_division(rt.alloc(), 10_000)?;
+    let kept = kept_classes(rt.alloc(), division.layout())?;
+    let mut rest = classes_of(rt.alloc(), division.layout(), ACROSS)?;
+    rest.remove_shared(&kept);
+    let want: Pairs = &[
+        (0, 63),
+        (4000, 4089),
+        (4101, 4200),
+        (9000, 9000),
+        (9999, LAST),
+    ];
+    assert!(rt; are(rt.alloc(), &division, &rest, want)?);
+    Ok(())
+}
+
+#[test]
+fn fewer_words_than_shared_classes(rt: HostRuntime) -> Result<(), Fail> {
+    let division = fine_division(rt.alloc(), 10_000)?;
+    let kept = kept_classes(rt.alloc(), division.layout())?;
+    let mut one = classes_of(rt.alloc(), division.layout(), &[(4095, 4096)])?;
+    one.meet_shared(&kept);
+    assert!(rt; are(rt.alloc(), &division, &one, &[(4095, 4096)])?);
+    one.remove_shared(&kept);
+    assert!(rt; are(rt.alloc(), &division, &one, &[])?);
+    one.add_shared(rt.alloc(), &kept)?;
+    assert!(rt; are(rt.alloc(), &division, &one, CHUNKS)?);
+    Ok(())
+}
+
+/// Whether the complement of a set is this, and that of the complement the set again.
+fn is_complement(
+    alloc: Global,
+    division: &Division,
+    of: &[(u32, u32)],
+    want: &[(u32, u32)],
+) -> Result<bool, AllocError> {
+    let mut classes = classes_of(alloc, division.layout(), of)?;
+    classes.negate(alloc, division.layout())?;
+    let is_wanted = are(alloc, division, &classes, want)?;
+    classes.negate(alloc, division.layout())?;
+    Ok(is_wanted && are(alloc, division, &classes, of)?)
 }
 
 #[test]
@@ -307,20 +413,27 @@ fn complements(rt: HostRuntime) -> Result<(), Fail> {
         (&[(1, 1), (640, 1343)], &[(0, 0), (2, 639), (1344, LAST)]),
     ];
     let division = fine_division(rt.alloc(), 2000)?;
-    let layout = division.layout();
     for (of, want) in &cases {
-        let mut classes = classes_of(rt.alloc(), layout, of)?;
-        classes.negate(rt.alloc(), layout)?;
-        assert!(rt; is_list(&division.members(rt.alloc(), &classes)?, want));
-        classes.negate(rt.alloc(), layout)?;
-        assert!(rt; is_list(&division.members(rt.alloc(), &classes)?, of));
+        assert!(rt; is_complement(rt.alloc(), &division, of, want)?);
     }
     Ok(())
 }
 
+/// Whether a set has a character, and whether its complement has one.
+fn characters_in(
+    alloc: Global,
+    division: &Division,
+    of: &[(u32, u32)],
+) -> Result<(bool, bool), AllocError> {
+    let layout = division.layout();
+    let mut classes = classes_of(alloc, layout, of)?;
+    let some = classes.holds_character(layout);
+    classes.negate(alloc, layout)?;
+    Ok((some, classes.holds_character(layout)))
+}
+
 #[test]
 fn characters(rt: HostRuntime) -> Result<(), Fail> {
-    // A set, whether it has a character, and whether its complement has one.
     let cases: [(Pairs, bool, bool); 7] = [
         (&[], false, true),
         (&[(0, 0xD7FF)], true, true),
@@ -334,18 +447,20 @@ fn characters(rt: HostRuntime) -> Result<(), Fail> {
         rt.alloc(),
         &[&[(0, 0xD7FF)], &[(0xD800, 0xD801)], &[(0xDFFF, 0xDFFF)]],
     )?;
-    let layout = division.layout();
     for (of, some, others) in &cases {
-        let mut classes = classes_of(rt.alloc(), layout, of)?;
-        assert_eq!(rt; classes.holds_character(layout), *some);
-        classes.negate(rt.alloc(), layout)?;
-        assert_eq!(rt; classes.holds_character(layout), *others);
+        let (has_some, has_others) = characters_in(rt.alloc(), &division, of)?;
+        assert_eq!(rt; has_some, *some);
+        assert_eq!(rt; has_others, *others);
     }
-    // Sets that are partly surrogates have characters.
-    let coarse = division_by(rt.alloc(), &[&[(0xDFFF, LAST)]])?;
+    Ok(())
+}
+
+#[test]
+fn characters_beside_surrogates(rt: HostRuntime) -> Result<(), Fail> {
+    let division = division_by(rt.alloc(), &[&[(0xDFFF, LAST)]])?;
     for (low, high) in [(0, 0xDFFE), (0xDFFF, LAST)] {
-        let classes = classes_of(rt.alloc(), coarse.layout(), &[(low, high)])?;
-        assert!(rt; classes.holds_character(coarse.layout()));
+        let (some, others) = characters_in(rt.alloc(), &division, &[(low, high)])?;
+        assert!(rt; some && others);
     }
     Ok(())
 }
