@@ -10,7 +10,7 @@ use Rattle.rbbi_model.specs.Runs.{Entry}
 use Rattle.rbbi_model.proofs.Rising.{rising_tail}
 use Rattle.rbbi_model.proofs.Lists.{all_append, all_through}
 use Rattle.rbbi_cache.specs.Kept.{AreAmong}
-use Rattle.rbbi_cache.specs.Shown.{AreUpTo}
+use Rattle.rbbi_cache.specs.inner.Shown.{AreUpTo}
 
 -- all entries of a list are among them, also where more follow
 pub among_itself : (entries : List Entry) → AreAmong entries entries

@@ -12,7 +12,7 @@ use Rattle.rbbi_model.proofs.FreshTrue.{fresh_true}
 use Rattle.rbbi_model.proofs.Shown.{shown_after, shown_before}
 use Rattle.rbbi_cache.specs.Kept.{AreTrueRuns, IsBoundaryOf, IsFirstAfter, IsLastBefore, SomeRun}
 use Rattle.rbbi_cache.specs.Shown.{IsShownAfter, IsShownBefore}
-use Rattle.rbbi_cache.specs.Ready.{KeepsTrue}
+use Rattle.rbbi_cache.specs.inner.Ready.{KeepsTrue}
 use Rattle.rbbi_cache.proofs.RunFacts as facts
 use Rattle.rbbi_cache.proofs.Keeping.{entry_within}
 use Rattle.rbbi_cache.proofs.Members.{SomeMember, member_stands, standing, member_kept, member_of_kept}

@@ -6,9 +6,9 @@ use Rattle.std.proofs.lemmas.List.{take_more, map-append, length-map, length-tak
 use Rattle.std.proofs.lemmas.List.Elements.{filter-append}
 use Rattle.std.proofs.lemmas.List.Sums.{length-filter, count_by-le-length}
 use Rattle.rbbi_model.specs.Runs.{Entry, Run}
-use Rattle.rbbi_cache.specs.Pushed.{pushed}
+use Rattle.rbbi_cache.specs.inner.Pushed.{pushed}
 use Rattle.rbbi_cache.specs.Edits.{moved_entry}
-use Rattle.rbbi_cache.specs.Parts.{CanMove}
+use Rattle.rbbi_cache.specs.inner.Parts.{CanMove}
 
 filter_shorter : {X : Type 0} (test : X → Bool) (xs : List X) → length (filter test xs) ≤ length xs
 filter_shorter test xs = omega (arith, length-filter test xs, count_by-le-length test xs)

@@ -11,8 +11,8 @@ use Rattle.rbbi_model.specs.Searches.{next_boundary, follow_by, fresh}
 use Rattle.rbbi_model.specs.Runs.{Entry, Run, IsAnchor, low, boundary_of}
 use Rattle.rbbi_model.specs.Costs.{settles}
 use Rattle.rbbi_model.proofs.Lists.{all_append, all_right, all_through}
-use Rattle.rbbi_cache.specs.Scans.{HasGoneOn, GoesOn}
-use Rattle.rbbi_cache.specs.Ready.{IsReady, IsReadyBack, HasNoneBefore}
+use Rattle.rbbi_cache.specs.inner.Scans.{HasGoneOn, GoesOn}
+use Rattle.rbbi_cache.specs.inner.Ready.{IsReady, IsReadyBack, HasNoneBefore}
 use Rattle.rbbi_cache.proofs.Reached.{rest_after}
 use Rattle.rbbi_cache.proofs.RunFacts as facts
 use Rattle.rbbi_cache.proofs.Scanned.{fresh_is, run_ends}

@@ -7,11 +7,11 @@ use Rattle.rbbi_model.specs.ValidTables.{IsValidTable}
 use Rattle.rbbi_model.specs.Runs.{Entry, Run, boundary_of, IsTrueRun}
 use Rattle.rbbi_model.specs.Costs.{anchor_below, searches_cost}
 use Rattle.rbbi_model.proofs.Lists.{all_right}
-use Rattle.rbbi_cache.specs.Pushed.{pushed}
-use Rattle.rbbi_cache.specs.Lists.{GoesOnFrom}
-use Rattle.rbbi_cache.specs.Scans.{Reached, Scan, IsScan, HasBegun, HasGoneOn, GoesOn}
+use Rattle.rbbi_cache.specs.inner.Pushed.{pushed}
+use Rattle.rbbi_cache.specs.inner.Lists.{GoesOnFrom}
+use Rattle.rbbi_cache.specs.inner.Scans.{Reached, Scan, IsScan, HasBegun, HasGoneOn, GoesOn}
 use Rattle.rbbi_cache.specs.Kept.{IsExtendedBy}
-use Rattle.rbbi_cache.specs.Ready.{IsReady, GoesOnAs}
+use Rattle.rbbi_cache.specs.inner.Ready.{IsReady, GoesOnAs}
 use Rattle.rbbi_cache.proofs.Scanned.{scan_from_anchor, scan_from_entry}
 use Rattle.std.specs.List.{AllByRecursion}
 use Rattle.rbbi_cache.proofs.Nearer.{searched_path, nearer_cost}

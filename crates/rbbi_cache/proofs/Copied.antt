@@ -6,9 +6,9 @@ use Rattle.std.proofs.lemmas.Bool.{cond-true, cond-false, le-leb, lt-ltb, le-ltb
 use Rattle.std.proofs.Math.Seq.{take-length}
 use Rattle.rbbi_model.specs.Runs.{Entry, Run}
 use Rattle.rbbi_model.proofs.Lists.{all_drop, all_through}
-use Rattle.rbbi_cache.specs.Shown.{AreUpTo}
+use Rattle.rbbi_cache.specs.inner.Shown.{AreUpTo}
 use Rattle.rbbi_cache.specs.Edits.{moved_entry, moved_run, run_behind}
-use Rattle.rbbi_cache.specs.Parts.{CanMove, IsPlaced, IsMovable}
+use Rattle.rbbi_cache.specs.inner.Parts.{CanMove, IsPlaced, IsMovable}
 use Rattle.rbbi_cache.proofs.Lists.{everywhere, filter_all, filter_same}
 use Rattle.rbbi_cache.proofs.Cuts.{keeps_last}
 use Rattle.rbbi_cache.proofs.Appended.{moved_from, with_more}

@@ -9,7 +9,7 @@ use Rattle.rbbi_model.specs.Searches.{next_boundary, follow_by, fresh}
 use Rattle.rbbi_model.specs.Runs.{Entry, Run, boundary_of, farthest_look, ReachesRise, LeadsTruly, IsTrueRun}
 use Rattle.rbbi_model.proofs.Lists.{all_append}
 use Rattle.rbbi_cache.specs.Kept.{HaveLeastReaches, last_reach, HasLeastReaches, IsExtendedBy}
-use Rattle.rbbi_cache.specs.Scans.{Scan, IsScan}
+use Rattle.rbbi_cache.specs.inner.Scans.{Scan, IsScan}
 use Rattle.rbbi_cache.proofs.Among.{among_more}
 use Rattle.rbbi_cache.proofs.Reached.{done_is}
 use Rattle.rbbi_cache.proofs.Paths.{reached_of}

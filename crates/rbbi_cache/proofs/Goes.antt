@@ -9,8 +9,8 @@ use Rattle.rbbi_model.specs.Searches.{found, look_end}
 use Rattle.rbbi_model.specs.Runs.{Entry, Run, low, boundary_of}
 use Rattle.rbbi_model.specs.Costs.{characters_read}
 use Rattle.rbbi_model.proofs.Found.{found_lies}
-use Rattle.rbbi_cache.specs.Pushed.{pushed}
-use Rattle.rbbi_cache.specs.Scans.{Scan, IsScan, IsNextEntry, HasGoneOn, GoesOn}
+use Rattle.rbbi_cache.specs.inner.Pushed.{pushed}
+use Rattle.rbbi_cache.specs.inner.Scans.{Scan, IsScan, IsNextEntry, HasGoneOn, GoesOn}
 use Rattle.rbbi_cache.proofs.Scanning.{found_next, skipped_next}
 
 -- One search more was made from an entry, whose place and reach are given, and it found the next one.

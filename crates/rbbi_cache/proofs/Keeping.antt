@@ -8,10 +8,11 @@ use Rattle.rbbi_model.specs.Lists.{IsRising}
 use Rattle.rbbi_model.specs.Searches.{fresh}
 use Rattle.rbbi_model.specs.Runs.{Entry, Run, IsAnchor, boundary_of, AreConsecutive, IsTrueRun}
 use Rattle.rbbi_model.proofs.Lists.{all_append, all_left, all_right, all_through}
-use Rattle.rbbi_cache.specs.Kept.{AreTrueRuns, IsExtendedBy, AreLeft, Extended, HasLeastReaches, IsPutFirst}
+use Rattle.rbbi_cache.specs.Kept.{AreTrueRuns, IsExtendedBy, AreLeft, Extended, HasLeastReaches}
+use Rattle.rbbi_cache.specs.inner.Kept.{IsPutFirst}
 use Rattle.rbbi_cache.specs.Shown.{IsShownAfter, IsShownBefore}
-use Rattle.rbbi_cache.specs.Lists.{IsOrdered, HasAt}
-use Rattle.rbbi_cache.specs.Ready.{GoesOnAs, GoesOnAt, KeepsTrue}
+use Rattle.rbbi_cache.specs.inner.Lists.{IsOrdered, HasAt}
+use Rattle.rbbi_cache.specs.inner.Ready.{GoesOnAs, GoesOnAt, KeepsTrue}
 use Rattle.rbbi_cache.proofs.Reached.{first_member}
 use Rattle.rbbi_cache.proofs.RunFacts as facts
 use Rattle.rbbi_cache.proofs.RightPart.{entries_rise}

@@ -17,7 +17,7 @@ use Rattle.rbbi_model.proofs.SearchesAlike.{finds_alike}
 use Rattle.rbbi_model.proofs.Lists.{all_append, all_left, all_right, all_through}
 use Rattle.rbbi_cache.specs.Edits.{IsEdited, left_part}
 use Rattle.rbbi_cache.proofs.Lists.{filter_none}
-use Rattle.rbbi_cache.specs.Scans.{Reached}
+use Rattle.rbbi_cache.specs.inner.Scans.{Reached}
 use Rattle.rbbi_cache.proofs.Reached.{first_member, farthest_is, rest_after}
 use Rattle.rbbi_cache.proofs.Paths.{Path, IsCarried, carried, path_moved, path_reaches}
 use Rattle.rbbi_cache.proofs.Reached.{reached_start}

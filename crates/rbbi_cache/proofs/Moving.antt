@@ -16,7 +16,7 @@ use Rattle.rbbi_model.proofs.SearchesAlike.{finds_alike}
 use Rattle.rbbi_model.proofs.Lists.{all_append, all_left, all_through}
 use Rattle.rbbi_cache.specs.Edits.{IsEdited, moved_entry}
 use Rattle.rbbi_cache.proofs.Lists.{all_map, everywhere}
-use Rattle.rbbi_cache.specs.Scans.{Reached}
+use Rattle.rbbi_cache.specs.inner.Scans.{Reached}
 use Rattle.rbbi_cache.proofs.Reached.{first_member, farthest_is, rest_after, reached_start}
 use Rattle.rbbi_cache.proofs.Paths.{Path, Here, Then, IsCarried, carried, moved, path_moved, path_reaches}
 use Rattle.rbbi_cache.proofs.RunFacts.{all_by_splits, path_short}

@@ -16,7 +16,7 @@ use Rattle.rbbi_model.specs.Costs.{characters_read, searches_cost}
 use Rattle.rbbi_model.proofs.FreshTrue.{fresh_true}
 use Rattle.rbbi_model.proofs.Shown.{entry_true}
 use Rattle.rbbi_model.proofs.Lists.{all_append, all_through}
-use Rattle.rbbi_cache.specs.Scans.{Reached}
+use Rattle.rbbi_cache.specs.inner.Scans.{Reached}
 use Rattle.rbbi_cache.proofs.Reached.{done_before, cost_is}
 use Rattle.rbbi_cache.proofs.Paths.{Path, Here, Then, path_of_follow, path_reaches, reached_of}
 use Rattle.rbbi_cache.proofs.Members.{Stands, member_stands, member_kept, member_of_kept, by_place, place_of}

@@ -6,7 +6,7 @@ use Rattle.std.proofs.lemmas.List.Elements.{filter-append}
 use Rattle.rbbi_model.specs.Runs.{Run}
 use Rattle.rbbi_cache.specs.Kept.{most_runs}
 use Rattle.rbbi_cache.specs.Edits.{left_part, has_entries}
-use Rattle.rbbi_cache.specs.Parts.{right_part, all_parts}
+use Rattle.rbbi_cache.specs.inner.Parts.{right_part, all_parts}
 
 -- what is cut off before more is added isn't missed where as much is cut off afterwards
 pub cut_before : {X : Type 0} (n : ℕ) (xs ys : List X) → take n (take n xs ++ ys) ≡ take n (xs ++ ys)

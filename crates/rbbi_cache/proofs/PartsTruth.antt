@@ -14,7 +14,7 @@ use Rattle.rbbi_model.proofs.Lists.{all_take}
 use Rattle.rbbi_cache.specs.Kept.{AreTrueRuns, most_runs}
 use Rattle.rbbi_cache.specs.Edits.{IsEdited, begins_pair, IsFirstPair, HasNoPair, left_part, moved_run, goes_whole, IsRightPart, Whole, Behind}
 use Rattle.rbbi_cache.specs.Edits.{Nothing, has_entries, AreParts, AreKeptAfter}
-use Rattle.rbbi_cache.specs.Parts.{IsPlaced, IsMovable, is_found_at, moves_whole, part_behind, right_part, all_parts}
+use Rattle.rbbi_cache.specs.inner.Parts.{IsPlaced, IsMovable, is_found_at, moves_whole, part_behind, right_part, all_parts}
 use Rattle.rbbi_cache.proofs.Reached.{first_member}
 use Rattle.rbbi_cache.proofs.RunFacts.{all_by_splits, path_within}
 use Rattle.rbbi_cache.proofs.RunFacts as facts

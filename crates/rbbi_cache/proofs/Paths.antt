@@ -9,7 +9,7 @@ use Rattle.rbbi_model.specs.Searches.{found, next_boundary, follow_by, fresh}
 use Rattle.rbbi_model.specs.ReadAlike.{ReadsAlike}
 use Rattle.rbbi_model.proofs.Found.{found_lies}
 use Rattle.rbbi_model.proofs.SearchesAlike.{finds_alike}
-use Rattle.rbbi_cache.specs.Scans.{Reached}
+use Rattle.rbbi_cache.specs.inner.Scans.{Reached}
 use Rattle.rbbi_cache.proofs.Reached.{first_member, reached_start, reached_step}
 
 -- The searches lead from one member over those that are done to another.

@@ -5,8 +5,9 @@ use Rattle.std.proofs.lemmas.Bool.{cases_lt}
 use Rattle.std.proofs.lemmas.List.{take-append-drop, take_all}
 use Rattle.rbbi_model.specs.Runs.{Run}
 use Rattle.rbbi_model.proofs.Lists.{all_append, all_left, all_right}
-use Rattle.rbbi_cache.specs.Kept.{IsExtendedBy, NoneIsExtended, AreLeft, Added, Extended, Dropped, IsPutFirst}
-use Rattle.rbbi_cache.specs.Lists.{HasAt}
+use Rattle.rbbi_cache.specs.Kept.{IsExtendedBy, NoneIsExtended, AreLeft, Added, Extended, Dropped}
+use Rattle.rbbi_cache.specs.inner.Kept.{IsPutFirst}
+use Rattle.rbbi_cache.specs.inner.Lists.{HasAt}
 
 -- the one element of a list of length 1
 one : (l : List Run) → length l ≡ 1 → (r : Run) × (l ≡ r ∷ [])

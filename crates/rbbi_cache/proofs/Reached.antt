@@ -7,7 +7,7 @@ use Rattle.std.proofs.lemmas.List.{map-append, append-nil}
 use Rattle.std.proofs.lemmas.List.Elements.{filter-append}
 use Rattle.std.specs.Prelude.{sum_by}
 use Rattle.rbbi_model.proofs.Rising.{rising_tail}
-use Rattle.rbbi_cache.specs.Scans.{Reached}
+use Rattle.rbbi_cache.specs.inner.Scans.{Reached}
 use Rattle.rbbi_cache.proofs.Lists.{filter_all, filter_none, largest_join}
 use Rattle.rbbi_model.specs.Lists.{IsRising}
 use Rattle.rbbi_model.specs.Places.{largest}

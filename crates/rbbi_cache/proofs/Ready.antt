@@ -16,10 +16,10 @@ use Rattle.rbbi_model.proofs.Found.{greatest_lies}
 use Rattle.rbbi_model.proofs.Anchors.{anchors_stored}
 use Rattle.rbbi_model.proofs.Lists.{all_append}
 use Rattle.rbbi_cache.specs.Kept.{HasLeastReaches, EndFormerRun, IsExtendedBy}
-use Rattle.rbbi_cache.specs.Lists.{GoesOnFrom}
+use Rattle.rbbi_cache.specs.inner.Lists.{GoesOnFrom}
 use Rattle.rbbi_cache.specs.Shown.{IsShownAfter}
-use Rattle.rbbi_cache.specs.Scans.{Scan, IsScan, HasGoneOn}
-use Rattle.rbbi_cache.specs.Ready.{IsReady, IsAmong}
+use Rattle.rbbi_cache.specs.inner.Scans.{Scan, IsScan, HasGoneOn}
+use Rattle.rbbi_cache.specs.inner.Ready.{IsReady, IsAmong}
 use Rattle.rbbi_cache.proofs.Reached.{cost_is}
 use Rattle.rbbi_cache.proofs.RightPart.{entries_rise}
 use Rattle.rbbi_cache.proofs.RunFacts as facts

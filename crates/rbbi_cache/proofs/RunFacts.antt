@@ -14,7 +14,7 @@ use Rattle.rbbi_model.proofs.Found.{found_lies}
 use Rattle.rbbi_model.proofs.FoundCases.{found_up_to}
 use Rattle.rbbi_model.proofs.Lists.{all_right, all_through}
 use Rattle.rbbi_cache.proofs.Lists.{all_unmap}
-use Rattle.rbbi_cache.specs.Scans.{Reached}
+use Rattle.rbbi_cache.specs.inner.Scans.{Reached}
 use Rattle.rbbi_cache.proofs.Reached.{first_member, farthest_is}
 use Rattle.rbbi_cache.proofs.Paths.{Path, Here, Then, path_to, reached_of}
 use Rattle.rbbi_cache.proofs.Texts.{end_by_look}

@@ -6,7 +6,7 @@ use Rattle.std.proofs.lemmas.List.{take-append-drop, take_more}
 use Rattle.std.proofs.Math.Seq.{drop-cons, take-append_seam, drop-append_seam}
 use Rattle.rbbi_model.specs.Runs.{Run}
 use Rattle.rbbi_model.proofs.Lists.{all_append}
-use Rattle.rbbi_cache.specs.Lists.{HasAt}
+use Rattle.rbbi_cache.specs.inner.Lists.{HasAt}
 
 pub has_at : (P : Run → Type 0) (runs : List Run) (k : ℕ) (run : Run) → k < length runs → run ≡ get_or runs k run → P run → HasAt runs k P
 has_at P runs k run short is such = record {

@@ -12,7 +12,7 @@ use Rattle.rbbi_model.specs.Searches.{next_boundary, follow_by, fresh}
 use Rattle.rbbi_model.specs.Runs.{Entry, Run, IsAnchor, low, boundary_of, farthest_look, ReachesRise, LeadsTruly, IsTrueRun}
 use Rattle.rbbi_cache.specs.Kept.{HasLeastReaches, EndFormerRun}
 use Rattle.rbbi_cache.specs.Shown.{IsShownAfter}
-use Rattle.rbbi_cache.specs.Scans.{Reached, Scan, IsScan}
+use Rattle.rbbi_cache.specs.inner.Scans.{Reached, Scan, IsScan}
 use Rattle.rbbi_cache.proofs.Lists.{all_unmap}
 use Rattle.rbbi_cache.proofs.Reached.{first_member, reached_start, farthest_start, done_before, rises_after, rising_right}
 use Rattle.rbbi_cache.proofs.RunFacts.{reaches_right, ends_up_to}

@@ -12,8 +12,8 @@ use Rattle.rbbi_model.specs.Runs.{Entry, Run, low, boundary_of, farthest_look, R
 use Rattle.rbbi_model.proofs.Found.{found_lies, look_lies}
 use Rattle.rbbi_model.proofs.Lists.{all_append, all_right}
 use Rattle.rbbi_cache.specs.Kept.{HaveLeastReaches, last_reach}
-use Rattle.rbbi_cache.specs.Pushed.{pushed}
-use Rattle.rbbi_cache.specs.Scans.{Reached, Scan, IsScan, IsNextEntry}
+use Rattle.rbbi_cache.specs.inner.Pushed.{pushed}
+use Rattle.rbbi_cache.specs.inner.Scans.{Reached, Scan, IsScan, IsNextEntry}
 use Rattle.rbbi_cache.proofs.Reached.{reached_step, farthest_step}
 
 pub nonempty : {X : Type 0} (xs : List X) (x : X) (ys : List X) → xs ++ x ∷ ys ≡ [] → ⊥

@@ -8,7 +8,8 @@ use Rattle.std.proofs.lemmas.List.{take-append-drop, take_more, take_all}
 use Rattle.std.proofs.Math.Seq.{drop-cons}
 use Rattle.rbbi_model.specs.Lists.{IsRising}
 use Rattle.rbbi_model.specs.Runs.{Entry, Run, low, EndsUpTo, StartsFrom, ShowsAfter, ShowsBefore}
-use Rattle.rbbi_cache.specs.Shown.{AreUpTo, IsShownAfter, IsShownBefore}
+use Rattle.rbbi_cache.specs.inner.Shown.{AreUpTo}
+use Rattle.rbbi_cache.specs.Shown.{IsShownAfter, IsShownBefore}
 use Rattle.rbbi_model.proofs.Rising.{rising_tail}
 use Rattle.rbbi_model.proofs.Lists.{all_left, all_right, all_through}
 use Rattle.rbbi_cache.proofs.RunFacts.{rises_past, ends_up_to}

@@ -13,7 +13,7 @@ use Rattle.rbbi_model.specs.Answers.{last_place}
 use Rattle.rbbi_model.specs.Runs.{IsAnchor, low}
 use Rattle.rbbi_model.specs.Costs.{anchor_below, searches_cost, settles, tries_from, tries, last_of, back_cost, forward_cost, last_cost, preceding_cost}
 use Rattle.rbbi_cache.specs.Kept.{IsLastBefore}
-use Rattle.rbbi_cache.specs.Ready.{HasNoneBefore}
+use Rattle.rbbi_cache.specs.inner.Ready.{HasNoneBefore}
 use Rattle.rbbi_cache.proofs.Reached.{first_member, rises_after, none_follows}
 use Rattle.rbbi_cache.proofs.Reanchor.{fresh_rises}
 use Rattle.rbbi_cache.proofs.Scanned.{first_is}

@@ -45,12 +45,6 @@ pub data AreLeft (first : Run) : List Run → List Run → Type 0 where
   Dropped : (before : List Run) (missing : Run) → length before + 1 ≡ most_runs → NoneIsExtended first (before ++ missing ∷ []) →
       AreLeft first (before ++ missing ∷ []) before
 
--- the run stands first, and behind it what is left of the runs that were kept before
-pub record IsPutFirst (run : Run) (former now : List Run) : Type 0 where
-  pub rest : List Run
-  pub are : now ≡ run ∷ rest
-  pub left : AreLeft run former rest
-
 -- Each entry has the least reach that is allowed after one that reaches so far: as far as that one, and as the searches from the anchor
 -- up to the entry look.
 abbrev pub HaveLeastReaches : Table → List ℕ → ℕ → ℕ → List Entry → Type 0

@@ -6,7 +6,7 @@ ghost use Rattle.rbbi_model.specs.Runs as model;
 ghost use Rattle.rbbi_model.specs.Runs.{IsAnchor};
 ghost use Rattle.rbbi_model.specs.Costs.{settles, searches_cost, back_cost};
 ghost use Rattle.rbbi_cache.specs.Kept.{IsLastBefore};
-ghost use Rattle.rbbi_cache.specs.Ready.{HasNoneBefore, IsReadyBack};
+ghost use Rattle.rbbi_cache.specs.inner.Ready.{HasNoneBefore, IsReadyBack};
 
 use crate::anchors::anchor_before;
 use crate::scan::scan;

@@ -7,8 +7,8 @@ ghost use Rattle.rbbi_model.specs.Runs.{ShowsAfter, ShowsBefore};
 ghost use Rattle.rbbi_cache.specs.Kept.{AreTrueRuns, IsFirstAfter, IsLastBefore, SomeRun, Keeps};
 ghost use Rattle.rbbi_cache.specs.Kept.{KeepsBack};
 ghost use Rattle.rbbi_cache.specs.Shown.{IsShownAfter};
-ghost use Rattle.rbbi_cache.specs.Lists.{HasAt, GoesOnFrom};
-ghost use Rattle.rbbi_cache.specs.Ready.{KeepsTrue};
+ghost use Rattle.rbbi_cache.specs.inner.Lists.{HasAt, GoesOnFrom};
+ghost use Rattle.rbbi_cache.specs.inner.Ready.{KeepsTrue};
 
 use crate::anchors::anchor_before;
 use crate::back::search_back;

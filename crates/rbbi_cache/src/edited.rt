@@ -4,7 +4,8 @@ ghost use Rattle.rbbi_model.specs.Words.{most_characters};
 ghost use Rattle.rbbi_model.specs.Costs.{edit_cost};
 ghost use Rattle.rbbi_cache.specs.Kept.{AreTrueRuns, most_runs};
 ghost use Rattle.rbbi_cache.specs.Edits.{left_part, has_entries};
-ghost use Rattle.rbbi_cache.specs.Parts.{IsMovable, WereTrue, AreKeptAfterAny, right_part};
+ghost use Rattle.rbbi_cache.specs.inner.Parts.{IsMovable, right_part};
+ghost use Rattle.rbbi_cache.specs.Parts.{WereTrue, AreKeptAfterAny};
 
 use crate::anchors::first_pair;
 use crate::parts::{Edit, copy_left, copy_right};

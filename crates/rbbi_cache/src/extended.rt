@@ -2,7 +2,7 @@
 ghost use Rattle.std.specs.Prelude.{◌≡◌, map, MatchOption, IsTrue, ◌↔◌, Contains};
 ghost use Rattle.rbbi_model.specs.Lists.{IsRising};
 ghost use Rattle.rbbi_cache.specs.Kept.{AreAmong, IsExtendedBy, NoneIsExtended};
-ghost use Rattle.rbbi_cache.specs.Lists.{HasAt};
+ghost use Rattle.rbbi_cache.specs.inner.Lists.{HasAt};
 
 use crate::shown::count_up_to;
 use crate::{Entry, Run};

@@ -5,7 +5,7 @@ ghost use Rattle.std.specs.List.{AllByRecursion};
 ghost use Rattle.rbbi_model.specs.Words.{most_characters};
 ghost use Rattle.rbbi_model.specs.Runs.{ReachesRise};
 ghost use Rattle.rbbi_cache.specs.Edits.{left_part, moved_entry, moved_run, run_behind};
-ghost use Rattle.rbbi_cache.specs.Parts.{CanMove, IsMovable, moves_whole, right_part};
+ghost use Rattle.rbbi_cache.specs.inner.Parts.{CanMove, IsMovable, moves_whole, right_part};
 
 use crate::shown::count_up_to;
 use crate::{Entry, Run};

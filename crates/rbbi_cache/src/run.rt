@@ -2,7 +2,7 @@
 ghost use Rattle.std.specs.Prelude.{◌≡◌, ◌+◌, ◌<◌, ◌≤◌, ◌++◌, [], ◌∷◌, true, false, length, drop};
 ghost use Rattle.std.specs.Prelude.{IfOk, if◌then◌else◌, ◌==◌};
 ghost use Rattle.rbbi_model.specs.Runs as model;
-ghost use Rattle.rbbi_cache.specs.Pushed.{pushed};
+ghost use Rattle.rbbi_cache.specs.inner.Pushed.{pushed};
 
 use crate::Entry;
 use std::alloc::{AllocError, Global};

@@ -4,9 +4,10 @@ ghost use Rattle.rbbi_model.specs.Lists.{IsRising};
 ghost use Rattle.rbbi_model.specs.Words.{most_characters};
 ghost use Rattle.rbbi_model.specs.Runs as model;
 ghost use Rattle.rbbi_model.specs.Costs.{anchor_below, searches_cost};
-ghost use Rattle.rbbi_cache.specs.Kept.{AreTrueRuns, IsPutFirst};
-ghost use Rattle.rbbi_cache.specs.Lists.{HasAt, GoesOnFrom};
-ghost use Rattle.rbbi_cache.specs.Ready.{GoesOnAt};
+ghost use Rattle.rbbi_cache.specs.Kept.{AreTrueRuns};
+ghost use Rattle.rbbi_cache.specs.inner.Kept.{IsPutFirst};
+ghost use Rattle.rbbi_cache.specs.inner.Lists.{HasAt, GoesOnFrom};
+ghost use Rattle.rbbi_cache.specs.inner.Ready.{GoesOnAt};
 
 use crate::extended::find_extended;
 use crate::runs::{MOST_RUNS, put_first, to_front};

@@ -6,7 +6,7 @@ ghost use Rattle.rbbi_model.specs.Words.{most_characters};
 ghost use Rattle.rbbi_model.specs.Runs as model;
 ghost use Rattle.rbbi_model.specs.Runs.{ShowsAfter, ShowsBefore};
 ghost use Rattle.rbbi_cache.specs.Shown.{IsShownAfter, IsShownBefore};
-ghost use Rattle.rbbi_cache.specs.Lists.{IsOrdered, HasAt, GoesOnFrom};
+ghost use Rattle.rbbi_cache.specs.inner.Lists.{IsOrdered, HasAt, GoesOnFrom};
 
 use crate::{Entry, Run};
 use std::mem;

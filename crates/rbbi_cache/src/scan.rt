@@ -2,7 +2,7 @@
 ghost use Rattle.std.specs.Prelude.{◌≡◌, ◌<◌, ◌≤◌, length};
 ghost use Rattle.rbbi_model.specs.Words.{most_characters};
 ghost use Rattle.rbbi_model.specs.Runs.{low};
-ghost use Rattle.rbbi_cache.specs.Scans.{HasBegun, GoesOn};
+ghost use Rattle.rbbi_cache.specs.inner.Scans.{HasBegun, GoesOn};
 
 use crate::{Entry, Run};
 use rbbi_table::{Marks, Table};

@@ -3,8 +3,8 @@ ghost use Rattle.std.specs.Prelude.{◌≡◌, ℕ, ◌+◌, ◌<◌, ◌≤◌,
 ghost use Rattle.rbbi_model.specs.Words.{most_characters};
 ghost use Rattle.rbbi_model.specs.Runs as model;
 ghost use Rattle.rbbi_model.specs.Costs.{anchor_below, searches_cost};
-ghost use Rattle.rbbi_cache.specs.Lists.{GoesOnFrom};
-ghost use Rattle.rbbi_cache.specs.Ready.{IsReady, GoesOnAs};
+ghost use Rattle.rbbi_cache.specs.inner.Lists.{GoesOnFrom};
+ghost use Rattle.rbbi_cache.specs.inner.Ready.{IsReady, GoesOnAs};
 
 use crate::scan::scan;
 use crate::{Entry, Run};

@@ -5,8 +5,9 @@ ghost use Rattle.std.specs.List.{AllByRecursion};
 ghost use Rattle.rbbi_model.specs.Lists.{IsRising};
 ghost use Rattle.rbbi_model.specs.Words.{most_characters};
 ghost use Rattle.rbbi_model.specs.Runs.{low, ShowsAfter, ShowsBefore};
-ghost use Rattle.rbbi_cache.specs.Lists.{GoesOnFrom};
-ghost use Rattle.rbbi_cache.specs.Shown.{AreUpTo, IsShownAfter, IsShownBefore};
+ghost use Rattle.rbbi_cache.specs.inner.Lists.{GoesOnFrom};
+ghost use Rattle.rbbi_cache.specs.inner.Shown.{AreUpTo};
+ghost use Rattle.rbbi_cache.specs.Shown.{IsShownAfter, IsShownBefore};
 
 use crate::scan::low;
 use crate::{Entry, Run};

@@ -13,10 +13,10 @@ use Rattle.rbbi_model.specs.Ranges.{Range, Has}
 use Rattle.rbbi_model.specs.Tables.{CategoryRange, category_of}
 use Rattle.rbbi_model.specs.ValidTables.{AreValidRanges, IsWithin}
 use Rattle.rbbi_sets.specs.Rising.{AreRising, AreRisingFrom}
-use Rattle.rbbi_cats.specs.Cuts.{AreCuts, ends_of, set_ends}
-use Rattle.rbbi_cats.specs.Numbers.{AreNumbers, AreRangesOf}
-use Rattle.rbbi_cats.specs.Partitions.{IsPartition}
-use Rattle.rbbi_cats.specs.Tells.{SomeHas, NoneTells, Tells}
+use Rattle.rbbi_cats.specs.inner.Cuts.{AreCuts, ends_of, set_ends}
+use Rattle.rbbi_cats.specs.inner.Numbers.{AreNumbers, AreRangesOf}
+use Rattle.rbbi_cats.specs.inner.Partitions.{IsPartition}
+use Rattle.rbbi_cats.specs.inner.Tells.{SomeHas, NoneTells, Tells}
 
 if_inside : (range : Range) → range.high < last_code_point → ends_of range ≡ range.low ∷ (range.high + 1) ∷ []
 if_inside range inside = ap (λ t. cond t (range.low ∷ (range.high + 1) ∷ []) (range.low ∷ [])) (lt-ltb range.high last_code_point inside)

@@ -4,7 +4,7 @@ use Rattle.std.specs.Prelude.{count_by, replicate}
 use Rattle.std.proofs.lemmas.List.Sums.{sum_by-cons, sum_by-set}
 use Rattle.std.proofs.lemmas.Bool.{cases_eq}
 use Rattle.std.proofs.lemmas.List.{get_or_default}
-use Rattle.rbbi_cats.specs.Partitions.{Selects}
+use Rattle.rbbi_cats.specs.inner.Partitions.{Selects}
 
 -- 1 where the numbers are equal, else 0
 abbrev pub one_if : ℕ → ℕ → ℕ

@@ -8,7 +8,7 @@ use Rattle.std.proofs.lemmas.Map.Keys.{IsStrictlyIncreasing-dedup}
 use Rattle.std.proofs.lemmas.List.Kept.{Contains-dedup_nat, Contains-from_dedup}
 use Rattle.std.proofs.lemmas.List.Sorted.{Contains-permutation}
 use Rattle.rbbi_model.specs.Ranges.{Range}
-use Rattle.rbbi_cats.specs.Cuts.{set_ends, AreCuts}
+use Rattle.rbbi_cats.specs.inner.Cuts.{set_ends, AreCuts}
 use Rattle.rbbi_cats.proofs.Nexts.{flat_next}
 
 pub ends_more : (sets : List (List Range)) (i : ℕ) (set : List Range) → slice_get sets i ≡ Some set →

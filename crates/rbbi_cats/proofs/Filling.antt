@@ -6,7 +6,8 @@ use Rattle.std.proofs.lemmas.List.{get_or_append_left, get_or_default, get_or-ap
 use Rattle.std.proofs.Math.Seq.{get_or-append_seam}
 use Rattle.rbbi_model.specs.Tables.{CategoryRange, category_from, category_of}
 use Rattle.rbbi_model.specs.ValidTables.{AreApart, StartsAtZero}
-use Rattle.rbbi_cats.specs.Lookups.{IsLookup, IsSplit, IsPast, IsBlock, Keeps, cell_of}
+use Rattle.rbbi_cats.specs.Lookups.{IsLookup, cell_of}
+use Rattle.rbbi_cats.specs.inner.Lookups.{IsSplit, IsPast, IsBlock, Keeps}
 
 category_none : (ranges : List CategoryRange) (b c : ℕ) → ((k : ℕ) (d : CategoryRange) → k < length ranges → c < (get_or ranges k d).start) →
     category_from b ranges c ≡ b

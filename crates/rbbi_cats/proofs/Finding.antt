@@ -15,10 +15,10 @@ use Rattle.rbbi_model.specs.Compiled.{AreAlike, AreClasses}
 use Rattle.rbbi_resolve.specs.RuleLists.{RuleList, rules_of, AreWellFormed, IsLeafSet}
 use Rattle.rbbi_sets.specs.Rising.{AreRising}
 use Rattle.rbbi_cats.specs.CategoryLists.{HasClasses, IsReadCodePoint}
-use Rattle.rbbi_cats.specs.Cuts.{AreCuts}
-use Rattle.rbbi_cats.specs.Numbers.{AreNumbers, AreRangesOf}
-use Rattle.rbbi_cats.specs.Partitions.{IsPartition}
-use Rattle.rbbi_cats.specs.Tells.{SomeHas, HasTold, Tells}
+use Rattle.rbbi_cats.specs.inner.Cuts.{AreCuts}
+use Rattle.rbbi_cats.specs.inner.Numbers.{AreNumbers, AreRangesOf}
+use Rattle.rbbi_cats.specs.inner.Partitions.{IsPartition}
+use Rattle.rbbi_cats.specs.inner.Tells.{SomeHas, HasTold, Tells}
 use Rattle.rbbi_cats.proofs.Classing.{Classed, classed, valid, cuts_small}
 use Rattle.rbbi_cats.proofs.LeafSets.{read_is, alike_is}
 

@@ -5,7 +5,7 @@ use Rattle.std.proofs.Math.ListN.{length-set}
 use Rattle.std.proofs.lemmas.List.{get_or_append_left}
 use Rattle.std.proofs.Math.Seq.{get_or-append_seam}
 use Rattle.std.proofs.lemmas.Bool.{cases_eq, cases_lt}
-use Rattle.rbbi_cats.specs.Partitions.{AreSizes, AreStretches, IsTarget, Targets, Had, Kept, Made, PutsBack}
+use Rattle.rbbi_cats.specs.inner.Partitions.{AreSizes, AreStretches, IsTarget, Targets, Had, Kept, Made, PutsBack}
 use Rattle.rbbi_cats.proofs.Counts.{one_if, one_if_same, one_if_other, count_of, count_of-set, count_of-le, found}
 
 -- the targets that are decided, of so many classes that there are by now

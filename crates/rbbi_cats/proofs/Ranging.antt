@@ -10,7 +10,7 @@ use Rattle.rbbi_model.specs.Tables.{CategoryRange, category_from, category_of}
 use Rattle.rbbi_model.specs.ValidTables.{StartsAtZero, AreApart}
 use Rattle.rbbi_model.proofs.Lists.{all_append}
 use Rattle.rbbi_cats.proofs.Classing.{rises}
-use Rattle.rbbi_cats.specs.Numbers.{AreRangesOf}
+use Rattle.rbbi_cats.specs.inner.Numbers.{AreRangesOf}
 
 -- a further range doesn't count before its start
 category_before : (ranges : List CategoryRange) (b c : ℕ) (last : CategoryRange) → c < last.start →

@@ -1,7 +1,7 @@
 -- Taking the members out of their classes and putting them into their targets refines the partition by the members.
 use Rattle.std.proofs.Common.{◌≡◌, ℕ, ◌≤◌, ◌<◌, ◌⊎◌, ◌↔◌, List, length, get_or, ap, sym, ◌∙◌, subst, inl, inr, arith}
 use Rattle.std.proofs.lemmas.Bool.{cases_lt}
-use Rattle.rbbi_cats.specs.Partitions.{Selects, IsPartition, AreStretches, TakesOut, IsTarget, PutsBack, Refines}
+use Rattle.rbbi_cats.specs.inner.Partitions.{Selects, IsPartition, AreStretches, TakesOut, IsTarget, PutsBack, Refines}
 use Rattle.rbbi_cats.proofs.Counts.{count_of, counted, found, select_cases}
 
 -- a stretch among the members, and where it went

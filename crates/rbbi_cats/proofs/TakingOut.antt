@@ -5,7 +5,7 @@ use Rattle.std.proofs.Math.ListN.{length-set}
 use Rattle.std.proofs.lemmas.List.{get_or_append_left}
 use Rattle.std.proofs.Math.Seq.{get_or-append_seam}
 use Rattle.std.proofs.lemmas.Bool.{cases_eq, cases_lt}
-use Rattle.rbbi_cats.specs.Partitions.{AreSizes, AreStretches, IsPartition, TakesOut}
+use Rattle.rbbi_cats.specs.inner.Partitions.{AreSizes, AreStretches, IsPartition, TakesOut}
 use Rattle.rbbi_cats.proofs.Counts.{one_if, one_if_same, one_if_other, count_of, count_of-set, counted, read}
 
 -- the first so many members are out, and their former classes are the origins

@@ -8,9 +8,9 @@ use Rattle.std.proofs.lemmas.List.Kept.{AllPairs-cons}
 use Rattle.std.proofs.lemmas.List.Elements.{All-from_recursion}
 use Rattle.std.proofs.lemmas.Bool.{cases_lt}
 use Rattle.rbbi_model.specs.Ranges.{Range, Has}
-use Rattle.rbbi_cats.specs.Partitions.{IsPartition, AreStretches, Refines}
-use Rattle.rbbi_cats.specs.Cuts.{AreMembers}
-use Rattle.rbbi_cats.specs.Tells.{SomeHas, NoneTells, Tells, HasTold}
+use Rattle.rbbi_cats.specs.inner.Partitions.{IsPartition, AreStretches, Refines}
+use Rattle.rbbi_cats.specs.inner.Cuts.{AreMembers}
+use Rattle.rbbi_cats.specs.inner.Tells.{SomeHas, NoneTells, Tells, HasTold}
 use Rattle.rbbi_cats.proofs.Nexts.{take_next}
 use Rattle.rbbi_cats.proofs.Counts.{count_of, all_zero, zero_at}
 

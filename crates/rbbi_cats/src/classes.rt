@@ -1,8 +1,8 @@
 //! The classes of the stretches between cuts.
 ghost use Rattle.std.specs.Prelude.{◌≡◌, ◌≤◌, ◌<◌, ℕ, IfOk, length};
 ghost use Rattle.std.specs.List.Sorted.{IsStrictlyIncreasing};
-ghost use Rattle.rbbi_cats.specs.Partitions.{IsPartition};
-ghost use Rattle.rbbi_cats.specs.Tells.{HasTold, Tells};
+ghost use Rattle.rbbi_cats.specs.inner.Partitions.{IsPartition};
+ghost use Rattle.rbbi_cats.specs.inner.Tells.{HasTold, Tells};
 ghost use Rattle.rbbi_cats.specs.declared.error.CatsErr.TheVariants.{TooManyCategories};
 
 use crate::CatsErr;

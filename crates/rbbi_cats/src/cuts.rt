@@ -1,6 +1,6 @@
 //! Where membership in the sets may change.
 ghost use Rattle.std.specs.Prelude.{◌≡◌, ◌++◌, IfOk, OnOk};
-ghost use Rattle.rbbi_cats.specs.Cuts.{AreCuts, set_ends};
+ghost use Rattle.rbbi_cats.specs.inner.Cuts.{AreCuts, set_ends};
 
 use rbbi_resolve::SetList;
 use rbbi_sets::CodeRange;

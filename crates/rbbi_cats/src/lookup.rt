@@ -3,7 +3,8 @@
 ghost use Rattle.std.specs.Prelude.{◌≡◌, ◌<◌, ◌*◌, ◌+◌, ◌^◌, ℕ, IfOk, OnOk, length};
 ghost use Rattle.rbbi_model.specs.Tables.{category_of};
 ghost use Rattle.rbbi_model.specs.ValidTables.{StartsAtZero, AreApart};
-ghost use Rattle.rbbi_cats.specs.Lookups.{IsBlock, IsLookup, IsPast, IsSplit, Keeps};
+ghost use Rattle.rbbi_cats.specs.inner.Lookups.{IsBlock, IsPast, IsSplit, Keeps};
+ghost use Rattle.rbbi_cats.specs.Lookups.{IsLookup};
 
 use crate::CatRange;
 use std::alloc::{AllocError, Global};

@@ -2,7 +2,7 @@
 ghost use Rattle.std.specs.Prelude.{◌≡◌, ◌≤◌, ◌<◌, ◌+◌, ℕ, OnOk, length, slice_index};
 ghost use Rattle.std.specs.List.Sorted.{IsStrictlyIncreasing};
 ghost use Rattle.rbbi_sets.specs.Rising.{AreRising};
-ghost use Rattle.rbbi_cats.specs.Cuts.{AreMembers};
+ghost use Rattle.rbbi_cats.specs.inner.Cuts.{AreMembers};
 
 use rbbi_sets::CodeRange;
 use std::alloc::AllocError;

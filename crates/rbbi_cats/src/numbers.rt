@@ -1,7 +1,7 @@
 //! The numbers of classes, and the ranges of categories.
 ghost use Rattle.std.specs.Prelude.{◌≡◌, ◌<◌, ◌≤◌, ℕ, IfOk, length, slice_index};
 ghost use Rattle.std.specs.List.Sorted.{IsStrictlyIncreasing};
-ghost use Rattle.rbbi_cats.specs.Numbers.{AreNumbers, AreRangesOf};
+ghost use Rattle.rbbi_cats.specs.inner.Numbers.{AreNumbers, AreRangesOf};
 
 use crate::CatRange;
 use std::alloc::{AllocError, Global};

@@ -10,7 +10,8 @@ use Rattle.rbbi_model.specs.Searches.{found, next_boundary, follow_by, table_bou
 use Rattle.rbbi_model.specs.Answers.{first_place, is_place_of}
 use Rattle.rbbi_model.proofs.Found.{found_lies}
 use Rattle.rbbi_conform.specs.Tests.{Test}
-use Rattle.rbbi_conform.specs.Verdicts.{Agrees, AreRight, IsFirstWrong, IsFirstDifference}
+use Rattle.rbbi_conform.specs.Verdicts.{Agrees, IsFirstDifference}
+use Rattle.rbbi_conform.specs.inner.Verdicts.{AreRight, IsFirstWrong}
 
 differ : (m n : ℕ) → m ≢ n → eqb m n ≡ false
 differ m n h = grind (arith, nat_tests)

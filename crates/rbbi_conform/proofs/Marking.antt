@@ -2,7 +2,7 @@
 use Rattle.std.proofs.Common.{◌≡◌, ℕ, ◌+◌, ◌*◌, ◌≤◌, Bool, List, [], ◌∷◌, ◌++◌, length, refl, ap, sym, subst, ◌∙◌, append_assoc, append-nil, length-append}
 use Rattle.std.proofs.Common.{arith}
 use Rattle.rbbi_conform.specs.Grammar.{words_of, IsCodePoint, ArePairs}
-use Rattle.rbbi_conform.specs.Readings.{IsFirstWord, IsNoPair, IsPairOf, AreMarkedBy, AreUnmarked}
+use Rattle.rbbi_conform.specs.inner.Readings.{IsFirstWord, IsNoPair, IsPairOf, AreMarkedBy, AreUnmarked}
 
 -- So many pairs were read, and these words are left.
 pub record IsMarking (words text : List ℕ) (marks : List Bool) (rest : List ℕ) : Type 0 where

@@ -21,13 +21,6 @@ LinesWrite lines tests = AreValues LineWrites lines 0 tests
 abbrev pub IsFirstBadLine : List (List ℕ) → ℕ → Type 0
 IsFirstBadLine lines number = IsFirstBad LineWrites IsBad lines number
 
--- what reading the lines answers
-abbrev pub ReadsLines : List (List ℕ) → Result (List Test) TestErr → Type 0
-ReadsLines lines (Ok tests) = LinesWrite lines tests
-ReadsLines lines (Err (NotUtf8 at)) = ⊥
-ReadsLines lines (Err (BadLine line)) = IsFirstBadLine lines line
-ReadsLines lines (Err Memory) = Unit {0}
-
 -- what reading a test file answers
 abbrev pub ReadsTests : List ℕ → Result (List Test) TestErr → Type 0
 ReadsTests bytes (Ok tests) = IsUtf8 bytes × LinesWrite (file_lines bytes) tests

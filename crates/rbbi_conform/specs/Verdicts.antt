@@ -21,14 +21,3 @@ pub record IsFirstDifference (boundaries : List Boundary) (test : Test) (place :
 abbrev pub IsVerdict : List Boundary → Test → Verdict → Type 0
 IsVerdict boundaries test Same = (i : ℕ) → 1 ≤ i → i ≤ length test.text → Agrees boundaries test i
 IsVerdict boundaries test (Differs place) = IsFirstDifference boundaries test place
-
--- the marks past one place and up to another are right, where the first boundary past the one is known
-abbrev pub AreRight : Test → ℕ → ℕ → ℕ → Type 0
-AreRight test last next place = (i : ℕ) → last < i → i ≤ place → slice_index_or test.marks (i - 1) false ≡ (i == next)
-
--- the place is the first past another with a wrong mark, where the first boundary past that other is known
-pub record IsFirstWrong (test : Test) (last next place : ℕ) : Type 0 where
-  pub past : last < place
-  pub up_to : place ≤ next
-  pub wrong : slice_index_or test.marks (place - 1) false ≢ (place == next)
-  pub right : AreRight test last next (place - 1)

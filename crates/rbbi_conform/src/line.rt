@@ -3,9 +3,9 @@ ghost use Rattle.std.specs.Prelude.{◌≡◌, ◌≤◌, [], length, IfOk, Matc
 ghost use Rattle.std.specs.List.{position_or_len};
 ghost use Rattle.rbbi_text.specs.LineParts as line_parts;
 ghost use Rattle.rbbi_conform.specs.Grammar.{words_of};
-ghost use Rattle.rbbi_conform.specs.Readings.{IsFirstWord, IsMarkOf, IsCodePointOf, IsNoPair};
-ghost use Rattle.rbbi_conform.specs.Readings.{IsPairOf, IsMarkedOf, IsUnmarked, AreMarkedBy};
-ghost use Rattle.rbbi_conform.specs.Readings.{AreUnmarked};
+ghost use Rattle.rbbi_conform.specs.inner.Readings.{IsFirstWord, IsMarkOf, IsCodePointOf, IsNoPair};
+ghost use Rattle.rbbi_conform.specs.inner.Readings.{IsPairOf, IsMarkedOf, IsUnmarked, AreMarkedBy};
+ghost use Rattle.rbbi_conform.specs.inner.Readings.{AreUnmarked};
 
 use rbbi_text::{before_byte, hexadecimal, is_blank, push_character, trim_start};
 use std::alloc::{AllocError, Global};

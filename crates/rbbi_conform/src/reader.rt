@@ -2,8 +2,9 @@
 ghost use Rattle.std.specs.Prelude.{◌≡◌, ◌≤◌, length};
 ghost use Rattle.std.specs.Str.Lines.{lines};
 ghost use Rattle.rbbi_text.specs.Bytes.{most_bytes};
-ghost use Rattle.rbbi_conform.specs.Files.{ReadsTests, ReadsLines};
-ghost use Rattle.rbbi_conform.specs.LineReadings.{ReadsLine};
+ghost use Rattle.rbbi_conform.specs.Files.{ReadsTests};
+ghost use Rattle.rbbi_conform.specs.inner.Files.{ReadsLines};
+ghost use Rattle.rbbi_conform.specs.inner.LineReadings.{ReadsLine};
 
 use crate::error::TestErr;
 use crate::line::{Marked, marked_text};

@@ -1,7 +1,8 @@
 //! The verdict on a test.
 ghost use Rattle.std.specs.Prelude.{◌≡◌, ◌<◌, ◌≤◌, length, MatchOption};
 ghost use Rattle.rbbi_model.specs.Searches.{table_boundaries};
-ghost use Rattle.rbbi_conform.specs.Verdicts.{IsVerdict, AreRight, IsFirstWrong};
+ghost use Rattle.rbbi_conform.specs.Verdicts.{IsVerdict};
+ghost use Rattle.rbbi_conform.specs.inner.Verdicts.{AreRight, IsFirstWrong};
 
 use crate::Test;
 use rbbi_table::{Marks, Table};

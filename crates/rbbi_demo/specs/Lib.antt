@@ -1,3 +1,2 @@
-pub mod Generator
-pub mod Edits
 pub mod Summaries
+pub mod inner

@@ -8,7 +8,7 @@ use Rattle.std.specs.Int.Bits.{or_zero_r, and_zero_l}
 use Rattle.std.proofs.lemmas.Bool.{cases_lt, cases_eq}
 use Rattle.std.proofs.lemmas.List.{get_or_past, get_or-set_same, get_or-set_other}
 use Rattle.std.proofs.lemmas.Nat.Bits.{bit_at_or, bit_at_and, bit_at-lt, bit_at-zero, bit_at-trailing_zeros, bit_at_set_same, bit_at_set_other}
-use Rattle.rbbi_dfa.specs.BitRows.{Holds, IsSpan}
+use Rattle.rbbi_dfa.specs.inner.BitRows.{Holds, IsSpan}
 
 one_or : (a b : ℕ) → max a b ≡ 1 → a < 2 → b < 2 → (a ≡ 1) ⊎ (b ≡ 1)
 one_or a b one low low' = ⊎_elim (λ is. inl is) (λ other. inr (omega (arith, one, low, low', other))) (cases_eq a 1)

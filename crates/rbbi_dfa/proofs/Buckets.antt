@@ -9,8 +9,8 @@ use Rattle.std.proofs.lemmas.Bool.{cases_lt, cases_eq, false≢true}
 use Rattle.std.proofs.lemmas.List.{get_or-replicate, get_or_past, get_or-set_same, get_or-set_other, get_or_append_left, get_or_push, length_push, length-set}
 use Rattle.std.proofs.lemmas.List.{length-replicate, take_all}
 use Rattle.std.proofs.lemmas.List.Sums.{fold_more}
-use Rattle.rbbi_dfa.specs.BitRows.{row_at}
-use Rattle.rbbi_dfa.specs.LeafSetIndex.{mixed, bucket_of, IsIndexed, IsAbsent}
+use Rattle.rbbi_dfa.specs.inner.BitRows.{row_at}
+use Rattle.rbbi_dfa.specs.inner.LeafSetIndex.{mixed, bucket_of, IsIndexed, IsAbsent}
 
 -- the hash of the first so many words
 abbrev pub hash_upto : List ℕ → ℕ → ℕ

@@ -15,11 +15,11 @@ use Rattle.rbbi_positions.specs.PositionMarks.{PositionMarks, ArePositions}
 use Rattle.rbbi_dfa.specs.declared.determinize.error.DeterminizeErr.{DeterminizeErr}
 use Rattle.rbbi_dfa.specs.declared.determinize.error.DeterminizeErr.TheVariants.{TooManySets as ManyReached, Memory as NoMemory}
 use Rattle.rbbi_dfa.specs.Refusals.{refusal_of}
-use Rattle.rbbi_dfa.specs.MarkedRows.{AreOf, AreReadable}
-use Rattle.rbbi_dfa.specs.Automata.{IsDetermined, with_ranges}
+use Rattle.rbbi_dfa.specs.inner.MarkedRows.{AreOf, AreReadable}
+use Rattle.rbbi_dfa.specs.inner.Automata.{IsDetermined, with_ranges}
 use Rattle.rbbi_dfa.specs.Builds.{AreCompilable, BuildsTable}
-use Rattle.rbbi_dfa.specs.Categories.{AreWithin}
-use Rattle.rbbi_dfa.specs.LeastTables.{GivesTable, finished}
+use Rattle.rbbi_dfa.specs.inner.Categories.{AreWithin}
+use Rattle.rbbi_dfa.specs.inner.LeastTables.{GivesTable, finished}
 use Rattle.rbbi_dfa.proofs.LookAheads.{has_slash, look_aheads_by_marks}
 use Rattle.rbbi_dfa.proofs.RowsOfRules.{owners_are, marks_small}
 use Rattle.rbbi_dfa.proofs.Compiling.{AreWithin-from_valid, IsCompiled-finished, few_status_lists}

@@ -3,9 +3,9 @@ use Rattle.std.proofs.Common.{◌≡◌, ℕ, ◌+◌, ◌*◌, ◌<◌, ◌≤�
 use Rattle.std.proofs.lemmas.Bool.{cases_lt, cases_eq}
 use Rattle.std.proofs.lemmas.List.{get_or_append_left, get_or_push, get_or_past, length_push}
 use Rattle.std.proofs.lemmas.Nat.{mul-add-lt}
-use Rattle.rbbi_dfa.specs.BitRows.{row_at}
-use Rattle.rbbi_dfa.specs.PositionRows.{PositionRows}
-use Rattle.rbbi_dfa.specs.Determinizing.{AreFollowers, Completes, IsCell, LeadsOn, cell_of, AreReachedSets, AreCellsUpTo, Begin, AddsCells, AddsZeros}
+use Rattle.rbbi_dfa.specs.inner.BitRows.{row_at}
+use Rattle.rbbi_dfa.specs.inner.PositionRows.{PositionRows}
+use Rattle.rbbi_dfa.specs.inner.Determinizing.{AreFollowers, Completes, IsCell, LeadsOn, cell_of, AreReachedSets, AreCellsUpTo, Begin, AddsCells, AddsZeros}
 use Rattle.rbbi_dfa.proofs.Lead.{cell_kept}
 
 pub no_zeros : (cells : List ℕ) → AddsZeros cells cells 0

@@ -9,9 +9,9 @@ use Rattle.rbbi_model.specs.Tables.{Table, CategoryRange, category_of, accept_of
 use Rattle.rbbi_model.specs.ValidTables.{IsValidRow, AreValidRanges, BeginsWithZeroAlone, AreValidRows, AreFronted, AreValidSafePairs}
 use Rattle.rbbi_model.specs.Marks.{Marks, AreMarks, marks_of, HasSameMarks}
 use Rattle.rbbi_model.specs.Compiled.{IsLeast, IsStatusList, HasStatusLists, AreClasses, IsCompiled}
-use Rattle.rbbi_dfa.specs.Automata.{IsDetermined, with_ranges}
-use Rattle.rbbi_dfa.specs.Categories.{AreWithin}
-use Rattle.rbbi_dfa.specs.LeastTables.{IsLeastOf, finished}
+use Rattle.rbbi_dfa.specs.inner.Automata.{IsDetermined, with_ranges}
+use Rattle.rbbi_dfa.specs.inner.Categories.{AreWithin}
+use Rattle.rbbi_dfa.specs.inner.LeastTables.{IsLeastOf, finished}
 use Rattle.rbbi_dfa.proofs.Lists.{le_from_choices}
 use Rattle.rbbi_dfa.proofs.Grouping.{row_along-ranges}
 use Rattle.rbbi_dfa.proofs.WordRows.{along_within, word_IsWay}

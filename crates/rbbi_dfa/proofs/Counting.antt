@@ -6,10 +6,10 @@ use Rattle.rbbi_model.specs.Rules.{Rule, AreLawful}
 use Rattle.rbbi_model.specs.Tables.{Table, CategoryRange, category_of, row_along}
 use Rattle.rbbi_model.specs.LeafSets.{InLeafSet, HasLeafSets}
 use Rattle.rbbi_model.proofs.Lists.{all_by_index, all_at}
-use Rattle.rbbi_dfa.specs.BitRows.{Holds, row_at}
-use Rattle.rbbi_dfa.specs.PositionRows.{PositionRows}
-use Rattle.rbbi_dfa.specs.PositionAutomata.{IsOfRules}
-use Rattle.rbbi_dfa.specs.Determinizing.{HasReachedSets, IsDeterminized}
+use Rattle.rbbi_dfa.specs.inner.BitRows.{Holds, row_at}
+use Rattle.rbbi_dfa.specs.inner.PositionRows.{PositionRows}
+use Rattle.rbbi_dfa.specs.inner.PositionAutomata.{IsOfRules}
+use Rattle.rbbi_dfa.specs.inner.Determinizing.{HasReachedSets, IsDeterminized}
 use Rattle.rbbi_dfa.proofs.Lists.{picked, le_from_choices}
 use Rattle.rbbi_dfa.proofs.Reading.{ReadBy}
 use Rattle.rbbi_dfa.proofs.Words.{nothing_reads}

@@ -10,11 +10,11 @@ use Rattle.rbbi_model.specs.Tables.{Table, CategoryRange, category_of, accept_of
 use Rattle.rbbi_model.specs.ValidTables.{IsWay}
 use Rattle.rbbi_model.specs.Marks.{Marks, no_marks, look_ahead_number, marks_of}
 use Rattle.rbbi_model.proofs.Rising.{rising_same}
-use Rattle.rbbi_dfa.specs.BitRows.{row_at}
-use Rattle.rbbi_dfa.specs.Automata.{IsAutomatonRow}
-use Rattle.rbbi_dfa.specs.PositionRows.{PositionRows}
-use Rattle.rbbi_dfa.specs.PositionAutomata.{Marked, IsOfRules}
-use Rattle.rbbi_dfa.specs.Determinizing.{IsCell, HasMark, IsDeterminized}
+use Rattle.rbbi_dfa.specs.inner.BitRows.{row_at}
+use Rattle.rbbi_dfa.specs.inner.Automata.{IsAutomatonRow}
+use Rattle.rbbi_dfa.specs.inner.PositionRows.{PositionRows}
+use Rattle.rbbi_dfa.specs.inner.PositionAutomata.{Marked, IsOfRules}
+use Rattle.rbbi_dfa.specs.inner.Determinizing.{IsCell, HasMark, IsDeterminized}
 use Rattle.rbbi_dfa.proofs.WordRows.{word_IsWay}
 use Rattle.rbbi_dfa.proofs.Words.{IsSetOf, Ended, Unread, IsRowOf, Stop, Set, row_of_word, HasWord, reached_word}
 use Rattle.rbbi_model.proofs.LookAheadNumbers.{counts}

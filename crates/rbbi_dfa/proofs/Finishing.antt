@@ -6,7 +6,7 @@ use Rattle.rbbi_model.specs.Tables.{Table, CategoryRange, RowHead}
 use Rattle.rbbi_model.specs.ValidTables.{AreValidRanges, AreValidRows}
 use Rattle.rbbi_table.specs.Parts.{AreSteps, rows_of, HasFittingParts}
 use Rattle.rbbi_table.specs.Targets.{ArePairsOf}
-use Rattle.rbbi_dfa.specs.LeastTables.{AreValidParts, IsLeastOf, finished}
+use Rattle.rbbi_dfa.specs.inner.LeastTables.{AreValidParts, IsLeastOf, finished}
 use Rattle.rbbi_dfa.proofs.Compiling.{AreValidRows-finished, AreFronted-finished}
 
 -- each next row is a row

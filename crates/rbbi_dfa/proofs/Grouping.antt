@@ -7,9 +7,9 @@ use borrow.Author.Count.{below_more}
 use Rattle.rbbi_model.specs.Tables.{Table, CategoryRange, accept_of, fronts_of, list_of, step, row_along}
 use Rattle.rbbi_model.specs.ValidTables.{IsWay, IsBefore, LeadsToZero}
 use Rattle.rbbi_model.specs.Marks.{Marks, marks_of}
-use Rattle.rbbi_dfa.specs.Automata.{IsDetermined, LeadsToMarks, with_ranges}
-use Rattle.rbbi_dfa.specs.Partitions.{IsPartition, IsToldApart}
-use Rattle.rbbi_dfa.specs.Ranks.{AreRanked}
+use Rattle.rbbi_dfa.specs.inner.Automata.{IsDetermined, LeadsToMarks, with_ranges}
+use Rattle.rbbi_dfa.specs.inner.Partitions.{IsPartition, IsToldApart}
+use Rattle.rbbi_dfa.specs.inner.Ranks.{AreRanked}
 use Rattle.rbbi_model.proofs.SearchFacts.{row_along_append}
 use Rattle.rbbi_model.proofs.Lists.{all_append}
 use Rattle.rbbi_dfa.proofs.Merged.{IsBefore-irreflexive}

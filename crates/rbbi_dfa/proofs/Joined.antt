@@ -3,9 +3,9 @@ use Rattle.std.proofs.Common.{◌≡◌, ℕ, ◌+◌, ◌*◌, List, [], length
 use Rattle.std.proofs.lemmas.Bool.{cases_eq}
 use Rattle.rbbi_model.specs.Tables.{Table, RowHead, empty_head, step}
 use Rattle.rbbi_model.specs.Marks.{Marks, no_marks}
-use Rattle.rbbi_dfa.specs.BitRows.{row_at}
-use Rattle.rbbi_dfa.specs.PositionRows.{PositionRows}
-use Rattle.rbbi_dfa.specs.Determinizing.{AreReachedSets, IsCell, cell_of, AreCellsUpTo, AreMarked, IsDeterminized}
+use Rattle.rbbi_dfa.specs.inner.BitRows.{row_at}
+use Rattle.rbbi_dfa.specs.inner.PositionRows.{PositionRows}
+use Rattle.rbbi_dfa.specs.inner.Determinizing.{AreReachedSets, IsCell, cell_of, AreCellsUpTo, AreMarked, IsDeterminized}
 use Rattle.rbbi_dfa.proofs.Lead.{begin_refl}
 use Rattle.rbbi_dfa.proofs.Cells.{lead_kept}
 

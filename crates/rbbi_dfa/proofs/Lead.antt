@@ -5,11 +5,11 @@ use Rattle.std.specs.Int.{bit_at}
 use Rattle.std.proofs.lemmas.Bool.{cases_eq}
 use Rattle.std.proofs.lemmas.List.{ext_get_or, get_or_append_left, get_or_push, length_push}
 use Rattle.std.proofs.lemmas.Nat.Bits.{bit_at-lt, same_from_bits_below}
-use Rattle.rbbi_dfa.specs.BitRows.{Holds, row_at}
-use Rattle.rbbi_dfa.specs.PositionRows.{PositionRows}
-use Rattle.rbbi_dfa.specs.Determinizing.{IsStep, IsReached, FromFirst, FromSet, IsSome, AreDifferent, IsRow, AreReachedSets, IsCell, AreReachedCandidates}
-use Rattle.rbbi_dfa.specs.Determinizing.{Begin, AddsCells, HasReachedSets}
-use Rattle.rbbi_dfa.specs.LeafSetIndex.{IsAbsent, KeepsOrAdds}
+use Rattle.rbbi_dfa.specs.inner.BitRows.{Holds, row_at}
+use Rattle.rbbi_dfa.specs.inner.PositionRows.{PositionRows}
+use Rattle.rbbi_dfa.specs.inner.Determinizing.{IsStep, IsReached, FromFirst, FromSet, IsSome, AreDifferent, IsRow, AreReachedSets, IsCell, AreReachedCandidates}
+use Rattle.rbbi_dfa.specs.inner.Determinizing.{Begin, AddsCells, HasReachedSets}
+use Rattle.rbbi_dfa.specs.inner.LeafSetIndex.{IsAbsent, KeepsOrAdds}
 use Rattle.rbbi_dfa.proofs.Bits.{word_bit}
 
 -- rows of one width that differ hold different positions

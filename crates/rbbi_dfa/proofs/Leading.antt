@@ -21,11 +21,11 @@ use Rattle.rbbi_dfa.proofs.Spellings.{rule_stands, rule_sets_many}
 use Rattle.rbbi_model.proofs.RulesCover.{front_lies}
 use Rattle.rbbi_model.proofs.Local.{front_to_end, look_ahead_from, length_piece}
 use Rattle.rbbi_positions.specs.FollowPositions.{IsSpelled}
-use Rattle.rbbi_dfa.specs.BitRows.{Holds, row_at}
-use Rattle.rbbi_dfa.specs.Automata.{LeadsToMarks}
-use Rattle.rbbi_dfa.specs.PositionRows.{PositionRows}
-use Rattle.rbbi_dfa.specs.PositionAutomata.{IsOfRules}
-use Rattle.rbbi_dfa.specs.Determinizing.{ComesBy, IsDeterminized}
+use Rattle.rbbi_dfa.specs.inner.BitRows.{Holds, row_at}
+use Rattle.rbbi_dfa.specs.inner.Automata.{LeadsToMarks}
+use Rattle.rbbi_dfa.specs.inner.PositionRows.{PositionRows}
+use Rattle.rbbi_dfa.specs.inner.PositionAutomata.{IsOfRules}
+use Rattle.rbbi_dfa.specs.inner.Determinizing.{ComesBy, IsDeterminized}
 use Rattle.rbbi_dfa.proofs.Grouping.{stop_along}
 use Rattle.rbbi_dfa.proofs.Reading.{ReadBy, front_read}
 use Rattle.rbbi_dfa.proofs.WalkReading.{reads_up_to, same_rule, lawful_rule}

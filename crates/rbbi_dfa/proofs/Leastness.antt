@@ -2,9 +2,9 @@
 use Rattle.std.proofs.Common.{◌*◌, ℕ, List, length, ap, sym, ◌∙◌, arith}
 use Rattle.rbbi_model.specs.Tables.{Table}
 use Rattle.rbbi_model.specs.ValidTables.{AreValidLists}
-use Rattle.rbbi_dfa.specs.Automata.{IsDetermined}
-use Rattle.rbbi_dfa.specs.Partitions.{IsMinimized, IsMerged}
-use Rattle.rbbi_dfa.specs.LeastTables.{IsLeastOf}
+use Rattle.rbbi_dfa.specs.inner.Automata.{IsDetermined}
+use Rattle.rbbi_dfa.specs.inner.Partitions.{IsMinimized, IsMerged}
+use Rattle.rbbi_dfa.specs.inner.LeastTables.{IsLeastOf}
 use Rattle.rbbi_dfa.proofs.Merged.{merged_IsLeast, merged_AreValidRows, merged_AreFronted, marks_from_start}
 use Rattle.rbbi_dfa.proofs.Needed.{NeedsRows-at_most}
 

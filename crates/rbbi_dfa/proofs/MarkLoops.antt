@@ -14,11 +14,11 @@ use Rattle.std.proofs.lemmas.Nat.Bits.{bit_at_set_same, bit_at_set_other}
 use Rattle.rbbi_model.specs.Places.{has_bit}
 use Rattle.rbbi_model.specs.Lists.{Member, IsRising}
 use Rattle.rbbi_model.proofs.MarksUnique.{bit_is_one, one_is_bit}
-use Rattle.rbbi_dfa.specs.BitRows.{Holds, row_at}
+use Rattle.rbbi_dfa.specs.inner.BitRows.{Holds, row_at}
 use Rattle.rbbi_model.specs.Tables.{RowHead, empty_head}
-use Rattle.rbbi_dfa.specs.PositionRows.{PositionMark, PositionRows}
-use Rattle.rbbi_dfa.specs.PositionAutomata.{Marked}
-use Rattle.rbbi_dfa.specs.Determinizing.{HasMark, IsAccept, AreFrontsOf, AreTagsOf, AreMarksOf, marks_by, AreMarked}
+use Rattle.rbbi_dfa.specs.inner.PositionRows.{PositionMark, PositionRows}
+use Rattle.rbbi_dfa.specs.inner.PositionAutomata.{Marked}
+use Rattle.rbbi_dfa.specs.inner.Determinizing.{HasMark, IsAccept, AreFrontsOf, AreTagsOf, AreMarksOf, marks_by, AreMarked}
 
 -- the mark with this number
 abbrev pub mark_at : List PositionMark → ℕ → PositionMark

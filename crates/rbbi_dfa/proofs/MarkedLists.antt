@@ -10,9 +10,9 @@ use Rattle.std.proofs.lemmas.List.Elements.{Contains-get_or, Contains-append_lef
 use Rattle.rbbi_positions.specs.PositionMarks.{PositionMarks}
 use Rattle.rbbi_dfa.specs.declared.determinize.rows_of.ListKind.{ListKind}
 use Rattle.rbbi_dfa.specs.declared.determinize.rows_of.RowKind.{RowKind}
-use Rattle.rbbi_dfa.specs.PositionRows.{PositionMark}
-use Rattle.rbbi_dfa.specs.PositionAutomata.{Marked}
-use Rattle.rbbi_dfa.specs.MarkedRows.{mark_in, IsRowBy, AreRowsBy, AreMarkedIn}
+use Rattle.rbbi_dfa.specs.inner.PositionRows.{PositionMark}
+use Rattle.rbbi_dfa.specs.inner.PositionAutomata.{Marked}
+use Rattle.rbbi_dfa.specs.inner.MarkedRows.{mark_in, IsRowBy, AreRowsBy, AreMarkedIn}
 
 -- the list marks the positions below this one so
 abbrev pub AreMarkedUpTo : PositionMarks → ListKind → List PositionMark → ℕ → Type 0

@@ -8,8 +8,8 @@ use Rattle.rbbi_model.specs.Tables.{Table, head_of, accept_of, fronts_of, list_o
 use Rattle.rbbi_model.specs.ValidTables.{IsWay, IsBefore, AreInOrder, BeginsWithZeroAlone, LeadsToZero, IsValidRow, IsPlain, AreValidRows, AreFronted}
 use Rattle.rbbi_model.specs.Marks.{Marks, no_marks, marks_of}
 use Rattle.rbbi_model.specs.Compiled.{IsLeast}
-use Rattle.rbbi_dfa.specs.Automata.{IsDetermined}
-use Rattle.rbbi_dfa.specs.Partitions.{IsPartition, IsStable, IsMerged}
+use Rattle.rbbi_dfa.specs.inner.Automata.{IsDetermined}
+use Rattle.rbbi_dfa.specs.inner.Partitions.{IsPartition, IsStable, IsMerged}
 
 -- a way for so many categories is one for as many
 pub IsWay-same : (this that : Table) (way : List ℕ) → this.categories ≡ that.categories → IsWay this way → IsWay that way

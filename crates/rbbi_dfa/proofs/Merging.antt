@@ -9,10 +9,10 @@ use Rattle.rbbi_model.specs.Tables.{Table, RowHead, list_of, statuses_of, step}
 use Rattle.rbbi_model.specs.ValidTables.{IsValidList, IsBefore, AreInOrder, BeginsWithZeroAlone}
 use Rattle.rbbi_model.specs.Marks.{Marks, marks_of}
 use Rattle.rbbi_model.proofs.Lists.{all_by_index, all_at}
-use Rattle.rbbi_dfa.specs.Automata.{IsDetermined}
-use Rattle.rbbi_dfa.specs.Partitions.{IsPartition, IsMerged}
-use Rattle.rbbi_dfa.specs.Ranks.{AreRising, AreRanked}
-use Rattle.rbbi_dfa.specs.Numbers.{ArePlacesOf, AreUsed, AreNumbered, HaveCells, HaveHeads}
+use Rattle.rbbi_dfa.specs.inner.Automata.{IsDetermined}
+use Rattle.rbbi_dfa.specs.inner.Partitions.{IsPartition, IsMerged}
+use Rattle.rbbi_dfa.specs.inner.Ranks.{AreRising, AreRanked}
+use Rattle.rbbi_dfa.specs.inner.Numbers.{ArePlacesOf, AreUsed, AreNumbered, HaveCells, HaveHeads}
 use Rattle.rbbi_dfa.proofs.Grouping.{marks_by_parts}
 use Rattle.rbbi_dfa.proofs.Lists.{le_from_choices}
 

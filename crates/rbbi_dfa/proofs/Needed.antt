@@ -7,8 +7,8 @@ use Rattle.rbbi_model.specs.Tables.{Table, step, row_along}
 use Rattle.rbbi_model.specs.ValidTables.{IsWay}
 use Rattle.rbbi_model.specs.Marks.{marks_of}
 use Rattle.rbbi_model.proofs.Lists.{all_by_index, all_at}
-use Rattle.rbbi_dfa.specs.Automata.{IsDetermined}
-use Rattle.rbbi_dfa.specs.Partitions.{IsPartition, IsToldApart, IsStable, NeedsRows}
+use Rattle.rbbi_dfa.specs.inner.Automata.{IsDetermined}
+use Rattle.rbbi_dfa.specs.inner.Partitions.{IsPartition, IsToldApart, IsStable, NeedsRows}
 use Rattle.rbbi_dfa.proofs.Lists.{le_from_choices}
 
 module _ (automaton : Table) (classes firsts : List ℕ) (determined : IsDetermined automaton) (partition : IsPartition automaton classes firsts) where

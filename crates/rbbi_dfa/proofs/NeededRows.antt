@@ -10,7 +10,7 @@ use Rattle.rbbi_model.specs.ValidTables.{IsWay, IsPlain}
 use Rattle.rbbi_model.specs.Marks.{Marks, no_marks, AreMarks, marks_of, HasSameMarks}
 use Rattle.rbbi_model.specs.Compiled.{IsLeast, IsRead, AreClasses, LeadsSomewhere, Needs}
 use Rattle.rbbi_model.proofs.Lists.{all_at}
-use Rattle.rbbi_dfa.specs.Automata.{LeadsToMarks}
+use Rattle.rbbi_dfa.specs.inner.Automata.{LeadsToMarks}
 use Rattle.rbbi_dfa.specs.NeededRows.{HasRows, RowsAreNeeded, ValidTablesHaveRows}
 use Rattle.rbbi_dfa.proofs.LawfulLeaves.{each_set}
 use Rattle.rbbi_dfa.proofs.Grouping.{marks_by_parts, stop_along, alive}

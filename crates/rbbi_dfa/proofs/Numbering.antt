@@ -6,8 +6,8 @@ use Rattle.std.proofs.lemmas.List.{get_or_append_left, get_or_push, length_push}
 use borrow.Author.Count.{below_more}
 use Rattle.rbbi_model.specs.Tables.{Table, list_of}
 use Rattle.rbbi_model.specs.ValidTables.{IsBefore}
-use Rattle.rbbi_dfa.specs.Ranks.{AreRising}
-use Rattle.rbbi_dfa.specs.Numbers.{AreNumbered}
+use Rattle.rbbi_dfa.specs.inner.Ranks.{AreRising}
+use Rattle.rbbi_dfa.specs.inner.Numbers.{AreNumbered}
 
 -- the places of so many classes
 pub record ArePlacesUpTo (automaton : Table) (places firsts class_places : List ℕ) (count : ℕ) : Type 0 where

@@ -2,7 +2,7 @@
 use Rattle.std.proofs.Common.{◌≡◌, ℕ, ◌+◌, ◌<◌, List, [], ◌∷◌, ◌++◌, length, ap, sym, ◌∙◌, subst, arith, slice_index, slice_index_or}
 use Rattle.std.proofs.lemmas.List.{get_or_append_left, get_or_push, length_push}
 use borrow.Author.Count.{below_more}
-use Rattle.rbbi_dfa.specs.Ranks.{AreRanks}
+use Rattle.rbbi_dfa.specs.inner.Ranks.{AreRanks}
 
 -- the place holds the list
 abbrev pub IsPlace : List (List ℕ) → List ℕ → ℕ → Type 0

@@ -9,7 +9,7 @@ use Rattle.rbbi_model.specs.Rules.{Rule, IsLawfulRule, IsWordOf, IsFrontWordOf}
 use Rattle.rbbi_model.specs.Chains.{IsRule, EndsAt, Word, Chained, FrontEndsAt}
 use Rattle.rbbi_model.specs.LeafSets.{Reads, ReadsLast, BeginsToRead, IsChainedToRead}
 use Rattle.rbbi_model.proofs.RulesCover.{ends_lie}
-use Rattle.rbbi_dfa.specs.PositionAutomata.{FirstOf, LastOf, FollowsIn, FrontLastOf, Chainable}
+use Rattle.rbbi_dfa.specs.inner.PositionAutomata.{FirstOf, LastOf, FollowsIn, FrontLastOf, Chainable}
 use Rattle.rbbi_dfa.proofs.WalkReading.{starts, extends, firsts, shrinks, reads_code, words, wholes, front_words, front_wholes}
 use Rattle.rbbi_model.proofs.Local.{ends_to, ends_from}
 

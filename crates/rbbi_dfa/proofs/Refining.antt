@@ -3,7 +3,7 @@ use Rattle.std.proofs.Common.{◌≡◌, ◌≢◌, ℕ, ◌≤◌, ◌<◌, Boo
 use Rattle.std.proofs.lemmas.List.{get_or-map, length-map, take_all}
 use Rattle.std.proofs.lemmas.Bool.Decides.{Decides-eqb}
 use Rattle.rbbi_model.specs.Tables.{Table, step}
-use Rattle.rbbi_dfa.specs.Partitions.{IsPartition, AreSides, leads_inside}
+use Rattle.rbbi_dfa.specs.inner.Partitions.{IsPartition, AreSides, leads_inside}
 
 -- a partition of not too many classes
 pub record IsRefined (automaton : Table) (classes firsts : List ℕ) : Type 0 where

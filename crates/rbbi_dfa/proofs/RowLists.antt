@@ -1,8 +1,8 @@
 -- Vectors of rows, seen as lists of rows.
 use Rattle.std.proofs.Common.{◌≡◌, ℕ, ◌<◌, List, [], length, get_or, sym, ap, ◌∙◌, Vec, Global}
 use Rattle.std.proofs.lemmas.List.{get_or-map, length-map, get_or_default}
-use Rattle.rbbi_dfa.specs.BitRows.{row_at}
-use Rattle.rbbi_dfa.specs.Determinizing.{items_of}
+use Rattle.rbbi_dfa.specs.inner.BitRows.{row_at}
+use Rattle.rbbi_dfa.specs.inner.Determinizing.{items_of}
 
 pub items_at : (rows : List (Vec ℕ Global)) (i : ℕ) (row : Vec ℕ Global) → i < length rows → row ≡ get_or rows i row → row_at (items_of rows) i ≡ row.items
 items_at rows i row short is = get_or-map (λ r. r.items) rows i row [] short ∙ ap (λ (r : Vec ℕ Global). r.items) (sym is)

@@ -23,10 +23,10 @@ use Rattle.rbbi_positions.proofs.WalkLaws.{of_the_rule}
 use Rattle.rbbi_positions.proofs.RuleSpans.{first_of_later, one_rule, front_middle}
 use Rattle.rbbi_dfa.specs.declared.determinize.rows_of.RowKind.TheVariants.{First, Chained, Last, Follow, Read}
 use Rattle.rbbi_dfa.specs.declared.determinize.rows_of.ListKind.TheVariants.{Completed, Fronts, Tags}
-use Rattle.rbbi_dfa.specs.BitRows.{Holds, row_at}
-use Rattle.rbbi_dfa.specs.PositionRows.{PositionMark, PositionRows}
-use Rattle.rbbi_dfa.specs.PositionAutomata.{Marked, FirstOf, LastOf, FollowsIn, FrontLastOf, Chainable, LookAhead, Tagged, IsOfRules}
-use Rattle.rbbi_dfa.specs.MarkedRows.{no_rule, rule_mark, IsRowBy, AreRowsBy, AreMarkedIn, AreRowsOf, HasOwner, AreSmallMarks}
+use Rattle.rbbi_dfa.specs.inner.BitRows.{Holds, row_at}
+use Rattle.rbbi_dfa.specs.inner.PositionRows.{PositionMark, PositionRows}
+use Rattle.rbbi_dfa.specs.inner.PositionAutomata.{Marked, FirstOf, LastOf, FollowsIn, FrontLastOf, Chainable, LookAhead, Tagged, IsOfRules}
+use Rattle.rbbi_dfa.specs.inner.MarkedRows.{no_rule, rule_mark, IsRowBy, AreRowsBy, AreMarkedIn, AreRowsOf, HasOwner, AreSmallMarks}
 use Rattle.rbbi_dfa.proofs.Steps.{empty_holds}
 use Rattle.rbbi_dfa.proofs.Spellings.{all_many}
 use Rattle.rbbi_dfa.proofs.WalkReading.{same_rule}

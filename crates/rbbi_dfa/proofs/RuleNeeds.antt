@@ -10,9 +10,9 @@ use Rattle.rbbi_model.specs.ValidTables.{IsWay}
 use Rattle.rbbi_model.specs.Marks.{Marks, AreMarks, marks_of, HasSameMarks}
 use Rattle.rbbi_model.specs.Compiled.{LeadsSomewhere, Needs}
 use Rattle.rbbi_model.proofs.Lists.{all_by_index, all_at}
-use Rattle.rbbi_dfa.specs.Automata.{IsDetermined, with_ranges}
-use Rattle.rbbi_dfa.specs.Partitions.{IsToldApart, NeedsRows}
-use Rattle.rbbi_dfa.specs.Categories.{AreUsed, AreWithin}
+use Rattle.rbbi_dfa.specs.inner.Automata.{IsDetermined, with_ranges}
+use Rattle.rbbi_dfa.specs.inner.Partitions.{IsToldApart, NeedsRows}
+use Rattle.rbbi_dfa.specs.inner.Categories.{AreUsed, AreWithin}
 use Rattle.rbbi_dfa.proofs.Grouping.{row_along-ranges, stop_along, alive}
 use Rattle.rbbi_dfa.proofs.WordRows.{row_of, WordOf, HasRowsOfWords, row_of-within, Needs-from_words, not_stop, rows_apart}
 

@@ -14,7 +14,7 @@ use Rattle.std.proofs.lemmas.List.Sorted.{Contains-permutation, searchable_from_
 use Rattle.std.proofs.lemmas.List.Kept.{IsStrictlySortedBy-dedup, Any-dedup}
 use Rattle.std.proofs.lemmas.Slice.Eq.{bytes_eq-Decides}
 use Rattle.rbbi_model.specs.ValidTables.{IsBefore}
-use Rattle.rbbi_dfa.specs.Ranks.{AreRising, AreSorted}
+use Rattle.rbbi_dfa.specs.inner.Ranks.{AreRising, AreSorted}
 use Rattle.rbbi_dfa.proofs.Merged.{IsBefore-irreflexive, IsBefore-trans}
 
 less_cons : (x y : ℕ) (rest : Ordering) → ordering_then (nat_cmp x y) rest ≡ Less → (x < y) ⊎ ((x ≡ y) × (rest ≡ Less))

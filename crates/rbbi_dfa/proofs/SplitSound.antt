@@ -5,8 +5,8 @@ use Rattle.std.proofs.lemmas.List.{get_or_append_left, get_or_push, length_push}
 use Rattle.std.proofs.lemmas.Bool.{cases_eq}
 use Rattle.rbbi_model.specs.Tables.{Table, step}
 use Rattle.rbbi_model.specs.Marks.{marks_of}
-use Rattle.rbbi_dfa.specs.Automata.{IsDetermined}
-use Rattle.rbbi_dfa.specs.Partitions.{IsPartition, IsToldApart, AreSides, Leaves, leads_inside}
+use Rattle.rbbi_dfa.specs.inner.Automata.{IsDetermined}
+use Rattle.rbbi_dfa.specs.inner.Partitions.{IsPartition, IsToldApart, AreSides, Leaves, leads_inside}
 use Rattle.rbbi_dfa.proofs.Splits.{IsMoved, IsSplitUpTo, IsSplitUpTo-same}
 
 -- rows that lead by one category to rows that are told apart are told apart

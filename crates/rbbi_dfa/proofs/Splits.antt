@@ -5,7 +5,7 @@ use Rattle.std.proofs.lemmas.List.{get_or_append_left, get_or_push, length_push}
 use Rattle.std.proofs.lemmas.Bool.{false≢true}
 use borrow.Author.Count.{below_more}
 use Rattle.rbbi_model.specs.Tables.{Table}
-use Rattle.rbbi_dfa.specs.Partitions.{Leaves}
+use Rattle.rbbi_dfa.specs.inner.Partitions.{Leaves}
 
 -- the row has moved to the new class where it leaves, and is in its class where it doesn't
 abbrev pub IsMoved : Table → List ℕ → List Bool → ℕ → ℕ → Bool → ℕ → ℕ → ℕ → Type 0

@@ -4,10 +4,10 @@ use Rattle.std.proofs.lemmas.Bool.{cases_lt}
 use Rattle.std.proofs.lemmas.List.{get_or_past, get_or_default}
 use Rattle.std.proofs.lemmas.Nat.Bits.{bit_at-zero}
 use Rattle.std.specs.Int.{bit_at}
-use Rattle.rbbi_dfa.specs.BitRows.{Holds, row_at}
-use Rattle.rbbi_dfa.specs.PositionRows.{PositionMark, PositionRows}
-use Rattle.rbbi_dfa.specs.PositionAutomata.{Marked}
-use Rattle.rbbi_dfa.specs.Determinizing.{IsStep, AreFollowers, AreFollowersUpTo}
+use Rattle.rbbi_dfa.specs.inner.BitRows.{Holds, row_at}
+use Rattle.rbbi_dfa.specs.inner.PositionRows.{PositionMark, PositionRows}
+use Rattle.rbbi_dfa.specs.inner.PositionAutomata.{Marked}
+use Rattle.rbbi_dfa.specs.inner.Determinizing.{IsStep, AreFollowers, AreFollowersUpTo}
 
 pub empty_holds : (row : List ℕ) (p : ℕ) → row ≡ [] → ¬ Holds row p
 empty_holds row p none = λ holds.

@@ -10,11 +10,11 @@ use Rattle.rbbi_model.specs.ValidTables.{IsValidList}
 use Rattle.rbbi_model.specs.Marks.{Marks}
 use Rattle.rbbi_model.proofs.Rising.{rising_tail, less_than_later}
 use Rattle.rbbi_model.proofs.Lists.{all_by_index, all_at, all_through}
-use Rattle.rbbi_dfa.specs.BitRows.{row_at}
-use Rattle.rbbi_dfa.specs.Automata.{IsDetermined}
-use Rattle.rbbi_dfa.specs.PositionRows.{PositionRows}
-use Rattle.rbbi_dfa.specs.PositionAutomata.{Marked, Tagged, IsOfRules}
-use Rattle.rbbi_dfa.specs.Determinizing.{HasMark, AreTagsOf, IsDeterminized}
+use Rattle.rbbi_dfa.specs.inner.BitRows.{row_at}
+use Rattle.rbbi_dfa.specs.inner.Automata.{IsDetermined}
+use Rattle.rbbi_dfa.specs.inner.PositionRows.{PositionRows}
+use Rattle.rbbi_dfa.specs.inner.PositionAutomata.{Marked, Tagged, IsOfRules}
+use Rattle.rbbi_dfa.specs.inner.Determinizing.{HasMark, AreTagsOf, IsDeterminized}
 use Rattle.rbbi_dfa.proofs.WalkReading.{same_rule, lawful_rule}
 use Rattle.rbbi_dfa.proofs.MarkLoops.{member_at}
 use Rattle.rbbi_dfa.proofs.Lists.{le_from_choices}

@@ -15,7 +15,7 @@ use Rattle.rbbi_positions.specs.FollowPositions.{IsSpelled, IsFrontSpelled}
 use Rattle.rbbi_positions.proofs.Nodes.{some_spelled}
 use Rattle.rbbi_positions.proofs.WalkLaws.{exchange, exchange_front}
 use Rattle.rbbi_dfa.proofs.Spellings.{StandsAt, zip_append, zip_parts, sets_many, stands_left, stands_right, rule_stands, spelled_to, spelled_from}
-use Rattle.rbbi_dfa.specs.PositionAutomata.{FirstOf, LastOf, FrontLastOf, FollowsIn}
+use Rattle.rbbi_dfa.specs.inner.PositionAutomata.{FirstOf, LastOf, FrontLastOf, FollowsIn}
 
 -- lists by their last member
 

@@ -4,10 +4,10 @@ use Rattle.std.proofs.Common.{arith}
 use Rattle.std.proofs.lemmas.Bool.{cases_lt, cases_eq}
 use Rattle.std.proofs.lemmas.List.{get_or_past, get_or-set_same, get_or-set_other, length-set}
 use Rattle.std.specs.Int.{bit_at}
-use Rattle.rbbi_dfa.specs.BitRows.{Holds, row_at}
-use Rattle.rbbi_dfa.specs.PositionRows.{PositionRows}
-use Rattle.rbbi_dfa.specs.Determinizing.{AreFollowersUpTo}
-use Rattle.rbbi_dfa.specs.LastWords.{FollowsWord, AddsFollowers, AreKept}
+use Rattle.rbbi_dfa.specs.inner.BitRows.{Holds, row_at}
+use Rattle.rbbi_dfa.specs.inner.PositionRows.{PositionRows}
+use Rattle.rbbi_dfa.specs.inner.Determinizing.{AreFollowersUpTo}
+use Rattle.rbbi_dfa.specs.inner.LastWords.{FollowsWord, AddsFollowers, AreKept}
 use Rattle.rbbi_dfa.proofs.Bits.{word_bit}
 use Rattle.rbbi_dfa.proofs.Steps.{empty_holds}
 

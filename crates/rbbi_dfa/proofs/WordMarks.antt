@@ -7,11 +7,11 @@ use Rattle.rbbi_model.specs.Chains.{EndsAt, IsTagAt}
 use Rattle.rbbi_model.specs.Tables.{Table, CategoryRange, category_of, row_along}
 use Rattle.rbbi_model.specs.Marks.{Marks, no_marks, look_ahead_number, HasFront, IsCompleted, IsEnded, IsUnended, AreMarksAtEnd, AreMarks, marks_of}
 use Rattle.rbbi_model.specs.Marks.{HasSameMarks}
-use Rattle.rbbi_dfa.specs.BitRows.{row_at}
-use Rattle.rbbi_dfa.specs.Automata.{with_ranges}
-use Rattle.rbbi_dfa.specs.PositionRows.{PositionRows}
-use Rattle.rbbi_dfa.specs.PositionAutomata.{Marked, IsOfRules}
-use Rattle.rbbi_dfa.specs.Determinizing.{HasMark, AreMarksOf, IsDeterminized}
+use Rattle.rbbi_dfa.specs.inner.BitRows.{row_at}
+use Rattle.rbbi_dfa.specs.inner.Automata.{with_ranges}
+use Rattle.rbbi_dfa.specs.inner.PositionRows.{PositionRows}
+use Rattle.rbbi_dfa.specs.inner.PositionAutomata.{Marked, IsOfRules}
+use Rattle.rbbi_dfa.specs.inner.Determinizing.{HasMark, AreMarksOf, IsDeterminized}
 use Rattle.rbbi_model.proofs.LookAheadNumbers.{counts}
 use Rattle.rbbi_positions.proofs.BitRows.{no_bit}
 use Rattle.rbbi_dfa.proofs.Grouping.{row_along-ranges}

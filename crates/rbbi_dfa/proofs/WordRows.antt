@@ -7,8 +7,8 @@ use Rattle.rbbi_model.specs.Tables.{Table, CategoryRange, category_of, step, row
 use Rattle.rbbi_model.specs.ValidTables.{IsWay, LeadsToZero}
 use Rattle.rbbi_model.specs.Marks.{Marks, no_marks, AreMarks, AreMarksOrNone, marks_of}
 use Rattle.rbbi_model.specs.Compiled.{AreToldApart, LeadsSomewhere, Needs}
-use Rattle.rbbi_dfa.specs.Partitions.{IsToldApart}
-use Rattle.rbbi_dfa.specs.Categories.{AreWithin}
+use Rattle.rbbi_dfa.specs.inner.Partitions.{IsToldApart}
+use Rattle.rbbi_dfa.specs.inner.Categories.{AreWithin}
 use Rattle.rbbi_model.proofs.SearchFacts.{row_along_append}
 use Rattle.rbbi_model.proofs.Lists.{all_append, all_by_index}
 use Rattle.rbbi_dfa.proofs.Grouping.{stop_along}

@@ -10,11 +10,11 @@ use Rattle.rbbi_model.specs.Boundaries.{LookAheadEndsAt}
 use Rattle.rbbi_model.specs.Tables.{Table, CategoryRange, category_of, step, row_along}
 use Rattle.rbbi_model.specs.Marks.{look_ahead_number}
 use Rattle.rbbi_model.specs.LeafSets.{EndedBefore}
-use Rattle.rbbi_dfa.specs.BitRows.{Holds, row_at}
-use Rattle.rbbi_dfa.specs.PositionRows.{PositionRows}
-use Rattle.rbbi_dfa.specs.PositionAutomata.{IsOfRules}
-use Rattle.rbbi_dfa.specs.PositionAutomata.{Marked, LookAhead}
-use Rattle.rbbi_dfa.specs.Determinizing.{HasMark, ComesBy, IsStep, AreFollowers, Completes, IsReached, FromFirst, FromSet, IsSome, IsCell, IsDeterminized}
+use Rattle.rbbi_dfa.specs.inner.BitRows.{Holds, row_at}
+use Rattle.rbbi_dfa.specs.inner.PositionRows.{PositionRows}
+use Rattle.rbbi_dfa.specs.inner.PositionAutomata.{IsOfRules}
+use Rattle.rbbi_dfa.specs.inner.PositionAutomata.{Marked, LookAhead}
+use Rattle.rbbi_dfa.specs.inner.Determinizing.{HasMark, ComesBy, IsStep, AreFollowers, Completes, IsReached, FromFirst, FromSet, IsSome, IsCell, IsDeterminized}
 use Rattle.rbbi_dfa.proofs.Reading.{ReadBy, Comes, reads_next, next_reads, read_ends, ends_read, ends_longer, ends_shorter, some_push}
 use Rattle.rbbi_model.proofs.RulesCover.{ends_lie}
 use Rattle.rbbi_model.proofs.Lists.{all_append}

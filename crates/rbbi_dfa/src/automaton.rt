@@ -1,7 +1,7 @@
 //! A determinised automaton: what lies between the positions of the rules and the least table.
 ghost use Rattle.std.specs.Prelude.{◌≡◌, ◌<◌, length};
 ghost use Rattle.rbbi_model.specs.Tables.{head_of, step};
-ghost use Rattle.rbbi_dfa.specs.Automata.{IsDetermined};
+ghost use Rattle.rbbi_dfa.specs.inner.Automata.{IsDetermined};
 
 pub(crate) use rbbi_table::RowHead as Head;
 use std::marker::Model;

@@ -1,15 +1,15 @@
 //! From positions to a determinised automaton: each row is the set of the positions by which the
 //! last character of a word can be read (subset construction; Rabin and Scott 1959).
 ghost use Rattle.std.specs.Prelude.{◌≡◌, ◌≤◌, ℕ, List, [], length, IfOk, OnOk};
-ghost use Rattle.rbbi_dfa.specs.Determinizing.{AreReachedSets, AreReachedCandidates, Begin};
-ghost use Rattle.rbbi_dfa.specs.Determinizing.{AddsCells, AddsZeros, AreCellsUpTo, AreMarked};
-ghost use Rattle.rbbi_dfa.specs.Determinizing.{HasReachedSets, IsDeterminized, items_of};
+ghost use Rattle.rbbi_dfa.specs.inner.Determinizing.{AreReachedSets, AreReachedCandidates, Begin};
+ghost use Rattle.rbbi_dfa.specs.inner.Determinizing.{AddsCells, AddsZeros, AreCellsUpTo, AreMarked};
+ghost use Rattle.rbbi_dfa.specs.inner.Determinizing.{HasReachedSets, IsDeterminized, items_of};
 ghost use Rattle.rbbi_model.specs.Rules.{Rule};
 ghost use Rattle.rbbi_model.specs.Tables.{CategoryRange};
 ghost use Rattle.rbbi_model.specs.Marks.{HasSameMarks};
 ghost use Rattle.rbbi_model.specs.LeafSets.{HasLeafSets};
-ghost use Rattle.rbbi_dfa.specs.Automata.{IsDetermined, with_ranges};
-ghost use Rattle.rbbi_dfa.specs.MarkedRows.{AreReadable, AreOf};
+ghost use Rattle.rbbi_dfa.specs.inner.Automata.{IsDetermined, with_ranges};
+ghost use Rattle.rbbi_dfa.specs.inner.MarkedRows.{AreReadable, AreOf};
 
 mod bits;
 mod error;

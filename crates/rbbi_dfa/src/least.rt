@@ -1,6 +1,6 @@
 //! The least table with the marks of an automaton.
-ghost use Rattle.rbbi_dfa.specs.Automata.{IsDetermined};
-ghost use Rattle.rbbi_dfa.specs.LeastTables.{GivesLeast};
+ghost use Rattle.rbbi_dfa.specs.inner.Automata.{IsDetermined};
+ghost use Rattle.rbbi_dfa.specs.inner.LeastTables.{GivesLeast};
 
 use crate::automaton::Automaton;
 use crate::error::BuildErr;

@@ -2,9 +2,9 @@
 ghost use Rattle.std.specs.Prelude.{◌≡◌, ◌≢◌, ℕ, ◌+◌, ◌<◌, List, length, slice_index, IfOk, OnOk};
 ghost use Rattle.std.specs.Prelude.{MatchOption};
 ghost use Rattle.rbbi_model.specs.Tables.{step};
-ghost use Rattle.rbbi_dfa.specs.Automata.{IsDetermined};
-ghost use Rattle.rbbi_dfa.specs.Partitions.{IsPartition, IsMinimized, NeedsRows};
-ghost use Rattle.rbbi_dfa.specs.Ranks.{AreRanked};
+ghost use Rattle.rbbi_dfa.specs.inner.Automata.{IsDetermined};
+ghost use Rattle.rbbi_dfa.specs.inner.Partitions.{IsPartition, IsMinimized, NeedsRows};
+ghost use Rattle.rbbi_dfa.specs.inner.Ranks.{AreRanked};
 
 mod grouped;
 mod inverse;

@@ -8,7 +8,7 @@ use Rattle.rbbi_model.specs.TableFile.{u16, list_bytes, head_bytes, row_bytes}
 use Rattle.rbbi_model.proofs.Lists.{all_append}
 use Rattle.rbbi_file.specs.Lengths.{u16_at, lists_end, rows_size}
 use Rattle.rbbi_file.specs.Fitting.{FitsList, FitsHead}
-use Rattle.rbbi_file.specs.Reading.{Stand, AreListsAt, AreCellsAt, AreRowsAt}
+use Rattle.rbbi_file.specs.inner.Reading.{Stand, AreListsAt, AreCellsAt, AreRowsAt}
 use Rattle.rbbi_file.proofs.Ends.{lists_go_on}
 
 -- two parts, one behind the other

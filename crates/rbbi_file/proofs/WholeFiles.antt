@@ -12,7 +12,7 @@ use Rattle.rbbi_table.specs.declared.error.TableErr.TheVariants.{BadRanges, BadL
 use Rattle.rbbi_table.specs.Answers.{MakesTable}
 use Rattle.rbbi_file.specs.Lengths.{u16_at, u32_at, HasMagic, lists_end, parts_end, rows_size, pairs_size}
 use Rattle.rbbi_file.specs.Fitting.{FitsRange, Spell}
-use Rattle.rbbi_file.specs.Reading.{Stand, AreListsAt, AreRowsAt}
+use Rattle.rbbi_file.specs.inner.Reading.{Stand, AreListsAt, AreRowsAt}
 use Rattle.rbbi_file.proofs.Valid.{fits_valid, fitting_valid}
 use Rattle.rbbi_file.proofs.OneTable.{one_table}
 use Rattle.rbbi_file.proofs.Ends.{lists_go_on, ends_there}

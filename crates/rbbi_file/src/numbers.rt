@@ -2,7 +2,7 @@
 ghost use Rattle.std.specs.Prelude.{◌≡◌, ◌+◌, ◌*◌, ◌≤◌, ◌++◌, length, IfOk, OnOk, flat_map};
 ghost use Rattle.rbbi_model.specs.TableFile.{u16 as two_bytes, u32 as four_bytes};
 ghost use Rattle.rbbi_file.specs.Lengths.{u16_at as number_in_two, u32_at as number_in_four};
-ghost use Rattle.rbbi_file.specs.Reading.{Stand};
+ghost use Rattle.rbbi_file.specs.inner.Reading.{Stand};
 
 use std::alloc::{AllocError, Global};
 

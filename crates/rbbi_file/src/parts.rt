@@ -6,7 +6,7 @@ ghost use Rattle.rbbi_model.specs.TableFile.{u16 as two_bytes, u32 as four_bytes
 ghost use Rattle.rbbi_model.specs.TableFile.{list_bytes, head_bytes, row_bytes};
 ghost use Rattle.rbbi_file.specs.Lengths.{lists_end, rows_size};
 ghost use Rattle.rbbi_file.specs.Fitting.{FitsRange, FitsList, FitsHead};
-ghost use Rattle.rbbi_file.specs.Reading.{Stand, AreCellsAt, AreListsAt, AreRowsAt};
+ghost use Rattle.rbbi_file.specs.inner.Reading.{Stand, AreCellsAt, AreListsAt, AreRowsAt};
 
 use crate::numbers::{u16_at, u32_at};
 use rbbi_table::{NumberList, RangeRow, RowHead};

@@ -6,7 +6,7 @@ ghost use Rattle.rbbi_table.specs.Parts.{table_of};
 ghost use Rattle.rbbi_file.specs.Lengths.{u16_at as number_in_two, u32_at as number_in_four};
 ghost use Rattle.rbbi_file.specs.Lengths.{HasMagic, lists_end, parts_end};
 ghost use Rattle.rbbi_file.specs.Fitting.{Spell};
-ghost use Rattle.rbbi_file.specs.Reading.{Stand};
+ghost use Rattle.rbbi_file.specs.inner.Reading.{Stand};
 ghost use Rattle.rbbi_file.specs.Answers.{ReadsTable, ReadsEachSpelling};
 
 use crate::numbers::{u16_at, u32_at};

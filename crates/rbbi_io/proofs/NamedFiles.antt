@@ -3,7 +3,8 @@ use Rattle.std.proofs.Common.{◌≡◌, ◌≢◌, ℕ, zero, suc, Bool, true, 
 use Rattle.std.specs.Prelude.{bytes_eq, unwrap_or}
 use Rattle.std.proofs.lemmas.Slice.Eq.{bytes_eq-Decides}
 use Rattle.std.proofs.lemmas.List.{get_or_read}
-use Rattle.rbbi_io.specs.Memory.{file_of, with_file, held_by, IsIndexOf, IsAbsent}
+use Rattle.rbbi_io.specs.Memory.{file_of, with_file, held_by}
+use Rattle.rbbi_io.specs.inner.Memory.{IsIndexOf, IsAbsent}
 
 false_unless : (b : Bool) → ¬ (b ≡ true) → b ≡ false
 false_unless true differs = absurd (differs refl)

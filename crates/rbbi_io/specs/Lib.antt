@@ -4,3 +4,4 @@ pub mod Sinks
 pub mod Readers
 pub mod Memory
 pub mod Errors
+pub mod inner

@@ -33,16 +33,6 @@ abbrev pub with_file : List (List ℕ × List ℕ) → List ℕ → List ℕ →
 with_file [] name bytes = (name, bytes) ∷ []
 with_file (file ∷ files) name bytes = if bytes_eq file.0 name then (file.0, bytes) ∷ files else file ∷ with_file files name bytes
 
--- the number of the first file of this name
-pub record IsIndexOf (files : List (List ℕ × List ℕ)) (name : List ℕ) (place : ℕ) : Type 0 where
-  pub within : place < length files
-  pub named : (slice_index_or files place ([], [])).0 ≡ name
-  pub first : (k : ℕ) → k < place → (slice_index_or files k ([], [])).0 ≢ name
-
--- no file has this name
-abbrev pub IsAbsent : List (List ℕ × List ℕ) → List ℕ → Type 0
-IsAbsent files name = (k : ℕ) → k < length files → (slice_index_or files k ([], [])).0 ≢ name
-
 -- what each name holds; a name that isn't there holds nothing
 abbrev pub held_by : List (List ℕ × List ℕ) → List ℕ → List ℕ
 held_by files name = unwrap_or (file_of files name) []

@@ -4,7 +4,8 @@ ghost use Rattle.std.specs.Prelude.{IsErrOf, MatchOption, option_copied};
 ghost use Rattle.rbbi_io.specs.Counts.{Rose, OthersStay};
 ghost use Rattle.rbbi_io.specs.Answers.{LeavesWritten};
 ghost use Rattle.rbbi_io.specs.Memory.{reads_failed, writes_failed, held_by, file_of, with_file};
-ghost use Rattle.rbbi_io.specs.Memory.{called, IsAbsent, IsIndexOf, IsToFail, ReadsMemory};
+ghost use Rattle.rbbi_io.specs.Memory.{called, IsToFail, ReadsMemory};
+ghost use Rattle.rbbi_io.specs.inner.Memory.{IsAbsent, IsIndexOf};
 ghost use Rattle.rbbi_io.specs.Memory.{WritesMemory};
 
 use crate::{Files, ReadErr, WriteErr};

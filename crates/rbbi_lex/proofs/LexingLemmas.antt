@@ -10,8 +10,9 @@ use Rattle.rbbi_lex.specs.Faults as Faults
 use Rattle.rbbi_lex.specs.Skips.{Skipped}
 use Rattle.rbbi_lex.specs.declared.error.LexErr.{LexErr}
 use Rattle.rbbi_lex.specs.declared.error.LexErr.TheVariants.{BadChar, BadEscape, OpenQuote, OpenProperty, BadTag, BadName, Memory}
-use Rattle.rbbi_lex.specs.Errors.{error_of, Tells, TellsFault}
-use Rattle.rbbi_lex.specs.Steps.{StopsAt}
+use Rattle.rbbi_lex.specs.inner.Errors.{error_of}
+use Rattle.rbbi_lex.specs.Errors.{Tells, TellsFault}
+use Rattle.rbbi_lex.specs.inner.Steps.{StopsAt}
 use Rattle.rbbi_lex.specs.Lexing.{UsesUp, AreTokens, IsLexFault}
 use Rattle.rbbi_lex.specs.Places.{PlacesRise}
 use Rattle.rbbi_lex.specs.WellMade.{AreWellMade}

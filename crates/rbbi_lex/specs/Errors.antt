@@ -7,15 +7,6 @@ use Rattle.rbbi_lex.specs.Faults.{Fault}
 use Rattle.rbbi_lex.specs.Faults as Faults
 use Rattle.rbbi_lex.specs.Lexing.{IsLexFault}
 
--- the error for a fault at a place
-abbrev pub error_of : Fault → ℕ → LexErr
-error_of Faults.BadChar place = BadChar place
-error_of Faults.BadEscape place = BadEscape place
-error_of Faults.OpenQuote place = OpenQuote place
-error_of Faults.OpenProperty place = OpenProperty place
-error_of Faults.BadTag place = BadTag place
-error_of Faults.BadName place = BadName place
-
 -- the error tells of a fault and a place that this holds; want of memory tells nothing
 abbrev pub Tells : (Fault → ℕ → Type 0) → LexErr → Type 0
 Tells P (BadChar place) = P Faults.BadChar place

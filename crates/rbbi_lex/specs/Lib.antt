@@ -13,4 +13,4 @@ pub mod Lexing
 pub mod Errors
 pub mod Places
 pub mod WellMade
-pub mod Steps
+pub mod inner

@@ -4,7 +4,7 @@ ghost use Rattle.rbbi_lex.specs.Characters.{is_sign};
 ghost use Rattle.std.specs.List.{find};
 ghost use Rattle.rbbi_lex.specs.Cases.{first_case, fits, outer_cases, inner_cases};
 ghost use Rattle.rbbi_lex.specs.Faults.{fault_of};
-ghost use Rattle.rbbi_lex.specs.Errors.{error_of};
+ghost use Rattle.rbbi_lex.specs.inner.Errors.{error_of};
 
 use crate::character::{is_bare, is_sign};
 use crate::error::LexErr;

@@ -11,7 +11,7 @@ ghost use Rattle.rbbi_lex.specs.Escapes.{
   OneOrTwoDigits,
   EscapeGoesOn,
 };
-ghost use Rattle.rbbi_lex.specs.Steps.{IsRestBy, IsSpelling};
+ghost use Rattle.rbbi_lex.specs.inner.Steps.{IsRestBy, IsSpelling};
 
 use crate::character::{character_at, is_sign, stands_at};
 use crate::spelled::Spelled;

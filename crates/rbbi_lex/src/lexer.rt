@@ -3,7 +3,7 @@ ghost use Rattle.std.specs.Prelude.{◌≡◌, ◌≤◌, ◌<◌, vec_len, leng
 ghost use Rattle.rbbi_text.specs.Bytes.{most_bytes};
 ghost use Rattle.rbbi_lex.specs.Points.{CaseAt};
 ghost use Rattle.rbbi_lex.specs.Skips.{Skipped};
-ghost use Rattle.rbbi_lex.specs.Steps.{IsPieceEnd, IsStep};
+ghost use Rattle.rbbi_lex.specs.inner.Steps.{IsPieceEnd, IsStep};
 
 use crate::case::{Case, case_of};
 use crate::character::character_at;

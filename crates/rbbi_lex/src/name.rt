@@ -1,7 +1,7 @@
 //! Names of variables and of controls.
 ghost use Rattle.std.specs.Prelude.{◌<◌, length, IfOk};
 ghost use Rattle.rbbi_lex.specs.declared.case.Case.TheVariants.{Variable, ControlName};
-ghost use Rattle.rbbi_lex.specs.Steps.{IsSpelling};
+ghost use Rattle.rbbi_lex.specs.inner.Steps.{IsSpelling};
 
 use crate::character::{character_at, is_name_start};
 use crate::spelled::Spelled;

@@ -2,7 +2,7 @@
 ghost use Rattle.std.specs.Prelude.{◌≡◌, ◌<◌, ◌≤◌, length, IfOk};
 ghost use Rattle.rbbi_lex.specs.declared.case.Case.TheVariants.{BracedProperty, BracketedProperty};
 ghost use Rattle.rbbi_lex.specs.Properties.{value_between};
-ghost use Rattle.rbbi_lex.specs.Steps.{IsSpelling};
+ghost use Rattle.rbbi_lex.specs.inner.Steps.{IsSpelling};
 
 use crate::character::stands_at;
 use crate::spelled::Spelled;

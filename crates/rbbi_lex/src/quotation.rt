@@ -1,7 +1,7 @@
 //! Quoted sequences.
 ghost use Rattle.std.specs.Prelude.{◌<◌, length, IfOk};
 ghost use Rattle.rbbi_lex.specs.declared.case.Case.TheVariants.{Quotation};
-ghost use Rattle.rbbi_lex.specs.Steps.{IsNextQuoted, IsSpelling};
+ghost use Rattle.rbbi_lex.specs.inner.Steps.{IsNextQuoted, IsSpelling};
 
 use crate::character::{character_at, is_line_end, stands_at};
 use crate::escape::Escaped;

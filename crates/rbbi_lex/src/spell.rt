@@ -4,7 +4,7 @@ ghost use Rattle.rbbi_lex.specs.declared.case.Case.TheVariants.{Sign, SetSign, S
 ghost use Rattle.rbbi_lex.specs.declared.case.Case.TheVariants.{BareCharacter};
 ghost use Rattle.rbbi_lex.specs.Points.{CaseAt};
 ghost use Rattle.rbbi_lex.specs.Spellings.{SpellsBare};
-ghost use Rattle.rbbi_lex.specs.Steps.{IsSpelling};
+ghost use Rattle.rbbi_lex.specs.inner.Steps.{IsSpelling};
 
 use crate::case::Case;
 use crate::character::{character_at, stands_at};

@@ -1,7 +1,7 @@
 //! Status numbers in braces.
 ghost use Rattle.std.specs.Prelude.{◌<◌, length};
 ghost use Rattle.rbbi_lex.specs.declared.case.Case.TheVariants.{StatusNumber};
-ghost use Rattle.rbbi_lex.specs.Steps.{IsSpelling};
+ghost use Rattle.rbbi_lex.specs.inner.Steps.{IsSpelling};
 
 use crate::character::stands_at;
 use crate::spelled::Spelled;

@@ -8,7 +8,7 @@ use Rattle.std.proofs.lemmas.Nat.Bits.{bit_at-lt, bit_at_or, bit_at-zero}
 use Rattle.rbbi_model.specs.Places.{has_bit}
 use Rattle.rbbi_model.proofs.Bits.{has_bit_is}
 use Rattle.rbbi_cats.proofs.Counts.{zero_at}
-use Rattle.rbbi_positions.specs.Rows.{row_bit}
+use Rattle.rbbi_positions.specs.inner.Rows.{row_bit}
 
 pub no_bit : (k : ℕ) → has_bit 0 k ≡ false
 no_bit k = has_bit_is 0 k ∙ ap (λ n. eqb n 1) (bit_at-zero k)

@@ -7,8 +7,8 @@ use Rattle.std.proofs.lemmas.Bool.{cases_eq, le-leb, lt-leb}
 use Rattle.std.proofs.lemmas.List.{get_or-set_same, get_or-set_other}
 use Rattle.rbbi_model.specs.Tables.{CategoryRange, category_from, category_of}
 use Rattle.rbbi_model.specs.ValidTables.{AreApart, AreValidRanges, IsWithin}
-use Rattle.rbbi_positions.specs.RuleTests.{AreCodesOf}
-use Rattle.rbbi_positions.specs.Readers.{HasEachCategory}
+use Rattle.rbbi_positions.specs.inner.RuleTests.{AreCodesOf}
+use Rattle.rbbi_positions.specs.inner.Readers.{HasEachCategory}
 
 -- the member at a place
 pub get_slice : {X : Type 0} (xs : List X) (i : ℕ) (x : X) → i < length xs → x ≡ get_or xs i x → slice_get xs i ≡ Some x

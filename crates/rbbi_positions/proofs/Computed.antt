@@ -5,7 +5,7 @@ use Rattle.std.proofs.lemmas.Bool.Decides.{Decides-and, Decides-or, Decides-eqb}
 use Rattle.rbbi_model.specs.Spelling.{Repetition, Star, Plus, Quest, Tree, Leaf, Empty, Never, Then, Either, Repeat}
 use Rattle.rbbi_model.specs.Rules.{leaf_count, IsLawfulTree}
 use Rattle.rbbi_model.specs.LeafSets.{SpellsPositions}
-use Rattle.rbbi_positions.specs.Trees.{spells_empty, begins, ends, leads, goes}
+use Rattle.rbbi_positions.specs.inner.Trees.{spells_empty, begins, ends, leads, goes}
 use Rattle.rbbi_positions.proofs.Empties.{empties_spell, said}
 use Rattle.rbbi_positions.proofs.Nodes.{Begins, Ends, Neighbours, some_spelled, both_begins, both_ends, both_neighbours, repeat_begins, repeat_ends}
 use Rattle.rbbi_positions.proofs.Nodes.{quest_neighbours, loop_neighbours, star_loops, plus_loops, either_begins, either_ends, either_neighbours}

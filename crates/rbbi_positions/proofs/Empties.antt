@@ -11,7 +11,7 @@ use Rattle.rbbi_model.specs.Spelling.{Star, Plus, Quest}
 use Rattle.rbbi_model.specs.Rules.{leaf_count}
 use Rattle.rbbi_model.specs.LeafSets.{SpellsPositions}
 use Rattle.rbbi_positions.proofs.Nodes.{both_empty, plus_empty, star_empty, quest_empty}
-use Rattle.rbbi_positions.specs.Trees.{spells_empty}
+use Rattle.rbbi_positions.specs.inner.Trees.{spells_empty}
 
 pub empty_sequence : (part : Tree) (parts : List Tree) → spells_empty (sequence_of (part ∷ parts)) ≡ (spells_empty part && spells_empty (sequence_of parts))
 empty_sequence part [] = sym (and-true (spells_empty part))

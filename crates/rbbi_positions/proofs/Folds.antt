@@ -6,8 +6,8 @@ use Rattle.std.specs.Prelude.{map}
 use Rattle.rbbi_model.specs.Ranges.{Range}
 use Rattle.rbbi_model.specs.Spelling as spelling
 use Rattle.rbbi_model.specs.Rules.{leaf_count}
-use Rattle.rbbi_positions.specs.Trees.{begins, goes}
-use Rattle.rbbi_positions.specs.Rounds.{behind_of}
+use Rattle.rbbi_positions.specs.inner.Trees.{begins, goes}
+use Rattle.rbbi_positions.specs.inner.Rounds.{behind_of}
 use Rattle.rbbi_tree.specs.declared.syntax.Quant.{Quant}
 use Rattle.rbbi_tree.specs.declared.syntax.Quant.TheVariants.{Once, Star, Plus, Quest}
 use Rattle.rbbi_resolve.specs.declared.rules.Tree.{Tree}

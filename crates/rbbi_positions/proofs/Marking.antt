@@ -10,8 +10,8 @@ use Rattle.std.proofs.lemmas.Bool.{and_parts, or_cases, or_left, or_right, false
 use Rattle.rbbi_model.specs.Spelling.{Star, Plus, Quest, Tree, Leaf, Empty, Never, Then, Either, Repeat, Spells}
 use Rattle.rbbi_model.specs.Rules.{Rule, leaf_count, leaves_of, IsLawfulTree, IsLawfulRule}
 use Rattle.rbbi_model.specs.LeafSets.{SpellsPositions, first_position}
-use Rattle.rbbi_positions.specs.Trees.{spells_empty, begins, ends, leads, goes}
-use Rattle.rbbi_positions.specs.RuleTests.{some_rule, rule_begins, front_ends, rule_ends, rule_goes}
+use Rattle.rbbi_positions.specs.inner.Trees.{spells_empty, begins, ends, leads, goes}
+use Rattle.rbbi_positions.specs.inner.RuleTests.{some_rule, rule_begins, front_ends, rule_ends, rule_goes}
 use Rattle.rbbi_positions.specs.FollowPositions.{IsFirst, IsLast, IsFrontLast, Follows}
 use Rattle.rbbi_positions.proofs.Exchanges.{Spelled}
 use Rattle.rbbi_positions.proofs.Nodes.{Begins, Ends, Neighbours}

@@ -7,7 +7,7 @@ use Rattle.std.proofs.lemmas.List.{drop_all, map_more, get_or-set_same, get_or-s
 use Rattle.std.proofs.lemmas.Bool.{cases_eq, eq-eqb, ne_eqb}
 use Rattle.rbbi_model.specs.Spelling.{Tree, Empty, Never, Either, sequence_of, choice_of}
 use Rattle.rbbi_model.specs.Rules.{leaf_count}
-use Rattle.rbbi_positions.specs.Trees.{spells_empty, begins, ends, leads, goes}
+use Rattle.rbbi_positions.specs.inner.Trees.{spells_empty, begins, ends, leads, goes}
 use Rattle.rbbi_positions.proofs.Empties.{empty_sequence, next_part}
 
 -- a sequence, with one part more in front

@@ -15,8 +15,8 @@ use Rattle.rbbi_resolve.specs.RuleTrees.{set_at}
 use Rattle.rbbi_resolve.specs.RuleLists.{RuleList, rule_of, rules_of, numbers_of_rule, leaf_numbers}
 use Rattle.rbbi_cats.proofs.LeafSets.{all_sets_are}
 use Rattle.rbbi_positions.specs.PositionMarks.{in_row, ReadsCategory}
-use Rattle.rbbi_positions.specs.RuleTests.{AreCodesOf}
-use Rattle.rbbi_positions.specs.Readers.{AreReaders}
+use Rattle.rbbi_positions.specs.inner.RuleTests.{AreCodesOf}
+use Rattle.rbbi_positions.specs.inner.Readers.{AreReaders}
 use Rattle.rbbi_positions.proofs.Codes.{all_get}
 use Rattle.rbbi_positions.proofs.RuleFacts.{leaves_are_numbers}
 

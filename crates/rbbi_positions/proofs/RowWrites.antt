@@ -8,7 +8,7 @@ use Rattle.std.proofs.lemmas.List.{get_or-take, get_or-drop, get_or_append_left,
 use Rattle.std.proofs.lemmas.Nat.{mul-le}
 use borrow.Rule.Slice.PartMut.{put_mid, mid_of, post_of}
 use Rattle.rbbi_model.specs.Places.{has_bit}
-use Rattle.rbbi_positions.specs.Rows.{row_bit}
+use Rattle.rbbi_positions.specs.inner.Rows.{row_bit}
 use Rattle.rbbi_positions.specs.PositionMarks.{in_row}
 
 -- the items of a list that a call wrote as a whole

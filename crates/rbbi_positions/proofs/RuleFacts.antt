@@ -19,7 +19,7 @@ use Rattle.rbbi_resolve.specs.RuleLists.{RuleList, rule_of, rules_of, numbers_of
 use Rattle.std.proofs.lemmas.Option.{slice_get-map}
 use Rattle.rbbi_cats.proofs.Nexts.{take_next}
 use Rattle.rbbi_cats.proofs.LeafSets.{all_sets_are}
-use Rattle.rbbi_positions.specs.RuleTests.{some_rule, AreOwners}
+use Rattle.rbbi_positions.specs.inner.RuleTests.{some_rule, AreOwners}
 use Rattle.rbbi_positions.specs.FollowPositions.{IsOfRule}
 
 -- the leaves of a rule

@@ -1,10 +1,5 @@
 pub mod FollowPositions
 pub mod Walks
 pub mod PositionMarks
-pub mod Trees
-pub mod Readers
-pub mod RuleTests
-pub mod RuleParts
-pub mod Rounds
-pub mod Rows
 pub mod KeptMarks
+pub mod inner

@@ -2,7 +2,7 @@
 ghost use Rattle.std.specs.Prelude.{◌≡◌, ◌<◌, ◌≤◌, ◌+◌, ◌*◌, ◌==◌, ◌||◌, ◌&&◌, ℕ, IfOk, length};
 ghost use Rattle.rbbi_model.specs.Places.{has_bit};
 ghost use Rattle.rbbi_positions.specs.PositionMarks.{in_row};
-ghost use Rattle.rbbi_positions.specs.Rows.{row_bit, AreFlags};
+ghost use Rattle.rbbi_positions.specs.inner.Rows.{row_bit, AreFlags};
 
 use std::alloc::{AllocError, Global};
 

@@ -2,7 +2,7 @@
 ghost use Rattle.std.specs.Prelude.{◌≡◌, List};
 ghost use Rattle.rbbi_model.specs.Ranges.{Range};
 ghost use Rattle.rbbi_resolve.specs.RuleTrees.{tree_of};
-ghost use Rattle.rbbi_positions.specs.Trees.{spells_empty};
+ghost use Rattle.rbbi_positions.specs.inner.Trees.{spells_empty};
 
 use rbbi_resolve::Tree;
 use rbbi_tree::Quant;

@@ -3,8 +3,8 @@ ghost use Rattle.std.specs.Prelude.{◌≡◌, ◌+◌, ◌*◌, ◌≤◌, ◌|
 ghost use Rattle.rbbi_model.specs.Ranges.{Range};
 ghost use Rattle.rbbi_model.specs.Rules.{leaf_count};
 ghost use Rattle.rbbi_resolve.specs.RuleTrees.{tree_of};
-ghost use Rattle.rbbi_positions.specs.Rows.{row_bit};
-ghost use Rattle.rbbi_positions.specs.Trees.{begins, leads};
+ghost use Rattle.rbbi_positions.specs.inner.Rows.{row_bit};
+ghost use Rattle.rbbi_positions.specs.inner.Trees.{begins, leads};
 
 use crate::bits::insert;
 use crate::count::count;

@@ -4,10 +4,10 @@ ghost use Rattle.std.specs.Prelude.{◌≡◌, ◌+◌, ◌*◌, ◌<◌, ◌≤
 ghost use Rattle.rbbi_model.specs.Ranges.{Range};
 ghost use Rattle.rbbi_model.specs.Rules.{leaf_count};
 ghost use Rattle.rbbi_resolve.specs.RuleTrees.{tree_of};
-ghost use Rattle.rbbi_positions.specs.Rows.{row_bit};
+ghost use Rattle.rbbi_positions.specs.inner.Rows.{row_bit};
 ghost use Rattle.rbbi_positions.specs.PositionMarks.{in_row};
-ghost use Rattle.rbbi_positions.specs.Trees.{goes};
-ghost use Rattle.rbbi_positions.specs.Rounds.{behind_of};
+ghost use Rattle.rbbi_positions.specs.inner.Trees.{goes};
+ghost use Rattle.rbbi_positions.specs.inner.Rounds.{behind_of};
 
 use crate::bits::unite_row;
 use crate::count::count;

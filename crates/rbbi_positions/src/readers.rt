@@ -5,8 +5,8 @@ ghost use Rattle.std.specs.List.{AllByRecursion};
 ghost use Rattle.rbbi_model.specs.Ranges.{Has};
 ghost use Rattle.rbbi_resolve.specs.RuleTrees.{set_at};
 ghost use Rattle.rbbi_positions.specs.PositionMarks.{in_row};
-ghost use Rattle.rbbi_positions.specs.RuleTests.{AreCodesOf, ReadCode};
-ghost use Rattle.rbbi_positions.specs.Readers.{HasEachCategory, AreReaders};
+ghost use Rattle.rbbi_positions.specs.inner.RuleTests.{AreCodesOf, ReadCode};
+ghost use Rattle.rbbi_positions.specs.inner.Readers.{HasEachCategory, AreReaders};
 
 use crate::bits::{insert, unite_row};
 use rbbi_cats::Categories;

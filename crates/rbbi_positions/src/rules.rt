@@ -5,10 +5,10 @@ ghost use Rattle.rbbi_model.specs.Ranges.{Range};
 ghost use Rattle.rbbi_model.specs.Rules.{leaves_of, AreLawful};
 ghost use Rattle.rbbi_resolve.specs.RuleLists.{rule_of, rules_of};
 ghost use Rattle.rbbi_positions.specs.PositionMarks.{in_row};
-ghost use Rattle.rbbi_positions.specs.Rows.{row_bit};
-ghost use Rattle.rbbi_positions.specs.RuleTests.{some_rule, rule_begins, rule_goes};
-ghost use Rattle.rbbi_positions.specs.RuleTests.{AreOwners};
-ghost use Rattle.rbbi_positions.specs.RuleParts.{part_ends};
+ghost use Rattle.rbbi_positions.specs.inner.Rows.{row_bit};
+ghost use Rattle.rbbi_positions.specs.inner.RuleTests.{some_rule, rule_begins, rule_goes};
+ghost use Rattle.rbbi_positions.specs.inner.RuleTests.{AreOwners};
+ghost use Rattle.rbbi_positions.specs.inner.RuleParts.{part_ends};
 
 use crate::count::count;
 use crate::firsts::add_firsts;

@@ -11,7 +11,7 @@ use Rattle.rbbi_sets.specs.Covers.{covers, is_between}
 use Rattle.rbbi_sets.specs.Rising.{AreRising, IsRange}
 use Rattle.rbbi_sets.proofs.Coverage.{Decides-covers, covers-push}
 use Rattle.rbbi_sets.proofs.Rise.{rising-push}
-use Rattle.rbbi_props.specs.RunStarts.{start_of}
+use Rattle.rbbi_props.specs.inner.RunStarts.{start_of}
 
 -- the value of a code point of the run at a place
 value-here : (runs : List ℕ) (i start c : ℕ) → IsAt runs i start → i < length runs → start ≤ c → c < slice_index runs i / 2048 →

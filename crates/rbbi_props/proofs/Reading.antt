@@ -9,7 +9,7 @@ use Rattle.std.proofs.lemmas.List.Elements.{filter_map-append}
 use Rattle.rbbi_text.proofs.Lines.{IsLineAt}
 use Rattle.rbbi_props.specs.Rows.{Row}
 use Rattle.rbbi_props.specs.RowLines.{property_row, is_bad}
-use Rattle.rbbi_props.specs.Refusals.{IsLineCause, IsOneLineCause}
+use Rattle.rbbi_props.specs.inner.Refusals.{IsLineCause, IsOneLineCause}
 use Rattle.rbbi_props.specs.declared.error.PropErr.{PropErr}
 use Rattle.rbbi_props.specs.declared.error.PropErr.TheVariants.{NotUtf8, BadRow, Memory}
 

@@ -5,4 +5,4 @@ pub mod Files
 pub mod CommonForms
 pub mod Lookups
 pub mod Refusals
-pub mod RunStarts
+pub mod inner

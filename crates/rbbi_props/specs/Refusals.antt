@@ -14,18 +14,6 @@ HasRowsAlone bytes = position is_bad (file_lines bytes) ≡ None
 abbrev pub IsBadRow : List (List ℕ) → ℕ → Type 0
 IsBadRow lines line = (k : ℕ) × (position is_bad lines ≡ Some k) × (line ≡ k + 1)
 
--- why the lines of a file are refused
-abbrev pub IsLineCause : PropErr → List (List ℕ) → Type 0
-IsLineCause (NotUtf8 at) lines = ⊥
-IsLineCause (BadRow line) lines = IsBadRow lines line
-IsLineCause Memory lines = Unit {0}
-
--- why one line is refused, which has this number
-abbrev pub IsOneLineCause : PropErr → List ℕ → ℕ → Type 0
-IsOneLineCause (NotUtf8 at) line number = ⊥
-IsOneLineCause (BadRow bad) line number = (is_bad line ≡ true) × (bad ≡ number)
-IsOneLineCause Memory line number = Unit {0}
-
 -- why a file is refused: its bytes aren't UTF-8 from this one on; or else this is its first bad line; or memory ran out
 abbrev pub IsCause : PropErr → List ℕ → Type 0
 IsCause (NotUtf8 at) bytes = IsNotUtf8At bytes at

@@ -6,7 +6,8 @@ ghost use Rattle.std.specs.Str.Lines.{lines};
 ghost use Rattle.rbbi_text.specs.Bytes.{most_bytes};
 ghost use Rattle.rbbi_props.specs.RowLines.{property_row, is_bad};
 ghost use Rattle.rbbi_props.specs.Files.{file_of};
-ghost use Rattle.rbbi_props.specs.Refusals.{HasRowsAlone, IsCause, IsLineCause, IsOneLineCause};
+ghost use Rattle.rbbi_props.specs.Refusals.{HasRowsAlone, IsCause};
+ghost use Rattle.rbbi_props.specs.inner.Refusals.{IsLineCause, IsOneLineCause};
 
 use crate::error::PropErr;
 use crate::loose::loose;

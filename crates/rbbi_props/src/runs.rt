@@ -4,7 +4,7 @@ ghost use Rattle.std.specs.Prelude.{if◌then◌else◌, length};
 ghost use Rattle.unicode.specs.Steps.{IsPartition, is_between, run_value};
 ghost use Rattle.rbbi_sets.specs.Covers.{covers};
 ghost use Rattle.rbbi_sets.specs.Rising.{AreRising};
-ghost use Rattle.rbbi_props.specs.RunStarts.{start_of};
+ghost use Rattle.rbbi_props.specs.inner.RunStarts.{start_of};
 
 use rbbi_sets::{CodeRange, CodeSet};
 use std::alloc::{AllocError, Global};

@@ -19,15 +19,16 @@ use Rattle.rbbi_tree.specs.declared.syntax.Item.{Item}
 use Rattle.rbbi_sets.specs.Classes.{ClassBits}
 use Rattle.rbbi_sets.specs.Divisions.{ClassDivision, IsDivision, HasDivided, stand_in}
 use Rattle.rbbi_sets.proofs.FirstCodePoints.{stand-in_is_first}
-use Rattle.rbbi_resolve.specs.Covered.{Respects}
-use Rattle.rbbi_resolve.specs.SetValues.{HasMembers, HasProperty, value_of_property, value_of_set}
-use Rattle.rbbi_resolve.specs.ClassValues.{AreClassesOf}
+use Rattle.rbbi_resolve.specs.inner.Covered.{Respects}
+use Rattle.rbbi_resolve.specs.inner.SetValues.{HasMembers}
+use Rattle.rbbi_resolve.specs.SetValues.{HasProperty, value_of_property, value_of_set}
+use Rattle.rbbi_resolve.specs.inner.ClassValues.{AreClassesOf}
 use Rattle.rbbi_resolve.specs.Emptiness.{holds_character}
 use Rattle.rbbi_resolve.specs.Contexts.{Context, value_of_name}
 use Rattle.rbbi_resolve.specs.Parts.{Part, Outside, parts_of_expr, parts_of_seq, parts_of_item, parts_in_atom}
 use Rattle.rbbi_resolve.specs.Faults.{faults_of_parts, is_empty_value}
-use Rattle.rbbi_resolve.specs.Soundness.{AreSound}
-use Rattle.rbbi_resolve.specs.OwnLeaves.{IsSetOfLeaf, AddsLeaves, set_or_nothing, leaves_of_expr, leaves_of_seq, leaves_of_item}
+use Rattle.rbbi_resolve.specs.inner.Soundness.{AreSound}
+use Rattle.rbbi_resolve.specs.inner.OwnLeaves.{IsSetOfLeaf, AddsLeaves, set_or_nothing, leaves_of_expr, leaves_of_seq, leaves_of_item}
 use Rattle.rbbi_resolve.proofs.PropertySets.{members_are_code_points}
 use Rattle.rbbi_resolve.proofs.Characters.{character_of, held_character}
 use Rattle.rbbi_resolve.proofs.Counting.{exprs_left, seqs_left}

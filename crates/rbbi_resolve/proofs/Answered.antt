@@ -11,9 +11,10 @@ use Rattle.rbbi_sets.specs.Classes.{ClassBits}
 use Rattle.rbbi_props.specs.Rows.{File}
 use Rattle.rbbi_resolve.specs.declared.classes.PropertyClasses.{PropertyClasses}
 use Rattle.rbbi_resolve.specs.declared.properties.Answer.{Answer}
-use Rattle.rbbi_resolve.specs.SetValues.{IsValue, value_of_property}
-use Rattle.rbbi_resolve.specs.ClassValues.{AreSame, IsClassValue, IsKnown}
-use Rattle.rbbi_resolve.specs.Questions.{IsAnswer}
+use Rattle.rbbi_resolve.specs.inner.SetValues.{IsValue}
+use Rattle.rbbi_resolve.specs.SetValues.{value_of_property}
+use Rattle.rbbi_resolve.specs.inner.ClassValues.{AreSame, IsClassValue, IsKnown}
+use Rattle.rbbi_resolve.specs.inner.Questions.{IsAnswer}
 
 -- each does so after an insertion
 pub values_insert : {K V : Type 0} (eq : K → K → Bool) (P : V → Type 0) (entries : List (K × V)) (k : K) (v : V) →

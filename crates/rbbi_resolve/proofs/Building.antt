@@ -20,9 +20,9 @@ use Rattle.rbbi_resolve.specs.Expressions.{repeated}
 use Rattle.rbbi_resolve.specs.RuleTrees as trees
 use Rattle.rbbi_resolve.specs.RuleTrees.{tree_of, numbers_of, set_at}
 use Rattle.rbbi_resolve.specs.RuleLists.{IsLeafSet}
-use Rattle.rbbi_resolve.specs.OwnLeaves.{IsSetOfLeaf, AddsLeaves, leaves_of_expr}
-use Rattle.rbbi_resolve.specs.Files.{context_at}
-use Rattle.rbbi_resolve.specs.Builders.{StandFrom, HasLeafSets, IsPart, IsBuilt, IsBuilder, GoesOn}
+use Rattle.rbbi_resolve.specs.inner.OwnLeaves.{IsSetOfLeaf, AddsLeaves, leaves_of_expr}
+use Rattle.rbbi_resolve.specs.inner.Files.{context_at}
+use Rattle.rbbi_resolve.specs.inner.Builders.{StandFrom, HasLeafSets, IsPart, IsBuilt, IsBuilder, GoesOn}
 
 -- one of several that follow one another, and a choice of several
 abbrev pub sequence_meaning : List Meaning → Meaning

@@ -9,11 +9,12 @@ use Rattle.rbbi_model.specs.SetTrees as model
 use Rattle.rbbi_sets.specs.Classes.{ClassBits, HasMember, IsFirstOfClass}
 use Rattle.rbbi_sets.specs.Divisions.{ClassDivision, IsDivision, stand_in}
 use Rattle.rbbi_sets.proofs.FirstCodePoints.{stand-in_is_first}
-use Rattle.rbbi_resolve.specs.Covered.{Respects}
+use Rattle.rbbi_resolve.specs.inner.Covered.{Respects}
 use Rattle.std.proofs.Common.{IfSome}
 use Rattle.rbbi_props.specs.Rows.{File}
-use Rattle.rbbi_resolve.specs.SetValues.{Passes, found, HasProperty, HasMembers, IsValue}
-use Rattle.rbbi_resolve.specs.ClassValues.{IsClassValue}
+use Rattle.rbbi_resolve.specs.SetValues.{Passes, found, HasProperty}
+use Rattle.rbbi_resolve.specs.inner.SetValues.{HasMembers, IsValue}
+use Rattle.rbbi_resolve.specs.inner.ClassValues.{IsClassValue}
 use Rattle.rbbi_resolve.specs.Emptiness.{passes, in_property, in_join, in_set, is_no_surrogate, any_below, holds_character}
 use Rattle.rbbi_resolve.specs.Faults.{is_empty_value}
 use Rattle.rbbi_resolve.proofs.PropertySets.{members_are_code_points}

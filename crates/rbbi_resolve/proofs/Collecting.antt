@@ -22,7 +22,7 @@ use Rattle.rbbi_tree.specs.declared.syntax.Atom.TheViews.{out-Expr, out-Seq}
 use Rattle.rbbi_resolve.specs.declared.collection.Collection.{Collection}
 use Rattle.rbbi_resolve.specs.Parts.{Part, parts_of_expr, parts_of_seq, parts_of_item}
 use Rattle.rbbi_resolve.specs.declared.properties.Answer.{Answer}
-use Rattle.rbbi_resolve.specs.Covered.{IsCovered, AreCovered, AreRespected, IsBasedAnswer, IsCollection, Collects, parts_of_statement}
+use Rattle.rbbi_resolve.specs.inner.Covered.{IsCovered, AreCovered, AreRespected, IsBasedAnswer, IsCollection, Collects, parts_of_statement}
 use Rattle.rbbi_resolve.proofs.Counting.{expr_by_items, seq_by_items, exprs_left, seqs_left}
 use Rattle.rbbi_resolve.proofs.Covering.{covered_append, fewer_respected}
 use Rattle.rbbi_resolve.proofs.Steps.{tree_at}

@@ -9,8 +9,8 @@ use Rattle.rbbi_resolve.specs.declared.counts.Count.{Count}
 use Rattle.rbbi_resolve.specs.declared.counts.Counts as declared
 use Rattle.rbbi_resolve.specs.Files.{RuleMeaning}
 use Rattle.rbbi_resolve.specs.Counts.{leaves_meant, counted, fault_at, no_rules_at, too_many_rules_at, too_many_leaves_at, too_many_slashes_at, too_tall_at}
-use Rattle.rbbi_resolve.specs.Countings.{passing, IsCount, AreCounting, one, slash_of, tall_of}
-use Rattle.rbbi_resolve.specs.Summaries.{IsCapped}
+use Rattle.rbbi_resolve.specs.inner.Countings.{passing, IsCount, AreCounting, one, slash_of, tall_of}
+use Rattle.rbbi_resolve.specs.inner.Summaries.{IsCapped}
 
 nothing_behind : (x : Option ℕ) → option_or x None ≡ x
 nothing_behind None = refl

@@ -21,8 +21,8 @@ use Rattle.rbbi_resolve.specs.Contexts.{Context}
 use Rattle.rbbi_resolve.specs.Expressions.{meaning_of_expr, meaning_of_seq, meaning_of_item, height_of_expr, highest_of_expr, height_of_seq, highest_of_seq}
 use Rattle.rbbi_resolve.specs.Expressions.{height_of_item, repeated}
 use Rattle.rbbi_resolve.specs.Parts.{Part, parts_of_expr, parts_of_seq, parts_of_item}
-use Rattle.rbbi_resolve.specs.Faults.{noted_parts}
-use Rattle.rbbi_resolve.specs.Summaries.{Sums, Summarizes, empty_of_quant}
+use Rattle.rbbi_resolve.specs.inner.Faults.{noted_parts}
+use Rattle.rbbi_resolve.specs.inner.Summaries.{Sums, Summarizes, empty_of_quant}
 use Rattle.rbbi_resolve.proofs.Noting.{noted_parts_of_append}
 
 -- the tree of an expression or a sequence by its items

@@ -20,11 +20,12 @@ use Rattle.rbbi_tree.specs.declared.syntax.Item.{Item}
 use Rattle.rbbi_tree.specs.declared.syntax.SetExpr.{SetExpr}
 use Rattle.rbbi_tree.specs.declared.syntax.Atom as atoms
 use Rattle.rbbi_tree.specs.declared.syntax.Atom.TheViews.{out-Expr, out-Seq, out-Item}
-use Rattle.rbbi_resolve.specs.SetValues.{HasProperty, IsValue, joined_to, signed}
+use Rattle.rbbi_resolve.specs.SetValues.{HasProperty, joined_to, signed}
+use Rattle.rbbi_resolve.specs.inner.SetValues.{IsValue}
 use Rattle.rbbi_resolve.specs.Parts.{Part, Outside, Within, parts_of_expr, parts_of_seq, parts_of_item, parts_in_atom, parts_of_set, parts_of_parts}
 use Rattle.rbbi_resolve.specs.Parts.{parts_of_part, parts_in_item}
-use Rattle.rbbi_resolve.specs.Covered.{Respects, SetRespects, IsCovered, AreCovered, AreRespected}
-use Rattle.rbbi_resolve.specs.LiteralRuns.{FollowsRun}
+use Rattle.rbbi_resolve.specs.inner.Covered.{Respects, SetRespects, IsCovered, AreCovered, AreRespected}
+use Rattle.rbbi_resolve.specs.inner.LiteralRuns.{FollowsRun}
 use Rattle.rbbi_resolve.proofs.Counting.{expr_by_items, seq_by_items, exprs_left, seqs_left}
 use Rattle.rbbi_resolve.proofs.ItemTrees.{atom_of_group, atom_of_set}
 

@@ -13,15 +13,16 @@ use Rattle.rbbi_resolve.specs.declared.counts.Counts as declared
 use Rattle.rbbi_resolve.specs.Contexts.{Context, assigned_to, variable_of}
 use Rattle.rbbi_resolve.specs.Expressions.{variable_for}
 use Rattle.rbbi_resolve.specs.Faults.{noted}
-use Rattle.rbbi_resolve.specs.Files.{RuleMeaning, start, context_at, with_variable, faults_from, faults_of, rules_from, active_rules}
+use Rattle.rbbi_resolve.specs.Files.{RuleMeaning, start, with_variable, faults_from, faults_of, rules_from, active_rules}
+use Rattle.rbbi_resolve.specs.inner.Files.{context_at}
 use Rattle.rbbi_resolve.specs.Counts.{counted, leaves_meant}
-use Rattle.rbbi_resolve.specs.Scopes.{Variables, IsUnassigned, IsDefinedBy}
-use Rattle.rbbi_resolve.specs.Switchings.{AreSwitches}
-use Rattle.rbbi_resolve.specs.Countings.{AreCounting, slash_of}
+use Rattle.rbbi_resolve.specs.inner.Scopes.{Variables, IsUnassigned, IsDefinedBy}
+use Rattle.rbbi_resolve.specs.inner.Switchings.{AreSwitches}
+use Rattle.rbbi_resolve.specs.inner.Countings.{AreCounting, slash_of}
 use Rattle.rbbi_resolve.specs.declared.classes.Classes.{Classes}
-use Rattle.rbbi_resolve.specs.ClassValues.{AreClasses}
-use Rattle.rbbi_resolve.specs.Covered.{CoversAll}
-use Rattle.rbbi_resolve.specs.Readings.{IsReadTo}
+use Rattle.rbbi_resolve.specs.inner.ClassValues.{AreClasses}
+use Rattle.rbbi_resolve.specs.inner.Covered.{CoversAll}
+use Rattle.rbbi_resolve.specs.inner.Readings.{IsReadTo}
 use Rattle.rbbi_resolve.proofs.Counted.{passed_at_end}
 use Rattle.rbbi_resolve.proofs.Lawful.{within}
 use Rattle.rbbi_resolve.proofs.Steps.{made}

@@ -24,8 +24,8 @@ use Rattle.rbbi_resolve.specs.Counts.{counted}
 use Rattle.rbbi_resolve.specs.Refusals.{IsFaultOf}
 use Rattle.rbbi_resolve.specs.Outcomes.{BothStand, IsRuleOf, Means}
 use Rattle.rbbi_resolve.specs.RuleLists.{IsLeafSet}
-use Rattle.rbbi_resolve.specs.Builders.{HasLeafSets}
-use Rattle.rbbi_resolve.specs.Soundness.{AreSound}
+use Rattle.rbbi_resolve.specs.inner.Builders.{HasLeafSets}
+use Rattle.rbbi_resolve.specs.inner.Soundness.{AreSound}
 use Rattle.rbbi_resolve.specs.TextCharacters.{AreOfCharacters, IsStatementOfCharacters, IsRestOfCharacters}
 use Rattle.rbbi_resolve.proofs.Characters.{held_character, in_leaf, in_leaf_tells}
 use Rattle.rbbi_resolve.proofs.PropertySets.{members_are_code_points}

@@ -15,7 +15,7 @@ use Rattle.rbbi_resolve.specs.Faults.{is_empty_set, is_bare_literal, place_of}
 use Rattle.rbbi_resolve.specs.Files.{RuleMeaning, context_after, is_supported, is_unsupported, faults_of_rest, faults_at_slash, faults_of_statement}
 use Rattle.rbbi_resolve.specs.Files.{faults_from}
 use Rattle.rbbi_resolve.specs.Counts.{counted, fault_at, no_rules_at, too_many_rules_at, too_many_leaves_at, too_many_slashes_at, too_tall_at}
-use Rattle.rbbi_resolve.specs.Refusals.{IsKind}
+use Rattle.rbbi_resolve.specs.inner.Refusals.{IsKind}
 
 abbrev OfKind : Fault → Type 0
 OfKind f = IsKind f.number

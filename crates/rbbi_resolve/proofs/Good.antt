@@ -25,7 +25,7 @@ use Rattle.rbbi_resolve.specs.Expressions.{height_of_expr, set_of_variable, set_
 use Rattle.rbbi_resolve.specs.Parts.{Outside, parts_of_set, parts_of_expr, parts_of_seq, parts_of_item, parts_in_atom}
 use Rattle.rbbi_resolve.specs.Faults.{faults_of_parts, is_empty_value}
 use Rattle.rbbi_resolve.specs.Files.{context_after, faults_of_statement, ends_active}
-use Rattle.rbbi_resolve.specs.Soundness.{IsSound, AreSound}
+use Rattle.rbbi_resolve.specs.inner.Soundness.{IsSound, AreSound}
 use Rattle.rbbi_resolve.specs.TextCharacters.{IsSetOfCharacters, ArePartsOfCharacters, IsPartOfCharacters, IsMemberOfCharacters, IsOfCharacters}
 use Rattle.rbbi_resolve.specs.TextCharacters.{IsSeqOfCharacters, IsItemOfCharacters, IsAtomOfCharacters, IsStatementOfCharacters}
 use Rattle.rbbi_resolve.proofs.Characters.{in_set_takes, character_held}

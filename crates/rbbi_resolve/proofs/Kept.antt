@@ -3,7 +3,8 @@ use Rattle.std.proofs.Common.{◌≡◌, ℕ, Bool, true, false, List, [], ◌�
 use Rattle.rbbi_props.specs.Rows.{File}
 use Rattle.rbbi_tree.specs.Trees.{StatementTree, nothing, control, assign, rule}
 use Rattle.rbbi_resolve.specs.Contexts.{Context, variable_of}
-use Rattle.rbbi_resolve.specs.Files.{start, context_after, context_at, ends_active}
+use Rattle.rbbi_resolve.specs.Files.{start, context_after, ends_active}
+use Rattle.rbbi_resolve.specs.inner.Files.{context_at}
 
 control_keeps : (context : Context) (a b c d : Bool) →
     (if a then record context { chained = true }

@@ -25,11 +25,11 @@ use Rattle.rbbi_resolve.specs.Files.{RuleMeaning, start, context_after, faults_o
 use Rattle.rbbi_resolve.specs.Files.{rules_from, active_rules}
 use Rattle.rbbi_resolve.specs.Counts.{counted, fault_at, no_rules_at, too_many_rules_at, too_many_leaves_at, too_many_slashes_at, too_tall_at}
 use Rattle.rbbi_resolve.specs.Counts as counts
-use Rattle.rbbi_resolve.specs.Countings.{passing, one, slash_of}
+use Rattle.rbbi_resolve.specs.inner.Countings.{passing, one, slash_of}
 use Rattle.rbbi_resolve.specs.Outcomes.{BothStand, IsRuleOf, Means}
 use Rattle.rbbi_resolve.specs.RuleLists.{IsLeafSet}
-use Rattle.rbbi_resolve.specs.Builders.{HasLeafSets}
-use Rattle.rbbi_resolve.specs.Soundness.{IsFull, AreSound}
+use Rattle.rbbi_resolve.specs.inner.Builders.{HasLeafSets}
+use Rattle.rbbi_resolve.specs.inner.Soundness.{IsFull, AreSound}
 use Rattle.rbbi_resolve.proofs.Counted.{passing_one, passing_leaves, passing_slashes}
 use Rattle.rbbi_resolve.proofs.Sound.{first_empty, second_empty, not_where, full_expr}
 use Rattle.rbbi_resolve.proofs.SoundFiles.{sound_after}

@@ -9,16 +9,16 @@ use Rattle.rbbi_tree.specs.declared.syntax.Quant.TheVariants.{Once}
 use Rattle.rbbi_resolve.specs.declared.variables.Kind.{Kind}
 use Rattle.rbbi_resolve.specs.declared.variables.Kind.TheVariants as kinds
 use Rattle.rbbi_resolve.specs.Contexts.{Context, value_of_name, value_of_variable}
-use Rattle.rbbi_resolve.specs.Covered.{Respects}
+use Rattle.rbbi_resolve.specs.inner.Covered.{Respects}
 use Rattle.rbbi_resolve.specs.Expressions.{variable_for}
-use Rattle.rbbi_resolve.specs.Scopes.{IsKindOf}
+use Rattle.rbbi_resolve.specs.inner.Scopes.{IsKindOf}
 use Rattle.rbbi_resolve.specs.SetValues.{value_of_set, value_of_property}
-use Rattle.rbbi_resolve.specs.ClassValues.{IsClassValue}
+use Rattle.rbbi_resolve.specs.inner.ClassValues.{IsClassValue}
 use Rattle.rbbi_resolve.specs.Parts.{parts_of_expr, parts_of_seq, parts_of_item}
 use Rattle.rbbi_resolve.specs.Faults.{faults_of_parts, is_empty_value}
-use Rattle.rbbi_resolve.specs.Soundness.{AreSound}
-use Rattle.rbbi_resolve.specs.OwnLeaves.{AddsLeaves, leaves_of_expr}
-use Rattle.rbbi_resolve.specs.LoneSets.{IsLoneSet, IsSetAtom}
+use Rattle.rbbi_resolve.specs.inner.Soundness.{AreSound}
+use Rattle.rbbi_resolve.specs.inner.OwnLeaves.{AddsLeaves, leaves_of_expr}
+use Rattle.rbbi_resolve.specs.inner.LoneSets.{IsLoneSet, IsSetAtom}
 use Rattle.rbbi_resolve.proofs.Adding.{property_leaf, set_leaf}
 use Rattle.rbbi_resolve.proofs.Sound.{faultless_first}
 

@@ -19,10 +19,10 @@ use Rattle.rbbi_resolve.specs.Contexts as contexts
 use Rattle.rbbi_resolve.specs.Contexts.{Set, Expression, Context, assigned_to, variable_of}
 use Rattle.rbbi_resolve.specs.Expressions.{leaf_of, word_of, meaning_of_variable, meaning_of_expr, meaning_of_seq, meaning_of_item, meaning_of_atom}
 use Rattle.rbbi_resolve.specs.Expressions.{height_of_expr, set_of_variable, set_of_atom, set_of_item, set_of_expr, variable_with, variable_for}
-use Rattle.rbbi_resolve.specs.Files.{context_at}
-use Rattle.rbbi_resolve.specs.Scopes.{visible, Matches, IsKindOf, IsUnassigned, IsDefinedBy, context_of, bounds_of}
-use Rattle.rbbi_resolve.specs.OwnLeaves.{set_or_nothing}
-use Rattle.rbbi_resolve.specs.Builders.{IsAssigned, IsReady}
+use Rattle.rbbi_resolve.specs.inner.Files.{context_at}
+use Rattle.rbbi_resolve.specs.inner.Scopes.{visible, Matches, IsKindOf, IsUnassigned, IsDefinedBy, context_of, bounds_of}
+use Rattle.rbbi_resolve.specs.inner.OwnLeaves.{set_or_nothing}
+use Rattle.rbbi_resolve.specs.inner.Builders.{IsAssigned, IsReady}
 use Rattle.rbbi_resolve.proofs.Building.{sequence_meaning, choice_meaning}
 use Rattle.rbbi_resolve.proofs.Steps.{describes}
 

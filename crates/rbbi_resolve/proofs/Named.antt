@@ -14,13 +14,14 @@ use Rattle.rbbi_resolve.specs.declared.variables.Kind.TheVariants as kind
 use Rattle.rbbi_resolve.specs.Contexts as contexts
 use Rattle.rbbi_resolve.specs.Contexts.{value_of_variable, value_of_name}
 use Rattle.rbbi_resolve.specs.Expressions.{meaning_of_variable, height_of_variable}
-use Rattle.rbbi_resolve.specs.Scopes.{IsKindOf}
+use Rattle.rbbi_resolve.specs.inner.Scopes.{IsKindOf}
 use Rattle.rbbi_resolve.specs.SetValues.{found, value_of_set, value_of_property}
-use Rattle.rbbi_resolve.specs.ClassValues.{IsClassValue}
+use Rattle.rbbi_resolve.specs.inner.ClassValues.{IsClassValue}
 use Rattle.rbbi_resolve.specs.Parts.{Outside, Within, parts_of_part, parts_of_set}
-use Rattle.rbbi_resolve.specs.Faults.{is_empty_value, noted, noted_parts, faults_where}
+use Rattle.rbbi_resolve.specs.Faults.{is_empty_value, noted, faults_where}
+use Rattle.rbbi_resolve.specs.inner.Faults.{noted_parts}
 use Rattle.rbbi_resolve.proofs.Noting.{noted_parts_of_append}
-use Rattle.rbbi_resolve.specs.Summaries.{Sums, Summarizes}
+use Rattle.rbbi_resolve.specs.inner.Summaries.{Sums, Summarizes}
 
 -- the counts of a variable that is no set
 pub counts_of_expression : (files : List File) (bounds : List ℕ) (here : Kind) (summary higher : Summary) (there : contexts.Variable) →

@@ -6,7 +6,8 @@ use Rattle.std.proofs.lemmas.List.Sums.{fold-append}
 use Rattle.rbbi_resolve.specs.declared.fault.Fault.{Fault}
 use Rattle.rbbi_resolve.specs.Contexts.{Context}
 use Rattle.rbbi_resolve.specs.Parts.{Part}
-use Rattle.rbbi_resolve.specs.Faults.{comes_before, noted, noted_one, noted_parts, faults_of_parts, faults_of_part}
+use Rattle.rbbi_resolve.specs.Faults.{comes_before, noted, noted_one, faults_of_parts, faults_of_part}
+use Rattle.rbbi_resolve.specs.inner.Faults.{noted_parts}
 
 pub noted_of_append : (least : Option Fault) (xs ys : List Fault) → noted least (xs ++ ys) ≡ noted (noted least xs) ys
 noted_of_append least xs ys = fold-append noted_one least xs ys

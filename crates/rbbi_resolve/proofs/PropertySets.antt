@@ -3,8 +3,9 @@ use Rattle.std.proofs.Common.{◌≡◌, ℕ, ◌+◌, ◌≤◌, Bool, false, L
 use Rattle.rbbi_model.specs.Ranges.{Range, Has}
 use Rattle.rbbi_sets.specs.Rising.{AreRisingFrom}
 use Rattle.rbbi_props.specs.Rows.{File}
-use Rattle.rbbi_props.specs.Lookups.{IsSetOf}
-use Rattle.rbbi_resolve.specs.SetValues.{found, value_of_property, IsValue}
+use Rattle.rbbi_props.specs.inner.Lookups.{IsSetOf}
+use Rattle.rbbi_resolve.specs.SetValues.{found, value_of_property}
+use Rattle.rbbi_resolve.specs.inner.SetValues.{IsValue}
 
 -- what rising ranges hold is a code point
 pub members_are_code_points : (bound : ℕ) (set : List Range) → AreRisingFrom bound set → (c : ℕ) → Has set c → c ≤ 0x10FFFF

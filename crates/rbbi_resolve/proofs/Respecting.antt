@@ -11,8 +11,9 @@ use Rattle.rbbi_resolve.specs.Contexts as contexts
 use Rattle.rbbi_resolve.specs.Contexts.{Context, assigned_to, variable_of, value_of_variable, value_of_name}
 use Rattle.rbbi_resolve.specs.Expressions.{set_of_variable, set_of_atom, set_of_item, set_of_expr, variable_with, variable_for, meaning_of_expr, height_of_expr}
 use Rattle.rbbi_resolve.specs.Parts.{parts_of_expr, parts_of_seq, parts_of_item}
-use Rattle.rbbi_resolve.specs.Files.{context_after, context_at, start}
-use Rattle.rbbi_resolve.specs.Covered.{Respects, NamesRespect, AreCovered, CoversAll, parts_of_statement}
+use Rattle.rbbi_resolve.specs.Files.{context_after, start}
+use Rattle.rbbi_resolve.specs.inner.Files.{context_at}
+use Rattle.rbbi_resolve.specs.inner.Covered.{Respects, NamesRespect, AreCovered, CoversAll, parts_of_statement}
 use Rattle.rbbi_resolve.proofs.Covering.{covered_left, covered_alone}
 use Rattle.rbbi_resolve.proofs.Kept.{statement_keeps}
 use Rattle.rbbi_resolve.proofs.Steps.{control_variables}

@@ -14,13 +14,14 @@ use Rattle.rbbi_resolve.specs.declared.rules.Tree.{Tree}
 use Rattle.rbbi_resolve.specs.declared.rules.Rule.{Rule}
 use Rattle.rbbi_resolve.specs.declared.switches.Switches.{Switches}
 use Rattle.rbbi_resolve.specs.Meanings.{Meaning, Stands}
-use Rattle.rbbi_resolve.specs.Files.{RuleMeaning, context_after, context_at, rule_in, rules_from, active_rules}
-use Rattle.rbbi_resolve.specs.Switchings.{AreSwitches}
+use Rattle.rbbi_resolve.specs.Files.{RuleMeaning, context_after, rule_in, rules_from, active_rules}
+use Rattle.rbbi_resolve.specs.inner.Files.{context_at}
+use Rattle.rbbi_resolve.specs.inner.Switchings.{AreSwitches}
 use Rattle.rbbi_resolve.specs.RuleTrees.{tree_of, numbers_of}
 use Rattle.rbbi_resolve.specs.RuleLists.{rule_of, numbers_of_rule, AreWellFormed}
-use Rattle.rbbi_resolve.specs.Builders.{HasLeafSets, IsBuilt, GoesOn}
+use Rattle.rbbi_resolve.specs.inner.Builders.{HasLeafSets, IsBuilt, GoesOn}
 use Rattle.rbbi_resolve.specs.Outcomes.{BothStand, IsRuleOf}
-use Rattle.rbbi_resolve.specs.RulesSoFar.{IsRest, IsRestBuilt, IsRuleBuilt, AreRulesTo, AreAllRules}
+use Rattle.rbbi_resolve.specs.inner.RulesSoFar.{IsRest, IsRestBuilt, IsRuleBuilt, AreRulesTo, AreAllRules}
 use Rattle.rbbi_resolve.proofs.Steps.{left_here, context_next, rules_next}
 use Rattle.rbbi_resolve.proofs.Building.{part_more}
 use Rattle.rbbi_resolve.proofs.Lawful.{HasRuleSets}

@@ -5,7 +5,7 @@ use Rattle.std.proofs.lemmas.Str.{encodes-chars, IsUtf8-string_bytes}
 use Rattle.rbbi_props.specs.Rows.{File}
 use Rattle.rbbi_props.specs.Lookups.{lookup}
 use Rattle.rbbi_resolve.specs.declared.question.Question.{Question}
-use Rattle.rbbi_resolve.specs.Questions.{IsFor}
+use Rattle.rbbi_resolve.specs.inner.Questions.{IsFor}
 
 -- a question whose own bytes are looked up alike
 pub question_for : (question : Question) (negated : Bool) (word : List ℕ) (word_of_value : Option (List ℕ)) (bytes_of_value : Option (List ℕ)) →

@@ -14,9 +14,9 @@ use Rattle.rbbi_tree.specs.declared.syntax.SetItem.TheViews.{out-SetExpr, out-Se
 use Rattle.rbbi_resolve.specs.declared.fault.Fault.{Fault}
 use Rattle.rbbi_resolve.specs.Contexts.{Context, value_of_name}
 use Rattle.rbbi_resolve.specs.SetValues.{joined_to, signed, value_of_set, value_of_parts, value_of_item}
-use Rattle.rbbi_resolve.specs.ClassValues.{IsClassValue}
+use Rattle.rbbi_resolve.specs.inner.ClassValues.{IsClassValue}
 use Rattle.rbbi_resolve.specs.Parts.{parts_of_set, parts_of_part, parts_of_parts}
-use Rattle.rbbi_resolve.specs.Faults.{noted_parts}
+use Rattle.rbbi_resolve.specs.inner.Faults.{noted_parts}
 use Rattle.rbbi_resolve.proofs.Noting.{noted_parts_of_append}
 use Rattle.rbbi_resolve.proofs.SetLoops.{parts_in, parts_left, set_is}
 

@@ -18,8 +18,8 @@ use Rattle.rbbi_tree.specs.declared.syntax.SetPart.{SetPart}
 use Rattle.rbbi_tree.specs.declared.syntax.SetItem.TheViews.{out-SetExpr}
 use Rattle.rbbi_resolve.specs.declared.collection.Collection.{Collection}
 use Rattle.rbbi_resolve.specs.SetValues.{HasProperty, joined_to, value_of_set, value_of_part, value_of_item, value_of_range}
-use Rattle.rbbi_resolve.specs.Covered.{Respects, NamesRespect, AreRespected, HasSame, IsCollection, CollectsSet, CollectsPart}
-use Rattle.rbbi_resolve.specs.LiteralRuns.{IsLiteral, FollowsRun, IsRunning}
+use Rattle.rbbi_resolve.specs.inner.Covered.{Respects, NamesRespect, AreRespected, HasSame, IsCollection, CollectsSet, CollectsPart}
+use Rattle.rbbi_resolve.specs.inner.LiteralRuns.{IsLiteral, FollowsRun, IsRunning}
 use Rattle.rbbi_resolve.proofs.PropertySets.{members_are_code_points}
 use Rattle.rbbi_resolve.proofs.SetLoops.{parts_in, parts_left, set_is}
 use Rattle.rbbi_resolve.proofs.Covering.{nothing_respects, signed_respects, joined_respects, members_respect, follows_none, run_respects}

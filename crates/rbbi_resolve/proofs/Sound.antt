@@ -23,7 +23,7 @@ use Rattle.rbbi_resolve.specs.Parts.{Part, Outside, Within, parts_of_set, parts_
 use Rattle.rbbi_resolve.specs.Parts.{parts_of_item, parts_in_atom}
 use Rattle.rbbi_resolve.specs.Faults.{faults_where, faults_of_part, faults_of_parts, is_undefined, is_expression, is_not_a_set, is_unknown_property}
 use Rattle.rbbi_resolve.specs.Faults.{is_bad_range, is_empty_set, is_bare_literal, place_of}
-use Rattle.rbbi_resolve.specs.Soundness.{IsFull, IsSound, AreSound}
+use Rattle.rbbi_resolve.specs.inner.Soundness.{IsFull, IsSound, AreSound}
 use Rattle.rbbi_resolve.proofs.Noting.{faults_of_append}
 
 -- two lists that are empty together are so each

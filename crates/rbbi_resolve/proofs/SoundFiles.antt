@@ -8,8 +8,9 @@ use Rattle.rbbi_resolve.specs.Contexts.{Assigned, Context, assigned_to, variable
 use Rattle.rbbi_resolve.specs.Expressions.{variable_for}
 use Rattle.rbbi_resolve.specs.Parts.{parts_of_expr}
 use Rattle.rbbi_resolve.specs.Faults.{faults_where, faults_of_parts}
-use Rattle.rbbi_resolve.specs.Files.{start, context_after, context_at, faults_of_statement, faults_from, faults_of}
-use Rattle.rbbi_resolve.specs.Soundness.{IsSound, AreSound}
+use Rattle.rbbi_resolve.specs.Files.{start, context_after, faults_of_statement, faults_from, faults_of}
+use Rattle.rbbi_resolve.specs.inner.Files.{context_at}
+use Rattle.rbbi_resolve.specs.inner.Soundness.{IsSound, AreSound}
 use Rattle.rbbi_resolve.proofs.Steps.{control_variables}
 use Rattle.rbbi_resolve.proofs.Sound.{first_empty, second_empty, sound_variable}
 

@@ -26,13 +26,14 @@ use Rattle.rbbi_resolve.specs.Contexts as contexts
 use Rattle.rbbi_resolve.specs.Contexts.{Context, assigned_to, variable_of}
 use Rattle.rbbi_resolve.specs.Expressions.{variable_for, meaning_of_expr, height_of_expr}
 use Rattle.rbbi_resolve.specs.Faults.{noted}
-use Rattle.rbbi_resolve.specs.Files.{start, ends_active, after_control, with_variable, context_after, context_at, faults_of_statement, faults_from}
+use Rattle.rbbi_resolve.specs.Files.{start, ends_active, after_control, with_variable, context_after, faults_of_statement, faults_from}
+use Rattle.rbbi_resolve.specs.inner.Files.{context_at}
 use Rattle.rbbi_resolve.specs.Files.{RuleMeaning, rule_in, rules_from, active_rules}
-use Rattle.rbbi_resolve.specs.Scopes.{Variables, IsKindOf, Matches, visible, Describes, IsUnassigned, IsDefinedBy, AreVariables}
-use Rattle.rbbi_resolve.specs.Switchings.{AreSwitches}
-use Rattle.rbbi_resolve.specs.Countings.{AreCounting}
+use Rattle.rbbi_resolve.specs.inner.Scopes.{Variables, IsKindOf, Matches, visible, Describes, IsUnassigned, IsDefinedBy, AreVariables}
+use Rattle.rbbi_resolve.specs.inner.Switchings.{AreSwitches}
+use Rattle.rbbi_resolve.specs.inner.Countings.{AreCounting}
 use Rattle.rbbi_resolve.specs.declared.classes.Classes.{Classes}
-use Rattle.rbbi_resolve.specs.Readings.{IsReadTo}
+use Rattle.rbbi_resolve.specs.inner.Readings.{IsReadTo}
 use Rattle.rbbi_resolve.proofs.Noting.{noted_of_append}
 
 -- a statement stands first of those that are left

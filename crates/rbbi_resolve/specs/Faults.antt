@@ -93,7 +93,3 @@ noted_one (Some g) f = if comes_before f g then Some f else Some g
 -- the earliest one of what was noted and the faults
 abbrev pub noted : Option Fault → List Fault → Option Fault
 noted least faults = fold noted_one least faults
-
--- the earliest one of what was noted and the faults of parts
-abbrev pub noted_parts : Context → Option Fault → List Part → Option Fault
-noted_parts context least parts = noted least (faults_of_parts context parts)

@@ -51,10 +51,6 @@ context_after context (control name place) = after_control context (encode_utf8_
 context_after context (assign name place expr) = with_variable context name expr
 context_after context (rule place no_chain_in front slash rest tag) = context
 
--- what stands before the statement with this number, from 0
-unfoldable pub context_at : List File → List StatementTree → ℕ → Context
-context_at files statements number = fold context_after (start files) (take number statements)
-
 -- The faults at the slash of a rule: 11, `EmptyFront`, where the front spells the empty word; and 12, `EmptyRest`, where the rest does.
 abbrev pub faults_at_slash : Context → ExprTree → Option ℕ → Option ExprTree → List Fault
 faults_at_slash context front None rest = []

@@ -66,10 +66,6 @@ place_of_fault (Some fault) = Some fault.place
 abbrev pub place_of : ResolveErr → Option ℕ
 place_of e = place_of_fault (fault_of e)
 
--- the number is that of a kind of fault
-abbrev pub IsKind : ℕ → Type 0
-IsKind number = (1 ≤ number) × (number ≤ 17)
-
 -- the fault is the earliest of these: no other comes before it
 pub record IsLeast (faults : List Fault) (fault : Fault) : Type 0 where
   pub one_of : Contains faults fault

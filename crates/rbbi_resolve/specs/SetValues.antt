@@ -74,14 +74,3 @@ abbrev mutual
   value_of_item files named (set_name name) = named name
   value_of_item files named (set_property negated name value) = value_of_property files negated name value
   value_of_item files named (set_within inner) = value_of_set files named inner
-
--- The ranges rise, and have the members of the set; there are none where it has no value.
-pub record HasMembers (files : List File) (tree : model.SetTree) (set : List Range) : Type 0 where
-  pub rising : AreRising set
-  pub members : (c : ℕ) → Has set c ↔ model.InSet (HasProperty files) tree c
-
-abbrev pub IsValue : List File → Option model.SetTree → Option (List Range) → Type 0
-IsValue files None None = Unit {0}
-IsValue files None (Some set) = ⊥
-IsValue files (Some tree) None = ⊥
-IsValue files (Some tree) (Some set) = HasMembers files tree set

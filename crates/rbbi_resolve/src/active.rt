@@ -7,12 +7,12 @@ ghost use Rattle.rbbi_tree.specs.WellMade.{AreWellMade};
 ghost use Rattle.rbbi_resolve.specs.Expressions.{meaning_of_expr};
 ghost use Rattle.rbbi_resolve.specs.Files.{faults_of, faults_of_rest, active_rules};
 ghost use Rattle.rbbi_resolve.specs.Counts.{counted};
-ghost use Rattle.rbbi_resolve.specs.Scopes.{stand_of, context_of};
-ghost use Rattle.rbbi_resolve.specs.Covered.{AreCovered, parts_of_rest};
-ghost use Rattle.rbbi_resolve.specs.Builders.{IsBuilder, IsReady, GoesOn};
-ghost use Rattle.rbbi_resolve.specs.RulesSoFar.{IsRestBuilt, AreRulesTo, AreAllRules};
+ghost use Rattle.rbbi_resolve.specs.inner.Scopes.{stand_of, context_of};
+ghost use Rattle.rbbi_resolve.specs.inner.Covered.{AreCovered, parts_of_rest};
+ghost use Rattle.rbbi_resolve.specs.inner.Builders.{IsBuilder, IsReady, GoesOn};
+ghost use Rattle.rbbi_resolve.specs.inner.RulesSoFar.{IsRestBuilt, AreRulesTo, AreAllRules};
 ghost use Rattle.rbbi_resolve.specs.RuleLists.{rules_of};
-ghost use Rattle.rbbi_resolve.specs.Readings.{IsReading};
+ghost use Rattle.rbbi_resolve.specs.inner.Readings.{IsReading};
 ghost use Rattle.rbbi_resolve.specs.Outcomes.{Means};
 
 use crate::build::Builder;

@@ -11,12 +11,13 @@ ghost use Rattle.rbbi_resolve.specs.Expressions.{word_of, meaning_of_expr, meani
 ghost use Rattle.rbbi_resolve.specs.Expressions.{meaning_of_item, meaning_of_atom, variable_for};
 ghost use Rattle.rbbi_resolve.specs.Parts.{parts_of_expr};
 ghost use Rattle.rbbi_resolve.specs.Faults.{faults_of_parts};
-ghost use Rattle.rbbi_resolve.specs.Scopes.{IsKindOf, bounds_of, context_of, stand_of};
-ghost use Rattle.rbbi_resolve.specs.Covered.{AreCovered};
-ghost use Rattle.rbbi_resolve.specs.OwnLeaves.{leaves_of_expr, leaves_of_seq, leaves_of_item};
-ghost use Rattle.rbbi_resolve.specs.OwnLeaves.{leaves_of_atom};
-ghost use Rattle.rbbi_resolve.specs.Builders.{StandFrom, IsBuilt, IsBuilder, IsAssigned, GoesOn};
-ghost use Rattle.rbbi_resolve.specs.Builders.{IsReady};
+ghost use Rattle.rbbi_resolve.specs.inner.Scopes.{IsKindOf, bounds_of, context_of, stand_of};
+ghost use Rattle.rbbi_resolve.specs.inner.Covered.{AreCovered};
+ghost use Rattle.rbbi_resolve.specs.inner.OwnLeaves.{leaves_of_expr, leaves_of_seq, leaves_of_item};
+ghost use Rattle.rbbi_resolve.specs.inner.OwnLeaves.{leaves_of_atom};
+ghost use Rattle.rbbi_resolve.specs.inner.Builders.{StandFrom, IsBuilt, IsBuilder, IsAssigned};
+ghost use Rattle.rbbi_resolve.specs.inner.Builders.{GoesOn};
+ghost use Rattle.rbbi_resolve.specs.inner.Builders.{IsReady};
 
 use crate::own_leaves::add_own_leaves;
 use crate::properties::Properties;

@@ -4,9 +4,10 @@ ghost use Rattle.rbbi_tree.specs.Values.{statement_tree, expr_tree, seq_tree, it
 ghost use Rattle.rbbi_tree.specs.Values.{set_tree, part_tree};
 ghost use Rattle.rbbi_sets.specs.Rising.{IsRange};
 ghost use Rattle.rbbi_resolve.specs.Parts.{parts_of_expr, parts_of_seq, parts_of_item};
-ghost use Rattle.rbbi_resolve.specs.Covered.{Collects, CollectsSet, CollectsPart, IsCollection};
-ghost use Rattle.rbbi_resolve.specs.Covered.{parts_of_statement};
-ghost use Rattle.rbbi_resolve.specs.LiteralRuns.{IsLiteral};
+ghost use Rattle.rbbi_resolve.specs.inner.Covered.{Collects, CollectsSet, CollectsPart};
+ghost use Rattle.rbbi_resolve.specs.inner.Covered.{IsCollection};
+ghost use Rattle.rbbi_resolve.specs.inner.Covered.{parts_of_statement};
+ghost use Rattle.rbbi_resolve.specs.inner.LiteralRuns.{IsLiteral};
 
 use crate::collection::Collection;
 use crate::properties::Properties;

@@ -6,7 +6,7 @@ ghost use Rattle.std.specs.Rc.{rc_value};
 ghost use Rattle.rbbi_model.specs.Ranges.{Range};
 ghost use Rattle.rbbi_props.specs.Rows.{File};
 ghost use Rattle.rbbi_sets.specs.Rising.{IsRange};
-ghost use Rattle.rbbi_resolve.specs.Covered.{HasBase, HasSame, IsBasedAnswer, IsCollection};
+ghost use Rattle.rbbi_resolve.specs.inner.Covered.{HasBase, HasSame, IsBasedAnswer, IsCollection};
 
 use crate::properties::{Answer, Properties, answer_of};
 use crate::question::key_of;

@@ -2,8 +2,8 @@
 ghost use Rattle.std.specs.Prelude.{◌≡◌, ◌≤◌, ◌<◌, ℕ, List, [], ◌∷◌, is_some, if◌then◌else◌};
 ghost use Rattle.rbbi_resolve.specs.Counts.{counted, leaves_meant};
 ghost use Rattle.rbbi_resolve.specs.Files.{RuleMeaning};
-ghost use Rattle.rbbi_resolve.specs.Summaries.{IsCapped};
-ghost use Rattle.rbbi_resolve.specs.Countings.{IsCount, AreCounting};
+ghost use Rattle.rbbi_resolve.specs.inner.Summaries.{IsCapped};
+ghost use Rattle.rbbi_resolve.specs.inner.Countings.{IsCount, AreCounting};
 
 use crate::fault::Fault;
 use crate::variables::Summary;

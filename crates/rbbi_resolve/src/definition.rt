@@ -7,12 +7,13 @@ ghost use Rattle.rbbi_tree.specs.declared.syntax.Quant.TheVariants.{Once};
 ghost use Rattle.rbbi_tree.specs.Values.{expr_tree, atom_tree};
 ghost use Rattle.rbbi_resolve.specs.Expressions.{variable_for, set_of_atom, set_of_expr};
 ghost use Rattle.rbbi_resolve.specs.Parts.{parts_of_expr, parts_of_item};
-ghost use Rattle.rbbi_resolve.specs.Faults.{noted_parts};
+ghost use Rattle.rbbi_resolve.specs.inner.Faults.{noted_parts};
 ghost use Rattle.rbbi_resolve.specs.Contexts as contexts;
-ghost use Rattle.rbbi_resolve.specs.Scopes.{IsScope, KnowsQuotes, IsKindOf, bounds_of, context_of};
-ghost use Rattle.rbbi_resolve.specs.Scopes.{stand_of};
-ghost use Rattle.rbbi_resolve.specs.Covered.{AreCovered};
-ghost use Rattle.rbbi_resolve.specs.Definitions.{AreSetOf, noted_if_set};
+ghost use Rattle.rbbi_resolve.specs.inner.Scopes.{IsScope, KnowsQuotes, IsKindOf, bounds_of};
+ghost use Rattle.rbbi_resolve.specs.inner.Scopes.{context_of};
+ghost use Rattle.rbbi_resolve.specs.inner.Scopes.{stand_of};
+ghost use Rattle.rbbi_resolve.specs.inner.Covered.{AreCovered};
+ghost use Rattle.rbbi_resolve.specs.inner.Definitions.{AreSetOf, noted_if_set};
 
 use crate::check::{check_expr, check_property, check_set};
 use crate::fault::Fault;

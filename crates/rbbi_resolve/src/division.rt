@@ -3,7 +3,7 @@ ghost use Rattle.std.specs.Prelude.{IfOk, OnOk};
 ghost use Rattle.std.specs.HashMap.{values};
 ghost use Rattle.std.specs.List.{All};
 ghost use Rattle.std.specs.Rc.{rc_value};
-ghost use Rattle.rbbi_resolve.specs.ClassValues.{IsDivided, AreSame};
+ghost use Rattle.rbbi_resolve.specs.inner.ClassValues.{IsDivided, AreSame};
 
 use crate::properties::{are_same, hash_of};
 use indexmap::IndexMap;

@@ -1,6 +1,7 @@
 //! Why a rule file is refused.
 ghost use Rattle.std.specs.Prelude.{◌≡◌, codes};
-ghost use Rattle.rbbi_resolve.specs.Refusals.{label_of, place_of, fault_of, IsKind};
+ghost use Rattle.rbbi_resolve.specs.Refusals.{label_of, place_of, fault_of};
+ghost use Rattle.rbbi_resolve.specs.inner.Refusals.{IsKind};
 
 use crate::fault::Fault;
 use std::alloc::{AllocError, AllocFailed};

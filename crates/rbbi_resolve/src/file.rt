@@ -3,7 +3,7 @@ ghost use Rattle.std.specs.Prelude.{◌≡◌, ◌+◌, ◌<◌, ◌&&◌, not, 
 ghost use Rattle.std.specs.Prelude.{encode_utf8_all, bytes_eq, codes};
 ghost use Rattle.rbbi_tree.specs.Trees as trees;
 ghost use Rattle.rbbi_tree.specs.Values.{statement_trees, expr_tree, rest_tree};
-ghost use Rattle.rbbi_resolve.specs.Readings.{IsReading, ReadsOn};
+ghost use Rattle.rbbi_resolve.specs.inner.Readings.{IsReading, ReadsOn};
 
 use crate::classes::Classes;
 use crate::counts::Counts;

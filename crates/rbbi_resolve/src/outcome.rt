@@ -6,7 +6,7 @@ ghost use Rattle.rbbi_tree.specs.WellMade.{AreWellMade};
 ghost use Rattle.rbbi_resolve.specs.RuleLists.{rules_of};
 ghost use Rattle.rbbi_resolve.specs.Outcomes.{Means};
 ghost use Rattle.rbbi_resolve.specs.Refusals.{IsRefusedFor};
-ghost use Rattle.rbbi_resolve.specs.Readings.{IsReading};
+ghost use Rattle.rbbi_resolve.specs.inner.Readings.{IsReading};
 
 use crate::active::build_rules;
 use crate::classes::Classes;

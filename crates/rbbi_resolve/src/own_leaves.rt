@@ -4,11 +4,12 @@ ghost use Rattle.rbbi_tree.specs.Values.{expr_tree};
 ghost use Rattle.rbbi_resolve.specs.Expressions.{variable_for};
 ghost use Rattle.rbbi_resolve.specs.Parts.{parts_of_expr};
 ghost use Rattle.rbbi_resolve.specs.Faults.{faults_of_parts};
-ghost use Rattle.rbbi_resolve.specs.Scopes.{IsScope, IsKindOf, bounds_of, context_of, stand_of};
-ghost use Rattle.rbbi_resolve.specs.Covered.{AreCovered};
-ghost use Rattle.rbbi_resolve.specs.Soundness.{AreSound};
-ghost use Rattle.rbbi_resolve.specs.OwnLeaves.{AddsLeaves, leaves_of_expr};
-ghost use Rattle.rbbi_resolve.specs.LoneSets.{IsLoneSet};
+ghost use Rattle.rbbi_resolve.specs.inner.Scopes.{IsScope, IsKindOf, bounds_of, context_of};
+ghost use Rattle.rbbi_resolve.specs.inner.Scopes.{stand_of};
+ghost use Rattle.rbbi_resolve.specs.inner.Covered.{AreCovered};
+ghost use Rattle.rbbi_resolve.specs.inner.Soundness.{AreSound};
+ghost use Rattle.rbbi_resolve.specs.inner.OwnLeaves.{AddsLeaves, leaves_of_expr};
+ghost use Rattle.rbbi_resolve.specs.inner.LoneSets.{IsLoneSet};
 
 use crate::definition::lone_item;
 use crate::leaves::{add_classes, add_leaves};

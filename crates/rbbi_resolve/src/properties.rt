@@ -1,9 +1,10 @@
 //! The sets of properties, each looked up once.
 ghost use Rattle.std.specs.Prelude.{◌≡◌, List, IfOk, IfSome, OnOk, IsTrue};
 ghost use Rattle.std.specs.Rc.{rc_value};
-ghost use Rattle.rbbi_props.specs.Lookups.{IsSetOf};
-ghost use Rattle.rbbi_resolve.specs.SetValues.{IsValue, value_of_property, found};
-ghost use Rattle.rbbi_resolve.specs.Questions.{IsAnswer};
+ghost use Rattle.rbbi_props.specs.inner.Lookups.{IsSetOf};
+ghost use Rattle.rbbi_resolve.specs.inner.SetValues.{IsValue};
+ghost use Rattle.rbbi_resolve.specs.SetValues.{value_of_property, found};
+ghost use Rattle.rbbi_resolve.specs.inner.Questions.{IsAnswer};
 ghost use Rattle.rbbi_props.specs.Rows.{File};
 ghost use Rattle.std.specs.HashMap.{values};
 ghost use Rattle.std.specs.List.{All};
@@ -48,7 +49,7 @@ impl<'a> Model for Properties<'a> {
 
     ghost use Rattle.std.specs.HashMap.{values};
     ghost use Rattle.std.specs.List.{All};
-    ghost use Rattle.rbbi_resolve.specs.Questions.{IsAnswer};
+    ghost use Rattle.rbbi_resolve.specs.inner.Questions.{IsAnswer};
 
     ghost view = { λ properties. properties.table.now };
 

@@ -1,6 +1,6 @@
 //! Properties that are asked for.
 ghost use Rattle.std.specs.Prelude.{◌≡◌, IfOk, IsTrue, string_bytes, chars, option_map};
-ghost use Rattle.rbbi_resolve.specs.Questions.{IsFor};
+ghost use Rattle.rbbi_resolve.specs.inner.Questions.{IsFor};
 
 use rbbi_props::{are_alike, push_common_form};
 use rbbi_text::Word;

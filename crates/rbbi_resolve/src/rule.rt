@@ -4,9 +4,9 @@ ghost use Rattle.rbbi_tree.specs.Values.{expr_tree, rest_tree};
 ghost use Rattle.rbbi_resolve.specs.Parts.{parts_of_expr};
 ghost use Rattle.rbbi_resolve.specs.Faults.{noted, faults_of_parts};
 ghost use Rattle.rbbi_resolve.specs.Files.{faults_of_rest, faults_at_slash};
-ghost use Rattle.rbbi_resolve.specs.Scopes.{IsScope, KnowsQuotes, stand_of, context_of};
-ghost use Rattle.rbbi_resolve.specs.Covered.{AreCovered, parts_of_rest};
-ghost use Rattle.rbbi_resolve.specs.RuleSums.{AreSumsOf, faults_where_empty};
+ghost use Rattle.rbbi_resolve.specs.inner.Scopes.{IsScope, KnowsQuotes, stand_of, context_of};
+ghost use Rattle.rbbi_resolve.specs.inner.Covered.{AreCovered, parts_of_rest};
+ghost use Rattle.rbbi_resolve.specs.inner.RuleSums.{AreSumsOf, faults_where_empty};
 
 use crate::check::check_expr;
 use crate::fault::{Fault, note_where};

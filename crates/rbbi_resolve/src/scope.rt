@@ -2,7 +2,7 @@
 ghost use Rattle.std.specs.Prelude.{◌≡◌, encode_utf8_all};
 ghost use Rattle.std.specs.Option.{option_copied};
 ghost use Rattle.std.specs.HashMap.{get_by_text};
-ghost use Rattle.rbbi_resolve.specs.Scopes.{bounds_of, visible};
+ghost use Rattle.rbbi_resolve.specs.inner.Scopes.{bounds_of, visible};
 
 use crate::classes::Classes;
 use crate::variables::{Variable, Variables};

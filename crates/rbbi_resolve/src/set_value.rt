@@ -8,12 +8,13 @@ ghost use Rattle.rbbi_tree.specs.Values.{set_tree, set_item_tree};
 ghost use Rattle.rbbi_tree.specs.declared.syntax.Join as trees;
 ghost use Rattle.rbbi_resolve.specs.SetValues.{joined_to, signed, value_of_set, value_of_item};
 ghost use Rattle.rbbi_resolve.specs.SetValues.{value_of_range, value_of_property};
-ghost use Rattle.rbbi_resolve.specs.ClassValues.{IsClassValue};
-ghost use Rattle.rbbi_resolve.specs.Worths.{classes_of};
+ghost use Rattle.rbbi_resolve.specs.inner.ClassValues.{IsClassValue};
+ghost use Rattle.rbbi_resolve.specs.inner.Worths.{classes_of};
 ghost use Rattle.rbbi_resolve.specs.Contexts.{value_of_name};
 ghost use Rattle.rbbi_resolve.specs.Parts.{Within, parts_of_set, parts_of_part};
-ghost use Rattle.rbbi_resolve.specs.Faults.{noted, noted_parts, faults_where};
-ghost use Rattle.rbbi_resolve.specs.Scopes.{IsScope, bounds_of, context_of};
+ghost use Rattle.rbbi_resolve.specs.Faults.{noted, faults_where};
+ghost use Rattle.rbbi_resolve.specs.inner.Faults.{noted_parts};
+ghost use Rattle.rbbi_resolve.specs.inner.Scopes.{IsScope, bounds_of, context_of};
 
 use crate::division::divide;
 use crate::fault::{Fault, note, note_where};

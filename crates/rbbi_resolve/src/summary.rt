@@ -1,7 +1,7 @@
 //! Counts of expressions without expanding them.
 ghost use Rattle.std.specs.Prelude.{◌≡◌, ◌+◌, ◌≤◌, ◌&&◌, ◌||◌, ℕ, Bool, true, false, max, length};
 ghost use Rattle.std.specs.Prelude.{if◌then◌else◌};
-ghost use Rattle.rbbi_resolve.specs.Summaries.{IsCapped, Sums, Summarizes, empty_of_quant};
+ghost use Rattle.rbbi_resolve.specs.inner.Summaries.{IsCapped, Sums, Summarizes, empty_of_quant};
 ghost use Rattle.rbbi_resolve.specs.Expressions.{word_of, height_of_word, height_of_quant};
 
 use crate::variables::{MANY_LEAVES, Summary, TALL};

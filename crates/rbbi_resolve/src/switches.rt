@@ -3,7 +3,7 @@ ghost use Rattle.std.specs.Prelude.{◌≡◌, ◌&&◌, not, List};
 ghost use Rattle.rbbi_resolve.specs.Contexts as contexts;
 ghost use Rattle.rbbi_resolve.specs.Files as files;
 ghost use Rattle.rbbi_resolve.specs.Files.{after_control};
-ghost use Rattle.rbbi_resolve.specs.Switchings.{AreSwitches};
+ghost use Rattle.rbbi_resolve.specs.inner.Switchings.{AreSwitches};
 ghost use Rattle.rbbi_props.specs.Rows.{File};
 
 /// What the controls so far have switched on.

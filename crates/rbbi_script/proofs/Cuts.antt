@@ -7,7 +7,7 @@ use Rattle.std.proofs.lemmas.Bool.Decides.{nat_tests}
 use Rattle.std.proofs.lemmas.List.Sums.{AllPass-from_list_all}
 use Rattle.rbbi_text.specs.Numbers.{number, at_most, decimal, hexadecimal}
 use Rattle.rbbi_script.specs.Grammar.{most_number, WritesNumber, IsField}
-use Rattle.rbbi_script.specs.Readings.{HasNone, IsFirstCut, IsOnlyField}
+use Rattle.rbbi_script.specs.inner.Readings.{HasNone, IsFirstCut, IsOnlyField}
 
 none_behind : (c x : ℕ) (xs : List ℕ) → HasNone c (x ∷ xs) → HasNone c xs
 none_behind c x xs h i l = h (suc i) (omega arith)

@@ -4,7 +4,7 @@ use Rattle.std.specs.Prelude.{codes}
 use Rattle.rbbi_model.specs.Scripts.{Ask, Replace, ShowText}
 use Rattle.rbbi_model.specs.Scripts as model
 use Rattle.rbbi_script.specs.Grammar.{WritesNumber, IsField, Spells, Writes, IsInsert, IsDelete, IsReplace}
-use Rattle.rbbi_script.specs.Readings.{IsOnlyField}
+use Rattle.rbbi_script.specs.inner.Readings.{IsOnlyField}
 use Rattle.rbbi_script.proofs.LineKinds.{kind, asks_no_edit}
 
 -- what a line that begins so writes is an edit of its kind

@@ -15,7 +15,8 @@ use Rattle.rbbi_model.specs.Costs.{forward_cost, last_cost, is_boundary_cost, qu
 use Rattle.rbbi_session.specs.Sessions.{Session, boundaries_of, Answers}
 use Rattle.rbbi_session.specs.Asking.{Asks}
 use Rattle.rbbi_session.proofs.Answering.{none_past, place_within}
-use Rattle.rbbi_script.specs.Reading.{RisesUpTo, IsPaid, AreAskedOf, sent_by_nexts, listing_cost}
+use Rattle.rbbi_script.specs.Reading.{RisesUpTo, IsPaid, AreAskedOf, sent_by_nexts}
+use Rattle.rbbi_script.specs.inner.Reading.{listing_cost}
 use Rattle.rbbi_session.proofs.Stepping.{come_start}
 use Rattle.rbbi_script.proofs.Listed.{AreListed, IsFurther}
 use Rattle.rbbi_script.proofs.ListingRuns.{asked_of, nexts_more}

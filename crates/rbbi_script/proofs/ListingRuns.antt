@@ -8,7 +8,8 @@ use Rattle.rbbi_model.specs.Answers.{Question, Next, IsBoundary}
 use Rattle.rbbi_session.specs.Sessions.{Session, boundaries_of}
 use Rattle.rbbi_session.specs.Questions.{Sent, sent_by}
 use Rattle.rbbi_session.specs.Asking.{Asks}
-use Rattle.rbbi_script.specs.Reading.{IsAskedOf, AreAskedOf, sent_by_nexts, AsksNexts, ListsRuns}
+use Rattle.rbbi_script.specs.Reading.{IsAskedOf, AreAskedOf, sent_by_nexts, ListsRuns}
+use Rattle.rbbi_script.specs.inner.Reading.{AsksNexts}
 
 -- a question of a session, whose table, text and cursor are these, is asked of its runs
 pub asked_of : (table : Table) (x : List ℕ) (cursor : ℕ) (old new : Session) (question : Question) (before after : ℕ) → old.table ≡ table →

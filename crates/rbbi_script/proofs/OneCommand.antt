@@ -8,7 +8,7 @@ use Rattle.rbbi_model.specs.Scripts.{Command, Ask, Replace, ShowText}
 use Rattle.rbbi_text.specs.Numbers.{decimal}
 use Rattle.rbbi_script.specs.Grammar.{most_number, WritesNumber, IsField, IsEscape, IsPlain, Spells, IsInsert, IsDelete, IsReplace, Writes}
 use Rattle.rbbi_script.specs.Grammar.{IsSkipped}
-use Rattle.rbbi_script.specs.Readings.{IsOnlyEscape, named}
+use Rattle.rbbi_script.specs.inner.Readings.{IsOnlyEscape, named}
 use Rattle.rbbi_script.proofs.Cuts.{no_brace, no_space, only_field}
 use Rattle.rbbi_script.proofs.Words.{letter, line_feed, carriage_return, tab, backslash, only_number, at_letter, at_number, empty_is_no_character}
 use Rattle.rbbi_script.proofs.LineKinds.{kind}

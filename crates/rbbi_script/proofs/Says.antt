@@ -6,7 +6,8 @@ use Rattle.std.specs.List.{flat_map}
 use Rattle.std.proofs.lemmas.List.{take-append-drop}
 use Rattle.std.proofs.lemmas.Grind.{flat_map-append}
 use Rattle.rbbi_model.specs.Lines.{joined_statuses}
-use Rattle.rbbi_script.specs.Saying.{next_status, AppendsFront, Appends}
+use Rattle.rbbi_script.specs.inner.Saying.{next_status}
+use Rattle.rbbi_script.specs.Saying.{AppendsFront, Appends}
 
 -- the first of several parts was not appended whole
 pub front_first : (old first second line new : List ℕ) → line ≡ first ++ second → AppendsFront old first new → AppendsFront old line new

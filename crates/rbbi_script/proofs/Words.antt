@@ -14,7 +14,7 @@ use Rattle.std.proofs.lemmas.List.Sums.{AllPass-from_list_all}
 use Rattle.rbbi_model.specs.Words.{IsSurrogate}
 use Rattle.rbbi_text.specs.Numbers.{hexadecimal}
 use Rattle.rbbi_script.specs.Grammar.{IsNumberEscape, IsEscape, Spells}
-use Rattle.rbbi_script.specs.Readings.{HasNone, IsNoEscape, IsNoNumberEscape, IsOnlyEscape, IsOnlyWord}
+use Rattle.rbbi_script.specs.inner.Readings.{HasNone, IsNoEscape, IsNoNumberEscape, IsOnlyEscape, IsOnlyWord}
 use Rattle.rbbi_script.proofs.Cuts.{same_cut, no_brace, hexadecimal_pass}
 
 -- the escapes of one letter, or of a number

@@ -20,17 +20,6 @@ LinesWrite lines commands = AreValues (λ line number. LineWrites line) lines 0 
 abbrev pub IsFirstBadLine : List (List ℕ) → ℕ → Type 0
 IsFirstBadLine lines number = IsFirstBad (λ line number. LineWrites line) IsBad lines number
 
--- why the lines are refused
-abbrev pub RefusesLines : List (List ℕ) → ScriptErr → Type 0
-RefusesLines lines (NotUtf8 at) = ⊥
-RefusesLines lines (BadLine line) = IsFirstBadLine lines line
-RefusesLines lines Memory = Unit {0}
-
--- what reading the lines answers
-abbrev pub ReadsLines : List (List ℕ) → Result (List Command) ScriptErr → Type 0
-ReadsLines lines (Ok commands) = LinesWrite lines commands
-ReadsLines lines (Err error) = RefusesLines lines error
-
 -- what reading a script answers
 abbrev pub ReadsScript : List ℕ → Result (List Command) ScriptErr → Type 0
 ReadsScript bytes (Ok commands) = IsUtf8 bytes × LinesWrite (file_lines bytes) commands

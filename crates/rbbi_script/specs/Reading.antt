@@ -36,14 +36,6 @@ AreAskedOf table x (sent ∷ rest) former now before after =
 abbrev pub sent_by_nexts : List ℕ → List Boundary → List Sent
 sent_by_nexts x boundaries = map (λ boundary. sent_by x boundary.at Next) boundaries
 
--- the session has gone on from each of its boundaries in order, or where memory ran out, from each of the first ones
-abbrev pub AsksNexts : {T E : Type 0} → Session → Result T E → Session → ℕ → ℕ → Type 0
-AsksNexts old (Ok done) new before after =
-    AreAskedOf old.table old.state.text (sent_by_nexts old.state.text (boundaries_of old)) old.runs new.runs before after
-AsksNexts old (Err error) new before after =
-    (first rest : List Boundary) × (boundaries_of old ≡ first ++ rest)
-    × AreAskedOf old.table old.state.text (sent_by_nexts old.state.text first) old.runs new.runs before after
-
 -- What listing these boundaries asks: to go on from each of them in order, and at last whether the cursor's place is a boundary, by
 -- which the cursor goes back to it. That the list begins at the text's start asks nothing.
 abbrev pub sent_by_listing : List ℕ → ℕ → List Boundary → List Sent
@@ -79,11 +71,6 @@ abbrev pub TurnsRuns : {T E : Type 0} → Session → Command → Result T E →
 TurnsRuns old (Ask question) r new before after = AsksRuns old question r new before after
 TurnsRuns old (Replace at removed inserted) r new before after = EditsRuns (edit old.state.text at removed inserted) old at removed inserted r new before after
 TurnsRuns old ShowText r new before after = new ≡ old
-
--- the cost of going on from each of these boundaries but the text's end
-abbrev pub listing_cost : Table → List ℕ → List Boundary → ℕ
-listing_cost table x boundaries =
-    sum_by (λ boundary. forward_cost table x boundary.at) (filter (λ boundary. nat_lt boundary.at (length x)) boundaries)
 
 -- the reply to the command by a table, and the text and the cursor after it
 abbrev pub table_turn : Table → State → Command → Turn

@@ -17,10 +17,6 @@ reply_of Outside = reply.Outside
 reply_of Inside = reply.Inside
 reply_of TooLong = reply.TooLong
 
--- a comma and the status
-abbrev pub next_status : ℕ → List ℕ
-next_status status = 44 ∷ decimal status
-
 -- a front of the line was appended
 pub record AppendsFront (old line new : List ℕ) : Type 0 where
   pub front : List ℕ

@@ -1,6 +1,7 @@
 //! The text of an edit.
 ghost use Rattle.std.specs.Prelude.{IfOk, MatchOption};
-ghost use Rattle.rbbi_script.specs.Readings.{IsNoEscape, IsNoNumberEscape, IsOnlyEscape, IsWordOf};
+ghost use Rattle.rbbi_script.specs.inner.Readings.{IsNoEscape, IsNoNumberEscape, IsOnlyEscape};
+ghost use Rattle.rbbi_script.specs.inner.Readings.{IsWordOf};
 
 use crate::pieces::{after, cut_at};
 use rbbi_text::{Word, hexadecimal, push_character};

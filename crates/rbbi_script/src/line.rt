@@ -1,6 +1,6 @@
 //! A line of a script.
 ghost use Rattle.std.specs.Prelude.{◌++◌, IfOk, codes};
-ghost use Rattle.rbbi_script.specs.Readings.{IsCommandOf};
+ghost use Rattle.rbbi_script.specs.inner.Readings.{IsCommandOf};
 
 use crate::command::Command;
 use crate::escape::word_of;

@@ -6,8 +6,10 @@ ghost use Rattle.rbbi_model.specs.Lines.{escaped, reply_lines, boundary_lines};
 ghost use Rattle.rbbi_session.specs.Sessions.{boundaries_of, HasTrueRuns};
 ghost use Rattle.rbbi_script.specs.Saying.{Appends};
 ghost use Rattle.rbbi_script.specs.Performing.{Performs};
-ghost use Rattle.rbbi_script.specs.Reading.{RisesUpTo, IsPaid, listing_cost};
-ghost use Rattle.rbbi_script.specs.Reading.{AsksNexts, ListsRuns};
+ghost use Rattle.rbbi_script.specs.Reading.{RisesUpTo, IsPaid};
+ghost use Rattle.rbbi_script.specs.inner.Reading.{listing_cost};
+ghost use Rattle.rbbi_script.specs.inner.Reading.{AsksNexts};
+ghost use Rattle.rbbi_script.specs.Reading.{ListsRuns};
 
 use crate::saying::{put, say_bound};
 use rbbi_session::Session;

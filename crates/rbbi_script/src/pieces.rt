@@ -1,7 +1,7 @@
 //! Pieces of a line.
 ghost use Rattle.std.specs.Prelude.{◌≡◌, ◌≢◌, ◌<◌, ◌∷◌, ◌++◌, ℕ, List, MatchOption};
 ghost use Rattle.rbbi_script.specs.Grammar.{IsField};
-ghost use Rattle.rbbi_script.specs.Readings.{IsOnlyField, IsFirstCut, HasNone};
+ghost use Rattle.rbbi_script.specs.inner.Readings.{IsOnlyField, IsFirstCut, HasNone};
 
 use rbbi_text::decimal;
 

@@ -1,7 +1,7 @@
 //! Lines that are no edits.
 ghost use Rattle.std.specs.Prelude.{◌≡◌, option_map};
 ghost use Rattle.rbbi_script.specs.Meaning.{meaning};
-ghost use Rattle.rbbi_script.specs.Readings.{IsOtherOf, named};
+ghost use Rattle.rbbi_script.specs.inner.Readings.{IsOtherOf, named};
 
 use crate::command::Command;
 use crate::pieces::after;

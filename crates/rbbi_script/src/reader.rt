@@ -3,8 +3,9 @@ ghost use Rattle.std.specs.Prelude.{◌≡◌, ◌≤◌, ◌++◌, length, IsTr
 ghost use Rattle.std.specs.Str.Lines.{lines};
 ghost use Rattle.rbbi_text.specs.Bytes.{most_bytes};
 ghost use Rattle.rbbi_script.specs.Grammar.{IsSkipped};
-ghost use Rattle.rbbi_script.specs.Files.{ReadsScript, ReadsLines};
-ghost use Rattle.rbbi_script.specs.LineReadings.{ReadsLine};
+ghost use Rattle.rbbi_script.specs.Files.{ReadsScript};
+ghost use Rattle.rbbi_script.specs.inner.Files.{ReadsLines};
+ghost use Rattle.rbbi_script.specs.inner.LineReadings.{ReadsLine};
 
 use crate::command::Commands;
 use crate::error::ScriptErr;

@@ -2,7 +2,8 @@
 ghost use Rattle.std.specs.Prelude.{◌≡◌, ◌++◌, ◌∷◌, [], List, ℕ, decimal};
 ghost use Rattle.rbbi_model.specs.Lines.{reply_lines, joined_statuses, boundary_line};
 ghost use Rattle.std.specs.List.{flat_map};
-ghost use Rattle.rbbi_script.specs.Saying.{reply_of, next_status, Appends};
+ghost use Rattle.rbbi_script.specs.Saying.{reply_of, Appends};
+ghost use Rattle.rbbi_script.specs.inner.Saying.{next_status};
 
 use itoa::Buffer;
 use std::alloc::AllocError;

@@ -7,8 +7,9 @@ use Rattle.std.proofs.lemmas.Bool.Decides.{nat_tests}
 use Rattle.std.proofs.lemmas.List.{get_or_default}
 use Rattle.rbbi_model.specs.Ranges.{Range}
 use Rattle.rbbi_sets.specs.Covers.{is_between, covers}
-use Rattle.rbbi_sets.specs.Joins.{Joins}
-use Rattle.rbbi_sets.specs.Rising.{AreRising, BeginUpTo, IsNextRange}
+use Rattle.rbbi_sets.specs.inner.Joins.{Joins}
+use Rattle.rbbi_sets.specs.Rising.{AreRising}
+use Rattle.rbbi_sets.specs.inner.Rising.{BeginUpTo, IsNextRange}
 use Rattle.rbbi_sets.proofs.Coverage.{covers-at, or_is_left, or_is_right}
 use Rattle.rbbi_sets.proofs.Rise.{begin-weaker, rising-range, rising-apart}
 use Rattle.rbbi_sets.proofs.Places.{covers-past, covers-gap, ended_through}

@@ -6,7 +6,8 @@ use Rattle.std.proofs.lemmas.Bool.{cases_lt}
 use Rattle.std.proofs.lemmas.List.Folds.{length-flat_map-take}
 use Rattle.std.proofs.lemmas.List.{flat_map_more, take_more, get_or_append_left, get_or-append_right}
 use Rattle.std.proofs.Math.Seq.{take-add}
-use Rattle.rbbi_sets.specs.Classes.{ClassBits, word_at, HasClass, IsOutside}
+use Rattle.rbbi_sets.specs.Classes.{ClassBits, word_at, HasClass}
+use Rattle.rbbi_sets.specs.inner.Classes.{IsOutside}
 use Rattle.rbbi_sets.proofs.ClassWords.{bits_of, word_at-before, word_at-from, word_at-past, no_word, has_alike}
 
 take-split : (from to : ℕ) (words : List ℕ) → from ≤ to → take to words ≡ take from words ++ slice_range words from to

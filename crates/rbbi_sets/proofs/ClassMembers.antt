@@ -1,7 +1,8 @@
 -- The members of sets that are made word by word.
 use Rattle.std.proofs.Common.{◌≡◌, ℕ, ◌+◌, ◌/◌, ◌<◌, ◌≤◌, ◌⊎◌, ◌↔◌, List, length, ap, sym, ◌∙◌, inl, inr, ⊎_elim}
 use Rattle.std.proofs.lemmas.Bool.{cases_lt}
-use Rattle.rbbi_sets.specs.Classes.{ClassBits, word_at, HasClass, HasMember, IsOutside, class_of}
+use Rattle.rbbi_sets.specs.Classes.{ClassBits, word_at, HasClass, HasMember, class_of}
+use Rattle.rbbi_sets.specs.inner.Classes.{IsOutside}
 use Rattle.rbbi_sets.proofs.ClassWords.{word_at-before, word_at-past, bits_of, no_word, has_alike}
 
 -- each word of one set is that of the other

@@ -5,7 +5,8 @@ use Rattle.std.specs.Prelude.{bit_and}
 use Rattle.std.specs.Int.RustNames.{bit_or}
 use Rattle.std.specs.Int.Bits.{or_zero_r}
 use Rattle.std.proofs.lemmas.Bool.{cases_lt}
-use Rattle.rbbi_sets.specs.Classes.{ClassBits, word_at, HasClass, IsOutside}
+use Rattle.rbbi_sets.specs.Classes.{ClassBits, word_at, HasClass}
+use Rattle.rbbi_sets.specs.inner.Classes.{IsOutside}
 use Rattle.rbbi_sets.proofs.ClassWords.{bits_of, word_at-before, word_at-from, word_at-past, no_word, has_alike}
 use Rattle.rbbi_sets.proofs.ClassWords.{has_or, has_and, has_and_not, has_turned, has_same, has_none}
 

@@ -8,7 +8,7 @@ use Rattle.rbbi_model.specs.Words.{IsSurrogate}
 use Rattle.std.proofs.lemmas.List.{take_more}
 use Rattle.rbbi_model.specs.Ranges.{Range, InRange, Has}
 use Rattle.rbbi_sets.specs.Classes.{class_of, ClassBits, word_at, HasClass, HasMember, AreBounds, IsFirstOfClass}
-use Rattle.rbbi_sets.specs.ClassRanges.{AreSurrogates}
+use Rattle.rbbi_sets.specs.inner.ClassRanges.{AreSurrogates}
 use Rattle.rbbi_sets.specs.Divisions.{first_of}
 use Rattle.rbbi_sets.proofs.Coverage.{has-append}
 use Rattle.rbbi_sets.proofs.ClassWords.{no_word, word_at-before}

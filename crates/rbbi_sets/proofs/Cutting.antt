@@ -8,8 +8,9 @@ use Rattle.std.proofs.lemmas.List.{get_or_default}
 use Rattle.std.proofs.lemmas.Bool.Decides.{nat_tests}
 use Rattle.rbbi_model.specs.Ranges.{Range}
 use Rattle.rbbi_sets.specs.Covers.{is_between, covers}
-use Rattle.rbbi_sets.specs.Joins.{Joins}
-use Rattle.rbbi_sets.specs.Rising.{AreRising, BeginUpTo, IsNextRange}
+use Rattle.rbbi_sets.specs.inner.Joins.{Joins}
+use Rattle.rbbi_sets.specs.Rising.{AreRising}
+use Rattle.rbbi_sets.specs.inner.Rising.{BeginUpTo, IsNextRange}
 use Rattle.rbbi_sets.proofs.Coverage.{covers-at, covers-append, covers-none, or_is_left}
 use Rattle.rbbi_sets.proofs.Rise.{begin-weaker, rising-range, rising-apart, rising-order}
 use Rattle.rbbi_sets.proofs.Runs.{run-before, run-behind, run-within, kept-rising, kept-begin}

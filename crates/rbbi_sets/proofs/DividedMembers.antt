@@ -6,8 +6,9 @@ use Rattle.std.proofs.lemmas.Bool.Decides.{Decides-or}
 use Rattle.std.proofs.lemmas.List.{drop_more, drop_all}
 use Rattle.rbbi_model.specs.Ranges.{Range, Has}
 use Rattle.rbbi_sets.specs.Covers.{is_between}
-use Rattle.rbbi_sets.specs.Joins.{Joins}
-use Rattle.rbbi_sets.specs.Rising.{AreRising, BeginUpTo}
+use Rattle.rbbi_sets.specs.inner.Joins.{Joins}
+use Rattle.rbbi_sets.specs.Rising.{AreRising}
+use Rattle.rbbi_sets.specs.inner.Rising.{BeginUpTo}
 use Rattle.rbbi_sets.specs.Classes.{ClassBits, HasClass, word_at}
 use Rattle.rbbi_sets.specs.Steps.{number_from, number_at, AreStepsFrom}
 use Rattle.rbbi_sets.specs.Divisions.{ClassDivision, IsDivision, HasDivided}

@@ -5,7 +5,8 @@ use Rattle.std.proofs.lemmas.Bool.{cases_lt}
 use Rattle.rbbi_model.specs.Words.{IsSurrogate}
 use Rattle.rbbi_model.specs.Ranges.{Range}
 use Rattle.rbbi_sets.specs.Classes.{AreBounds}
-use Rattle.rbbi_sets.specs.Steps.{number_at, AreSteps, Separate}
+use Rattle.rbbi_sets.specs.Steps.{number_at, AreSteps}
+use Rattle.rbbi_sets.specs.inner.Steps.{Separate}
 use Rattle.rbbi_sets.specs.Divisions.{ClassDivision, first_of, stand_in, IsRespected, IsDivision}
 use Rattle.rbbi_sets.specs.declared.steps.Step.{Step}
 use Rattle.rbbi_sets.proofs.ClassBounds.{bounds-range}

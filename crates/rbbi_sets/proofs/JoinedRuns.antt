@@ -6,7 +6,7 @@ use Rattle.std.proofs.lemmas.Bool.{cases_eq}
 use Rattle.std.proofs.lemmas.List.{append-nil}
 use Rattle.rbbi_model.specs.Ranges.{Range}
 use Rattle.rbbi_sets.specs.Covers.{is_between, covers}
-use Rattle.rbbi_sets.specs.Joins.{Joins, JoinsRun}
+use Rattle.rbbi_sets.specs.inner.Joins.{Joins, JoinsRun}
 use Rattle.rbbi_sets.specs.Rising.{AreRising}
 use Rattle.rbbi_sets.proofs.Coverage.{covers-append}
 use Rattle.rbbi_sets.proofs.Rise.{begin-weaker, rising-range, rising-apart, rising-order}

@@ -2,8 +2,9 @@
 use Rattle.std.proofs.Common.{◌≡◌, ℕ, ◌+◌, ◌≤◌, List, [], ◌∷◌, ◌++◌, length, get_or, set, take, ap, sym, ◌∙◌, subst, arith}
 use Rattle.rbbi_model.specs.Ranges.{Range}
 use Rattle.rbbi_sets.specs.Covers.{is_between}
-use Rattle.rbbi_sets.specs.Joins.{Joins}
-use Rattle.rbbi_sets.specs.Rising.{AreRising, BeginUpTo}
+use Rattle.rbbi_sets.specs.inner.Joins.{Joins}
+use Rattle.rbbi_sets.specs.Rising.{AreRising}
+use Rattle.rbbi_sets.specs.inner.Rising.{BeginUpTo}
 use Rattle.rbbi_sets.proofs.Coverage.{covers-push}
 use Rattle.rbbi_sets.proofs.Rise.{rising-range, last_split, last_set, rising-joined, rising-push, begin-push, begin-joined, begin-at, covers-joined}
 use Rattle.rbbi_sets.proofs.Rise.{covers-inside}

@@ -5,8 +5,9 @@ use Rattle.std.proofs.lemmas.Bool.{cases_lt}
 use Rattle.std.specs.List.{slice_range}
 use Rattle.rbbi_model.specs.Ranges.{Range}
 use Rattle.rbbi_sets.specs.Covers.{covers}
-use Rattle.rbbi_sets.specs.Joins.{JoinsRun}
-use Rattle.rbbi_sets.specs.Rising.{AreRising, BeginUpTo}
+use Rattle.rbbi_sets.specs.inner.Joins.{JoinsRun}
+use Rattle.rbbi_sets.specs.Rising.{AreRising}
+use Rattle.rbbi_sets.specs.inner.Rising.{BeginUpTo}
 use Rattle.rbbi_sets.proofs.Rise.{begin-weaker, rising-range, rising-order}
 use Rattle.rbbi_sets.proofs.Coverage.{covers-append}
 use Rattle.rbbi_sets.proofs.Runs.{take-split}

@@ -5,7 +5,8 @@ use Rattle.std.proofs.lemmas.Bool.{cases_eq, cases_lt}
 use Rattle.std.proofs.lemmas.List.{get_or_default}
 use Rattle.rbbi_model.specs.Ranges.{Range}
 use Rattle.rbbi_sets.specs.Covers.{covers}
-use Rattle.rbbi_sets.specs.Rising.{AreRising, IsNextRange}
+use Rattle.rbbi_sets.specs.Rising.{AreRising}
+use Rattle.rbbi_sets.specs.inner.Rising.{IsNextRange}
 use Rattle.rbbi_sets.proofs.Coverage.{covers-none}
 use Rattle.rbbi_sets.proofs.Rise.{rising-range, rising-apart, rising-order}
 

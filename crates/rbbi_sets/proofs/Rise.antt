@@ -7,7 +7,8 @@ use Rattle.std.proofs.lemmas.List.{set_split, drop_all, take_more, take_all, get
 use Rattle.std.proofs.lemmas.Bool.Decides.{nat_tests}
 use Rattle.rbbi_model.specs.Ranges.{Range}
 use Rattle.rbbi_sets.specs.Covers.{is_between, covers}
-use Rattle.rbbi_sets.specs.Rising.{AreRisingFrom, AreRising, BeginUpTo}
+use Rattle.rbbi_sets.specs.Rising.{AreRisingFrom, AreRising}
+use Rattle.rbbi_sets.specs.inner.Rising.{BeginUpTo}
 use Rattle.rbbi_sets.proofs.Coverage.{Decides-is_between, covers-at, covers-push}
 
 pub rising-bound : (bound : ℕ) (xs : List Range) → AreRisingFrom bound xs → (k : ℕ) (d : Range) → k < length xs → bound ≤ (get_or xs k d).low

@@ -6,7 +6,8 @@ use Rattle.std.proofs.lemmas.List.{get_or-drop, get_or-take, get_or_default, len
 use Rattle.std.proofs.Math.Seq.{take-add, drop-drop}
 use Rattle.rbbi_model.specs.Ranges.{Range}
 use Rattle.rbbi_sets.specs.Covers.{covers}
-use Rattle.rbbi_sets.specs.Rising.{AreRisingFrom, AreRising, BeginUpTo}
+use Rattle.rbbi_sets.specs.Rising.{AreRisingFrom, AreRising}
+use Rattle.rbbi_sets.specs.inner.Rising.{BeginUpTo}
 use Rattle.rbbi_sets.proofs.Coverage.{covers-append, covers-none, or_is_left, or_is_right}
 use Rattle.rbbi_sets.proofs.Rise.{rising-apart, rising-order}
 

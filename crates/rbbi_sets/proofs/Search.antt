@@ -3,7 +3,8 @@ use Rattle.std.proofs.Common.{◌≡◌, ℕ, ◌<◌, true, false, leb, ltb, Li
 use Rattle.std.specs.List.Sorted.{IsNonDecreasingBy, IsPartitionPoint}
 use Rattle.std.proofs.lemmas.Bool.{cases_lt, ltb-true, ltb-false, leb-true, le-leb, false≢true}
 use Rattle.rbbi_model.specs.Ranges.{Range, Has}
-use Rattle.rbbi_sets.specs.Rising.{AreRising, IsNextRange}
+use Rattle.rbbi_sets.specs.Rising.{AreRising}
+use Rattle.rbbi_sets.specs.inner.Rising.{IsNextRange}
 use Rattle.rbbi_sets.proofs.Coverage.{Decides-covers, covers-at}
 use Rattle.rbbi_sets.proofs.Rise.{rising-order}
 use Rattle.rbbi_sets.proofs.Places.{covers-past, covers-gap}

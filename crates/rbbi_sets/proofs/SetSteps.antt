@@ -5,7 +5,8 @@ use Rattle.std.proofs.lemmas.Bool.{cases_lt}
 use Rattle.std.proofs.lemmas.List.{take_more, take_all, drop_more, take-append-drop}
 use Rattle.rbbi_model.specs.Ranges.{Range, InRange, Has}
 use Rattle.rbbi_sets.specs.Rising.{AreRisingFrom, AreRising}
-use Rattle.rbbi_sets.specs.Steps.{number_at, AreInOrderFrom, Separate}
+use Rattle.rbbi_sets.specs.Steps.{number_at}
+use Rattle.rbbi_sets.specs.inner.Steps.{AreInOrderFrom, Separate}
 use Rattle.rbbi_sets.specs.declared.steps.Step.{Step}
 use Rattle.rbbi_sets.proofs.Coverage.{has-append}
 use Rattle.rbbi_sets.proofs.Stepping.{AreStepsTo, steps-weaker, steps-push, number-kept, number-pushed}

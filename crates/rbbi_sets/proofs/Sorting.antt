@@ -6,8 +6,9 @@ use Rattle.std.proofs.lemmas.List.{take_more, get_or_default}
 use Rattle.std.proofs.lemmas.List.Sorted.{Contains-permutation, IsPermutation-sym}
 use Rattle.rbbi_model.specs.Ranges.{Range, InRange, Has}
 use Rattle.rbbi_sets.specs.Covers.{is_between, covers}
-use Rattle.rbbi_sets.specs.Joins.{Joins}
-use Rattle.rbbi_sets.specs.Rising.{AreRising, BeginUpTo}
+use Rattle.rbbi_sets.specs.inner.Joins.{Joins}
+use Rattle.rbbi_sets.specs.Rising.{AreRising}
+use Rattle.rbbi_sets.specs.inner.Rising.{BeginUpTo}
 use Rattle.rbbi_sets.proofs.Coverage.{covers-push}
 use Rattle.rbbi_sets.proofs.Rise.{begin-weaker}
 

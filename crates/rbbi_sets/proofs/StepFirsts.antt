@@ -5,7 +5,8 @@ use Rattle.std.proofs.lemmas.List.{take_more, take_all, drop_more, get_or_append
 use Rattle.std.proofs.Math.Seq.{get_or-append_seam}
 use Rattle.std.proofs.Math.ListN.{length-append}
 use Rattle.rbbi_sets.specs.Classes.{AreBounds}
-use Rattle.rbbi_sets.specs.Steps.{number_at, AreStepsFrom, AreSteps, AreInOrderFrom, AreInOrder}
+use Rattle.rbbi_sets.specs.Steps.{number_at, AreStepsFrom, AreSteps}
+use Rattle.rbbi_sets.specs.inner.Steps.{AreInOrderFrom, AreInOrder}
 use Rattle.rbbi_sets.specs.Divisions.{first_of}
 use Rattle.rbbi_sets.specs.declared.steps.Step.{Step}
 use Rattle.rbbi_sets.proofs.ClassBounds.{AreBoundsTo, bounds-push, bounds-form}

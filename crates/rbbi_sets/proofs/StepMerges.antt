@@ -6,8 +6,9 @@ use Rattle.std.proofs.lemmas.List.{take_more, take_all, drop_all, drop_more}
 use Rattle.std.proofs.lemmas.List.{get_or_default}
 use Rattle.std.proofs.lemmas.Option.{slice_get_within}
 use Rattle.std.proofs.Math.ListN.{length-append}
-use Rattle.rbbi_sets.specs.Steps.{number_at, AreStepsFrom, AreSteps, AreInOrderFrom, BeginsAt}
-use Rattle.rbbi_sets.specs.Numbering.{IsNamed}
+use Rattle.rbbi_sets.specs.Steps.{number_at, AreStepsFrom, AreSteps}
+use Rattle.rbbi_sets.specs.inner.Steps.{AreInOrderFrom, BeginsAt}
+use Rattle.rbbi_sets.specs.inner.Numbering.{IsNamed}
 use Rattle.rbbi_sets.specs.declared.steps.Step.{Step}
 use Rattle.rbbi_sets.specs.declared.steps.Walk.{Walk}
 use Rattle.rbbi_sets.specs.declared.pairs.Pair.{Pair}

@@ -35,10 +35,6 @@ word_at set i = if nat_lt i set.from then 0 else slice_index set.words (i - set.
 abbrev pub HasClass : ClassBits → ℕ → Type 0
 HasClass set k = bit_at (word_at set (k / 64)) (k % 64) ≡ 1
 
--- no word of the set is in the place of the class with this number
-abbrev pub IsOutside : ClassBits → ℕ → Type 0
-IsOutside set k = (k / 64 < set.from) ⊎ (set.from + length set.words ≤ k / 64)
-
 -- the set has the last class that begins up to the code point, and so that which begins at it
 abbrev pub HasMember : List ℕ → ClassBits → ℕ → Type 0
 HasMember bounds set c = (c ≤ 0x10FFFF) × HasClass set (class_of bounds c)

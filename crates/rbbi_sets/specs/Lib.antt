@@ -1,11 +1,9 @@
 pub mod Rising
 pub mod Covers
-pub mod Joins
 pub mod Classes
 pub mod Steps
-pub mod Numbering
 pub mod Divisions
-pub mod ClassRanges
 pub mod Passing
 pub mod CharacterSets
 pub mod Laws
+pub mod inner

@@ -16,12 +16,3 @@ AreRisingFrom bound (range ∷ ranges) =
 -- the ranges rise, and neither overlap nor touch
 abbrev pub AreRising : List Range → Type 0
 AreRising ranges = AreRisingFrom 0 ranges
-
--- each range begins at this code point or before it
-abbrev pub BeginUpTo : List Range → ℕ → Type 0
-BeginUpTo [] c = Unit {0}
-BeginUpTo (range ∷ ranges) c = (range.low ≤ c) × BeginUpTo ranges c
-
--- the number is that of the first range that doesn't end before the code point
-abbrev pub IsNextRange : List Range → ℕ → ℕ → Type 0
-IsNextRange ranges c next = IsPartitionPoint (λ range. range.high < c) (λ range. c ≤ range.high) ranges next

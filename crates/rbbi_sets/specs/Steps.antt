@@ -21,21 +21,3 @@ AreStepsFrom least (step ∷ steps) = (least ≤ step.start) × (step.start ≤ 
 -- the steps rise, past 0
 abbrev pub AreSteps : List Step → Type 0
 AreSteps steps = AreStepsFrom 1 steps
-
--- a number that comes for the first time is the least one that hasn't come; those less than `next` have
-abbrev pub AreInOrderFrom : ℕ → List Step → Type 0
-AreInOrderFrom next [] = Unit {0}
-AreInOrderFrom next (step ∷ steps) = (step.number ≤ next) × AreInOrderFrom (if nat_le next step.number then step.number + 1 else next) steps
-
--- numbers come for the first time in their order, 0 before the first step
-abbrev pub AreInOrder : List Step → Type 0
-AreInOrder steps = AreInOrderFrom 1 steps
-
--- code points of one number are in the same of these sets
-abbrev pub Separate : List Step → List (List Range) → Type 0
-Separate steps sets =
-    (c d : ℕ) → c ≤ 0x10FFFF → d ≤ 0x10FFFF → number_at steps c ≡ number_at steps d → (set : List Range) → Contains sets set → Has set c → Has set d
-
--- there is a step with this number, and it begins at the code point
-abbrev pub BeginsAt : List Step → ℕ → ℕ → Type 0
-BeginsAt steps k start = (k < length steps) × ((d : Step) → (slice_index_or steps k d).start ≡ start)

@@ -4,7 +4,7 @@ ghost use Rattle.std.specs.Int.{bit_at};
 ghost use Rattle.rbbi_model.specs.Words.{IsSurrogate};
 ghost use Rattle.rbbi_model.specs.Ranges.{Has};
 ghost use Rattle.rbbi_sets.specs.Classes.{class_of, IsFirstOfClass, HasMember};
-ghost use Rattle.rbbi_sets.specs.ClassRanges.{AreSurrogates};
+ghost use Rattle.rbbi_sets.specs.inner.ClassRanges.{AreSurrogates};
 
 use crate::{ClassSet, CodeSet, Layout};
 use std::alloc::{AllocError, Global};

@@ -2,9 +2,10 @@
 ghost use Rattle.std.specs.Prelude.{◌≡◌, ◌≤◌, ◌<◌, ◌+◌, ◌-◌, ℕ, IfOk, OnOk, length, not, ◌&&◌};
 ghost use Rattle.std.specs.Prelude.{nat_lt, slice_index_or};
 ghost use Rattle.rbbi_model.specs.Ranges.{Range};
-ghost use Rattle.rbbi_sets.specs.Rising.{AreRising, BeginUpTo};
+ghost use Rattle.rbbi_sets.specs.Rising.{AreRising};
+ghost use Rattle.rbbi_sets.specs.inner.Rising.{BeginUpTo};
 ghost use Rattle.rbbi_sets.specs.Covers.{covers, is_between};
-ghost use Rattle.rbbi_sets.specs.Joins.{Joins};
+ghost use Rattle.rbbi_sets.specs.inner.Joins.{Joins};
 
 use crate::CodeRange;
 use crate::join::join_last;

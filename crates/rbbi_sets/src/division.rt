@@ -3,7 +3,8 @@ ghost use Rattle.std.specs.Prelude.{◌≡◌, ◌≤◌, ℕ, List, IfOk, lengt
 ghost use Rattle.std.specs.List.{Contains};
 ghost use Rattle.rbbi_model.specs.Ranges.{Range};
 ghost use Rattle.rbbi_sets.specs.Classes.{AreBounds};
-ghost use Rattle.rbbi_sets.specs.Steps.{number_at, AreSteps, AreInOrder};
+ghost use Rattle.rbbi_sets.specs.Steps.{number_at, AreSteps};
+ghost use Rattle.rbbi_sets.specs.inner.Steps.{AreInOrder};
 ghost use Rattle.rbbi_sets.specs.Divisions.{IsRespected, IsDivision, first_of};
 
 use crate::steps::{Step, merged, steps_of};

@@ -1,8 +1,9 @@
 //! Ranges put at the end of a list that rises.
 ghost use Rattle.std.specs.Prelude.{◌≤◌, OnOk};
-ghost use Rattle.rbbi_sets.specs.Rising.{AreRising, BeginUpTo};
+ghost use Rattle.rbbi_sets.specs.Rising.{AreRising};
+ghost use Rattle.rbbi_sets.specs.inner.Rising.{BeginUpTo};
 ghost use Rattle.rbbi_sets.specs.Covers.{is_between};
-ghost use Rattle.rbbi_sets.specs.Joins.{Joins};
+ghost use Rattle.rbbi_sets.specs.inner.Joins.{Joins};
 
 use crate::CodeRange;
 use std::alloc::AllocError;

@@ -1,6 +1,6 @@
 //! Numbers of pairs of numbers.
 ghost use Rattle.std.specs.Prelude.{◌≡◌, ◌<◌, ◌^◌, ◌∷◌, [], Some, IfOk, IsTrue, length, slice_get};
-ghost use Rattle.rbbi_sets.specs.Numbering.{IsNamed};
+ghost use Rattle.rbbi_sets.specs.inner.Numbering.{IsNamed};
 
 use std::alloc::{AllocError, Global};
 use std::collections::HashMap;

@@ -3,8 +3,9 @@ ghost use Rattle.std.specs.Prelude.{◌≡◌, ◌-◌, ◌<◌, ◌≤◌, ◌+
 ghost use Rattle.std.specs.Prelude.{slice_index_or};
 ghost use Rattle.std.specs.List.{AllWithin, slice_range};
 ghost use Rattle.rbbi_model.specs.Ranges.{Range};
-ghost use Rattle.rbbi_sets.specs.Rising.{AreRising, BeginUpTo, IsNextRange};
-ghost use Rattle.rbbi_sets.specs.Joins.{JoinsRun};
+ghost use Rattle.rbbi_sets.specs.Rising.{AreRising};
+ghost use Rattle.rbbi_sets.specs.inner.Rising.{BeginUpTo, IsNextRange};
+ghost use Rattle.rbbi_sets.specs.inner.Joins.{JoinsRun};
 
 use crate::CodeRange;
 use crate::join::join_last;

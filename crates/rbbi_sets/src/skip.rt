@@ -3,7 +3,8 @@ ghost use Rattle.std.specs.Prelude.{◌≡◌, ◌≤◌, ◌<◌, ◌+◌, leng
 ghost use Rattle.std.specs.Prelude.{slice_index_or};
 ghost use Rattle.std.specs.List.{AllWithin};
 ghost use Rattle.rbbi_model.specs.Ranges.{Range};
-ghost use Rattle.rbbi_sets.specs.Rising.{AreRising, IsNextRange};
+ghost use Rattle.rbbi_sets.specs.Rising.{AreRising};
+ghost use Rattle.rbbi_sets.specs.inner.Rising.{IsNextRange};
 
 use crate::CodeRange;
 

@@ -2,7 +2,8 @@
 ghost use Rattle.std.specs.Prelude.{◌≡◌, ◌≤◌, ◌<◌, ◌+◌, ◌⊎◌, ℕ, [], ◌∷◌, List, IfOk, length};
 ghost use Rattle.std.specs.Prelude.{slice_index_or};
 ghost use Rattle.rbbi_model.specs.Ranges.{Range};
-ghost use Rattle.rbbi_sets.specs.Steps.{number_at, AreSteps, AreInOrder, Separate, BeginsAt};
+ghost use Rattle.rbbi_sets.specs.Steps.{number_at, AreSteps};
+ghost use Rattle.rbbi_sets.specs.inner.Steps.{AreInOrder, Separate, BeginsAt};
 
 use crate::CodeSet;
 use crate::pairs::{Pair, Pairs};

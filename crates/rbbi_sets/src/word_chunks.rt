@@ -2,7 +2,8 @@
 ghost use Rattle.std.specs.Prelude.{◌+◌, ◌^◌, ◌≤◌, ◌↔◌, ◌⊎◌, ℕ, length};
 ghost use Rattle.std.specs.List.{flat_map};
 ghost use Rattle.std.specs.Rc.{rc_slice_items};
-ghost use Rattle.rbbi_sets.specs.Classes.{HasClass, IsOutside};
+ghost use Rattle.rbbi_sets.specs.Classes.{HasClass};
+ghost use Rattle.rbbi_sets.specs.inner.Classes.{IsOutside};
 
 use crate::word_rows::{join_words, meet_words, remove_words};
 use std::rc::RcSlice;

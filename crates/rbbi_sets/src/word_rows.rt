@@ -1,7 +1,8 @@
 //! Rows of words, of which the first one has a number, put together with other words.
 ghost use Rattle.std.specs.Prelude.{◌≡◌, ◌+◌, ◌/◌, ◌^◌, ◌<◌, ◌≤◌, ◌↔◌, ◌⊎◌, ℕ, length, IfOk};
 ghost use Rattle.std.specs.Prelude.{slice_index};
-ghost use Rattle.rbbi_sets.specs.Classes.{HasClass, IsOutside};
+ghost use Rattle.rbbi_sets.specs.Classes.{HasClass};
+ghost use Rattle.rbbi_sets.specs.inner.Classes.{IsOutside};
 
 use std::alloc::{AllocError, Global};
 

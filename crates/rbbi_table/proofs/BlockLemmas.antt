@@ -6,7 +6,8 @@ use Rattle.std.proofs.lemmas.Bool.{cases_eq, cases_lt}
 use Rattle.std.proofs.lemmas.List.{get_or_append_left, get_or_push, length_push, get_or-take, get_or-drop, length-take}
 use Rattle.rbbi_model.specs.Tables.{CategoryRange, category_of}
 use Rattle.rbbi_model.specs.ValidTables.{AreApart}
-use Rattle.rbbi_table.specs.Kept.{start_of, IsUpTo, Holds, in_block, AreFirstBlocks}
+use Rattle.rbbi_table.specs.inner.Kept.{start_of, IsUpTo, Holds}
+use Rattle.rbbi_table.specs.Kept.{in_block, AreFirstBlocks}
 use Rattle.rbbi_table.proofs.RangeLemmas.{category_held}
 
 -- the number of a block that was there before

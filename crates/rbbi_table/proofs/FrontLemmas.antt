@@ -10,8 +10,8 @@ use Rattle.rbbi_model.specs.ValidTables.{IsWay}
 use Rattle.rbbi_model.proofs.Cuts.{no_bit}
 use Rattle.rbbi_model.proofs.SearchFacts.{row_along_append}
 use Rattle.rbbi_table.specs.Parts.{rows_of, AreSteps}
-use Rattle.rbbi_table.specs.Fronts.{IsFronted}
-use Rattle.rbbi_table.specs.Targets.{IsGathered, AddsTarget}
+use Rattle.rbbi_table.specs.inner.Fronts.{IsFronted}
+use Rattle.rbbi_table.specs.inner.Targets.{IsGathered, AddsTarget}
 use Rattle.rbbi_table.proofs.MoveLemmas.{steps_of, steps_long, steps_are, row_end}
 
 -- 0 has no bit

@@ -6,7 +6,8 @@ use Rattle.std.proofs.lemmas.List.{length-map}
 use Rattle.std.proofs.Math.Nat.{mul-le-mul_right}
 use Rattle.rbbi_model.specs.Tables.{RowHead, Table, empty_head}
 use Rattle.rbbi_table.specs.Parts.{rows_of, AreSteps}
-use Rattle.rbbi_table.specs.Kept.{move_flags, row_moves, HasMoves, AreFirstMoves}
+use Rattle.rbbi_table.specs.Kept.{move_flags, HasMoves, AreFirstMoves}
+use Rattle.rbbi_table.specs.inner.Kept.{row_moves}
 
 -- the next rows of a row
 abbrev pub steps_of : ℕ → List ℕ → ℕ → List ℕ

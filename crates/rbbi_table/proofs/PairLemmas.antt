@@ -5,7 +5,8 @@ use Rattle.std.proofs.lemmas.Bool.{cases_eq, cases_lt, cond-true, cond-false, eq
 use Rattle.rbbi_model.specs.Tables.{Table, RowHead, step}
 use Rattle.rbbi_model.specs.SafePairs.{IsSafePair, stored_bit}
 use Rattle.rbbi_table.specs.Parts.{rows_of, AreSteps}
-use Rattle.rbbi_table.specs.Targets.{AreTargets, LeadToOne, ArePairsOf}
+use Rattle.rbbi_table.specs.inner.Targets.{AreTargets, LeadToOne}
+use Rattle.rbbi_table.specs.Targets.{ArePairsOf}
 use Rattle.rbbi_table.proofs.MoveLemmas.{row_end}
 
 -- the bits below a number are those of the safe pairs, and none is set from there on

@@ -5,7 +5,7 @@ use Rattle.std.proofs.lemmas.List.{drop_more}
 use Rattle.std.specs.List.{AllByRecursion}
 use Rattle.rbbi_model.specs.Tables.{CategoryRange, category_from, category_of}
 use Rattle.rbbi_model.specs.ValidTables.{AreApart, IsWithin, AreValidRanges}
-use Rattle.rbbi_table.specs.Kept.{GoesOn, start_of, Holds}
+use Rattle.rbbi_table.specs.inner.Kept.{GoesOn, start_of, Holds}
 
 abbrev pub no_range : CategoryRange
 no_range = record { start = 0; category = 0 }

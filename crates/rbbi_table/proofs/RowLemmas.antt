@@ -6,8 +6,8 @@ use Rattle.std.proofs.Math.Nat.{div-lt_iff_lt-mul}
 use Rattle.rbbi_model.specs.Tables.{Table, RowHead, empty_head, head_of, accept_of, step, row_along}
 use Rattle.rbbi_model.specs.ValidTables.{IsValidRow, LeadsToZero, AreValidRows, IsPlain, IsWay, AreFronted}
 use Rattle.rbbi_table.specs.Parts.{rows_of, AreSteps}
-use Rattle.rbbi_table.specs.Rows.{IsValidEntry}
-use Rattle.rbbi_table.specs.Fronts.{IsFronted}
+use Rattle.rbbi_table.specs.inner.Rows.{IsValidEntry}
+use Rattle.rbbi_table.specs.inner.Fronts.{IsFronted}
 use Rattle.rbbi_table.proofs.MoveLemmas.{steps_of, steps_long, steps_are}
 
 -- what is checked of the row

@@ -8,7 +8,7 @@ use Rattle.std.proofs.lemmas.List.{length-replicate}
 use Rattle.std.proofs.lemmas.List.Sums.{sum_by-set}
 use Rattle.rbbi_model.specs.Tables.{Table, step, accept_of}
 use Rattle.rbbi_model.specs.SafePairs.{IsOpen}
-use Rattle.rbbi_table.specs.Targets.{IsGathered, AddsTarget}
+use Rattle.rbbi_table.specs.inner.Targets.{IsGathered, AddsTarget}
 
 -- these are the rows that open rows below a row lead to by the category
 pub record AreTargetsBelow (table : Table) (category : ℕ) (targets : List ℕ) (count : ℕ) : Type 0 where

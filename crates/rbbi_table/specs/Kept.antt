@@ -4,26 +4,6 @@ use Rattle.std.specs.Prelude.{if◌then◌else◌, ◌==◌, nat_le}
 use Rattle.rbbi_model.specs.Tables.{Table, CategoryRange, category_of, RowHead, empty_head, head_of, accept_of, fronts_of, list_of, step}
 use Rattle.rbbi_model.specs.ValidTables.{IsWithin, IsValidTable}
 
--- where the range with this number starts
-abbrev pub start_of : List CategoryRange → ℕ → ℕ
-start_of ranges range = (slice_index_or ranges range (record { start = 0; category = 0 })).start
-
--- the range is valid behind the one before it
-abbrev pub GoesOn : ℕ → CategoryRange → CategoryRange → Type 0
-GoesOn categories previous range = (previous.start < range.start) × (previous.category ≢ range.category) × IsWithin categories range
-
--- The range begins at c or before it, and the next one doesn't begin before c.
-pub record IsUpTo (ranges : List CategoryRange) (range c : ℕ) : Type 0 where
-  pub within : range < length ranges
-  pub begins : start_of ranges range ≤ c
-  pub ends : range + 1 < length ranges → c ≤ start_of ranges (range + 1)
-
--- the range holds the code point
-pub record Holds (ranges : List CategoryRange) (range c : ℕ) : Type 0 where
-  pub within : range < length ranges
-  pub begins : start_of ranges range ≤ c
-  pub ends : range + 1 < length ranges → c < start_of ranges (range + 1)
-
 -- what is found in two steps: the number of the block of 256, then the place in the block
 abbrev pub in_block : List ℕ → List ℕ → ℕ → ℕ
 in_block numbers kept c = slice_index kept (slice_index numbers (c / 256) * 256 + c % 256)
@@ -54,12 +34,6 @@ move_flags head row = (if head.accept == 1 then 1 else 0) + (if head.fronts == 0
 -- a front ends there, and 4 where a search ends there.
 abbrev pub move_to : Table → ℕ → ℕ
 move_to table row = row * stride table * 8 + move_flags (head_of table row) row
-
--- the moves to these next rows, and behind them the row's front mask, its list and its accept number
-abbrev pub row_moves : ℕ → List RowHead → List ℕ → RowHead → List ℕ
-row_moves width rows steps head =
-    map (λ next. next * width * 8 + move_flags (slice_index_or rows next empty_head) next) steps
-    ++ head.fronts ∷ head.list ∷ head.accept ∷ []
 
 -- the moves of the row, one for each category, and behind them its front mask, its list and its accept number
 pub record HasMoves (table : Table) (moves : List ℕ) (row : ℕ) : Type 0 where

@@ -1,7 +1,6 @@
 pub mod Errors
 pub mod Parts
 pub mod Answers
-pub mod Rows
-pub mod Fronts
 pub mod Targets
 pub mod Kept
+pub mod inner

@@ -3,7 +3,8 @@ ghost use Rattle.std.specs.Prelude.{◌≡◌, ℕ, ◌↔◌, ◌+◌, ◌*◌,
 ghost use Rattle.std.specs.Prelude.{slice_index, slice_range, IfOk, IfSome, OnOk, IsTrue};
 ghost use Rattle.rbbi_model.specs.Tables.{category_of};
 ghost use Rattle.rbbi_model.specs.ValidTables.{StartsAtZero, AreApart};
-ghost use Rattle.rbbi_table.specs.Kept.{start_of, IsUpTo, Holds, AreBlocks, in_block};
+ghost use Rattle.rbbi_table.specs.inner.Kept.{start_of, IsUpTo, Holds};
+ghost use Rattle.rbbi_table.specs.Kept.{AreBlocks, in_block};
 
 use crate::RangeRow;
 use crate::limits::LAST_CODE_POINT;

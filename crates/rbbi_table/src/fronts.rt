@@ -4,7 +4,7 @@ ghost use Rattle.std.specs.Prelude.{slice_index_or, IfOk, IsTrue};
 ghost use Rattle.rbbi_model.specs.Tables.{empty_head};
 ghost use Rattle.rbbi_model.specs.ValidTables.{AreFronted, AreValidRows, IsPlain};
 ghost use Rattle.rbbi_table.specs.Parts.{table_of, rows_of, AreSteps};
-ghost use Rattle.rbbi_table.specs.Fronts.{IsFronted};
+ghost use Rattle.rbbi_table.specs.inner.Fronts.{IsFronted};
 
 use crate::bits::has_front;
 use crate::gather::add_target;

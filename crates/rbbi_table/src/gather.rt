@@ -1,6 +1,6 @@
 //! Rows gathered once each.
 ghost use Rattle.std.specs.Prelude.{◌≡◌, ◌<◌, length, OnOk};
-ghost use Rattle.rbbi_table.specs.Targets.{IsGathered, AddsTarget};
+ghost use Rattle.rbbi_table.specs.inner.Targets.{IsGathered, AddsTarget};
 
 use std::alloc::AllocError;
 

@@ -3,7 +3,8 @@ ghost use Rattle.std.specs.Prelude.{◌≡◌, ℕ, ◌+◌, ◌*◌, ◌^◌, �
 ghost use Rattle.std.specs.Prelude.{slice_index_or, IfOk, OnOk};
 ghost use Rattle.rbbi_model.specs.Tables.{empty_head};
 ghost use Rattle.rbbi_table.specs.Parts.{rows_of, AreSteps};
-ghost use Rattle.rbbi_table.specs.Kept.{move_flags, row_moves, AreMoves};
+ghost use Rattle.rbbi_table.specs.Kept.{move_flags, AreMoves};
+ghost use Rattle.rbbi_table.specs.inner.Kept.{row_moves};
 
 use crate::RowHead;
 use std::alloc::{AllocError, Global};

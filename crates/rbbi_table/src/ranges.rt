@@ -1,7 +1,7 @@
 //! Whether the ranges of the categories are valid.
 ghost use Rattle.std.specs.Prelude.{◌↔◌, IsTrue};
 ghost use Rattle.rbbi_model.specs.ValidTables.{AreValidRanges};
-ghost use Rattle.rbbi_table.specs.Kept.{GoesOn};
+ghost use Rattle.rbbi_table.specs.inner.Kept.{GoesOn};
 
 use crate::RangeRow;
 use crate::limits::{LAST_CODE_POINT, MOST_CATEGORIES};

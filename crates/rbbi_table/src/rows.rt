@@ -3,7 +3,7 @@ ghost use Rattle.std.specs.Prelude.{◌≡◌, ℕ, ◌↔◌, ◌+◌, ◌*◌,
 ghost use Rattle.std.specs.Prelude.{slice_index_or, EachIndex, IsTrue};
 ghost use Rattle.rbbi_model.specs.ValidTables.{AreValidRows, IsPlain};
 ghost use Rattle.rbbi_model.specs.Tables.{empty_head};
-ghost use Rattle.rbbi_table.specs.Rows.{IsValidHead, IsValidEntry};
+ghost use Rattle.rbbi_table.specs.inner.Rows.{IsValidHead, IsValidEntry};
 ghost use Rattle.rbbi_table.specs.Parts.{table_of};
 
 use crate::limits::{MOST_ROWS, MOST_SLASHES};

@@ -2,7 +2,8 @@
 ghost use Rattle.std.specs.Prelude.{◌≡◌, ℕ, ◌↔◌, ◌+◌, ◌*◌, ◌^◌, ◌<◌, ◌≤◌, [], length, slice_index};
 ghost use Rattle.std.specs.Prelude.{IfOk, OnOk, IsTrue};
 ghost use Rattle.rbbi_table.specs.Parts.{rows_of, AreSteps};
-ghost use Rattle.rbbi_table.specs.Targets.{AreTargets, LeadToOne, ArePairsOf};
+ghost use Rattle.rbbi_table.specs.inner.Targets.{AreTargets, LeadToOne};
+ghost use Rattle.rbbi_table.specs.Targets.{ArePairsOf};
 
 use crate::bits::store;
 use crate::gather::add_target;

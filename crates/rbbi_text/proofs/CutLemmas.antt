@@ -11,8 +11,9 @@ use Rattle.rbbi_model.specs.Words.{IsText, most_characters}
 use Rattle.rbbi_model.specs.Spelling.{joined}
 use Rattle.rbbi_model.specs.Scripts.{splice}
 use Rattle.rbbi_model.proofs.Lists.{all_append}
-use Rattle.rbbi_text.specs.Cuts.{starts_from, IsFilled, AreFilled, ArePieces, AreCut, AreSoFar, HaveRoom, IsIn, moved, pieces_with, starts_with_new}
-use Rattle.rbbi_text.specs.Cuts.{edited_piece, AreWholeCut, IsFound, IsMiddle}
+use Rattle.rbbi_text.specs.Cuts.{starts_from, IsFilled, AreFilled, ArePieces, AreCut}
+use Rattle.rbbi_text.specs.inner.Cuts.{AreSoFar, HaveRoom, IsIn, moved, pieces_with, starts_with_new}
+use Rattle.rbbi_text.specs.inner.Cuts.{edited_piece, AreWholeCut, IsFound, IsMiddle}
 use Rattle.rbbi_text.proofs.Splices.{length-splice, text-splice}
 
 -- joined pieces

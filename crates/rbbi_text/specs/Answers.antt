@@ -23,13 +23,6 @@ ReadsText bytes (Err (raw.NotUtf8 at)) = IsNotUtf8At bytes at
 ReadsText bytes (Err raw.TooManyChars) = IsUtf8 bytes × (most_characters < length (chars bytes))
 ReadsText bytes (Err raw.Memory) = Unit {0}
 
--- what is answered before a text of so many characters is edited: how many are added, or why it is not edited
-abbrev pub Allows : ℕ → ℕ → ℕ → ℕ → Result ℕ EditErr → Type 0
-Allows len at remove added (Ok count) = (at + remove ≤ len) × (len - remove + added ≤ most_characters) × (count ≡ added)
-Allows len at remove added (Err edit.Outside) = len < at + remove
-Allows len at remove added (Err edit.TooLong) = (at + remove ≤ len) × (most_characters < len - remove + added)
-Allows len at remove added (Err edit.Memory) = ⊥
-
 -- what an edit of a text answers, and the text that it leaves
 abbrev pub Replaces : {T : Type 0} → List ℕ → ℕ → ℕ → List ℕ → Result T EditErr → List ℕ → Type 0
 Replaces old at remove insert (Ok _) new =

@@ -6,3 +6,4 @@ pub mod LineValues
 pub mod Answers
 pub mod Errors
 pub mod Cuts
+pub mod inner

@@ -4,7 +4,8 @@ ghost use Rattle.std.specs.Prelude.{IfOk, OnOk, OnErr, MatchOption, MatchBool, [
 ghost use Rattle.std.specs.List.{AllByRecursion, splice};
 ghost use Rattle.rbbi_model.specs.Words.{most_characters};
 ghost use Rattle.rbbi_model.specs.Spelling.{joined};
-ghost use Rattle.rbbi_text.specs.Cuts.{IsFilled, AreFilled, ArePieces, AreSoFar, HaveRoom};
+ghost use Rattle.rbbi_text.specs.Cuts.{IsFilled, AreFilled, ArePieces};
+ghost use Rattle.rbbi_text.specs.inner.Cuts.{AreSoFar, HaveRoom};
 
 use crate::plain::{MOST_CHARACTERS, put};
 use std::alloc::{AllocError, Global};

@@ -6,8 +6,9 @@ ghost use Rattle.rbbi_model.specs.Words.{most_characters};
 ghost use Rattle.rbbi_model.specs.Spelling.{joined};
 ghost use Rattle.rbbi_model.specs.Scripts.{splice};
 ghost use Rattle.rbbi_text.specs.Bytes.{most_bytes};
-ghost use Rattle.rbbi_text.specs.Cuts.{ArePieces, AreWholeCut, IsMiddle, moved, pieces_with};
-ghost use Rattle.rbbi_text.specs.Cuts.{starts_with_new, edited_piece};
+ghost use Rattle.rbbi_text.specs.Cuts.{ArePieces};
+ghost use Rattle.rbbi_text.specs.inner.Cuts.{AreWholeCut, IsMiddle, moved, pieces_with};
+ghost use Rattle.rbbi_text.specs.inner.Cuts.{starts_with_new, edited_piece};
 ghost use Rattle.rbbi_text.specs.Answers.{TakesText, ReadsText};
 
 use crate::piece::{FULL, Piece, QUARTER, cut, pieces_of};

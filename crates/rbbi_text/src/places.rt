@@ -2,7 +2,8 @@
 ghost use Rattle.std.specs.Prelude.{◌≡◌, ◌-◌, ◌+◌, ◌/◌, ◌^◌, ◌<◌, ◌≤◌, ◌++◌, ℕ, length, take, drop};
 ghost use Rattle.std.specs.Prelude.{min, slice_index, IfOk, OnOk};
 ghost use Rattle.rbbi_model.specs.Spelling.{joined};
-ghost use Rattle.rbbi_text.specs.Cuts.{starts_from, moved, IsIn, IsFound, AreWholeCut};
+ghost use Rattle.rbbi_text.specs.Cuts.{starts_from};
+ghost use Rattle.rbbi_text.specs.inner.Cuts.{moved, IsIn, IsFound, AreWholeCut};
 
 use crate::piece::{FULL, Piece};
 use std::alloc::AllocError;

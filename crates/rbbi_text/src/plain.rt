@@ -14,7 +14,8 @@ ghost use Rattle.std.specs.List.{splice};
 ghost use Rattle.rbbi_model.specs.Words.{most_characters};
 ghost use Rattle.rbbi_text.specs.Bytes.{most_bytes};
 ghost use Rattle.rbbi_text.specs.Texts.{IsShortText};
-ghost use Rattle.rbbi_text.specs.Answers.{TakesText, ReadsText, Allows};
+ghost use Rattle.rbbi_text.specs.Answers.{TakesText, ReadsText};
+ghost use Rattle.rbbi_text.specs.inner.Answers.{Allows};
 
 use crate::{Chars, EditErr, EditText, Raw, RawErr, Steps, TextErr};
 use std::alloc::{AllocError, Global};

@@ -5,7 +5,8 @@ use Rattle.std.proofs.lemmas.Bool.{cond_both}
 use Rattle.rbbi_tool.specs.declared.refusal.Refusal.{Refusal}
 use Rattle.rbbi_tool.specs.declared.words.command.Command.{Command}
 use Rattle.rbbi_tool.specs.declared.words.command.Command.TheVariants.{Check, Compile, Breaks, Run, Conform, Demo}
-use Rattle.rbbi_tool.specs.Stages.{Stage, Meets}
+use Rattle.rbbi_tool.specs.Stages.{Stage}
+use Rattle.rbbi_tool.specs.inner.Stages.{Meets}
 use Rattle.rbbi_tool.specs.Refusals.{Outcome}
 use Rattle.rbbi_tool.specs.Words.{Request, operands_of}
 use Rattle.rbbi_tool.specs.Program.{nth, command_stage, files_stage}

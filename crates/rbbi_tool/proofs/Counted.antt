@@ -14,12 +14,14 @@ use Rattle.rbbi_tool.specs.declared.files.Source.{Source}
 use Rattle.rbbi_tool.specs.Stages.{Stage}
 use Rattle.rbbi_tool.specs.Words.{Request, Asks, operands_of}
 use Rattle.rbbi_tool.specs.Files.{property_source, operand_sources, sources_of}
-use Rattle.rbbi_tool.specs.Reads.{bytes_of, AreRead, MakesSomeReads}
+use Rattle.rbbi_tool.specs.Reads.{bytes_of, MakesSomeReads}
+use Rattle.rbbi_tool.specs.inner.Reads.{AreRead}
 use Rattle.rbbi_tool.specs.Texts.{text_stage}
 use Rattle.rbbi_tool.specs.Scripts.{script_stage}
 use Rattle.rbbi_tool.specs.Basis.{Basis, IsTableOf, basis_stage}
 use Rattle.rbbi_tool.specs.Program.{nth}
-use Rattle.rbbi_tool.specs.Steps.{counted, named_bytes, ReadsForBreaks, ReadsForScript, CommandReads, given_bytes, FilesReads, RequestReads, ReadsInOrder}
+use Rattle.rbbi_tool.specs.Steps.{counted, named_bytes, ReadsForBreaks, ReadsForScript, CommandReads, RequestReads}
+use Rattle.rbbi_tool.specs.inner.Steps.{given_bytes, FilesReads, ReadsInOrder}
 use Rattle.rbbi_tool.proofs.Forms.{same_request}
 use Rattle.rbbi_tool.proofs.Reading.{all_told, always_told}
 

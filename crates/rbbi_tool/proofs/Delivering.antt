@@ -8,7 +8,8 @@ use Rattle.rbbi_io.specs.declared.error.WriteErr.{WriteErr}
 use Rattle.rbbi_io.specs.declared.error.WriteErr.TheVariants as write
 use Rattle.rbbi_io.specs.Answers.{WhereTold, OthersHold}
 use Rattle.rbbi_tool.specs.Refusals.{Written}
-use Rattle.rbbi_tool.specs.Delivery.{HoldsFile, LeavesFile, FileFailed, EachHoldsOrIsFile}
+use Rattle.rbbi_tool.specs.Delivery.{HoldsFile}
+use Rattle.rbbi_tool.specs.inner.Delivery.{LeavesFile, FileFailed, EachHoldsOrIsFile}
 
 -- two names are the same, or they differ
 same_or_not : (a b : List ℕ) → (a ≡ b) ⊎ (a ≢ b)

@@ -48,7 +48,8 @@ use Rattle.rbbi_tool.specs.declared.refusal.Subject.TheVariants as subject
 use Rattle.rbbi_tool.specs.declared.refusal.Place.TheVariants.{Whole, Byte, Row}
 use Rattle.rbbi_tool.specs.declared.refusal.Refusal.{Refusal}
 use Rattle.rbbi_tool.specs.declared.refusal.Refusal.TheVariants.{Fault}
-use Rattle.rbbi_tool.specs.Stages.{Stage, followed_by, gives, IsDetermined}
+use Rattle.rbbi_tool.specs.Stages.{Stage, followed_by, gives}
+use Rattle.rbbi_tool.specs.inner.Stages.{IsDetermined}
 use Rattle.rbbi_tool.specs.Refusals.{Outcome, refused, printed}
 use Rattle.rbbi_tool.specs.Words.{Request}
 use Rattle.rbbi_tool.specs.Files.{length_stage, lengths_stage, sources_of}

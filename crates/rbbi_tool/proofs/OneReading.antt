@@ -9,7 +9,7 @@ use Rattle.rbbi_conform.specs.Tests.{Test}
 use Rattle.rbbi_conform.specs.declared.verdict.Verdict.{Verdict}
 use Rattle.rbbi_conform.specs.Verdicts.{IsVerdict}
 use Rattle.rbbi_conform.specs.Laws.{HaveOneTestList, HasOneVerdict}
-use Rattle.rbbi_tool.specs.Stages.{IsDetermined}
+use Rattle.rbbi_tool.specs.inner.Stages.{IsDetermined}
 use Rattle.rbbi_tool.specs.Basis.{Basis, AreBoundariesBy}
 use Rattle.rbbi_tool.specs.Scripts.{script_fault, script_stage, tests_fault, tests_stage}
 use Rattle.rbbi_tool.specs.Command.Conform.{AreVerdictsBy}

@@ -10,7 +10,8 @@ use Rattle.rbbi_tool.specs.declared.files.Source.{Source}
 use Rattle.rbbi_tool.specs.declared.refusal.Refusal.{Refusal}
 use Rattle.rbbi_tool.specs.declared.refusal.Refusal.TheVariants.{Usage, Unread, Fault, Memory}
 use Rattle.rbbi_tool.specs.Files.{limit_of, length_stage, lengths_stage}
-use Rattle.rbbi_tool.specs.Reads.{AreWithin, IsReadOf, EndsRead, EndsReading, MakesReads, MakesSomeReads, bytes_of, AreRead}
+use Rattle.rbbi_tool.specs.inner.Reads.{AreWithin, IsReadOf, EndsRead, EndsReading, AreRead}
+use Rattle.rbbi_tool.specs.Reads.{MakesReads, MakesSomeReads, bytes_of}
 
 -- So many of the files were read, and what they hold: each is within its limit, and no other name's count changed.
 pub record AreReadBefore (held : List ℕ → List ℕ) (sources : List Source) (before now : List ℕ → ℕ) (i : ℕ) (bytes : List (List ℕ)) : Type 0 where

@@ -11,15 +11,18 @@ use Rattle.rbbi_tool.specs.declared.refusal.Subject.{Subject}
 use Rattle.rbbi_tool.specs.declared.refusal.Subject.TheVariants.{Rules, Table, File}
 use Rattle.rbbi_tool.specs.declared.refusal.Refusal.{Refusal}
 use Rattle.rbbi_tool.specs.declared.refusal.Refusal.TheVariants.{Usage, Unread, Fault, Memory}
-use Rattle.rbbi_tool.specs.Stages.{Meets}
+use Rattle.rbbi_tool.specs.inner.Stages.{Meets}
 use Rattle.rbbi_tool.specs.Refusals.{Outcome, Written, status_of_subject}
 use Rattle.rbbi_model.specs.Lines.{usage_line}
 use Rattle.rbbi_tool.specs.Words.{Request, Asks, AreNoForm}
 use Rattle.rbbi_tool.specs.Files.{sources_of, lengths_stage}
-use Rattle.rbbi_tool.specs.Reads.{EndsReading, AreRead, MakesSomeReads, bytes_of}
+use Rattle.rbbi_tool.specs.inner.Reads.{EndsReading, AreRead}
+use Rattle.rbbi_tool.specs.Reads.{MakesSomeReads, bytes_of}
 use Rattle.rbbi_tool.specs.Program.{files_stage, run_stage, IsOutcome}
-use Rattle.rbbi_tool.specs.Delivery.{HoldsFile, FileFailed, OthersUncounted, EachHoldsOrIsFile}
-use Rattle.rbbi_tool.specs.Causes.{NamesToWrite, IsWrittenBy, ComesTo, Tells, IsAnswer, TellsFailedRead, NoReadFailed, IsPartOfAnswer, TakesPart}
+use Rattle.rbbi_tool.specs.Delivery.{HoldsFile}
+use Rattle.rbbi_tool.specs.inner.Delivery.{FileFailed, OthersUncounted, EachHoldsOrIsFile}
+use Rattle.rbbi_tool.specs.Causes.{NamesToWrite, IsWrittenBy, TellsFailedRead, NoReadFailed, IsPartOfAnswer, TakesPart}
+use Rattle.rbbi_tool.specs.inner.Causes.{ComesTo, Tells, IsAnswer}
 use Rattle.rbbi_tool.specs.Causes.{TakesOutcome, TakesFailedRead}
 use Rattle.rbbi_tool.specs.Causes.{EachHolds, SomeWriteFailed, OthersUnwritten}
 use Rattle.rbbi_tool.proofs.Forms.{same_request}

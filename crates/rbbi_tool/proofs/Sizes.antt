@@ -11,8 +11,8 @@ use Rattle.rbbi_tool.specs.declared.files.Role.TheVariants as role
 use Rattle.rbbi_tool.specs.declared.files.Source.{Source}
 use Rattle.rbbi_tool.specs.Words.{Request, operands_of}
 use Rattle.rbbi_tool.specs.Files.{limit_of, property_source, operand_sources, sources_of}
-use Rattle.rbbi_tool.specs.Reads.{AreWithin, AreShort}
-use Rattle.rbbi_tool.specs.Properties.{AreHanded}
+use Rattle.rbbi_tool.specs.inner.Reads.{AreWithin, AreShort}
+use Rattle.rbbi_tool.specs.inner.Properties.{AreHanded}
 use Rattle.rbbi_tool.specs.Program.{nth}
 
 -- no limit is greater than what is read at once

@@ -3,7 +3,8 @@ use Rattle.std.proofs.Common.{◌≡◌, ◌⊎◌, inl, inr, ⊎_elim, subst}
 use Rattle.std.specs.Prelude.{Result, Ok, Err}
 use Rattle.rbbi_tool.specs.declared.refusal.Refusal.{Refusal}
 use Rattle.rbbi_tool.specs.declared.refusal.Refusal.TheVariants.{Memory}
-use Rattle.rbbi_tool.specs.Stages.{Stage, followed_by, Meets, IsDetermined}
+use Rattle.rbbi_tool.specs.Stages.{Stage, followed_by}
+use Rattle.rbbi_tool.specs.inner.Stages.{Meets, IsDetermined}
 
 -- the stage doesn't both pass and refuse, it refuses in one way alone, and values that it passes with are so related
 pub record IsSettled (A : Type 0) (R : A → A → Type 0) (stage : Stage A) : Type 0 where

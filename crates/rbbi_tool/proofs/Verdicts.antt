@@ -12,7 +12,7 @@ use Rattle.rbbi_conform.specs.declared.verdict.Verdict.TheVariants.{Same, Differ
 use Rattle.rbbi_conform.specs.Verdicts.{IsVerdict}
 use Rattle.rbbi_tool.specs.Basis.{Basis}
 use Rattle.rbbi_tool.specs.Command.Conform.{AreVerdictsBy, is_passed, test_lines, differing_lines, passed_count, failed_count}
-use Rattle.rbbi_tool.specs.Judging.{AreVerdictsIn, TellsVerdicts}
+use Rattle.rbbi_tool.specs.inner.Judging.{AreVerdictsIn, TellsVerdicts}
 use Rattle.rbbi_tool.proofs.BasisLemmas.{GivesThem, boundaries_given}
 
 -- What verdicts on the tests that are left come to behind those so far.

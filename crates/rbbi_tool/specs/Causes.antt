@@ -48,35 +48,9 @@ pub record ReadFails (words : List (List ℕ)) (contents : Option (List ℕ → 
   pub asks : Asks words request
   pub fails : FailsToRead (sources_of request) contents before now name
 
--- what a run comes to before anything is written: its output, or what ends it
-abbrev pub ComesTo : List (List ℕ) → Option (List ℕ → List ℕ) → (List ℕ → ℕ) → (List ℕ → ℕ) → Result Outcome Refusal → Type 0
-ComesTo words contents before now (Ok outcome) =
-    (outcome.status ≤ 1) × (¬ AreNoForm words) × IfSome outcome.file (λ file. NamesToWrite words file.name) ×
-    IfSome contents (λ held. (run_stage words held).passes outcome)
-ComesTo words contents before now (Err Usage) = AreNoForm words
-ComesTo words contents before now (Err (Unread name)) = ReadFails words contents before now name
-ComesTo words contents before now (Err (Fault subject label place)) =
-    (¬ AreNoForm words) × IfSome contents (λ held. (run_stage words held).refuses (Fault subject label place))
-ComesTo words contents before now (Err Memory) = Unit {0}
-
--- what is told of an output, or of what ends a run; of want of memory nothing is
-abbrev pub Tells : Result Outcome Refusal → Outcome → Type 0
-Tells (Ok output) outcome = outcome ≡ output
-Tells (Err refusal) outcome = (refusal ≢ Memory) × (outcome ≡ refused refusal)
-
 -- this line tells that a read of a file failed which the words name
 abbrev pub TellsFailedRead : List (List ℕ) → Option (List ℕ → List ℕ) → (List ℕ → ℕ) → (List ℕ → ℕ) → List ℕ → Type 0
 TellsFailedRead words contents before now line = (name : List ℕ) × ReadFails words contents before now name × (line ≡ unread_line name)
-
--- What the program answers, before anything is written: a status from 0 to 6, all that goes out, and the file that is written.
-pub record IsAnswer (words : List (List ℕ)) (contents : Option (List ℕ → List ℕ)) (before now : List ℕ → ℕ) (outcome : Outcome) : Type 0 where
-  pub low : outcome.status ≤ 6
-  pub file : IfSome outcome.file (λ file. NamesToWrite words file.name)
-  pub no_file : 2 ≤ outcome.status → outcome.file ≡ None
-  pub usage : outcome.status ≡ 2 → AreNoForm words × (outcome.bytes ≡ usage_line)
-  pub form : AreNoForm words → outcome.status ≡ 2
-  pub is : outcome.status ≢ 6 → IfSome contents (λ held. IsOutcome words held outcome)
-  pub read_failed : outcome.status ≡ 6 → TellsFailedRead words contents before now outcome.bytes
 
 -- a front of the line
 abbrev pub IsFrontOf : List ℕ → List ℕ → Type 0

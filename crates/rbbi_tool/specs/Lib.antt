@@ -3,7 +3,6 @@ pub mod Refusals
 pub mod Settings
 pub mod Counts
 pub mod Words
-pub mod Requests
 pub mod Files
 pub mod Reads
 pub mod Texts
@@ -12,8 +11,8 @@ pub mod Rules
 pub mod Basis
 pub mod Scripts
 pub mod Command
-pub mod Judging
 pub mod Program
 pub mod Delivery
 pub mod Causes
 pub mod Steps
+pub mod inner

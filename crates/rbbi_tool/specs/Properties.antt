@@ -9,7 +9,7 @@ use Rattle.rbbi_tool.specs.declared.refusal.Subject.TheVariants.{File}
 use Rattle.rbbi_tool.specs.declared.refusal.Place.TheVariants.{Row}
 use Rattle.rbbi_tool.specs.declared.refusal.Refusal.TheVariants.{Fault}
 use Rattle.rbbi_tool.specs.Stages.{Stage, followed_by}
-use Rattle.rbbi_tool.specs.Reads.{AreShort}
+use Rattle.rbbi_tool.specs.inner.Reads.{AreShort}
 use Rattle.rbbi_tool.specs.Texts.{checked_utf8_stage}
 
 -- the bytes of a property file of this name are lines that are skipped and rows, or the first bad row is told
@@ -35,8 +35,3 @@ abbrev pub property_files : List Property → List (List ℕ) → List rows.File
 property_files [] handed = []
 property_files (property ∷ properties) [] = []
 property_files (property ∷ properties) (bytes ∷ handed) = file_of property.name bytes ∷ property_files properties handed
-
--- there are the bytes of each property file, and none has more than are read at once
-pub record AreHanded (properties : List Property) (handed : List (List ℕ)) : Type 0 where
-  pub many : length handed ≡ length properties
-  pub short : AreShort handed

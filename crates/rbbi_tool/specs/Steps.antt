@@ -62,28 +62,8 @@ CommandReads Run request handed files bytes before after =
     (script_stage (nth request.operands 2) (nth files 2)) bytes before after
 CommandReads command request handed files bytes before after = Unit {0}
 
--- the bytes that count of what a command is given
-abbrev pub given_bytes : Command → List (List ℕ) → List (List ℕ) → ℕ
-given_bytes Breaks handed files = sum_by length handed + length (nth files 0)
-given_bytes Run handed files = sum_by length handed + length (nth files 0) + length (nth files 2)
-given_bytes command handed files = 0
-
--- what a request reads of its files, given the bytes of all in order: those of the property files come first
-abbrev pub FilesReads : Request → List (List ℕ) → ℕ → ℕ → Type 0
-FilesReads request all before after =
-    let handed = take (length request.properties) all in
-    let files = drop (length request.properties) all in
-    CommandReads request.command request handed files (given_bytes request.command handed files) before after
-
 -- what a request reads over files that hold this
 abbrev pub RequestReads : Request → (List ℕ → List ℕ) → ℕ → ℕ → Type 0
 RequestReads request held before after =
     let all = bytes_of held (sources_of request) in
     CommandReads request.command request (take (length request.properties) all) (drop (length request.properties) all) (named_bytes held request) before after
-
--- What a run reads. Where the words are of no form it reads no file; else it reads the files of the request in order, and of them
--- what the request reads.
-pub record ReadsInOrder (words : List (List ℕ)) (contents : Option (List ℕ → List ℕ)) (reads reads' : List ℕ → ℕ) (before after : ℕ) : Type 0 where
-  pub unread : AreNoForm words → EachStays reads reads'
-  pub order : (request : Request) → Asks words request → IfSome contents (MakesSomeReads (sources_of request) reads reads')
-  pub steps : (request : Request) → Asks words request → IfSome contents (λ held. RequestReads request held before after)

@@ -6,8 +6,8 @@ ghost use Rattle.rbbi_model.specs.Rules.{AreLawful};
 ghost use Rattle.rbbi_model.specs.Compiled.{AreClasses, IsCompiled};
 ghost use Rattle.rbbi_resolve.specs.RuleLists.{rules_of};
 ghost use Rattle.rbbi_script.specs.Reading.{RisesUpTo};
-ghost use Rattle.rbbi_tool.specs.Stages.{Meets, Serves};
-ghost use Rattle.rbbi_tool.specs.Properties.{AreHanded};
+ghost use Rattle.rbbi_tool.specs.inner.Stages.{Meets, Serves};
+ghost use Rattle.rbbi_tool.specs.inner.Properties.{AreHanded};
 ghost use Rattle.rbbi_tool.specs.Basis as spec;
 
 use crate::refusal::{Place, Refusal, Subject, fault};

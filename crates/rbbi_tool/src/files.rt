@@ -2,8 +2,9 @@
 ghost use Rattle.std.specs.Prelude.{◌≡◌, IfOk, IfErr, IfSome, OnSome};
 ghost use Rattle.rbbi_io.specs.Counts.{EachGoesOn, EachStays, OthersStay};
 ghost use Rattle.rbbi_tool.specs.Files as spec;
-ghost use Rattle.rbbi_tool.specs.Reads.{IsReadOf, EndsRead};
-ghost use Rattle.rbbi_tool.specs.Reads.{AreWithin, AreRead, EndsReading, MakesSomeReads};
+ghost use Rattle.rbbi_tool.specs.inner.Reads.{IsReadOf, EndsRead};
+ghost use Rattle.rbbi_tool.specs.inner.Reads.{AreWithin, AreRead, EndsReading};
+ghost use Rattle.rbbi_tool.specs.Reads.{MakesSomeReads};
 
 use crate::name::Name;
 use crate::refusal::{Place, Refusal, Subject, fault};

@@ -1,13 +1,13 @@
 //! What a request comes to, from the bytes of its files.
 ghost use Rattle.std.specs.Prelude.{◌≡◌, ◌<◌, map, length};
 ghost use Rattle.std.specs.String.{string_bytes};
-ghost use Rattle.rbbi_tool.specs.Stages.{Meets};
+ghost use Rattle.rbbi_tool.specs.inner.Stages.{Meets};
 ghost use Rattle.rbbi_tool.specs.Words.{operands_of, AllFit};
-ghost use Rattle.rbbi_tool.specs.Requests.{asked_by};
+ghost use Rattle.rbbi_tool.specs.inner.Requests.{asked_by};
 ghost use Rattle.rbbi_tool.specs.Files.{sources_of};
-ghost use Rattle.rbbi_tool.specs.Reads.{AreWithin};
+ghost use Rattle.rbbi_tool.specs.inner.Reads.{AreWithin};
 ghost use Rattle.rbbi_tool.specs.Program.{nth, files_stage};
-ghost use Rattle.rbbi_tool.specs.Steps.{FilesReads};
+ghost use Rattle.rbbi_tool.specs.inner.Steps.{FilesReads};
 
 use crate::command::{Output, breaks, check, compile, conform, demo, run};
 use crate::refusal::Refusal;

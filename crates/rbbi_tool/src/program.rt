@@ -8,8 +8,10 @@ ghost use Rattle.rbbi_io.specs.Sinks.{Takes};
 ghost use Rattle.rbbi_tool.specs.Words.{Request, Asks, AreNoForm};
 ghost use Rattle.rbbi_tool.specs.Files.{sources_of};
 ghost use Rattle.rbbi_tool.specs.Reads.{MakesSomeReads};
-ghost use Rattle.rbbi_tool.specs.Steps.{RequestReads, ReadsInOrder};
-ghost use Rattle.rbbi_tool.specs.Causes.{ComesTo, Tells, NoReadFailed};
+ghost use Rattle.rbbi_tool.specs.Steps.{RequestReads};
+ghost use Rattle.rbbi_tool.specs.inner.Steps.{ReadsInOrder};
+ghost use Rattle.rbbi_tool.specs.inner.Causes.{ComesTo, Tells};
+ghost use Rattle.rbbi_tool.specs.Causes.{NoReadFailed};
 ghost use Rattle.rbbi_tool.specs.Causes.{TakesOutcome, TakesFailedRead, TakesPart};
 ghost use Rattle.rbbi_tool.specs.Causes.{EachHolds, SomeWriteFailed, OthersUnwritten};
 

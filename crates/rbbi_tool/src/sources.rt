@@ -2,7 +2,7 @@
 ghost use Rattle.std.specs.Prelude.{◌≡◌, ◌++◌, map, length, IfOk, OnOk};
 ghost use Rattle.std.specs.String.{string_bytes};
 ghost use Rattle.rbbi_tool.specs.Words.{operands_of};
-ghost use Rattle.rbbi_tool.specs.Requests.{asked_by};
+ghost use Rattle.rbbi_tool.specs.inner.Requests.{asked_by};
 ghost use Rattle.rbbi_tool.specs.Files as spec;
 
 use crate::files::{Role, Source};

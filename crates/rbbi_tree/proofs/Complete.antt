@@ -10,8 +10,8 @@ use Rattle.rbbi_tree.specs.Trees.{set_of, ExprTree, SeqTree, ItemTree, AtomTree,
 use Rattle.rbbi_tree.specs.Trees.{character, quoted, any, name, property, set, group, nothing, control, assign, rule}
 use Rattle.rbbi_tree.specs.Grammar.{token, BeginsAt, IsCaret, IsQuant, IsTag, IsExpr, AreMoreAlternatives, IsSeq, AreItems, IsItem, IsAtom, IsOneSeq, IsMatcher}
 use Rattle.rbbi_tree.specs.Grammar.{IsStatement, IsFile}
-use Rattle.rbbi_tree.specs.Machine.Statements.{LevelTree, GroupTree, HeadTree, assigning, ruling, resting, Progress, empty_level, after, items_back}
-use Rattle.rbbi_tree.specs.Machine.Statements.{sequences_back, with_item, with_sequence, whole, begun, atom_read, group_begun, set_begun, at_bar, run}
+use Rattle.rbbi_tree.specs.inner.Machine.Statements.{LevelTree, GroupTree, HeadTree, assigning, ruling, resting, Progress, empty_level, after, items_back}
+use Rattle.rbbi_tree.specs.inner.Machine.Statements.{sequences_back, with_item, with_sequence, whole, begun, atom_read, group_begun, set_begun, at_bar, run}
 use Rattle.rbbi_tree.proofs.Runs.{run-on}
 use Rattle.rbbi_tree.proofs.CompleteSets.{run_set}
 

@@ -6,10 +6,10 @@ use Rattle.std.proofs.lemmas.Bool.{cases_order}
 use Rattle.std.proofs.lemmas.Option.{get_or_from_slice_get, slice_get_within, slice_get_past}
 use Rattle.rbbi_lex.specs.declared.token.Token.{Token}
 use Rattle.rbbi_tree.specs.Grammar.{IsFile}
-use Rattle.rbbi_tree.specs.Machine.Statements.{HeadTree, between, Progress, after, advance, run}
+use Rattle.rbbi_tree.specs.inner.Machine.Statements.{HeadTree, between, Progress, after, advance, run}
 use Rattle.rbbi_tree.specs.Brackets.{IsShallowBefore, open_from}
 use Rattle.rbbi_tree.specs.Refusals.{BeginsFile, IsSyntaxAt, place_or_end, IsRefusedFor}
-use Rattle.rbbi_tree.specs.Machine.SetStates.{IsStuckAt}
+use Rattle.rbbi_tree.specs.inner.Machine.SetStates.{IsStuckAt}
 use Rattle.rbbi_tree.specs.declared.error.TreeErr.{TreeErr}
 use Rattle.rbbi_tree.specs.declared.error.TreeErr.TheVariants.{Syntax, TooDeep, Memory}
 use Rattle.rbbi_tree.proofs.Runs.{run-append, run-on}

@@ -14,12 +14,14 @@ use Rattle.rbbi_tree.specs.Trees.{SetSyntax, PartTree, ExprTree, SeqTree, ItemTr
 use Rattle.rbbi_tree.specs.Trees.{item, placed, character, quoted, any, name, property, set, group, nothing, control}
 use Rattle.rbbi_tree.specs.Grammar.{token, BeginsAt, IsCaret, IsQuant, IsTag, IsSet, IsExpr, AreMoreAlternatives, IsSeq, AreItems, IsItem, IsAtom, IsOneSeq}
 use Rattle.rbbi_tree.specs.Grammar.{IsStatement, IsFile}
-use Rattle.rbbi_tree.specs.Machine.Sets.{SetLevelTree, OuterSetTree, SetsTree, join_in, ended_parts, opened, outer_set, set_from, set_resumed, at_set_token}
-use Rattle.rbbi_tree.specs.Machine.Statements.{LevelTree, GroupTree, HeadTree, between, assigning, ruling, resting, ended, Progress, empty_level, after}
-use Rattle.rbbi_tree.specs.Machine.Statements.{items_back, sequences_back, with_item, with_sequence, whole, begun, atom_read, group_begun, quantified, at_atom}
-use Rattle.rbbi_tree.specs.Machine.Statements.{at_open, at_set_open, at_quant, at_bar, at_close, at_slash, at_caret, at_control, name_of, name_assigned}
-use Rattle.rbbi_tree.specs.Machine.Statements.{at_equals, statement_of, statement_at, statement_read, statement_ended, at_semi, advance_outside, set_kept}
-use Rattle.rbbi_tree.specs.Machine.Statements.{at_inner_open, set_ended, at_inner_close, advance_inside, advance_by, advance, run}
+use Rattle.rbbi_tree.specs.inner.Machine.Sets.{SetLevelTree, OuterSetTree, SetsTree, join_in, ended_parts, opened, outer_set, set_from, set_resumed}
+use Rattle.rbbi_tree.specs.inner.Machine.Sets.{at_set_token}
+use Rattle.rbbi_tree.specs.inner.Machine.Statements.{LevelTree, GroupTree, HeadTree, between, assigning, ruling, resting, ended, Progress, empty_level, after}
+use Rattle.rbbi_tree.specs.inner.Machine.Statements.{items_back, sequences_back, with_item, with_sequence, whole, begun, atom_read, group_begun, quantified}
+use Rattle.rbbi_tree.specs.inner.Machine.Statements.{at_atom}
+use Rattle.rbbi_tree.specs.inner.Machine.Statements.{at_open, at_set_open, at_quant, at_bar, at_close, at_slash, at_caret, at_control, name_of, name_assigned}
+use Rattle.rbbi_tree.specs.inner.Machine.Statements.{at_equals, statement_of, statement_at, statement_read, statement_ended, at_semi, advance_outside, set_kept}
+use Rattle.rbbi_tree.specs.inner.Machine.Statements.{at_inner_open, set_ended, at_inner_close, advance_inside, advance_by, advance, run}
 use Rattle.rbbi_tree.proofs.SoundSets.{IsSetRead, IsOuterRead, IsStillSet, reads_token, ends_set, opens_set, opens_inner, resumes}
 
 -- items, the latest first

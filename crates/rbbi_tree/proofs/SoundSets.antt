@@ -10,8 +10,9 @@ use Rattle.rbbi_tree.specs.declared.set_level.SetState.{SetState}
 use Rattle.rbbi_tree.specs.declared.set_level.SetState.TheVariants as state
 use Rattle.rbbi_tree.specs.Trees.{SetSyntax, PartsTree, PartTree, SetItemTree, set_of, no_parts, part, joined, set_range, set_name, set_property, set_within}
 use Rattle.rbbi_tree.specs.Grammar.{token, Spot, opening, behind, elsewhere, IsJoin, hyphen_at, AreParts, IsSet, IsOperand}
-use Rattle.rbbi_tree.specs.Machine.Sets.{SetLevelTree, OuterSetTree, settled, join_in, ended_parts, character_at, parts_back, opened, outer_set, set_resumed}
-use Rattle.rbbi_tree.specs.Machine.Sets.{at_set_caret, at_set_hyphen, at_set_amp, at_set_character, at_set_operand, at_set_token}
+use Rattle.rbbi_tree.specs.inner.Machine.Sets.{SetLevelTree, OuterSetTree, settled, join_in, ended_parts, character_at, parts_back, opened, outer_set}
+use Rattle.rbbi_tree.specs.inner.Machine.Sets.{set_resumed}
+use Rattle.rbbi_tree.specs.inner.Machine.Sets.{at_set_caret, at_set_hyphen, at_set_amp, at_set_character, at_set_operand, at_set_token}
 
 -- the tokens are the rest of a set after this was read last, and add these parts; a character that is no part yet is among them
 abbrev Follows : SetState → List Token → PartsTree → Type 0

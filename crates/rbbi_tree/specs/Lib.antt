@@ -4,4 +4,4 @@ pub mod Grammar
 pub mod Brackets
 pub mod Refusals
 pub mod WellMade
-pub mod Machine
+pub mod inner

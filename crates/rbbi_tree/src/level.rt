@@ -9,8 +9,8 @@ ghost use Rattle.rbbi_tree.specs.Machine.Statements.{
   quantified,
   name_of,
 };
-ghost use Rattle.rbbi_tree.specs.Machine.SetStates.{Reads};
-ghost use Rattle.rbbi_tree.specs.Machine.States.{level_tree};
+ghost use Rattle.rbbi_tree.specs.inner.Machine.SetStates.{Reads};
+ghost use Rattle.rbbi_tree.specs.inner.Machine.States.{level_tree};
 
 use crate::error::TreeErr;
 use crate::lean::push_lean;

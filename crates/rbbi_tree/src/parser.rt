@@ -14,8 +14,8 @@ ghost use Rattle.rbbi_tree.specs.Machine.Statements.{
   at_quant,
   quantified,
 };
-ghost use Rattle.rbbi_tree.specs.Machine.SetStates.{Reads};
-ghost use Rattle.rbbi_tree.specs.Machine.States.{progress, ReadsOutside, ReadsInside};
+ghost use Rattle.rbbi_tree.specs.inner.Machine.SetStates.{Reads};
+ghost use Rattle.rbbi_tree.specs.inner.Machine.States.{progress, ReadsOutside, ReadsInside};
 
 use crate::copies::{copy_of, copy_of_option};
 use crate::error::TreeErr;

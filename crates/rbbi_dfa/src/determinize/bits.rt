@@ -2,7 +2,7 @@
 ghost use Rattle.std.specs.Prelude.{◌≡◌, ◌<◌, ◌^◌, ◌*◌, ◌⊎◌, ◌↔◌, ℕ, length, slice_index, IsTrue};
 ghost use Rattle.std.specs.Prelude.{false};
 ghost use Rattle.std.specs.Int.{bit_at};
-ghost use Rattle.rbbi_dfa.specs.BitRows.{Holds, IsSpan};
+ghost use Rattle.rbbi_dfa.specs.inner.BitRows.{Holds, IsSpan};
 
 /// Whether the set holds the position.
 pub(crate) fn has(row: &[u64], position: usize) -> bool

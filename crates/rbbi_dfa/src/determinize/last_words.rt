@@ -1,9 +1,9 @@
 //! What may follow a set of positions, word by word. Sets that come one after another have most
 //! words in common, and what may follow a word is found once, until it is another.
 ghost use Rattle.std.specs.Prelude.{◌≡◌, ◌<◌, ◌↔◌, ℕ, length, slice_index, IfOk, OnOk};
-ghost use Rattle.rbbi_dfa.specs.BitRows.{Holds};
-ghost use Rattle.rbbi_dfa.specs.Determinizing.{AreFollowers};
-ghost use Rattle.rbbi_dfa.specs.LastWords.{AddsFollowers, AreKept, FollowsWord};
+ghost use Rattle.rbbi_dfa.specs.inner.BitRows.{Holds};
+ghost use Rattle.rbbi_dfa.specs.inner.Determinizing.{AreFollowers};
+ghost use Rattle.rbbi_dfa.specs.inner.LastWords.{AddsFollowers, AreKept, FollowsWord};
 
 use crate::determinize::bits::is_set;
 use crate::determinize::position_rows::Rows;

@@ -1,7 +1,7 @@
 //! Numbered sets of positions, found again by a hash.
 ghost use Rattle.std.specs.Prelude.{◌≡◌, ◌<◌, ◌≤◌, [], length, IfOk, IfSome, IsNone};
-ghost use Rattle.rbbi_dfa.specs.BitRows.{row_at};
-ghost use Rattle.rbbi_dfa.specs.LeafSetIndex.{bucket_of, IsAbsent, KeepsOrAdds};
+ghost use Rattle.rbbi_dfa.specs.inner.BitRows.{row_at};
+ghost use Rattle.rbbi_dfa.specs.inner.LeafSetIndex.{bucket_of, IsAbsent, KeepsOrAdds};
 
 use crate::determinize::error::DeterminizeErr;
 use std::alloc::{AllocError, Global};
@@ -39,7 +39,7 @@ pub(crate) struct LeafSets {
 
 impl Model for LeafSets {
     ghost use Rattle.std.specs.Prelude.{List, ℕ, map};
-    ghost use Rattle.rbbi_dfa.specs.LeafSetIndex.{IsIndexed};
+    ghost use Rattle.rbbi_dfa.specs.inner.LeafSetIndex.{IsIndexed};
 
     ghost Value = { List (List ℕ) };
 

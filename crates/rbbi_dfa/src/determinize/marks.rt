@@ -1,7 +1,7 @@
 //! What is marked at a set of positions.
 ghost use Rattle.std.specs.Prelude.{◌≡◌, ◌<◌, ◌≤◌, ◌⊎◌, ◌+◌, ◌++◌, ◌∷◌, [], ◌^◌, ℕ, length};
 ghost use Rattle.std.specs.Prelude.{slice_index, IfOk, OnOk};
-ghost use Rattle.rbbi_dfa.specs.Determinizing.{IsAccept, AreFrontsOf, AreTagsOf};
+ghost use Rattle.rbbi_dfa.specs.inner.Determinizing.{IsAccept, AreFrontsOf, AreTagsOf};
 
 use crate::determinize::bits::{has, meet};
 use crate::determinize::position_rows::Rows;

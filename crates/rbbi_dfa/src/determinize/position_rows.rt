@@ -11,7 +11,7 @@ pub(crate) struct Mark {
 }
 
 impl Model for Mark {
-    ghost use Rattle.rbbi_dfa.specs.PositionRows.{PositionMark};
+    ghost use Rattle.rbbi_dfa.specs.inner.PositionRows.{PositionMark};
 
     ghost Value = { PositionMark };
 
@@ -55,11 +55,11 @@ pub(crate) struct Rows {
 }
 
 impl Model for Rows {
-    ghost use Rattle.rbbi_dfa.specs.PositionRows.{PositionRows, AreRows};
+    ghost use Rattle.rbbi_dfa.specs.inner.PositionRows.{PositionRows, AreRows};
 
     ghost Value = { PositionRows };
 
-    ghost use Rattle.rbbi_dfa.specs.KeptRows.{kept_rows};
+    ghost use Rattle.rbbi_dfa.specs.inner.KeptRows.{kept_rows};
 
     ghost view = { kept_rows };
 

@@ -1,10 +1,11 @@
 //! The rows and lists of positions, read off their marks.
 ghost use Rattle.std.specs.Prelude.{◌≡◌, ◌<◌, ◌≤◌, ◌+◌, ◌/◌, ◌⊎◌, ◌↔◌, ℕ, length, IfOk};
 ghost use Rattle.std.specs.Prelude.{IsTrue};
-ghost use Rattle.rbbi_dfa.specs.BitRows.{Holds};
-ghost use Rattle.rbbi_dfa.specs.MarkedRows.{is_in_row, mark_in, IsKindOf, HasOwner, AreMarkedIn};
-ghost use Rattle.rbbi_dfa.specs.MarkedRows.{AreRowsBy, AreReadable, AreRowsOf};
-ghost use Rattle.rbbi_dfa.specs.Determinizing.{items_of};
+ghost use Rattle.rbbi_dfa.specs.inner.BitRows.{Holds};
+ghost use Rattle.rbbi_dfa.specs.inner.MarkedRows.{is_in_row, mark_in, IsKindOf, HasOwner};
+ghost use Rattle.rbbi_dfa.specs.inner.MarkedRows.{AreMarkedIn};
+ghost use Rattle.rbbi_dfa.specs.inner.MarkedRows.{AreRowsBy, AreReadable, AreRowsOf};
+ghost use Rattle.rbbi_dfa.specs.inner.Determinizing.{items_of};
 ghost use Rattle.std.specs.List.{AllPairs};
 ghost use Rattle.std.specs.List.Sorted.{IsPermutation};
 

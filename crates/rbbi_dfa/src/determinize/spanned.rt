@@ -1,6 +1,6 @@
 //! A set of positions with its span.
 ghost use Rattle.std.specs.Prelude.{◌≡◌, ◌⊎◌, ◌↔◌, ℕ, length};
-ghost use Rattle.rbbi_dfa.specs.BitRows.{Holds};
+ghost use Rattle.rbbi_dfa.specs.inner.BitRows.{Holds};
 
 use crate::determinize::bits::{Span, span_of, unite};
 use std::marker::Model;
@@ -15,7 +15,7 @@ pub(crate) struct SpannedRow {
 
 impl Model for SpannedRow {
     ghost use Rattle.std.specs.Prelude.{List, ℕ};
-    ghost use Rattle.rbbi_dfa.specs.BitRows.{IsSpan};
+    ghost use Rattle.rbbi_dfa.specs.inner.BitRows.{IsSpan};
 
     ghost Value = { List ℕ };
 

@@ -1,8 +1,8 @@
 //! Which set of positions comes next by a category.
 ghost use Rattle.std.specs.Prelude.{◌≡◌, ◌<◌, ◌+◌, ◌*◌, ℕ, length, IsTrue, false};
-ghost use Rattle.rbbi_dfa.specs.BitRows.{Holds, IsSpan, row_at};
-ghost use Rattle.rbbi_dfa.specs.Determinizing.{IsStep, IsRow, AreFollowers, Completes};
-ghost use Rattle.rbbi_dfa.specs.Determinizing.{AreFollowersUpTo};
+ghost use Rattle.rbbi_dfa.specs.inner.BitRows.{Holds, IsSpan, row_at};
+ghost use Rattle.rbbi_dfa.specs.inner.Determinizing.{IsStep, IsRow, AreFollowers, Completes};
+ghost use Rattle.rbbi_dfa.specs.inner.Determinizing.{AreFollowersUpTo};
 
 use crate::determinize::bits::{Span, has, intersect, meet, meet_within, unite_common};
 use crate::determinize::position_rows::Rows;

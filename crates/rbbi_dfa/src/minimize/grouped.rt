@@ -2,9 +2,9 @@
 ghost use Rattle.std.specs.Prelude.{◌≡◌, ◌≢◌, ℕ, ◌<◌, ◌≤◌, ◌↔◌, List, IsTrue, IfOk, MatchOption};
 ghost use Rattle.std.specs.Prelude.{length, slice_index};
 ghost use Rattle.rbbi_model.specs.Marks.{marks_of};
-ghost use Rattle.rbbi_dfa.specs.Automata.{IsDetermined};
-ghost use Rattle.rbbi_dfa.specs.Partitions.{IsPartition};
-ghost use Rattle.rbbi_dfa.specs.Ranks.{AreRanked};
+ghost use Rattle.rbbi_dfa.specs.inner.Automata.{IsDetermined};
+ghost use Rattle.rbbi_dfa.specs.inner.Partitions.{IsPartition};
+ghost use Rattle.rbbi_dfa.specs.inner.Ranks.{AreRanked};
 
 use crate::automaton::Automaton;
 use crate::minimize::Partition;

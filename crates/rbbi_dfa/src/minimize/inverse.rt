@@ -1,5 +1,5 @@
 //! The cells of an automaton turned round: the rows that lead to a row by a category.
-ghost use Rattle.rbbi_dfa.specs.Automata.{IsDetermined};
+ghost use Rattle.rbbi_dfa.specs.inner.Automata.{IsDetermined};
 
 use crate::automaton::Automaton;
 use std::alloc::{AllocError, Global};

@@ -2,9 +2,9 @@
 ghost use Rattle.std.specs.Prelude.{◌≡◌, ℕ, ◌<◌, length, map, slice_index, IfOk};
 ghost use Rattle.std.specs.List.{All};
 ghost use Rattle.rbbi_model.specs.Tables.{list_of};
-ghost use Rattle.rbbi_dfa.specs.Automata.{IsDetermined};
-ghost use Rattle.rbbi_dfa.specs.Ranks.{AreRising};
-ghost use Rattle.rbbi_dfa.specs.Numbers.{ArePlacesOf, AreUsed, AreNumbered};
+ghost use Rattle.rbbi_dfa.specs.inner.Automata.{IsDetermined};
+ghost use Rattle.rbbi_dfa.specs.inner.Ranks.{AreRising};
+ghost use Rattle.rbbi_dfa.specs.inner.Numbers.{ArePlacesOf, AreUsed, AreNumbered};
 
 use crate::automaton::Automaton;
 use std::alloc::{AllocError, Global};

@@ -1,10 +1,11 @@
 //! The automaton whose rows are the classes of another's.
 ghost use Rattle.std.specs.Prelude.{◌≡◌, ℕ, ◌<◌, ◌≤◌, ◌*◌, length, map, slice_index, IfOk};
 ghost use Rattle.rbbi_model.specs.Tables.{step};
-ghost use Rattle.rbbi_dfa.specs.Automata.{IsDetermined};
-ghost use Rattle.rbbi_dfa.specs.Partitions.{IsMinimized, IsMerged};
-ghost use Rattle.rbbi_dfa.specs.Ranks.{AreRanked};
-ghost use Rattle.rbbi_dfa.specs.Numbers.{ArePlacesOf, AreUsed, AreNumbered, HaveCells, HaveHeads};
+ghost use Rattle.rbbi_dfa.specs.inner.Automata.{IsDetermined};
+ghost use Rattle.rbbi_dfa.specs.inner.Partitions.{IsMinimized, IsMerged};
+ghost use Rattle.rbbi_dfa.specs.inner.Ranks.{AreRanked};
+ghost use Rattle.rbbi_dfa.specs.inner.Numbers.{ArePlacesOf, AreUsed, AreNumbered, HaveCells};
+ghost use Rattle.rbbi_dfa.specs.inner.Numbers.{HaveHeads};
 
 use crate::automaton::{Automaton, Head};
 use crate::minimize::lists::{number_lists, places_of_classes, used_places};

@@ -1,8 +1,8 @@
 //! A partition of an automaton's rows, and how a class of it is split.
 ghost use Rattle.std.specs.Prelude.{◌≡◌, ◌≢◌, ℕ, ◌+◌, ◌<◌, ◌≤◌, Bool, length, slice_index, OnOk};
 ghost use Rattle.std.specs.Prelude.{IsTrue, ◌↔◌};
-ghost use Rattle.rbbi_dfa.specs.Automata.{IsDetermined};
-ghost use Rattle.rbbi_dfa.specs.Partitions.{IsPartition, AreSides, Leaves, leads_inside};
+ghost use Rattle.rbbi_dfa.specs.inner.Automata.{IsDetermined};
+ghost use Rattle.rbbi_dfa.specs.inner.Partitions.{IsPartition, AreSides, Leaves, leads_inside};
 
 use crate::automaton::Automaton;
 use std::alloc::{AllocError, Global};

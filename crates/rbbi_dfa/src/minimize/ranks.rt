@@ -1,7 +1,7 @@
 //! The status lists of an automaton in order, each once.
 ghost use Rattle.std.specs.Prelude.{◌≡◌, ◌<◌, [], length, map, slice_index_or, IfOk};
 ghost use Rattle.std.specs.List.{Contains};
-ghost use Rattle.rbbi_dfa.specs.Ranks.{AreRising, AreSorted, AreRanks, AreRanked};
+ghost use Rattle.rbbi_dfa.specs.inner.Ranks.{AreRising, AreSorted, AreRanks, AreRanked};
 
 use std::alloc::{AllocError, Global};
 

@@ -1,8 +1,8 @@
 //! Partition refinement in time n log n, after Hopcroft (1971), "An n log n algorithm for
 //! minimizing states in a finite automaton".
 ghost use Rattle.std.specs.Prelude.{◌≡◌, ◌+◌, ◌<◌, ◌≤◌, ◌==◌, length, map, IfOk};
-ghost use Rattle.rbbi_dfa.specs.Automata.{IsDetermined};
-ghost use Rattle.rbbi_dfa.specs.Partitions.{IsPartition, AreSides};
+ghost use Rattle.rbbi_dfa.specs.inner.Automata.{IsDetermined};
+ghost use Rattle.rbbi_dfa.specs.inner.Partitions.{IsPartition, AreSides};
 
 use crate::automaton::Automaton;
 use crate::minimize::inverse::Inverse;

@@ -1,8 +1,8 @@
 //! The last round: whether rows of one class lead on alike.
 ghost use Rattle.std.specs.Prelude.{◌≡◌, ◌≢◌, ℕ, ◌<◌, length, slice_index, MatchOption};
 ghost use Rattle.rbbi_model.specs.Tables.{step};
-ghost use Rattle.rbbi_dfa.specs.Automata.{IsDetermined};
-ghost use Rattle.rbbi_dfa.specs.Partitions.{IsPartition, IsStable};
+ghost use Rattle.rbbi_dfa.specs.inner.Automata.{IsDetermined};
+ghost use Rattle.rbbi_dfa.specs.inner.Partitions.{IsPartition, IsStable};
 
 use crate::automaton::Automaton;
 use crate::minimize::Partition;

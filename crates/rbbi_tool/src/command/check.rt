@@ -2,8 +2,8 @@
 ghost use Rattle.std.specs.Prelude.{◌≡◌, ◌≤◌, length, IfOk};
 ghost use Rattle.rbbi_text.specs.Bytes.{most_bytes};
 ghost use Rattle.rbbi_resolve.specs.RuleLists.{rules_of};
-ghost use Rattle.rbbi_tool.specs.Stages.{Meets};
-ghost use Rattle.rbbi_tool.specs.Properties.{AreHanded};
+ghost use Rattle.rbbi_tool.specs.inner.Stages.{Meets};
+ghost use Rattle.rbbi_tool.specs.inner.Properties.{AreHanded};
 ghost use Rattle.rbbi_tool.specs.Command.Check as spec;
 
 use super::Output;

@@ -3,9 +3,9 @@ ghost use Rattle.std.specs.Prelude.{◌≡◌, ◌≤◌, ◌<◌, ◌+◌, ◌-
 ghost use Rattle.std.specs.Prelude.{length, None, IfOk, OnOk};
 ghost use Rattle.rbbi_text.specs.Bytes.{most_bytes};
 ghost use Rattle.rbbi_model.specs.Lines.{differs_line, verdicts_line};
-ghost use Rattle.rbbi_tool.specs.Stages.{Meets};
-ghost use Rattle.rbbi_tool.specs.Properties.{AreHanded};
-ghost use Rattle.rbbi_tool.specs.Judging.{TellsVerdicts};
+ghost use Rattle.rbbi_tool.specs.inner.Stages.{Meets};
+ghost use Rattle.rbbi_tool.specs.inner.Properties.{AreHanded};
+ghost use Rattle.rbbi_tool.specs.inner.Judging.{TellsVerdicts};
 ghost use Rattle.rbbi_tool.specs.Command.Conform as spec;
 
 use super::Output;

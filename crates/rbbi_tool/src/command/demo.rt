@@ -2,7 +2,7 @@
 ghost use Rattle.std.specs.Prelude.{◌≡◌, ℕ, IfOk};
 ghost use Rattle.rbbi_demo.specs.declared.summary.Summary.{Summary};
 ghost use Rattle.rbbi_tool.specs.Counts.{IsCount};
-ghost use Rattle.rbbi_tool.specs.Stages.{Meets};
+ghost use Rattle.rbbi_tool.specs.inner.Stages.{Meets};
 ghost use Rattle.rbbi_tool.specs.Command.Demo as spec;
 
 use super::Output;

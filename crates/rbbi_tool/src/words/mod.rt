@@ -2,7 +2,7 @@
 ghost use Rattle.std.specs.Prelude.{◌≡◌, MatchOption, map, length, IfOk};
 ghost use Rattle.std.specs.String.{string_bytes};
 ghost use Rattle.rbbi_tool.specs.Words as spec;
-ghost use Rattle.rbbi_tool.specs.Requests.{asked_by};
+ghost use Rattle.rbbi_tool.specs.inner.Requests.{asked_by};
 
 mod command;
 mod operand;

@@ -9,8 +9,8 @@ ghost use Rattle.rbbi_tree.specs.Machine.Statements.{
   at_semi,
   statement_at,
 };
-ghost use Rattle.rbbi_tree.specs.Machine.SetStates.{Reads};
-ghost use Rattle.rbbi_tree.specs.Machine.States.{progress, ReadsOutside};
+ghost use Rattle.rbbi_tree.specs.inner.Machine.SetStates.{Reads};
+ghost use Rattle.rbbi_tree.specs.inner.Machine.States.{progress, ReadsOutside};
 
 use super::{Head, Parser};
 use crate::error::TreeErr;

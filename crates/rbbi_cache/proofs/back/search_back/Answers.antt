@@ -1,7 +1,7 @@
 use Rattle.std.proofs.Common.{◌≡◌, ◌≢◌, ℕ, ◌+◌, ◌-◌, ◌*◌, max, List, subst, ap, ◌∙◌, arith}
 use Rattle.rbbi_model.specs.Tables.{Table}
 use Rattle.rbbi_model.specs.Costs.{anchor_below}
-use Rattle.rbbi_cache.specs.Ready.{HasNoneBefore}
+use Rattle.rbbi_cache.specs.inner.Ready.{HasNoneBefore}
 use Rattle.rbbi_cache.proofs.Backward.{none_settles, zero_settles}
 use Rattle.rbbi_cache.proofs.TriedBack.{Tried, tried_first, tried_next, tried_last, start_is_last}
 use Rattle.rbbi_cache.proofs.back.search_back.Goals as goal

@@ -1,5 +1,5 @@
 use Rattle.std.proofs.Common.{arith}
-use Rattle.rbbi_cache.specs.Parts.{right_part}
+use Rattle.rbbi_cache.specs.inner.Parts.{right_part}
 use Rattle.rbbi_cache.proofs.AddedParts.{left_out}
 use Rattle.rbbi_cache.proofs.edited.add_right.Goals as goal
 

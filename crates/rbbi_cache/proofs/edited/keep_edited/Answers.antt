@@ -4,7 +4,7 @@ use Rattle.rbbi_model.specs.Runs.{IsTrueRun}
 use Rattle.rbbi_model.proofs.Lists.{all_at}
 use Rattle.rbbi_cache.specs.Kept.{most_runs}
 use Rattle.rbbi_cache.specs.Edits.{has_entries}
-use Rattle.rbbi_cache.specs.Parts.{IsMovable, all_parts}
+use Rattle.rbbi_cache.specs.inner.Parts.{IsMovable, all_parts}
 use Rattle.rbbi_cache.proofs.PartsTruth.{movable, are_kept, kept_true}
 use Rattle.rbbi_cache.proofs.PartsList.{with_one_more}
 use Rattle.rbbi_cache.proofs.edited.keep_edited.Goals as goal

@@ -1,7 +1,7 @@
 use Rattle.std.proofs.Common.{◌≡◌, ◌≤◌, take, filter}
 use Rattle.rbbi_cache.specs.Kept.{most_runs}
 use Rattle.rbbi_cache.specs.Edits.{has_entries}
-use Rattle.rbbi_cache.specs.Parts.{all_parts}
+use Rattle.rbbi_cache.specs.inner.Parts.{all_parts}
 use Rattle.rbbi_cache.proofs.edited.keep_edited.Given as goal
 
 abbrev pub invariant-loop-run : goal.invariant-loop-run

@@ -1,6 +1,6 @@
 use Rattle.std.proofs.Common.{◌<◌, ap, subst, arith}
 use Rattle.std.proofs.lemmas.Bool.{false≢true}
-use Rattle.rbbi_cache.specs.Shown.{AreUpTo}
+use Rattle.rbbi_cache.specs.inner.Shown.{AreUpTo}
 use Rattle.rbbi_cache.proofs.Among.{none_there, is_there, last_there}
 use Rattle.rbbi_cache.proofs.extended.has.Goals as goal
 

@@ -1,6 +1,6 @@
 use Rattle.std.proofs.Common.{◌≡◌, ap, ◌∙◌, subst, sym, arith}
 use Rattle.rbbi_model.proofs.Lists.{all_at}
-use Rattle.rbbi_cache.specs.Parts.{CanMove}
+use Rattle.rbbi_cache.specs.inner.Parts.{CanMove}
 use Rattle.rbbi_cache.proofs.Appended.{moved_is, added, skipped}
 use Rattle.rbbi_cache.proofs.parts.append_moved.Goals as goal
 use Rattle.rbbi_cache.proofs.parts.append_moved.Goals.{then-moved-first, else-moved-first}

@@ -1,7 +1,7 @@
 use Rattle.std.proofs.Common.{Option, sym, subst}
 use Rattle.std.specs.Prelude.{MatchOption, ⊤}
 use Rattle.rbbi_cache.specs.declared.runs.Shown.{Shown}
-use Rattle.rbbi_cache.specs.Lists.{HasAt, GoesOnFrom}
+use Rattle.rbbi_cache.specs.inner.Lists.{HasAt, GoesOnFrom}
 use Rattle.rbbi_cache.proofs.RunLists.{has_at}
 use Rattle.rbbi_cache.proofs.runs.find_nearest.Goals as goal
 use Rattle.rbbi_cache.proofs.runs.find_nearest.Goals.{in-Some+then-is_nearer, in-Some+else-is_nearer, in_default}

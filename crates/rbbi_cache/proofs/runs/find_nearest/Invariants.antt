@@ -1,5 +1,5 @@
 use Rattle.std.specs.Prelude.{MatchOption, ⊤}
-use Rattle.rbbi_cache.specs.Lists.{HasAt, GoesOnFrom}
+use Rattle.rbbi_cache.specs.inner.Lists.{HasAt, GoesOnFrom}
 use Rattle.rbbi_cache.proofs.runs.find_nearest.Given as goal
 
 abbrev pub invariant-loop-k : goal.invariant-loop-k

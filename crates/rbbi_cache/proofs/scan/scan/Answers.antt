@@ -1,6 +1,6 @@
 use Rattle.std.proofs.Common.{sym, ap, ◌∙◌, subst, arith}
 use Rattle.rbbi_model.specs.Runs.{Entry, low}
-use Rattle.rbbi_cache.specs.Scans.{GoesOn}
+use Rattle.rbbi_cache.specs.inner.Scans.{GoesOn}
 use Rattle.rbbi_cache.proofs.Goes.{goes_found, goes_skipped, pushed_anchor, falls}
 use Rattle.rbbi_cache.proofs.scan.scan.Goals as goal
 

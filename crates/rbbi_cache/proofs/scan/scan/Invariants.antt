@@ -1,5 +1,5 @@
 use Rattle.std.proofs.Common.{◌≡◌, ◌+◌, ◌-◌}
-use Rattle.rbbi_cache.specs.Scans.{GoesOn}
+use Rattle.rbbi_cache.specs.inner.Scans.{GoesOn}
 use Rattle.rbbi_cache.proofs.scan.scan.Given as goal
 
 abbrev pub invariant-loop-here : goal.invariant-loop-here

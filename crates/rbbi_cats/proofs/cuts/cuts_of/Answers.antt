@@ -4,7 +4,7 @@ use Rattle.std.proofs.lemmas.List.{take_all}
 use Rattle.std.proofs.lemmas.List.Sorted.{IsPermutation-sym}
 use Rattle.std.proofs.lemmas.List.Filters.{dedup_is}
 use Rattle.rbbi_model.specs.Ranges.{Range}
-use Rattle.rbbi_cats.specs.Cuts.{set_ends}
+use Rattle.rbbi_cats.specs.inner.Cuts.{set_ends}
 use Rattle.rbbi_cats.proofs.Cutting.{ends_more, cuts_are}
 use Rattle.rbbi_cats.proofs.cuts.cuts_of.Goals as goal
 

@@ -1,6 +1,6 @@
 use Rattle.std.proofs.Common.{◌≡◌, ◌∷◌, take}
 use Rattle.std.specs.Prelude.{flat_map}
-use Rattle.rbbi_cats.specs.Cuts.{set_ends}
+use Rattle.rbbi_cats.specs.inner.Cuts.{set_ends}
 use Rattle.rbbi_cats.proofs.cuts.cuts_of.Given as goal
 
 abbrev pub invariant-loop-i : goal.invariant-loop-i

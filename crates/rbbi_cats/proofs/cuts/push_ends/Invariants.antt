@@ -1,5 +1,5 @@
 use Rattle.std.proofs.Common.{◌≡◌, ◌++◌, take}
-use Rattle.rbbi_cats.specs.Cuts.{set_ends}
+use Rattle.rbbi_cats.specs.inner.Cuts.{set_ends}
 use Rattle.rbbi_cats.proofs.cuts.push_ends.Given as goal
 
 abbrev pub invariant-loop-range : goal.invariant-loop-range

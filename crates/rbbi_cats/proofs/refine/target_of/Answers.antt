@@ -1,5 +1,5 @@
 use Rattle.std.proofs.Common.{◌≡◌, ◌≢◌, ◌⊎◌, ◌∷◌, [], ◌++◌, List, ℕ, length, get_or, set, sym, ◌∙◌, subst, inl, inr, rules}
-use Rattle.rbbi_cats.specs.Partitions.{Targets, Had, Kept, Made}
+use Rattle.rbbi_cats.specs.inner.Partitions.{Targets, Had, Kept, Made}
 use Rattle.rbbi_cats.specs.declared.refine.TheConstants.{MOVING}
 use Rattle.rbbi_cats.proofs.Counts.{read}
 use Rattle.rbbi_cats.proofs.refine.target_of.Goals as goal

@@ -8,8 +8,9 @@ use Rattle.rbbi_conform.specs.declared.error.TestErr.{TestErr}
 use Rattle.rbbi_conform.specs.declared.error.TestErr.TheVariants.{NotUtf8, BadLine, Memory}
 use Rattle.rbbi_conform.specs.Tests.{Test}
 use Rattle.rbbi_conform.specs.Grammar.{IsBad}
-use Rattle.rbbi_conform.specs.LineReadings.{RefusesLine}
-use Rattle.rbbi_conform.specs.Files.{LineWrites, LinesWrite, ReadsLines}
+use Rattle.rbbi_conform.specs.inner.LineReadings.{RefusesLine}
+use Rattle.rbbi_conform.specs.Files.{LineWrites, LinesWrite}
+use Rattle.rbbi_conform.specs.inner.Files.{ReadsLines}
 use Rattle.rbbi_conform.proofs.reader.read_lines.Goals as goal
 
 pub loop-line-init : goal.loop-line-init

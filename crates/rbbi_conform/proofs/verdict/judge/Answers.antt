@@ -1,7 +1,7 @@
 use Rattle.std.proofs.Common.{◌≡◌, ◌<◌, length, ap, sym, subst, ◌∙◌, arith}
 use Rattle.rbbi_model.specs.Searches.{found}
 use Rattle.rbbi_model.proofs.Found.{found_lies}
-use Rattle.rbbi_conform.specs.Verdicts.{AreRight, IsFirstWrong}
+use Rattle.rbbi_conform.specs.inner.Verdicts.{AreRight, IsFirstWrong}
 use Rattle.rbbi_conform.proofs.Judging.{IsJudgedTo, IsJudged-start, IsJudged-more, IsJudged-wrong}
 use Rattle.rbbi_conform.proofs.verdict.judge.Goals as goal
 

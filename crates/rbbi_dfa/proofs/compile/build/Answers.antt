@@ -2,8 +2,8 @@ use Rattle.std.proofs.Common.{◌≡◌, Err, ap, sym, subst, ◌∙◌, ℕ, Li
 use Rattle.rbbi_model.specs.Tables.{CategoryRange}
 use Rattle.rbbi_model.specs.ValidTables.{AreValidRanges}
 use Rattle.rbbi_model.specs.Compiled.{AreClasses}
-use Rattle.rbbi_dfa.specs.LeastTables.{GivesTable}
-use Rattle.rbbi_dfa.specs.MarkedRows.{AreOf}
+use Rattle.rbbi_dfa.specs.inner.LeastTables.{GivesTable}
+use Rattle.rbbi_dfa.specs.inner.MarkedRows.{AreOf}
 use Rattle.rbbi_dfa.proofs.Building.{AreOf-from_compilable, AreReadable-from_of, BuildsTable-from_gives, BuildsTable-from_refused}
 use Rattle.rbbi_dfa.proofs.compile.build.Goals as goal
 

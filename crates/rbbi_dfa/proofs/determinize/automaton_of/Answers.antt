@@ -5,11 +5,11 @@ use Rattle.rbbi_model.specs.Tables.{Table, CategoryRange}
 use Rattle.rbbi_model.specs.Marks.{HasSameMarks}
 use Rattle.rbbi_model.specs.LeafSets.{HasLeafSets}
 use Rattle.rbbi_positions.specs.PositionMarks.{PositionMarks}
-use Rattle.rbbi_dfa.specs.Automata.{IsDetermined, with_ranges}
-use Rattle.rbbi_dfa.specs.PositionRows.{PositionRows}
-use Rattle.rbbi_dfa.specs.PositionAutomata.{IsOfRules}
-use Rattle.rbbi_dfa.specs.Determinizing.{IsDeterminized}
-use Rattle.rbbi_dfa.specs.MarkedRows.{AreOf, AreRowsOf}
+use Rattle.rbbi_dfa.specs.inner.Automata.{IsDetermined, with_ranges}
+use Rattle.rbbi_dfa.specs.inner.PositionRows.{PositionRows}
+use Rattle.rbbi_dfa.specs.inner.PositionAutomata.{IsOfRules}
+use Rattle.rbbi_dfa.specs.inner.Determinizing.{IsDeterminized}
+use Rattle.rbbi_dfa.specs.inner.MarkedRows.{AreOf, AreRowsOf}
 use Rattle.rbbi_dfa.proofs.RowsOfRules.{rows_are_of_rules}
 use Rattle.rbbi_dfa.proofs.WordMarks.{has_same_marks}
 use Rattle.rbbi_dfa.proofs.Valid.{is_determined}

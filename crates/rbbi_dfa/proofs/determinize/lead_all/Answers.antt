@@ -1,8 +1,8 @@
 use Rattle.std.proofs.Common.{◌≡◌, ◌<◌, ◌+◌, length, sym, ap, ◌∙◌, subst, inr, arith}
-use Rattle.rbbi_dfa.specs.BitRows.{row_at}
-use Rattle.rbbi_dfa.specs.PositionRows.{PositionRows}
-use Rattle.rbbi_dfa.specs.Determinizing.{AreCellsUpTo, AddsZeros, AddsCells, Completes, AreFollowers}
-use Rattle.rbbi_dfa.specs.LastWords.{AreKept}
+use Rattle.rbbi_dfa.specs.inner.BitRows.{row_at}
+use Rattle.rbbi_dfa.specs.inner.PositionRows.{PositionRows}
+use Rattle.rbbi_dfa.specs.inner.Determinizing.{AreCellsUpTo, AddsZeros, AddsCells, Completes, AreFollowers}
+use Rattle.rbbi_dfa.specs.inner.LastWords.{AreKept}
 use Rattle.rbbi_dfa.proofs.Lead.{begin_refl}
 use Rattle.rbbi_dfa.proofs.Cells.{IsLed, cells_start, cells_stop, cells_go}
 use Rattle.rbbi_dfa.proofs.determinize.lead_all.Goals as goal

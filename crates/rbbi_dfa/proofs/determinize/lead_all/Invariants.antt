@@ -1,5 +1,5 @@
 use Rattle.std.proofs.Common.{◌-◌}
-use Rattle.rbbi_dfa.specs.LastWords.{AreKept}
+use Rattle.rbbi_dfa.specs.inner.LastWords.{AreKept}
 use Rattle.rbbi_dfa.proofs.Cells.{IsLed}
 use Rattle.rbbi_dfa.proofs.determinize.lead_all.Given as goal
 

@@ -1,6 +1,6 @@
 use Rattle.std.proofs.Common.{◌≡◌, ◌+◌, refl, ap, subst, sym, arith}
-use Rattle.rbbi_dfa.specs.Determinizing.{AddsZeros}
-use Rattle.rbbi_dfa.specs.PositionRows.{PositionRows}
+use Rattle.rbbi_dfa.specs.inner.Determinizing.{AddsZeros}
+use Rattle.rbbi_dfa.specs.inner.PositionRows.{PositionRows}
 use Rattle.rbbi_dfa.proofs.Cells.{no_zeros, zeros_more}
 use Rattle.rbbi_dfa.proofs.determinize.lead_nowhere.Goals as goal
 

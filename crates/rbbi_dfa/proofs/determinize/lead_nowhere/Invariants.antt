@@ -1,4 +1,4 @@
-use Rattle.rbbi_dfa.specs.Determinizing.{AddsZeros}
+use Rattle.rbbi_dfa.specs.inner.Determinizing.{AddsZeros}
 use Rattle.rbbi_dfa.proofs.determinize.lead_nowhere.Given as goal
 
 abbrev pub invariant-loop-category : goal.invariant-loop-category

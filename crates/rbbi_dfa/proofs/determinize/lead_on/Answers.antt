@@ -1,7 +1,7 @@
 use Rattle.std.proofs.Common.{◌≡◌, ◌<◌, ◌+◌, length, sym, ap, subst, arith}
 use Rattle.std.proofs.lemmas.Result.{err_from_is_err_and}
-use Rattle.rbbi_dfa.specs.Determinizing.{AddsCells}
-use Rattle.rbbi_dfa.specs.PositionRows.{PositionRows}
+use Rattle.rbbi_dfa.specs.inner.Determinizing.{AddsCells}
+use Rattle.rbbi_dfa.specs.inner.PositionRows.{PositionRows}
 use Rattle.rbbi_dfa.proofs.Lead.{IsLeading, reached_next, some_next, kept_or_added, one_too_many, empty_cell, set_cell, cells_more, begin_refl, begin_trans}
 use Rattle.rbbi_dfa.proofs.determinize.lead_on.Goals as goal
 use Rattle.rbbi_dfa.proofs.determinize.lead_on.Goals.{then-is_read+in_ok-number_of, else-is_read}

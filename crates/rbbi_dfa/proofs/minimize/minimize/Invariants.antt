@@ -1,6 +1,6 @@
 -- Each turn leaves a partition of one class more.
 use Rattle.std.proofs.Common.{◌-◌, length}
-use Rattle.rbbi_dfa.specs.Partitions.{IsPartition}
+use Rattle.rbbi_dfa.specs.inner.Partitions.{IsPartition}
 use Rattle.rbbi_dfa.proofs.minimize.minimize.Given as goal
 
 abbrev pub invariant-rounds : goal.invariant-rounds

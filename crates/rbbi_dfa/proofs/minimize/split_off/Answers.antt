@@ -1,7 +1,7 @@
 use Rattle.std.proofs.Common.{◌≡◌, ◌<◌, List, ℕ, length, slice_index, map, nat_eq, ap, sym, ◌∙◌, arith}
 use Rattle.std.proofs.lemmas.List.{get_or_read_under}
 use Rattle.rbbi_model.specs.Tables.{step}
-use Rattle.rbbi_dfa.specs.Partitions.{leads_inside}
+use Rattle.rbbi_dfa.specs.inner.Partitions.{leads_inside}
 use Rattle.rbbi_dfa.proofs.Refining.{sides_differ}
 use Rattle.rbbi_dfa.proofs.minimize.split_off.Goals as goal
 

@@ -1,4 +1,4 @@
-use Rattle.rbbi_file.specs.Reading.{AreCellsAt}
+use Rattle.rbbi_file.specs.inner.Reading.{AreCellsAt}
 use Rattle.rbbi_file.proofs.parts.add_cells.Given as goal
 
 abbrev pub invariant-loop-cell : goal.invariant-loop-cell

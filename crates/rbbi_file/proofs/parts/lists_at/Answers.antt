@@ -1,6 +1,6 @@
 use Rattle.std.proofs.Common.{ℕ, ◌+◌, ◌-◌, ◌*◌, List, ◌∷◌, [], length, ap, sym, ◌∙◌, subst, arith, length-append}
 use Rattle.rbbi_file.specs.Lengths.{lists_end}
-use Rattle.rbbi_file.specs.Reading.{AreListsAt}
+use Rattle.rbbi_file.specs.inner.Reading.{AreListsAt}
 use Rattle.rbbi_file.proofs.Stands.{list_within, next_list, lists_more}
 use Rattle.rbbi_file.proofs.parts.lists_at.Goals as goal
 

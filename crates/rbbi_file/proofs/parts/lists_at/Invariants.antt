@@ -1,6 +1,6 @@
 use Rattle.std.proofs.Common.{◌≡◌, ◌-◌, length}
 use Rattle.rbbi_file.specs.Lengths.{lists_end}
-use Rattle.rbbi_file.specs.Reading.{AreListsAt}
+use Rattle.rbbi_file.specs.inner.Reading.{AreListsAt}
 use Rattle.rbbi_file.proofs.parts.lists_at.Given as goal
 
 abbrev pub invariant-loop-list : goal.invariant-loop-list

@@ -2,7 +2,7 @@ use Rattle.std.proofs.Common.{◌≡◌, ◌+◌, ◌*◌, length}
 use Rattle.std.specs.List.{AllByRecursion, flat_map}
 use Rattle.rbbi_model.specs.TableFile.{range_bytes}
 use Rattle.rbbi_file.specs.Fitting.{FitsRange}
-use Rattle.rbbi_file.specs.Reading.{Stand}
+use Rattle.rbbi_file.specs.inner.Reading.{Stand}
 use Rattle.rbbi_file.proofs.parts.ranges_at.Given as goal
 
 abbrev pub invariant-loop-range : goal.invariant-loop-range

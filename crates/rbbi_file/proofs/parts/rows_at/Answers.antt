@@ -1,5 +1,5 @@
 use Rattle.std.proofs.Common.{◌+◌, sym, subst}
-use Rattle.rbbi_file.specs.Reading.{AreRowsAt}
+use Rattle.rbbi_file.specs.inner.Reading.{AreRowsAt}
 use Rattle.rbbi_file.proofs.Stands.{rows_more}
 use Rattle.rbbi_file.proofs.parts.rows_at.Goals as goal
 

@@ -1,4 +1,4 @@
-use Rattle.rbbi_file.specs.Reading.{AreRowsAt}
+use Rattle.rbbi_file.specs.inner.Reading.{AreRowsAt}
 use Rattle.rbbi_file.proofs.parts.rows_at.Given as goal
 
 abbrev pub invariant-loop-row : goal.invariant-loop-row

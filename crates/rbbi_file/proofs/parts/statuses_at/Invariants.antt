@@ -1,7 +1,7 @@
 use Rattle.std.proofs.Common.{◌≡◌, ◌+◌, ◌*◌, ◌^◌, ◌<◌, length}
 use Rattle.std.specs.List.{AllByRecursion, flat_map}
 use Rattle.rbbi_model.specs.TableFile.{u32}
-use Rattle.rbbi_file.specs.Reading.{Stand}
+use Rattle.rbbi_file.specs.inner.Reading.{Stand}
 use Rattle.rbbi_file.proofs.parts.statuses_at.Given as goal
 
 abbrev pub invariant-loop-status : goal.invariant-loop-status

@@ -1,5 +1,5 @@
 use Rattle.std.proofs.Common.{List, ℕ, [], ◌∷◌, ◌++◌, ◌∙◌, ap, sym, subst}
-use Rattle.rbbi_io.specs.Memory.{IsIndexOf, IsAbsent}
+use Rattle.rbbi_io.specs.inner.Memory.{IsIndexOf, IsAbsent}
 use Rattle.rbbi_io.proofs.NamedFiles.{set-place, with_file-absent}
 use Rattle.rbbi_io.proofs.mem_files.store.Goals as goal
 

@@ -1,4 +1,4 @@
-use Rattle.rbbi_positions.specs.Rows.{AreFlags}
+use Rattle.rbbi_positions.specs.inner.Rows.{AreFlags}
 use Rattle.rbbi_positions.proofs.bits.flags_of.Given as goal
 
 abbrev pub invariant-loop-position : goal.invariant-loop-position

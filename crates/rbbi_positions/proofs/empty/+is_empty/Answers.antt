@@ -2,7 +2,7 @@ use Rattle.std.proofs.Common.{◌+◌, ◌&&◌, ◌||◌, drop, sym, ap, ◌∙
 use Rattle.std.specs.Prelude.{map}
 use Rattle.rbbi_model.specs.Spelling.{sequence_of, choice_of}
 use Rattle.rbbi_resolve.specs.RuleTrees.{tree_of, repeated}
-use Rattle.rbbi_positions.specs.Trees.{spells_empty}
+use Rattle.rbbi_positions.specs.inner.Trees.{spells_empty}
 use Rattle.rbbi_positions.proofs.Folds.{tree_of_repeat}
 use Rattle.rbbi_positions.proofs.Empties.{sequence_step, choice_step, sequence_end, choice_end}
 use Rattle.rbbi_positions.proofs.empty.+is_empty.Goals as goal

@@ -3,7 +3,7 @@ use Rattle.std.specs.Prelude.{map}
 use Rattle.rbbi_model.specs.Ranges.{Range}
 use Rattle.rbbi_model.specs.Spelling.{sequence_of, choice_of}
 use Rattle.rbbi_resolve.specs.RuleTrees.{tree_of}
-use Rattle.rbbi_positions.specs.Trees.{spells_empty}
+use Rattle.rbbi_positions.specs.inner.Trees.{spells_empty}
 use Rattle.rbbi_positions.proofs.empty.+is_empty.Given as goal
 
 abbrev pub invariant-loop-part : goal.invariant-loop-part

@@ -4,8 +4,8 @@ use Rattle.rbbi_model.specs.Ranges.{Range}
 use Rattle.rbbi_model.specs.Spelling.{sequence_of, choice_of}
 use Rattle.rbbi_model.specs.Rules.{leaf_count}
 use Rattle.rbbi_resolve.specs.RuleTrees.{tree_of}
-use Rattle.rbbi_positions.specs.Rows.{row_bit}
-use Rattle.rbbi_positions.specs.Trees.{begins}
+use Rattle.rbbi_positions.specs.inner.Rows.{row_bit}
+use Rattle.rbbi_positions.specs.inner.Trees.{begins}
 use Rattle.rbbi_positions.proofs.firsts.+add_firsts.Given as goal
 
 abbrev pub invariant-loop-part : goal.invariant-loop-part

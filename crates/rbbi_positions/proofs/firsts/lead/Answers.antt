@@ -1,8 +1,8 @@
 use Rattle.std.proofs.Common.{rules, ◌≡◌, Bool, ◌&&◌, ◌||◌, length, sym, ap, ◌∙◌}
 use Rattle.std.proofs.Math.Bool.{or_comm}
 use Rattle.rbbi_resolve.specs.RuleTrees.{tree_of}
-use Rattle.rbbi_positions.specs.Rows.{row_bit}
-use Rattle.rbbi_positions.specs.Trees.{spells_empty, begins}
+use Rattle.rbbi_positions.specs.inner.Rows.{row_bit}
+use Rattle.rbbi_positions.specs.inner.Trees.{spells_empty, begins}
 use Rattle.rbbi_positions.proofs.BitRows.{blank_row}
 use Rattle.rbbi_positions.proofs.firsts.lead.Goals as goal
 use Rattle.rbbi_positions.proofs.firsts.lead.Goals.{then-not-is_empty, else-not-is_empty}

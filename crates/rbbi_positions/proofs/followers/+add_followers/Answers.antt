@@ -7,10 +7,10 @@ use Rattle.rbbi_model.specs.Spelling.{Tree, sequence_of}
 use Rattle.rbbi_model.specs.Rules.{leaf_count}
 use Rattle.rbbi_resolve.specs.RuleTrees.{tree_of}
 use Rattle.rbbi_resolve.specs.declared.rules.Tree.TheViews.{the_lemmas}
-use Rattle.rbbi_positions.specs.Rows.{row_bit}
+use Rattle.rbbi_positions.specs.inner.Rows.{row_bit}
 use Rattle.rbbi_positions.specs.PositionMarks.{in_row}
-use Rattle.rbbi_positions.specs.Trees.{goes, leads}
-use Rattle.rbbi_positions.specs.Rounds.{behind_of}
+use Rattle.rbbi_positions.specs.inner.Trees.{goes, leads}
+use Rattle.rbbi_positions.specs.inner.Rounds.{behind_of}
 use Rattle.rbbi_positions.proofs.Folds.{same_leaves, tree_of_leaf, tree_of_all, tree_of_repeat, goes_repeat}
 use Rattle.rbbi_positions.proofs.Parts.{count_choice, count_up_to, goes_on, choice_on, goes_of, choice_done, none_left}
 use Rattle.rbbi_positions.proofs.RowWrites.{all_written, row_within, rows_within}

@@ -1,9 +1,9 @@
 use Rattle.std.proofs.Common.{Bool, ◌||◌, sym, ap, ◌∙◌}
 use Rattle.rbbi_tree.specs.declared.syntax.Quant.{Quant}
 use Rattle.rbbi_resolve.specs.RuleTrees.{tree_of}
-use Rattle.rbbi_positions.specs.Rows.{row_bit}
-use Rattle.rbbi_positions.specs.Trees.{begins}
-use Rattle.rbbi_positions.specs.Rounds.{behind_of}
+use Rattle.rbbi_positions.specs.inner.Rows.{row_bit}
+use Rattle.rbbi_positions.specs.inner.Trees.{begins}
+use Rattle.rbbi_positions.specs.inner.Rounds.{behind_of}
 use Rattle.rbbi_positions.proofs.RowWrites.{all_written}
 use Rattle.rbbi_positions.proofs.followers.behind.Goals as goal
 use Rattle.rbbi_positions.proofs.followers.behind.Goals.{in-Once, in-Quest, in-Star, in-Plus}

@@ -4,7 +4,7 @@ use Rattle.rbbi_model.specs.Ranges.{Range}
 use Rattle.rbbi_model.specs.Rules.{leaf_count}
 use Rattle.rbbi_resolve.specs.RuleTrees.{tree_of}
 use Rattle.rbbi_resolve.specs.declared.rules.Tree.TheViews.{the_lemmas}
-use Rattle.rbbi_positions.specs.Trees.{ends}
+use Rattle.rbbi_positions.specs.inner.Trees.{ends}
 use Rattle.rbbi_positions.proofs.Folds.{same_leaves, of_repeat, tree_of_leaf, tree_of_all}
 use Rattle.rbbi_positions.proofs.Parts.{count_choice, count_up_to, ends_on, ends_end, choice_on, ends_of, choice_done, none_left, flag_set}
 use Rattle.rbbi_positions.proofs.lasts.+add_lasts.Goals as goal

@@ -4,7 +4,7 @@ use Rattle.rbbi_model.specs.Ranges.{Range}
 use Rattle.rbbi_model.specs.Spelling.{sequence_of, choice_of}
 use Rattle.rbbi_model.specs.Rules.{leaf_count}
 use Rattle.rbbi_resolve.specs.RuleTrees.{tree_of}
-use Rattle.rbbi_positions.specs.Trees.{ends}
+use Rattle.rbbi_positions.specs.inner.Trees.{ends}
 use Rattle.rbbi_positions.proofs.lasts.+add_lasts.Given as goal
 
 abbrev pub invariant-loop-part : goal.invariant-loop-part

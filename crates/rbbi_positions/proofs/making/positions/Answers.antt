@@ -3,10 +3,10 @@ use Rattle.std.specs.Prelude.{sum_by}
 use Rattle.rbbi_model.specs.Ranges.{Range}
 use Rattle.rbbi_model.specs.Rules.{leaves_of}
 use Rattle.rbbi_resolve.specs.RuleLists.{rules_of}
-use Rattle.rbbi_positions.specs.Rows.{row_bit}
+use Rattle.rbbi_positions.specs.inner.Rows.{row_bit}
 use Rattle.rbbi_positions.specs.PositionMarks.{in_row}
-use Rattle.rbbi_positions.specs.RuleTests.{some_rule, rule_begins, front_ends, rule_ends, rule_goes, AreCodesOf}
-use Rattle.rbbi_positions.specs.Readers.{AreReaders}
+use Rattle.rbbi_positions.specs.inner.RuleTests.{some_rule, rule_begins, front_ends, rule_ends, rule_goes, AreCodesOf}
+use Rattle.rbbi_positions.specs.inner.Readers.{AreReaders}
 use Rattle.rbbi_positions.proofs.Marking.{alike, first_is, last_is, front_last_is, follows_is}
 use Rattle.rbbi_positions.proofs.Reading.{reads_are, leaves_total}
 use Rattle.rbbi_positions.proofs.making.positions.Goals as goal

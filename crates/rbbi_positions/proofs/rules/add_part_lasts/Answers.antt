@@ -2,8 +2,8 @@ use Rattle.std.proofs.Common.{◌+◌, ◌||◌, false, [], get_or, sym, ap, ◌
 use Rattle.rbbi_model.specs.Rules.{leaf_count}
 use Rattle.rbbi_resolve.specs.RuleTrees.{tree_of}
 use Rattle.rbbi_resolve.specs.RuleLists.{rule_of}
-use Rattle.rbbi_positions.specs.Trees.{ends}
-use Rattle.rbbi_positions.specs.RuleParts.{part_ends}
+use Rattle.rbbi_positions.specs.inner.Trees.{ends}
+use Rattle.rbbi_positions.specs.inner.RuleParts.{part_ends}
 use Rattle.rbbi_positions.proofs.RuleFacts.{leaves_some, of_none, of_some}
 use Rattle.rbbi_positions.proofs.rules.add_part_lasts.Goals as goal
 

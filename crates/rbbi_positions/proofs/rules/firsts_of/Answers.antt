@@ -1,8 +1,8 @@
 use Rattle.std.proofs.Common.{◌||◌, [], length, ap, ◌∙◌, arith}
 use Rattle.rbbi_resolve.specs.RuleTrees.{tree_of}
-use Rattle.rbbi_positions.specs.Rows.{row_bit}
-use Rattle.rbbi_positions.specs.Trees.{begins}
-use Rattle.rbbi_positions.specs.RuleTests.{rule_begins}
+use Rattle.rbbi_positions.specs.inner.Rows.{row_bit}
+use Rattle.rbbi_positions.specs.inner.Trees.{begins}
+use Rattle.rbbi_positions.specs.inner.RuleTests.{rule_begins}
 use Rattle.rbbi_positions.proofs.RowWrites.{all_written}
 use Rattle.rbbi_positions.proofs.RuleFacts.{first_next, first_within, some_next}
 use Rattle.rbbi_positions.proofs.rules.firsts_of.Goals as goal

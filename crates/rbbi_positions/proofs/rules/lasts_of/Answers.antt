@@ -1,6 +1,6 @@
 use Rattle.std.proofs.Common.{◌||◌, false, [], length, get_or, ap, ◌∙◌, arith}
 use Rattle.rbbi_resolve.specs.RuleLists.{rule_of}
-use Rattle.rbbi_positions.specs.RuleParts.{part_ends}
+use Rattle.rbbi_positions.specs.inner.RuleParts.{part_ends}
 use Rattle.rbbi_positions.proofs.RowWrites.{all_written}
 use Rattle.rbbi_positions.proofs.RuleFacts.{first_next, first_within, some_next}
 use Rattle.rbbi_positions.proofs.rules.lasts_of.Goals as goal

@@ -1,8 +1,8 @@
 use Rattle.std.proofs.Common.{◌≡◌, ℕ, false, length, take, get_or}
 use Rattle.rbbi_model.specs.LeafSets.{first_position}
 use Rattle.rbbi_resolve.specs.RuleLists.{rules_of}
-use Rattle.rbbi_positions.specs.RuleTests.{some_rule}
-use Rattle.rbbi_positions.specs.RuleParts.{part_ends}
+use Rattle.rbbi_positions.specs.inner.RuleTests.{some_rule}
+use Rattle.rbbi_positions.specs.inner.RuleParts.{part_ends}
 use Rattle.rbbi_positions.proofs.rules.lasts_of.Given as goal
 
 abbrev pub invariant-loop-number : goal.invariant-loop-number

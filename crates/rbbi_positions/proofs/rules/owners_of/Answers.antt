@@ -1,7 +1,7 @@
 use Rattle.std.proofs.Common.{length, replicate, sym, ap, subst, arith, length-append}
 use Rattle.std.proofs.lemmas.List.{length-replicate}
 use Rattle.rbbi_resolve.specs.RuleLists.{rule_of, rules_of}
-use Rattle.rbbi_positions.specs.RuleTests.{AreOwners}
+use Rattle.rbbi_positions.specs.inner.RuleTests.{AreOwners}
 use Rattle.rbbi_positions.proofs.RuleFacts.{first_next, first_within, owners_more, rule_is}
 use Rattle.rbbi_positions.proofs.rules.owners_of.Goals as goal
 

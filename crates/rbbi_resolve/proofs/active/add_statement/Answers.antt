@@ -8,21 +8,22 @@ use Rattle.rbbi_tree.specs.Values.{statement_trees, expr_tree, rest_tree}
 use Rattle.rbbi_resolve.specs.Expressions.{meaning_of_expr}
 use Rattle.rbbi_resolve.specs.Parts.{parts_of_expr}
 use Rattle.rbbi_resolve.specs.Faults.{faults_of_parts}
-use Rattle.rbbi_resolve.specs.Files.{context_at, context_after, after_control, rule_in, faults_of_rest, faults_at_slash}
-use Rattle.rbbi_resolve.specs.Scopes.{context_of}
-use Rattle.rbbi_resolve.specs.Switchings.{AreSwitches}
+use Rattle.rbbi_resolve.specs.inner.Files.{context_at}
+use Rattle.rbbi_resolve.specs.Files.{context_after, after_control, rule_in, faults_of_rest, faults_at_slash}
+use Rattle.rbbi_resolve.specs.inner.Scopes.{context_of}
+use Rattle.rbbi_resolve.specs.inner.Switchings.{AreSwitches}
 use Rattle.rbbi_resolve.specs.declared.switches.Switches.{Switches}
 use Rattle.rbbi_resolve.specs.declared.rules.Rule.{Rule}
-use Rattle.rbbi_resolve.specs.Builders.{IsPart, IsBuilt, GoesOn}
-use Rattle.rbbi_resolve.specs.RulesSoFar.{IsRestBuilt, IsRuleBuilt, AreRulesTo}
+use Rattle.rbbi_resolve.specs.inner.Builders.{IsPart, IsBuilt, GoesOn}
+use Rattle.rbbi_resolve.specs.inner.RulesSoFar.{IsRestBuilt, IsRuleBuilt, AreRulesTo}
 use Rattle.rbbi_resolve.proofs.Sound.{first_empty, second_empty}
 use Rattle.rbbi_resolve.proofs.SoundFiles.{faultless_at}
 use Rattle.rbbi_resolve.proofs.Steps.{tree_at, meant}
 use Rattle.rbbi_resolve.proofs.Building.{part_more, goes_nowhere, goes_further}
 use Rattle.rbbi_resolve.proofs.RulesBuilt.{statement_built, rule_fresh}
 use Rattle.rbbi_resolve.proofs.Ending.{switches_kept}
-use Rattle.rbbi_resolve.specs.Scopes.{stand_of}
-use Rattle.rbbi_resolve.specs.Covered.{AreCovered, parts_of_rest}
+use Rattle.rbbi_resolve.specs.inner.Scopes.{stand_of}
+use Rattle.rbbi_resolve.specs.inner.Covered.{AreCovered, parts_of_rest}
 use Rattle.rbbi_resolve.proofs.Covering.{covered_left, covered_right}
 use Rattle.rbbi_resolve.proofs.active.add_statement.Goals as goal
 use Rattle.rbbi_resolve.proofs.active.add_statement.Goals.{After-get, In-Rule}

@@ -3,13 +3,14 @@ use Rattle.std.proofs.lemmas.List.{length-map}
 use Rattle.std.specs.Rc.{rc_value}
 use Rattle.rbbi_tree.specs.Values.{statement_trees}
 use Rattle.rbbi_sets.specs.Divisions.{stand_in}
-use Rattle.rbbi_resolve.specs.Files.{active_rules, context_at, faults_of}
-use Rattle.rbbi_resolve.specs.Scopes.{AreVariables}
-use Rattle.rbbi_resolve.specs.ClassValues.{AreClasses}
-use Rattle.rbbi_resolve.specs.Covered.{CoversAll}
+use Rattle.rbbi_resolve.specs.Files.{active_rules, faults_of}
+use Rattle.rbbi_resolve.specs.inner.Files.{context_at}
+use Rattle.rbbi_resolve.specs.inner.Scopes.{AreVariables}
+use Rattle.rbbi_resolve.specs.inner.ClassValues.{AreClasses}
+use Rattle.rbbi_resolve.specs.inner.Covered.{CoversAll}
 use Rattle.rbbi_resolve.specs.RuleLists.{RuleList, rules_of}
 use Rattle.rbbi_resolve.specs.Outcomes.{Means}
-use Rattle.rbbi_resolve.specs.RulesSoFar.{AreAllRules}
+use Rattle.rbbi_resolve.specs.inner.RulesSoFar.{AreAllRules}
 use Rattle.rbbi_model.specs.Rules.{AreLawful}
 use Rattle.rbbi_resolve.proofs.SoundFiles.{sound_at, faultless_at, assigned_faultless}
 use Rattle.rbbi_resolve.proofs.Lawful.{same_leaves, same_slashes, within_anywhere, lawful_rules}

@@ -2,8 +2,8 @@ use Rattle.std.proofs.Common.{◌≡◌, ◌+◌, [], length, sym, refl, ap, ◌
 use Rattle.std.specs.List.{AllZip}
 use Rattle.std.proofs.lemmas.List.{length-map}
 use Rattle.rbbi_tree.specs.Values.{statement_trees}
-use Rattle.rbbi_resolve.specs.Builders.{IsReady}
-use Rattle.rbbi_resolve.specs.RulesSoFar.{IsRuleBuilt, AreRulesTo, AreAllRules}
+use Rattle.rbbi_resolve.specs.inner.Builders.{IsReady}
+use Rattle.rbbi_resolve.specs.inner.RulesSoFar.{IsRuleBuilt, AreRulesTo, AreAllRules}
 use Rattle.rbbi_resolve.proofs.RulesBuilt.{all_built}
 use Rattle.rbbi_resolve.proofs.Ending.{rules_at_start, switches_at_start}
 use Rattle.rbbi_resolve.proofs.active.rules_with_trees.Goals as goal

@@ -1,6 +1,6 @@
 use Rattle.std.proofs.Common.{◌≡◌}
 use Rattle.rbbi_tree.specs.Values.{statement_trees}
-use Rattle.rbbi_resolve.specs.RulesSoFar.{AreRulesTo}
+use Rattle.rbbi_resolve.specs.inner.RulesSoFar.{AreRulesTo}
 use Rattle.rbbi_resolve.proofs.active.rules_with_trees.Given as goal
 
 abbrev pub invariant-loop-number : goal.invariant-loop-number

@@ -5,7 +5,7 @@ use Rattle.std.proofs.lemmas.Iterator.Consumers.{YieldsList-turn, YieldsList-end
 use Rattle.rbbi_model.specs.SetTrees as model
 use Rattle.rbbi_resolve.specs.Meanings.{Leaf}
 use Rattle.rbbi_resolve.specs.Expressions.{word_of}
-use Rattle.rbbi_resolve.specs.Builders.{StandFrom, IsBuilt}
+use Rattle.rbbi_resolve.specs.inner.Builders.{StandFrom, IsBuilt}
 use Rattle.rbbi_resolve.proofs.Building.{AreBuilt, none_built, push_same, leaf_built, stand_first, stand_rest, sequence_built}
 use Rattle.rbbi_resolve.proofs.Meant.{word_means}
 use Rattle.rbbi_resolve.proofs.build.tree_of_word.Goals as goal

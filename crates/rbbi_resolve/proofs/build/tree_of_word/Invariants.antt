@@ -3,7 +3,7 @@ use Rattle.rbbi_model.specs.Ranges.{Range}
 use Rattle.rbbi_model.specs.SetTrees as model
 use Rattle.rbbi_props.specs.Rows.{File}
 use Rattle.rbbi_resolve.specs.Meanings.{Leaf}
-use Rattle.rbbi_resolve.specs.Builders.{StandFrom}
+use Rattle.rbbi_resolve.specs.inner.Builders.{StandFrom}
 use Rattle.rbbi_resolve.proofs.Building.{AreBuilt}
 use Rattle.rbbi_resolve.proofs.build.tree_of_word.Given as goal
 

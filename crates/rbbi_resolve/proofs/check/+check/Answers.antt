@@ -3,9 +3,9 @@ use Rattle.rbbi_tree.specs.Trees.{placed, property, set, group}
 use Rattle.rbbi_tree.specs.Values.{atom_tree, set_tree, expr_tree, item_tree_out}
 use Rattle.rbbi_resolve.specs.Expressions.{meaning_of_item, height_of_item, meaning_of_atom, height_of_atom}
 use Rattle.rbbi_resolve.specs.Parts.{Outside, parts_of_item, parts_of_expr}
-use Rattle.rbbi_resolve.specs.Faults.{noted_parts}
-use Rattle.rbbi_resolve.specs.Summaries.{Sums, Summarizes}
-use Rattle.rbbi_resolve.specs.Scopes.{context_of}
+use Rattle.rbbi_resolve.specs.inner.Faults.{noted_parts}
+use Rattle.rbbi_resolve.specs.inner.Summaries.{Sums, Summarizes}
+use Rattle.rbbi_resolve.specs.inner.Scopes.{context_of}
 use Rattle.rbbi_resolve.proofs.Noting.{noted_parts_of_append}
 use Rattle.rbbi_resolve.proofs.ItemTrees.{atom_of_property, atom_of_set, atom_of_group}
 use Rattle.rbbi_resolve.proofs.Kept.{files_stay}
@@ -14,8 +14,8 @@ use Rattle.std.proofs.Common.{◌<◌}
 use Rattle.rbbi_tree.specs.Values.{seq_tree, item_tree}
 use Rattle.rbbi_resolve.specs.Parts.{parts_of_seq}
 use Rattle.rbbi_tree.specs.declared.syntax.Quant.TheVariants.{Once}
-use Rattle.rbbi_resolve.specs.Covered.{AreCovered}
-use Rattle.rbbi_resolve.specs.Scopes.{IsScope, KnowsQuotes, stand_of}
+use Rattle.rbbi_resolve.specs.inner.Covered.{AreCovered}
+use Rattle.rbbi_resolve.specs.inner.Scopes.{IsScope, KnowsQuotes, stand_of}
 use Rattle.rbbi_resolve.proofs.Counting.{expr_by_items, seq_by_items}
 use Rattle.rbbi_resolve.proofs.Weights.{size_of_expr, size_of_seq, size_of_item, size_of_atom, smaller_seq, smaller_item, smaller_atom}
 use Rattle.rbbi_resolve.proofs.Covering.{covered_seq, covered_item, covered_atom, covered_alone, covered_left}

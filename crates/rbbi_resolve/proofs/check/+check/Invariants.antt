@@ -1,7 +1,7 @@
 use Rattle.std.proofs.Common.{map, drop}
 use Rattle.rbbi_tree.specs.Trees.{expr_of, seq_of}
 use Rattle.rbbi_tree.specs.Values.{seq_tree, item_tree}
-use Rattle.rbbi_resolve.specs.Scopes.{context_of}
+use Rattle.rbbi_resolve.specs.inner.Scopes.{context_of}
 use Rattle.rbbi_resolve.proofs.Counting.{CountingExpr, CountingSeq}
 use Rattle.rbbi_tree.specs.Values.{expr_tree, atom_tree}
 use Rattle.rbbi_resolve.proofs.Weights.{size_of_expr, size_of_seq, size_of_item, size_of_atom}

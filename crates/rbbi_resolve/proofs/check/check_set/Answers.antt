@@ -2,7 +2,7 @@ use Rattle.std.proofs.Common.{ap, ◌∙◌}
 use Rattle.rbbi_tree.specs.Values.{set_tree}
 use Rattle.rbbi_resolve.specs.Faults.{noted, faults_where}
 use Rattle.rbbi_resolve.specs.Contexts.{value_of_name}
-use Rattle.rbbi_resolve.specs.Scopes.{context_of}
+use Rattle.rbbi_resolve.specs.inner.Scopes.{context_of}
 use Rattle.rbbi_resolve.proofs.Kept.{files_stay}
 use Rattle.rbbi_resolve.proofs.Named.{set_noted}
 use Rattle.rbbi_resolve.proofs.check.check_set.Goals as goal

@@ -1,5 +1,5 @@
 use Rattle.std.proofs.Common.{subst}
-use Rattle.rbbi_resolve.specs.ClassValues.{IsClassValue}
+use Rattle.rbbi_resolve.specs.inner.ClassValues.{IsClassValue}
 use Rattle.rbbi_resolve.proofs.Characters.{classes_emptiness}
 use Rattle.rbbi_resolve.proofs.check.is_empty_set.Goals as goal
 

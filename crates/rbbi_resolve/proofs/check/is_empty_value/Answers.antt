@@ -1,5 +1,5 @@
 use Rattle.std.proofs.Common.{subst}
-use Rattle.rbbi_resolve.specs.SetValues.{IsValue}
+use Rattle.rbbi_resolve.specs.inner.SetValues.{IsValue}
 use Rattle.rbbi_resolve.proofs.Characters.{same_emptiness}
 use Rattle.rbbi_resolve.proofs.check.is_empty_value.Goals as goal
 

@@ -2,8 +2,8 @@ use Rattle.std.proofs.Common.{sym, subst, rules}
 use Rattle.std.specs.List.{AllByRecursion}
 use Rattle.std.specs.Map.{values_of}
 use Rattle.std.proofs.lemmas.List.Elements.{recursion_from_All, All-from_recursion}
-use Rattle.rbbi_resolve.specs.ClassValues.{IsKnown}
-use Rattle.rbbi_resolve.specs.Questions.{IsAnswer}
+use Rattle.rbbi_resolve.specs.inner.ClassValues.{IsKnown}
+use Rattle.rbbi_resolve.specs.inner.Questions.{IsAnswer}
 use Rattle.rbbi_resolve.proofs.Answered.{values_insert, value_at, answer_known}
 use Rattle.rbbi_resolve.proofs.classes.add_known.Goals as goal
 

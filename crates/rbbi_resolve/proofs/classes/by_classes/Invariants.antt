@@ -2,8 +2,8 @@ use Rattle.std.proofs.Common.{List}
 use Rattle.std.specs.HashMap.{values}
 use Rattle.std.specs.List.{All}
 use Rattle.rbbi_props.specs.Rows.{File}
-use Rattle.rbbi_resolve.specs.Questions.{IsAnswer}
-use Rattle.rbbi_resolve.specs.ClassValues.{IsDivided, IsKnown}
+use Rattle.rbbi_resolve.specs.inner.Questions.{IsAnswer}
+use Rattle.rbbi_resolve.specs.inner.ClassValues.{IsDivided, IsKnown}
 use Rattle.rbbi_resolve.proofs.classes.by_classes.Given as goal
 
 abbrev pub invariant-loop-number : goal.invariant-loop-number

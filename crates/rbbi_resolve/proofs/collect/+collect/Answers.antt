@@ -8,7 +8,7 @@ use Rattle.rbbi_tree.specs.declared.syntax.Atom.TheViews.{out-Item}
 use Rattle.rbbi_tree.specs.Values.{item_tree, atom_tree, set_tree, expr_tree, item_tree_out}
 use Rattle.rbbi_resolve.specs.SetValues.{value_of_property}
 use Rattle.rbbi_resolve.specs.Parts.{Outside, parts_of_item, parts_of_set, parts_of_expr}
-use Rattle.rbbi_resolve.specs.Covered.{Collects}
+use Rattle.rbbi_resolve.specs.inner.Covered.{Collects}
 use Rattle.rbbi_resolve.proofs.ItemTrees.{atom_of_property, atom_of_set, atom_of_group}
 use Rattle.rbbi_resolve.proofs.Covering.{based_respects, set_covered}
 use Rattle.rbbi_resolve.proofs.collect.+collect.Goals as goal

@@ -8,7 +8,7 @@ use Rattle.rbbi_tree.specs.Values.{set_tree, part_tree}
 use Rattle.std.proofs.lemmas.List.Elements.{All-nil}
 use Rattle.rbbi_sets.specs.Rising.{IsRange}
 use Rattle.rbbi_resolve.specs.SetValues.{value_of_property}
-use Rattle.rbbi_resolve.specs.Covered.{IsCollection, CollectsPart}
+use Rattle.rbbi_resolve.specs.inner.Covered.{IsCollection, CollectsPart}
 use Rattle.rbbi_resolve.proofs.ItemTrees.{of_character, of_range, of_name, of_inner, of_property}
 use Rattle.rbbi_resolve.proofs.Collecting.{part_is}
 use Rattle.rbbi_resolve.proofs.Covering.{based_respects}

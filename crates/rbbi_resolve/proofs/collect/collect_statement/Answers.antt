@@ -2,7 +2,7 @@ use Rattle.std.proofs.Common.{sym, subst}
 use Rattle.rbbi_tree.specs.Trees.{rule}
 use Rattle.rbbi_tree.specs.Values.{expr_tree, rest_tree, statement_tree}
 use Rattle.rbbi_resolve.specs.Parts.{parts_of_expr}
-use Rattle.rbbi_resolve.specs.Covered.{Collects, parts_of_statement}
+use Rattle.rbbi_resolve.specs.inner.Covered.{Collects, parts_of_statement}
 use Rattle.rbbi_resolve.proofs.Collecting.{collects_more}
 use Rattle.rbbi_resolve.proofs.collect.collect_statement.Goals as goal
 

@@ -2,7 +2,7 @@ use Rattle.std.proofs.Common.{◌≡◌, IfSome, sym, ap, ◌∙◌, subst}
 use Rattle.rbbi_tree.specs.Trees.{joined, set_character, set_range}
 use Rattle.rbbi_tree.specs.Values.{part_tree}
 use Rattle.rbbi_tree.specs.declared.syntax.Join.TheVariants.{Add}
-use Rattle.rbbi_resolve.specs.LiteralRuns.{IsLiteral}
+use Rattle.rbbi_resolve.specs.inner.LiteralRuns.{IsLiteral}
 use Rattle.rbbi_resolve.proofs.ItemTrees.{of_character, of_range}
 use Rattle.rbbi_resolve.proofs.Collecting.{part_is}
 use Rattle.rbbi_resolve.proofs.SetRuns.{literal_character, literal_range}

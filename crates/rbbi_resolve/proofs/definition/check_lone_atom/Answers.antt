@@ -5,14 +5,14 @@ use Rattle.rbbi_tree.specs.declared.syntax.Quant.TheVariants.{Once}
 use Rattle.rbbi_resolve.specs.Contexts.{value_of_name}
 use Rattle.rbbi_resolve.specs.Expressions.{set_of_atom}
 use Rattle.rbbi_resolve.specs.Parts.{parts_of_item}
-use Rattle.rbbi_resolve.specs.Faults.{noted_parts}
+use Rattle.rbbi_resolve.specs.inner.Faults.{noted_parts}
 use Rattle.rbbi_resolve.specs.SetValues.{value_of_property, value_of_set}
-use Rattle.rbbi_resolve.specs.ClassValues.{IsClassValue}
-use Rattle.rbbi_resolve.specs.Scopes.{bounds_of, context_of, stand_of}
-use Rattle.rbbi_resolve.specs.Definitions.{AreSetOf}
+use Rattle.rbbi_resolve.specs.inner.ClassValues.{IsClassValue}
+use Rattle.rbbi_resolve.specs.inner.Scopes.{bounds_of, context_of, stand_of}
+use Rattle.rbbi_resolve.specs.inner.Definitions.{AreSetOf}
 use Rattle.rbbi_resolve.proofs.ItemTrees.{atom_of_property, atom_of_set}
 use Rattle.rbbi_resolve.proofs.Kept.{files_stay}
-use Rattle.rbbi_resolve.specs.Covered.{AreCovered}
+use Rattle.rbbi_resolve.specs.inner.Covered.{AreCovered}
 use Rattle.rbbi_resolve.proofs.Covering.{covered_alone}
 use Rattle.rbbi_resolve.proofs.definition.check_lone_atom.Goals as goal
 

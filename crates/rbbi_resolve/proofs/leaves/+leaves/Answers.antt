@@ -4,10 +4,10 @@ use Rattle.rbbi_tree.specs.Trees.{expr_of, seq_of, placed, property, set, group}
 use Rattle.rbbi_tree.specs.Values.{expr_tree, seq_tree, item_tree, atom_tree, set_tree, item_tree_out}
 use Rattle.rbbi_resolve.specs.Parts.{Outside, parts_of_expr, parts_of_seq, parts_of_item}
 use Rattle.rbbi_resolve.specs.Faults.{faults_of_parts}
-use Rattle.rbbi_resolve.specs.SetValues.{IsValue}
-use Rattle.rbbi_resolve.specs.ClassValues.{IsClassValue}
-use Rattle.rbbi_resolve.specs.Scopes.{bounds_of, context_of}
-use Rattle.rbbi_resolve.specs.OwnLeaves.{AddsLeaves, leaves_of_expr, leaves_of_seq, leaves_of_item}
+use Rattle.rbbi_resolve.specs.inner.SetValues.{IsValue}
+use Rattle.rbbi_resolve.specs.inner.ClassValues.{IsClassValue}
+use Rattle.rbbi_resolve.specs.inner.Scopes.{bounds_of, context_of}
+use Rattle.rbbi_resolve.specs.inner.OwnLeaves.{AddsLeaves, leaves_of_expr, leaves_of_seq, leaves_of_item}
 use Rattle.rbbi_resolve.proofs.Counting.{expr_by_items, seq_by_items}
 use Rattle.rbbi_resolve.proofs.ItemTrees.{atom_of_property, atom_of_set, atom_of_group}
 use Rattle.rbbi_resolve.proofs.Kept.{files_stay}
@@ -16,8 +16,8 @@ use Rattle.rbbi_resolve.proofs.Adding.{adding_expr, adding_seq, property_leaf, s
 use Rattle.std.proofs.Common.{◌<◌, length, rules}
 use Rattle.std.proofs.Common.{IfSome}
 use Rattle.rbbi_resolve.specs.Contexts.{value_of_name}
-use Rattle.rbbi_resolve.specs.Covered.{AreCovered, Respects}
-use Rattle.rbbi_resolve.specs.Scopes.{IsScope, stand_of}
+use Rattle.rbbi_resolve.specs.inner.Covered.{AreCovered, Respects}
+use Rattle.rbbi_resolve.specs.inner.Scopes.{IsScope, stand_of}
 use Rattle.rbbi_resolve.proofs.Weights.{size_of_expr, size_of_seq, size_of_item, smaller_seq, smaller_item}
 use Rattle.rbbi_resolve.proofs.Covering.{covered_seq, covered_item, covered_set, covered_group}
 use Rattle.rbbi_resolve.proofs.leaves.+leaves.Goals as goal

@@ -2,8 +2,8 @@ use Rattle.std.proofs.Common.{map, drop}
 use Rattle.rbbi_tree.specs.Trees.{expr_of, seq_of}
 use Rattle.rbbi_tree.specs.Values.{seq_tree, item_tree}
 use Rattle.rbbi_resolve.specs.Parts.{parts_of_expr, parts_of_seq}
-use Rattle.rbbi_resolve.specs.Scopes.{context_of}
-use Rattle.rbbi_resolve.specs.OwnLeaves.{leaves_of_expr, leaves_of_seq}
+use Rattle.rbbi_resolve.specs.inner.Scopes.{context_of}
+use Rattle.rbbi_resolve.specs.inner.OwnLeaves.{leaves_of_expr, leaves_of_seq}
 use Rattle.rbbi_resolve.proofs.Adding.{IsAdding}
 use Rattle.rbbi_tree.specs.Values.{expr_tree}
 use Rattle.rbbi_resolve.proofs.Weights.{size_of_expr, size_of_seq, size_of_item}

@@ -1,7 +1,7 @@
 use Rattle.std.proofs.Common.{sym, subst}
 use Rattle.rbbi_model.specs.SetTrees as model
 use Rattle.rbbi_model.specs.Ranges.{Has}
-use Rattle.rbbi_resolve.specs.SetValues.{HasMembers}
+use Rattle.rbbi_resolve.specs.inner.SetValues.{HasMembers}
 use Rattle.rbbi_resolve.proofs.Adding.{is_character, of_character, in_character}
 use Rattle.rbbi_resolve.proofs.leaves.add_character.Goals as goal
 

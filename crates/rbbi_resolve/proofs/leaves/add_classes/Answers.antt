@@ -1,6 +1,6 @@
 use Rattle.std.proofs.Common.{Some, subst}
 use Rattle.std.specs.Rc.{rc_value}
-use Rattle.rbbi_resolve.specs.ClassValues.{IsClassValue}
+use Rattle.rbbi_resolve.specs.inner.ClassValues.{IsClassValue}
 use Rattle.rbbi_resolve.proofs.Adding.{one_leaf, of_classes}
 use Rattle.rbbi_resolve.proofs.leaves.add_classes.Goals as goal
 

@@ -1,5 +1,5 @@
 use Rattle.std.proofs.Common.{Some, subst}
-use Rattle.rbbi_resolve.specs.SetValues.{IsValue}
+use Rattle.rbbi_resolve.specs.inner.SetValues.{IsValue}
 use Rattle.rbbi_resolve.proofs.Adding.{filled_value}
 use Rattle.rbbi_resolve.proofs.leaves.add_value.Goals as goal
 

@@ -3,7 +3,7 @@ use Rattle.std.proofs.lemmas.List.{map-id, map-append}
 use Rattle.std.proofs.lemmas.Iterator.{YieldsList-from_chars}
 use Rattle.std.proofs.lemmas.Iterator.Consumers.{YieldsList-end}
 use Rattle.rbbi_model.specs.SetTrees as model
-use Rattle.rbbi_resolve.specs.OwnLeaves.{AddsLeaves}
+use Rattle.rbbi_resolve.specs.inner.OwnLeaves.{AddsLeaves}
 use Rattle.rbbi_resolve.proofs.Adding.{no_leaves, more_leaves}
 use Rattle.rbbi_resolve.proofs.leaves.add_word.Goals as goal
 

@@ -1,7 +1,7 @@
 use Rattle.std.proofs.Common.{◌≡◌, ℕ, List, None, length, refl, ap, ◌∙◌, subst, arith, rules}
 use Rattle.std.specs.HashMap.{get_by_text}
 use Rattle.rbbi_tree.specs.Values.{statement_trees}
-use Rattle.rbbi_resolve.specs.Readings.{IsReading}
+use Rattle.rbbi_resolve.specs.inner.Readings.{IsReading}
 use Rattle.rbbi_resolve.proofs.Ending.{read_none}
 use Rattle.rbbi_resolve.proofs.outcome.read_all.Goals as goal
 

@@ -8,8 +8,8 @@ use Rattle.rbbi_resolve.specs.Faults.{noted}
 use Rattle.rbbi_resolve.specs.Files.{start, faults_of, active_rules}
 use Rattle.rbbi_resolve.specs.Counts.{counted}
 use Rattle.rbbi_resolve.specs.Refusals.{IsCause, fault_of}
-use Rattle.rbbi_resolve.specs.Readings.{IsReading}
-use Rattle.rbbi_resolve.specs.Countings.{AreCounting}
+use Rattle.rbbi_resolve.specs.inner.Readings.{IsReading}
+use Rattle.rbbi_resolve.specs.inner.Countings.{AreCounting}
 use Rattle.rbbi_resolve.proofs.Earliest.{least_noted, none_noted}
 use Rattle.rbbi_resolve.proofs.FaultKinds.{kinds_from, kind_of_one, kind_of_counted}
 use Rattle.rbbi_resolve.proofs.Ending.{least_of_all, counting_all}

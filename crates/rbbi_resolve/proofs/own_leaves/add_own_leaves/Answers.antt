@@ -1,5 +1,5 @@
 use Rattle.rbbi_tree.specs.Values.{expr_tree}
-use Rattle.rbbi_resolve.specs.Scopes.{IsKindOf, bounds_of, context_of, stand_of}
+use Rattle.rbbi_resolve.specs.inner.Scopes.{IsKindOf, bounds_of, context_of, stand_of}
 use Rattle.rbbi_resolve.specs.Expressions.{variable_for}
 use Rattle.rbbi_resolve.proofs.Kept.{files_stay}
 use Rattle.rbbi_resolve.proofs.LoneSets.{kept_leaf}

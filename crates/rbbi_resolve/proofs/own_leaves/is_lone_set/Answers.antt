@@ -1,7 +1,7 @@
 use Rattle.std.proofs.Common.{◌≡◌, sym, ap, ◌∙◌, subst}
 use Rattle.rbbi_tree.specs.Trees.{property, set}
 use Rattle.rbbi_tree.specs.Values.{atom_tree, set_tree}
-use Rattle.rbbi_resolve.specs.LoneSets.{IsSetAtom}
+use Rattle.rbbi_resolve.specs.inner.LoneSets.{IsSetAtom}
 use Rattle.rbbi_resolve.proofs.ItemTrees.{atom_of_property, atom_of_set}
 use Rattle.rbbi_resolve.proofs.own_leaves.is_lone_set.Goals as goal
 

@@ -1,9 +1,9 @@
 use Rattle.std.proofs.Common.{sym, subst}
 use Rattle.rbbi_tree.specs.Values.{expr_tree, rest_tree}
 use Rattle.rbbi_resolve.specs.Expressions.{meaning_of_expr, height_of_expr}
-use Rattle.rbbi_resolve.specs.Scopes.{context_of}
-use Rattle.rbbi_resolve.specs.Summaries.{Summarizes}
-use Rattle.rbbi_resolve.specs.RuleSums.{AreSumsOf}
+use Rattle.rbbi_resolve.specs.inner.Scopes.{context_of}
+use Rattle.rbbi_resolve.specs.inner.Summaries.{Summarizes}
+use Rattle.rbbi_resolve.specs.inner.RuleSums.{AreSumsOf}
 use Rattle.rbbi_resolve.proofs.rule.check_rule.Goals as goal
 
 pub returns-in_ok-rest_sums-in-Some-clause-counts : goal.returns-in_ok-rest_sums-in-Some-clause-counts

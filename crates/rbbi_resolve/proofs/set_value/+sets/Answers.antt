@@ -2,9 +2,10 @@ use Rattle.std.proofs.Common.{◌≡◌, is_none, option_map, sym, ap, ◌∙◌
 use Rattle.rbbi_tree.specs.Trees.{joined, set_property, set_within}
 use Rattle.rbbi_tree.specs.Values.{set_tree, set_item_tree}
 use Rattle.rbbi_resolve.specs.Parts.{parts_of_part}
-use Rattle.rbbi_resolve.specs.Faults.{noted, noted_parts, faults_where}
-use Rattle.rbbi_resolve.specs.Scopes.{bounds_of, context_of}
-use Rattle.rbbi_resolve.specs.Worths.{classes_of}
+use Rattle.rbbi_resolve.specs.Faults.{noted, faults_where}
+use Rattle.rbbi_resolve.specs.inner.Faults.{noted_parts}
+use Rattle.rbbi_resolve.specs.inner.Scopes.{bounds_of, context_of}
+use Rattle.rbbi_resolve.specs.inner.Worths.{classes_of}
 use Rattle.rbbi_resolve.proofs.ItemTrees.{of_property, of_inner}
 use Rattle.rbbi_resolve.proofs.Kept.{files_stay}
 use Rattle.rbbi_resolve.proofs.Named.{within_noted, known_classes, property_noted}
@@ -12,7 +13,7 @@ use Rattle.rbbi_resolve.proofs.SetFolds.{folding_starts, folding_turn, folding_g
 use Rattle.std.proofs.Common.{◌<◌, length, map, subst}
 use Rattle.rbbi_tree.specs.Trees.{parts_of}
 use Rattle.rbbi_tree.specs.Values.{part_tree}
-use Rattle.rbbi_resolve.specs.Scopes.{IsScope}
+use Rattle.rbbi_resolve.specs.inner.Scopes.{IsScope}
 use Rattle.rbbi_resolve.proofs.SetLoops.{set_is}
 use Rattle.rbbi_resolve.proofs.Weights.{size_of_set, size_of_parts, size_of_member, smaller_member}
 use Rattle.rbbi_resolve.proofs.set_value.+sets.Goals as goal

@@ -1,7 +1,7 @@
 use Rattle.std.specs.Prelude.{map, drop}
 use Rattle.rbbi_tree.specs.Trees.{parts_of}
 use Rattle.rbbi_tree.specs.Values.{part_tree}
-use Rattle.rbbi_resolve.specs.Scopes.{bounds_of, context_of}
+use Rattle.rbbi_resolve.specs.inner.Scopes.{bounds_of, context_of}
 use Rattle.rbbi_resolve.proofs.SetFolds.{IsFolding}
 use Rattle.rbbi_tree.specs.Values.{set_tree, set_item_tree}
 use Rattle.rbbi_resolve.proofs.Weights.{size_of_set, size_of_member}

@@ -1,5 +1,5 @@
 use Rattle.std.proofs.Common.{subst}
-use Rattle.rbbi_resolve.specs.ClassValues.{IsClassValue}
+use Rattle.rbbi_resolve.specs.inner.ClassValues.{IsClassValue}
 use Rattle.rbbi_resolve.proofs.SetFolds.{signs, stays}
 use Rattle.rbbi_resolve.proofs.set_value.with_sign.Goals as goal
 use Rattle.rbbi_resolve.proofs.set_value.with_sign.Goals.{then-negated+in_ok-negate, else-negated}

@@ -1,6 +1,6 @@
 use Rattle.std.proofs.Common.{List, ℕ, Option, Some, None, MatchOption, arith}
 use Rattle.rbbi_script.specs.declared.escape.Escape.{Escape}
-use Rattle.rbbi_script.specs.Readings.{IsNoEscape, IsNoNumberEscape, IsOnlyEscape}
+use Rattle.rbbi_script.specs.inner.Readings.{IsNoEscape, IsNoNumberEscape, IsOnlyEscape}
 use Rattle.rbbi_script.proofs.Words.{letter, line_feed, carriage_return, tab, backslash, no_escape}
 use Rattle.rbbi_script.proofs.escape.escape_at.Goals as goal
 

@@ -1,7 +1,7 @@
 use Rattle.std.proofs.Common.{◌≡◌, [], ◌∷◌, ◌++◌, ap, sym, subst, ◌∙◌}
 use Rattle.std.specs.Prelude.{chars, string_bytes, IsUtf8}
 use Rattle.std.proofs.lemmas.Str.{IsUtf8-string_bytes, chars-nil, chars-append}
-use Rattle.rbbi_script.specs.Readings.{IsOnlyWord}
+use Rattle.rbbi_script.specs.inner.Readings.{IsOnlyWord}
 use Rattle.rbbi_script.proofs.Words.{IsWriting, IsWriting-start, IsWriting-more, IsWriting-bad, IsWriting-end, utf8_before, utf8_left}
 use Rattle.rbbi_script.proofs.escape.word_of.Goals as goal
 

@@ -1,5 +1,5 @@
 use Rattle.std.proofs.Common.{subst}
-use Rattle.rbbi_script.specs.Readings.{IsWordOf}
+use Rattle.rbbi_script.specs.inner.Readings.{IsWordOf}
 use Rattle.rbbi_script.proofs.EditLines.{insert_no_place, insert_no_text}
 use Rattle.rbbi_script.proofs.line.insert_of.Goals as goal
 

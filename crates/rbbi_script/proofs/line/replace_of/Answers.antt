@@ -1,5 +1,5 @@
 use Rattle.std.proofs.Common.{subst}
-use Rattle.rbbi_script.specs.Readings.{IsWordOf}
+use Rattle.rbbi_script.specs.inner.Readings.{IsWordOf}
 use Rattle.rbbi_script.proofs.EditLines.{replace_no_place, replace_no_count, replace_no_text}
 use Rattle.rbbi_script.proofs.line.replace_of.Goals as goal
 

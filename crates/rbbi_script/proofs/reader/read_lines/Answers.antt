@@ -7,8 +7,9 @@ use Rattle.rbbi_script.specs.declared.command.Command.{Command}
 use Rattle.rbbi_script.specs.declared.error.ScriptErr.{ScriptErr}
 use Rattle.rbbi_script.specs.declared.error.ScriptErr.TheVariants.{NotUtf8, BadLine, Memory}
 use Rattle.rbbi_script.specs.Grammar.{IsBad}
-use Rattle.rbbi_script.specs.LineReadings.{RefusesLine}
-use Rattle.rbbi_script.specs.Files.{LineWrites, LinesWrite, RefusesLines}
+use Rattle.rbbi_script.specs.inner.LineReadings.{RefusesLine}
+use Rattle.rbbi_script.specs.Files.{LineWrites, LinesWrite}
+use Rattle.rbbi_script.specs.inner.Files.{RefusesLines}
 use Rattle.rbbi_script.proofs.reader.read_lines.Goals as goal
 
 pub loop-line-init : goal.loop-line-init

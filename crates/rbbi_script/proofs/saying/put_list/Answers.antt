@@ -3,7 +3,7 @@ use Rattle.std.specs.Prelude.{decimal}
 use Rattle.std.specs.List.{flat_map}
 use Rattle.std.proofs.lemmas.Bool.{eqb-false}
 use Rattle.std.proofs.lemmas.List.{take_rest}
-use Rattle.rbbi_script.specs.Saying.{next_status}
+use Rattle.rbbi_script.specs.inner.Saying.{next_status}
 use Rattle.rbbi_script.proofs.Says.{appends_then, joined_first}
 use Rattle.rbbi_script.proofs.saying.put_list.Goals as goal
 

@@ -1,7 +1,7 @@
 use Rattle.std.proofs.Common.{suc, take, drop, get_or, refl}
 use Rattle.std.specs.List.{flat_map}
 use Rattle.std.proofs.lemmas.Result.{err_from_is_err_and}
-use Rattle.rbbi_script.specs.Saying.{next_status}
+use Rattle.rbbi_script.specs.inner.Saying.{next_status}
 use Rattle.rbbi_script.proofs.Says.{front_first, front_later, others_parts}
 use Rattle.rbbi_script.proofs.saying.put_others.Goals as goal
 

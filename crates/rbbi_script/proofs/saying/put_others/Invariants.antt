@@ -1,6 +1,6 @@
 use Rattle.std.proofs.Common.{◌≡◌, ◌++◌, take}
 use Rattle.std.specs.List.{flat_map}
-use Rattle.rbbi_script.specs.Saying.{next_status}
+use Rattle.rbbi_script.specs.inner.Saying.{next_status}
 use Rattle.rbbi_script.proofs.saying.put_others.Given as goal
 
 abbrev pub invariant-loop-status : goal.invariant-loop-status

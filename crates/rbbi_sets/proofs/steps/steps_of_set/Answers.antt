@@ -3,7 +3,7 @@ use Rattle.std.proofs.Common.{◌≡◌, ◌+◌, ◌-◌, ◌∷◌, [], get_or
 use Rattle.std.proofs.lemmas.Bool.{false≢true}
 use Rattle.std.proofs.lemmas.List.{get_or_default}
 use Rattle.rbbi_model.specs.Ranges.{Range}
-use Rattle.rbbi_sets.specs.Steps.{Separate}
+use Rattle.rbbi_sets.specs.inner.Steps.{Separate}
 use Rattle.rbbi_sets.proofs.Stepping.{steps-form}
 use Rattle.rbbi_sets.proofs.SetSteps.{IsInside, ranges-none, ranges-more, ranges-separate}
 use Rattle.rbbi_sets.proofs.steps.steps_of_set.Goals as goal

@@ -1,7 +1,8 @@
 use Rattle.std.proofs.Common.{◌≡◌, ◌+◌, ◌⊎◌, ◌↔◌, ℕ, length, take}
 use Rattle.std.specs.List.{flat_map}
 use Rattle.std.specs.Rc.{rc_slice_items}
-use Rattle.rbbi_sets.specs.Classes.{HasClass, IsOutside}
+use Rattle.rbbi_sets.specs.Classes.{HasClass}
+use Rattle.rbbi_sets.specs.inner.Classes.{IsOutside}
 use Rattle.rbbi_sets.proofs.ClassWords.{bits_of}
 use Rattle.rbbi_sets.proofs.word_chunks.meet_chunks.Given as goal
 

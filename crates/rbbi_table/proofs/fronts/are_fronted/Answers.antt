@@ -2,7 +2,7 @@ use Rattle.std.proofs.Common.{sym, subst, ⊎_elim, arith}
 use Rattle.std.proofs.lemmas.Bool.{cases_eq}
 use Rattle.rbbi_model.specs.Tables.{Table}
 use Rattle.rbbi_table.specs.Parts.{table_of}
-use Rattle.rbbi_table.specs.Fronts.{IsFronted}
+use Rattle.rbbi_table.specs.inner.Fronts.{IsFronted}
 use Rattle.rbbi_table.proofs.Truth.{refuted, granted, fails}
 use Rattle.rbbi_table.proofs.RowLemmas.{steps_within, front_of, all_fronted}
 use Rattle.rbbi_table.proofs.fronts.are_fronted.Goals as goal

@@ -4,7 +4,7 @@ use Rattle.std.proofs.lemmas.List.{get_or_read}
 use Rattle.rbbi_model.specs.Places.{has_bit}
 use Rattle.rbbi_model.specs.Tables.{Table, RowHead, empty_head, accept_of, step}
 use Rattle.rbbi_table.specs.Parts.{rows_of}
-use Rattle.rbbi_table.specs.Targets.{AddsTarget}
+use Rattle.rbbi_table.specs.inner.Targets.{AddsTarget}
 use Rattle.rbbi_table.proofs.Truth.{refuted, granted}
 use Rattle.rbbi_table.proofs.MoveLemmas.{steps_of, steps_long}
 use Rattle.rbbi_table.proofs.FrontLemmas.{IsReached, IsPassed, IsCell, cell_is, walk_on, reached_on, unfronted, fronted_by, passed_more}

@@ -1,6 +1,6 @@
 use Rattle.std.proofs.Common.{◌≡◌, true, false, List, ℕ, set, get_or, sym, ◌∙◌, subst}
 use Rattle.std.proofs.lemmas.List.{get_or_read}
-use Rattle.rbbi_table.specs.Targets.{IsGathered}
+use Rattle.rbbi_table.specs.inner.Targets.{IsGathered}
 use Rattle.rbbi_table.proofs.TargetLemmas.{gathers_one}
 use Rattle.rbbi_table.proofs.gather.add_target.Goals as goal
 

@@ -2,7 +2,7 @@ use Rattle.std.proofs.Common.{◌≡◌, ℕ, ◌+◌, ◌≤◌, ◌↔◌, Lis
 use Rattle.std.proofs.lemmas.List.{drop_more, get_or_read}
 use Rattle.rbbi_model.specs.Tables.{CategoryRange}
 use Rattle.rbbi_model.specs.ValidTables.{AreValidRanges}
-use Rattle.rbbi_table.specs.Kept.{GoesOn}
+use Rattle.rbbi_table.specs.inner.Kept.{GoesOn}
 use Rattle.rbbi_table.proofs.Truth.{refuted, granted, fails, some_items, item_is, items_end}
 use Rattle.rbbi_table.proofs.RangeLemmas.{GoOn, no_range, valid_where_go_on}
 use Rattle.rbbi_table.proofs.ranges.are_valid_ranges.Goals as goal

@@ -1,6 +1,6 @@
 use Rattle.std.proofs.Common.{◌≡◌, [], length}
 use Rattle.rbbi_table.specs.Parts.{rows_of}
-use Rattle.rbbi_table.specs.Targets.{IsGathered}
+use Rattle.rbbi_table.specs.inner.Targets.{IsGathered}
 use Rattle.rbbi_table.proofs.TargetLemmas.{AreTargetsBelow}
 use Rattle.rbbi_table.proofs.safe.gather_targets.Given as goal
 

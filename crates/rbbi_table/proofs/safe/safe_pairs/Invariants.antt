@@ -1,6 +1,6 @@
 use Rattle.std.proofs.Common.{◌≡◌, ◌+◌, ◌*◌, ◌/◌, [], length}
 use Rattle.rbbi_table.specs.Parts.{rows_of}
-use Rattle.rbbi_table.specs.Targets.{AreTargets}
+use Rattle.rbbi_table.specs.inner.Targets.{AreTargets}
 use Rattle.rbbi_table.proofs.PairLemmas.{AreFirstPairs}
 use Rattle.rbbi_table.proofs.safe.safe_pairs.Given as goal
 

@@ -1,7 +1,7 @@
 use Rattle.std.proofs.Common.{◌≡◌, ℕ, ◌+◌, ◌-◌, ◌<◌, ◌≤◌, List, [], ◌++◌, length, get_or, take, drop, ap, ◌∙◌, chars, arith, length-take}
 use Rattle.rbbi_model.specs.Words.{most_characters}
 use Rattle.rbbi_model.specs.Spelling.{joined}
-use Rattle.rbbi_text.specs.Cuts.{moved, starts_with_new}
+use Rattle.rbbi_text.specs.inner.Cuts.{moved, starts_with_new}
 use Rattle.rbbi_text.proofs.Characters.{IsText-chars}
 use Rattle.rbbi_text.proofs.CutLemmas.{is_read, middle_read, behind_start, small_start, found_end, middle_short, edit_one, edit_many}
 use Rattle.rbbi_text.proofs.pieces.edit.Goals as goal

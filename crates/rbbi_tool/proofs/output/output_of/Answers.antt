@@ -2,7 +2,7 @@ use Rattle.std.proofs.Common.{◌≡◌, length, take, drop, ap, ◌∙◌, arit
 use Rattle.std.specs.String.{string_bytes}
 use Rattle.std.proofs.lemmas.List.{length-map}
 use Rattle.rbbi_tool.specs.declared.words.command.Command.TheVariants.{Check, Compile, Breaks, Run, Conform, Demo}
-use Rattle.rbbi_tool.specs.Requests.{asked_by}
+use Rattle.rbbi_tool.specs.inner.Requests.{asked_by}
 use Rattle.rbbi_tool.specs.Words.{operands_of}
 use Rattle.rbbi_tool.proofs.Sizes.{handed_fit, handed_are, file_short, file_there}
 use Rattle.rbbi_tool.proofs.Commands.{check_answers, compile_answers, breaks_answers, run_answers, conform_answers, demo_answers}

@@ -3,7 +3,7 @@ use Rattle.std.specs.Str.{chars}
 use Rattle.std.proofs.lemmas.Result.{err_from_is_err_and}
 use Rattle.rbbi_resolve.specs.RuleLists.{rules_of}
 use Rattle.rbbi_tool.specs.declared.refusal.Subject.TheVariants.{Rules}
-use Rattle.rbbi_tool.specs.Stages.{Meets}
+use Rattle.rbbi_tool.specs.inner.Stages.{Meets}
 use Rattle.rbbi_tool.specs.Texts.{TellsNotUtf8}
 use Rattle.rbbi_tool.specs.Properties.{properties_stage, property_files}
 use Rattle.rbbi_tool.specs.Rules.{rule_text_stage, rules_of_text_stage, rule_bytes_stage}

@@ -4,7 +4,7 @@ use Rattle.rbbi_model.specs.Words.{most_characters}
 use Rattle.rbbi_model.specs.Runs.{ShowsAfter}
 use Rattle.rbbi_cache.specs.Kept.{KeptRuns}
 use Rattle.rbbi_cache.specs.Shown.{IsShownAfter}
-use Rattle.rbbi_cache.specs.Lists.{IsOrdered}
+use Rattle.rbbi_cache.specs.inner.Lists.{IsOrdered}
 use Rattle.rbbi_cache.proofs.Keeping.{all_ordered, keeps_shown}
 use Rattle.rbbi_cache.proofs.Answering.{answer_after, same_after, none_past_end, no_run}
 use Rattle.rbbi_cache.proofs.cache.Cache.after.Goals as goal

@@ -3,7 +3,7 @@ use Rattle.std.specs.List.{AllByRecursion}
 use Rattle.rbbi_model.specs.Runs.{ShowsBefore}
 use Rattle.rbbi_cache.specs.Kept.{KeptRuns}
 use Rattle.rbbi_cache.specs.Shown.{IsShownAfter, IsShownBefore}
-use Rattle.rbbi_cache.specs.Lists.{IsOrdered}
+use Rattle.rbbi_cache.specs.inner.Lists.{IsOrdered}
 use Rattle.rbbi_cache.proofs.Keeping.{all_ordered, keeps_shown, keeps_through, shown_last}
 use Rattle.rbbi_cache.proofs.Answering.{answer_before, same_before, none_before_start, no_run}
 use Rattle.rbbi_cache.proofs.TriedBack.{start_is_last_of_none, cost_past_end}

@@ -1,6 +1,6 @@
 use Rattle.std.proofs.Common.{[], sym, subst}
 use Rattle.rbbi_cache.specs.Kept.{KeptRuns, AreTrueRuns}
-use Rattle.rbbi_cache.specs.Ready.{KeepsTrue}
+use Rattle.rbbi_cache.specs.inner.Ready.{KeepsTrue}
 use Rattle.rbbi_cache.specs.Shown.{IsShownAfter}
 use Rattle.rbbi_cache.proofs.Keeping.{keeps_added}
 use Rattle.rbbi_cache.proofs.RightPart.{entries_rise}

@@ -2,7 +2,8 @@ use Rattle.std.proofs.Common.{◌≡◌, ℕ, ◌+◌, ◌<◌, List, length, ge
 use Rattle.std.proofs.lemmas.Bool.{cases_lt, false≢true}
 use Rattle.rbbi_model.specs.Runs.{low}
 use Rattle.rbbi_model.specs.Runs.{Entry, Run}
-use Rattle.rbbi_cache.specs.Shown.{AreUpTo, IsShownAfter}
+use Rattle.rbbi_cache.specs.inner.Shown.{AreUpTo}
+use Rattle.rbbi_cache.specs.Shown.{IsShownAfter}
 use Rattle.rbbi_cache.proofs.Showing.{none_past, none_shown, shown_next}
 use Rattle.rbbi_cache.proofs.run.Run.shown_after.Goals as goal
 

@@ -1,7 +1,8 @@
 use Rattle.std.proofs.Common.{◌≡◌, ℕ, ◌-◌, ◌<◌, ◌≤◌, List, length, get_or, sym, ap, ◌∙◌, subst, inl, inr, arith}
 use Rattle.std.specs.List.{AllByRecursion}
 use Rattle.rbbi_model.specs.Runs.{Entry, Run}
-use Rattle.rbbi_cache.specs.Shown.{AreUpTo, IsShownBefore}
+use Rattle.rbbi_cache.specs.inner.Shown.{AreUpTo}
+use Rattle.rbbi_cache.specs.Shown.{IsShownBefore}
 use Rattle.rbbi_cache.proofs.Showing.{none_before, none_last, shown_last}
 use Rattle.rbbi_cache.proofs.run.Run.shown_before.Goals as goal
 

@@ -2,7 +2,7 @@ use Rattle.std.proofs.Common.{◌≤◌, List, ◌∷◌, length, length-take, t
 use Rattle.std.specs.Prelude.{min}
 use Rattle.rbbi_model.specs.Runs.{Run}
 use Rattle.rbbi_cache.specs.Kept.{IsExtendedBy, NoneIsExtended}
-use Rattle.rbbi_cache.specs.Lists.{HasAt}
+use Rattle.rbbi_cache.specs.inner.Lists.{HasAt}
 use Rattle.rbbi_cache.proofs.Slots.{refilled, added_is}
 use Rattle.rbbi_cache.proofs.PutFirst.{put_before, put_instead}
 use Rattle.rbbi_cache.proofs.run_list.RunList.add.Goals as goal

@@ -2,8 +2,8 @@ use Rattle.std.proofs.Common.{◌≤◌, ◌∷◌, length, sym, ◌∙◌, subs
 use Rattle.std.specs.List.{AllByRecursion}
 use Rattle.rbbi_model.specs.Runs.{IsTrueRun}
 use Rattle.rbbi_model.proofs.Lists.{all_right}
-use Rattle.rbbi_cache.specs.Lists.{GoesOnFrom}
-use Rattle.rbbi_cache.specs.Ready.{GoesOnAs}
+use Rattle.rbbi_cache.specs.inner.Lists.{GoesOnFrom}
+use Rattle.rbbi_cache.specs.inner.Ready.{GoesOnAs}
 use Rattle.rbbi_cache.proofs.Slots.{below, read_is, written_is}
 use Rattle.rbbi_cache.proofs.run_list.RunList.go_on.Goals as goal
 

@@ -1,8 +1,8 @@
 use Rattle.std.proofs.Common.{◌+◌, ◌*◌, ◌<◌, length, sym, ap, ◌∙◌, subst, arith}
 use Rattle.std.proofs.lemmas.Bool.{false≢true}
-use Rattle.rbbi_dfa.specs.BitRows.{row_at}
-use Rattle.rbbi_dfa.specs.PositionRows.{PositionRows}
-use Rattle.rbbi_dfa.specs.LastWords.{AddsFollowers}
+use Rattle.rbbi_dfa.specs.inner.BitRows.{row_at}
+use Rattle.rbbi_dfa.specs.inner.PositionRows.{PositionRows}
+use Rattle.rbbi_dfa.specs.inner.LastWords.{AddsFollowers}
 use Rattle.rbbi_dfa.proofs.RowLists.{found_row}
 use Rattle.rbbi_dfa.proofs.WordFollowers.{adds_none, adds_with, adds_without, adds_past}
 use Rattle.rbbi_dfa.proofs.determinize.last_words.follow_word.Goals as goal

@@ -1,4 +1,4 @@
-use Rattle.rbbi_dfa.specs.LastWords.{AddsFollowers}
+use Rattle.rbbi_dfa.specs.inner.LastWords.{AddsFollowers}
 use Rattle.rbbi_dfa.proofs.determinize.last_words.follow_word.Given as goal
 
 abbrev pub invariant-loop-bit : goal.invariant-loop-bit

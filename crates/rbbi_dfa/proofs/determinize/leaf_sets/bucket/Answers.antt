@@ -1,5 +1,5 @@
 use Rattle.std.proofs.Common.{◌∙◌, sym, ap, get_or, arith}
-use Rattle.rbbi_dfa.specs.LeafSetIndex.{mixed}
+use Rattle.rbbi_dfa.specs.inner.LeafSetIndex.{mixed}
 use Rattle.rbbi_dfa.proofs.Buckets.{bucket_is, hash_more}
 use Rattle.rbbi_dfa.proofs.determinize.leaf_sets.bucket.Goals as goal
 

@@ -1,6 +1,6 @@
 use Rattle.std.proofs.Common.{◌+◌, length, sym, ap, ◌∙◌, subst, ⊎_elim, arith}
 use Rattle.std.proofs.lemmas.Bool.{false≢true}
-use Rattle.rbbi_dfa.specs.PositionRows.{PositionRows}
+use Rattle.rbbi_dfa.specs.inner.PositionRows.{PositionRows}
 use Rattle.rbbi_dfa.proofs.MarkLoops.{IsAcceptUpTo, mark_read, accept_takes, accept_stays, accept_all}
 use Rattle.rbbi_dfa.proofs.determinize.marks.accept.Goals as goal
 use Rattle.rbbi_dfa.proofs.determinize.marks.accept.Goals.{then-has, else-has}

@@ -1,7 +1,7 @@
 use Rattle.std.proofs.Common.{◌<◌, ◌≤◌, ◌+◌, ◌^◌, length, sym, ap, ◌∙◌, subst, arith}
 use Rattle.std.specs.List.{All}
 use Rattle.std.proofs.lemmas.Bool.{false≢true}
-use Rattle.rbbi_dfa.specs.PositionRows.{PositionMark, PositionRows}
+use Rattle.rbbi_dfa.specs.inner.PositionRows.{PositionMark, PositionRows}
 use Rattle.rbbi_dfa.proofs.MarkLoops.{AreFrontsUpTo, fronts_small, mark_read, mark_small, fronts_takes, fronts_stays, fronts_all}
 use Rattle.rbbi_dfa.proofs.determinize.marks.fronts.Goals as goal
 use Rattle.rbbi_dfa.proofs.determinize.marks.fronts.Goals.{then-has, else-has}

@@ -2,8 +2,8 @@ use Rattle.std.proofs.Common.{◌≤◌, ◌+◌, ◌++◌, ◌∷◌, [], lengt
 use Rattle.std.specs.List.{AllPairs}
 use Rattle.std.proofs.lemmas.Bool.{false≢true, eqb-true, eq-eqb}
 use Rattle.std.proofs.lemmas.List.{nil_from_length}
-use Rattle.rbbi_dfa.specs.PositionRows.{PositionRows}
-use Rattle.rbbi_dfa.specs.Determinizing.{AreTagsOf}
+use Rattle.rbbi_dfa.specs.inner.PositionRows.{PositionRows}
+use Rattle.rbbi_dfa.specs.inner.Determinizing.{AreTagsOf}
 use Rattle.rbbi_dfa.proofs.MarkLoops.{AreTagsUpTo, mark_read, tags_start, tags_takes, tags_stays, last_is, tags_all, tags_none}
 use Rattle.rbbi_dfa.proofs.determinize.marks.statuses.Goals as goal
 use Rattle.rbbi_dfa.proofs.determinize.marks.statuses.Goals.{then-has+in_ok-add_status, else-has, then-is_empty+in_ok-push, else-is_empty}

@@ -1,6 +1,6 @@
 use Rattle.std.proofs.Common.{◌+◌, ◌++◌, ◌∷◌, [], ℕ, List, sym, ap, ◌∙◌, subst}
 use Rattle.rbbi_dfa.specs.declared.determinize.rows_of.RowKind.TheVariants.{Follow}
-use Rattle.rbbi_dfa.specs.MarkedRows.{AreRowsBy}
+use Rattle.rbbi_dfa.specs.inner.MarkedRows.{AreRowsBy}
 use Rattle.rbbi_dfa.proofs.MarkedLists.{rows_more}
 use Rattle.rbbi_dfa.proofs.determinize.rows_of.follow_rows.Goals as goal
 

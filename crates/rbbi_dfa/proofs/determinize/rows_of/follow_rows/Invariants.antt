@@ -1,5 +1,5 @@
 use Rattle.rbbi_dfa.specs.declared.determinize.rows_of.RowKind.TheVariants.{Follow}
-use Rattle.rbbi_dfa.specs.MarkedRows.{AreRowsBy}
+use Rattle.rbbi_dfa.specs.inner.MarkedRows.{AreRowsBy}
 use Rattle.rbbi_dfa.proofs.determinize.rows_of.follow_rows.Given as goal
 
 abbrev pub invariant-loop-before : goal.invariant-loop-before

@@ -1,7 +1,7 @@
 use Rattle.std.proofs.Common.{◌<◌, ◌↔◌, ℕ}
 use Rattle.std.specs.Prelude.{IsTrue}
-use Rattle.rbbi_dfa.specs.BitRows.{Holds}
-use Rattle.rbbi_dfa.specs.MarkedRows.{is_in_row}
+use Rattle.rbbi_dfa.specs.inner.BitRows.{Holds}
+use Rattle.rbbi_dfa.specs.inner.MarkedRows.{is_in_row}
 use Rattle.rbbi_dfa.proofs.determinize.rows_of.row_of.Given as goal
 
 abbrev pub invariant-loop-position : goal.invariant-loop-position

@@ -1,7 +1,7 @@
 use Rattle.std.proofs.Common.{arith, rules}
 use Rattle.std.specs.List.Sorted.{IsNonDecreasingBy}
 use Rattle.std.proofs.lemmas.List.Sorted.{IsNonDecreasingBy-from_sort_by_key}
-use Rattle.rbbi_dfa.specs.PositionRows.{PositionMark}
+use Rattle.rbbi_dfa.specs.inner.PositionRows.{PositionMark}
 use Rattle.rbbi_dfa.proofs.determinize.rows_of.sorted.Goals as goal
 
 pub returns-clause-order : goal.returns-clause-order

@@ -1,5 +1,5 @@
 use Rattle.std.proofs.Common.{ap, ◌∙◌, arith}
-use Rattle.rbbi_dfa.specs.PositionRows.{PositionRows}
+use Rattle.rbbi_dfa.specs.inner.PositionRows.{PositionRows}
 use Rattle.rbbi_dfa.proofs.Steps.{mark_found}
 use Rattle.rbbi_dfa.proofs.determinize.step.completes.Goals as goal
 

@@ -1,6 +1,6 @@
 use Rattle.std.proofs.Common.{ℕ, ◌<◌, get_or}
-use Rattle.rbbi_dfa.specs.BitRows.{Holds}
-use Rattle.rbbi_dfa.specs.PositionRows.{PositionMark}
+use Rattle.rbbi_dfa.specs.inner.BitRows.{Holds}
+use Rattle.rbbi_dfa.specs.inner.PositionRows.{PositionMark}
 use Rattle.rbbi_dfa.proofs.determinize.step.completes.Given as goal
 
 abbrev pub invariant-loop-mark : goal.invariant-loop-mark

@@ -1,5 +1,5 @@
 use Rattle.std.proofs.Common.{sym, ap, ◌∙◌, arith}
-use Rattle.rbbi_dfa.specs.PositionRows.{PositionRows}
+use Rattle.rbbi_dfa.specs.inner.PositionRows.{PositionRows}
 use Rattle.rbbi_dfa.proofs.Steps.{step_with}
 use Rattle.rbbi_dfa.proofs.determinize.step.step.Goals as goal
 

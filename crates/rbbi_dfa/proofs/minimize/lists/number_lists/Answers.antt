@@ -1,6 +1,6 @@
 use Rattle.std.proofs.Common.{◌∷◌, ◌++◌, [], List, ℕ, Bor, Vec, Global, map, ap, sym, ◌∙◌, subst, arith}
 use Rattle.std.proofs.lemmas.List.{get_or-map, length-map, map_push}
-use Rattle.rbbi_dfa.specs.Numbers.{AreNumbered}
+use Rattle.rbbi_dfa.specs.inner.Numbers.{AreNumbered}
 use Rattle.rbbi_dfa.proofs.Numbering.{AreNumbered-unused, AreNumbered-used}
 use Rattle.rbbi_dfa.proofs.minimize.lists.number_lists.Goals as goal
 

@@ -1,6 +1,6 @@
 -- the lists at the used places so far
 use Rattle.std.proofs.Common.{map, List, ℕ, Bor, Vec, Global}
-use Rattle.rbbi_dfa.specs.Numbers.{AreNumbered}
+use Rattle.rbbi_dfa.specs.inner.Numbers.{AreNumbered}
 use Rattle.rbbi_dfa.proofs.minimize.lists.number_lists.Given as goal
 
 abbrev pub invariant-loop-place : goal.invariant-loop-place

@@ -1,5 +1,5 @@
 -- the cells so far
-use Rattle.rbbi_dfa.specs.Numbers.{HaveCells}
+use Rattle.rbbi_dfa.specs.inner.Numbers.{HaveCells}
 use Rattle.rbbi_dfa.proofs.minimize.merge.merged_cells.Given as goal
 
 abbrev pub invariant-loop-place : goal.invariant-loop-place

@@ -1,5 +1,5 @@
 -- the heads so far
-use Rattle.rbbi_dfa.specs.Numbers.{HaveHeads}
+use Rattle.rbbi_dfa.specs.inner.Numbers.{HaveHeads}
 use Rattle.rbbi_dfa.proofs.minimize.merge.merged_heads.Given as goal
 
 abbrev pub invariant-loop-class : goal.invariant-loop-class

@@ -1,7 +1,8 @@
 use Rattle.std.proofs.Common.{List, ℕ, [], Some, ◌∙◌, ap, sym, subst}
 use Rattle.std.specs.Prelude.{option_copied}
 use Rattle.std.proofs.lemmas.List.{get_or_read}
-use Rattle.rbbi_io.specs.Memory.{file_of, IsIndexOf, IsAbsent}
+use Rattle.rbbi_io.specs.Memory.{file_of}
+use Rattle.rbbi_io.specs.inner.Memory.{IsIndexOf, IsAbsent}
 use Rattle.rbbi_io.proofs.NamedFiles.{file_of-place, file_of-absent}
 use Rattle.rbbi_io.proofs.mem_files.MemFiles.get.Goals as goal
 

@@ -6,7 +6,7 @@ use Rattle.rbbi_lex.specs.Points.{CaseAt}
 use Rattle.rbbi_lex.specs.Spellings.{Spells, TokenAt}
 use Rattle.rbbi_lex.specs.Faults.{fault_of, SpellsNone, FaultAt}
 use Rattle.rbbi_lex.specs.Skips.{Skipped}
-use Rattle.rbbi_lex.specs.Steps.{StopsAt}
+use Rattle.rbbi_lex.specs.inner.Steps.{StopsAt}
 use Rattle.rbbi_lex.proofs.SpellingLemmas.{TokenAt-forward, TokenAt-ends, state_after-depth}
 use Rattle.rbbi_lex.proofs.LexingLemmas.{error_of-tells}
 use Rattle.rbbi_lex.proofs.lexer.Lexer.next_token.Goals as goal

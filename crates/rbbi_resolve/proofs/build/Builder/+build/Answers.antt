@@ -7,9 +7,9 @@ use Rattle.rbbi_resolve.specs.SetValues.{value_of_set, value_of_property}
 use Rattle.rbbi_resolve.specs.Contexts.{value_of_name}
 use Rattle.rbbi_resolve.specs.Meanings.{Leaf}
 use Rattle.rbbi_resolve.specs.Expressions.{meaning_of_expr, meaning_of_seq, meaning_of_item, meaning_of_atom}
-use Rattle.rbbi_resolve.specs.Scopes.{context_of}
-use Rattle.rbbi_resolve.specs.OwnLeaves.{set_or_nothing, leaves_of_expr, leaves_of_seq, leaves_of_item, leaves_of_atom}
-use Rattle.rbbi_resolve.specs.Builders.{StandFrom, IsBuilt, IsBuilder, IsReady}
+use Rattle.rbbi_resolve.specs.inner.Scopes.{context_of}
+use Rattle.rbbi_resolve.specs.inner.OwnLeaves.{set_or_nothing, leaves_of_expr, leaves_of_seq, leaves_of_item, leaves_of_atom}
+use Rattle.rbbi_resolve.specs.inner.Builders.{StandFrom, IsBuilt, IsBuilder, IsReady}
 use Rattle.rbbi_resolve.proofs.Counting.{expr_by_items, seq_by_items, exprs_left, seqs_left}
 use Rattle.rbbi_resolve.proofs.ItemTrees.{atom_of_character, atom_of_quoted, atom_of_any, atom_of_name, atom_of_property, atom_of_set}
 use Rattle.rbbi_resolve.proofs.Weights.{weight, weight_more, weight_le, smaller_seq, smaller_item, size_of_expr, size_of_seq, size_of_item}

@@ -2,8 +2,8 @@ use Rattle.std.proofs.Common.{◌+◌, map, drop}
 use Rattle.rbbi_tree.specs.Trees.{expr_of, seq_of}
 use Rattle.rbbi_tree.specs.Values.{statement_trees, expr_tree, seq_tree, item_tree, atom_tree}
 use Rattle.rbbi_resolve.specs.Expressions.{meaning_of_seq, meaning_of_item}
-use Rattle.rbbi_resolve.specs.Scopes.{context_of}
-use Rattle.rbbi_resolve.specs.OwnLeaves.{leaves_of_expr, leaves_of_seq}
+use Rattle.rbbi_resolve.specs.inner.Scopes.{context_of}
+use Rattle.rbbi_resolve.specs.inner.OwnLeaves.{leaves_of_expr, leaves_of_seq}
 use Rattle.rbbi_resolve.proofs.Weights.{weight, size_of_expr, size_of_seq, size_of_item, size_of_atom}
 use Rattle.rbbi_resolve.proofs.Building.{AreBuilding}
 use Rattle.rbbi_resolve.proofs.build.Builder.+build.Given as goal

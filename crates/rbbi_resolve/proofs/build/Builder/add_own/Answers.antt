@@ -1,8 +1,8 @@
 use Rattle.std.proofs.Common.{◌≡◌, ◌≤◌, length, sym, subst, arith}
 use Rattle.rbbi_tree.specs.Values.{statement_trees, expr_tree}
-use Rattle.rbbi_resolve.specs.Scopes.{bounds_of, context_of, stand_of}
-use Rattle.rbbi_resolve.specs.OwnLeaves.{AddsLeaves, leaves_of_expr}
-use Rattle.rbbi_resolve.specs.Builders.{StandFrom}
+use Rattle.rbbi_resolve.specs.inner.Scopes.{bounds_of, context_of, stand_of}
+use Rattle.rbbi_resolve.specs.inner.OwnLeaves.{AddsLeaves, leaves_of_expr}
+use Rattle.rbbi_resolve.specs.inner.Builders.{StandFrom}
 use Rattle.rbbi_resolve.proofs.Respecting.{context_respects}
 use Rattle.rbbi_resolve.proofs.Steps.{describes}
 use Rattle.rbbi_resolve.proofs.Building.{builder_more, sets_formed, stand_added, added_length}

@@ -1,9 +1,9 @@
 use Rattle.std.proofs.Common.{◌≡◌, ◌+◌, length, subst, arith}
 use Rattle.rbbi_tree.specs.Values.{expr_tree}
 use Rattle.rbbi_resolve.specs.Expressions.{meaning_of_expr}
-use Rattle.rbbi_resolve.specs.Scopes.{context_of}
-use Rattle.rbbi_resolve.specs.OwnLeaves.{leaves_of_expr}
-use Rattle.rbbi_resolve.specs.Builders.{IsBuilt}
+use Rattle.rbbi_resolve.specs.inner.Scopes.{context_of}
+use Rattle.rbbi_resolve.specs.inner.OwnLeaves.{leaves_of_expr}
+use Rattle.rbbi_resolve.specs.inner.Builders.{IsBuilt}
 use Rattle.rbbi_resolve.proofs.Building.{whole_built}
 use Rattle.rbbi_resolve.proofs.build.Builder.tree.Goals as goal
 

@@ -8,10 +8,10 @@ use Rattle.std.specs.List.{All, Contains}
 use Rattle.rbbi_model.specs.Ranges.{Range}
 use Rattle.rbbi_sets.specs.Divisions.{ClassDivision, IsRespected, stand_in}
 use Rattle.rbbi_sets.proofs.FirstCodePoints.{stand-in_is_point}
-use Rattle.rbbi_resolve.specs.ClassValues.{IsKnown}
+use Rattle.rbbi_resolve.specs.inner.ClassValues.{IsKnown}
 use Rattle.rbbi_tree.specs.Values.{statement_tree, statement_trees}
-use Rattle.rbbi_resolve.specs.Questions.{IsAnswer}
-use Rattle.rbbi_resolve.specs.Covered.{AreRespected, Collects, IsBasedAnswer, parts_of_statement}
+use Rattle.rbbi_resolve.specs.inner.Questions.{IsAnswer}
+use Rattle.rbbi_resolve.specs.inner.Covered.{AreRespected, Collects, IsBasedAnswer, parts_of_statement}
 use Rattle.rbbi_resolve.proofs.Collecting.{statements_covered}
 use Rattle.rbbi_resolve.proofs.classes.Classes.of.Goals as goal
 

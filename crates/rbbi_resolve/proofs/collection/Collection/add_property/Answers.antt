@@ -5,7 +5,7 @@ use Rattle.std.specs.List.{All}
 use Rattle.std.specs.Map.{values_of}
 use Rattle.std.specs.Rc.{rc_value}
 use Rattle.std.proofs.lemmas.List.Elements.{recursion_from_All, All-from_recursion}
-use Rattle.rbbi_resolve.specs.Covered.{IsBasedAnswer}
+use Rattle.rbbi_resolve.specs.inner.Covered.{IsBasedAnswer}
 use Rattle.rbbi_resolve.proofs.Answered.{values_insert}
 use Rattle.rbbi_resolve.proofs.Collecting.{answers_kept}
 use Rattle.rbbi_resolve.proofs.collection.Collection.add_property.Goals as goal

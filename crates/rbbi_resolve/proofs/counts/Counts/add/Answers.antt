@@ -1,6 +1,6 @@
 use Rattle.std.proofs.Common.{◌<◌, arith, subst, sym, ap, ◌∙◌, if◌then◌else◌}
-use Rattle.rbbi_resolve.specs.Summaries.{IsCapped}
-use Rattle.rbbi_resolve.specs.Countings.{one, slash_of, tall_of}
+use Rattle.rbbi_resolve.specs.inner.Summaries.{IsCapped}
+use Rattle.rbbi_resolve.specs.inner.Countings.{one, slash_of, tall_of}
 use Rattle.rbbi_resolve.specs.Counts.{leaves_meant}
 use Rattle.rbbi_resolve.proofs.Counted.{capped_self, tall_capped}
 use Rattle.rbbi_resolve.proofs.counts.Counts.add.Goals as goal

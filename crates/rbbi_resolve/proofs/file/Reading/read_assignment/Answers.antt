@@ -8,11 +8,11 @@ use Rattle.std.specs.Rc.{rc_value}
 use Rattle.rbbi_tree.specs.Trees.{assign}
 use Rattle.rbbi_tree.specs.Values.{statement_trees, expr_tree}
 use Rattle.rbbi_resolve.specs.Contexts.{variable_of}
-use Rattle.rbbi_resolve.specs.Files.{context_at}
+use Rattle.rbbi_resolve.specs.inner.Files.{context_at}
 use Rattle.rbbi_resolve.specs.Faults.{faults_where, faults_of_parts, noted}
 use Rattle.rbbi_resolve.specs.Parts.{parts_of_expr}
-use Rattle.rbbi_resolve.specs.Scopes.{Variables, AreVariables, visible}
-use Rattle.rbbi_resolve.specs.Readings.{IsReadTo}
+use Rattle.rbbi_resolve.specs.inner.Scopes.{Variables, AreVariables, visible}
+use Rattle.rbbi_resolve.specs.inner.Readings.{IsReadTo}
 use Rattle.rbbi_resolve.proofs.Steps.{step, context_next, stay_variables, join_variable, note_three, with_known, with_new, describes, matches_some, unseen}
 use Rattle.rbbi_resolve.proofs.Ending.{switches_kept}
 use Rattle.rbbi_sets.specs.Divisions.{stand_in}

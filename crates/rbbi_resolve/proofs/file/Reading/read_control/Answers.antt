@@ -2,9 +2,10 @@ use Rattle.std.proofs.Common.{◌≡◌, ◌&&◌, not, encode_utf8_all, refl, a
 use Rattle.std.specs.Rc.{rc_value}
 use Rattle.rbbi_tree.specs.Trees.{control}
 use Rattle.rbbi_tree.specs.Values.{statement_trees}
-use Rattle.rbbi_resolve.specs.Files.{after_control, context_at, is_supported, is_unsupported}
+use Rattle.rbbi_resolve.specs.Files.{after_control, is_supported, is_unsupported}
+use Rattle.rbbi_resolve.specs.inner.Files.{context_at}
 use Rattle.rbbi_resolve.specs.Faults.{faults_where, noted}
-use Rattle.rbbi_resolve.specs.Switchings.{AreSwitches}
+use Rattle.rbbi_resolve.specs.inner.Switchings.{AreSwitches}
 use Rattle.rbbi_resolve.proofs.Steps.{step, context_next, stay_variables, control_variables, note_two}
 use Rattle.rbbi_resolve.proofs.file.Reading.read_control.Goals as goal
 

@@ -4,12 +4,13 @@ use Rattle.rbbi_tree.specs.Trees.{rule}
 use Rattle.rbbi_tree.specs.Values.{statement_trees, expr_tree, rest_tree}
 use Rattle.rbbi_sets.specs.Divisions.{stand_in}
 use Rattle.rbbi_resolve.specs.declared.counts.Counts as declared
-use Rattle.rbbi_resolve.specs.Files.{RuleMeaning, context_at, rule_in}
-use Rattle.rbbi_resolve.specs.Countings.{AreCounting}
-use Rattle.rbbi_resolve.specs.Readings.{IsReadTo}
+use Rattle.rbbi_resolve.specs.Files.{RuleMeaning, rule_in}
+use Rattle.rbbi_resolve.specs.inner.Files.{context_at}
+use Rattle.rbbi_resolve.specs.inner.Countings.{AreCounting}
+use Rattle.rbbi_resolve.specs.inner.Readings.{IsReadTo}
 use Rattle.rbbi_resolve.proofs.Steps.{describes, step, context_next, stay_variables, meant, rest_there}
 use Rattle.rbbi_resolve.specs.Parts.{parts_of_expr}
-use Rattle.rbbi_resolve.specs.Covered.{parts_of_rest}
+use Rattle.rbbi_resolve.specs.inner.Covered.{parts_of_rest}
 use Rattle.rbbi_resolve.proofs.Covering.{covered_left, covered_right}
 use Rattle.rbbi_resolve.proofs.Respecting.{context_respects}
 use Rattle.rbbi_resolve.proofs.file.Reading.read_rule.Goals as goal

@@ -2,7 +2,7 @@ use Rattle.std.proofs.Common.{sym, subst, rules}
 use Rattle.std.specs.List.{AllByRecursion}
 use Rattle.std.specs.Map.{values_of}
 use Rattle.std.proofs.lemmas.List.Elements.{recursion_from_All, All-from_recursion}
-use Rattle.rbbi_resolve.specs.Questions.{IsAnswer}
+use Rattle.rbbi_resolve.specs.inner.Questions.{IsAnswer}
 use Rattle.rbbi_resolve.proofs.Answered.{values_insert}
 use Rattle.rbbi_resolve.proofs.properties.Properties.set_of.Goals as goal
 

@@ -1,5 +1,5 @@
 use Rattle.std.proofs.Common.{◌≡◌, eqb, subst, sym, ◌∙◌, ap, arith}
-use Rattle.rbbi_resolve.specs.Summaries.{IsCapped}
+use Rattle.rbbi_resolve.specs.inner.Summaries.{IsCapped}
 use Rattle.rbbi_resolve.specs.Expressions.{height_of_word}
 use Rattle.rbbi_resolve.proofs.Words.{leaf_count-word_of, height-long, height-short, spells_empty-word_of}
 use Rattle.rbbi_resolve.proofs.variables.Summary.of_word.Goals as goal

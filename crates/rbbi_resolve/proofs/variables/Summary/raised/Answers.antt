@@ -1,5 +1,5 @@
 use Rattle.std.proofs.Common.{◌≡◌, ◌+◌, subst, arith}
-use Rattle.rbbi_resolve.specs.Summaries.{Sums}
+use Rattle.rbbi_resolve.specs.inner.Summaries.{Sums}
 use Rattle.rbbi_resolve.proofs.variables.Summary.raised.Goals as goal
 
 pub returns-then-many : goal.returns-then-many

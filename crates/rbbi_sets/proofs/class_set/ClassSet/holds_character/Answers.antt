@@ -1,6 +1,6 @@
 -- No class is in front of the set's words, and a word that is 0 has none.
 use Rattle.std.proofs.Common.{◌≡◌, ◌+◌, ◌*◌, ◌∙◌, subst, arith}
-use Rattle.rbbi_sets.specs.ClassRanges.{AreSurrogates}
+use Rattle.rbbi_sets.specs.inner.ClassRanges.{AreSurrogates}
 use Rattle.rbbi_sets.proofs.ClassWalks.{none-before, no-class-of-zero, surrogates-skip, surrogates-join}
 use Rattle.rbbi_sets.proofs.ClassWords.{word_at-read}
 use Rattle.rbbi_sets.proofs.class_set.ClassSet.holds_character.Goals as goal

@@ -1,5 +1,5 @@
 use Rattle.std.proofs.Common.{◌*◌}
-use Rattle.rbbi_sets.specs.ClassRanges.{AreSurrogates}
+use Rattle.rbbi_sets.specs.inner.ClassRanges.{AreSurrogates}
 use Rattle.rbbi_sets.proofs.class_set.ClassSet.holds_character.Given as goal
 
 abbrev pub invariant-loop-i : goal.invariant-loop-i

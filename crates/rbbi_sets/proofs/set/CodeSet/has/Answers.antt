@@ -3,7 +3,7 @@ use Rattle.std.proofs.Common.{length, ltb, ap, ◌∙◌, arith, rules}
 use Rattle.std.proofs.lemmas.Bool.{ltb-true}
 use Rattle.std.proofs.lemmas.List.Sorted.{IsPartitionPoint-from_clause, IsPartitionedBy-ltb}
 use Rattle.rbbi_model.specs.Ranges.{Range}
-use Rattle.rbbi_sets.specs.Rising.{IsNextRange}
+use Rattle.rbbi_sets.specs.inner.Rising.{IsNextRange}
 use Rattle.rbbi_sets.proofs.Search.{ends_rise, next_from_point, has_at_next, has_past}
 use Rattle.rbbi_sets.proofs.set.CodeSet.has.Goals as goal
 use Rattle.rbbi_sets.proofs.set.CodeSet.has.Goals.{After-partition_point-next}

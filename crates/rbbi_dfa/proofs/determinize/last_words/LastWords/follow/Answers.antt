@@ -1,6 +1,6 @@
 use Rattle.std.proofs.Common.{ℕ, ◌<◌, ◌↔◌, List, get_or, subst, arith}
-use Rattle.rbbi_dfa.specs.BitRows.{Holds}
-use Rattle.rbbi_dfa.specs.LastWords.{FollowsWord}
+use Rattle.rbbi_dfa.specs.inner.BitRows.{Holds}
+use Rattle.rbbi_dfa.specs.inner.LastWords.{FollowsWord}
 use Rattle.rbbi_dfa.proofs.RowLists.{found_row}
 use Rattle.rbbi_dfa.proofs.Steps.{followers_all}
 use Rattle.rbbi_dfa.proofs.WordFollowers.{followers_word}

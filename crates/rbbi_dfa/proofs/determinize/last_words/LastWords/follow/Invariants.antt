@@ -1,6 +1,6 @@
 use Rattle.std.proofs.Common.{◌*◌}
-use Rattle.rbbi_dfa.specs.Determinizing.{AreFollowersUpTo}
-use Rattle.rbbi_dfa.specs.LastWords.{AreKept}
+use Rattle.rbbi_dfa.specs.inner.Determinizing.{AreFollowersUpTo}
+use Rattle.rbbi_dfa.specs.inner.LastWords.{AreKept}
 use Rattle.rbbi_dfa.proofs.determinize.last_words.LastWords.follow.Given as goal
 
 abbrev pub invariant-loop-i : goal.invariant-loop-i

@@ -1,7 +1,7 @@
 use Rattle.std.proofs.Common.{◌-◌, ◌<◌, length, sym, ap, ◌∙◌, arith}
 use Rattle.std.proofs.lemmas.List.{get_or_read}
-use Rattle.rbbi_dfa.specs.BitRows.{row_at}
-use Rattle.rbbi_dfa.specs.Determinizing.{items_of}
+use Rattle.rbbi_dfa.specs.inner.BitRows.{row_at}
+use Rattle.rbbi_dfa.specs.inner.Determinizing.{items_of}
 use Rattle.rbbi_dfa.proofs.RowLists.{items_at, items_many}
 use Rattle.rbbi_dfa.proofs.Buckets.{unfound_start, unfound_next, same_rows, other_rows}
 use Rattle.rbbi_dfa.proofs.determinize.leaf_sets.LeafSets.find.Goals as goal

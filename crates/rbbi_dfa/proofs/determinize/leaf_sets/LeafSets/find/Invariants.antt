@@ -1,4 +1,4 @@
-use Rattle.rbbi_dfa.specs.Determinizing.{items_of}
+use Rattle.rbbi_dfa.specs.inner.Determinizing.{items_of}
 use Rattle.rbbi_dfa.proofs.Buckets.{IsUnfound}
 use Rattle.rbbi_dfa.proofs.determinize.leaf_sets.LeafSets.find.Given as goal
 

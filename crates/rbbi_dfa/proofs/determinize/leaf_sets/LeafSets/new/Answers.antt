@@ -1,7 +1,7 @@
 use Rattle.std.proofs.Common.{ℕ, length, get_or, refl, sym, ap, ◌∙◌, subst}
 use Rattle.std.proofs.lemmas.List.{length-replicate}
-use Rattle.rbbi_dfa.specs.LeafSetIndex.{IsIndexed}
-use Rattle.rbbi_dfa.specs.Determinizing.{items_of}
+use Rattle.rbbi_dfa.specs.inner.LeafSetIndex.{IsIndexed}
+use Rattle.rbbi_dfa.specs.inner.Determinizing.{items_of}
 use Rattle.rbbi_dfa.proofs.Buckets.{none_indexed, zeros}
 use Rattle.rbbi_dfa.proofs.determinize.leaf_sets.LeafSets.new.Goals as goal
 

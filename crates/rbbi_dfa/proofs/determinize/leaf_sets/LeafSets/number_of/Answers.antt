@@ -1,7 +1,7 @@
 use Rattle.std.proofs.Common.{◌≡◌, ◌++◌, ◌∷◌, [], ◌+◌, ◌<◌, ℕ, Vec, Global, length, set, sym, ap, ◌∙◌, subst, arith}
 use Rattle.std.proofs.lemmas.List.{get_or_read, map_push}
-use Rattle.rbbi_dfa.specs.LeafSetIndex.{IsIndexed}
-use Rattle.rbbi_dfa.specs.Determinizing.{items_of}
+use Rattle.rbbi_dfa.specs.inner.LeafSetIndex.{IsIndexed}
+use Rattle.rbbi_dfa.specs.inner.Determinizing.{items_of}
 use Rattle.rbbi_dfa.proofs.RowLists.{items_many}
 use Rattle.rbbi_dfa.proofs.Buckets.{set_added}
 use Rattle.rbbi_dfa.proofs.determinize.leaf_sets.LeafSets.number_of.Goals as goal

@@ -1,6 +1,6 @@
 use Rattle.std.proofs.Common.{◌≡◌, false, slice_index, slice_index_or, arith, ap}
 use Rattle.std.proofs.lemmas.List.{get_or_read_under}
-use Rattle.rbbi_dfa.specs.Partitions.{IsPartition, AreSides}
+use Rattle.rbbi_dfa.specs.inner.Partitions.{IsPartition, AreSides}
 use Rattle.rbbi_dfa.proofs.Splits.{IsSplitUpTo-none, IsSplitUpTo-takes, IsSplitUpTo-keeps}
 use Rattle.rbbi_dfa.proofs.SplitSound.{partition_after, none_leave}
 use Rattle.rbbi_dfa.proofs.minimize.partition.Partition.split.Goals as goal

@@ -1,0 +1,50 @@
+-- The parts that an edit leaves of a run, told by the first safe pair behind the edit: what only this crate cites.
+use Rattle.std.specs.Prelude.{◌≡◌, ℕ, ◌+◌, ◌≤◌, ◌⊎◌, Bool, false, not, ◌&&◌, ◌||◌, List, [], ◌∷◌, length, Option, Some, None, if◌then◌else◌, ◌==◌, nat_le}
+use Rattle.std.specs.List.{AllByRecursion}
+use Rattle.rbbi_model.specs.Words.{most_characters}
+use Rattle.rbbi_model.specs.Tables.{Table}
+use Rattle.rbbi_model.specs.Runs.{Entry, Run, ReachesRise}
+use Rattle.rbbi_cache.specs.Kept.{AreTrueRuns}
+use Rattle.rbbi_cache.specs.inner.Lists.{IsOrdered}
+use Rattle.rbbi_cache.specs.Edits.{IsEdited, AreKeptAfter, left_part, moved_run, run_behind}
+
+-- the entry lies so far behind the start that it can be moved
+abbrev pub CanMove : ℕ → Entry → Type 0
+CanMove removed entry = (removed ≤ entry.at) × (entry.at ≤ entry.reach) × (entry.reach ≤ most_characters + 1)
+
+-- the entry lies behind its run's anchor, or that is 0, and no farther than it reaches
+abbrev pub IsPlaced : ℕ → Entry → Type 0
+IsPlaced anchor entry = ((anchor ≡ 0) ⊎ (anchor ≤ entry.at)) × (entry.at ≤ entry.reach) × (entry.reach ≤ most_characters + 1)
+
+-- what is known of a true run without its text
+pub record IsMovable (run : Run) : Type 0 where
+  pub ordered : IsOrdered most_characters run
+  pub reaches_rise : ReachesRise run.entries
+  pub few : length run.entries ≤ 256
+  pub lie : AllByRecursion (IsPlaced run.anchor) run.entries
+
+-- the first safe pair begins at the place
+abbrev pub is_found_at : Option ℕ → ℕ → Bool
+is_found_at None place = false
+is_found_at (Some q) place = q == place
+
+-- The run goes whole: its anchor lies behind what was removed, and a safe pair begins there. That is so for every anchor of a true
+-- run but 0, where it is seen in the new text.
+abbrev pub moves_whole : ℕ → ℕ → ℕ → Option ℕ → Run → Bool
+moves_whole at removed inserted pair run = nat_le (at + removed) run.anchor && (not (run.anchor == 0) || is_found_at pair (at + inserted))
+
+-- the entries behind the pair, or none
+abbrev pub part_behind : ℕ → ℕ → ℕ → Option ℕ → Run → Run
+part_behind at removed inserted None run = record { anchor = 0; entries = []; leads = false }
+part_behind at removed inserted (Some q) run = run_behind at removed inserted q run
+
+-- the right part
+abbrev pub right_part : ℕ → ℕ → ℕ → Option ℕ → Run → Run
+right_part at removed inserted pair run =
+    if moves_whole at removed inserted pair run then moved_run at removed inserted run else part_behind at removed inserted pair run
+
+-- of each run its left and then its right part
+abbrev pub all_parts : ℕ → ℕ → ℕ → Option ℕ → List Run → List Run
+all_parts at removed inserted pair [] = []
+all_parts at removed inserted pair (run ∷ runs) =
+    left_part at run ∷ right_part at removed inserted pair run ∷ all_parts at removed inserted pair runs

@@ -1,0 +1,6 @@
+-- What only this crate's own code and proofs cite. Nothing that is promised rests on it.
+pub mod Partitions
+pub mod Cuts
+pub mod Numbers
+pub mod Lookups
+pub mod Tells

@@ -1,0 +1,24 @@
+-- What may follow the words of a set.
+use Rattle.std.specs.Prelude.{◌≡◌, ℕ, ◌+◌, ◌*◌, ◌<◌, ◌⊎◌, ◌↔◌, List, length, slice_index}
+use Rattle.std.specs.Int.{bit_at}
+use Rattle.rbbi_dfa.specs.inner.BitRows.{Holds, row_at}
+use Rattle.rbbi_dfa.specs.inner.PositionRows.{PositionRows}
+
+-- the position may follow one of those that the first so many bits of the word stand for, where it is word i of a set
+abbrev pub FollowsBits : List (List ℕ) → ℕ → ℕ → ℕ → ℕ → Type 0
+FollowsBits follow i word count next = (bit : ℕ) × (bit < count) × (bit_at word bit ≡ 1) × Holds (row_at follow (64 * i + bit)) next
+
+-- the position may follow one of those of word i of a set
+abbrev pub FollowsWord : List (List ℕ) → ℕ → ℕ → ℕ → Type 0
+FollowsWord follow i word next = FollowsBits follow i word 64 next
+
+-- what may follow the first so many bits of the word was added
+abbrev pub AddsFollowers : List (List ℕ) → ℕ → ℕ → ℕ → List ℕ → List ℕ → Type 0
+AddsFollowers follow i word count old new = (next : ℕ) → Holds new next ↔ (Holds old next ⊎ FollowsBits follow i word count next)
+
+-- for each word what may follow it
+pub record AreKept (rows : PositionRows) (words : List ℕ) (unions : List (List ℕ)) : Type 0 where
+  pub many_words : length words ≡ rows.width
+  pub many : length unions ≡ rows.width
+  pub wide : (i : ℕ) → i < rows.width → length (row_at unions i) ≡ rows.width
+  pub each : (i : ℕ) → i < rows.width → (next : ℕ) → Holds (row_at unions i) next ↔ FollowsWord rows.follow i (slice_index words i) next

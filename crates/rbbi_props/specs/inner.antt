@@ -1,0 +1,4 @@
+-- What only this crate's own code and proofs cite. Nothing that is promised rests on it.
+pub mod Lookups
+pub mod Refusals
+pub mod RunStarts

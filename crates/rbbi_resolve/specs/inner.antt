@@ -1,0 +1,22 @@
+-- What only this crate's own code and proofs cite. Nothing that is promised rests on it.
+pub mod SetValues
+pub mod Faults
+pub mod Files
+pub mod Countings
+pub mod Refusals
+pub mod Summaries
+pub mod Scopes
+pub mod Definitions
+pub mod LoneSets
+pub mod Switchings
+pub mod RuleSums
+pub mod Readings
+pub mod Soundness
+pub mod OwnLeaves
+pub mod Builders
+pub mod RulesSoFar
+pub mod Questions
+pub mod ClassValues
+pub mod Worths
+pub mod Covered
+pub mod LiteralRuns

@@ -1,0 +1,42 @@
+-- How far the code has read a rule file.
+use Rattle.std.specs.Prelude.{◌≡◌, ℕ, Bool, Option, None, List, drop}
+use Rattle.std.specs.Rc.{rc_value}
+use Rattle.rbbi_props.specs.Rows.{File}
+use Rattle.rbbi_tree.specs.Trees.{StatementTree}
+use Rattle.rbbi_tree.specs.Values.{statement_trees}
+use Rattle.rbbi_resolve.specs.declared.fault.Fault.{Fault}
+use Rattle.rbbi_resolve.specs.declared.switches.Switches.{Switches}
+use Rattle.rbbi_resolve.specs.declared.counts.Counts as declared
+use Rattle.rbbi_resolve.specs.declared.file.Reading.{Reading}
+use Rattle.rbbi_resolve.specs.declared.classes.Classes.{Classes}
+use Rattle.rbbi_resolve.specs.Faults.{noted}
+use Rattle.rbbi_resolve.specs.inner.ClassValues.{AreClasses}
+use Rattle.rbbi_resolve.specs.inner.Covered.{CoversAll}
+use Rattle.rbbi_sets.specs.Divisions.{stand_in}
+use Rattle.rbbi_resolve.specs.inner.Files.{context_at}
+use Rattle.rbbi_resolve.specs.Files.{faults_from, faults_of, rules_from, active_rules}
+use Rattle.rbbi_resolve.specs.inner.Scopes.{Variables, AreVariables}
+use Rattle.rbbi_resolve.specs.inner.Switchings.{AreSwitches}
+use Rattle.rbbi_resolve.specs.inner.Countings.{AreCounting}
+
+-- The statements before this number were read: the variables and the switches are those before it, and what was noted and
+-- counted goes on with the statements that are left.
+pub record IsReadTo (files : List File) (classes : Classes) (ignored : Bool) (statements : List StatementTree) (variables : Variables) (least : Option Fault)
+    (switches : Switches) (counts : declared.Counts) (number : ℕ) : Type 0 where
+  pub classified : AreClasses files classes
+  pub covered : CoversAll files (stand_in (rc_value classes.division)) statements
+  pub defined : AreVariables files (rc_value classes.division).bounds statements variables number
+  pub noted_so_far : noted least (faults_from ignored (context_at files statements number) (drop number statements)) ≡ noted None
+      (faults_of files ignored statements)
+  pub switched : AreSwitches switches (context_at files statements number)
+  pub counted_so_far : AreCounting counts (rules_from (context_at files statements number) (drop number statements)) (active_rules files statements)
+
+abbrev pub IsReading : Reading → ℕ → Type 0
+IsReading r number = IsReadTo r.properties r.classes r.dictionary_ignored (statement_trees r.statements.now) r.variables r.least r.switches r.counts number
+
+-- the reading went on to this number
+pub record ReadsOn (before after : Reading) (number : ℕ) : Type 0 where
+  pub reading : IsReading after number
+  pub statements : after.statements.now ≡ before.statements.now
+  pub properties : after.properties ≡ before.properties
+  pub ignored : after.dictionary_ignored ≡ before.dictionary_ignored

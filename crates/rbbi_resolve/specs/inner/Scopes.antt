@@ -1,0 +1,93 @@
+-- What the variables of the code stand for.
+use Rattle.std.specs.Prelude.{◌≡◌, ℕ, ◌<◌, ◌≤◌, nat_lt, Option, Some, None, List, slice_get, MatchOption, if◌then◌else◌}
+use Rattle.std.specs.HashMap.{HashMap, get_by_text}
+use Rattle.std.specs.Rc.{rc_value}
+use Rattle.std.specs.declared.string.String.{String}
+use Rattle.std.specs.declared.alloc.Global.{Global}
+use Rattle.std.specs.declared.hash.FoldHasher.{FoldHasher}
+use Rattle.std.specs.declared.hash.BuildHasherDefault.{BuildHasherDefault}
+use Rattle.rbbi_props.specs.Rows.{File}
+use Rattle.rbbi_tree.specs.Trees.{ExprTree, StatementTree, assign}
+use Rattle.rbbi_tree.specs.Values.{statement_trees}
+use Rattle.rbbi_resolve.specs.declared.scope.Scope.{Scope}
+use Rattle.rbbi_resolve.specs.declared.variables.Variable.{Variable}
+use Rattle.rbbi_resolve.specs.declared.variables.Kind.{Kind}
+use Rattle.rbbi_resolve.specs.declared.variables.Kind.TheVariants as kind
+use Rattle.rbbi_resolve.specs.inner.ClassValues.{IsClassValue, AreClasses}
+use Rattle.rbbi_resolve.specs.Contexts as contexts
+use Rattle.rbbi_resolve.specs.Contexts.{assigned_to, value_of_name}
+use Rattle.rbbi_resolve.specs.inner.Covered.{NamesRespect}
+use Rattle.rbbi_sets.specs.Divisions.{stand_in}
+use Rattle.rbbi_resolve.specs.Expressions.{variable_for}
+use Rattle.rbbi_resolve.specs.inner.Files.{context_at}
+use Rattle.rbbi_resolve.specs.inner.Summaries.{Summarizes}
+
+-- the variables of the code, since antt has no name for an alias
+abbrev pub Variables : Type 0
+Variables = HashMap (String Global) Variable (BuildHasherDefault FoldHasher)
+
+-- the value of the code for what a name stands for
+abbrev pub IsKindOf : List File → List ℕ → Kind → contexts.Variable → Type 0
+IsKindOf files bounds (kind.Set set) (contexts.Set value) = IsClassValue files bounds value set
+IsKindOf files bounds (kind.Set set) (contexts.Expression meaning height) = ⊥
+IsKindOf files bounds (kind.Expression summary) (contexts.Set value) = ⊥
+IsKindOf files bounds (kind.Expression summary) (contexts.Expression meaning height) = Summarizes summary meaning height
+
+-- both are absent, or the variable of the code is that of the specification
+abbrev pub Matches : List File → List ℕ → Option Variable → Option contexts.Variable → Type 0
+Matches files bounds None None = Unit {0}
+Matches files bounds None (Some there) = ⊥
+Matches files bounds (Some here) None = ⊥
+Matches files bounds (Some here) (Some there) = IsKindOf files bounds here.kind there
+
+-- the variable, where a statement before the limit assigns it
+abbrev pub visible : ℕ → Option Variable → Option Variable
+visible limit None = None
+visible limit (Some variable) = if nat_lt variable.statement limit then Some variable else None
+
+-- before the limit each name stands in the code for what it does in the specification
+pub record Describes (files : List File) (bounds : List ℕ) (statements : List StatementTree) (variables : Variables) (limit : ℕ) : Type 0 where
+  pub same : (name : List ℕ) → Matches files bounds (visible limit (get_by_text variables name)) (assigned_to
+      (context_at files statements limit).variables name)
+
+-- The variable is that of the name: its statement assigns it first, of those before the end.
+pub record IsDefinedBy (files : List File) (bounds : List ℕ) (statements : List StatementTree) (end : ℕ) (name : List ℕ) (variable : Variable) : Type 0 where
+  pub word : List ℕ
+  pub place : ℕ
+  pub expr : ExprTree
+  pub assigns : slice_get statements variable.statement ≡ Some (assign word place expr)
+  pub within : variable.statement < end
+  pub before : (limit : ℕ) → limit ≤ variable.statement → assigned_to (context_at files statements limit).variables name ≡ None
+  pub behind : (limit : ℕ) → variable.statement < limit → limit ≤ end →
+      assigned_to (context_at files statements limit).variables name ≡ Some (variable_for (context_at files statements variable.statement) expr)
+  pub kind : IsKindOf files bounds variable.kind (variable_for (context_at files statements variable.statement) expr)
+
+-- no statement before the end assigns the name
+abbrev pub IsUnassigned : List File → List StatementTree → ℕ → List ℕ → Type 0
+IsUnassigned files statements end name = (limit : ℕ) → limit ≤ end → assigned_to (context_at files statements limit).variables name ≡ None
+
+-- the variables are those that the statements before the end assign
+pub record AreVariables (files : List File) (bounds : List ℕ) (statements : List StatementTree) (variables : Variables) (end : ℕ) : Type 0 where
+  pub each : (name : List ℕ) → MatchOption (get_by_text variables name) (IsUnassigned files statements end name) (IsDefinedBy files bounds statements end name)
+
+-- what stands before the limit of a scope
+abbrev pub context_of : List File → Scope → contexts.Context
+context_of files scope = context_at files (statement_trees scope.statements.now) scope.limit
+
+-- the bounds of the scope's classes
+abbrev pub bounds_of : Scope → List ℕ
+bounds_of scope = (rc_value scope.classes.now.division).bounds
+
+-- the code point that stands for those of its class
+abbrev pub stand_of : Scope → ℕ → ℕ
+stand_of scope c = stand_in (rc_value scope.classes.now.division) c
+
+-- the variables of the scope are those before its limit, their sets have all or nothing of a class, and its classes are right
+pub record IsScope (files : List File) (scope : Scope) : Type 0 where
+  pub respects : NamesRespect files (stand_of scope) (value_of_name (context_of files scope))
+  pub describes : Describes files (bounds_of scope) (statement_trees scope.statements.now) scope.variables.now scope.limit
+  pub classes : AreClasses files scope.classes.now
+
+-- the scope knows whether only quoted characters may stand outside of sets
+abbrev pub KnowsQuotes : List File → Scope → Type 0
+KnowsQuotes files scope = scope.quoted_only ≡ (context_of files scope).quoted_only

@@ -1,0 +1,21 @@
+-- A stage of a run passes with a value, or refuses. Of several stages in a row the first that refuses decides: what only this crate cites.
+use Rattle.std.specs.Prelude.{◌≡◌, ◌⊎◌, Result, Ok, Err}
+use Rattle.rbbi_tool.specs.declared.refusal.Refusal.{Refusal}
+use Rattle.rbbi_tool.specs.declared.refusal.Refusal.TheVariants.{Memory}
+use Rattle.rbbi_tool.specs.Stages.{Stage}
+
+-- What a function answers that runs the stage, where its value is seen by this view. Want of memory tells nothing.
+abbrev pub Meets : {A V : Type 0} → (V → A) → Stage A → Result V Refusal → Type 0
+Meets view stage (Ok value) = stage.passes (view value)
+Meets view stage (Err refusal) = (refusal ≡ Memory) ⊎ stage.refuses refusal
+
+-- What a function answers that runs the stage, where its value is so related to the stage's. Want of memory tells nothing.
+abbrev pub Serves : {A V : Type 0} → (V → A → Type 0) → Stage A → Result V Refusal → Type 0
+Serves {A} related stage (Ok value) = (a : A) × stage.passes a × related value a
+Serves related stage (Err refusal) = (refusal ≡ Memory) ⊎ stage.refuses refusal
+
+-- the stage doesn't both pass and refuse, and it passes with one value and refuses in one way alone
+pub record IsDetermined (A : Type 0) (stage : Stage A) : Type 0 where
+  pub value : (a b : A) → stage.passes a → stage.passes b → a ≡ b
+  pub refusal : (r s : Refusal) → stage.refuses r → stage.refuses s → r ≡ s
+  pub apart : (a : A) (r : Refusal) → stage.passes a → stage.refuses r → ⊥
