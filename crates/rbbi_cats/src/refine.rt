@@ -1,6 +1,6 @@
 //! Partition refinement: one set splits the classes that it holds a part of.
 ghost use Rattle.std.specs.Prelude.{◌≡◌, ◌<◌, ◌⊎◌, ℕ, IfOk, OnOk, length, slice_index};
-ghost use Rattle.rbbi_cats.specs.Partitions.{
+ghost use Rattle.rbbi_cats.specs.inner.Partitions.{
   AreSizes,
   AreStretches,
   IsPartition,

@@ -2,10 +2,9 @@
 use Rattle.std.proofs.Common.{◌≡◌, ◌<◌, ◌≤◌, ℕ, ◌+◌, ◌*◌, ◌^◌, ◌%◌, ◌/◌, length, refl, sym, ap, ◌∙◌, subst, add-one, arith}
 use Rattle.rbbi_model.specs.Tables.{Table}
 use Rattle.rbbi_session.specs.Sessions.{Session, boundaries_of}
-use Rattle.rbbi_demo.specs.inner.Generator.{next_state, state_after, drawn, drawn_text}
-use Rattle.rbbi_demo.specs.inner.Edits.{edited_text, state_before, text_after, place_after, places_sum}
-use Rattle.rbbi_demo.specs.Summaries.{AreTableBoundaries, IsSummary}
-use Rattle.rbbi_demo.specs.inner.Summaries.{IsSum, edit_count}
+use Rattle.rbbi_demo.specs.Generator.{next_state, state_after, drawn, drawn_text}
+use Rattle.rbbi_demo.specs.Edits.{edited_text, state_before, text_after, place_after, places_sum}
+use Rattle.rbbi_demo.specs.Summaries.{AreTableBoundaries, IsSum, IsSummary, edit_count}
 use Rattle.rbbi_demo.proofs.Drawing.{state_behind, state_more, drawn_behind, length-drawn_text}
 use Rattle.rbbi_demo.proofs.Editing.{place_is_asked}
 

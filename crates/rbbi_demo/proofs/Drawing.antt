@@ -6,7 +6,7 @@ use Rattle.rbbi_model.specs.Words.{IsCharacter, IsText}
 use Rattle.rbbi_model.proofs.Texts.{text_append}
 use Rattle.std.specs.List.{AllByRecursion}
 use Rattle.std.specs.Char.{IsScalar}
-use Rattle.rbbi_demo.specs.inner.Generator.{next_state, state_after, drawn, characters, drawn_character, drawn_text}
+use Rattle.rbbi_demo.specs.Generator.{next_state, state_after, drawn, characters, drawn_character, drawn_text}
 
 -- before any draw
 pub state_none : (s : ℕ) → state_after s 0 ≡ s

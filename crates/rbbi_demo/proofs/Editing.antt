@@ -9,8 +9,8 @@ use Rattle.rbbi_model.specs.Answers.{Reply, Following, Preceding, Outside, TooLo
 use Rattle.rbbi_model.specs.Scripts.{splice, edit, Edit, Refused, Accepted}
 use Rattle.rbbi_model.proofs.Texts.{text_append, text_take, text_drop}
 use Rattle.rbbi_session.specs.Sessions.{Session, boundaries_of, place_reply, Answers}
-use Rattle.rbbi_demo.specs.inner.Generator.{next_state, drawn, drawn_character}
-use Rattle.rbbi_demo.specs.inner.Edits.{edit_place, removed_count, edited_text, asked_place, place_or_zero, places_sum}
+use Rattle.rbbi_demo.specs.Generator.{next_state, drawn, drawn_character}
+use Rattle.rbbi_demo.specs.Edits.{edit_place, removed_count, edited_text, asked_place, place_or_zero, places_sum}
 use Rattle.rbbi_demo.proofs.Drawing.{drawn_second, character_third, is_character}
 
 -- an edit within the text that leaves room is accepted

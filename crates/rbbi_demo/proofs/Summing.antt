@@ -7,9 +7,8 @@ use Rattle.rbbi_model.specs.Tables.{Table}
 use Rattle.rbbi_model.specs.Compiled.{GivesBoundaries}
 use Rattle.rbbi_model.proofs.Uniqueness.{same_boundaries}
 use Rattle.rbbi_demo.specs.declared.summary.Summary.{Summary}
-use Rattle.rbbi_demo.specs.inner.Edits.{state_before, text_after, place_after, places_sum}
-use Rattle.rbbi_demo.specs.Summaries.{AreTableBoundaries, IsSummary}
-use Rattle.rbbi_demo.specs.inner.Summaries.{edit_count, IsSum}
+use Rattle.rbbi_demo.specs.Edits.{state_before, text_after, place_after, places_sum}
+use Rattle.rbbi_demo.specs.Summaries.{AreTableBoundaries, edit_count, IsSum, IsSummary}
 use Rattle.rbbi_demo.proofs.Drawing.{text_is_drawn}
 use Rattle.rbbi_demo.proofs.Editing.{text_is_kept}
 

@@ -1,2 +1,3 @@
+pub mod Generator
+pub mod Edits
 pub mod Summaries
-pub mod inner

@@ -2,8 +2,8 @@
 ghost use Rattle.std.specs.Prelude.{◌≡◌, ◌<◌, ◌≤◌, ◌+◌, ◌%◌, ◌^◌, length, OnOk};
 ghost use Rattle.rbbi_model.specs.Words.{most_characters};
 ghost use Rattle.rbbi_session.specs.Sessions.{boundaries_of};
-ghost use Rattle.rbbi_demo.specs.inner.Generator.{drawn, next_state, state_after};
-ghost use Rattle.rbbi_demo.specs.inner.Edits.{edited_text, places_sum};
+ghost use Rattle.rbbi_demo.specs.Generator.{drawn, next_state, state_after};
+ghost use Rattle.rbbi_demo.specs.Edits.{edited_text, places_sum};
 
 use crate::generator::Generator;
 use rbbi_session::Session;

@@ -1,6 +1,6 @@
 //! The generator of numbers and characters.
 ghost use Rattle.std.specs.Prelude.{◌≡◌, ◌<◌, ◌%◌};
-ghost use Rattle.rbbi_demo.specs.inner.Generator as spec;
+ghost use Rattle.rbbi_demo.specs.Generator as spec;
 
 /// The characters that are drawn, by their numbers.
 const CHARACTERS: [char; 8] = ['a', 'b', 'c', '1', '2', ' ', '.', '\u{308}'];

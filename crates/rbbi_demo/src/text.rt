@@ -1,7 +1,7 @@
 //! The text that is drawn.
 ghost use Rattle.std.specs.Prelude.{◌≡◌, ◌≤◌, chars, string_bytes, IfOk, OnOk};
 ghost use Rattle.rbbi_model.specs.Words.{most_characters};
-ghost use Rattle.rbbi_demo.specs.inner.Generator.{drawn_text, state_after};
+ghost use Rattle.rbbi_demo.specs.Generator.{drawn_text, state_after};
 
 use crate::generator::Generator;
 use rbbi_text::{Pieces, TextErr, push_character};

@@ -6,6 +6,7 @@ ghost use Rattle.unicode.specs.Sets.{in_set};
 ghost use Rattle.rbbi_model.specs.Ranges.{Has};
 ghost use Rattle.rbbi_sets.specs.Rising.{AreRising};
 ghost use Rattle.rbbi_props.specs.Lookups as spec;
+ghost use Rattle.rbbi_props.specs.inner.Lookups.{IsSetOf};
 
 use crate::loose::is_well_formed;
 use crate::runs::set_of_runs;
@@ -17,7 +18,7 @@ use unicode::sets::{Set, by_name, normalize};
 /// The set that a name stands for on its own: a binary property, a general category or a script.
 /// None where the name isn't well formed or nothing has it.
 pub(crate) fn single(alloc: Global, name: &str) -> Result<Option<CodeSet>, AllocError>
-    ensures { IfOk result (λ found. spec.IsSetOf found (spec.single name.now)) }
+    ensures { IfOk result (λ found. IsSetOf found (spec.single name.now)) }
 {
     if !is_well_formed(name.as_bytes()) {
         return Ok(None);

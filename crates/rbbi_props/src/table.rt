@@ -9,6 +9,7 @@ ghost use Rattle.rbbi_props.specs.Rows.{Row, File};
 ghost use Rattle.rbbi_props.specs.Files.{file_of};
 ghost use Rattle.rbbi_props.specs.Refusals.{HasRowsAlone, IsCause};
 ghost use Rattle.rbbi_props.specs.Lookups as spec;
+ghost use Rattle.rbbi_props.specs.inner.Lookups.{IsSetOf};
 
 use crate::error::PropErr;
 use crate::file::{PropFile, read_file};
@@ -84,7 +85,7 @@ impl PropTable {
         value: Option<&str>,
     ) -> Result<Option<CodeSet>, AllocError>
         ensures { IfOk result (λ found.
-            spec.IsSetOf found (spec.lookup self.now name.now (option_copied value.entry))) }
+            IsSetOf found (spec.lookup self.now name.now (option_copied value.entry))) }
     {
         match value {
             None => single(alloc, name),
@@ -100,7 +101,7 @@ fn lookup_value(
     value: &str,
 ) -> Result<Option<CodeSet>, AllocError>
     ensures { IfOk result (λ found.
-        spec.IsSetOf found (spec.lookup files.now name.now (Some value.now))) }
+        IsSetOf found (spec.lookup files.now name.now (Some value.now))) }
 {
     if !is_well_formed(name.as_bytes()) || !is_well_formed(value.as_bytes()) {
         return Ok(None);

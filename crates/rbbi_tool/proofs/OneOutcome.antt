@@ -16,6 +16,7 @@ use Rattle.rbbi_lex.specs.declared.token.Token.{Token}
 use Rattle.rbbi_lex.specs.declared.error.LexErr.{LexErr}
 use Rattle.rbbi_lex.specs.declared.error.LexErr.TheVariants as lexing
 use Rattle.rbbi_lex.specs.Errors as lexer
+use Rattle.rbbi_lex.specs.inner.Errors.{error_of}
 use Rattle.rbbi_lex.specs.Faults as wrong
 use Rattle.rbbi_lex.specs.Lexing.{AreTokens, IsLexFault}
 use Rattle.rbbi_tree.specs.Trees.{StatementTree}
@@ -226,7 +227,7 @@ record TellsOne (x : List ℕ) (e : LexErr) : Type 0 where
   fault : wrong.Fault
   place : ℕ
   is : IsLexFault x fault place
-  error_is : e ≡ lexer.error_of fault place
+  error_is : e ≡ error_of fault place
 
 tells_one : (x : List ℕ) (e : LexErr) (i : ℕ) → lexer.TellsFault x e → lexer.place_of e ≡ Some i → TellsOne x e
 tells_one x (lexing.BadChar place) i stops placed = record { fault = wrong.BadChar; place = place; is = stops; error_is = refl }
@@ -245,7 +246,7 @@ module _ (laws : Laws) where
       let one = tells_one x f i stops placed in
       let other = tells_one x g j stops' placed' in
       let same = laws.faults x one.fault other.fault one.place other.place one.is other.is in
-      one.error_is ∙ ap (λ fault. lexer.error_of fault one.place) same.0 ∙ ap (λ place. lexer.error_of other.fault place) same.1 ∙ sym other.error_is
+      one.error_is ∙ ap (λ fault. error_of fault one.place) same.0 ∙ ap (λ place. error_of other.fault place) same.1 ∙ sym other.error_is
 
   tokens_determined : (x : List ℕ) → IsDetermined (List Token) (tokens_stage x)
   tokens_determined x = record {

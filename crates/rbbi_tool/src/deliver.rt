@@ -5,6 +5,7 @@ ghost use Rattle.rbbi_io.specs.Counts.{Rose, GoesOn, EachGoesOn, EachStays};
 ghost use Rattle.rbbi_io.specs.Answers.{WhereTold};
 ghost use Rattle.rbbi_io.specs.Sinks.{Takes, TakesFront};
 ghost use Rattle.rbbi_tool.specs.Delivery as spec;
+ghost use Rattle.rbbi_tool.specs.inner.Delivery.{EachHoldsOrIsFile, FileFailed, LeavesFile, OthersUncounted};
 
 use crate::command::{Output, Written};
 use rbbi_io::{Files, Sink, WriteErr, put_all};
@@ -12,13 +13,13 @@ use rbbi_io::{Files, Sink, WriteErr, put_all};
 /// Writes the file, if there is one.
 fn write_file<F: Files>(file: &Option<Written>, files: &mut F) -> Result<(), WriteErr>
     ensures held { WhereTold (F.contents files.old) (F.contents files.new)
-        (spec.LeavesFile file.now result) }
+        (LeavesFile file.now result) }
     ensures failed { IsErrOf result Failed
-        → spec.FileFailed file.now (F.failed_writes files.old) (F.failed_writes files.new) }
+        → FileFailed file.now (F.failed_writes files.old) (F.failed_writes files.new) }
     ensures same { file.now ≡ None → F.contents files.new ≡ F.contents files.old }
     ensures writes { EachGoesOn (F.failed_writes files.old) (F.failed_writes files.new) }
     ensures reads { EachStays (F.failed_reads files.old) (F.failed_reads files.new) }
-    ensures others { OnSome (F.contents files.old) (spec.OthersUncounted file.now
+    ensures others { OnSome (F.contents files.old) (OthersUncounted file.now
         (F.failed_writes files.old) (F.failed_writes files.new)) }
 {
     match file {
@@ -37,16 +38,16 @@ pub(crate) fn deliver<F: Files, K: Sink>(output: &Output, files: &mut F, out: &m
     ensures held { result ≤ 6 → WhereTold (F.contents files.old) (F.contents files.new)
         (spec.HoldsFile output.now.file) }
     ensures failed { result ≡ 7 → Rose (K.faults out.old) (K.faults out.new)
-        ⊎ spec.FileFailed output.now.file (F.failed_writes files.old) (F.failed_writes files.new) }
+        ⊎ FileFailed output.now.file (F.failed_writes files.old) (F.failed_writes files.new) }
     ensures front { TakesFront (K.taken out.old) (K.taken out.new) output.now.bytes }
     ensures file_first { (K.taken out.new ≡ K.taken out.old)
         ⊎ WhereTold (F.contents files.old) (F.contents files.new)
         (spec.HoldsFile output.now.file) }
     ensures contents { WhereTold (F.contents files.old) (F.contents files.new)
-        (spec.EachHoldsOrIsFile output.now.file
+        (EachHoldsOrIsFile output.now.file
         (F.failed_writes files.old) (F.failed_writes files.new)) }
     ensures same { output.now.file ≡ None → F.contents files.new ≡ F.contents files.old }
-    ensures others { OnSome (F.contents files.old) (spec.OthersUncounted output.now.file
+    ensures others { OnSome (F.contents files.old) (OthersUncounted output.now.file
         (F.failed_writes files.old) (F.failed_writes files.new)) }
     ensures reads { EachStays (F.failed_reads files.old) (F.failed_reads files.new) }
     ensures writes { EachGoesOn (F.failed_writes files.old) (F.failed_writes files.new) }

@@ -5,6 +5,7 @@ ghost use Rattle.rbbi_props.specs.Files.{file_of};
 ghost use Rattle.rbbi_script.specs.Reading.{RisesUpTo};
 ghost use Rattle.rbbi_tool.specs.inner.Stages.{Meets};
 ghost use Rattle.rbbi_tool.specs.Properties as spec;
+ghost use Rattle.rbbi_tool.specs.inner.Properties.{AreHanded};
 
 use crate::name::Name;
 use crate::refusal::{Place, Refusal, Subject, fault};
@@ -50,7 +51,7 @@ pub(crate) fn properties_of<L: Ledger>(
     handed: &[Raw],
     steps: &mut Steps<L>,
 ) -> Result<PropTable, Refusal>
-    requires { spec.AreHanded properties.now handed.now }
+    requires { AreHanded properties.now handed.now }
     ensures exact { Meets (λ _. tt) (spec.properties_stage properties.now handed.now) result }
     ensures files { IfOk result (λ table. table ≡ spec.property_files properties.now handed.now) }
     ensures steps { RisesUpTo (sum_by length handed.now) steps.old steps.new }

@@ -1,7 +1,7 @@
 //! An expression that is being read.
 ghost use Rattle.std.specs.Prelude.{◌≡◌, ◌==◌, OnOk, IfOk, length};
 ghost use Rattle.rbbi_tree.specs.Values.{item_tree, expr_tree};
-ghost use Rattle.rbbi_tree.specs.Machine.Statements.{
+ghost use Rattle.rbbi_tree.specs.inner.Machine.Statements.{
   empty_level,
   with_item,
   with_sequence,

@@ -4,7 +4,7 @@ mod sets;
 
 ghost use Rattle.std.specs.Prelude.{◌≡◌, [], None, OnOk, IfOk, IsTrue};
 ghost use Rattle.rbbi_tree.specs.Values.{atom_tree, statement_trees};
-ghost use Rattle.rbbi_tree.specs.Machine.Statements.{
+ghost use Rattle.rbbi_tree.specs.inner.Machine.Statements.{
   after,
   between,
   begun,

@@ -3,7 +3,7 @@ ghost use Rattle.std.specs.Prelude.{◌≡◌, ◌∷◌, List, Some, OnOk, IfOk
 ghost use Rattle.rbbi_tree.specs.Grammar.{hyphen_at};
 ghost use Rattle.rbbi_tree.specs.Trees.{PartTree, joined};
 ghost use Rattle.rbbi_tree.specs.Values.{set_item_tree, set_tree};
-ghost use Rattle.rbbi_tree.specs.Machine.Sets.{
+ghost use Rattle.rbbi_tree.specs.inner.Machine.Sets.{
   opened,
   level_with,
   settled,
@@ -19,7 +19,7 @@ ghost use Rattle.rbbi_tree.specs.Machine.Sets.{
   outer_set,
   set_resumed,
 };
-ghost use Rattle.rbbi_tree.specs.Machine.SetStates.{
+ghost use Rattle.rbbi_tree.specs.inner.Machine.SetStates.{
   set_level_tree,
   outer_set_tree,
   IsStuckAt,

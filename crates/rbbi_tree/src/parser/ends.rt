@@ -2,7 +2,7 @@
 ghost use Rattle.std.specs.Prelude.{◌≡◌, OnOk};
 ghost use Rattle.rbbi_lex.specs.declared.token.TokenKind.TheVariants as TokenKind;
 ghost use Rattle.rbbi_tree.specs.Values.{statement_tree};
-ghost use Rattle.rbbi_tree.specs.Machine.Statements.{
+ghost use Rattle.rbbi_tree.specs.inner.Machine.Statements.{
   between,
   fresh,
   with_statement,

@@ -1,5 +1,5 @@
 use Rattle.std.proofs.Common.{◌≡◌, ◌/◌, ℕ, length, ap, ◌∙◌, arith}
-use Rattle.rbbi_demo.specs.inner.Generator.{drawn_text, state_after}
+use Rattle.rbbi_demo.specs.Generator.{drawn_text, state_after}
 use Rattle.rbbi_demo.proofs.Demonstrating.{after_none, after_more, summed_up}
 use Rattle.rbbi_demo.proofs.demonstration.demo.Goals as goal
 

@@ -1,8 +1,8 @@
 use Rattle.std.proofs.Common.{◌≡◌, ◌+◌, ◌%◌, length, ap, ◌∙◌}
 use Rattle.std.specs.Prelude.{unwrap_or}
 use Rattle.rbbi_session.specs.Sessions.{boundaries_of}
-use Rattle.rbbi_demo.specs.inner.Generator.{drawn}
-use Rattle.rbbi_demo.specs.inner.Edits.{places_sum}
+use Rattle.rbbi_demo.specs.Generator.{drawn}
+use Rattle.rbbi_demo.specs.Edits.{places_sum}
 use Rattle.rbbi_demo.proofs.Editing.{sum_is}
 use Rattle.rbbi_demo.proofs.edit.ask.Goals as goal
 

@@ -2,7 +2,7 @@ use Rattle.std.proofs.Common.{◌≡◌, ℕ, ◌+◌, ◌-◌, ◌<◌, ◌%◌
 use Rattle.std.specs.Prelude.{chars, encode_utf8}
 use Rattle.std.specs.Char.{IsScalar}
 use Rattle.rbbi_model.specs.Words.{most_characters}
-use Rattle.rbbi_demo.specs.inner.Generator.{drawn, next_state, drawn_character}
+use Rattle.rbbi_demo.specs.Generator.{drawn, next_state, drawn_character}
 use Rattle.rbbi_demo.proofs.Drawing.{third_state, is_scalar}
 use Rattle.rbbi_demo.proofs.Editing.{AreDrawn, not_too_long, text_is_edited, one_more}
 use Rattle.rbbi_text.proofs.Pushed.{one_character}

@@ -1,7 +1,7 @@
 use Rattle.std.proofs.Common.{ℕ, List, [], ◌∷◌, ◌++◌, sym, ap, ◌∙◌}
 use Rattle.std.specs.Prelude.{chars, string_bytes}
 use Rattle.std.proofs.lemmas.Str.{chars-nil}
-use Rattle.rbbi_demo.specs.inner.Generator.{next_state, drawn_character}
+use Rattle.rbbi_demo.specs.Generator.{next_state, drawn_character}
 use Rattle.rbbi_demo.proofs.Drawing.{state_none, state_more, text_more}
 use Rattle.rbbi_demo.proofs.text.drawn_string.Goals as goal
 

@@ -1,6 +1,6 @@
 use Rattle.std.proofs.Common.{◌≡◌}
 use Rattle.std.specs.Prelude.{chars, string_bytes}
-use Rattle.rbbi_demo.specs.inner.Generator.{drawn_text, state_after}
+use Rattle.rbbi_demo.specs.Generator.{drawn_text, state_after}
 use Rattle.rbbi_demo.proofs.text.drawn_string.Given as goal
 
 abbrev pub invariant-loop-drawn : goal.invariant-loop-drawn

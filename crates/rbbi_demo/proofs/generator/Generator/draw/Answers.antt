@@ -1,5 +1,5 @@
 use Rattle.std.proofs.Common.{◌+◌, ◌*◌, ◌/◌, ◌%◌, ap}
-use Rattle.rbbi_demo.specs.inner.Generator.{next_state, state_after, drawn}
+use Rattle.rbbi_demo.specs.Generator.{next_state, state_after, drawn}
 use Rattle.rbbi_demo.proofs.generator.Generator.draw.Goals as goal
 
 pub returns-clause-state : goal.returns-clause-state

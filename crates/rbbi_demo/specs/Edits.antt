@@ -4,7 +4,7 @@ use Rattle.std.specs.Prelude.{ℕ, zero, suc, ◌+◌, ◌-◌, ◌*◌, ◌%◌
 use Rattle.rbbi_model.specs.Boundaries.{Boundary}
 use Rattle.rbbi_model.specs.Answers.{Reply, Place, Following, Preceding, answer}
 use Rattle.rbbi_model.specs.Scripts.{splice}
-use Rattle.rbbi_demo.specs.inner.Generator.{state_after, drawn, drawn_character, drawn_text}
+use Rattle.rbbi_demo.specs.Generator.{state_after, drawn, drawn_character, drawn_text}
 
 -- where the edit behind the state begins
 unfoldable pub edit_place : ℕ → List ℕ → ℕ

@@ -1,4 +1,0 @@
--- What only this crate's own code and proofs cite. Nothing that is promised rests on it.
-pub mod Generator
-pub mod Edits
-pub mod Summaries
