@@ -15,8 +15,8 @@ use Rattle.rbbi_model.specs.ValidTables.{AreValidRanges, IsWithin}
 use Rattle.rbbi_sets.specs.Rising.{AreRising, AreRisingFrom}
 use Rattle.rbbi_cats.specs.inner.Cuts.{AreCuts, ends_of, set_ends}
 use Rattle.rbbi_cats.specs.inner.Numbers.{AreNumbers, AreRangesOf}
-use Rattle.rbbi_cats.specs.inner.Partitions.{IsPartition}
-use Rattle.rbbi_cats.specs.inner.Tells.{SomeHas, NoneTells, Tells}
+use Rattle.rbbi_cats.specs.inner.Partitions.{AreStretchClasses}
+use Rattle.rbbi_cats.specs.inner.SetClasses.{SomeHas, NoneTells, AreClassesOfSets}
 
 if_inside : (range : Range) → range.high < last_code_point → ends_of range ≡ range.low ∷ (range.high + 1) ∷ []
 if_inside range inside = ap (λ t. cond t (range.low ∷ (range.high + 1) ∷ []) (range.low ∷ [])) (lt-ltb range.high last_code_point inside)
@@ -156,7 +156,7 @@ pub record Classed (sets : List (List Range)) (categories : ℕ) (ranges : List 
       (c : ℕ) × (c < d) × (category_of ranges c ≡ category)
 
 module _ (sets : List (List Range)) (cuts classes sizes numbers : List ℕ) (ranges : List CategoryRange) (greatest : ℕ) (cut : AreCuts sets cuts)
-    (small : (i : ℕ) → i < length cuts → get_or cuts i 0 ≤ last_code_point) (partition : IsPartition classes sizes) (tells : Tells sets cuts classes)
+    (small : (i : ℕ) → i < length cuts → get_or cuts i 0 ≤ last_code_point) (partition : AreStretchClasses classes sizes) (tells : AreClassesOfSets sets cuts classes)
     (long : length numbers ≡ length sizes) (numbered : AreNumbers classes numbers greatest) (are : AreRangesOf cuts classes numbers ranges) where
   number_at : ℕ → ℕ
   number_at i = get_or numbers (get_or classes i 0) 0

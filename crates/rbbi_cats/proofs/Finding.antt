@@ -17,8 +17,8 @@ use Rattle.rbbi_sets.specs.Rising.{AreRising}
 use Rattle.rbbi_cats.specs.CategoryLists.{HasClasses, IsReadCodePoint}
 use Rattle.rbbi_cats.specs.inner.Cuts.{AreCuts}
 use Rattle.rbbi_cats.specs.inner.Numbers.{AreNumbers, AreRangesOf}
-use Rattle.rbbi_cats.specs.inner.Partitions.{IsPartition}
-use Rattle.rbbi_cats.specs.inner.Tells.{SomeHas, HasTold, Tells}
+use Rattle.rbbi_cats.specs.inner.Partitions.{AreStretchClasses}
+use Rattle.rbbi_cats.specs.inner.SetClasses.{SomeHas, HasTold, AreClassesOfSets}
 use Rattle.rbbi_cats.proofs.Classing.{Classed, classed, valid, cuts_small}
 use Rattle.rbbi_cats.proofs.LeafSets.{read_is, alike_is}
 
@@ -107,11 +107,11 @@ module _ {list : RuleList} {sets : List (List Range)} {cuts : List ℕ} (form : 
   pub has_classes : {count : ℕ} → HasTold sets cuts count → HasClasses (rules_of list) count
   has_classes {count = count} told = too_many list cuts form small count (subst (λ (s : List (List Range)). HasTold s cuts count) same told)
 
-  pub partitioned : {classes sizes numbers : List ℕ} {greatest : ℕ} {ranges : List CategoryRange} → IsPartition classes sizes → Tells sets cuts classes →
+  pub partitioned : {classes sizes numbers : List ℕ} {greatest : ℕ} {ranges : List CategoryRange} → AreStretchClasses classes sizes → AreClassesOfSets sets cuts classes →
       AreNumbers classes numbers greatest → AreRangesOf cuts classes numbers ranges → length numbers ≡ length sizes → length sizes ≤ 255 →
       AreClasses (rules_of list) (greatest + 1) ranges × AreValidRanges (greatest + 1) ranges
   partitioned {classes = classes} partition tells numbered are long few =
-      let told = subst (λ (s : List (List Range)). Tells s cuts classes) same tells in (
+      let told = subst (λ (s : List (List Range)). AreClassesOfSets s cuts classes) same tells in (
         classes_are list _ _ form (classed list.sets cuts classes _ _ _ _ cut small partition told long numbered are),
         valid list.sets cuts classes _ _ _ _ cut small partition told long numbered are few,
       )

@@ -20,7 +20,7 @@ use Rattle.rbbi_resolve.specs.declared.rules.Tree.TheFolds.{ind-Tree, fold-roll-
 use Rattle.rbbi_resolve.specs.RuleTrees.{set_at, repeated, tree_step, trees_step, tree_of, trees_of, numbers_step, numbers_of_parts_step, numbers_of}
 use Rattle.rbbi_resolve.specs.RuleTrees.{numbers_of_parts}
 use Rattle.rbbi_resolve.specs.RuleLists.{RuleList, rule_of, rules_of, numbers_of_rule, leaf_numbers, AreWellFormed}
-use Rattle.rbbi_cats.specs.inner.Tells.{SomeHas, NoneTells}
+use Rattle.rbbi_cats.specs.inner.SetClasses.{SomeHas, NoneTells}
 
 sets-sequence : (parts : List spelling.Tree) → sets_of (spelling.sequence_of parts) ≡ flat_map sets_of parts
 sets-sequence [] = refl

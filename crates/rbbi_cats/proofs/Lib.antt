@@ -8,7 +8,6 @@ pub mod LeafSets
 pub mod Classing
 pub mod Finding
 pub mod Telling
-pub mod Filling
 pub mod Ranging
 pub mod Cutting
 pub mod Refining

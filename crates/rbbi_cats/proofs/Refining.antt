@@ -1,7 +1,7 @@
 -- Taking the members out of their classes and putting them into their targets refines the partition by the members.
 use Rattle.std.proofs.Common.{◌≡◌, ℕ, ◌≤◌, ◌<◌, ◌⊎◌, ◌↔◌, List, length, get_or, ap, sym, ◌∙◌, subst, inl, inr, arith}
 use Rattle.std.proofs.lemmas.Bool.{cases_lt}
-use Rattle.rbbi_cats.specs.inner.Partitions.{Selects, IsPartition, AreStretches, TakesOut, IsTarget, PutsBack, Refines}
+use Rattle.rbbi_cats.specs.inner.Partitions.{Selects, AreStretchClasses, AreStretches, TakesOut, IsTarget, PutsBack, Refines}
 use Rattle.rbbi_cats.proofs.Counts.{count_of, counted, found, select_cases}
 
 -- a stretch among the members, and where it went
@@ -18,7 +18,7 @@ record Stayed (before mid after members : List ℕ) (i : ℕ) : Type 0 where
   same_mid : get_or mid i 0 ≡ get_or before i 0
   same : get_or after i 0 ≡ get_or before i 0
 
-module _ {before mid after members origins start left grown : List ℕ} {moving : ℕ} (partition : IsPartition before start)
+module _ {before mid after members origins start left grown : List ℕ} {moving : ℕ} (partition : AreStretchClasses before start)
     (stretches : AreStretches before members) (long : length mid ≡ length before) (many : length left ≡ length start)
     (out : TakesOut before mid members origins left moving) (few : length start < moving) (put : PutsBack mid after members origins left grown) where
   Went : ℕ → Type 0
@@ -152,7 +152,7 @@ module _ {before mid after members origins start left grown : List ℕ} {moving 
     none = λ i inside. in_none i (went i inside);
   }
 
-  pub partitioned : IsPartition after grown
+  pub partitioned : AreStretchClasses after grown
   partitioned = record {
     some = omega (arith, partition.some, many, put.more);
     within = λ i inside. inside_after i (omega (arith, inside, long_after)) (went i (omega (arith, inside, long_after)));
@@ -161,7 +161,7 @@ module _ {before mid after members origins start left grown : List ℕ} {moving 
   }
 
 -- what is left of a stretch's class once the members are out
-pub class_or_out : (before mid members origins start left : List ℕ) (moving : ℕ) → IsPartition before start → length mid ≡ length before →
+pub class_or_out : (before mid members origins start left : List ℕ) (moving : ℕ) → AreStretchClasses before start → length mid ≡ length before →
     length left ≡ length start →
     TakesOut before mid members origins left moving → (i : ℕ) → i < length mid → (get_or mid i 0 < length left) ⊎ (get_or mid i 0 ≡ moving)
 class_or_out before mid members origins start left moving partition long many out i inside =

@@ -5,7 +5,7 @@ use Rattle.std.proofs.Math.ListN.{length-set}
 use Rattle.std.proofs.lemmas.List.{get_or_append_left}
 use Rattle.std.proofs.Math.Seq.{get_or-append_seam}
 use Rattle.std.proofs.lemmas.Bool.{cases_eq, cases_lt}
-use Rattle.rbbi_cats.specs.inner.Partitions.{AreSizes, AreStretches, IsPartition, TakesOut}
+use Rattle.rbbi_cats.specs.inner.Partitions.{AreSizes, AreStretches, AreStretchClasses, TakesOut}
 use Rattle.rbbi_cats.proofs.Counts.{one_if, one_if_same, one_if_other, count_of, count_of-set, counted, read}
 
 -- the first so many members are out, and their former classes are the origins
@@ -119,7 +119,7 @@ pub record NextTaken (before classes members origins sizes : List ℕ) (moving k
       (k + 1)
 
 pub next_taken : {before start classes members origins sizes : List ℕ} {moving k origin : ℕ} → TakenSoFar before classes members origins sizes moving k →
-    IsPartition before start → length sizes ≡ length start → AreStretches before members → k < length members →
+    AreStretchClasses before start → length sizes ≡ length start → AreStretches before members → k < length members →
     origin ≡ get_or classes (get_or members k 0) origin → length sizes ≤ moving → NextTaken before classes members origins sizes moving k origin
 next_taken {classes = classes} {members = members} {sizes = sizes} {k = k} {origin = origin} h partition many stretches below is few =
     let m = get_or members k 0 in

@@ -8,9 +8,9 @@ use Rattle.std.proofs.lemmas.List.Kept.{AllPairs-cons}
 use Rattle.std.proofs.lemmas.List.Elements.{All-from_recursion}
 use Rattle.std.proofs.lemmas.Bool.{cases_lt}
 use Rattle.rbbi_model.specs.Ranges.{Range, Has}
-use Rattle.rbbi_cats.specs.inner.Partitions.{IsPartition, AreStretches, Refines}
+use Rattle.rbbi_cats.specs.inner.Partitions.{AreStretchClasses, AreStretches, Refines}
 use Rattle.rbbi_cats.specs.inner.Cuts.{AreMembers}
-use Rattle.rbbi_cats.specs.inner.Tells.{SomeHas, NoneTells, Tells, HasTold}
+use Rattle.rbbi_cats.specs.inner.SetClasses.{SomeHas, NoneTells, AreClassesOfSets, HasTold}
 use Rattle.rbbi_cats.proofs.Nexts.{take_next}
 use Rattle.rbbi_cats.proofs.Counts.{count_of, all_zero, zero_at}
 
@@ -65,7 +65,7 @@ some_take (set ∷ sets) (suc k) c (inl h) = inl h
 some_take (set ∷ sets) (suc k) c (inr h) = inr (some_take sets k c h)
 
 pub none_told : (sets : List (List Range)) (cuts classes : List ℕ) → length classes ≡ length cuts → classes ≡ replicate (length cuts) 0 →
-    Tells (take 0 sets) cuts classes
+    AreClassesOfSets (take 0 sets) cuts classes
 none_told sets cuts classes many e = record {
   many = many;
   alike = λ i j inside inside'. (λ s. tt, λ t. at i inside ∙ sym (at j inside'));
@@ -75,8 +75,8 @@ none_told sets cuts classes many e = record {
     at : (i : ℕ) → i < length cuts → get_or classes i 0 ≡ 0
     at i inside = ap (λ l. get_or l i 0) e ∙ zero_at (length cuts) i
 
-pub one_class : (n : ℕ) (classes sizes : List ℕ) → classes ≡ replicate n 0 → sizes ≡ n ∷ [] → IsPartition classes sizes
-one_class n classes sizes e d = subst (λ (s : List ℕ). IsPartition classes s) (sym d) (subst (λ (c : List ℕ). IsPartition c (n ∷ [])) (sym e) (record {
+pub one_class : (n : ℕ) (classes sizes : List ℕ) → classes ≡ replicate n 0 → sizes ≡ n ∷ [] → AreStretchClasses classes sizes
+one_class n classes sizes e d = subst (λ (s : List ℕ). AreStretchClasses classes s) (sym d) (subst (λ (c : List ℕ). AreStretchClasses c (n ∷ [])) (sym e) (record {
   some = omega arith;
   within = λ i inside. omega (arith, zero_at n i);
   sized = sized;
@@ -93,8 +93,8 @@ stretches_of cuts classes members set many h = record { rising = h.rising; withi
 
 pub told_more : (sets : List (List Range)) (cuts before after members : List ℕ) (k : ℕ) (set : List Range) → slice_get sets k ≡ Some set →
     AreMembers cuts set members → Refines before after members →
-    Tells (take k sets) cuts before → Tells (take (k + 1) sets) cuts after
-told_more sets cuts before after members k set at m r h = subst (λ (s : List (List Range)). Tells s cuts after) (sym (take_next sets k set at)) (record {
+    AreClassesOfSets (take k sets) cuts before → AreClassesOfSets (take (k + 1) sets) cuts after
+told_more sets cuts before after members k set at m r h = subst (λ (s : List (List Range)). AreClassesOfSets s cuts after) (sym (take_next sets k set at)) (record {
   many = r.many ∙ h.many;
   alike = λ i j inside inside'. (alike_there i j inside inside', alike_back i j inside inside');
   none = λ i inside. (none_there i inside, none_back i inside);
@@ -144,7 +144,7 @@ record Representatives (sets : List (List Range)) (cuts classes : List ℕ) (cou
   classed : AllByRecursion (λ c. (i : ℕ) × (i < length cuts) × (get_or cuts i 0 ≡ c) × (get_or classes i 0 ≤ count)) starts
   apart : AllPairs (λ c d. ¬ NoneTells sets c d) starts
 
-representatives : (sets : List (List Range)) (cuts classes sizes : List ℕ) (k count : ℕ) → IsPartition classes sizes → Tells (take k sets) cuts classes →
+representatives : (sets : List (List Range)) (cuts classes sizes : List ℕ) (k count : ℕ) → AreStretchClasses classes sizes → AreClassesOfSets (take k sets) cuts classes →
     count < length sizes → Representatives sets cuts classes count
 representatives sets cuts classes sizes k zero p t below = record {
   starts = [];
@@ -194,7 +194,7 @@ representatives sets cuts classes sizes k (suc count) p t below =
       new_apart i here class_is starts h,
     )
 
-pub too_many_told : (sets : List (List Range)) (cuts classes sizes : List ℕ) (k count : ℕ) → IsPartition classes sizes → Tells (take k sets) cuts classes →
+pub too_many_told : (sets : List (List Range)) (cuts classes sizes : List ℕ) (k count : ℕ) → AreStretchClasses classes sizes → AreClassesOfSets (take k sets) cuts classes →
     count < length sizes → HasTold sets cuts count
 too_many_told sets cuts classes sizes k count p t below =
     let h = representatives sets cuts classes sizes k count p t below in
@@ -202,6 +202,6 @@ too_many_told sets cuts classes sizes k count p t below =
 
 -- the classes by the first so many sets
 pub record ClassesSoFar (sets : List (List Range)) (cuts classes sizes : List ℕ) (k : ℕ) : Type 0 where
-  pub partition : IsPartition classes sizes
-  pub tells : Tells (take k sets) cuts classes
+  pub partition : AreStretchClasses classes sizes
+  pub tells : AreClassesOfSets (take k sets) cuts classes
   pub few : length sizes ≤ 255

@@ -1,4 +1,3 @@
 pub mod CategoryLists
-pub mod Lookups
 pub mod Refusals
 pub mod inner

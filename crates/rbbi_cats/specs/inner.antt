@@ -2,5 +2,4 @@
 pub mod Partitions
 pub mod Cuts
 pub mod Numbers
-pub mod Lookups
-pub mod Tells
+pub mod SetClasses

@@ -10,38 +10,33 @@ ghost use Rattle.rbbi_cats.specs.declared.error.CatsErr.TheVariants.{TooManyCate
 
 use crate::classes::{MOST_CATEGORIES, classes_of};
 use crate::cuts::cuts_of;
-use crate::lookup::lookup_of;
 use crate::numbers::{numbers_of, ranges_of};
 use crate::{CatRange, CatsErr};
 use rbbi_resolve::Rules;
+use rbbi_table::Blocks;
 use std::alloc::Global;
 use std::marker::Model;
 
 /// The categories of code points. Contracts see their number, and their ranges.
-///
-/// A character is looked up in two steps: its block of 256 code points, then its place in the
-/// block. Equal blocks are kept once.
 #[derive(Debug, Drop)]
 pub struct Categories {
     count: u16,
     ranges: Vec<CatRange>,
-    /// The number of each block's cells.
-    blocks: Vec<u16>,
-    /// The categories of the code points of the different blocks, one block after another.
-    cells: Vec<u16>,
+    /// The same categories in blocks, for the look-up of a character.
+    blocks: Blocks,
 }
 
 impl Model for Categories {
     ghost use Rattle.rbbi_cats.specs.CategoryLists.{CategoryList};
-    ghost use Rattle.rbbi_cats.specs.Lookups.{IsLookup};
+    ghost use Rattle.rbbi_table.specs.Blocks.{AreBlocks};
     ghost use Rattle.rbbi_model.specs.ValidTables.{AreValidRanges};
 
     ghost Value = { CategoryList };
 
     ghost view = { λ cats. record { count = cats.count; ranges = cats.ranges.items } };
 
-    ghost invariant = { λ cats. IsLookup cats.blocks.items cats.cells.items cats.ranges.items
-        × AreValidRanges cats.count cats.ranges.items };
+    ghost invariant = { λ cats. AreValidRanges cats.count cats.ranges.items
+        × AreBlocks cats.ranges.items cats.blocks.numbers.items cats.blocks.categories.items };
 }
 
 /// The categories of the rules: 0 for the code points that no leaf reads, and one for each class of
@@ -62,22 +57,20 @@ pub fn partition(alloc: Global, rules: &Rules) -> Result<Categories, CatsErr>
     let (classes, sizes) = classes_of(alloc, sets, &cuts)?;
     let (numbers, greatest) = numbers_of(alloc, &classes, sizes.len())?;
     let ranges = ranges_of(alloc, &cuts, &classes, &numbers)?;
-    let (blocks, cells) = lookup_of(alloc, &ranges)?;
+    let blocks = Blocks::new(alloc, &ranges)?;
     Ok(Categories {
         count: greatest + 1,
         ranges,
         blocks,
-        cells,
     })
 }
 
 impl Categories {
-    /// The category of a character.
+    /// The category of a character, looked up in two steps.
     pub fn of(&self, c: char) -> u16
         ensures { result ≡ category_of self.now.ranges c }
     {
-        let at = c as usize;
-        self.cells[self.blocks[at / 256] as usize * 256 + at % 256]
+        self.blocks.category(c)
     }
 
     /// The number of categories, category 0 counted: 1 to 255.

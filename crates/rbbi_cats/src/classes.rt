@@ -1,8 +1,8 @@
 //! The classes of the stretches between cuts.
 ghost use Rattle.std.specs.Prelude.{◌≡◌, ◌≤◌, ◌<◌, ℕ, IfOk, length};
 ghost use Rattle.std.specs.List.Sorted.{IsStrictlyIncreasing};
-ghost use Rattle.rbbi_cats.specs.inner.Partitions.{IsPartition};
-ghost use Rattle.rbbi_cats.specs.inner.Tells.{HasTold, Tells};
+ghost use Rattle.rbbi_cats.specs.inner.Partitions.{AreStretchClasses};
+ghost use Rattle.rbbi_cats.specs.inner.SetClasses.{HasTold, AreClassesOfSets};
 ghost use Rattle.rbbi_cats.specs.declared.error.CatsErr.TheVariants.{TooManyCategories};
 
 use crate::CatsErr;
@@ -22,8 +22,8 @@ pub(crate) fn classes_of(
     cuts: &[u32],
 ) -> Result<(Vec<usize>, Vec<usize>), CatsErr>
     requires cuts { IsStrictlyIncreasing cuts.now }
-    ensures partition { IfOk result (λ found. IsPartition found.0.items found.1.items) }
-    ensures tells { IfOk result (λ found. Tells sets.now cuts.now found.0.items) }
+    ensures partition { IfOk result (λ found. AreStretchClasses found.0.items found.1.items) }
+    ensures tells { IfOk result (λ found. AreClassesOfSets sets.now cuts.now found.0.items) }
     ensures few { IfOk result (λ found. length found.1.items ≤ MOST_CATEGORIES) }
     ensures too_many { result ≡ Err TooManyCategories →
         HasTold sets.now cuts.now MOST_CATEGORIES }

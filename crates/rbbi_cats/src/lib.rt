@@ -5,16 +5,14 @@ mod categories;
 mod classes;
 mod cuts;
 mod error;
-mod lookup;
 mod members;
 mod numbers;
-mod range;
 mod refine;
 
 pub use categories::{Categories, partition};
 pub use classes::MOST_CATEGORIES;
 pub use error::CatsErr;
-pub use range::CatRange;
+pub use rbbi_table::RangeRow as CatRange;
 
 #[cfg(test)]
 mod tests;

@@ -3,7 +3,7 @@ ghost use Rattle.std.specs.Prelude.{◌≡◌, ◌<◌, ◌⊎◌, ℕ, IfOk, On
 ghost use Rattle.rbbi_cats.specs.inner.Partitions.{
   AreSizes,
   AreStretches,
-  IsPartition,
+  AreStretchClasses,
   PutsBack,
   Refines,
   TakesOut,
@@ -24,9 +24,9 @@ pub(crate) fn refine(
     sizes: &mut Vec<usize>,
     members: &[usize],
 ) -> Result<(), AllocError>
-    requires partition { IsPartition classes.old.items sizes.old.items }
+    requires partition { AreStretchClasses classes.old.items sizes.old.items }
     requires stretches { AreStretches classes.old.items members.now }
-    ensures partition { OnOk result (IsPartition classes.new.items sizes.new.items) }
+    ensures partition { OnOk result (AreStretchClasses classes.new.items sizes.new.items) }
     ensures refines { OnOk result (Refines classes.old.items classes.new.items members.now) }
 {
     let origins = take_out(alloc, classes, sizes, members)?;
@@ -40,7 +40,7 @@ fn take_out(
     sizes: &mut Vec<usize>,
     members: &[usize],
 ) -> Result<Vec<usize>, AllocError>
-    requires partition { IsPartition classes.old.items sizes.old.items }
+    requires partition { AreStretchClasses classes.old.items sizes.old.items }
     requires stretches { AreStretches classes.old.items members.now }
     ensures out { IfOk result (λ origins. TakesOut classes.old.items classes.new.items members.now
         origins.items sizes.new.items MOVING) }

@@ -4,15 +4,15 @@ use Rattle.std.proofs.lemmas.Bool.{cases_lt}
 use Rattle.std.proofs.lemmas.Nat.{div_below, mod_below, div-add-mod'}
 use Rattle.rbbi_model.specs.Tables.{Table, CategoryRange, RowHead}
 use Rattle.rbbi_model.specs.ValidTables.{AreValidRanges, AreValidRows}
-use Rattle.rbbi_table.specs.Parts.{AreSteps, rows_of, HasFittingParts}
-use Rattle.rbbi_table.specs.Targets.{ArePairsOf}
+use Rattle.rbbi_table.specs.Parts.{AreNextRows, rows_of, HasFittingParts}
+use Rattle.rbbi_table.specs.Pairs.{ArePairsOf}
 use Rattle.rbbi_dfa.specs.inner.LeastTables.{AreValidParts, IsLeastOf, finished}
 use Rattle.rbbi_dfa.proofs.Compiling.{AreValidRows-finished, AreFronted-finished}
 
 -- each next row is a row
-pub AreSteps-from_valid : (table : Table) → length table.cells ≡ length table.rows * table.categories → AreValidRows table →
-    AreSteps table.categories table.rows table.cells
-AreSteps-from_valid table all valid = record {
+pub AreNextRows-from_valid : (table : Table) → length table.cells ≡ length table.rows * table.categories → AreValidRows table →
+    AreNextRows table.categories table.rows table.cells
+AreNextRows-from_valid table all valid = record {
   all = all;
   within = λ i h.
       ⊎_elim

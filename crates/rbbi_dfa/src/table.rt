@@ -2,7 +2,7 @@
 ghost use Rattle.std.specs.Prelude.{◌≡◌, ◌*◌, length, map, IfOk, MatchResult};
 ghost use Rattle.rbbi_model.specs.ValidTables.{AreValidRanges, AreValidRows, IsValidTable};
 ghost use Rattle.rbbi_table.specs.Parts.{table_of};
-ghost use Rattle.rbbi_table.specs.Targets.{ArePairsOf};
+ghost use Rattle.rbbi_table.specs.Pairs.{ArePairsOf};
 ghost use Rattle.rbbi_dfa.specs.inner.Automata.{IsDetermined};
 ghost use Rattle.rbbi_table.specs.declared.error.TableErr.TheVariants.{Memory};
 ghost use Rattle.rbbi_dfa.specs.inner.LeastTables.{AreValidParts, GivesTable, finished};

@@ -6,8 +6,8 @@ use Rattle.std.proofs.lemmas.Bool.{cases_eq, cases_lt}
 use Rattle.std.proofs.lemmas.List.{get_or_append_left, get_or_push, length_push, get_or-take, get_or-drop, length-take}
 use Rattle.rbbi_model.specs.Tables.{CategoryRange, category_of}
 use Rattle.rbbi_model.specs.ValidTables.{AreApart}
-use Rattle.rbbi_table.specs.inner.Kept.{start_of, IsUpTo, Holds}
-use Rattle.rbbi_table.specs.Kept.{in_block, AreFirstBlocks}
+use Rattle.rbbi_table.specs.inner.Ranges.{start_of, IsUpTo, HoldsCodePoint}
+use Rattle.rbbi_table.specs.Blocks.{in_block, AreFirstBlocks}
 use Rattle.rbbi_table.proofs.RangeLemmas.{category_held}
 
 -- the number of a block that was there before
@@ -44,13 +44,13 @@ module _ (ranges : List CategoryRange) (numbers kept : List ℕ) (count : ℕ) (
         ap (λ n. get_or (numbers ++ x ∷ []) n 0) block ∙ get_or_push numbers x 0 count first.all ∙ is ∙
         ap (λ n. get_or numbers n 0) (let e : count - 1 ≡ before / 256 = omega arith in e) in
         let place : c % 256 ≡ before % 256 = omega arith in
-        let here : Holds ranges range c = record {
+        let here : HoldsCodePoint ranges range c = record {
           within = up_to.within;
           begins = omega (arith, begins, long);
           ends =
               λ more. omega (arith, further.ends more, within);
         } in
-        let there : Holds ranges range before = record {
+        let there : HoldsCodePoint ranges range before = record {
           within = up_to.within;
           begins = omega (arith, begins, long);
           ends =

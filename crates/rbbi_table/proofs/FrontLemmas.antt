@@ -9,7 +9,7 @@ use Rattle.rbbi_model.specs.Tables.{Table, RowHead, accept_of, fronts_of, step, 
 use Rattle.rbbi_model.specs.ValidTables.{IsWay}
 use Rattle.rbbi_model.proofs.Cuts.{no_bit}
 use Rattle.rbbi_model.proofs.SearchFacts.{row_along_append}
-use Rattle.rbbi_table.specs.Parts.{rows_of, AreSteps}
+use Rattle.rbbi_table.specs.Parts.{rows_of, AreNextRows}
 use Rattle.rbbi_table.specs.inner.Fronts.{IsFronted}
 use Rattle.rbbi_table.specs.inner.Targets.{IsGathered, AddsTarget}
 use Rattle.rbbi_table.proofs.MoveLemmas.{steps_of, steps_long, steps_are, row_end}
@@ -137,7 +137,7 @@ pub record IsCell (width : ℕ) (rows : List RowHead) (cells : List ℕ) (row i 
   pub is : get_or (steps_of width cells row) i 0 ≡ step (rows_of width rows cells []) row i
   pub within : step (rows_of width rows cells []) row i < length rows
 
-pub cell_is : (width : ℕ) (rows : List RowHead) (cells : List ℕ) (row i : ℕ) → AreSteps width rows cells → row < length rows →
+pub cell_is : (width : ℕ) (rows : List RowHead) (cells : List ℕ) (row i : ℕ) → AreNextRows width rows cells → row < length rows →
     i < length (steps_of width cells row) → IsCell width rows cells row i
 cell_is width rows cells row i steps within short =
     let low : i < width = omega (arith, short, steps_long width cells row (length rows) steps.all within) in

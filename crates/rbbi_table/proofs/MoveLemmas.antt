@@ -5,9 +5,9 @@ use Rattle.std.proofs.lemmas.List.{get_or_append_left, get_or-append_right, get_
 use Rattle.std.proofs.lemmas.List.{length-map}
 use Rattle.std.proofs.Math.Nat.{mul-le-mul_right}
 use Rattle.rbbi_model.specs.Tables.{RowHead, Table, empty_head}
-use Rattle.rbbi_table.specs.Parts.{rows_of, AreSteps}
+use Rattle.rbbi_table.specs.Parts.{rows_of, AreNextRows}
 use Rattle.rbbi_table.specs.Kept.{move_flags, HasMoves, AreFirstMoves}
-use Rattle.rbbi_table.specs.inner.Kept.{row_moves}
+use Rattle.rbbi_table.specs.inner.Moves.{row_moves}
 
 -- the next rows of a row
 abbrev pub steps_of : ℕ → List ℕ → ℕ → List ℕ
@@ -33,7 +33,7 @@ pub steps_are : (categories : ℕ) (cells : List ℕ) (row k : ℕ) → k < cate
 steps_are categories cells row k short =
     get_or-take (row * categories + categories - row * categories) (drop (row * categories) cells) k 0 (omega arith) ∙ get_or-drop (row * categories) cells k 0
 
-module _ (categories : ℕ) (rows : List RowHead) (cells moves : List ℕ) (row : ℕ) (steps : AreSteps categories rows cells) (within : row < length rows)
+module _ (categories : ℕ) (rows : List RowHead) (cells moves : List ℕ) (row : ℕ) (steps : AreNextRows categories rows cells) (within : row < length rows)
     (first : AreFirstMoves (rows_of categories rows cells []) moves row) where
   abbrev grid : Table
   grid = rows_of categories rows cells []

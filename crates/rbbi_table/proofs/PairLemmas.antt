@@ -4,9 +4,9 @@ use Rattle.std.proofs.Common.{ap, ◌∙◌, subst, ⊎_elim, arith}
 use Rattle.std.proofs.lemmas.Bool.{cases_eq, cases_lt, cond-true, cond-false, eq-eqb, ne_eqb}
 use Rattle.rbbi_model.specs.Tables.{Table, RowHead, step}
 use Rattle.rbbi_model.specs.SafePairs.{IsSafePair, stored_bit}
-use Rattle.rbbi_table.specs.Parts.{rows_of, AreSteps}
+use Rattle.rbbi_table.specs.Parts.{rows_of, AreNextRows}
 use Rattle.rbbi_table.specs.inner.Targets.{AreTargets, LeadToOne}
-use Rattle.rbbi_table.specs.Targets.{ArePairsOf}
+use Rattle.rbbi_table.specs.Pairs.{ArePairsOf}
 use Rattle.rbbi_table.proofs.MoveLemmas.{row_end}
 
 -- the bits below a number are those of the safe pairs, and none is set from there on
@@ -89,7 +89,7 @@ pair_unset table bytes first second low pairs unsafe =
     }
 
 -- the rows that open rows lead to are rows, and have a next row for each category
-pub targets_within : (width : ℕ) (rows : List RowHead) (cells : List ℕ) (category second : ℕ) (targets : List ℕ) → AreSteps width rows cells →
+pub targets_within : (width : ℕ) (rows : List RowHead) (cells : List ℕ) (category second : ℕ) (targets : List ℕ) → AreNextRows width rows cells →
     AreTargets (rows_of width rows cells []) category targets → category < width → second < width →
     (i : ℕ) → i < length targets → get_or targets i 0 * width + second < length cells
 targets_within width rows cells category second targets steps are low second_low i short =

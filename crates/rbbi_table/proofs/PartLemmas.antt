@@ -13,8 +13,9 @@ use Rattle.rbbi_model.specs.Tables.{Table}
 use Rattle.rbbi_model.specs.SafePairs.{stored_bit}
 use Rattle.rbbi_model.specs.ValidTables.{AreValidRanges, AreValidLists, AreValidRows, AreFronted, AreValidSafePairs, IsValidTable}
 use Rattle.rbbi_table.specs.Parts.{HasFittingParts, rows_of}
-use Rattle.rbbi_table.specs.Targets.{ArePairsOf}
-use Rattle.rbbi_table.specs.Kept.{AreBlocks, AreMoves, IsKept}
+use Rattle.rbbi_table.specs.Pairs.{ArePairsOf}
+use Rattle.rbbi_table.specs.Blocks.{AreBlocks}
+use Rattle.rbbi_table.specs.Kept.{AreMoves, IsKept}
 use Rattle.rbbi_model.proofs.Bits.{has_bit_is}
 
 pub all_bytes : (bytes : List ℕ) → ((i : ℕ) → get_or bytes i 0 < 256) → AllByRecursion (λ byte. byte < 256) bytes

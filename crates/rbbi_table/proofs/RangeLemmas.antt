@@ -5,7 +5,7 @@ use Rattle.std.proofs.lemmas.List.{drop_more}
 use Rattle.std.specs.List.{AllByRecursion}
 use Rattle.rbbi_model.specs.Tables.{CategoryRange, category_from, category_of}
 use Rattle.rbbi_model.specs.ValidTables.{AreApart, IsWithin, AreValidRanges}
-use Rattle.rbbi_table.specs.inner.Kept.{GoesOn, start_of, Holds}
+use Rattle.rbbi_table.specs.inner.Ranges.{IsValidBehind, start_of, HoldsCodePoint}
 
 abbrev pub no_range : CategoryRange
 no_range = record { start = 0; category = 0 }
@@ -41,7 +41,7 @@ held before (range ∷ next ∷ ranges) (suc k) c apart short begins ends =
     ∙ held range.category (next ∷ ranges) k c apart.2 (omega (arith, short)) begins (λ more. ends (omega (arith, more)))
 
 -- the category of a code point is that of the range that holds it
-pub category_held : (ranges : List CategoryRange) (k c : ℕ) → AreApart ranges → Holds ranges k c → category_of ranges c ≡ (get_or ranges k no_range).category
+pub category_held : (ranges : List CategoryRange) (k c : ℕ) → AreApart ranges → HoldsCodePoint ranges k c → category_of ranges c ≡ (get_or ranges k no_range).category
 category_held ranges k c apart holds =
     let one : k + 1 ≡ suc k = omega arith in
     held 0 ranges k c apart holds.within holds.begins (λ more. subst (λ m. c < start_of ranges m) one (holds.ends (omega (arith, more))))
@@ -50,7 +50,7 @@ category_held ranges k c apart holds =
 abbrev pub GoOn : ℕ → CategoryRange → List CategoryRange → Type 0
 GoOn categories previous [] = Unit {0}
 GoOn categories previous (range ∷ ranges) =
-    GoesOn categories previous range × GoOn categories range ranges
+    IsValidBehind categories previous range × GoOn categories range ranges
 
 all_go_on : (categories : ℕ) (range : CategoryRange) (ranges : List CategoryRange) → AreApart (range ∷ ranges) → AllByRecursion (IsWithin categories) ranges →
     GoOn categories range ranges

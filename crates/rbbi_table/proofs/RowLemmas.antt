@@ -5,7 +5,7 @@ use Rattle.std.proofs.lemmas.Bool.{cases_eq}
 use Rattle.std.proofs.Math.Nat.{div-lt_iff_lt-mul}
 use Rattle.rbbi_model.specs.Tables.{Table, RowHead, empty_head, head_of, accept_of, step, row_along}
 use Rattle.rbbi_model.specs.ValidTables.{IsValidRow, LeadsToZero, AreValidRows, IsPlain, IsWay, AreFronted}
-use Rattle.rbbi_table.specs.Parts.{rows_of, AreSteps}
+use Rattle.rbbi_table.specs.Parts.{rows_of, AreNextRows}
 use Rattle.rbbi_table.specs.inner.Rows.{IsValidEntry}
 use Rattle.rbbi_table.specs.inner.Fronts.{IsFronted}
 use Rattle.rbbi_table.proofs.MoveLemmas.{steps_of, steps_long, steps_are}
@@ -85,10 +85,10 @@ some_of_product count width i short = ⊎_elim (λ none. absurd (omega (arith, s
 
 -- the next rows of valid rows are rows, over lists that are the table's
 pub steps_within : (table : Table) (rows : List RowHead) (cells : List ℕ) → rows ≡ table.rows → cells ≡ table.cells →
-    length table.cells ≡ length table.rows * table.categories → AreValidRows table → AreSteps table.categories rows cells
+    length table.cells ≡ length table.rows * table.categories → AreValidRows table → AreNextRows table.categories rows cells
 steps_within table rows cells same_rows same_cells all valid =
     let width : ℕ = table.categories in
-    let steps : AreSteps width table.rows table.cells = record {
+    let steps : AreNextRows width table.rows table.cells = record {
       all = all;
       within = λ i short.
           let place : i < length table.rows * width = omega (arith, short, all) in
@@ -97,8 +97,8 @@ steps_within table rows cells same_rows same_cells all valid =
           let inside : i / width < length table.rows = (div-lt_iff_lt-mul some).1 place in
           subst (λ n. get_or table.cells n 0 < length table.rows) split ((valid.each (i / width) inside).next (i % width) (omega arith));
     } in
-    subst (λ (rs : List RowHead). AreSteps width rs cells) (sym same_rows)
-    (subst (λ (cs : List ℕ). AreSteps width table.rows cs) (sym same_cells) steps)
+    subst (λ (rs : List RowHead). AreNextRows width rs cells) (sym same_rows)
+    (subst (λ (cs : List ℕ). AreNextRows width table.rows cs) (sym same_cells) steps)
 
 -- the front of one look-ahead rule, over lists that are the table's
 pub front_of : (table : Table) (rows : List RowHead) (cells : List ℕ) (slash : ℕ) → rows ≡ table.rows → cells ≡ table.cells →

@@ -9,7 +9,8 @@ use Rattle.rbbi_model.specs.Tables.{Table, accept_of, fronts_of, list_of, catego
 use Rattle.rbbi_model.specs.Searches.{row_at, look_end, found}
 use Rattle.rbbi_model.proofs.Categories.{category_within}
 use Rattle.rbbi_model.proofs.FoundCases.{row_goes_on, row_within}
-use Rattle.rbbi_table.specs.Kept.{IsKept, stride, in_block, move_to}
+use Rattle.rbbi_table.specs.Blocks.{in_block}
+use Rattle.rbbi_table.specs.Kept.{IsKept, stride, move_to}
 use Rattle.rbbi_table.proofs.MoveLemmas.{row_end}
 use Rattle.rbbi_table.proofs.FrontLemmas.{no_bit_is}
 use Rattle.rbbi_table.proofs.SearchLemmas.{IsSearch, IsEnd, IsDecoded, Noted, decoded, ended_here, ended_before, search_on, stops_first, stops_last}

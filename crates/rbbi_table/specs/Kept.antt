@@ -1,22 +1,9 @@
 -- What a table keeps beside its parts: the categories in blocks, and the rows in one flat list.
-use Rattle.std.specs.Prelude.{◌≡◌, ◌≢◌, ℕ, ◌+◌, ◌*◌, ◌/◌, ◌%◌, ◌<◌, ◌≤◌, List, [], ◌∷◌, ◌++◌, map, length, slice_index, slice_index_or, Bool, ◌||◌}
+use Rattle.std.specs.Prelude.{◌≡◌, ℕ, ◌+◌, ◌*◌, ◌<◌, List, length, slice_index, Bool, ◌||◌}
 use Rattle.std.specs.Prelude.{if◌then◌else◌, ◌==◌, nat_le}
-use Rattle.rbbi_model.specs.Tables.{Table, CategoryRange, category_of, RowHead, empty_head, head_of, accept_of, fronts_of, list_of, step}
-use Rattle.rbbi_model.specs.ValidTables.{IsWithin, IsValidTable}
-
--- what is found in two steps: the number of the block of 256, then the place in the block
-abbrev pub in_block : List ℕ → List ℕ → ℕ → ℕ
-in_block numbers kept c = slice_index kept (slice_index numbers (c / 256) * 256 + c % 256)
-
--- the first so many blocks are kept whole, and two steps give the category of each of their code points
-pub record AreFirstBlocks (ranges : List CategoryRange) (numbers kept : List ℕ) (count : ℕ) : Type 0 where
-  pub all : length numbers ≡ count
-  pub whole : (block : ℕ) → block < count → slice_index numbers block * 256 + 256 ≤ length kept
-  pub same : (c : ℕ) → c < count * 256 → in_block numbers kept c ≡ category_of ranges c
-
--- all 4,352 blocks of code points
-abbrev pub AreBlocks : List CategoryRange → List ℕ → List ℕ → Type 0
-AreBlocks ranges numbers kept = AreFirstBlocks ranges numbers kept 4352
+use Rattle.rbbi_model.specs.Tables.{Table, RowHead, head_of, accept_of, fronts_of, list_of, step}
+use Rattle.rbbi_model.specs.ValidTables.{IsValidTable}
+use Rattle.rbbi_table.specs.Blocks.{AreBlocks}
 
 -- how many numbers of the flat list belong to a row
 abbrev pub stride : Table → ℕ

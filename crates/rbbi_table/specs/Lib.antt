@@ -1,6 +1,7 @@
 pub mod Errors
 pub mod Parts
 pub mod Answers
-pub mod Targets
+pub mod Pairs
+pub mod Blocks
 pub mod Kept
 pub mod inner

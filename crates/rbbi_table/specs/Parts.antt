@@ -26,6 +26,6 @@ rows_of categories rows cells safe =
     record { categories = categories; slashes = 0; ranges = []; lists = []; rows = rows; cells = cells; safe = safe }
 
 -- there is a next row for each row and category, and each is a row
-pub record AreSteps (categories : ℕ) (rows : List RowHead) (cells : List ℕ) : Type 0 where
+pub record AreNextRows (categories : ℕ) (rows : List RowHead) (cells : List ℕ) : Type 0 where
   pub all : length cells ≡ length rows * categories
   pub within : (i : ℕ) → i < length cells → slice_index cells i < length rows

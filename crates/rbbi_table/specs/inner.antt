@@ -2,4 +2,5 @@
 pub mod Rows
 pub mod Fronts
 pub mod Targets
-pub mod Kept
+pub mod Ranges
+pub mod Moves

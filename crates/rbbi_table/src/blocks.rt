@@ -1,10 +1,10 @@
-//! The category of a code point, looked up in two steps.
-ghost use Rattle.std.specs.Prelude.{◌≡◌, ℕ, ◌↔◌, ◌+◌, ◌*◌, ◌^◌, ◌<◌, ◌≤◌, length, take};
+//! The look-up of a code point's category in two steps.
+ghost use Rattle.std.specs.Prelude.{◌≡◌, ℕ, ◌+◌, ◌*◌, ◌^◌, ◌<◌, ◌≤◌, List, length, take};
 ghost use Rattle.std.specs.Prelude.{slice_index, slice_range, IfOk, IfSome, OnOk, IsTrue};
-ghost use Rattle.rbbi_model.specs.Tables.{category_of};
+ghost use Rattle.rbbi_model.specs.Tables.{CategoryRange, category_of};
 ghost use Rattle.rbbi_model.specs.ValidTables.{StartsAtZero, AreApart};
-ghost use Rattle.rbbi_table.specs.inner.Kept.{start_of, IsUpTo, Holds};
-ghost use Rattle.rbbi_table.specs.Kept.{AreBlocks, in_block};
+ghost use Rattle.rbbi_table.specs.inner.Ranges.{start_of, IsUpTo, HoldsCodePoint};
+ghost use Rattle.rbbi_table.specs.Blocks.{AreBlocks, in_block};
 
 use crate::RangeRow;
 use crate::limits::LAST_CODE_POINT;
@@ -18,18 +18,18 @@ const BLOCKS: usize = (LAST_CODE_POINT as usize + 1) / BLOCK;
 
 /// The categories of all code points, in blocks of 256. Equal blocks are kept once.
 #[derive(Debug, Drop)]
-pub(crate) struct Blocks {
-    /// For each block, the number of its categories among those that are kept.
-    pub(crate) numbers: Vec<u16>,
-    /// The categories that are kept, 256 after 256.
-    pub(crate) categories: Vec<u16>,
+pub struct Blocks {
+    /// For each block of code points, its number among the blocks that are kept.
+    pub numbers: Vec<u16>,
+    /// The categories of the blocks that are kept, 256 after 256.
+    pub categories: Vec<u16>,
 }
 
 /// The range that holds the code point, where `range` holds the one before it.
 fn holder_of(ranges: &[RangeRow], range: usize, c: usize) -> usize
     requires apart { AreApart ranges.now }
     requires from { IsUpTo ranges.now range c }
-    ensures { Holds ranges.now result c }
+    ensures { HoldsCodePoint ranges.now result c }
 {
     if range + 1 < ranges.len() {
         let next = ranges[range + 1];
@@ -89,7 +89,7 @@ fn find(kept: &[u16], sums: &[u64], sum: u64, block: &[u16]) -> Option<usize>
     None
 }
 
-/// The number of the block among those that are kept. It is added where none has its categories.
+/// The number of the block among those that are kept. It is added if none has its categories.
 fn keep(kept: &mut Vec<u16>, sums: &mut Vec<u64>, block: &[u16]) -> Result<u16, AllocError>
     requires sums { length sums.old.items * 256 ≡ length kept.old.items }
     requires few { length sums.old.items < 2 ^ 16 }
@@ -129,9 +129,9 @@ fn holds_blocks(ranges: &[RangeRow], range: usize, first: usize) -> bool
 }
 
 impl Blocks {
-    /// The categories that the ranges give. A block that lies in one range with the block before it
-    /// has that block's number; the others are compared with those that are kept.
-    pub(crate) fn new(alloc: Global, ranges: &[RangeRow]) -> Result<Blocks, AllocError>
+    /// The blocks of these ranges. A block that lies in one range with the block before it has that
+    /// block's number, in one step; only the others are filled, and compared with those kept.
+    pub fn new(alloc: Global, ranges: &[RangeRow]) -> Result<Blocks, AllocError>
         requires some { 1 ≤ length ranges.now }
         requires zero { StartsAtZero ranges.now }
         requires apart { AreApart ranges.now }
@@ -158,6 +158,18 @@ impl Blocks {
             numbers,
             categories: kept,
         })
+    }
+
+    /// The category that the ranges of these blocks give a character: its block's number, then its
+    /// place in the block.
+    pub fn category(&self, c: char) -> u16
+        requires { (ranges : List CategoryRange)
+            × AreBlocks ranges self.now.numbers.items self.now.categories.items }
+        ensures { (ranges : List CategoryRange) →
+            AreBlocks ranges self.now.numbers.items self.now.categories.items →
+            result ≡ category_of ranges c }
+    {
+        look_up(&self.numbers, &self.categories, c)
     }
 }
 

@@ -3,7 +3,7 @@ ghost use Rattle.std.specs.Prelude.{◌≡◌, ℕ, ◌↔◌, ◌+◌, ◌*◌,
 ghost use Rattle.std.specs.Prelude.{slice_index_or, IfOk, IsTrue};
 ghost use Rattle.rbbi_model.specs.Tables.{empty_head};
 ghost use Rattle.rbbi_model.specs.ValidTables.{AreFronted, AreValidRows, IsPlain};
-ghost use Rattle.rbbi_table.specs.Parts.{table_of, rows_of, AreSteps};
+ghost use Rattle.rbbi_table.specs.Parts.{table_of, rows_of, AreNextRows};
 ghost use Rattle.rbbi_table.specs.inner.Fronts.{IsFronted};
 
 use crate::bits::has_front;
@@ -22,7 +22,7 @@ fn is_fronted(
     cells: &[u16],
     slash: u16,
 ) -> Result<bool, AllocError>
-    requires steps { AreSteps width rows.now cells.now }
+    requires steps { AreNextRows width rows.now cells.now }
     requires some { 2 ≤ length rows.now }
     requires few { length rows.now < 2 ^ 16 }
     requires start { IsPlain (slice_index_or rows.now 1 empty_head) }

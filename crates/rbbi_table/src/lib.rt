@@ -23,6 +23,7 @@ mod table;
 #[cfg(test)]
 mod tests;
 
+pub use blocks::Blocks;
 pub use error::TableErr;
 pub use list::{ByteList, CellList, NumberList, NumberLists, PartList, RangeList, RowList};
 pub use marks::Marks;

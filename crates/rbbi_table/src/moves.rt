@@ -2,9 +2,9 @@
 ghost use Rattle.std.specs.Prelude.{◌≡◌, ℕ, ◌+◌, ◌*◌, ◌^◌, ◌<◌, [], ◌++◌, length, slice_index};
 ghost use Rattle.std.specs.Prelude.{slice_index_or, IfOk, OnOk};
 ghost use Rattle.rbbi_model.specs.Tables.{empty_head};
-ghost use Rattle.rbbi_table.specs.Parts.{rows_of, AreSteps};
+ghost use Rattle.rbbi_table.specs.Parts.{rows_of, AreNextRows};
 ghost use Rattle.rbbi_table.specs.Kept.{move_flags, AreMoves};
-ghost use Rattle.rbbi_table.specs.inner.Kept.{row_moves};
+ghost use Rattle.rbbi_table.specs.inner.Moves.{row_moves};
 
 use crate::RowHead;
 use std::alloc::{AllocError, Global};
@@ -70,7 +70,7 @@ pub(crate) fn moves_of(
     rows: &[RowHead],
     cells: &[u16],
 ) -> Result<Vec<u32>, AllocError>
-    requires steps { AreSteps categories rows.now cells.now }
+    requires steps { AreNextRows categories rows.now cells.now }
     requires small { length rows.now * (categories + 3) < 2 ^ 24 }
     ensures { IfOk result (λ moves.
         AreMoves (rows_of categories rows.now cells.now []) moves.items) }

@@ -1,14 +1,14 @@
 //! Whether the ranges of the categories are valid.
 ghost use Rattle.std.specs.Prelude.{◌↔◌, IsTrue};
 ghost use Rattle.rbbi_model.specs.ValidTables.{AreValidRanges};
-ghost use Rattle.rbbi_table.specs.inner.Kept.{GoesOn};
+ghost use Rattle.rbbi_table.specs.inner.Ranges.{IsValidBehind};
 
 use crate::RangeRow;
 use crate::limits::{LAST_CODE_POINT, MOST_CATEGORIES};
 
 /// Whether the range starts past the one before it, has another category, and is within the bounds.
 fn goes_on(categories: u16, previous: &RangeRow, range: &RangeRow) -> bool
-    ensures { IsTrue result ↔ GoesOn categories previous.now range.now }
+    ensures { IsTrue result ↔ IsValidBehind categories previous.now range.now }
 {
     previous.start < range.start
         && previous.cat != range.cat

@@ -1,9 +1,9 @@
 //! The safe pairs of categories: after both, it no longer matters where a search was.
 ghost use Rattle.std.specs.Prelude.{◌≡◌, ℕ, ◌↔◌, ◌+◌, ◌*◌, ◌^◌, ◌<◌, ◌≤◌, [], length, slice_index};
 ghost use Rattle.std.specs.Prelude.{IfOk, OnOk, IsTrue};
-ghost use Rattle.rbbi_table.specs.Parts.{rows_of, AreSteps};
+ghost use Rattle.rbbi_table.specs.Parts.{rows_of, AreNextRows};
 ghost use Rattle.rbbi_table.specs.inner.Targets.{AreTargets, LeadToOne};
-ghost use Rattle.rbbi_table.specs.Targets.{ArePairsOf};
+ghost use Rattle.rbbi_table.specs.Pairs.{ArePairsOf};
 
 use crate::bits::store;
 use crate::gather::add_target;
@@ -20,7 +20,7 @@ fn gather_targets(
     category: usize,
     targets: &mut Vec<u16>,
 ) -> Result<(), AllocError>
-    requires steps { AreSteps width rows.now cells.now }
+    requires steps { AreNextRows width rows.now cells.now }
     requires few { length rows.now < 2 ^ 16 }
     requires category { category < width }
     ensures { OnOk result
@@ -68,7 +68,7 @@ pub fn safe_pairs(
     rows: &[RowHead],
     cells: &[u16],
 ) -> Result<ByteList, AllocError>
-    requires steps { AreSteps categories rows.now cells.now }
+    requires steps { AreNextRows categories rows.now cells.now }
     requires few { length rows.now < 2 ^ 16 }
     ensures { IfOk result (λ bytes. ArePairsOf (rows_of categories rows.now cells.now bytes)) }
 {

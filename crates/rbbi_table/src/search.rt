@@ -4,10 +4,10 @@ ghost use Rattle.rbbi_model.specs.Searches.{found, look_end};
 ghost use Rattle.rbbi_table.specs.Parts.{table_of};
 ghost use Rattle.rbbi_table.specs.Kept.{IsKept};
 
-use crate::blocks::{Blocks, look_up};
+use crate::blocks::look_up;
 use crate::marks::note;
 use crate::moves::{ACCEPT, FRONTS, HEAD, LIST};
-use crate::{Marks, Parts, Table};
+use crate::{Blocks, Marks, Parts, Table};
 use rbbi_text::{Chars, Steps};
 use std::sync::ledger::Ledger;
 

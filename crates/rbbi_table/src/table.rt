@@ -9,7 +9,6 @@ ghost use Rattle.rbbi_table.specs.Parts.{table_of, HasFittingParts};
 ghost use Rattle.rbbi_table.specs.Answers.{MakesTable};
 
 use crate::bits::has_stored;
-use crate::blocks::{Blocks, look_up};
 use crate::fronts::are_fronted;
 use crate::lists::are_valid_lists;
 use crate::moves::moves_of;
@@ -17,7 +16,7 @@ use crate::parts::copied;
 use crate::ranges::are_valid_ranges;
 use crate::rows::are_valid_rows;
 use crate::safe::{are_same, safe_pairs};
-use crate::{Parts, RangeRow, RowHead, TableErr};
+use crate::{Blocks, Parts, RangeRow, RowHead, TableErr};
 use std::alloc::Global;
 use std::marker::Model;
 
@@ -192,7 +191,7 @@ impl Table {
         ensures value { result ≡ category_of self.now.ranges c }
         ensures within { result < self.now.categories }
     {
-        look_up(&self.blocks.numbers, &self.blocks.categories, c)
+        self.blocks.category(c)
     }
 
     /// Whether the pair of categories is safe: after both, it no longer matters where a search was.

@@ -10,7 +10,7 @@ abbrev pub AreSizes : List ℕ → List ℕ → Type 0
 AreSizes classes sizes = (class : ℕ) → class < length sizes → slice_index sizes class ≡ count_by (λ other. other == class) classes
 
 -- each stretch has a class, the classes have these sizes, and none but class 0 is empty
-pub record IsPartition (classes sizes : List ℕ) : Type 0 where
+pub record AreStretchClasses (classes sizes : List ℕ) : Type 0 where
   pub some : 1 ≤ length sizes
   pub within : (i : ℕ) → i < length classes → slice_index classes i < length sizes
   pub sized : AreSizes classes sizes

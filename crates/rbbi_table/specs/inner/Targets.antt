@@ -1,8 +1,7 @@
--- The rows that open rows lead to by a category, and whether these lead on to one row: what only this crate cites.
-use Rattle.std.specs.Prelude.{◌≡◌, ℕ, ◌+◌, ◌*◌, ◌/◌, ◌<◌, ◌⊎◌, Bool, true, false, List, length, slice_index, slice_index_or, count_by}
+-- The rows that open rows lead to by a category, and whether these lead on to one row.
+use Rattle.std.specs.Prelude.{◌≡◌, ℕ, ◌<◌, ◌⊎◌, Bool, true, false, List, length, slice_index, slice_index_or, count_by}
 use Rattle.rbbi_model.specs.Tables.{Table, step}
 use Rattle.rbbi_model.specs.SafePairs.{IsOpen}
-use Rattle.rbbi_model.specs.ValidTables.{AreValidSafePairs}
 
 -- these are the rows that open rows lead to by the category
 pub record AreTargets (table : Table) (category : ℕ) (targets : List ℕ) : Type 0 where

@@ -38,7 +38,7 @@ invariant_of-result c =
     (rw c.deref.ensures.value at c.in_ok-classes.ensures.tells) (rw c.deref-2.ensures.value at c.in_ok-numbers.ensures.numbers)
     (rw (c.deref-3.ensures.value, c.deref-4.ensures.value, c.deref-5.ensures.value) at c.in_ok-ranges.ensures)
     (omega (arith, c.in_ok-numbers.ensures.many, c.len.ensures, c.in_ok-classes.sizes.ok)) c.in_ok-classes.ensures.few in
-    (rw c.deref-6.ensures.value at c.in_ok-blocks.ensures, is.1)
+    (is.1, rw c.deref-6.ensures.value at c.in_ok-blocks.ensures)
 
 pub returns : goal.returns
 returns c =

@@ -1,5 +1,5 @@
 use Rattle.std.proofs.Common.{sym, subst}
-use Rattle.rbbi_table.specs.Targets.{ArePairsOf}
+use Rattle.rbbi_table.specs.Pairs.{ArePairsOf}
 use Rattle.rbbi_dfa.specs.inner.LeastTables.{AreValidParts}
 use Rattle.rbbi_dfa.proofs.Finishing.{AreValidParts-finished}
 use Rattle.rbbi_dfa.proofs.table.least_table.Goals as goal

@@ -1,6 +1,6 @@
 use Rattle.std.proofs.Common.{◌≡◌, ℕ, ◌+◌, ◌<◌, slice_index}
 use Rattle.rbbi_model.specs.Tables.{category_of}
-use Rattle.rbbi_table.specs.inner.Kept.{IsUpTo}
+use Rattle.rbbi_table.specs.inner.Ranges.{IsUpTo}
 use Rattle.rbbi_table.proofs.blocks.fill.Given as goal
 
 abbrev pub invariant-loop-offset : goal.invariant-loop-offset

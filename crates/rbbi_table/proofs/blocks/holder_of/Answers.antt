@@ -1,7 +1,7 @@
 use Rattle.std.proofs.Common.{◌≡◌, ℕ, ◌+◌, List, ap, ◌∙◌, arith}
 use Rattle.std.proofs.lemmas.List.{get_or_read}
 use Rattle.rbbi_model.specs.Tables.{CategoryRange}
-use Rattle.rbbi_table.specs.inner.Kept.{start_of}
+use Rattle.rbbi_table.specs.inner.Ranges.{start_of}
 use Rattle.rbbi_table.proofs.RangeLemmas.{rise_next, no_range}
 use Rattle.rbbi_table.proofs.blocks.holder_of.Goals as goal
 

@@ -3,7 +3,7 @@ use Rattle.std.proofs.lemmas.List.{get_or_read}
 use Rattle.rbbi_model.specs.Tables.{RowHead, empty_head}
 use Rattle.rbbi_table.specs.Parts.{rows_of}
 use Rattle.rbbi_table.specs.Kept.{AreFirstMoves}
-use Rattle.rbbi_table.specs.inner.Kept.{row_moves}
+use Rattle.rbbi_table.specs.inner.Moves.{row_moves}
 use Rattle.rbbi_table.proofs.MoveLemmas.{push_moves, steps_of}
 use Rattle.rbbi_table.proofs.moves.moves_of.Goals as goal
 

@@ -2,7 +2,7 @@ use Rattle.std.proofs.Common.{◌≡◌, ℕ, ◌+◌, ◌≤◌, ◌↔◌, Lis
 use Rattle.std.proofs.lemmas.List.{drop_more, get_or_read}
 use Rattle.rbbi_model.specs.Tables.{CategoryRange}
 use Rattle.rbbi_model.specs.ValidTables.{AreValidRanges}
-use Rattle.rbbi_table.specs.inner.Kept.{GoesOn}
+use Rattle.rbbi_table.specs.inner.Ranges.{IsValidBehind}
 use Rattle.rbbi_table.proofs.Truth.{refuted, granted, fails, some_items, item_is, items_end}
 use Rattle.rbbi_table.proofs.RangeLemmas.{GoOn, no_range, valid_where_go_on}
 use Rattle.rbbi_table.proofs.ranges.are_valid_ranges.Goals as goal
@@ -26,7 +26,7 @@ returns-then-not-goes_on c =
     let go = subst (λ (l : List CategoryRange). GoOn c.args.categories c.loop-range.previous l) (drop_more (drop 1 ranges) i no_range item.0)
     (c.loop-range.invariant.0 valid) in
     fails c.goes_on.result c.goes_on.ensures c.if-not-goes_on.true
-    (subst (λ (r : CategoryRange). GoesOn c.args.categories c.loop-range.previous r) (sym item.1) go.0))
+    (subst (λ (r : CategoryRange). IsValidBehind c.args.categories c.loop-range.previous r) (sym item.1) go.0))
 
 pub loop-range-preserved : goal.loop-range-preserved
 loop-range-preserved c =
@@ -38,7 +38,7 @@ loop-range-preserved c =
           let go = subst (λ (l : List CategoryRange). GoOn c.args.categories c.loop-range.previous l) more (c.loop-range.invariant.0 valid) in
           subst (λ (r : CategoryRange). GoOn c.args.categories r (drop (i + 1) (drop 1 ranges))) (sym item.1) go.1,
       λ go.
-          let goes = subst (λ (r : CategoryRange). GoesOn c.args.categories c.loop-range.previous r) item.1 (c.goes_on.ensures.0 c.if-not-goes_on.false) in
+          let goes = subst (λ (r : CategoryRange). IsValidBehind c.args.categories c.loop-range.previous r) item.1 (c.goes_on.ensures.0 c.if-not-goes_on.false) in
           let rest = subst (λ (r : CategoryRange). GoOn c.args.categories r (drop (i + 1) (drop 1 ranges))) item.1 go in
           c.loop-range.invariant.1 (subst (λ (l : List CategoryRange). GoOn c.args.categories c.loop-range.previous l) (sym more) (goes, rest)),
     )

@@ -3,7 +3,7 @@ use Rattle.rbbi_model.specs.Tables.{Table}
 use Rattle.rbbi_model.specs.SafePairs.{stored_bit}
 use Rattle.rbbi_table.specs.Parts.{rows_of}
 use Rattle.rbbi_table.specs.inner.Targets.{LeadToOne}
-use Rattle.rbbi_table.specs.Targets.{ArePairsOf}
+use Rattle.rbbi_table.specs.Pairs.{ArePairsOf}
 use Rattle.rbbi_table.proofs.Truth.{fails}
 use Rattle.rbbi_table.proofs.PairLemmas.{AreFirstPairs, targets_within, safe_where_one, pair_set, pair_unset, all_pairs}
 use Rattle.rbbi_table.proofs.safe.safe_pairs.Goals as goal

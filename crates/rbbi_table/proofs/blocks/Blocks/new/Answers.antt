@@ -1,8 +1,8 @@
 use Rattle.std.proofs.Common.{◌≡◌, ℕ, ◌+◌, ◌-◌, ◌*◌, ◌<◌, List, length, sym, subst, arith}
 use Rattle.std.proofs.lemmas.List.{get_or_read}
 use Rattle.rbbi_model.specs.Tables.{CategoryRange}
-use Rattle.rbbi_table.specs.inner.Kept.{IsUpTo}
-use Rattle.rbbi_table.specs.Kept.{AreFirstBlocks}
+use Rattle.rbbi_table.specs.inner.Ranges.{IsUpTo}
+use Rattle.rbbi_table.specs.Blocks.{AreFirstBlocks}
 use Rattle.rbbi_table.proofs.BlockLemmas.{push_same, push_new}
 use Rattle.rbbi_table.proofs.blocks.Blocks.new.Goals as goal
 

@@ -1,6 +1,6 @@
 use Rattle.std.proofs.Common.{◌≡◌, ◌*◌, ◌≤◌, length}
-use Rattle.rbbi_table.specs.inner.Kept.{IsUpTo}
-use Rattle.rbbi_table.specs.Kept.{AreFirstBlocks}
+use Rattle.rbbi_table.specs.inner.Ranges.{IsUpTo}
+use Rattle.rbbi_table.specs.Blocks.{AreFirstBlocks}
 use Rattle.rbbi_table.proofs.blocks.Blocks.new.Given as goal
 
 abbrev pub invariant-loop-number : goal.invariant-loop-number

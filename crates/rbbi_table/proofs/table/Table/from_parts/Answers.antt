@@ -1,7 +1,7 @@
 use Rattle.std.proofs.Common.{ap, sym, ◌∙◌, subst}
 use Rattle.rbbi_model.specs.ValidTables.{IsValidTable}
 use Rattle.rbbi_table.specs.declared.parts.Parts.{Parts}
-use Rattle.rbbi_table.specs.Parts.{table_of, AreSteps}
+use Rattle.rbbi_table.specs.Parts.{table_of, AreNextRows}
 use Rattle.rbbi_table.specs.Kept.{IsKept}
 use Rattle.rbbi_table.proofs.Truth.{fails}
 use Rattle.rbbi_table.proofs.RowLemmas.{steps_within}
@@ -9,7 +9,7 @@ use Rattle.rbbi_table.proofs.PartLemmas.{AreChecked, valid_table, kept_of, store
 use Rattle.rbbi_table.proofs.table.Table.from_parts.Goals as goal
 use Rattle.rbbi_table.proofs.table.Table.from_parts.Goals.{Else-not-are_valid_rows, After-are_same-same, Else-not-same}
 
-steps : (c : Else-not-are_valid_rows) → AreSteps c.args.parts.now.categories c.as_slice-rows.result.now c.as_slice-cells.result.now
+steps : (c : Else-not-are_valid_rows) → AreNextRows c.args.parts.now.categories c.as_slice-rows.result.now c.as_slice-cells.result.now
 steps c =
     steps_within (table_of c.args.parts.now) c.as_slice-rows.result.now c.as_slice-cells.result.now c.as_slice-rows.ensures c.as_slice-cells.ensures
     c.requires.cells (c.are_valid_rows.ensures.0 c.if-not-are_valid_rows.false)

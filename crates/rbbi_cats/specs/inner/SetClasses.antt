@@ -13,7 +13,7 @@ abbrev pub NoneTells : List (List Range) → ℕ → ℕ → Type 0
 NoneTells sets c d = AllByRecursion (λ set. Has set c ↔ Has set d) sets
 
 -- Two stretches are in one class exactly where no set tells them apart, and in class 0 exactly where no set holds them.
-pub record Tells (sets : List (List Range)) (cuts classes : List ℕ) : Type 0 where
+pub record AreClassesOfSets (sets : List (List Range)) (cuts classes : List ℕ) : Type 0 where
   pub many : length classes ≡ length cuts
   pub alike : (i j : ℕ) → i < length cuts → j < length cuts →
       (slice_index classes i ≡ slice_index classes j) ↔ NoneTells sets (slice_index cuts i) (slice_index cuts j)
