@@ -43,7 +43,7 @@ impl Model for Categories {
 /// code points that the leaves' sets don't tell apart, numbered by their least code point
 /// (partition refinement; Paige and Tarjan 1987).
 ///
-/// Refuses `TooManyCategories` where there are more than 255, category 0 counted.
+/// Refuses `TooManyCategories` if there are more than 255, category 0 counted.
 pub fn partition(alloc: Global, rules: &Rules) -> Result<Categories, CatsErr>
     requires { AreLawful (rules_of rules.now) }
     ensures classes { IfOk result (λ cats. AreClasses (rules_of rules.now) cats.count cats.ranges) }

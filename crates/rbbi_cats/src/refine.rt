@@ -87,7 +87,7 @@ fn put_back(
     Ok(())
 }
 
-/// The class that members of a former class get: the class itself where it has no other stretches,
+/// The class that members of a former class get: the class itself if it has no other stretches,
 /// and else a new one. Class 0 is always left.
 fn target_of(
     targets: &mut Vec<usize>,

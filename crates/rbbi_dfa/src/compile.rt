@@ -9,7 +9,7 @@ use crate::table::least_table;
 use rbbi_cats::{CatRange, Categories};
 use rbbi_model::marks_are_unique;
 use rbbi_positions::Positions;
-use rbbi_table::{RangeList, RangeRow, Table};
+use rbbi_table::{RangeList, Table};
 use std::alloc::{AllocError, Global};
 
 /// The least table with the marks of the rules that positions and categories are those of. Clauses
@@ -48,12 +48,5 @@ fn look_aheads(positions: &Positions) -> u32
 fn ranges_of(alloc: Global, ranges: &[CatRange]) -> Result<RangeList, AllocError>
     ensures { IfOk result (λ made. made ≡ ranges.now) }
 {
-    let mut made = RangeList::new(alloc);
-    for range in ranges {
-        made.push(RangeRow {
-            start: range.start,
-            cat: range.cat,
-        })?;
-    }
-    Ok(made)
+    Ok(RangeList::from_vec(ranges.to_vec(alloc)?))
 }

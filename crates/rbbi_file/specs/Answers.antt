@@ -32,6 +32,6 @@ abbrev pub IsTableOrMemory : Table → Result Table FileErr → Type 0
 IsTableOrMemory wanted (Ok table) = table ≡ wanted
 IsTableOrMemory wanted (Err error) = error ≡ Memory
 
--- where the bytes are the spelling of a valid table, that table is read, unless memory runs out
+-- if the bytes are the spelling of a valid table, that table is read, unless memory runs out
 abbrev pub ReadsEachSpelling : List ℕ → Result Table FileErr → Type 0
 ReadsEachSpelling bytes answer = (table : Table) → IsValidTable table → bytes ≡ spelling table → IsTableOrMemory table answer

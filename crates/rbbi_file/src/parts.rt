@@ -12,7 +12,7 @@ use crate::numbers::{u16_at, u32_at};
 use rbbi_table::{NumberList, RangeRow, RowHead};
 use std::alloc::{AllocError, Global};
 
-/// So many ranges that stand at a place.
+/// Reads `count` ranges at a place.
 pub(crate) fn ranges_at(
     alloc: Global,
     bytes: &[u8],
@@ -34,7 +34,7 @@ pub(crate) fn ranges_at(
     Ok(ranges)
 }
 
-/// So many numbers of four bytes that stand at a place.
+/// Reads `count` numbers of four bytes at a place.
 fn statuses_at(alloc: Global, bytes: &[u8], at: usize, count: usize) -> Result<Vec<u32>, AllocError>
     requires { at + 4 * count ≤ length bytes.now }
     ensures stand { IfOk result (λ statuses.
@@ -50,7 +50,7 @@ fn statuses_at(alloc: Global, bytes: &[u8], at: usize, count: usize) -> Result<V
     Ok(statuses)
 }
 
-/// The status list that stands at a place: its length, and so many numbers.
+/// Reads the status list at a place, which has `count` numbers behind its length.
 fn list_at(alloc: Global, bytes: &[u8], at: usize, count: u16) -> Result<NumberList, AllocError>
     requires length { Stand bytes.now (two_bytes count) at (at + 2) }
     requires whole { at + (2 + 4 * count) ≤ length bytes.now }
@@ -62,7 +62,7 @@ fn list_at(alloc: Global, bytes: &[u8], at: usize, count: u16) -> Result<NumberL
     Ok(NumberList::from_vec(statuses))
 }
 
-/// So many status lists that stand at a place, and where they end.
+/// Reads `count` status lists at a place, and tells where they end.
 pub(crate) fn lists_at(
     alloc: Global,
     bytes: &[u8],
@@ -84,7 +84,7 @@ pub(crate) fn lists_at(
     Ok((lists, end))
 }
 
-/// The head that stands at a place.
+/// Reads the head of a row at a place.
 fn head_at(bytes: &[u8], at: usize) -> RowHead
     requires { at + 8 ≤ length bytes.now }
     ensures stand { Stand bytes.now (head_bytes result) at (at + 8) }
@@ -97,7 +97,7 @@ fn head_at(bytes: &[u8], at: usize) -> RowHead
     }
 }
 
-/// Adds so many numbers of two bytes that stand at a place.
+/// Adds `count` numbers of two bytes, which are read at a place.
 fn add_cells(cells: &mut Vec<u16>, bytes: &[u8], at: usize, count: usize) -> Result<(), AllocError>
     requires { at + 2 * count ≤ length bytes.now }
     ensures { OnOk result (AreCellsAt bytes.now cells.old.items cells.new.items at count) }
@@ -108,7 +108,7 @@ fn add_cells(cells: &mut Vec<u16>, bytes: &[u8], at: usize, count: usize) -> Res
     Ok(())
 }
 
-/// So many rows that stand at a place: their heads, and their next rows, one for each category.
+/// Reads `count` rows at a place: their heads, and their next rows, one for each category.
 pub(crate) fn rows_at(
     alloc: Global,
     bytes: &[u8],

@@ -47,7 +47,7 @@ fn counts_of(bytes: &[u8]) -> Counts
     }
 }
 
-/// Where so many status lists end that begin at a place, or none where the file ends before.
+/// Where `count` status lists end that begin at a place, or none if the file ends before.
 fn end_of_lists(bytes: &[u8], count: u16, at: usize) -> Option<usize>
     requires short { length bytes.now ≤ most_bytes }
     requires start { at < 2 ^ 36 }
@@ -65,7 +65,7 @@ fn end_of_lists(bytes: &[u8], count: u16, at: usize) -> Option<usize>
     Some(at)
 }
 
-/// Where the parts end, as the counts and the lengths of the lists say, or none where the file ends
+/// Where the parts end, as the counts and the lengths of the lists say, or none if the file ends
 /// before. It takes no memory, whatever the counts promise.
 fn end_of_parts(bytes: &[u8]) -> Option<usize>
     requires { length bytes.now ≤ most_bytes }
@@ -109,9 +109,8 @@ fn parts_of(alloc: Global, bytes: &[u8]) -> Result<Parts, AllocError>
 
 /// The table that the bytes of a table file spell.
 ///
-/// Refuses `BadMagic` where the first eight bytes aren't those of a table file; otherwise `Short`
-/// where the file ends before its parts do; otherwise `Trailing` where bytes follow; otherwise
-/// `Part` with the first part that isn't valid. Lengths are checked before memory is taken.
+/// Refuses `BadMagic` if the first eight bytes aren't those of a table file; otherwise `Short` if
+/// the file ends before its parts do; otherwise `Trailing` if bytes follow; otherwise `Part` with the first part that isn't valid. Lengths are checked before memory is taken.
 pub fn read_table(alloc: Global, bytes: &[u8]) -> Result<Table, FileErr>
     requires { length bytes.now ≤ most_bytes }
     ensures exact { ReadsTable bytes.now result }

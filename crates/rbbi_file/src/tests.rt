@@ -29,7 +29,7 @@ fn outcome(rt: &impl Abort, alloc: Global, bytes: &[u8]) -> Result<(String, u32)
     }
 }
 
-/// One or two bytes are changed: where one is, it is named twice.
+/// One or two bytes are changed; if one is, it is named twice.
 #[test]
 fn changed_bytes(rt: HostRuntime) -> Result<(), Fail> {
     let alloc = rt.alloc();

@@ -1,4 +1,4 @@
--- What a table keeps beside its parts: the categories in blocks, and the rows in one flat list.
+-- What a table keeps beside its parts: the blocks of categories, and the rows in one flat list.
 use Rattle.std.specs.Prelude.{◌≡◌, ℕ, ◌+◌, ◌*◌, ◌<◌, List, length, slice_index, Bool, ◌||◌}
 use Rattle.std.specs.Prelude.{if◌then◌else◌, ◌==◌, nat_le}
 use Rattle.rbbi_model.specs.Tables.{Table, RowHead, head_of, accept_of, fronts_of, list_of, step}
@@ -17,8 +17,8 @@ stops_at head row = (row == 0) || nat_le 2 head.accept
 abbrev pub move_flags : RowHead → ℕ → ℕ
 move_flags head row = (if head.accept == 1 then 1 else 0) + (if head.fronts == 0 then 0 else 2) + (if stops_at head row then 4 else 0)
 
--- The move to a row: eight times the place at which the row begins, 1 where some rule ends there and no look-ahead rule, 2 where
--- a front ends there, and 4 where a search ends there.
+-- The move to a row: eight times the place at which the row begins, 1 if some rule ends there and no look-ahead rule, 2 if a front
+-- ends there, and 4 if a search ends there.
 abbrev pub move_to : Table → ℕ → ℕ
 move_to table row = row * stride table * 8 + move_flags (head_of table row) row
 

@@ -25,7 +25,7 @@ pub struct Blocks {
     pub categories: Vec<u16>,
 }
 
-/// The range that holds the code point, where `range` holds the one before it.
+/// The range that holds the code point, if `range` holds the one before it.
 fn holder_of(ranges: &[RangeRow], range: usize, c: usize) -> usize
     requires apart { AreApart ranges.now }
     requires from { IsUpTo ranges.now range c }

@@ -18,7 +18,7 @@ pub enum TableErr {
     /// Ranges and status lists are valid, and the rows aren't.
     #[error("the rows are not valid")]
     BadRows,
-    /// All before is valid, and a look-ahead rule can be completed where its front didn't end.
+    /// All before is valid, and a look-ahead rule can be completed although its front didn't end.
     #[error("a look-ahead rule is completed without its front")]
     BadFronts,
     /// All before is valid, and the stored bits aren't those of the safe pairs.

@@ -14,7 +14,7 @@ use std::alloc::{AllocError, Global};
 /// Whether no row at which look-ahead rule `slash` is completed can be entered from row 1 through
 /// rows at which its front doesn't end.
 ///
-/// It goes once over each such row, by a queue of the rows that were reached.
+/// A breadth-first search, which visits each such row once.
 fn is_fronted(
     alloc: Global,
     width: usize,

@@ -22,9 +22,8 @@ pub(crate) const LIST: usize = 1;
 /// The place of the accept number behind a row's moves.
 pub(crate) const ACCEPT: usize = 2;
 
-/// The move to a row: eight times the place at which the row begins in the flat list, and 1 where
-/// some rule ends there and no look-ahead rule, 2 where a front ends there, 4 where a search ends
-/// there.
+/// The move to a row: eight times the place at which the row begins in the flat list, and 1 if some
+/// rule ends there and no look-ahead rule, 2 if a front ends there, 4 if a search ends there.
 fn move_to(rows: &[RowHead], next: u16, stride: usize) -> u32
     requires next { next < length rows.now }
     requires small { length rows.now * stride < 2 ^ 24 }

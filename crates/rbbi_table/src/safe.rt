@@ -1,4 +1,4 @@
-//! The safe pairs of categories: after both, it no longer matters where a search was.
+//! The safe pairs of categories: after both, it no longer matters in which row a search was.
 ghost use Rattle.std.specs.Prelude.{◌≡◌, ℕ, ◌↔◌, ◌+◌, ◌*◌, ◌^◌, ◌<◌, ◌≤◌, [], length, slice_index};
 ghost use Rattle.std.specs.Prelude.{IfOk, OnOk, IsTrue};
 ghost use Rattle.rbbi_table.specs.Parts.{rows_of, AreNextRows};

@@ -18,13 +18,13 @@ pub struct Found {
     pub at: u32,
     /// The number of its status list.
     pub status: u16,
-    /// The place after the last character read. Where the search would have read on at the text's
+    /// The place after the last character read. If the search would have read on at the text's
     /// end, it is the text's length and one more.
     pub look: u32,
 }
 
-/// The longest match, or where none was seen, one character with list 0. `end` is the place where a
-/// rule ended last, or `s` where none did.
+/// The longest match, or if none was seen, one character with list 0. `end` is the place at which a
+/// rule ended last, or `s` if none did.
 fn longest(s: u32, end: u32, status: u16, look: u32) -> Found
     requires { s < 2 ^ 31 }
     ensures at { result.at ≡ (if nat_lt s end then end else s + 1) }
@@ -106,7 +106,7 @@ impl Table {
     /// looked.
     ///
     /// A search reads characters until it is in row 0, a look-ahead rule is completed, or the text
-    /// ends. Where a look-ahead rule is completed, the boundary is the last place before at which
+    /// ends. If a look-ahead rule is completed, the boundary is the last place before at which
     /// its front ended. Otherwise it is the last place at which a rule ended, or comes after one
     /// character (ICU User Guide, "Break Rules"). Each character from `s` to the look end is read
     /// once, and no memory is taken.

@@ -29,13 +29,13 @@ pub record TakesOut (before after members origins sizes : List ℕ) (moving : �
   pub others : (i : ℕ) → i < length before → ((j : ℕ) → j < length members → slice_index members j ≡ i → ⊥) → slice_index after i ≡ slice_index before i
   pub sized : AreSizes after sizes
 
--- a class of members has this class as its target: itself where it has no other stretches, or else a new one
+-- a class of members has this class as its target: itself if it has no other stretches, or else a new one
 abbrev pub IsTarget : List ℕ → ℕ → ℕ → ℕ → Type 0
 IsTarget sizes count origin target =
     ((target ≡ origin) × (origin ≢ 0) × (slice_index sizes origin ≡ 0))
     ⊎ ((length sizes ≤ target) × (target < count) × ((origin ≡ 0) ⊎ (slice_index sizes origin ≢ 0)))
 
--- A class that has its target keeps it. One that has none gets itself where it has no stretches left, or else a new class.
+-- A class that has its target keeps it. One that has none gets itself if it has no stretches left, or else a new class.
 pub data Targets (moving : ℕ) (targets sizes : List ℕ) (origin : ℕ) : List ℕ → List ℕ → ℕ → Type 0 where
   Had : slice_index targets origin ≢ moving → Targets moving targets sizes origin targets sizes (slice_index targets origin)
   Kept : slice_index targets origin ≡ moving → origin ≢ 0 → slice_index sizes origin ≡ 0 → Targets moving targets sizes origin
@@ -43,7 +43,7 @@ pub data Targets (moving : ℕ) (targets sizes : List ℕ) (origin : ℕ) : List
   Made : slice_index targets origin ≡ moving → (origin ≡ 0) ⊎ (slice_index sizes origin ≢ 0) →
       Targets moving targets sizes origin (slice_set targets origin (length sizes)) (sizes ++ 0 ∷ []) (length sizes)
 
--- The members get the targets of their origins, different ones where these differ, and each new class has a member; the others
+-- The members get the targets of their origins, different ones if these differ, and each new class has a member; the others
 -- have the class they had.
 pub record PutsBack (before after members origins sizes grown : List ℕ) : Type 0 where
   pub many : length after ≡ length before

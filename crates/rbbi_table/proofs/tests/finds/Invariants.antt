@@ -1,4 +1,4 @@
-use Rattle.rbbi_table.proofs.tests.parts_that_make_a_table.Given as goal
+use Rattle.rbbi_table.proofs.tests.finds.Given as goal
 
 -- a ledger of its own
 abbrev pub ghosts-searches : goal.ghosts-searches
