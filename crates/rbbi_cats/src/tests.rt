@@ -8,6 +8,7 @@ use rbbi_resolve::resolve;
 use rbbi_text::count_characters;
 use rbbi_tree::parse;
 use std::alloc::{AllocError, Global};
+use std::process::Abort;
 use std::test::Fail;
 
 /// The categories of the rules of a short file, or why they are refused.
@@ -29,86 +30,89 @@ fn are_ranges(ranges: &[CatRange], want: Starts) -> bool {
         && ranges.iter().zip(want).all(|(range, pair)| range.start == pair.0 && range.cat == pair.1)
 }
 
+/// Whether the rules of a file have so many categories, with these ranges.
+fn are_categories(
+    rt: &impl Abort,
+    alloc: Global,
+    text: &str,
+    count: u16,
+    starts: Starts,
+) -> Result<(), Fail> {
+    assert!(rt; text.len() < 1000);
+    let cats = categories_in(alloc, text)??;
+    assert_eq!(rt; cats.count(), count, "in {text:?}");
+    assert!(rt; are_ranges(cats.ranges(), starts), "in {text:?}");
+    Ok(())
+}
+
 #[test]
-fn classes(rt: HostRuntime) -> Result<(), Fail> {
-    let rows: [(&str, u16, Starts); 11] = [
-        ("a|b|a;", 3, &[(0, 0), (0x61, 1), (0x62, 2), (0x63, 0)]),
-        (
-            "[a-c]; [b-d];",
-            4,
-            &[(0, 0), (0x61, 1), (0x62, 2), (0x64, 3), (0x65, 0)],
-        ),
-        (
-            "[a-d] [c-f] [b-e];",
-            6,
-            &[
-                (0, 0),
-                (0x61, 1),
-                (0x62, 2),
-                (0x63, 3),
-                (0x65, 4),
-                (0x66, 5),
-                (0x67, 0),
-            ],
-        ),
-        ("\\U0010FFFF;", 2, &[(0, 0), (0x10_FFFF, 1)]),
-        (".;", 2, &[(0, 1), (0xD800, 0), (0xE000, 1)]),
-        (
-            ". a;",
-            3,
-            &[(0, 1), (0x61, 2), (0x62, 1), (0xD800, 0), (0xE000, 1)],
-        ),
-        (
-            "[\\uD7FF-\\uE000];",
-            2,
-            &[(0, 0), (0xD7FF, 1), (0xD800, 0), (0xE000, 1), (0xE001, 0)],
-        ),
-        (
-            "[\\u0000-\\U0010FFFF] | [^];",
-            2,
-            &[(0, 1), (0xD800, 0), (0xE000, 1)],
-        ),
-        (
-            "[\\uD7FF\\uE000]; \\uD7FF;",
-            3,
-            &[(0, 0), (0xD7FF, 1), (0xD800, 0), (0xE000, 2), (0xE001, 0)],
-        ),
-        ("[\\p{Cs} \\uE000];", 2, &[(0, 0), (0xE000, 1), (0xE001, 0)]),
-        (
-            "[^\\uD7FF \\uE000];",
-            2,
-            &[(0, 1), (0xD7FF, 0), (0xE001, 1)],
-        ),
+fn classes_of_letters(rt: HostRuntime) -> Result<(), Fail> {
+    let alloc = rt.alloc();
+    let apart: Starts = &[(0, 0), (0x61, 1), (0x62, 2), (0x63, 0)];
+    are_categories(&rt, alloc, "a|b|a;", 3, apart)?;
+    let shared: Starts = &[(0, 0), (0x61, 1), (0x62, 2), (0x64, 3), (0x65, 0)];
+    are_categories(&rt, alloc, "[a-c]; [b-d];", 4, shared)?;
+    let three: Starts = &[
+        (0, 0),
+        (0x61, 1),
+        (0x62, 2),
+        (0x63, 3),
+        (0x65, 4),
+        (0x66, 5),
+        (0x67, 0),
     ];
-    for (text, count, starts) in rows {
-        assert!(rt; text.len() < 1000);
-        let cats = categories_in(rt.alloc(), text)??;
-        assert_eq!(rt; cats.count(), count, "in {text:?}");
-        assert!(rt; are_ranges(cats.ranges(), starts), "in {text:?}");
+    are_categories(&rt, alloc, "[a-d] [c-f] [b-e];", 6, three)
+}
+
+#[test]
+fn classes_of_everything(rt: HostRuntime) -> Result<(), Fail> {
+    let alloc = rt.alloc();
+    let last: Starts = &[(0, 0), (0x10_FFFF, 1)];
+    are_categories(&rt, alloc, "\\U0010FFFF;", 2, last)?;
+    let all: Starts = &[(0, 1), (0xD800, 0), (0xE000, 1)];
+    are_categories(&rt, alloc, ".;", 2, all)?;
+    are_categories(&rt, alloc, "[\\u0000-\\U0010FFFF] | [^];", 2, all)?;
+    let letter: Starts = &[(0, 1), (0x61, 2), (0x62, 1), (0xD800, 0), (0xE000, 1)];
+    are_categories(&rt, alloc, ". a;", 3, letter)
+}
+
+#[test]
+fn classes_at_surrogates(rt: HostRuntime) -> Result<(), Fail> {
+    let alloc = rt.alloc();
+    let around: Starts = &[(0, 0), (0xD7FF, 1), (0xD800, 0), (0xE000, 1), (0xE001, 0)];
+    are_categories(&rt, alloc, "[\\uD7FF-\\uE000];", 2, around)?;
+    let both: Starts = &[(0, 0), (0xD7FF, 1), (0xD800, 0), (0xE000, 2), (0xE001, 0)];
+    are_categories(&rt, alloc, "[\\uD7FF\\uE000]; \\uD7FF;", 3, both)?;
+    let past: Starts = &[(0, 0), (0xE000, 1), (0xE001, 0)];
+    are_categories(&rt, alloc, "[\\p{Cs} \\uE000];", 2, past)?;
+    let others: Starts = &[(0, 1), (0xD7FF, 0), (0xE001, 1)];
+    are_categories(&rt, alloc, "[^\\uD7FF \\uE000];", 2, others)
+}
+
+/// Whether characters have these categories by the rules of a file.
+fn are_found(
+    rt: &impl Abort,
+    alloc: Global,
+    text: &str,
+    wanted: &[(char, u16)],
+) -> Result<(), Fail> {
+    assert!(rt; text.len() < 1000);
+    let cats = categories_in(alloc, text)??;
+    for pair in wanted {
+        let (c, want) = *pair;
+        assert_eq!(rt; cats.of(c), want, "of {c:?} in {text:?}");
     }
     Ok(())
 }
 
 #[test]
 fn look_ups(rt: HostRuntime) -> Result<(), Fail> {
-    for (text, c, want) in [
-        ("[a-c]; [b-d];", '`', 0),
-        ("[a-c]; [b-d];", 'a', 1),
-        ("[a-c]; [b-d];", 'b', 2),
-        ("[a-c]; [b-d];", 'c', 2),
-        ("[a-c]; [b-d];", 'd', 3),
-        ("[a-c]; [b-d];", 'e', 0),
-        ("\\U0010FFFF;", '\u{10FFFF}', 1),
-        ("\\U0010FFFF;", '\u{10FFFE}', 0),
-        ("\\U0010FFFF;", '\0', 0),
-        (".;", '\u{D7FF}', 1),
-        (".;", '\u{E000}', 1),
-    ] {
-        assert!(rt; text.len() < 1000);
-        let cats = categories_in(rt.alloc(), text)??;
-        assert_eq!(rt; cats.of(c), want, "of {c:?} in {text:?}");
-    }
-    Ok(())
+    let alloc = rt.alloc();
+    let letters = [('`', 0), ('a', 1), ('b', 2), ('c', 2), ('d', 3), ('e', 0)];
+    are_found(&rt, alloc, "[a-c]; [b-d];", &letters)?;
+    let last = [('\u{10FFFF}', 1), ('\u{10FFFE}', 0), ('\0', 0)];
+    are_found(&rt, alloc, "\\U0010FFFF;", &last)?;
+    are_found(&rt, alloc, ".;", &[('\u{D7FF}', 1), ('\u{E000}', 1)])
 }
 
 /// A rule of so many different characters, each a literal.
