@@ -1,5 +1,5 @@
 -- The classes get their numbers, stretch by stretch.
-use Rattle.std.proofs.Common.{◌≡◌, ◌≢◌, ℕ, zero, ◌+◌, ◌≤◌, ◌<◌, ◌⊎◌, List, length, get_or, set, ap, sym, ◌∙◌, inl, inr, arith, get_or-set_same}
+use Rattle.std.proofs.Common.{◌≡◌, ◌≢◌, ℕ, ◌+◌, ◌≤◌, ◌<◌, ◌⊎◌, List, length, get_or, set, ap, sym, ◌∙◌, inl, inr, arith, get_or-set_same}
 use Rattle.std.proofs.Common.{get_or-set_other}
 use Rattle.std.specs.Prelude.{replicate}
 use Rattle.std.proofs.Math.ListN.{length-set}
