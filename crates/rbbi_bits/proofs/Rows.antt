@@ -1,6 +1,6 @@
 -- Rows of bits, word by word and bit by bit.
 use Rattle.std.proofs.Common.{◌≡◌, ◌≢◌, ℕ, ◌+◌, ◌*◌, ◌/◌, ◌%◌, ◌^◌, ◌<◌, ◌≤◌, ◌⊎◌, ◌↔◌, Bool, true, false, ◌||◌, ◌&&◌, List, [], length, get_or, replicate}
-use Rattle.std.proofs.Common.{sym, ap, ◌∙◌, inl, inr, ⊎_elim, arith}
+use Rattle.std.proofs.Common.{refl, sym, ap, ◌∙◌, inl, inr, ⊎_elim, arith}
 use Rattle.std.specs.Prelude.{bit_and}
 use Rattle.std.specs.Int.RustNames.{bit_or}
 use Rattle.std.proofs.lemmas.Bool.{cases_lt, false≢true, or_cases, or_left, or_right, and_parts, and_from}
@@ -82,9 +82,15 @@ words_apart these those each place holds = λ holds'.
     let zero = ap (λ n. has_bit n (place % 64)) (each (place / 64)) ∙ no_bit (place % 64) in
     false≢true (sym zero ∙ both ∙ and_from (row_bit these place) (row_bit those place) holds holds')
 
--- rows of one length with the same bits are equal
+-- rows of one length that hold the same are equal
+same_tests : (a b : Bool) → (a ≡ true) ↔ (b ≡ true) → a ≡ b
+same_tests true b same = sym (same.0 refl)
+same_tests false true same = same.1 refl
+same_tests false false same = refl
+
 pub same_rows : (these those : List ℕ) → length these ≡ length those → ((k : ℕ) → get_or these k 0 < 2 ^ 64) → ((k : ℕ) → get_or those k 0 < 2 ^ 64) →
-    ((place : ℕ) → row_bit these place ≡ row_bit those place) → these ≡ those
+    ((place : ℕ) → Holds these place ↔ Holds those place) → these ≡ those
 same_rows these those long small small' same =
+    let bits : (place : ℕ) → row_bit these place ≡ row_bit those place = λ place. same_tests (row_bit these place) (row_bit those place) (same place) in
     ext_get_or 0 these those long (λ k _. same_words (get_or these k 0) (get_or those k 0) (small k) (small' k)
-    (λ t below. sym (word_bit these k t below) ∙ same (64 * k + t) ∙ word_bit those k t below))
+    (λ t below. sym (word_bit these k t below) ∙ bits (64 * k + t) ∙ word_bit those k t below))
