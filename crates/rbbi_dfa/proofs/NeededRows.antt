@@ -16,7 +16,7 @@ use Rattle.rbbi_dfa.proofs.LawfulLeaves.{each_set}
 use Rattle.rbbi_dfa.proofs.Grouping.{marks_by_parts, stop_along, alive}
 use Rattle.rbbi_dfa.proofs.Lists.{le_from_choices}
 use Rattle.rbbi_dfa.proofs.WordRows.{WordOf, HasRowsOfWords, row_of-within, Needs-from_words, not_stop, rows_apart}
-use Rattle.rbbi_dfa.proofs.Compiling.{AreWithin-from_valid, first_zero}
+use Rattle.rbbi_dfa.proofs.Compiling.{HaveCategoriesBelow-from_valid, first_zero}
 
 -- the first code point that stands for no character
 abbrev surrogate : ℕ
@@ -45,7 +45,7 @@ module _ (table : Table) (rules : List Rule) (has : HasRows table) (same : HasSa
     stop = plain_marks 0 has.stop;
     start = plain_marks 1 has.start;
     stop_leads = has.stop_leads;
-    within = AreWithin-from_valid table.categories table.ranges has.ranges;
+    within = HaveCategoriesBelow-from_valid table.categories table.ranges has.ranges;
     each = same.each;
   }
 
