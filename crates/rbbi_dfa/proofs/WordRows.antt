@@ -47,7 +47,7 @@ module _ (rules : List Rule) (table : Table) (ranges : List CategoryRange) (has 
   marks_after [] h = has.start
   marks_after (c ∷ w) h = has.each (c ∷ w) h (λ e. cc)
 
-  row_of-append : (these those : List ℕ) → row_of table ranges (these ++ those) ≡ row_along table (row_of table ranges these) (map (category_of ranges) those)
+  pub row_of-append : (these those : List ℕ) → row_of table ranges (these ++ those) ≡ row_along table (row_of table ranges these) (map (category_of ranges) those)
   row_of-append these those =
       ap (λ way. row_along table 1 way) (map-append (category_of ranges) these those)
       ∙ row_along_append table 1 (map (category_of ranges) these) (map (category_of ranges) those)
@@ -55,7 +55,7 @@ module _ (rules : List Rule) (table : Table) (ranges : List CategoryRange) (has 
   pub row_of-within : (w : List ℕ) → row_of table ranges w < length table.rows
   row_of-within w = along_within table has.next 1 (map (category_of ranges) w) (omega (arith, has.some)) (word_IsWay table ranges has.within w)
 
-  rest_marks : (w : List ℕ) (row : ℕ) (way : List ℕ) (rest : WordOf ranges way) → row_of table ranges w ≡ row →
+  pub rest_marks : (w : List ℕ) (row : ℕ) (way : List ℕ) (rest : WordOf ranges way) → row_of table ranges w ≡ row →
       marks_of table (row_along table row way) ≡ marks_of table (row_of table ranges (w ++ rest.0))
   rest_marks w row way rest at =
       ap (λ r. marks_of table r)
