@@ -1,4 +1,4 @@
-use Rattle.std.proofs.Common.{ap, sym, ◌∙◌, ◌/◌, ◌^◌, arith}
+use Rattle.std.proofs.Common.{ap, ◌/◌, ◌^◌}
 use Rattle.rbbi_once.specs.inner.Index.{bucket_of}
 use Rattle.rbbi_once.proofs.numbered.bucket_number.Goals as goal
 
