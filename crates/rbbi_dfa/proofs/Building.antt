@@ -18,11 +18,11 @@ use Rattle.rbbi_dfa.specs.Refusals.{refusal_of}
 use Rattle.rbbi_dfa.specs.inner.MarkedRows.{AreOf, AreReadable}
 use Rattle.rbbi_dfa.specs.inner.Automata.{IsDetermined, with_ranges}
 use Rattle.rbbi_dfa.specs.Builds.{AreCompilable, BuildsTable}
-use Rattle.rbbi_dfa.specs.inner.Categories.{AreWithin}
+use Rattle.rbbi_dfa.specs.inner.Categories.{HaveCategoriesBelow}
 use Rattle.rbbi_dfa.specs.inner.LeastTables.{GivesTable, finished}
 use Rattle.rbbi_dfa.proofs.LookAheads.{has_slash, look_aheads_by_marks}
 use Rattle.rbbi_dfa.proofs.RowsOfRules.{owners_are, marks_small}
-use Rattle.rbbi_dfa.proofs.Compiling.{AreWithin-from_valid, IsCompiled-finished, few_status_lists}
+use Rattle.rbbi_dfa.proofs.Compiling.{HaveCategoriesBelow-from_valid, IsCompiled-finished, few_status_lists}
 use Rattle.rbbi_dfa.proofs.RuleNeeds.{Needs-from_rows, NeedsRows-from_needs}
 
 module _
@@ -36,8 +36,8 @@ module _
     (few : ¬ HasLeafSets rules 16385)
     (unique : (w : List ℕ) (these those : Marks) → AreMarks rules w these → AreMarks rules w those → these ≡ those)
   where
-    within : AreWithin automaton.categories ranges
-    within = AreWithin-from_valid automaton.categories ranges valid
+    within : HaveCategoriesBelow automaton.categories ranges
+    within = HaveCategoriesBelow-from_valid automaton.categories ranges valid
 
     pub BuildsTable-from_gives : (result : Result Table BuildErr) → GivesTable automaton ranges result → BuildsTable rules result
     BuildsTable-from_gives (Ok table) h =

@@ -3,9 +3,9 @@ use Rattle.std.proofs.Common.{◌≡◌, ℕ, ◌+◌, ◌*◌, ◌<◌, ◌≤�
 use Rattle.std.proofs.lemmas.Bool.{cases_lt, cases_eq}
 use Rattle.std.proofs.lemmas.List.{get_or_append_left, get_or_push, get_or_past, length_push}
 use Rattle.std.proofs.lemmas.Nat.{mul-add-lt}
-use Rattle.rbbi_dfa.specs.inner.BitRows.{row_at}
+use Rattle.rbbi_once.specs.NumberedRows.{listed_row}
 use Rattle.rbbi_dfa.specs.inner.PositionRows.{PositionRows}
-use Rattle.rbbi_dfa.specs.inner.Determinizing.{AreFollowers, Completes, IsCell, LeadsOn, cell_of, AreReachedSets, AreCellsUpTo, Begin, AddsCells, AddsZeros}
+use Rattle.rbbi_dfa.specs.inner.Determinizing.{AreFollowers, Completes, IsCell, LeadsOn, cell_at, AreReachedSets, AreCellsUpTo, Begin, AddsCells, AddsZeros}
 use Rattle.rbbi_dfa.proofs.Lead.{cell_kept}
 
 pub no_zeros : (cells : List ℕ) → AddsZeros cells cells 0
@@ -48,7 +48,7 @@ module _ (rows : PositionRows) where
   -- cells of earlier rows
   earlier : (cells new : List ℕ) (count row category : ℕ) → length cells ≡ (count + 2) * rows.categories →
       ((k : ℕ) → k < length cells → get_or new k 0 ≡ get_or cells k 0) → row < count + 2 → category < rows.categories →
-      cell_of rows new row category ≡ cell_of rows cells row category
+      cell_at rows new row category ≡ cell_at rows cells row category
   earlier cells new count row category many kept before within =
       kept (row * rows.categories + category) (omega (arith, many, mul-add-lt row rows.categories category (count + 2) before within))
 
@@ -64,7 +64,7 @@ module _ (rows : PositionRows) where
   }
 
   pub cells_stop : (sets : List (List ℕ)) (cells new : List ℕ) (i : ℕ) → AreCellsUpTo rows sets cells i → AddsZeros cells new rows.categories →
-      Completes rows (row_at sets i) → Begin sets sets → AreCellsUpTo rows sets new (i + 1)
+      Completes rows (listed_row sets i) → Begin sets sets → AreCellsUpTo rows sets new (i + 1)
   cells_stop sets cells new i are adds completes begin =
       let same = λ (row category : ℕ) (before : row < i + 2) (within : category < rows.categories). earlier cells new i row category are.many adds.kept
       before within in
@@ -75,17 +75,17 @@ module _ (rows : PositionRows) where
         each = λ j short.
             ⊎_elim
             (λ here.
-            subst (λ n. LeadsOn rows sets (row_at sets n) (cell_of rows new (n + 2))) (sym here)
+            subst (λ n. LeadsOn rows sets (listed_row sets n) (cell_at rows new (n + 2))) (sym here)
             (inl (completes, λ category within. adds.zeros ((i + 2) * rows.categories + category) (omega (arith, are.many)))))
             (λ other.
             let before : j < i = omega (arith, short, other) in
-            lead_kept sets sets (row_at sets j) (cell_of rows cells (j + 2)) (cell_of rows new (j + 2)) begin
+            lead_kept sets sets (listed_row sets j) (cell_at rows cells (j + 2)) (cell_at rows new (j + 2)) begin
             (λ category within. same (j + 2) category (omega (arith, before)) within) (are.each j before))
             (cases_eq j i);
       }
 
   pub cells_go : (sets sets' : List (List ℕ)) (candidates cells new : List ℕ) (i : ℕ) → i < length sets → AreCellsUpTo rows sets cells i → Begin sets sets' →
-      AddsCells rows sets' candidates cells new rows.categories → ¬ Completes rows (row_at sets i) → AreFollowers rows (row_at sets i) candidates →
+      AddsCells rows sets' candidates cells new rows.categories → ¬ Completes rows (listed_row sets i) → AreFollowers rows (listed_row sets i) candidates →
       AreCellsUpTo rows sets' new (i + 1)
   cells_go sets sets' candidates cells new i within are begin adds unfinished followers =
       let same = λ (row category : ℕ) (before : row < i + 2) (small : category < rows.categories). earlier cells new i row category are.many adds.kept before
@@ -95,12 +95,12 @@ module _ (rows : PositionRows) where
         many = omega (arith, adds.many, are.many);
         stop = λ category small. same 0 category (omega arith) small ∙ are.stop category small;
         start = λ category small. subst (IsCell rows sets' rows.first category) (sym (same 1 category (omega arith) small))
-            (cell_kept rows sets sets' rows.first category (cell_of rows cells 1 category) begin (are.start category small));
+            (cell_kept rows sets sets' rows.first category (cell_at rows cells 1 category) begin (are.start category small));
         each = λ j short.
             ⊎_elim
             (λ here.
-            subst (λ n. LeadsOn rows sets' (row_at sets' n) (cell_of rows new (n + 2))) (sym here)
-            (subst (λ l. LeadsOn rows sets' l (cell_of rows new (i + 2))) (sym set_is)
+            subst (λ n. LeadsOn rows sets' (listed_row sets' n) (cell_at rows new (n + 2))) (sym here)
+            (subst (λ l. LeadsOn rows sets' l (cell_at rows new (i + 2))) (sym set_is)
             (inr (
               unfinished,
               (
@@ -113,8 +113,8 @@ module _ (rows : PositionRows) where
             ))))
             (λ other.
             let before : j < i = omega (arith, short, other) in
-            subst (λ l. LeadsOn rows sets' l (cell_of rows new (j + 2))) (sym (begin.1 j (omega (arith, before, within))))
-            (lead_kept sets sets' (row_at sets j) (cell_of rows cells (j + 2)) (cell_of rows new (j + 2)) begin
+            subst (λ l. LeadsOn rows sets' l (cell_at rows new (j + 2))) (sym (begin.1 j (omega (arith, before, within))))
+            (lead_kept sets sets' (listed_row sets j) (cell_at rows cells (j + 2)) (cell_at rows new (j + 2)) begin
             (λ category small. same (j + 2) category (omega (arith, before)) small) (are.each j before)))
             (cases_eq j i);
       }

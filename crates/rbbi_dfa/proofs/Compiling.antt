@@ -10,7 +10,7 @@ use Rattle.rbbi_model.specs.ValidTables.{IsValidRow, AreValidRanges, BeginsWithZ
 use Rattle.rbbi_model.specs.Marks.{Marks, AreMarks, marks_of, HasSameMarks}
 use Rattle.rbbi_model.specs.Compiled.{IsLeast, IsStatusList, HasStatusLists, AreClasses, IsCompiled}
 use Rattle.rbbi_dfa.specs.inner.Automata.{IsDetermined, with_ranges}
-use Rattle.rbbi_dfa.specs.inner.Categories.{AreWithin}
+use Rattle.rbbi_dfa.specs.inner.Categories.{HaveCategoriesBelow}
 use Rattle.rbbi_dfa.specs.inner.LeastTables.{IsLeastOf, finished}
 use Rattle.rbbi_dfa.proofs.Lists.{le_from_choices}
 use Rattle.rbbi_dfa.proofs.Grouping.{row_along-ranges}
@@ -18,8 +18,8 @@ use Rattle.rbbi_dfa.proofs.WordRows.{along_within, word_IsWay}
 use Rattle.rbbi_model.proofs.Categories.{category_within}
 use Rattle.rbbi_model.proofs.Lists.{all_at}
 
-pub AreWithin-from_valid : (categories : ℕ) (ranges : List CategoryRange) → AreValidRanges categories ranges → AreWithin categories ranges
-AreWithin-from_valid categories ranges h c = category_within categories ranges c h
+pub HaveCategoriesBelow-from_valid : (categories : ℕ) (ranges : List CategoryRange) → AreValidRanges categories ranges → HaveCategoriesBelow categories ranges
+HaveCategoriesBelow-from_valid categories ranges h c = category_within categories ranges c h
 
 pub first_zero : (lists : List (List ℕ)) → BeginsWithZeroAlone lists → slice_index_or lists 0 [] ≡ 0 ∷ []
 first_zero [] h = absurd h
@@ -84,8 +84,8 @@ module _
     (valid : AreValidRanges automaton.categories ranges)
     (least : IsLeastOf automaton table)
   where
-    within : AreWithin automaton.categories ranges
-    within = AreWithin-from_valid automaton.categories ranges valid
+    within : HaveCategoriesBelow automaton.categories ranges
+    within = HaveCategoriesBelow-from_valid automaton.categories ranges valid
 
     marks_after_word : (w : List ℕ) → marks_of table (row_along table 1 (map (category_of ranges) w)) ≡ marks_of automaton
         (row_along automaton 1 (map (category_of ranges) w))

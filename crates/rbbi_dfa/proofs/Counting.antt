@@ -6,7 +6,8 @@ use Rattle.rbbi_model.specs.Rules.{Rule, AreLawful}
 use Rattle.rbbi_model.specs.Tables.{Table, CategoryRange, category_of, row_along}
 use Rattle.rbbi_model.specs.LeafSets.{InLeafSet, HasLeafSets}
 use Rattle.rbbi_model.proofs.Lists.{all_by_index, all_at}
-use Rattle.rbbi_dfa.specs.inner.BitRows.{Holds, row_at}
+use Rattle.rbbi_bits.specs.BitRows.{Holds}
+use Rattle.rbbi_once.specs.NumberedRows.{listed_row}
 use Rattle.rbbi_dfa.specs.inner.PositionRows.{PositionRows}
 use Rattle.rbbi_dfa.specs.inner.PositionAutomata.{IsOfRules}
 use Rattle.rbbi_dfa.specs.inner.Determinizing.{HasReachedSets, IsDeterminized}
@@ -23,9 +24,9 @@ module _ (rules : List Rule) (lawful : AreLawful rules) (ranges : List CategoryR
   -- as many leaf sets as there are sets that are reached
   pub reached_are_leaf_sets : (count : ℕ) → HasReachedSets rows count → HasLeafSets rules count
   reached_are_leaf_sets count (sets, many, are) =
-      let words = picked (λ i w. IsWord w × IsSetOf rules lawful ranges rows of w (row_at sets i)) (length sets)
+      let words = picked (λ i w. IsWord w × IsSetOf rules lawful ranges rows of w (listed_row sets i)) (length sets)
       (λ i short.
-      let word = reached_word rules lawful ranges rows of (row_at sets i) (are.reached i short) (are.some i short) in
+      let word = reached_word rules lawful ranges rows of (listed_row sets i) (are.reached i short) (are.some i short) in
       (word.w, (word.is_word, word.set_of))) in
       record {
         words = words.0;
@@ -35,23 +36,23 @@ module _ (rules : List Rule) (lawful : AreLawful rules) (ranges : List CategoryR
             (λ i short.
             let short' : i < length sets = omega (arith, short, words.1) in
             let held = are.some i short' in
-            (held.0, (set_leaves (get_or words.0 i []) (row_at sets i) (words.2 i [] short').1 held.0).0 held.1));
+            (held.0, (set_leaves (get_or words.0 i []) (listed_row sets i) (words.2 i [] short').1 held.0).0 held.1));
         apart = λ i j d less short same.
             let short' : j < length sets = omega (arith, short, words.1) in
-            let this = set_leaves (get_or words.0 i d) (row_at sets i) (words.2 i d (omega (arith, less, short'))).1 in
-            let that = set_leaves (get_or words.0 j d) (row_at sets j) (words.2 j d short').1 in
+            let this = set_leaves (get_or words.0 i d) (listed_row sets i) (words.2 i d (omega (arith, less, short'))).1 in
+            let that = set_leaves (get_or words.0 j d) (listed_row sets j) (words.2 j d short').1 in
             are.apart i j less short' (λ p. (λ holds. (that p).1 ((same p).0 ((this p).0 holds)), λ holds. (this p).1 ((same p).1 ((that p).0 holds))));
       }
 
   module _ (sets : List (List ℕ)) (automaton : Table) (is : IsDeterminized rows sets automaton) where
     -- the number of the word's set
-    numbered : (w : List ℕ) → IsWord w × ((p : ℕ) × InLeafSet rules w p) → (n : ℕ) × ((n < length sets) × IsSetOf rules lawful ranges rows of w (row_at sets n))
+    numbered : (w : List ℕ) → IsWord w × ((p : ℕ) × InLeafSet rules w p) → (n : ℕ) × ((n < length sets) × IsSetOf rules lawful ranges rows of w (listed_row sets n))
     numbered w (word, (p, leaf)) =
         by_row (row_along automaton 1 (map (category_of ranges) w))
         (row_of_word rules lawful ranges rows of sets automaton is w (λ none. nothing_reads rules p (subst (λ l. ReadBy rules l p) none leaf.1)) word)
       where
         by_row : (row : ℕ) → IsRowOf rules lawful ranges rows of sets automaton is w row →
-            (n : ℕ) × ((n < length sets) × IsSetOf rules lawful ranges rows of w (row_at sets n))
+            (n : ℕ) × ((n < length sets) × IsSetOf rules lawful ranges rows of w (listed_row sets n))
         by_row _ (Stop row at (Ended ended)) = absurd (leaf.0 ended)
         by_row _ (Stop row at (Unread before none)) = absurd (none p leaf.1)
         by_row _ (Set row i at short set) = (i, (short, set))
@@ -59,13 +60,13 @@ module _ (rules : List Rule) (lawful : AreLawful rules) (ranges : List CategoryR
     -- there are no more leaf sets than sets that are reached
     pub no_more_leaf_sets : (count : ℕ) → length sets < count → HasLeafSets rules count → ⊥
     no_more_leaf_sets count few has =
-        let most = le_from_choices (λ i n. IsSetOf rules lawful ranges rows of (get_or has.words i []) (row_at sets n)) (length has.words) (length sets)
+        let most = le_from_choices (λ i n. IsSetOf rules lawful ranges rows of (get_or has.words i []) (listed_row sets n)) (length has.words) (length sets)
         (λ i short. numbered (get_or has.words i []) (
           all_at IsWord has.words i [] short has.are_words,
           all_at (λ w. (p : ℕ) × InLeafSet rules w p) has.words i [] short has.not_empty,
         ))
         (λ i j n less short set set'.
-        let this = set_leaves (get_or has.words i []) (row_at sets n) set in
-        let that = set_leaves (get_or has.words j []) (row_at sets n) set' in
+        let this = set_leaves (get_or has.words i []) (listed_row sets n) set in
+        let that = set_leaves (get_or has.words j []) (listed_row sets n) set' in
         has.apart i j [] less short (λ p. (λ leaf. (that p).0 ((this p).1 leaf), λ leaf. (this p).0 ((that p).1 leaf)))) in
         omega (arith, most, has.many, few)

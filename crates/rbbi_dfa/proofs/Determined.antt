@@ -10,7 +10,7 @@ use Rattle.rbbi_model.specs.Tables.{Table, CategoryRange, category_of, accept_of
 use Rattle.rbbi_model.specs.ValidTables.{IsWay}
 use Rattle.rbbi_model.specs.Marks.{Marks, no_marks, look_ahead_number, marks_of}
 use Rattle.rbbi_model.proofs.Rising.{rising_same}
-use Rattle.rbbi_dfa.specs.inner.BitRows.{row_at}
+use Rattle.rbbi_once.specs.NumberedRows.{listed_row}
 use Rattle.rbbi_dfa.specs.inner.Automata.{IsAutomatonRow}
 use Rattle.rbbi_dfa.specs.inner.PositionRows.{PositionRows}
 use Rattle.rbbi_dfa.specs.inner.PositionAutomata.{Marked, IsOfRules}
@@ -18,11 +18,7 @@ use Rattle.rbbi_dfa.specs.inner.Determinizing.{IsCell, HasMark, IsDeterminized}
 use Rattle.rbbi_dfa.proofs.WordRows.{word_IsWay}
 use Rattle.rbbi_dfa.proofs.Words.{IsSetOf, Ended, Unread, IsRowOf, Stop, Set, row_of_word, HasWord, reached_word}
 use Rattle.rbbi_model.proofs.LookAheadNumbers.{counts}
-
-pub rule_within : (rules : List Rule) (number : ℕ) (rule : Rule) → IsRule rules number rule → number < length rules
-rule_within [] number rule is = absurd (cc)
-rule_within (r ∷ rules) zero rule is = omega arith
-rule_within (r ∷ rules) (suc number) rule is = omega (arith, rule_within rules number rule is)
+use Rattle.rbbi_positions.proofs.Leaves.{rule_within}
 
 -- numbers of look-ahead rules are below their count
 pub number_small : (rules : List Rule) (number : ℕ) (rule : Rule) → IsRule rules number rule → LooksAhead rule →
@@ -82,7 +78,7 @@ module _ (rules : List Rule) (lawful : AreLawful rules) (ranges : List CategoryR
 
   set_row : (i : ℕ) → i < length sets → IsAutomatonRow automaton (i + 2)
   set_row i short =
-      let set : List ℕ = row_at sets i in
+      let set : List ℕ = listed_row sets i in
       let marks = is.marks i short in
       let row : ℕ = i + 2 in
       let slashes : automaton.slashes ≡ length (look_aheads rules) = is.slashes ∙ of.slashes in
@@ -141,8 +137,8 @@ module _ (rules : List Rule) (lawful : AreLawful rules) (ranges : List CategoryR
       (cases_eq row 0)
 
   -- sets of one word are one set
-  same_set : (w : List ℕ) (i j : ℕ) → i < length sets → j < length sets → IsSetOf rules lawful ranges rows of w (row_at sets i) →
-      IsSetOf rules lawful ranges rows of w (row_at sets j) → i ≡ j
+  same_set : (w : List ℕ) (i j : ℕ) → i < length sets → j < length sets → IsSetOf rules lawful ranges rows of w (listed_row sets i) →
+      IsSetOf rules lawful ranges rows of w (listed_row sets j) → i ≡ j
   same_set w i j short short' set set' =
       ⊎_elim (λ same. same)
       (⊎_elim
@@ -154,13 +150,13 @@ module _ (rules : List Rule) (lawful : AreLawful rules) (ranges : List CategoryR
 
   -- the row of a word is the one of its set
   row_is : (w : List ℕ) (row i : ℕ) → IsRowOf rules lawful ranges rows of sets automaton is w row → i < length sets →
-      IsSetOf rules lawful ranges rows of w (row_at sets i) → row ≡ i + 2
+      IsSetOf rules lawful ranges rows of w (listed_row sets i) → row ≡ i + 2
   row_is w _ i (Stop row at (Ended ended)) short set = absurd (set.open_before ended)
   row_is w _ i (Stop row at (Unread before none)) short set = let held = is.reached.some i short in absurd (none held.0 ((set.holds held.0).0 held.1))
   row_is w _ i (Set row j at short' set') short set = at ∙ ap (λ n. n + 2) (same_set w j i short' short set' set)
 
-  pub set_word : (i : ℕ) → i < length sets → HasWord rules lawful ranges rows of (row_at sets i)
-  set_word i short = reached_word rules lawful ranges rows of (row_at sets i) (is.reached.reached i short) (is.reached.some i short)
+  pub set_word : (i : ℕ) → i < length sets → HasWord rules lawful ranges rows of (listed_row sets i)
+  set_word i short = reached_word rules lawful ranges rows of (listed_row sets i) (is.reached.reached i short) (is.reached.some i short)
 
   pub each_reached : (row : ℕ) → row ≢ 0 → row < length automaton.rows → (way : List ℕ) × IsWay automaton way × (row_along automaton 1 way ≡ row)
   each_reached row some short =

@@ -3,9 +3,9 @@ use Rattle.std.proofs.Common.{◌≡◌, ℕ, ◌+◌, ◌*◌, List, [], length
 use Rattle.std.proofs.lemmas.Bool.{cases_eq}
 use Rattle.rbbi_model.specs.Tables.{Table, RowHead, empty_head, step}
 use Rattle.rbbi_model.specs.Marks.{Marks, no_marks}
-use Rattle.rbbi_dfa.specs.inner.BitRows.{row_at}
+use Rattle.rbbi_once.specs.NumberedRows.{listed_row}
 use Rattle.rbbi_dfa.specs.inner.PositionRows.{PositionRows}
-use Rattle.rbbi_dfa.specs.inner.Determinizing.{AreReachedSets, IsCell, cell_of, AreCellsUpTo, AreMarked, IsDeterminized}
+use Rattle.rbbi_dfa.specs.inner.Determinizing.{AreReachedSets, IsCell, cell_at, AreCellsUpTo, AreMarked, IsDeterminized}
 use Rattle.rbbi_dfa.proofs.Lead.{begin_refl}
 use Rattle.rbbi_dfa.proofs.Cells.{lead_kept}
 
@@ -20,7 +20,7 @@ pub is_determinized : (rows : PositionRows) (sets : List (List ℕ)) (categories
     IsDeterminized rows sets (automaton_of categories slashes heads lists cells)
 is_determinized rows sets categories slashes heads lists cells same same_slashes reached led marked =
     let automaton : Table = automaton_of categories slashes heads lists cells in
-    let at : (row category : ℕ) → step automaton row category ≡ cell_of rows cells row category =
+    let at : (row category : ℕ) → step automaton row category ≡ cell_at rows cells row category =
     λ row category. ap (λ n. get_or cells (row * n + category) 0) same in
     let plain : (head : RowHead) → head ≡ empty_head →
     (let m : Marks = record { accept = head.accept; fronts = head.fronts; statuses = get_or lists head.list [] } in m ≡ no_marks) =
@@ -34,7 +34,7 @@ is_determinized rows sets categories slashes heads lists cells same same_slashes
       cells = led.many ∙ ap (λ n. (length sets + 2) * n) (sym same) ∙ ap (λ n. n * categories) (sym marked.many);
       stop = λ category within. at 0 category ∙ led.stop category within;
       start = λ category within. subst (IsCell rows sets rows.first category) (sym (at 1 category)) (led.start category within);
-      each = λ i short. lead_kept rows sets sets (row_at sets i) (cell_of rows cells (i + 2)) (step automaton (i + 2)) (begin_refl rows sets)
+      each = λ i short. lead_kept rows sets sets (listed_row sets i) (cell_at rows cells (i + 2)) (step automaton (i + 2)) (begin_refl rows sets)
           (λ category within. at (i + 2) category) (led.each i short);
       lists_within = λ row short. omega (arith, marked.lists_within row (omega (arith, short, marked.many)), marked.many_lists);
       named = λ list short.

@@ -1,34 +1,19 @@
 -- The cells of one row, and the sets that they lead to.
 use Rattle.std.proofs.Common.{◌≡◌, ◌≢◌, ℕ, ◌+◌, ◌-◌, ◌*◌, ◌<◌, List, [], ◌∷◌, ◌++◌, length, get_or, refl, sym, ap, ◌∙◌, subst, inl, inr, ⊎_elim}
 use Rattle.std.proofs.Common.{arith}
-use Rattle.std.specs.Int.{bit_at}
 use Rattle.std.proofs.lemmas.Bool.{cases_eq}
-use Rattle.std.proofs.lemmas.List.{ext_get_or, get_or_append_left, get_or_push, length_push}
-use Rattle.std.proofs.lemmas.Nat.Bits.{bit_at-lt, same_from_bits_below}
-use Rattle.rbbi_dfa.specs.inner.BitRows.{Holds, row_at}
+use Rattle.std.proofs.lemmas.List.{get_or_append_left, get_or_push, length_push}
+use Rattle.rbbi_bits.specs.BitRows.{Holds}
+use Rattle.rbbi_once.specs.NumberedRows.{listed_row}
 use Rattle.rbbi_dfa.specs.inner.PositionRows.{PositionRows}
 use Rattle.rbbi_dfa.specs.inner.Determinizing.{IsStep, IsReached, FromFirst, FromSet, IsSome, AreDifferent, IsRow, AreReachedSets, IsCell, AreReachedCandidates}
 use Rattle.rbbi_dfa.specs.inner.Determinizing.{Begin, AddsCells, HasReachedSets}
-use Rattle.rbbi_dfa.specs.inner.LeafSetIndex.{IsAbsent, KeepsOrAdds}
-use Rattle.rbbi_dfa.proofs.Bits.{word_bit}
+use Rattle.rbbi_once.specs.NumberedRows.{IsUnlisted, KeepsOrAdds}
+use Rattle.rbbi_bits.proofs.Rows.{same_rows}
 
 -- rows of one width that differ hold different positions
 pub rows_apart : (width : ℕ) (these those : List ℕ) → IsRow width these → IsRow width those → these ≢ those → AreDifferent these those
-rows_apart width these those is is' other = λ same.
-    let word : (k : ℕ) → get_or these k 0 ≡ get_or those k 0 = λ k.
-    same_from_bits_below 64 (get_or these k 0) (get_or those k 0) (is.words k) (is'.words k)
-    (λ t small.
-    let low = bit_at-lt (get_or these k 0) t in
-    let low' = bit_at-lt (get_or those k 0) t in
-    ⊎_elim
-    (λ one. one ∙ sym (sym (word_bit those k t small) ∙ (same (64 * k + t)).0 (word_bit these k t small ∙ one)))
-    (λ none.
-    ⊎_elim
-    (λ one. absurd (none (sym (word_bit these k t small) ∙ (same (64 * k + t)).1 (word_bit those k t small ∙ one))))
-    (λ none'. omega (arith, low, low', none, none'))
-    (cases_eq (bit_at (get_or those k 0) t) 1))
-    (cases_eq (bit_at (get_or these k 0) t) 1)) in
-    other (ext_get_or 0 these those (is.wide ∙ sym is'.wide) (λ i _. word i))
+rows_apart width these those is is' other = λ same. other (same_rows these those (is.wide ∙ sym is'.wide) is.words is'.words same)
 
 module _ (rows : PositionRows) where
   pub reached_next : (candidates next : List ℕ) (category : ℕ) → AreReachedCandidates rows candidates → category < rows.categories →
@@ -40,17 +25,17 @@ module _ (rows : PositionRows) where
       reached
 
   -- one set more
-  pub sets_more : (sets : List (List ℕ)) (next : List ℕ) → AreReachedSets rows sets → IsAbsent sets next → IsRow rows.width next → IsReached rows next →
+  pub sets_more : (sets : List (List ℕ)) (next : List ℕ) → AreReachedSets rows sets → IsUnlisted sets next → IsRow rows.width next → IsReached rows next →
       IsSome next → AreReachedSets rows (sets ++ next ∷ [])
   sets_more sets next are absent row reached some =
       let new : List (List ℕ) = sets ++ next ∷ [] in
       let long = length_push sets next in
-      let old_at : (i : ℕ) → i < length sets → row_at new i ≡ row_at sets i = λ i short. get_or_append_left sets (next ∷ []) [] i short in
-      let new_at : row_at new (length sets) ≡ next = get_or_push sets next [] (length sets) refl in
-      let at : (P : List ℕ → Type 0) (i : ℕ) → i < length new → ((j : ℕ) → j < length sets → P (row_at sets j)) → P next → P (row_at new i) =
+      let old_at : (i : ℕ) → i < length sets → listed_row new i ≡ listed_row sets i = λ i short. get_or_append_left sets (next ∷ []) [] i short in
+      let new_at : listed_row new (length sets) ≡ next = get_or_push sets next [] (length sets) refl in
+      let at : (P : List ℕ → Type 0) (i : ℕ) → i < length new → ((j : ℕ) → j < length sets → P (listed_row sets j)) → P next → P (listed_row new i) =
       λ P i short old new'.
       ⊎_elim
-      (λ here. subst (λ n. P (row_at new n)) (sym here) (subst P (sym new_at) new'))
+      (λ here. subst (λ n. P (listed_row new n)) (sym here) (subst P (sym new_at) new'))
       (λ other. let short' : i < length sets = omega (arith, short, long, other) in subst P (sym (old_at i short')) (old i short'))
       (cases_eq i (length sets)) in
       record {
@@ -61,14 +46,14 @@ module _ (rows : PositionRows) where
             ⊎_elim
             (λ here.
             let short' : i < length sets = omega (arith, less, here) in
-            subst (λ l. AreDifferent l (row_at new j)) (sym (old_at i short'))
-            (subst (AreDifferent (row_at sets i)) (sym (ap (λ n. row_at new n) here ∙ new_at))
-            (rows_apart rows.width (row_at sets i) next (are.are_rows i short') row (absent i short'))))
+            subst (λ l. AreDifferent l (listed_row new j)) (sym (old_at i short'))
+            (subst (AreDifferent (listed_row sets i)) (sym (ap (λ n. listed_row new n) here ∙ new_at))
+            (rows_apart rows.width (listed_row sets i) next (are.are_rows i short') row (absent i short'))))
             (λ other.
             let short' : j < length sets = omega (arith, short, long, other) in
             let short'' : i < length sets = omega (arith, less, short') in
-            subst (λ l. AreDifferent l (row_at new j)) (sym (old_at i short''))
-            (subst (AreDifferent (row_at sets i)) (sym (old_at j short')) (are.apart i j less short')))
+            subst (λ l. AreDifferent l (listed_row new j)) (sym (old_at i short''))
+            (subst (AreDifferent (listed_row sets i)) (sym (old_at j short')) (are.apart i j less short')))
             (cases_eq j (length sets));
       }
 
@@ -89,7 +74,7 @@ module _ (rows : PositionRows) where
       ))
       kept
 
-  pub one_too_many : (sets : List (List ℕ)) (next : List ℕ) → AreReachedSets rows sets → length sets ≡ 16384 → IsAbsent sets next → IsRow rows.width next →
+  pub one_too_many : (sets : List (List ℕ)) (next : List ℕ) → AreReachedSets rows sets → length sets ≡ 16384 → IsUnlisted sets next → IsRow rows.width next →
       IsReached rows next → IsSome next → HasReachedSets rows 16385
   one_too_many sets next are many absent row reached some =
       (sets ++ next ∷ [], omega (arith, length_push sets next, many), sets_more sets next are absent row reached some)
@@ -108,7 +93,7 @@ module _ (rows : PositionRows) where
 
   -- no candidate reads the category
   abbrev pub IsUnread : List ℕ → ℕ → Type 0
-  IsUnread candidates category = (p : ℕ) → Holds candidates p → ¬ Holds (row_at rows.reads category) p
+  IsUnread candidates category = (p : ℕ) → Holds candidates p → ¬ Holds (listed_row rows.reads category) p
 
   pub empty_cell : (sets : List (List ℕ)) (candidates : List ℕ) (category cell : ℕ) → cell ≡ 0 → IsUnread candidates category →
       IsCell rows sets candidates category cell
@@ -117,16 +102,16 @@ module _ (rows : PositionRows) where
 
   -- some candidate reads the category, and comes next
   pub some_next : (candidates next : List ℕ) (category : ℕ) → IsStep rows candidates category next → (p : ℕ) × Holds candidates p ×
-      Holds (row_at rows.reads category) p → IsSome next
+      Holds (listed_row rows.reads category) p → IsSome next
   some_next candidates next category is read = (read.0, (is read.0).1 (read.2, inl read.1))
 
   pub set_cell : (sets : List (List ℕ)) (candidates next : List ℕ) (category number cell : ℕ) → cell ≡ number + 2 → number < length sets →
-      row_at sets number ≡ next → IsStep rows candidates category next → IsCell rows sets candidates category cell
+      listed_row sets number ≡ next → IsStep rows candidates category next → IsCell rows sets candidates category cell
   set_cell sets candidates next category number cell at short same is =
       inr (
         omega (arith, at),
         omega (arith, at, short),
-        subst (IsStep rows candidates category) (sym (ap (λ n. row_at sets n) (let e : cell - 2 ≡ number = omega (arith, at) in e) ∙ same)) is,
+        subst (IsStep rows candidates category) (sym (ap (λ n. listed_row sets n) (let e : cell - 2 ≡ number = omega (arith, at) in e) ∙ same)) is,
       )
 
   pub no_cells : (sets : List (List ℕ)) (candidates cells : List ℕ) → AddsCells rows sets candidates cells cells 0

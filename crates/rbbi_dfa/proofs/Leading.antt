@@ -21,7 +21,8 @@ use Rattle.rbbi_dfa.proofs.Spellings.{rule_stands, rule_sets_many}
 use Rattle.rbbi_model.proofs.RulesCover.{front_lies}
 use Rattle.rbbi_model.proofs.Local.{front_to_end, look_ahead_from, length_piece}
 use Rattle.rbbi_positions.specs.FollowPositions.{IsSpelled}
-use Rattle.rbbi_dfa.specs.inner.BitRows.{Holds, row_at}
+use Rattle.rbbi_bits.specs.BitRows.{Holds}
+use Rattle.rbbi_once.specs.NumberedRows.{listed_row}
 use Rattle.rbbi_dfa.specs.inner.Automata.{LeadsToMarks}
 use Rattle.rbbi_dfa.specs.inner.PositionRows.{PositionRows}
 use Rattle.rbbi_dfa.specs.inner.PositionAutomata.{IsOfRules}
@@ -121,7 +122,7 @@ module _ (rules : List Rule) (lawful : AreLawful rules) where
     marked : (row : ℕ) → 1 ≤ accept_of automaton row → marks_of automaton row ≢ no_marks
     marked row some = λ same. omega (arith, some, ap (λ (m : Marks). m.accept) same)
 
-    lead_from : (after before : List ℕ) (number p i : ℕ) → IsSpelled rules number (before ++ p ∷ after) → i < length sets → Holds (row_at sets i) p →
+    lead_from : (after before : List ℕ) (number p i : ℕ) → IsSpelled rules number (before ++ p ∷ after) → i < length sets → Holds (listed_row sets i) p →
         LeadsToMarks automaton (i + 2)
     lead_from [] before number p i spelled short holds =
         ([], tt, marked (i + 2) ((is.marks i short).accept.ended p holds ((of.last p).1 (number, (before, spelled)))))
@@ -206,13 +207,13 @@ module _ (rules : List Rule) (lawful : AreLawful rules) where
               subst (λ n. LookAheadEndsAt rules w 0 n number) (let same : 0 + e ≡ e = omega arith in same) here;
         }
 
-    front_row : (w : List ℕ) (i k : ℕ) → IsWord w → i < length sets → IsSetOf rules lawful ranges rows of w (row_at sets i) →
+    front_row : (w : List ℕ) (i k : ℕ) → IsWord w → i < length sets → IsSetOf rules lawful ranges rows of w (listed_row sets i) →
         accept_of automaton (i + 2) ≡ k + 2 →
         (earlier : ℕ) × (earlier < length w) × IsTrue (has_bit (fronts_of automaton (row_along automaton 1 (map (category_of ranges) (take earlier w)))) k)
     front_row w i k word short set accept =
         let has = (is.marks i short).accept.is_completed (omega (arith, accept)) in
         let same : accept_of automaton (i + 2) - 2 ≡ k = omega (arith, accept) in
-        let ended = mark_completed rules lawful ranges rows of w (row_at sets i) set (accept_of automaton (i + 2) - 2) has in
+        let ended = mark_completed rules lawful ranges rows of w (listed_row sets i) set (accept_of automaton (i + 2) - 2) has in
         let front = front_before w (length w) ended.0 ended.1.rule ended.1.is_rule ended.1.looks_ahead ended.1.ends in
         let q : ℕ = front.0 in
         let lies = front_lies rules w 0 q ended.0 front.2 in
@@ -241,10 +242,10 @@ module _ (rules : List Rule) (lawful : AreLawful rules) where
             ⊎_elim (λ less. less)
             (λ many.
             let has' = (is.marks j short').accept.is_completed many in
-            let ended' = mark_completed rules lawful ranges rows of v (row_at sets j) set' (accept_of automaton (j + 2) - 2) has' in
+            let ended' = mark_completed rules lawful ranges rows of v (listed_row sets j) set' (accept_of automaton (j + 2) - 2) has' in
             absurd (quiet (length v) ended'.0 (omega arith) ended'.1))
             (cases_lt (accept_of automaton (j + 2)) 2) in
-            let mark = front_mark rules lawful ranges rows of v (row_at sets j) set' k (record { number = number; numbered = numbered; front = front }) in
+            let mark = front_mark rules lawful ranges rows of v (listed_row sets j) set' k (record { number = number; numbered = numbered; front = front }) in
             subst (λ r. IsTrue (has_bit (fronts_of automaton r) k)) (sym at) (((is.marks j short').fronts small k).1 mark)
 
     pub are_fronted : AreFronted automaton

@@ -3,11 +3,8 @@ pub mod WalkReading
 pub mod Reading
 pub mod Words
 pub mod WordMarks
-pub mod Bits
 pub mod Lists
-pub mod RowLists
 pub mod Steps
-pub mod Buckets
 pub mod Lead
 pub mod Cells
 pub mod WordFollowers
@@ -37,4 +34,5 @@ pub mod Compiling
 pub mod Finishing
 pub mod Building
 pub mod NeededRows
+pub mod SameCounts
 pub mod LookAheads

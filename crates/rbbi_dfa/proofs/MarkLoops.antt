@@ -14,7 +14,8 @@ use Rattle.std.proofs.lemmas.Nat.Bits.{bit_at_set_same, bit_at_set_other}
 use Rattle.rbbi_model.specs.Places.{has_bit}
 use Rattle.rbbi_model.specs.Lists.{Member, IsRising}
 use Rattle.rbbi_model.proofs.MarksUnique.{bit_is_one, one_is_bit}
-use Rattle.rbbi_dfa.specs.inner.BitRows.{Holds, row_at}
+use Rattle.rbbi_bits.specs.BitRows.{Holds}
+use Rattle.rbbi_once.specs.NumberedRows.{listed_row}
 use Rattle.rbbi_model.specs.Tables.{RowHead, empty_head}
 use Rattle.rbbi_dfa.specs.inner.PositionRows.{PositionMark, PositionRows}
 use Rattle.rbbi_dfa.specs.inner.PositionAutomata.{Marked}
@@ -293,8 +294,8 @@ module _ (rows : PositionRows) (sets : List (List ℕ)) where
   }
 
   pub marked_more : (heads : List RowHead) (lists : List (List ℕ)) (count : ℕ) (head : RowHead) (statuses : List ℕ) → head.list ≡ count + 1 →
-      IsAccept rows (row_at sets count) head.accept → (head.accept < 2 → AreFrontsOf rows (row_at sets count) head.fronts) →
-      (2 ≤ head.accept → head.fronts ≡ 0) → head.fronts < 2 ^ rows.slashes → AreTagsOf rows (row_at sets count) statuses →
+      IsAccept rows (listed_row sets count) head.accept → (head.accept < 2 → AreFrontsOf rows (listed_row sets count) head.fronts) →
+      (2 ≤ head.accept → head.fronts ≡ 0) → head.fronts < 2 ^ rows.slashes → AreTagsOf rows (listed_row sets count) statuses →
       AreMarked rows sets heads lists count → AreMarked rows sets (heads ++ head ∷ []) (lists ++ statuses ∷ []) (count + 1)
   marked_more heads lists count head statuses list accept fronts no_fronts small tags are =
       let new : List RowHead = heads ++ head ∷ [] in
@@ -330,8 +331,8 @@ module _ (rows : PositionRows) (sets : List (List ℕ)) where
             let marks : marks_by new new_lists (i + 2) ≡ record { accept = head.accept; fronts = head.fronts; statuses = statuses } =
             ap (λ (h : RowHead). record { accept = h.accept; fronts = h.fronts; statuses = get_or new_lists h.list [] }) row
             ∙ ap (λ l. record { accept = head.accept; fronts = head.fronts; statuses = l }) (ap (λ n. get_or new_lists n []) list ∙ new_list) in
-            subst (AreMarksOf rows (row_at sets i)) (sym marks)
-            (subst (λ n. AreMarksOf rows (row_at sets n) (record { accept = head.accept; fronts = head.fronts; statuses = statuses })) (sym here)
+            subst (AreMarksOf rows (listed_row sets i)) (sym marks)
+            (subst (λ n. AreMarksOf rows (listed_row sets n) (record { accept = head.accept; fronts = head.fronts; statuses = statuses })) (sym here)
             (record { accept = accept; fronts = fronts; no_fronts = no_fronts; small_fronts = small; tags = tags })))
             (λ other.
             let before : i < count = omega (arith, short, other) in
@@ -341,7 +342,7 @@ module _ (rows : PositionRows) (sets : List (List ℕ)) where
             ap (λ (h : RowHead). record { accept = h.accept; fronts = h.fronts; statuses = get_or new_lists h.list [] }) row
             ∙ ap (λ l. record { accept = (get_or heads (i + 2) empty_head).accept; fronts = (get_or heads (i + 2) empty_head).fronts; statuses = l })
             (old_list (get_or heads (i + 2) empty_head).list within) in
-            subst (AreMarksOf rows (row_at sets i)) (sym marks) (are.each i before))
+            subst (AreMarksOf rows (listed_row sets i)) (sym marks) (are.each i before))
             (cases_eq i count);
       }
 

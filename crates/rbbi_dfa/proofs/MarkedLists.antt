@@ -1,18 +1,20 @@
 -- Lists of positions with their marks, position by position.
-use Rattle.std.proofs.Common.{◌≡◌, ℕ, ◌+◌, ◌<◌, ◌↔◌, Some, None, List, [], ◌∷◌, ◌++◌, length, get_or, sym, ap, ◌∙◌, subst, ⊎_elim, arith}
+use Rattle.std.proofs.Common.{◌≡◌, ℕ, ◌+◌, ◌<◌, ◌↔◌, true, false, ◌||◌, eqb, Some, None, List, [], ◌∷◌, ◌++◌, length, get_or, sym, ap, ◌∙◌, subst, ⊎_elim, arith}
 use Rattle.std.specs.Prelude.{unwrap_or}
 use Rattle.std.specs.List.{All, Contains}
 use Rattle.std.specs.List.Sorted.{IsPermutation}
 use Rattle.std.proofs.lemmas.List.{length_push, get_or_push, get_or_append_left}
 use Rattle.std.proofs.lemmas.List.Sorted.{Contains-permutation, IsPermutation-sym}
-use Rattle.std.proofs.lemmas.Bool.{cases_eq}
+use Rattle.std.specs.Prelude.{IsTrue}
+use Rattle.std.proofs.lemmas.Bool.{cases_eq, eqb-true, eq-eqb, false≢true, or_cases, or_left, or_right}
+use Rattle.rbbi_bits.specs.BitRows.{Holds, row_bit}
+use Rattle.rbbi_once.specs.NumberedRows.{listed_row}
 use Rattle.std.proofs.lemmas.List.Elements.{Contains-get_or, Contains-append_left, Contains-push, Contains-push_cases}
 use Rattle.rbbi_positions.specs.PositionMarks.{PositionMarks}
 use Rattle.rbbi_dfa.specs.declared.determinize.rows_of.ListKind.{ListKind}
-use Rattle.rbbi_dfa.specs.declared.determinize.rows_of.RowKind.{RowKind}
 use Rattle.rbbi_dfa.specs.inner.PositionRows.{PositionMark}
 use Rattle.rbbi_dfa.specs.inner.PositionAutomata.{Marked}
-use Rattle.rbbi_dfa.specs.inner.MarkedRows.{mark_in, IsRowBy, AreRowsBy, AreMarkedIn}
+use Rattle.rbbi_dfa.specs.inner.MarkedRows.{mark_in, begins_chained, AreRowsIn, AreMarkedIn}
 
 -- the list marks the positions below this one so
 abbrev pub AreMarkedUpTo : PositionMarks → ListKind → List PositionMark → ℕ → Type 0
@@ -57,18 +59,57 @@ module _ (marks : PositionMarks) (kind : ListKind) (list : List PositionMark) (c
   )
 
 -- rows with one more
-pub rows_more : (marks : PositionMarks) (kind : ℕ → RowKind) (rows : List (List ℕ)) (row : List ℕ) (count : ℕ) → AreRowsBy marks kind count rows →
-    IsRowBy marks (kind count) row → AreRowsBy marks kind (count + 1) (rows ++ row ∷ [])
-rows_more marks kind rows row count are is = record {
-  many = omega (arith, length_push rows row, are.many);
-  each = λ i short.
+pub rows_more : (width : ℕ) (row_of : ℕ → List ℕ) (rows : List (List ℕ)) (row : List ℕ) (count : ℕ) → AreRowsIn width count row_of rows →
+    length row ≡ width → row ≡ row_of count → AreRowsIn width (count + 1) row_of (rows ++ row ∷ [])
+rows_more width row_of rows row count are wide is =
+    let here : (i : ℕ) → i ≡ count → listed_row (rows ++ row ∷ []) i ≡ row = λ i same. get_or_push rows row [] i (are.many ∙ sym same) in
+    let before : (i : ℕ) → i < count → listed_row (rows ++ row ∷ []) i ≡ listed_row rows i =
+    λ i short. get_or_append_left rows (row ∷ []) [] i (omega (arith, short, are.many)) in
+    record {
+      many = omega (arith, length_push rows row, are.many);
+      wide = λ i short.
+          ⊎_elim
+          (λ same. ap length (here i same) ∙ wide)
+          (λ other. let short' : i < count = omega (arith, short, other) in ap length (before i short') ∙ are.wide i short')
+          (cases_eq i count);
+      each = λ i short.
+          ⊎_elim
+          (λ same. here i same ∙ is ∙ ap row_of (sym same))
+          (λ other. let short' : i < count = omega (arith, short, other) in before i short' ∙ are.each i short')
+          (cases_eq i count);
+    }
+
+-- the chained row of the positions below this one
+abbrev pub IsChainedUpTo : PositionMarks → List ℕ → ℕ → Type 0
+IsChainedUpTo marks row count = (position : ℕ) → Holds row position ↔ ((position < count) × IsTrue (begins_chained marks position))
+
+pub chained_takes : (marks : PositionMarks) (row new : List ℕ) (count : ℕ) → IsChainedUpTo marks row count → begins_chained marks count ≡ true →
+    ((position : ℕ) → row_bit new position ≡ (row_bit row position || eqb position count)) → IsChainedUpTo marks new (count + 1)
+chained_takes marks row new count are begins is p = (
+  λ holds.
       ⊎_elim
-      (λ here. subst (IsRowBy marks (kind i)) (sym (get_or_push rows row [] i (are.many ∙ sym here))) (subst (λ n. IsRowBy marks (kind n) row) (sym here) is))
-      (λ other.
-      let before : i < count = omega (arith, short, other) in
-      subst (IsRowBy marks (kind i)) (sym (get_or_append_left rows (row ∷ []) [] i (omega (arith, before, are.many)))) (are.each i before))
-      (cases_eq i count);
-}
+      (λ old. let below = (are p).0 old in (omega (arith, below.0), below.1))
+      (λ same.
+      let here : p ≡ count = eqb-true p count same in
+      (omega (arith, here), subst (λ n. IsTrue (begins_chained marks n)) (sym here) begins))
+      (or_cases (row_bit row p) (eqb p count) (sym (is p) ∙ holds)),
+  λ (short, chained). is p
+      ∙ ⊎_elim
+      (λ here. or_right (row_bit row p) (eqb p count) (eq-eqb p count here))
+      (λ apart. or_left (row_bit row p) (eqb p count) ((are p).1 (omega (arith, short, apart), chained)))
+      (cases_eq p count),
+)
+
+pub chained_stays : (marks : PositionMarks) (row : List ℕ) (count : ℕ) → IsChainedUpTo marks row count → begins_chained marks count ≡ false →
+    IsChainedUpTo marks row (count + 1)
+chained_stays marks row count are none p = (
+  λ holds. let below = (are p).0 holds in (omega (arith, below.0), below.1),
+  λ (short, chained).
+      ⊎_elim
+      (λ here. absurd (false≢true (sym none ∙ ap (λ n. begins_chained marks n) (sym here) ∙ chained)))
+      (λ apart. (are p).1 (omega (arith, short, apart), chained))
+      (cases_eq p count),
+)
 
 -- marks of a list that mark positions so
 pub marked_all : (marks : PositionMarks) (kind : ListKind) (list : List PositionMark) (P : ℕ → Type 0) → AreMarkedIn marks kind list →

@@ -36,7 +36,7 @@ IsBefore-trans (m ∷ these) (n ∷ those) (l ∷ last) (inr h) (inl k) = inl (o
 IsBefore-trans (m ∷ these) (n ∷ those) (l ∷ last) (inr h) (inr k) = inr (h.0 ∙ k.0, IsBefore-trans these those last h.1 k.1)
 
 -- a list that comes before all that follow it stands at no later place
-before_at : (statuses : List ℕ) (lists : List (List ℕ)) (i : ℕ) → AreInOrder (statuses ∷ lists) → i < length lists →
+pub before_at : (statuses : List ℕ) (lists : List (List ℕ)) (i : ℕ) → AreInOrder (statuses ∷ lists) → i < length lists →
     IsBefore statuses (slice_index_or lists i [])
 before_at statuses [] i h k = absurd (omega arith)
 before_at statuses (next ∷ lists) zero h k = h.0

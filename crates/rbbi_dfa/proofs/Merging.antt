@@ -11,7 +11,7 @@ use Rattle.rbbi_model.specs.Marks.{Marks, marks_of}
 use Rattle.rbbi_model.proofs.Lists.{all_by_index, all_at}
 use Rattle.rbbi_dfa.specs.inner.Automata.{IsDetermined}
 use Rattle.rbbi_dfa.specs.inner.Partitions.{IsPartition, IsMerged}
-use Rattle.rbbi_dfa.specs.inner.Ranks.{AreRising, AreRanked}
+use Rattle.rbbi_dfa.specs.inner.Ranks.{AreOrderedLists, AreRanked}
 use Rattle.rbbi_dfa.specs.inner.Numbers.{ArePlacesOf, AreUsed, AreNumbered, HaveCells, HaveHeads}
 use Rattle.rbbi_dfa.proofs.Grouping.{marks_by_parts}
 use Rattle.rbbi_dfa.proofs.Lists.{le_from_choices}
@@ -29,7 +29,7 @@ HaveCells-more automaton classes firsts cells more count cell h here e =
     })
 
 -- lists of which each comes before all later ones are in order
-pub AreInOrder-from_rising : (lists : List (List ℕ)) → AreRising lists → AreInOrder lists
+pub AreInOrder-from_rising : (lists : List (List ℕ)) → AreOrderedLists lists → AreInOrder lists
 AreInOrder-from_rising [] h = tt
 AreInOrder-from_rising (these ∷ []) h = tt
 AreInOrder-from_rising (these ∷ those ∷ lists) h =
@@ -41,7 +41,7 @@ before_zero_alone [] h = refl
 before_zero_alone (m ∷ these) (inl h) = absurd (omega arith)
 before_zero_alone (m ∷ these) (inr h) = absurd h.1
 
-begins_with_zero : (lists : List (List ℕ)) (i : ℕ) → AllByRecursion IsValidList lists → AreRising lists → i < length lists →
+begins_with_zero : (lists : List (List ℕ)) (i : ℕ) → AllByRecursion IsValidList lists → AreOrderedLists lists → i < length lists →
     slice_index_or lists i [] ≡ 0 ∷ [] → BeginsWithZeroAlone lists
 begins_with_zero [] i valid rising h e = absurd (omega arith)
 begins_with_zero (first ∷ lists) zero valid rising h e = e

@@ -95,16 +95,16 @@ module _ (automaton : Table) (classes firsts : List ℕ) (determined : IsDetermi
         (this ∙ sym that))) in
         omega (arith, few, needs.many, partition.some)
       where
-        row_at : (i : ℕ) → i < length needs.rows → (slice_index needs.rows i ≢ 0) × (slice_index needs.rows i < length automaton.rows)
-        row_at i short = all_at (λ row. (row ≢ 0) × (row < length automaton.rows)) needs.rows i 0 short needs.are_rows
+        listed_row : (i : ℕ) → i < length needs.rows → (slice_index needs.rows i ≢ 0) × (slice_index needs.rows i < length automaton.rows)
+        listed_row i short = all_at (λ row. (row ≢ 0) × (row < length automaton.rows)) needs.rows i 0 short needs.are_rows
 
         row_within : (i : ℕ) → i < length needs.rows → slice_index needs.rows i < length classes
-        row_within i short = omega (arith, (row_at i short).1, partition.rows)
+        row_within i short = omega (arith, (listed_row i short).1, partition.rows)
 
         some : (i : ℕ) → i < length needs.rows → 1 ≤ slice_index classes (slice_index needs.rows i)
         some i short =
             ⊎_elim
             (λ (z : slice_index classes (slice_index needs.rows i) < 1).
-            absurd ((row_at i short).0 (partition.alone (slice_index needs.rows i) (row_within i short) (omega arith))))
+            absurd ((listed_row i short).0 (partition.alone (slice_index needs.rows i) (row_within i short) (omega arith))))
             (λ (g : 1 ≤ slice_index classes (slice_index needs.rows i)). g)
             (cases_lt (slice_index classes (slice_index needs.rows i)) 1)

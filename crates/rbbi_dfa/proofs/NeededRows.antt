@@ -16,7 +16,7 @@ use Rattle.rbbi_dfa.proofs.LawfulLeaves.{each_set}
 use Rattle.rbbi_dfa.proofs.Grouping.{marks_by_parts, stop_along, alive}
 use Rattle.rbbi_dfa.proofs.Lists.{le_from_choices}
 use Rattle.rbbi_dfa.proofs.WordRows.{WordOf, HasRowsOfWords, row_of-within, Needs-from_words, not_stop, rows_apart}
-use Rattle.rbbi_dfa.proofs.Compiling.{AreWithin-from_valid, first_zero}
+use Rattle.rbbi_dfa.proofs.Compiling.{HaveCategoriesBelow-from_valid, first_zero}
 
 -- the first code point that stands for no character
 abbrev surrogate : ℕ
@@ -34,18 +34,18 @@ unread rules lawful (k, set, below, is, has) =
     subst IsWithout is (all_at IsWithout (all_sets rules) k set below (each_set IsWithout leaf_without rules lawful.each)) has
 
 module _ (table : Table) (rules : List Rule) (has : HasRows table) (same : HasSameMarks table rules) where
-  plain_marks : (row : ℕ) → IsPlain (head_of table row) → marks_of table row ≡ no_marks
+  pub plain_marks : (row : ℕ) → IsPlain (head_of table row) → marks_of table row ≡ no_marks
   plain_marks row plain =
       marks_by_parts (marks_of table row) no_marks plain.0 plain.1 (ap (λ list. statuses_of table list) plain.2 ∙ first_zero table.lists has.first_list)
 
-  rows_of_words : HasRowsOfWords rules table table.ranges
+  pub rows_of_words : HasRowsOfWords rules table table.ranges
   rows_of_words = record {
     some = has.some;
     next = has.next;
     stop = plain_marks 0 has.stop;
     start = plain_marks 1 has.start;
     stop_leads = has.stop_leads;
-    within = AreWithin-from_valid table.categories table.ranges has.ranges;
+    within = HaveCategoriesBelow-from_valid table.categories table.ranges has.ranges;
     each = same.each;
   }
 
@@ -74,25 +74,25 @@ module _ (table : Table) (rules : List Rule) (has : HasRows table) (same : HasSa
 
   module _ (lawful : AreLawful rules) (least : IsLeast table) (classes : AreClasses rules table.categories table.ranges) where
     -- each category is that of a code point
-    used : (category : ℕ) → category < table.categories → (c : ℕ) × (IsCodePoint c × (category_of table.ranges c ≡ category))
+    pub used : (category : ℕ) → category < table.categories → (c : ℕ) × (IsCodePoint c × (category_of table.ranges c ≡ category))
     used zero h = (surrogate, (omega arith, (classes.none surrogate (omega arith)).1 (unread rules lawful)))
     used (suc category) h = let c = classes.used (suc category) (omega arith) h in (c.0, (c.1, c.2))
 
-    word_of : (way : List ℕ) → IsWay table way → WordOf table.ranges way
+    pub word_of : (way : List ℕ) → IsWay table way → WordOf table.ranges way
     word_of [] h = ([], (tt, refl))
     word_of (category ∷ way) h =
         let c = used category h.0 in
         let rest = word_of way h.1 in
         (c.0 ∷ rest.0, ((c.1.0, rest.1.0), λ i. c.1.1 i ∷ rest.1.1 i))
 
-    word_to : (row : ℕ) → row ≢ 0 → row < length table.rows → (w : List ℕ) × (IsWord w × (row_after table w ≡ row))
+    pub word_to : (row : ℕ) → row ≢ 0 → row < length table.rows → (w : List ℕ) × (IsWord w × (row_after table w ≡ row))
     word_to row some h =
         let way = least.reached row some h in
         let w = word_of way.0 way.1 in
         (w.0, (w.1.0, ap (λ categories. row_along table 1 categories) w.1.1 ∙ way.2))
 
     -- a row is told apart from row 0, where nothing ever ends
-    leads_on : (row : ℕ) → 2 ≤ row → row < length table.rows → LeadsToMarks table row
+    pub leads_on : (row : ℕ) → 2 ≤ row → row < length table.rows → LeadsToMarks table row
     leads_on row two h =
         let apart = least.apart 0 row (omega (arith, two)) h (λ e. absurd (omega (arith, e.1, two))) in (
           apart.0,

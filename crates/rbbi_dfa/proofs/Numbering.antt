@@ -6,7 +6,7 @@ use Rattle.std.proofs.lemmas.List.{get_or_append_left, get_or_push, length_push}
 use borrow.Author.Count.{below_more}
 use Rattle.rbbi_model.specs.Tables.{Table, list_of}
 use Rattle.rbbi_model.specs.ValidTables.{IsBefore}
-use Rattle.rbbi_dfa.specs.inner.Ranks.{AreRising}
+use Rattle.rbbi_dfa.specs.inner.Ranks.{AreOrderedLists}
 use Rattle.rbbi_dfa.specs.inner.Numbers.{AreNumbered}
 
 -- the places of so many classes
@@ -61,14 +61,14 @@ module _ (used : List Bool) (sorted : List (List ℕ)) (count : ℕ) (numbers : 
     list_here statuses = get_or_push lists statuses [] (length lists) refl
 
     -- each list so far comes before that of the next place
-    before_next : AreRising sorted → count < length sorted → (i : ℕ) → i < length lists → IsBefore (slice_index_or lists i []) (slice_index_or sorted count [])
+    before_next : AreOrderedLists sorted → count < length sorted → (i : ℕ) → i < length lists → IsBefore (slice_index_or lists i []) (slice_index_or sorted count [])
     before_next rising within i l =
         let found = h.only i l in
         let same : slice_index_or lists i [] ≡ slice_index_or sorted found.0 [] =
         ap (λ n. slice_index_or lists n []) (sym found.3) ∙ h.same found.0 found.1 found.2 in
         subst (λ (these : List ℕ). IsBefore these (slice_index_or sorted count [])) (sym same) (rising found.0 count found.1 within)
 
-    pub AreNumbered-used : (more : List ℕ) (others : List (List ℕ)) (statuses : List ℕ) → AreRising sorted → count < length sorted →
+    pub AreNumbered-used : (more : List ℕ) (others : List (List ℕ)) (statuses : List ℕ) → AreOrderedLists sorted → count < length sorted →
         slice_index_or used count false ≡ true → statuses ≡ slice_index_or sorted count [] →
         more ≡ numbers ++ length lists ∷ [] → others ≡ lists ++ statuses ∷ [] → AreNumbered used sorted (count + 1) more others
     AreNumbered-used more others statuses rising within is_used is e f =

@@ -12,7 +12,7 @@ use Rattle.rbbi_model.specs.Compiled.{LeadsSomewhere, Needs}
 use Rattle.rbbi_model.proofs.Lists.{all_by_index, all_at}
 use Rattle.rbbi_dfa.specs.inner.Automata.{IsDetermined, with_ranges}
 use Rattle.rbbi_dfa.specs.inner.Partitions.{IsToldApart, NeedsRows}
-use Rattle.rbbi_dfa.specs.inner.Categories.{AreUsed, AreWithin}
+use Rattle.rbbi_dfa.specs.inner.Categories.{AreUsed, HaveCategoriesBelow}
 use Rattle.rbbi_dfa.proofs.Grouping.{row_along-ranges, stop_along, alive}
 use Rattle.rbbi_dfa.proofs.WordRows.{row_of, WordOf, HasRowsOfWords, row_of-within, Needs-from_words, not_stop, rows_apart}
 
@@ -22,7 +22,7 @@ module _
     (automaton : Table)
     (determined : IsDetermined automaton)
     (same : HasSameMarks (with_ranges automaton ranges) rules)
-    (within : AreWithin automaton.categories ranges)
+    (within : HaveCategoriesBelow automaton.categories ranges)
   where
     rows_of_words : HasRowsOfWords rules automaton ranges
     rows_of_words = record {
@@ -66,29 +66,29 @@ module _
       pub Needs-from_rows : (count : ℕ) → 2 ≤ count → NeedsRows automaton count → Needs rules count
       Needs-from_rows count two needs =
           Needs-from_words rules automaton ranges rows_of_words count (λ i. slice_index needs.rows i)
-          (λ i h. let row = row_at i (omega (arith, needs.many)) in word_to (slice_index needs.rows i) row.0 row.1)
+          (λ i h. let row = listed_row i (omega (arith, needs.many)) in word_to (slice_index needs.rows i) row.0 row.1)
           (λ i j less h.
-          let this = row_at i (omega (arith, needs.many)) in
-          let that = row_at j (omega (arith, needs.many)) in
+          let this = listed_row i (omega (arith, needs.many)) in
+          let that = listed_row j (omega (arith, needs.many)) in
           let apart = needs.apart i j 0 less (omega (arith, needs.many)) in
           (apart.0, rest_of (slice_index needs.rows i) (slice_index needs.rows j) this.1 that.1 apart, apart.2))
           (λ i h.
-          let row = row_at i (omega (arith, needs.many)) in
+          let row = listed_row i (omega (arith, needs.many)) in
           let on = alive automaton determined.reached determined.lead three (slice_index needs.rows i) row.0 row.1 in (
             on.0,
             word_along (slice_index needs.rows i) on.0 row.1 on.1 (λ z. on.2 (ap (λ row. marks_of automaton row) z ∙ determined.stop)),
             on.2,
           ))
         where
-          row_at : (i : ℕ) → i < length needs.rows → (slice_index needs.rows i ≢ 0) × (slice_index needs.rows i < length automaton.rows)
-          row_at i h = all_at (λ row. (row ≢ 0) × (row < length automaton.rows)) needs.rows i 0 h needs.are_rows
+          listed_row : (i : ℕ) → i < length needs.rows → (slice_index needs.rows i ≢ 0) × (slice_index needs.rows i < length automaton.rows)
+          listed_row i h = all_at (λ row. (row ≢ 0) × (row < length automaton.rows)) needs.rows i 0 h needs.are_rows
 
           three : 3 ≤ length automaton.rows
           three =
               ⊎_elim
               (λ (few : length automaton.rows < 3).
-              let first = row_at 0 (omega (arith, needs.many)) in
-              let second = row_at 1 (omega (arith, needs.many)) in
+              let first = listed_row 0 (omega (arith, needs.many)) in
+              let second = listed_row 1 (omega (arith, needs.many)) in
               let apart = needs.apart 0 1 0 (omega arith) (omega (arith, needs.many)) in
               let equal : slice_index needs.rows 0 ≡ slice_index needs.rows 1 = omega (arith, first.0, first.1, second.0, second.1) in
               absurd (apart.2 (ap (λ row. marks_of automaton (row_along automaton row apart.0)) equal)))

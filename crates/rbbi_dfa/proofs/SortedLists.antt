@@ -14,7 +14,7 @@ use Rattle.std.proofs.lemmas.List.Sorted.{Contains-permutation, searchable_from_
 use Rattle.std.proofs.lemmas.List.Kept.{IsStrictlySortedBy-dedup, Any-dedup}
 use Rattle.std.proofs.lemmas.Slice.Eq.{bytes_eq-Decides}
 use Rattle.rbbi_model.specs.ValidTables.{IsBefore}
-use Rattle.rbbi_dfa.specs.inner.Ranks.{AreRising, AreSorted}
+use Rattle.rbbi_dfa.specs.inner.Ranks.{AreOrderedLists, AreSorted}
 use Rattle.rbbi_dfa.proofs.Merged.{IsBefore-irreflexive, IsBefore-trans}
 
 less_cons : (x y : ℕ) (rest : Ordering) → ordering_then (nat_cmp x y) rest ≡ Less → (x < y) ⊎ ((x ≡ y) × (rest ≡ Less))
@@ -101,7 +101,7 @@ module _ {X : Type 0} (f : X → List ℕ) where
   at_map : (xs : List X) (k : ℕ) (d : X) → k < length xs → slice_index_or (map f xs) k [] ≡ f (get_or xs k d)
   at_map xs k d h = get_or-map f xs k d [] h
 
-  sorted_by : (xs : List X) → AreRising (map f xs) → IsSortedBy (λ x y. is_lt (Cmp x y)) xs
+  sorted_by : (xs : List X) → AreOrderedLists (map f xs) → IsSortedBy (λ x y. is_lt (Cmp x y)) xs
   sorted_by xs rising k d low high =
       let before : IsBefore (f (get_or xs k d)) (f (get_or xs (k + 1) d)) =
       subst (λ (those : List ℕ). IsBefore (f (get_or xs k d)) those) (at_map xs (k + 1) d high)
@@ -119,7 +119,7 @@ module _ {X : Type 0} (f : X → List ℕ) where
       at_map xs place x h ∙ (bytes_eq-Decides (f (get_or xs place x)) (f x)).0 (texts_ties (f (get_or xs place x)) (f x) ∙ ap is_eq (e x))
 
   -- a search for a list that is there finds one
-  pub found_some : (xs : List X) (x : X) (i : ℕ) → AreRising (map f xs) → Contains (map f xs) (f x) →
+  pub found_some : (xs : List X) (x : X) (i : ℕ) → AreOrderedLists (map f xs) → Contains (map f xs) (f x) →
       (IsNonDecreasingBy (λ y. ordering_index (Cmp y x)) xs → IsPartitionPoint (λ y. Cmp y x ≡ Less) (λ y. Cmp y x ≡ Greater) xs i) → ⊥
   found_some xs x i rising held h =
       let point = h (searchable_from_sorted nat_list_cmp_total f xs (f x) (sorted_by xs rising)) in

@@ -6,7 +6,7 @@ use Rattle.std.proofs.lemmas.Bool.{cases_eq}
 use Rattle.rbbi_model.specs.Tables.{Table, step}
 use Rattle.rbbi_model.specs.Marks.{marks_of}
 use Rattle.rbbi_dfa.specs.inner.Automata.{IsDetermined}
-use Rattle.rbbi_dfa.specs.inner.Partitions.{IsPartition, IsToldApart, AreSides, Leaves, leads_inside}
+use Rattle.rbbi_dfa.specs.inner.Partitions.{IsPartition, IsToldApart, AreSides, LeavesClass, leads_inside}
 use Rattle.rbbi_dfa.proofs.Splits.{IsMoved, IsSplitUpTo, IsSplitUpTo-same}
 
 -- rows that lead by one category to rows that are told apart are told apart
@@ -44,7 +44,7 @@ module _
     Moved row after = IsMoved automaton classes inside class category (Side First) (length firsts) row after
 
     abbrev Goes : ℕ → Type 0
-    Goes row = Leaves automaton classes inside class category (Side First) row
+    Goes row = LeavesClass automaton classes inside class category (Side First) row
 
     next_row : (row : ℕ) → row < length classes → step automaton row category < length classes
     next_row row h =

@@ -5,13 +5,13 @@ use Rattle.std.proofs.lemmas.List.{get_or_append_left, get_or_push, length_push}
 use Rattle.std.proofs.lemmas.Bool.{false≢true}
 use borrow.Author.Count.{below_more}
 use Rattle.rbbi_model.specs.Tables.{Table}
-use Rattle.rbbi_dfa.specs.inner.Partitions.{Leaves}
+use Rattle.rbbi_dfa.specs.inner.Partitions.{LeavesClass}
 
 -- the row has moved to the new class where it leaves, and is in its class where it doesn't
 abbrev pub IsMoved : Table → List ℕ → List Bool → ℕ → ℕ → Bool → ℕ → ℕ → ℕ → Type 0
 IsMoved automaton classes inside class category stays new row after =
-    (Leaves automaton classes inside class category stays row × (after ≡ new))
-    ⊎ ((¬ Leaves automaton classes inside class category stays row) × (after ≡ slice_index classes row))
+    (LeavesClass automaton classes inside class category stays row × (after ≡ new))
+    ⊎ ((¬ LeavesClass automaton classes inside class category stays row) × (after ≡ slice_index classes row))
 
 -- what is known after so many rows
 pub record IsSplitUpTo (automaton : Table) (classes : List ℕ) (inside : List Bool) (class category : ℕ) (stays : Bool) (new row : ℕ) (after : List ℕ)
@@ -19,15 +19,15 @@ pub record IsSplitUpTo (automaton : Table) (classes : List ℕ) (inside : List B
   pub length_is : length after ≡ row
   pub few : left ≤ row
   pub each : (k : ℕ) → k < row → IsMoved automaton classes inside class category stays new k (slice_index after k)
-  pub some : 0 < left → (leaver < row) × Leaves automaton classes inside class category stays leaver
-  pub none : left ≡ 0 → (k : ℕ) → k < row → ¬ Leaves automaton classes inside class category stays k
+  pub some : 0 < left → (leaver < row) × LeavesClass automaton classes inside class category stays leaver
+  pub none : left ≡ 0 → (k : ℕ) → k < row → ¬ LeavesClass automaton classes inside class category stays k
 
 module _ (automaton : Table) (classes : List ℕ) (inside : List Bool) (class category : ℕ) (stays : Bool) (new : ℕ) where
   abbrev Split : ℕ → List ℕ → ℕ → ℕ → Type 0
   Split row after left leaver = IsSplitUpTo automaton classes inside class category stays new row after left leaver
 
   abbrev Goes : ℕ → Type 0
-  Goes row = Leaves automaton classes inside class category stays row
+  Goes row = LeavesClass automaton classes inside class category stays row
 
   pub IsSplitUpTo-none : (after : List ℕ) (leaver : ℕ) → after ≡ [] → Split 0 after 0 leaver
   IsSplitUpTo-none after leaver e = record {
@@ -73,18 +73,18 @@ module _ (automaton : Table) (classes : List ℕ) (inside : List Bool) (class ca
       })
 
   pub IsSplitUpTo-takes : (row : ℕ) (after more : List ℕ) (left leaver : ℕ) (others : List ℕ) (takes : Bool) → others ≡ classes →
-      (IsTrue takes ↔ Leaves automaton others inside class category stays row) → takes ≡ true → Split row after left leaver → more ≡ after ++ new ∷ [] →
+      (IsTrue takes ↔ LeavesClass automaton others inside class category stays row) → takes ≡ true → Split row after left leaver → more ≡ after ++ new ∷ [] →
       Split (row + 1) more (left + 1) row
   IsSplitUpTo-takes row after more left leaver others takes same answer is h e =
-      IsSplitUpTo-leaves row after more left leaver h (subst (λ (xs : List ℕ). Leaves automaton xs inside class category stays row) same (answer.0 is)) e
+      IsSplitUpTo-leaves row after more left leaver h (subst (λ (xs : List ℕ). LeavesClass automaton xs inside class category stays row) same (answer.0 is)) e
 
   pub IsSplitUpTo-keeps : (row : ℕ) (after more : List ℕ) (left leaver : ℕ) (others : List ℕ) (takes : Bool) (old : ℕ) → others ≡ classes →
-      (IsTrue takes ↔ Leaves automaton others inside class category stays row) → takes ≡ false → Split row after left leaver →
+      (IsTrue takes ↔ LeavesClass automaton others inside class category stays row) → takes ≡ false → Split row after left leaver →
       old ≡ slice_index classes row → more ≡ after ++ old ∷ [] → Split (row + 1) more left leaver
   IsSplitUpTo-keeps row after more left leaver others takes old same answer is h read e =
       IsSplitUpTo-stays row after more left leaver h
       (λ goes.
-      let yes : takes ≡ true = answer.1 (subst (λ (xs : List ℕ). Leaves automaton xs inside class category stays row) (sym same) goes) in
+      let yes : takes ≡ true = answer.1 (subst (λ (xs : List ℕ). LeavesClass automaton xs inside class category stays row) (sym same) goes) in
       absurd (false≢true (sym is ∙ yes)))
       (e ∙ ap (λ n. after ++ n ∷ []) read)
 

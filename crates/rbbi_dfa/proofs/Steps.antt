@@ -1,18 +1,13 @@
 -- One step: what can follow a set, and what of it comes by a category.
 use Rattle.std.proofs.Common.{◌≡◌, ℕ, ◌/◌, ◌%◌, ◌<◌, ◌≤◌, ◌⊎◌, ◌↔◌, List, [], length, get_or, sym, ap, ◌∙◌, subst, inl, inr, ⊎_elim, arith, ◌*◌}
 use Rattle.std.proofs.lemmas.Bool.{cases_lt}
-use Rattle.std.proofs.lemmas.List.{get_or_past, get_or_default}
-use Rattle.std.proofs.lemmas.Nat.Bits.{bit_at-zero}
-use Rattle.std.specs.Int.{bit_at}
-use Rattle.rbbi_dfa.specs.inner.BitRows.{Holds, row_at}
+use Rattle.std.proofs.lemmas.List.{get_or_default}
+use Rattle.rbbi_bits.specs.BitRows.{Holds}
+use Rattle.rbbi_bits.proofs.Rows.{none_past}
+use Rattle.rbbi_once.specs.NumberedRows.{listed_row}
 use Rattle.rbbi_dfa.specs.inner.PositionRows.{PositionMark, PositionRows}
 use Rattle.rbbi_dfa.specs.inner.PositionAutomata.{Marked}
 use Rattle.rbbi_dfa.specs.inner.Determinizing.{IsStep, AreFollowers, AreFollowersUpTo}
-
-pub empty_holds : (row : List ℕ) (p : ℕ) → row ≡ [] → ¬ Holds row p
-empty_holds row p none = λ holds.
-    let zero : bit_at (get_or row (p / 64) 0) (p % 64) ≡ 0 = ap (λ l. bit_at (get_or l (p / 64) 0) (p % 64)) none ∙ bit_at-zero (p % 64) in
-    omega (arith, zero, holds)
 
 pub followers_all : (rows : PositionRows) (set candidates : List ℕ) (i : ℕ) → length set ≤ i → AreFollowersUpTo rows.follow set (64 * i) candidates →
     AreFollowers rows set candidates
@@ -21,19 +16,16 @@ followers_all rows set candidates i all before p = (
   λ (q, at, follows).
       ⊎_elim
       (λ short. (before p).1 (q, short, at, follows))
-      (λ past.
-      let bit : bit_at (get_or set (q / 64) 0) (q % 64) ≡ 0 = ap (λ n. bit_at n (q % 64)) (get_or_past set (q / 64) 0 (omega (arith, all, past)))
-      ∙ bit_at-zero (q % 64) in
-      absurd (omega (arith, bit, at)))
+      (λ past. absurd (none_past set q (omega (arith, all, past)) at))
       (cases_lt q (64 * i)),
 )
 
-module _ (rows : PositionRows) (candidates : List ℕ) (category : ℕ) (reads last chained both : List ℕ) (reads_is : row_at rows.reads category ≡ reads)
+module _ (rows : PositionRows) (candidates : List ℕ) (category : ℕ) (reads last chained both : List ℕ) (reads_is : listed_row rows.reads category ≡ reads)
     (last_is : last ≡ rows.last) (chained_is : chained ≡ rows.chained) (met : (p : ℕ) → Holds both p ↔ (Holds candidates p × Holds reads p)) where
-  here : (p : ℕ) → Holds reads p → Holds (row_at rows.reads category) p
+  here : (p : ℕ) → Holds reads p → Holds (listed_row rows.reads category) p
   here p = subst (λ l. Holds l p) (sym reads_is)
 
-  back : (p : ℕ) → Holds (row_at rows.reads category) p → Holds reads p
+  back : (p : ℕ) → Holds (listed_row rows.reads category) p → Holds reads p
   back p = subst (λ l. Holds l p) reads_is
 
   -- no candidate ends

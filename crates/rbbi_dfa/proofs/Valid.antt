@@ -10,7 +10,7 @@ use Rattle.rbbi_model.specs.ValidTables.{IsValidList}
 use Rattle.rbbi_model.specs.Marks.{Marks}
 use Rattle.rbbi_model.proofs.Rising.{rising_tail, less_than_later}
 use Rattle.rbbi_model.proofs.Lists.{all_by_index, all_at, all_through}
-use Rattle.rbbi_dfa.specs.inner.BitRows.{row_at}
+use Rattle.rbbi_once.specs.NumberedRows.{listed_row}
 use Rattle.rbbi_dfa.specs.inner.Automata.{IsDetermined}
 use Rattle.rbbi_dfa.specs.inner.PositionRows.{PositionRows}
 use Rattle.rbbi_dfa.specs.inner.PositionAutomata.{Marked, Tagged, IsOfRules}
@@ -18,7 +18,8 @@ use Rattle.rbbi_dfa.specs.inner.Determinizing.{HasMark, AreTagsOf, IsDeterminize
 use Rattle.rbbi_dfa.proofs.WalkReading.{same_rule, lawful_rule}
 use Rattle.rbbi_dfa.proofs.MarkLoops.{member_at}
 use Rattle.rbbi_dfa.proofs.Lists.{le_from_choices}
-use Rattle.rbbi_dfa.proofs.Determined.{zero_alone, rule_within, each_row, each_reached}
+use Rattle.rbbi_dfa.proofs.Determined.{zero_alone, each_row, each_reached}
+use Rattle.rbbi_positions.proofs.Leaves.{rule_within}
 use Rattle.rbbi_dfa.proofs.Leading.{each_leads, are_fronted}
 
 zero_valid : IsValidList (0 ∷ [])
@@ -105,7 +106,7 @@ module _ (rules : List Rule) (lawful : AreLawful rules) where
           let at : i + 2 ≡ row = omega (arith, some, more) in
           let marks = is.marks i (omega (arith, named.1, is.many, at)) in
           subst (λ r. IsValidList (statuses_of automaton (list_of automaton r))) at
-          (tags_valid (row_at sets i) (statuses_of automaton (list_of automaton (i + 2))) marks.tags))
+          (tags_valid (listed_row sets i) (statuses_of automaton (list_of automaton (i + 2))) marks.tags))
           (cases_eq row 1))
           (cases_eq row 0))
 

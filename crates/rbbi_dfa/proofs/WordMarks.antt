@@ -7,13 +7,13 @@ use Rattle.rbbi_model.specs.Chains.{EndsAt, IsTagAt}
 use Rattle.rbbi_model.specs.Tables.{Table, CategoryRange, category_of, row_along}
 use Rattle.rbbi_model.specs.Marks.{Marks, no_marks, look_ahead_number, HasFront, IsCompleted, IsEnded, IsUnended, AreMarksAtEnd, AreMarks, marks_of}
 use Rattle.rbbi_model.specs.Marks.{HasSameMarks}
-use Rattle.rbbi_dfa.specs.inner.BitRows.{row_at}
+use Rattle.rbbi_once.specs.NumberedRows.{listed_row}
 use Rattle.rbbi_dfa.specs.inner.Automata.{with_ranges}
 use Rattle.rbbi_dfa.specs.inner.PositionRows.{PositionRows}
 use Rattle.rbbi_dfa.specs.inner.PositionAutomata.{Marked, IsOfRules}
 use Rattle.rbbi_dfa.specs.inner.Determinizing.{HasMark, AreMarksOf, IsDeterminized}
 use Rattle.rbbi_model.proofs.LookAheadNumbers.{counts}
-use Rattle.rbbi_positions.proofs.BitRows.{no_bit}
+use Rattle.rbbi_bits.proofs.WordBits.{no_bit}
 use Rattle.rbbi_dfa.proofs.Grouping.{row_along-ranges}
 use Rattle.rbbi_dfa.proofs.Reading.{ReadBy, read_ends, ends_read, front_read, read_front}
 use Rattle.rbbi_dfa.proofs.Words.{IsSetOf, mark_completed, completed_mark, Ended, Unread, IsRowOf, Stop, Set, row_of_word}
@@ -129,7 +129,7 @@ module _ (rules : List Rule) (lawful : AreLawful rules) (ranges : List CategoryR
         subst (AreMarks rules w) (sym (ap (λ r. marks_of automaton r) at ∙ is.plain_stop)) (inr (before, unread_marks w none))
     row_marks w _ (Set row i at short set) =
         subst (AreMarks rules w) (sym (ap (λ r. marks_of automaton r) at))
-        (inr (set.open_before, marks_at_end w (row_at sets i) set (marks_of automaton (i + 2)) (is.marks i short)))
+        (inr (set.open_before, marks_at_end w (listed_row sets i) set (marks_of automaton (i + 2)) (is.marks i short)))
 
     -- after every word that isn't empty the automaton has the marks of the rules
     pub has_same_marks : HasSameMarks (with_ranges automaton ranges) rules

@@ -8,13 +8,13 @@ use Rattle.rbbi_model.specs.ValidTables.{IsWay, LeadsToZero}
 use Rattle.rbbi_model.specs.Marks.{Marks, no_marks, AreMarks, AreMarksOrNone, marks_of}
 use Rattle.rbbi_model.specs.Compiled.{AreToldApart, LeadsSomewhere, Needs}
 use Rattle.rbbi_dfa.specs.inner.Partitions.{IsToldApart}
-use Rattle.rbbi_dfa.specs.inner.Categories.{AreWithin}
+use Rattle.rbbi_dfa.specs.inner.Categories.{HaveCategoriesBelow}
 use Rattle.rbbi_model.proofs.SearchFacts.{row_along_append}
 use Rattle.rbbi_model.proofs.Lists.{all_append, all_by_index}
 use Rattle.rbbi_dfa.proofs.Grouping.{stop_along}
 use Rattle.rbbi_dfa.proofs.Lists.{picked}
 
-pub word_IsWay : (table : Table) (ranges : List CategoryRange) → AreWithin table.categories ranges → (w : List ℕ) → IsWay table (map (category_of ranges) w)
+pub word_IsWay : (table : Table) (ranges : List CategoryRange) → HaveCategoriesBelow table.categories ranges → (w : List ℕ) → IsWay table (map (category_of ranges) w)
 word_IsWay table ranges within [] = tt
 word_IsWay table ranges within (c ∷ w) = (within c, word_IsWay table ranges within w)
 
@@ -39,7 +39,7 @@ pub record HasRowsOfWords (rules : List Rule) (table : Table) (ranges : List Cat
   pub stop : marks_of table 0 ≡ no_marks
   pub start : marks_of table 1 ≡ no_marks
   pub stop_leads : LeadsToZero table 0
-  pub within : AreWithin table.categories ranges
+  pub within : HaveCategoriesBelow table.categories ranges
   pub each : (w : List ℕ) → IsWord w → w ≢ [] → AreMarks rules w (marks_of table (row_of table ranges w))
 
 module _ (rules : List Rule) (table : Table) (ranges : List CategoryRange) (has : HasRowsOfWords rules table ranges) where
@@ -47,7 +47,7 @@ module _ (rules : List Rule) (table : Table) (ranges : List CategoryRange) (has 
   marks_after [] h = has.start
   marks_after (c ∷ w) h = has.each (c ∷ w) h (λ e. cc)
 
-  row_of-append : (these those : List ℕ) → row_of table ranges (these ++ those) ≡ row_along table (row_of table ranges these) (map (category_of ranges) those)
+  pub row_of-append : (these those : List ℕ) → row_of table ranges (these ++ those) ≡ row_along table (row_of table ranges these) (map (category_of ranges) those)
   row_of-append these those =
       ap (λ way. row_along table 1 way) (map-append (category_of ranges) these those)
       ∙ row_along_append table 1 (map (category_of ranges) these) (map (category_of ranges) those)
@@ -55,7 +55,7 @@ module _ (rules : List Rule) (table : Table) (ranges : List CategoryRange) (has 
   pub row_of-within : (w : List ℕ) → row_of table ranges w < length table.rows
   row_of-within w = along_within table has.next 1 (map (category_of ranges) w) (omega (arith, has.some)) (word_IsWay table ranges has.within w)
 
-  rest_marks : (w : List ℕ) (row : ℕ) (way : List ℕ) (rest : WordOf ranges way) → row_of table ranges w ≡ row →
+  pub rest_marks : (w : List ℕ) (row : ℕ) (way : List ℕ) (rest : WordOf ranges way) → row_of table ranges w ≡ row →
       marks_of table (row_along table row way) ≡ marks_of table (row_of table ranges (w ++ rest.0))
   rest_marks w row way rest at =
       ap (λ r. marks_of table r)

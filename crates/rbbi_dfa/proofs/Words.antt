@@ -10,7 +10,8 @@ use Rattle.rbbi_model.specs.Boundaries.{LookAheadEndsAt}
 use Rattle.rbbi_model.specs.Tables.{Table, CategoryRange, category_of, step, row_along}
 use Rattle.rbbi_model.specs.Marks.{look_ahead_number}
 use Rattle.rbbi_model.specs.LeafSets.{EndedBefore}
-use Rattle.rbbi_dfa.specs.inner.BitRows.{Holds, row_at}
+use Rattle.rbbi_bits.specs.BitRows.{Holds}
+use Rattle.rbbi_once.specs.NumberedRows.{listed_row}
 use Rattle.rbbi_dfa.specs.inner.PositionRows.{PositionRows}
 use Rattle.rbbi_dfa.specs.inner.PositionAutomata.{IsOfRules}
 use Rattle.rbbi_dfa.specs.inner.PositionAutomata.{Marked, LookAhead}
@@ -177,7 +178,7 @@ module _ (rules : List Rule) (lawful : AreLawful rules) (ranges : List CategoryR
     -- the row is that of the word
     pub data IsRowOf (w : List ℕ) : ℕ → Type 0 where
       Stop : (row : ℕ) → row ≡ 0 → IsDead w → IsRowOf w row
-      Set : (row i : ℕ) → row ≡ i + 2 → i < length sets → IsSetOf w (row_at sets i) → IsRowOf w row
+      Set : (row i : ℕ) → row ≡ i + 2 → i < length sets → IsSetOf w (listed_row sets i) → IsRowOf w row
 
     cell_row : (w candidates : List ℕ) (c cell : ℕ) → AreCandidates w candidates → IsCodePoint c → ¬ EndedBefore rules (w ++ c ∷ []) →
         IsCell rows sets candidates (category_of ranges c) cell → IsRowOf (w ++ c ∷ []) cell
@@ -212,13 +213,13 @@ module _ (rules : List Rule) (lawful : AreLawful rules) (ranges : List CategoryR
         ap (λ r. step automaton r (category_of ranges c)) at in
         ⊎_elim
         (λ completes.
-        let ends = completes_ends w (row_at sets i) set completes.0 in
+        let ends = completes_ends w (listed_row sets i) set completes.0 in
         Stop _ (from ∙ completes.1 (category_of ranges c) (of.within c)) (Ended (ended_now rules w c ends.0 ends.1)))
         (λ goes.
         let candidates : List ℕ = goes.1.0 in
-        let not_before = not_ended rules w c set.open_before (λ number ends. goes.0 (ends_completes w (row_at sets i) number set ends)) in
+        let not_before = not_ended rules w c set.open_before (λ number ends. goes.0 (ends_completes w (listed_row sets i) number set ends)) in
         subst (IsRowOf (w ++ c ∷ [])) (sym from)
-        (cell_row w candidates c (step automaton (i + 2) (category_of ranges c)) (later_candidates w (row_at sets i) candidates some set goes.1.1) code
+        (cell_row w candidates c (step automaton (i + 2) (category_of ranges c)) (later_candidates w (listed_row sets i) candidates some set goes.1.1) code
         not_before (goes.1.2 (category_of ranges c) (of.within c))))
         (is.each i short)
 
@@ -243,10 +244,10 @@ module _ (rules : List Rule) (lawful : AreLawful rules) (ranges : List CategoryR
     pub some : w ≢ []
     pub set_of : IsSetOf w set
 
-  read_used : (category p : ℕ) → category < rows.categories → Holds (row_at rows.reads category) p → (c : ℕ) × IsCodePoint c × (category_of ranges c ≡ category)
+  read_used : (category p : ℕ) → category < rows.categories → Holds (listed_row rows.reads category) p → (c : ℕ) × IsCodePoint c × (category_of ranges c ≡ category)
   read_used category p within reads =
       ⊎_elim
-      (λ none. absurd (of.unread p (subst (λ k. Holds (row_at rows.reads k) p) none reads)))
+      (λ none. absurd (of.unread p (subst (λ k. Holds (listed_row rows.reads k) p) none reads)))
       (λ some. of.used category (omega (arith, some)) within)
       (cases_eq category 0)
 

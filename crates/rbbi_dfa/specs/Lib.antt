@@ -1,4 +1,5 @@
 pub mod Refusals
 pub mod Builds
 pub mod NeededRows
+pub mod SameCounts
 pub mod inner

@@ -1,11 +1,9 @@
 -- What only this crate's own code and proofs cite. Nothing that is promised rests on it.
 pub mod Automata
-pub mod BitRows
 pub mod PositionRows
 pub mod PositionAutomata
 pub mod Determinizing
 pub mod LastWords
-pub mod LeafSetIndex
 pub mod MarkedRows
 pub mod Partitions
 pub mod Ranks

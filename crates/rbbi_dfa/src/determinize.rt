@@ -1,20 +1,20 @@
 //! From positions to a determinised automaton: each row is the set of the positions by which the
 //! last character of a word can be read (subset construction; Rabin and Scott 1959).
-ghost use Rattle.std.specs.Prelude.{◌≡◌, ◌≤◌, ℕ, List, [], length, IfOk, OnOk};
+ghost use Rattle.std.specs.Prelude.{◌≡◌, ◌≤◌, ◌<◌, ℕ, List, [], length, IfOk, OnOk};
 ghost use Rattle.rbbi_dfa.specs.inner.Determinizing.{AreReachedSets, AreReachedCandidates, Begin};
 ghost use Rattle.rbbi_dfa.specs.inner.Determinizing.{AddsCells, AddsZeros, AreCellsUpTo, AreMarked};
-ghost use Rattle.rbbi_dfa.specs.inner.Determinizing.{HasReachedSets, IsDeterminized, items_of};
+ghost use Rattle.rbbi_dfa.specs.inner.Determinizing.{HasReachedSets, IsDeterminized};
+ghost use Rattle.rbbi_once.specs.NumberedRows.{items_of};
 ghost use Rattle.rbbi_model.specs.Rules.{Rule};
 ghost use Rattle.rbbi_model.specs.Tables.{CategoryRange};
 ghost use Rattle.rbbi_model.specs.Marks.{HasSameMarks};
 ghost use Rattle.rbbi_model.specs.LeafSets.{HasLeafSets};
 ghost use Rattle.rbbi_dfa.specs.inner.Automata.{IsDetermined, with_ranges};
 ghost use Rattle.rbbi_dfa.specs.inner.MarkedRows.{AreReadable, AreOf};
+ghost use Rattle.rbbi_once.specs.NumberedRows.{listed_row, IsUnlisted, KeepsOrAdds};
 
-mod bits;
 mod error;
 mod last_words;
-mod leaf_sets;
 mod marks;
 mod position_rows;
 mod rows_of;
@@ -24,11 +24,27 @@ mod step;
 use crate::automaton::{Automaton, Head};
 use error::DeterminizeErr;
 use last_words::LastWords;
-use leaf_sets::LeafSets;
 use position_rows::Rows;
+use rbbi_bits::span_of;
+use rbbi_once::NumberedRows;
 use rbbi_positions::Positions;
 use rows_of::rows_of;
 use std::alloc::{AllocError, Global};
+
+/// The number of the set, which is added if it isn't there yet.
+fn number_of(alloc: Global, sets: &mut NumberedRows, set: &[u64]) -> Result<usize, DeterminizeErr>
+    ensures number { IfOk result (λ i.
+        (i < length sets.new) × (listed_row sets.new i ≡ set.now)) }
+    ensures few { IfOk result (λ i. i < 16384) }
+    ensures sets { KeepsOrAdds sets.old set.now sets.new }
+    ensures refused { result ≡ Err DeterminizeErr.TooManySets →
+        (length sets.new ≡ 16384) × IsUnlisted sets.new set.now }
+{
+    match sets.number_of(alloc, set)? {
+        Some(number) => Ok(number),
+        None => Err(DeterminizeErr::TooManySets),
+    }
+}
 
 /// Adds the cells of a row from whose positions these candidates may come next, and the sets that
 /// are new. `next` is scratch space.
@@ -36,7 +52,7 @@ fn lead_on(
     alloc: Global,
     rows: &Rows,
     candidates: &[u64],
-    sets: &mut LeafSets,
+    sets: &mut NumberedRows,
     next: &mut [u64],
     cells: &mut Vec<u16>,
 ) -> Result<(), DeterminizeErr>
@@ -50,11 +66,11 @@ fn lead_on(
         cells.old.items cells.new.items rows.now.categories) }
     ensures refused { result ≡ Err DeterminizeErr.TooManySets → HasReachedSets rows.now 16385 }
 {
-    let span = bits::span_of(candidates);
+    let span = span_of(candidates);
     for category in 0..rows.categories as usize {
         let cell = if step::is_read(rows, candidates, span, category) {
             step::step(rows, candidates, category, next);
-            sets.number_of(alloc, next)? + 2
+            number_of(alloc, sets, next)? + 2
         } else {
             0
         };
@@ -74,7 +90,7 @@ fn lead_nowhere(rows: &Rows, cells: &mut Vec<u16>) -> Result<(), AllocError>
 }
 
 /// The cells of rows 0 and 1 and of a row for each set, with the sets that are found on the way.
-fn lead_all(alloc: Global, rows: &Rows, sets: &mut LeafSets) -> Result<Vec<u16>, DeterminizeErr>
+fn lead_all(alloc: Global, rows: &Rows, sets: &mut NumberedRows) -> Result<Vec<u16>, DeterminizeErr>
     requires { sets.old ≡ [] }
     ensures reached { OnOk result (AreReachedSets rows.now sets.new) }
     ensures cells { IfOk result (λ cells.
@@ -107,7 +123,7 @@ fn lead_all(alloc: Global, rows: &Rows, sets: &mut LeafSets) -> Result<Vec<u16>,
 fn mark_all(
     alloc: Global,
     rows: &Rows,
-    sets: &LeafSets,
+    sets: &NumberedRows,
 ) -> Result<(Vec<Head>, Vec<Vec<u32>>), AllocError>
     requires { AreReachedSets rows.now sets.now }
     ensures { IfOk result (λ marked.
@@ -147,7 +163,7 @@ pub(crate) fn determinized(alloc: Global, rows: &Rows) -> Result<Automaton, Dete
         × IsDeterminized rows.now sets automaton) }
     ensures refused { result ≡ Err DeterminizeErr.TooManySets → HasReachedSets rows.now 16385 }
 {
-    let mut sets = LeafSets::new(alloc)?;
+    let mut sets = NumberedRows::new(alloc)?;
     let cells = lead_all(alloc, rows, &mut sets)?;
     let (heads, lists) = mark_all(alloc, rows, &sets)?;
     Ok(Automaton {

@@ -1,5 +1,6 @@
 //! Laws of compiled tables.
 ghost use Rattle.rbbi_dfa.specs.NeededRows.{RowsAreNeeded, ValidTablesHaveRows};
+ghost use Rattle.rbbi_dfa.specs.SameCounts.{CompiledTablesHaveSameCounts};
 
 use rbbi_model::marks_are_unique;
 
@@ -9,6 +10,14 @@ use rbbi_model::marks_are_unique;
 pub fn rows_are_needed()
     ensures needed { RowsAreNeeded }
     ensures valid { ValidTablesHaveRows }
+{
+    marks_are_unique();
+}
+
+/// All tables that are compiled from the same lawful rules have the same counts of categories,
+/// rows, status lists, look-ahead rules and safe pairs, so that one line tells each of them.
+pub fn compiled_tables_have_same_counts()
+    ensures { CompiledTablesHaveSameCounts }
 {
     marks_are_unique();
 }

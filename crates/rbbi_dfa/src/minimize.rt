@@ -25,8 +25,8 @@ use refine::{refine, side_of};
 use round::disagreement;
 use std::alloc::{AllocError, Global};
 
-/// The partition whose classes are the rows of the least table, and None exactly where these are
-/// too many. The places are those of the status lists in order.
+/// The partition whose classes are the rows of the least table, or None exactly if these are too
+/// many. The places are those of the status lists in order.
 pub(crate) fn minimize(
     alloc: Global,
     automaton: &Automaton,

@@ -5,7 +5,7 @@ use Rattle.std.proofs.lemmas.Bool.Decides.{Decides-and, Decides-or, Decides-eqb}
 use Rattle.rbbi_model.specs.Spelling.{Repetition, Star, Plus, Quest, Tree, Leaf, Empty, Never, Then, Either, Repeat}
 use Rattle.rbbi_model.specs.Rules.{leaf_count, IsLawfulTree}
 use Rattle.rbbi_model.specs.LeafSets.{SpellsPositions}
-use Rattle.rbbi_positions.specs.inner.Trees.{spells_empty, begins, ends, leads, goes}
+use Rattle.rbbi_positions.specs.inner.Trees.{is_nullable, begins, ends, leads, goes}
 use Rattle.rbbi_positions.proofs.Empties.{empties_spell, said}
 use Rattle.rbbi_positions.proofs.Nodes.{Begins, Ends, Neighbours, some_spelled, both_begins, both_ends, both_neighbours, repeat_begins, repeat_ends}
 use Rattle.rbbi_positions.proofs.Nodes.{quest_neighbours, loop_neighbours, star_loops, plus_loops, either_begins, either_ends, either_neighbours}
@@ -41,8 +41,8 @@ begins_is Never first position lawful = absurd lawful
 begins_is (Then front rest) first position lawful =
     let second = first + leaf_count front in
     said
-    (Decides-or (begins front first position) (spells_empty front && begins rest second position) (begins_is front first position lawful.0)
-    (Decides-and (spells_empty front) (begins rest second position) (empties_spell front first) (begins_is rest second position lawful.1)))
+    (Decides-or (begins front first position) (is_nullable front && begins rest second position) (begins_is front first position lawful.0)
+    (Decides-and (is_nullable front) (begins rest second position) (empties_spell front first) (begins_is rest second position lawful.1)))
     (both_begins (SpellsPositions front first) (SpellsPositions rest second) (some_spelled front first lawful.0) (some_spelled rest second lawful.1) position)
 begins_is (Either front rest) first position lawful =
     let second = first + leaf_count front in
@@ -62,8 +62,8 @@ ends_is Never first position lawful = absurd lawful
 ends_is (Then front rest) first position lawful =
     let second = first + leaf_count front in
     said
-    (Decides-or (ends rest second position) (spells_empty rest && ends front first position) (ends_is rest second position lawful.1)
-    (Decides-and (spells_empty rest) (ends front first position) (empties_spell rest second) (ends_is front first position lawful.0)))
+    (Decides-or (ends rest second position) (is_nullable rest && ends front first position) (ends_is rest second position lawful.1)
+    (Decides-and (is_nullable rest) (ends front first position) (empties_spell rest second) (ends_is front first position lawful.0)))
     (both_ends (SpellsPositions front first) (SpellsPositions rest second) (some_spelled front first lawful.0) (some_spelled rest second lawful.1) position)
 ends_is (Either front rest) first position lawful =
     let second = first + leaf_count front in
@@ -119,8 +119,8 @@ goes_is (Then front rest) first position next behind lawful =
     let between : Bool = leads rest second next behind in
     let parts = Decides-or (goes front first position next between) (goes rest second position next behind)
     (goes_is front first position next between lawful.0) (goes_is rest second position next behind lawful.1) in
-    let led = Decides-or (begins rest second next) (spells_empty rest && behind) (begins_is rest second next lawful.1)
-    (Decides-and (spells_empty rest) behind (empties_spell rest second) (itself behind)) in
+    let led = Decides-or (begins rest second next) (is_nullable rest && behind) (begins_is rest second next lawful.1)
+    (Decides-and (is_nullable rest) behind (empties_spell rest second) (itself behind)) in
     let ended = both_ends (SpellsPositions front first) (SpellsPositions rest second) (some_spelled front first lawful.0) (some_spelled rest second lawful.1)
     position in
     let both = both_neighbours (SpellsPositions front first) (SpellsPositions rest second) (some_spelled front first lawful.0)

@@ -6,7 +6,6 @@ pub mod WalkLaws
 pub mod Nodes
 pub mod Empties
 pub mod Folds
-pub mod BitRows
 pub mod Computed
 pub mod Parts
 pub mod RowWrites
@@ -15,3 +14,4 @@ pub mod Codes
 pub mod MarkLists
 pub mod Marking
 pub mod Reading
+pub mod Leaves

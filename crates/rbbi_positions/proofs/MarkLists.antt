@@ -9,7 +9,7 @@ use Rattle.rbbi_model.specs.Rules.{look_aheads}
 use Rattle.rbbi_resolve.specs.declared.rules.Rule.{Rule}
 use Rattle.rbbi_resolve.specs.RuleTrees.{tree_of}
 use Rattle.rbbi_resolve.specs.RuleLists.{RuleList, rule_of, rules_of}
-use Rattle.rbbi_positions.specs.PositionMarks.{RuleMark, AreRuleMarks, slash_of}
+use Rattle.rbbi_positions.specs.PositionMarks.{RuleMark, AreRuleMarks, slash_number}
 use Rattle.rbbi_positions.proofs.RuleFacts.{rule_is, taken}
 
 get_snoc : {X : Type 0} (xs : List X) (x y : X) (n : ℕ) → slice_get (xs ++ x ∷ []) n ≡ Some y → (slice_get xs n ≡ Some y) ⊎ ((n ≡ length xs) × (x ≡ y))
@@ -58,7 +58,7 @@ module _ (list : RuleList) (number : ℕ) (rule : Rule) (is : slice_get list.rul
         tag = sym (ap (λ (m : RuleMark). m.tag) same) ∙ tag ∙ ap (λ (r : model.Rule). r.tag) rule_same;
         slash = sym (ap (λ (m : RuleMark). m.slash) same) ∙ slash ∙ ap (λ (k : ℕ). option_map (λ _. k) rule.rest) at
             ∙ mapped (tree_of list.sets) (length (look_aheads (take number (rules_of list)))) rule.rest
-            ∙ ap (λ (k : ℕ). slash_of (rules_of list) k (rule_of list.sets rule)) (sym n_is)
-            ∙ ap (λ (r : model.Rule). slash_of (rules_of list) n r) rule_same;
+            ∙ ap (λ (k : ℕ). slash_number (rules_of list) k (rule_of list.sets rule)) (sym n_is)
+            ∙ ap (λ (r : model.Rule). slash_number (rules_of list) n r) rule_same;
       })
       (get_snoc marks mark found n get)

@@ -10,7 +10,7 @@ use Rattle.std.proofs.lemmas.Bool.{and_parts, or_cases, or_left, or_right, false
 use Rattle.rbbi_model.specs.Spelling.{Star, Plus, Quest, Tree, Leaf, Empty, Never, Then, Either, Repeat, Spells}
 use Rattle.rbbi_model.specs.Rules.{Rule, leaf_count, leaves_of, IsLawfulTree, IsLawfulRule}
 use Rattle.rbbi_model.specs.LeafSets.{SpellsPositions, first_position}
-use Rattle.rbbi_positions.specs.inner.Trees.{spells_empty, begins, ends, leads, goes}
+use Rattle.rbbi_positions.specs.inner.Trees.{is_nullable, begins, ends, leads, goes}
 use Rattle.rbbi_positions.specs.inner.RuleTests.{some_rule, rule_begins, front_ends, rule_ends, rule_goes}
 use Rattle.rbbi_positions.specs.FollowPositions.{IsFirst, IsLast, IsFrontLast, Follows}
 use Rattle.rbbi_positions.proofs.Exchanges.{Spelled}
@@ -19,20 +19,20 @@ use Rattle.rbbi_positions.proofs.Computed.{begins_is, ends_is, goes_is}
 use Rattle.rbbi_positions.proofs.Codes.{all_get}
 
 -- a tree that spells the empty list spells the empty word
-empty_word : (tree : Tree) → spells_empty tree ≡ true → Spells tree []
+empty_word : (tree : Tree) → is_nullable tree ≡ true → Spells tree []
 empty_word (Leaf set) e = absurd (cc)
 empty_word Empty e = refl
 empty_word Never e = absurd (cc)
 empty_word (Then front rest) e =
-    (let both = and_parts (spells_empty front) (spells_empty rest) e in ([], [], empty_word front both.0, empty_word rest both.1, refl))
+    (let both = and_parts (is_nullable front) (is_nullable rest) e in ([], [], empty_word front both.0, empty_word rest both.1, refl))
 empty_word (Either front rest) e =
-    elim (or_cases (spells_empty front) (spells_empty rest) e) [ inl h ↦ inl (empty_word front h) | inr h ↦ inr (empty_word rest h) ]
+    elim (or_cases (is_nullable front) (is_nullable rest) e) [ inl h ↦ inl (empty_word front h) | inr h ↦ inr (empty_word rest h) ]
 empty_word (Repeat Star part) e = ([], tt, tt, refl)
 empty_word (Repeat Plus part) e = ([] ∷ [], (λ same. absurd (cc)), (empty_word part e, tt), refl)
 empty_word (Repeat Quest part) e = ([], omega arith, tt, refl)
 
-not_empty : (tree : Tree) → ¬ Spells tree [] → spells_empty tree ≡ false
-not_empty tree none = false_from_ne_true (spells_empty tree) (λ e. none (empty_word tree e))
+not_empty : (tree : Tree) → ¬ Spells tree [] → is_nullable tree ≡ false
+not_empty tree none = false_from_ne_true (is_nullable tree) (λ e. none (empty_word tree e))
 
 -- equal tests
 pub alike : {A : Type 0} (a b : Bool) → a ≡ b → (b ≡ true) ↔ A → (a ≡ true) ↔ A

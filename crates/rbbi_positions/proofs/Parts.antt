@@ -1,13 +1,13 @@
 -- What is computed of a sequence or a choice, part by part.
-use Rattle.std.proofs.Common.{◌≡◌, ℕ, ◌+◌, ◌-◌, ◌<◌, ◌≤◌, Bool, true, false, ◌&&◌, ◌||◌, List, [], ◌∷◌, ◌++◌, length, get_or, set, eqb, take, drop, refl, ap}
-use Rattle.std.proofs.Math.Bool.{or-false, or_comm, and-false, or-true, or_assoc}
+use Rattle.std.proofs.Common.{◌≡◌, ℕ, ◌+◌, ◌-◌, ◌<◌, ◌≤◌, Bool, true, false, ◌&&◌, ◌||◌, List, [], ◌∷◌, ◌++◌, length, get_or, take, drop, refl, ap}
+use Rattle.std.proofs.Math.Bool.{or-false, or_comm, and-false, or_assoc}
 use Rattle.std.proofs.Common.{sym, ◌∙◌, ⊎_elim, arith}
 use Rattle.std.specs.Prelude.{map}
-use Rattle.std.proofs.lemmas.List.{drop_all, map_more, get_or-set_same, get_or-set_other}
+use Rattle.std.proofs.lemmas.List.{drop_all, map_more}
 use Rattle.std.proofs.lemmas.Bool.{cases_eq, eq-eqb, ne_eqb}
 use Rattle.rbbi_model.specs.Spelling.{Tree, Empty, Never, Either, sequence_of, choice_of}
 use Rattle.rbbi_model.specs.Rules.{leaf_count}
-use Rattle.rbbi_positions.specs.inner.Trees.{spells_empty, begins, ends, leads, goes}
+use Rattle.rbbi_positions.specs.inner.Trees.{is_nullable, begins, ends, leads, goes}
 use Rattle.rbbi_positions.proofs.Empties.{empty_sequence, next_part}
 
 -- a sequence, with one part more in front
@@ -16,13 +16,13 @@ count_cons part [] = omega arith
 count_cons part (next ∷ parts) = refl
 
 pub begins_cons : (part : Tree) (parts : List Tree) (first p : ℕ) →
-    begins (sequence_of (part ∷ parts)) first p ≡ (begins part first p || (spells_empty part && begins (sequence_of parts) (first + leaf_count part) p))
-begins_cons part [] first p = sym (ap (λ x. begins part first p || x) (and-false (spells_empty part)) ∙ or-false (begins part first p))
+    begins (sequence_of (part ∷ parts)) first p ≡ (begins part first p || (is_nullable part && begins (sequence_of parts) (first + leaf_count part) p))
+begins_cons part [] first p = sym (ap (λ x. begins part first p || x) (and-false (is_nullable part)) ∙ or-false (begins part first p))
 begins_cons part (next ∷ parts) first p = refl
 
 pub ends_cons : (part : Tree) (parts : List Tree) (first p : ℕ) →
     ends (sequence_of (part ∷ parts)) first
-    p ≡ (ends (sequence_of parts) (first + leaf_count part) p || (spells_empty (sequence_of parts) && ends part first p))
+    p ≡ (ends (sequence_of parts) (first + leaf_count part) p || (is_nullable (sequence_of parts) && ends part first p))
 ends_cons part [] first p = refl
 ends_cons part (next ∷ parts) first p = refl
 
@@ -37,10 +37,10 @@ goes_cons part (next ∷ parts) first p q behind = refl
 pub leads_cons : (part : Tree) (parts : List Tree) (first q : ℕ) (behind : Bool) →
     leads (sequence_of (part ∷ parts)) first q behind ≡ leads part first q (leads (sequence_of parts) (first + leaf_count part) q behind)
 leads_cons part parts first q behind =
-    ap (λ x. x || (spells_empty (sequence_of (part ∷ parts)) && behind)) (begins_cons part parts first q)
-    ∙ ap (λ x. (begins part first q || (spells_empty part && begins (sequence_of parts) (first + leaf_count part) q)) || (x && behind))
+    ap (λ x. x || (is_nullable (sequence_of (part ∷ parts)) && behind)) (begins_cons part parts first q)
+    ∙ ap (λ x. (begins part first q || (is_nullable part && begins (sequence_of parts) (first + leaf_count part) q)) || (x && behind))
     (empty_sequence part parts)
-    ∙ regroup (begins part first q) (spells_empty part) (begins (sequence_of parts) (first + leaf_count part) q) (spells_empty (sequence_of parts)) behind
+    ∙ regroup (begins part first q) (is_nullable part) (begins (sequence_of parts) (first + leaf_count part) q) (is_nullable (sequence_of parts)) behind
   where
     regroup : (a b d e f : Bool) → ((a || (b && d)) || ((b && e) && f)) ≡ (a || (b && (d || (e && f))))
     regroup true b d e f = refl
@@ -52,11 +52,11 @@ pub count_snoc : (parts : List Tree) (part : Tree) → leaf_count (sequence_of (
 count_snoc [] part = omega arith
 count_snoc (front ∷ parts) part = omega (arith, count_cons front (parts ++ part ∷ []), count_cons front parts, count_snoc parts part)
 
-pub empty_snoc : (parts : List Tree) (part : Tree) → spells_empty (sequence_of (parts ++ part ∷ [])) ≡ (spells_empty (sequence_of parts) && spells_empty part)
+pub empty_snoc : (parts : List Tree) (part : Tree) → is_nullable (sequence_of (parts ++ part ∷ [])) ≡ (is_nullable (sequence_of parts) && is_nullable part)
 empty_snoc [] part = refl
 empty_snoc (front ∷ parts) part =
-    empty_sequence front (parts ++ part ∷ []) ∙ ap (λ x. spells_empty front && x) (empty_snoc parts part)
-    ∙ regroup (spells_empty front) (spells_empty (sequence_of parts)) (spells_empty part) ∙ ap (λ x. x && spells_empty part) (sym (empty_sequence front parts))
+    empty_sequence front (parts ++ part ∷ []) ∙ ap (λ x. is_nullable front && x) (empty_snoc parts part)
+    ∙ regroup (is_nullable front) (is_nullable (sequence_of parts)) (is_nullable part) ∙ ap (λ x. x && is_nullable part) (sym (empty_sequence front parts))
   where
     regroup : (a b d : Bool) → (a && (b && d)) ≡ ((a && b) && d)
     regroup true b d = refl
@@ -77,18 +77,18 @@ leads_snoc (front ∷ parts) part first q behind =
 
 pub ends_snoc : (parts : List Tree) (part : Tree) (first p : ℕ) →
     ends (sequence_of (parts ++ part ∷ [])) first
-    p ≡ (ends part (first + leaf_count (sequence_of parts)) p || (spells_empty part && ends (sequence_of parts) first p))
+    p ≡ (ends part (first + leaf_count (sequence_of parts)) p || (is_nullable part && ends (sequence_of parts) first p))
 ends_snoc [] part first p = ap (λ (n : ℕ). ends part n p) (omega arith)
-    ∙ sym (ap (λ x. ends part (first + 0) p || x) (and-false (spells_empty part)) ∙ or-false (ends part (first + 0) p))
+    ∙ sym (ap (λ x. ends part (first + 0) p || x) (and-false (is_nullable part)) ∙ or-false (ends part (first + 0) p))
 ends_snoc (front ∷ parts) part first p =
     ends_cons front (parts ++ part ∷ []) first p
-    ∙ ap (λ x. x || (spells_empty (sequence_of (parts ++ part ∷ [])) && ends front first p)) (ends_snoc parts part (first + leaf_count front) p)
+    ∙ ap (λ x. x || (is_nullable (sequence_of (parts ++ part ∷ [])) && ends front first p)) (ends_snoc parts part (first + leaf_count front) p)
     ∙ ap (λ x. (ends part ((first + leaf_count front) + leaf_count (sequence_of parts))
-    p || (spells_empty part && ends (sequence_of parts) (first + leaf_count front) p)) || (x && ends front first p)) (empty_snoc parts part)
-    ∙ regroup (ends part ((first + leaf_count front) + leaf_count (sequence_of parts)) p) (spells_empty part)
-    (ends (sequence_of parts) (first + leaf_count front) p) (spells_empty (sequence_of parts)) (ends front first p)
-    ∙ ap (λ x. ends part ((first + leaf_count front) + leaf_count (sequence_of parts)) p || (spells_empty part && x)) (sym (ends_cons front parts first p))
-    ∙ ap (λ (n : ℕ). ends part n p || (spells_empty part && ends (sequence_of (front ∷ parts)) first p)) (later first front parts)
+    p || (is_nullable part && ends (sequence_of parts) (first + leaf_count front) p)) || (x && ends front first p)) (empty_snoc parts part)
+    ∙ regroup (ends part ((first + leaf_count front) + leaf_count (sequence_of parts)) p) (is_nullable part)
+    (ends (sequence_of parts) (first + leaf_count front) p) (is_nullable (sequence_of parts)) (ends front first p)
+    ∙ ap (λ x. ends part ((first + leaf_count front) + leaf_count (sequence_of parts)) p || (is_nullable part && x)) (sym (ends_cons front parts first p))
+    ∙ ap (λ (n : ℕ). ends part n p || (is_nullable part && ends (sequence_of (front ∷ parts)) first p)) (later first front parts)
   where
     regroup : (a b d e f : Bool) → ((a || (b && d)) || ((e && b) && f)) ≡ (a || (b && (d || (e && f))))
     regroup true b d e f = refl
@@ -146,7 +146,7 @@ module _ {T : Type 0} (f : T → Tree) (parts : List T) (i : ℕ) (part : T) (be
   count_choice = ap (λ l. leaf_count (choice_of l)) (next_part f parts i part below is) ∙ choice_count_cons (f part) (map f (drop (i + 1) parts))
 
   -- a loop that joins what holds of the parts in front
-  pub begins_on : (start count p : ℕ) (before after : Bool) → spells_empty (f part) ≡ true → count ≡ leaf_count (f part) →
+  pub begins_on : (start count p : ℕ) (before after : Bool) → is_nullable (f part) ≡ true → count ≡ leaf_count (f part) →
       after ≡ (before || begins (f part) start p) →
       (after || begins (sequence_of (map f (drop (i + 1) parts))) (start + count) p) ≡ (before || begins (sequence_of (map f (drop i parts))) start p)
   begins_on start count p before after empty many new =
@@ -159,7 +159,7 @@ module _ {T : Type 0} (f : T → Tree) (parts : List T) (i : ℕ) (part : T) (be
       ∙ ap (λ x. before || (begins (f part) start p || (x && begins rest (start + leaf_count (f part)) p))) empty
       )
 
-  pub begins_end : (start p : ℕ) (before after : Bool) → spells_empty (f part) ≡ false → after ≡ (before || begins (f part) start p) →
+  pub begins_end : (start p : ℕ) (before after : Bool) → is_nullable (f part) ≡ false → after ≡ (before || begins (f part) start p) →
       after ≡ (before || begins (sequence_of (map f (drop i parts))) start p)
   begins_end start p before after none new =
       let rest = sequence_of (map f (drop (i + 1) parts)) in
@@ -194,7 +194,7 @@ module _ {T : Type 0} (f : T → Tree) (parts : List T) (i : ℕ) (part : T) (so
   count_up_to = ap (λ l. leaf_count (sequence_of l)) part_more ∙ count_snoc (map f (take (i - 1) parts)) (f part)
 
   pub ends_on : (first start p : ℕ) (before after : Bool) → start ≡ first + leaf_count (sequence_of (map f (take (i - 1) parts))) →
-      spells_empty (f part) ≡ true → after ≡ (before || ends (f part) start p) →
+      is_nullable (f part) ≡ true → after ≡ (before || ends (f part) start p) →
       (after || ends (sequence_of (map f (take (i - 1) parts))) first p) ≡ (before || ends (sequence_of (map f (take i parts))) first p)
   ends_on first start p before after at empty new =
       let front = sequence_of (map f (take (i - 1) parts)) in
@@ -207,7 +207,7 @@ module _ {T : Type 0} (f : T → Tree) (parts : List T) (i : ℕ) (part : T) (so
       )
 
   pub ends_end : (first start p : ℕ) (before after : Bool) → start ≡ first + leaf_count (sequence_of (map f (take (i - 1) parts))) →
-      spells_empty (f part) ≡ false → after ≡ (before || ends (f part) start p) →
+      is_nullable (f part) ≡ false → after ≡ (before || ends (f part) start p) →
       after ≡ (before || ends (sequence_of (map f (take i parts))) first p)
   ends_end first start p before after at none new =
       let front = sequence_of (map f (take (i - 1) parts)) in
@@ -244,13 +244,3 @@ choice_done measure f parts i past = ap (λ l. measure (choice_of (map f l))) (d
 pub none_left : {A : Type 0} (measure : Tree → A) {T : Type 0} (f : T → Tree) (parts : List T) (n : ℕ) → n ≤ 0 →
     measure (sequence_of (map f (take n parts))) ≡ measure Empty
 none_left measure f parts n none = (let zero' : n ≡ 0 = omega arith in ap (λ (m : ℕ). measure (sequence_of (map f (take m parts)))) zero')
-
--- flags, with one more set
-pub flag_set : (flags : List Bool) (first p : ℕ) → first < length flags → get_or (set flags first true) p false ≡ (get_or flags p false || eqb p first)
-flag_set flags first p below =
-    ⊎_elim
-    (λ same. ap (λ n. get_or (set flags first true) n false) same ∙ get_or-set_same flags first true false below
-    ∙ sym (ap (λ x. get_or flags p false || x) (eq-eqb p first same) ∙ or-true (get_or flags p false)))
-    (λ other. get_or-set_other flags first p true false other
-    ∙ sym (ap (λ x. get_or flags p false || x) (ne_eqb p first other) ∙ or-false (get_or flags p false)))
-    (cases_eq p first)

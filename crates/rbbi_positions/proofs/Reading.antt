@@ -3,9 +3,10 @@ use Rattle.std.proofs.Common.{◌≡◌, ℕ, zero, suc, ◌*◌, ◌<◌, ◌�
 use Rattle.std.proofs.Common.{length-append}
 use Rattle.std.specs.Prelude.{map, flat_map, sum_by, slice_get, IsTrue}
 use Rattle.std.proofs.lemmas.Bool.{cases_eq}
+use Rattle.std.proofs.lemmas.List.{length-map}
 use Rattle.std.proofs.lemmas.List.Sums.{sum_by-cons}
 use Rattle.std.proofs.lemmas.Option.{slice_get_within}
-use Rattle.rbbi_model.specs.Ranges.{Has}
+use Rattle.rbbi_model.specs.Ranges.{Range, Has}
 use Rattle.rbbi_model.specs.Rules.{leaves_of}
 use Rattle.rbbi_model.specs.LeafSets.{all_sets, Reads}
 use Rattle.rbbi_model.specs.Tables.{CategoryRange}
@@ -14,7 +15,8 @@ use Rattle.rbbi_resolve.specs.declared.rules.Rule.{Rule}
 use Rattle.rbbi_resolve.specs.RuleTrees.{set_at}
 use Rattle.rbbi_resolve.specs.RuleLists.{RuleList, rule_of, rules_of, numbers_of_rule, leaf_numbers}
 use Rattle.rbbi_cats.proofs.LeafSets.{all_sets_are}
-use Rattle.rbbi_positions.specs.PositionMarks.{in_row, ReadsCategory}
+use Rattle.rbbi_positions.specs.PositionMarks.{ReadsCategory}
+use Rattle.rbbi_positions.specs.inner.Rows.{in_row}
 use Rattle.rbbi_positions.specs.inner.RuleTests.{AreCodesOf}
 use Rattle.rbbi_positions.specs.inner.Readers.{AreReaders}
 use Rattle.rbbi_positions.proofs.Codes.{all_get}
@@ -48,8 +50,20 @@ module _ (list : RuleList) (categories : ℕ) (ranges : List CategoryRange) (num
     (numbers_are : numbers ≡ leaf_numbers list)
     (readers : AreReaders list.sets numbers codes words rows) (codes_are : AreCodesOf categories ranges codes)
     (classes : AreClasses (rules_of list) categories ranges) (wide : sum_by leaves_of (rules_of list) ≤ 64 * words) where
-  within : (position : ℕ) → position < sum_by leaves_of (rules_of list) → position < length numbers
-  within position below = omega (arith, below, ap length numbers_are, leaves_total list)
+  -- what is read lies among the numbers, and in a row
+  within : (position : ℕ) (set : List Range) → slice_get (all_sets (rules_of list)) position ≡ Some set → position < length numbers
+  within position set is =
+      omega (
+        arith,
+        slice_get_within (all_sets (rules_of list)) position set is,
+        ap length (all_sets_are list),
+        length-map (leaf_numbers list)
+            (set_at list.sets),
+        ap length numbers_are,
+      )
+
+  pub reads_within : (position category : ℕ) → ReadsCategory (rules_of list) ranges position category → position < 64 * words
+  reads_within position category h = omega (arith, within position h.reads.0 h.reads.1, wide, ap length numbers_are, leaves_total list)
 
   -- the set of the position
   set_is : (position : ℕ) → position < length numbers → slice_get (all_sets (rules_of list)) position ≡ Some (set_at list.sets (get_or numbers position 0))
@@ -61,13 +75,13 @@ module _ (list : RuleList) (categories : ℕ) (ranges : List CategoryRange) (num
   is_read position c (set, is, has) =
       (position, set, slice_get_within (all_sets (rules_of list)) position set is, slice_at (all_sets (rules_of list)) position set is, has)
 
-  pub reads_are : (position category : ℕ) → position < sum_by leaves_of (rules_of list) → category < categories →
+  pub reads_are : (position category : ℕ) → position < 64 * words → category < categories →
       IsTrue (in_row words rows category position) ↔ ReadsCategory (rules_of list) ranges position category
   reads_are position category below few = (there, back)
     where
       marked : IsTrue (in_row words rows category position) ↔ ((1 ≤ category) × (position < length numbers) × Has (set_at list.sets (get_or numbers position 0))
           (get_or codes category 0))
-      marked = readers.each category position (omega (arith, few, codes_are.many)) (omega (arith, below, wide))
+      marked = readers.each category position (omega (arith, few, codes_are.many)) below
 
       there : IsTrue (in_row words rows category position) → ReadsCategory (rules_of list) ranges position category
       there e =
@@ -88,6 +102,7 @@ module _ (list : RuleList) (categories : ℕ) (ranges : List CategoryRange) (num
           (classes.alike h.c (get_or codes category 0) h.code (codes_are.code category some few)).0 (h.of ∙ sym (codes_are.each category some few)) in
           let has' : Has set (get_or codes category 0) =
           (all_get (λ s. Has s h.c ↔ Has s (get_or codes category 0)) (all_sets (rules_of list)) position set is alike).0 has in
-          let listed = set_is position (within position below) in
+          let short = within position set is in
+          let listed = set_is position short in
           let same : set ≡ set_at list.sets (get_or numbers position 0) = cc in
-          marked.1 (some, within position below, subst (λ s. Has s (get_or codes category 0)) same has')
+          marked.1 (some, short, subst (λ s. Has s (get_or codes category 0)) same has')

@@ -1,15 +1,17 @@
 -- Rows of bits, one after another, of which one is written.
 use Rattle.std.proofs.Common.{◌≡◌, ◌≢◌, ℕ, ◌+◌, ◌-◌, ◌*◌, ◌/◌, ◌%◌, ◌<◌, ◌≤◌, ◌||◌, ◌&&◌, eqb, List, ◌++◌, length, get_or, take, drop, sym, ap, ◌∙◌, ⊎_elim}
 use Rattle.std.proofs.Math.Bool.{or-false}
-use Rattle.std.proofs.Common.{Vec, Global, arith, length-take-le}
+use Rattle.std.proofs.Common.{Vec, Global, true, ◌↔◌, arith, length-take-le, length-drop}
 use Rattle.std.specs.Vec.{with_items}
-use Rattle.std.proofs.lemmas.Bool.{cases_eq, cases_order, eq-eqb, ne_eqb}
+use Rattle.std.proofs.lemmas.Bool.{cases_lt, cases_eq, cases_order, eq-eqb, ne_eqb}
 use Rattle.std.proofs.lemmas.List.{get_or-take, get_or-drop, get_or_append_left, get_or-append_right, take_at}
 use Rattle.std.proofs.lemmas.Nat.{mul-le}
 use borrow.Rule.Slice.PartMut.{put_mid, mid_of, post_of}
 use Rattle.rbbi_model.specs.Places.{has_bit}
-use Rattle.rbbi_positions.specs.inner.Rows.{row_bit}
-use Rattle.rbbi_positions.specs.PositionMarks.{in_row}
+use Rattle.std.specs.Prelude.{slice_range}
+use Rattle.rbbi_bits.specs.BitRows.{row_bit, Holds}
+use Rattle.rbbi_bits.proofs.Rows.{none_past}
+use Rattle.rbbi_positions.specs.inner.Rows.{in_row}
 
 -- the items of a list that a call wrote as a whole
 pub all_written : {A : Type 0} (v : Vec A Global) (old new : List A) → old ≡ v.items → length new ≡ length old → (with_items v new).items ≡ new
@@ -87,3 +89,27 @@ module _ (w row k : ℕ) (rows new : List ℕ) (same : k ≡ w) (many : length n
       row_kept this position below apart
       ∙ sym (ap (λ x. in_row w rows this position || (x && row_bit other position)) (ne_eqb this row apart) ∙ or-false (in_row w rows this position)))
       (cases_eq this row)
+
+-- a row that is read holds what its bits say
+module _ (w row : ℕ) (rows : List ℕ) (fits : row * w + w ≤ length rows) where
+  row_read : (position : ℕ) → position < 64 * w → row_bit (slice_range rows (row * w) (row * w + w)) position ≡ in_row w rows row position
+  row_read position below =
+      ap (λ n. has_bit n (position % 64))
+      (get_or-take ((row * w + w) - row * w) (drop (row * w) rows) (position / 64) 0 (omega (arith, below)) ∙ get_or-drop (row * w) rows (position / 64) 0)
+
+  row_long : length (slice_range rows (row * w) (row * w + w)) ≡ w
+  row_long =
+      let many : length (drop (row * w) rows) ≡ length rows - row * w = length-drop (row * w) rows in
+      let long = length-take-le ((row * w + w) - row * w) (drop (row * w) rows) (omega (arith, fits, many)) in
+      omega (arith, long)
+
+  pub row_holds : (Is : ℕ → Type 0) → ((position : ℕ) → position < 64 * w → (in_row w rows row position ≡ true) ↔ Is position) →
+      ((position : ℕ) → Is position → position < 64 * w) → (position : ℕ) → Holds (slice_range rows (row * w) (row * w + w)) position ↔ Is position
+  row_holds Is each within position = (
+    λ holds.
+        ⊎_elim
+        (λ short. (each position short).0 (sym (row_read position short) ∙ holds))
+        (λ past. absurd (none_past (slice_range rows (row * w) (row * w + w)) position (omega (arith, past, row_long)) holds))
+        (cases_lt position (64 * w)),
+    λ is. row_read position (within position is) ∙ (each position (within position is)).1 is,
+  )

@@ -1,4 +1,4 @@
--- What only this crate's own code and proofs cite. Nothing that is promised rests on it.
+-- The tests by which positions are marked, of trees, parts and rules, and the rows in which they are kept.
 pub mod Trees
 pub mod Readers
 pub mod RuleTests

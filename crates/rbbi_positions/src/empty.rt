@@ -1,15 +1,15 @@
-//! Trees that spell the empty list.
+//! Nullable trees: those that spell the empty list.
 ghost use Rattle.std.specs.Prelude.{◌≡◌, List};
 ghost use Rattle.rbbi_model.specs.Ranges.{Range};
 ghost use Rattle.rbbi_resolve.specs.RuleTrees.{tree_of};
-ghost use Rattle.rbbi_positions.specs.inner.Trees.{spells_empty};
+ghost use Rattle.rbbi_positions.specs.inner.Trees.{is_nullable};
 
 use rbbi_resolve::Tree;
 use rbbi_tree::Quant;
 
-/// Whether the tree spells the empty list.
+/// Whether the tree is nullable.
 pub(crate) fn is_empty(tree: &Tree) -> bool
-    ensures { (sets : List (List Range)) → result ≡ spells_empty (tree_of sets tree.now) }
+    ensures { (sets : List (List Range)) → result ≡ is_nullable (tree_of sets tree.now) }
 {
     match tree {
         Tree::Leaf(_) => false,

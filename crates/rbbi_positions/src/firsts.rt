@@ -3,12 +3,12 @@ ghost use Rattle.std.specs.Prelude.{◌≡◌, ◌+◌, ◌*◌, ◌≤◌, ◌|
 ghost use Rattle.rbbi_model.specs.Ranges.{Range};
 ghost use Rattle.rbbi_model.specs.Rules.{leaf_count};
 ghost use Rattle.rbbi_resolve.specs.RuleTrees.{tree_of};
-ghost use Rattle.rbbi_positions.specs.inner.Rows.{row_bit};
+ghost use Rattle.rbbi_bits.specs.BitRows.{row_bit};
 ghost use Rattle.rbbi_positions.specs.inner.Trees.{begins, leads};
 
-use crate::bits::insert;
 use crate::count::count;
 use crate::empty::is_empty;
+use rbbi_bits::insert;
 use rbbi_resolve::Tree;
 
 /// Adds the first positions of a tree to a row.
@@ -42,7 +42,8 @@ pub(crate) fn add_firsts(tree: &Tree, first: usize, row: &mut [u64])
     }
 }
 
-/// Makes the row of what may stand behind a tree that of what may stand before it.
+/// Turns the row of the positions that may follow a tree into that of those that may follow what
+/// stands before it: its first positions and, if it is nullable, the row.
 pub(crate) fn lead(tree: &Tree, first: usize, row: &mut [u64])
     requires short { length row.old ≤ 128 }
     requires within { (sets : List (List Range)) →

@@ -4,14 +4,14 @@ ghost use Rattle.std.specs.Prelude.{◌≡◌, ◌+◌, ◌*◌, ◌<◌, ◌≤
 ghost use Rattle.rbbi_model.specs.Ranges.{Range};
 ghost use Rattle.rbbi_model.specs.Rules.{leaf_count};
 ghost use Rattle.rbbi_resolve.specs.RuleTrees.{tree_of};
-ghost use Rattle.rbbi_positions.specs.inner.Rows.{row_bit};
-ghost use Rattle.rbbi_positions.specs.PositionMarks.{in_row};
+ghost use Rattle.rbbi_bits.specs.BitRows.{row_bit};
+ghost use Rattle.rbbi_positions.specs.inner.Rows.{in_row};
 ghost use Rattle.rbbi_positions.specs.inner.Trees.{goes};
 ghost use Rattle.rbbi_positions.specs.inner.Rounds.{behind_of};
 
-use crate::bits::unite_row;
 use crate::count::count;
 use crate::firsts::{add_firsts, lead};
+use crate::row_union::unite_row;
 use rbbi_resolve::Tree;
 use rbbi_tree::Quant;
 use std::alloc::{AllocError, Global};

@@ -2,16 +2,16 @@
 //! which (follow positions; McNaughton and Yamada 1960, Glushkov 1961).
 #![tactic(auto)]
 
-mod bits;
 mod count;
 mod empty;
 mod firsts;
 mod followers;
+mod from_rules;
 mod lasts;
 mod laws;
-mod making;
 mod numbers;
 mod readers;
+mod row_union;
 mod rules;
 
 pub use laws::{
@@ -23,7 +23,7 @@ mod marks;
 mod rule_mark;
 mod rule_marks;
 
-pub use making::positions;
+pub use from_rules::positions;
 pub use marks::Positions;
 
 #[cfg(test)]

@@ -1,10 +1,8 @@
 //! Positions and their marks.
-ghost use Rattle.std.specs.Prelude.{◌≡◌, ◌<◌, ◌+◌, ◌*◌, false, Some, length, slice_get};
-ghost use Rattle.std.specs.Prelude.{slice_index, slice_index_or, slice_range};
+ghost use Rattle.std.specs.Prelude.{◌≡◌, ◌<◌, ◌+◌, ◌/◌, Some, length, slice_get, slice_index};
 ghost use Rattle.std.specs.Option.{option_map};
-ghost use Rattle.rbbi_positions.specs.PositionMarks.{marked_follows, marked_reads};
+ghost use Rattle.rbbi_positions.specs.PositionMarks.{followers_in, readers_in};
 
-use crate::bits::is_set;
 use crate::rule_mark::Mark;
 use std::marker::Model;
 
@@ -13,7 +11,7 @@ use std::marker::Model;
 /// first, last, or last of a front, and which may follow which. Contracts see the marks as a
 /// `PositionMarks`; `ArePositions` says what they mean.
 ///
-/// Followers and readers are rows of bits, so that the union of many rows is quick.
+/// Sets of positions are rows of bits, so that the union of many of them is quick.
 #[derive(Debug, Drop)]
 pub struct Positions {
     pub(crate) leaves: u32,
@@ -24,9 +22,9 @@ pub struct Positions {
     pub(crate) rules: Vec<Mark>,
     /// The rule of each position.
     pub(crate) owners: Vec<u32>,
-    pub(crate) firsts: Vec<bool>,
-    pub(crate) lasts: Vec<bool>,
-    pub(crate) front_lasts: Vec<bool>,
+    pub(crate) firsts: Vec<u64>,
+    pub(crate) lasts: Vec<u64>,
+    pub(crate) front_lasts: Vec<u64>,
     /// For each position the row of those that follow it.
     pub(crate) followers: Vec<u64>,
     /// For each category the row of the positions that read it.
@@ -68,28 +66,29 @@ impl Positions {
         self.owners[leaf as usize]
     }
 
-    /// Whether some list that a rule spells begins with the position.
-    pub fn is_first(&self, leaf: u32) -> bool
-        requires { leaf < self.now.leaves }
-        ensures { result ≡ slice_index_or self.now.firsts leaf false }
+    /// The row of the positions that some list that a rule spells begins with: position `p` is bit
+    /// `p % 64` of word `p / 64`.
+    pub fn firsts(&self) -> &[u64]
+        ensures row { result.now ≡ self.now.firsts }
+        ensures wide { length result.now ≡ self.now.words }
     {
-        self.firsts[leaf as usize]
+        &self.firsts
     }
 
-    /// Whether some list that a rule spells ends with the position.
-    pub fn is_last(&self, leaf: u32) -> bool
-        requires { leaf < self.now.leaves }
-        ensures { result ≡ slice_index_or self.now.lasts leaf false }
+    /// The row of the positions that some list that a rule spells ends with.
+    pub fn lasts(&self) -> &[u64]
+        ensures row { result.now ≡ self.now.lasts }
+        ensures wide { length result.now ≡ self.now.words }
     {
-        self.lasts[leaf as usize]
+        &self.lasts
     }
 
-    /// Whether some list that a rule's front spells ends with the position.
-    pub fn is_front_last(&self, leaf: u32) -> bool
-        requires { leaf < self.now.leaves }
-        ensures { result ≡ slice_index_or self.now.front_lasts leaf false }
+    /// The row of the positions that some list that a rule's front spells ends with.
+    pub fn front_lasts(&self) -> &[u64]
+        ensures row { result.now ≡ self.now.front_lasts }
+        ensures wide { length result.now ≡ self.now.words }
     {
-        self.front_lasts[leaf as usize]
+        &self.front_lasts
     }
 
     /// Whether a match may be extended with the rule from its last character on.
@@ -120,50 +119,31 @@ impl Positions {
         found.slash
     }
 
-    /// The words of a row of bits, of 64 bits each.
+    /// The words of a row, of 64 bits each.
     pub fn words(&self) -> usize
-        ensures { result ≡ self.now.words }
+        ensures value { result ≡ self.now.words }
+        ensures few { result ≡ (self.now.leaves + 63) / 64 }
     {
         self.words
     }
 
-    /// The row of the positions that follow one: position `p` is bit `p % 64` of word `p / 64`.
+    /// The row of the positions that stand right behind this one in some list that a rule spells.
     pub fn followers(&self, leaf: u32) -> &[u64]
         requires { leaf < self.now.leaves }
-        ensures { result.now ≡ slice_range self.now.followers (leaf * self.now.words)
-            (leaf * self.now.words + self.now.words) }
+        ensures row { result.now ≡ followers_in self.now leaf }
+        ensures wide { length result.now ≡ self.now.words }
     {
         let from = leaf as usize * self.words;
         &self.followers[from..from + self.words]
     }
 
-    /// Whether the next position follows this one in some list that a rule spells.
-    pub fn follows(&self, leaf: u32, then: u32) -> bool
-        requires leaf { leaf < self.now.leaves }
-        requires next { then < self.now.leaves }
-        ensures { result ≡ marked_follows self.now leaf then }
-    {
-        let word = self.followers[leaf as usize * self.words + then as usize / 64];
-        is_set(word, then % 64)
-    }
-
-    /// The row of the positions that read a category, in the form of `followers`.
+    /// The row of the positions whose leaves' sets hold the code points of a category.
     pub fn readers(&self, category: u16) -> &[u64]
         requires { category < self.now.categories }
-        ensures { result.now ≡ slice_range self.now.readers (category * self.now.words)
-            (category * self.now.words + self.now.words) }
+        ensures row { result.now ≡ readers_in self.now category }
+        ensures wide { length result.now ≡ self.now.words }
     {
         let from = category as usize * self.words;
         &self.readers[from..from + self.words]
-    }
-
-    /// Whether the set of the position's leaf holds the code points of a category.
-    pub fn reads(&self, leaf: u32, cat: u16) -> bool
-        requires leaf { leaf < self.now.leaves }
-        requires category { cat < self.now.categories }
-        ensures { result ≡ marked_reads self.now leaf cat }
-    {
-        let word = self.readers[cat as usize * self.words + leaf as usize / 64];
-        is_set(word, leaf % 64)
     }
 }

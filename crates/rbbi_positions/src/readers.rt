@@ -4,11 +4,12 @@ ghost use Rattle.std.specs.Prelude.{slice_index, vec_len};
 ghost use Rattle.std.specs.List.{AllByRecursion};
 ghost use Rattle.rbbi_model.specs.Ranges.{Has};
 ghost use Rattle.rbbi_resolve.specs.RuleTrees.{set_at};
-ghost use Rattle.rbbi_positions.specs.PositionMarks.{in_row};
+ghost use Rattle.rbbi_positions.specs.inner.Rows.{in_row};
 ghost use Rattle.rbbi_positions.specs.inner.RuleTests.{AreCodesOf, ReadCode};
 ghost use Rattle.rbbi_positions.specs.inner.Readers.{HasEachCategory, AreReaders};
 
-use crate::bits::{insert, unite_row};
+use crate::row_union::unite_row;
+use rbbi_bits::insert;
 use rbbi_cats::Categories;
 use rbbi_resolve::SetList;
 use std::alloc::{AllocError, Global};

@@ -1,11 +1,11 @@
 //! The marks of the positions of all rules.
 ghost use Rattle.std.specs.Prelude.{◌≡◌, ◌+◌, ◌*◌, ◌<◌, ◌≤◌, ◌||◌, ℕ, List, false, IfOk, OnOk};
-ghost use Rattle.std.specs.Prelude.{◌++◌, replicate, length, slice_index_or, sum_by};
+ghost use Rattle.std.specs.Prelude.{◌++◌, replicate, length, sum_by};
 ghost use Rattle.rbbi_model.specs.Ranges.{Range};
 ghost use Rattle.rbbi_model.specs.Rules.{leaves_of, AreLawful};
 ghost use Rattle.rbbi_resolve.specs.RuleLists.{rule_of, rules_of};
-ghost use Rattle.rbbi_positions.specs.PositionMarks.{in_row};
-ghost use Rattle.rbbi_positions.specs.inner.Rows.{row_bit};
+ghost use Rattle.rbbi_positions.specs.inner.Rows.{in_row};
+ghost use Rattle.rbbi_bits.specs.BitRows.{row_bit};
 ghost use Rattle.rbbi_positions.specs.inner.RuleTests.{some_rule, rule_begins, rule_goes};
 ghost use Rattle.rbbi_positions.specs.inner.RuleTests.{AreOwners};
 ghost use Rattle.rbbi_positions.specs.inner.RuleParts.{part_ends};
@@ -47,7 +47,7 @@ pub(crate) fn firsts_of(alloc: Global, rules: &Rules, words: usize) -> Result<Ve
     Ok(row)
 }
 
-/// What of a rule is looked at.
+/// A part of a rule.
 #[derive(Clone, Copy, Debug)]
 pub(crate) enum Part {
     /// Its front.
@@ -56,47 +56,45 @@ pub(crate) enum Part {
     Whole,
 }
 
-/// Sets the flags of the positions that some list of this part of the rule ends with. A rest isn't
+/// Adds to a row the positions that some list of this part of the rule ends with. A rest isn't
 /// empty.
-fn add_part_lasts(rule: &Rule, part: Part, first: usize, flags: &mut [bool])
-    requires few { length flags.old ≤ 8192 }
+fn add_part_lasts(rule: &Rule, part: Part, first: usize, row: &mut [u64])
+    requires short { length row.old ≤ 128 }
     requires within { (sets : List (List Range)) →
-        first + leaves_of (rule_of sets rule.now) ≤ length flags.old }
-    ensures { (sets : List (List Range)) (position : ℕ) →
-        slice_index_or flags.new position false
-        ≡ (slice_index_or flags.old position false
-        || part_ends part position (rule_of sets rule.now) first) }
+        first + leaves_of (rule_of sets rule.now) ≤ 64 * length row.old }
+    ensures { (sets : List (List Range)) (position : ℕ) → row_bit row.new position
+        ≡ (row_bit row.old position || part_ends part position (rule_of sets rule.now) first) }
 {
     match part {
-        Part::Front => add_lasts(&rule.front, first, flags),
+        Part::Front => add_lasts(&rule.front, first, row),
         Part::Whole => match &rule.rest {
-            None => add_lasts(&rule.front, first, flags),
-            Some(rest) => add_lasts(rest, first + count(&rule.front), flags),
+            None => add_lasts(&rule.front, first, row),
+            Some(rest) => add_lasts(rest, first + count(&rule.front), row),
         },
     }
 }
 
-/// The flags of the positions that some list of this part of a rule ends with.
+/// The row of the positions that some list of this part of a rule ends with.
 pub(crate) fn lasts_of(
     alloc: Global,
     rules: &Rules,
     part: Part,
-    leaves: usize,
-) -> Result<Vec<bool>, AllocError>
-    requires all { leaves ≡ sum_by leaves_of (rules_of rules.now) }
-    requires few { leaves ≤ 8192 }
-    ensures many { IfOk result (λ flags. length flags.items ≡ leaves) }
-    ensures flags { IfOk result (λ flags. (position : ℕ) → slice_index_or flags.items position false
+    words: usize,
+) -> Result<Vec<u64>, AllocError>
+    requires wide { sum_by leaves_of (rules_of rules.now) ≤ 64 * words }
+    requires few { words ≤ 128 }
+    ensures many { IfOk result (λ row. length row.items ≡ words) }
+    ensures bits { IfOk result (λ row. (position : ℕ) → row_bit row.items position
         ≡ some_rule (part_ends part position) (rules_of rules.now) 0) }
 {
-    let mut flags = vec![in alloc; false; leaves]?;
+    let mut row = vec![in alloc; 0u64; words]?;
     let mut start = 0;
     for number in 0..rules.len() {
         let rule = rules.get(number);
-        add_part_lasts(rule, part, start, &mut flags);
+        add_part_lasts(rule, part, start, &mut row);
         start += count_of_rule(rule);
     }
-    Ok(flags)
+    Ok(row)
 }
 
 /// Adds to the rows of the rule's positions those that follow them; in the row `none` no bit is

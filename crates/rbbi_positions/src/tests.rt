@@ -2,6 +2,7 @@
 ghost use Rattle.std.specs.Prelude.{◌≡◌, ◌<◌, IfOk, length};
 
 use crate::{Positions, positions};
+use rbbi_bits::has;
 use rbbi_cats::partition;
 use rbbi_lex::lex;
 use rbbi_props::PropTable;
@@ -44,18 +45,30 @@ fn show_leaf(
     requires categories { found.now.categories ≡ categories }
 {
     show_number(shown, alloc, leaf)?;
-    shown.push_str(if found.is_first(leaf) { "^" } else { "" })?;
-    shown.push_str(if found.is_last(leaf) { "$" } else { "" })?;
-    shown.push_str(if found.is_front_last(leaf) { "/" } else { "" })?;
+    shown.push_str(if has(found.firsts(), leaf as usize) {
+        "^"
+    } else {
+        ""
+    })?;
+    shown.push_str(if has(found.lasts(), leaf as usize) {
+        "$"
+    } else {
+        ""
+    })?;
+    shown.push_str(if has(found.front_lasts(), leaf as usize) {
+        "/"
+    } else {
+        ""
+    })?;
     shown.push_str(":")?;
     for category in 0..categories {
-        if found.reads(leaf, category) {
+        if has(found.readers(category), leaf as usize) {
             show_number(shown, alloc, category as u32)?;
         }
     }
     shown.push_str(">")?;
     for next in 0..found.leaves() {
-        if found.follows(leaf, next) {
+        if has(found.followers(leaf), next as usize) {
             show_number(shown, alloc, next)?;
         }
     }

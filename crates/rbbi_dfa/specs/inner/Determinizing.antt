@@ -1,28 +1,28 @@
 -- Determinised automata: each row is a set of positions, and leads by each category to the set that comes next.
-use Rattle.std.specs.Prelude.{◌≡◌, ℕ, ◌+◌, ◌-◌, ◌*◌, ◌^◌, ◌<◌, ◌≤◌, ◌⊎◌, ◌↔◌, List, [], ◌∷◌, length, map, slice_index, slice_index_or, IsTrue, Vec}
-use Rattle.std.specs.Global.{Global}
+use Rattle.std.specs.Prelude.{◌≡◌, ℕ, ◌+◌, ◌-◌, ◌*◌, ◌^◌, ◌<◌, ◌≤◌, ◌⊎◌, ◌↔◌, List, [], ◌∷◌, length, slice_index, slice_index_or, IsTrue}
 use Rattle.rbbi_model.specs.Places.{has_bit}
 use Rattle.rbbi_model.specs.Lists.{Member, IsRising}
 use Rattle.rbbi_model.specs.Tables.{Table, RowHead, empty_head, list_of, step}
 use Rattle.rbbi_model.specs.Marks.{Marks, no_marks, marks_of}
-use Rattle.rbbi_dfa.specs.inner.BitRows.{Holds, row_at}
+use Rattle.rbbi_bits.specs.BitRows.{Holds}
+use Rattle.rbbi_once.specs.NumberedRows.{listed_row}
 use Rattle.rbbi_dfa.specs.inner.PositionRows.{PositionRows}
 use Rattle.rbbi_dfa.specs.inner.PositionAutomata.{Marked}
 
 -- a position of the set is followed by this one
 abbrev pub CanFollow : PositionRows → List ℕ → ℕ → Type 0
-CanFollow rows set next = (position : ℕ) × Holds set position × Holds (row_at rows.follow position) next
+CanFollow rows set next = (position : ℕ) × Holds set position × Holds (listed_row rows.follow position) next
 
 -- a candidate that reads the category is last
 abbrev pub EndsBy : PositionRows → List ℕ → ℕ → Type 0
 EndsBy rows candidates category =
-    (position : ℕ) × Holds candidates position × Holds (row_at rows.reads category) position × Holds rows.last position
+    (position : ℕ) × Holds candidates position × Holds (listed_row rows.reads category) position × Holds rows.last position
 
 -- The position comes next by the category: it reads it and is a candidate, or first in a rule that is chained into where a
 -- candidate ends.
 abbrev pub ComesBy : PositionRows → List ℕ → ℕ → ℕ → Type 0
 ComesBy rows candidates category position =
-    Holds (row_at rows.reads category) position × (Holds candidates position ⊎ (Holds rows.chained position × EndsBy rows candidates category))
+    Holds (listed_row rows.reads category) position × (Holds candidates position ⊎ (Holds rows.chained position × EndsBy rows candidates category))
 
 -- the set is what comes next by the category, and the candidates are what can follow the set
 abbrev pub IsStep : PositionRows → List ℕ → ℕ → List ℕ → Type 0
@@ -34,7 +34,7 @@ AreFollowers rows set candidates = (position : ℕ) → Holds candidates positio
 -- what can follow one of the first so many positions
 abbrev pub AreFollowersUpTo : List (List ℕ) → List ℕ → ℕ → List ℕ → Type 0
 AreFollowersUpTo follow set i candidates =
-    (p : ℕ) → Holds candidates p ↔ ((q : ℕ) × (q < i) × Holds set q × Holds (row_at follow q) p)
+    (p : ℕ) → Holds candidates p ↔ ((q : ℕ) × (q < i) × Holds set q × Holds (listed_row follow q) p)
 
 -- a look-ahead rule is completed where the positions of the set read the last code point
 abbrev pub Completes : PositionRows → List ℕ → Type 0
@@ -62,16 +62,16 @@ pub record IsRow (width : ℕ) (row : List ℕ) : Type 0 where
 
 -- sets that are reached, none of them empty, and all of them different
 pub record AreReachedSets (rows : PositionRows) (sets : List (List ℕ)) : Type 0 where
-  pub are_rows : (i : ℕ) → i < length sets → IsRow rows.width (row_at sets i)
-  pub reached : (i : ℕ) → i < length sets → IsReached rows (row_at sets i)
-  pub some : (i : ℕ) → i < length sets → IsSome (row_at sets i)
-  pub apart : (i j : ℕ) → i < j → j < length sets → AreDifferent (row_at sets i) (row_at sets j)
+  pub are_rows : (i : ℕ) → i < length sets → IsRow rows.width (listed_row sets i)
+  pub reached : (i : ℕ) → i < length sets → IsReached rows (listed_row sets i)
+  pub some : (i : ℕ) → i < length sets → IsSome (listed_row sets i)
+  pub apart : (i j : ℕ) → i < j → j < length sets → AreDifferent (listed_row sets i) (listed_row sets j)
 
 -- The cell for the category: 0 where nothing comes next, or else 2 more than the number of the set that does.
 abbrev pub IsCell : PositionRows → List (List ℕ) → List ℕ → ℕ → ℕ → Type 0
 IsCell rows sets candidates category cell =
     ((cell ≡ 0) × ((position : ℕ) → ¬ ComesBy rows candidates category position))
-    ⊎ ((2 ≤ cell) × (cell < length sets + 2) × IsStep rows candidates category (row_at sets (cell - 2)))
+    ⊎ ((2 ≤ cell) × (cell < length sets + 2) × IsStep rows candidates category (listed_row sets (cell - 2)))
 
 -- Some position of the set is marked so.
 abbrev pub HasMark : List ℕ → (ℕ → ℕ → Type 0) → ℕ → Type 0
@@ -109,15 +109,15 @@ LeadsOn rows sets set next =
     × ((category : ℕ) → category < rows.categories → IsCell rows sets candidates category (next category))))
 
 -- the next row from a row, for a category, in cells that stand row after row
-abbrev pub cell_of : PositionRows → List ℕ → ℕ → ℕ → ℕ
-cell_of rows cells row category = slice_index cells (row * rows.categories + category)
+abbrev pub cell_at : PositionRows → List ℕ → ℕ → ℕ → ℕ
+cell_at rows cells row category = slice_index cells (row * rows.categories + category)
 
 -- the cells of rows 0 and 1, and of the first so many sets
 pub record AreCellsUpTo (rows : PositionRows) (sets : List (List ℕ)) (cells : List ℕ) (count : ℕ) : Type 0 where
   pub many : length cells ≡ (count + 2) * rows.categories
-  pub stop : (category : ℕ) → category < rows.categories → cell_of rows cells 0 category ≡ 0
-  pub start : (category : ℕ) → category < rows.categories → IsCell rows sets rows.first category (cell_of rows cells 1 category)
-  pub each : (i : ℕ) → i < count → LeadsOn rows sets (row_at sets i) (cell_of rows cells (i + 2))
+  pub stop : (category : ℕ) → category < rows.categories → cell_at rows cells 0 category ≡ 0
+  pub start : (category : ℕ) → category < rows.categories → IsCell rows sets rows.first category (cell_at rows cells 1 category)
+  pub each : (i : ℕ) → i < count → LeadsOn rows sets (listed_row sets i) (cell_at rows cells (i + 2))
 
 -- the positions that can come next after a set that is reached, or first
 abbrev pub AreReachedCandidates : PositionRows → List ℕ → Type 0
@@ -126,7 +126,7 @@ AreReachedCandidates rows candidates =
 
 -- the sets stand at the beginning of the others
 abbrev pub Begin : List (List ℕ) → List (List ℕ) → Type 0
-Begin these those = (length these ≤ length those) × ((i : ℕ) → i < length these → row_at those i ≡ row_at these i)
+Begin these those = (length these ≤ length those) × ((i : ℕ) → i < length these → listed_row those i ≡ listed_row these i)
 
 -- the cells of one more row were added
 pub record AddsCells (rows : PositionRows) (sets : List (List ℕ)) (candidates old new : List ℕ) (count : ℕ) : Type 0 where
@@ -139,10 +139,6 @@ pub record AddsZeros (old new : List ℕ) (count : ℕ) : Type 0 where
   pub many : length new ≡ length old + count
   pub kept : (k : ℕ) → k < length old → slice_index new k ≡ slice_index old k
   pub zeros : (k : ℕ) → length old ≤ k → slice_index new k ≡ 0
-
--- the lists that vectors hold
-abbrev pub items_of : List (Vec ℕ Global) → List (List ℕ)
-items_of vectors = map (λ vector. vector.items) vectors
 
 -- the marks of a row by its head and the status lists
 abbrev pub marks_by : List RowHead → List (List ℕ) → ℕ → Marks
@@ -159,7 +155,7 @@ pub record AreMarked (rows : PositionRows) (sets : List (List ℕ)) (heads : Lis
   pub first_list : slice_index_or lists 0 [] ≡ 0 ∷ []
   pub numbered : (i : ℕ) → i < count → (slice_index_or heads (i + 2) empty_head).list ≡ i + 1
   pub lists_within : (row : ℕ) → row < count + 2 → (slice_index_or heads row empty_head).list < count + 1
-  pub each : (i : ℕ) → i < count → AreMarksOf rows (row_at sets i) (marks_by heads lists (i + 2))
+  pub each : (i : ℕ) → i < count → AreMarksOf rows (listed_row sets i) (marks_by heads lists (i + 2))
 
 -- there are at least so many sets that are reached, none of them empty, and all of them different
 abbrev pub HasReachedSets : PositionRows → ℕ → Type 0
@@ -174,9 +170,9 @@ pub record IsDeterminized (rows : PositionRows) (sets : List (List ℕ)) (automa
   pub cells : length automaton.cells ≡ length automaton.rows * automaton.categories
   pub stop : (category : ℕ) → category < rows.categories → step automaton 0 category ≡ 0
   pub start : (category : ℕ) → category < rows.categories → IsCell rows sets rows.first category (step automaton 1 category)
-  pub each : (i : ℕ) → i < length sets → LeadsOn rows sets (row_at sets i) (step automaton (i + 2))
+  pub each : (i : ℕ) → i < length sets → LeadsOn rows sets (listed_row sets i) (step automaton (i + 2))
   pub lists_within : (row : ℕ) → row < length automaton.rows → list_of automaton row < length automaton.lists
   pub named : (list : ℕ) → list < length automaton.lists → (row : ℕ) × (row < length automaton.rows) × (list_of automaton row ≡ list)
   pub plain_stop : marks_of automaton 0 ≡ no_marks
   pub plain_start : marks_of automaton 1 ≡ no_marks
-  pub marks : (i : ℕ) → i < length sets → AreMarksOf rows (row_at sets i) (marks_of automaton (i + 2))
+  pub marks : (i : ℕ) → i < length sets → AreMarksOf rows (listed_row sets i) (marks_of automaton (i + 2))

@@ -1,16 +1,15 @@
--- Which row of bits, and which list of marks, is read off the marks of positions.
-use Rattle.std.specs.Prelude.{◌≡◌, ℕ, ◌+◌, ◌<◌, ◌≤◌, Bool, false, ◌/◌, ◌&&◌, IsTrue, Option, Some, None, if◌then◌else◌, ◌↔◌, List, slice_index}
+-- Which rows of bits and which lists of marks are taken from the marks of positions.
+use Rattle.std.specs.Prelude.{◌≡◌, ℕ, ◌<◌, ◌≤◌, Bool, false, ◌&&◌, IsTrue, Option, Some, None, if◌then◌else◌, ◌↔◌, List, slice_index}
 use Rattle.std.specs.Prelude.{slice_index_or, length}
-use Rattle.rbbi_positions.specs.PositionMarks.{RuleMark, PositionMarks, marked_follows, marked_reads, ArePositions}
+use Rattle.rbbi_positions.specs.PositionMarks.{RuleMark, PositionMarks, followers_in, readers_in, ArePositions}
 use Rattle.rbbi_model.specs.Rules.{Rule, largest_tag, look_aheads, AreLawful}
 use Rattle.rbbi_model.specs.Tables.{CategoryRange}
 use Rattle.rbbi_model.specs.ValidTables.{AreValidRanges}
 use Rattle.rbbi_model.specs.Compiled.{AreClasses}
-use Rattle.rbbi_dfa.specs.inner.BitRows.{Holds, row_at}
+use Rattle.rbbi_bits.specs.BitRows.{Holds, row_bit}
+use Rattle.rbbi_once.specs.NumberedRows.{listed_row}
 use Rattle.rbbi_dfa.specs.inner.PositionRows.{PositionMark, PositionRows}
 use Rattle.rbbi_dfa.specs.inner.PositionAutomata.{Marked}
-use Rattle.rbbi_dfa.specs.declared.determinize.rows_of.RowKind.{RowKind}
-use Rattle.rbbi_dfa.specs.declared.determinize.rows_of.RowKind.TheVariants.{First, Chained, Last, Follow, Read}
 use Rattle.rbbi_dfa.specs.declared.determinize.rows_of.ListKind.{ListKind}
 use Rattle.rbbi_dfa.specs.declared.determinize.rows_of.ListKind.TheVariants.{Completed, Fronts, Tags}
 
@@ -22,27 +21,15 @@ no_rule = record { chained_into = false; tag = None; slash = None }
 abbrev pub rule_mark : PositionMarks → ℕ → RuleMark
 rule_mark marks position = slice_index_or marks.rules (slice_index marks.owners position) no_rule
 
--- whether the position belongs to such a row
-abbrev pub is_in_row : PositionMarks → RowKind → ℕ → Bool
-is_in_row marks First position = slice_index_or marks.firsts position false
-is_in_row marks Chained position = slice_index_or marks.firsts position false && (rule_mark marks position).chained_into
-is_in_row marks Last position = slice_index_or marks.lasts position false
-is_in_row marks (Follow before) position = marked_follows marks before position
-is_in_row marks (Read category) position = marked_reads marks position category
+-- whether some list of a rule that may be chained into begins with the position
+abbrev pub begins_chained : PositionMarks → ℕ → Bool
+begins_chained marks position = row_bit marks.firsts position && (rule_mark marks position).chained_into
 
 -- what the position is marked with in such a list
 abbrev pub mark_in : PositionMarks → ListKind → ℕ → Option ℕ
-mark_in marks Completed position = if slice_index_or marks.lasts position false then (rule_mark marks position).slash else None
-mark_in marks Fronts position = if slice_index_or marks.front_lasts position false then (rule_mark marks position).slash else None
-mark_in marks Tags position = if slice_index_or marks.lasts position false then (rule_mark marks position).tag else None
-
--- the kind names a position or a category of the marks
-abbrev pub IsKindOf : PositionMarks → RowKind → Type 0
-IsKindOf marks First = Unit {0}
-IsKindOf marks Chained = Unit {0}
-IsKindOf marks Last = Unit {0}
-IsKindOf marks (Follow before) = before < marks.leaves
-IsKindOf marks (Read category) = category < marks.categories
+mark_in marks Completed position = if row_bit marks.lasts position then (rule_mark marks position).slash else None
+mark_in marks Fronts position = if row_bit marks.front_lasts position then (rule_mark marks position).slash else None
+mark_in marks Tags position = if row_bit marks.lasts position then (rule_mark marks position).tag else None
 
 -- the position has a rule
 abbrev pub HasOwner : PositionMarks → ℕ → Type 0
@@ -52,15 +39,15 @@ HasOwner marks position = slice_index marks.owners position < length marks.rules
 abbrev pub AreMarkedIn : PositionMarks → ListKind → List PositionMark → Type 0
 AreMarkedIn marks kind list = (position mark : ℕ) → Marked list position mark ↔ ((position < marks.leaves) × (mark_in marks kind position ≡ Some mark))
 
--- the row has the positions of this kind
-abbrev pub IsRowBy : PositionMarks → RowKind → List ℕ → Type 0
-IsRowBy marks kind row =
-    (length row ≡ (marks.leaves + 63) / 64) × ((position : ℕ) → Holds row position ↔ ((position < marks.leaves) × IsTrue (is_in_row marks kind position)))
+-- the row holds the first positions of the rules that may be chained into
+abbrev pub IsChainedRow : PositionMarks → List ℕ → Type 0
+IsChainedRow marks row = (position : ℕ) → Holds row position ↔ ((position < marks.leaves) × IsTrue (begins_chained marks position))
 
--- each of so many rows has the positions of its kind
-pub record AreRowsBy (marks : PositionMarks) (kind : ℕ → RowKind) (count : ℕ) (rows : List (List ℕ)) : Type 0 where
+-- the rows, of so many words each, are those of so many numbers
+pub record AreRowsIn (width count : ℕ) (row_of : ℕ → List ℕ) (rows : List (List ℕ)) : Type 0 where
   pub many : length rows ≡ count
-  pub each : (i : ℕ) → i < count → IsRowBy marks (kind i) (row_at rows i)
+  pub wide : (i : ℕ) → i < count → length (listed_row rows i) ≡ width
+  pub each : (i : ℕ) → i < count → listed_row rows i ≡ row_of i
 
 -- numbers of look-ahead rules are below their count, and status numbers aren't too large
 pub record AreSmallMarks (marks : PositionMarks) (slashes : ℕ) : Type 0 where
@@ -72,11 +59,11 @@ pub record AreSmallMarks (marks : PositionMarks) (slashes : ℕ) : Type 0 where
 pub record AreRowsOf (marks : PositionMarks) (categories slashes : ℕ) (rows : PositionRows) : Type 0 where
   pub categories_are : rows.categories ≡ categories
   pub slashes_are : rows.slashes ≡ slashes
-  pub first : IsRowBy marks First rows.first
-  pub chained : IsRowBy marks Chained rows.chained
-  pub last : IsRowBy marks Last rows.last
-  pub follow : AreRowsBy marks (λ before. Follow before) marks.leaves rows.follow
-  pub reads : AreRowsBy marks (λ category. Read category) categories rows.reads
+  pub first : rows.first ≡ marks.firsts
+  pub chained : IsChainedRow marks rows.chained
+  pub last : rows.last ≡ marks.lasts
+  pub follow : AreRowsIn marks.words marks.leaves (followers_in marks) rows.follow
+  pub reads : AreRowsIn marks.words categories (readers_in marks) rows.reads
   pub completed : AreMarkedIn marks Completed rows.completed
   pub fronts : AreMarkedIn marks Fronts rows.fronts
   pub tags : AreMarkedIn marks Tags rows.tags

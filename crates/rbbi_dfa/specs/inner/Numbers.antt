@@ -1,7 +1,7 @@
 -- The numbers of the status lists that classes have.
 use Rattle.std.specs.Prelude.{◌≡◌, ℕ, ◌/◌, ◌%◌, ◌<◌, Bool, true, false, List, [], length, slice_index, slice_index_or}
 use Rattle.rbbi_model.specs.Tables.{Table, RowHead, empty_head, accept_of, fronts_of, list_of, step}
-use Rattle.rbbi_dfa.specs.inner.Ranks.{AreRising}
+use Rattle.rbbi_dfa.specs.inner.Ranks.{AreOrderedLists}
 
 -- the place of each class's status list among the sorted ones
 pub record ArePlacesOf (automaton : Table) (places firsts class_places : List ℕ) : Type 0 where
@@ -17,7 +17,7 @@ pub record AreUsed (class_places : List ℕ) (used : List Bool) : Type 0 where
 -- The lists at the used places among so many, in order, and the number of each used place's list.
 pub record AreNumbered (used : List Bool) (sorted : List (List ℕ)) (count : ℕ) (numbers : List ℕ) (lists : List (List ℕ)) : Type 0 where
   pub many : length numbers ≡ count
-  pub rising : AreRising lists
+  pub rising : AreOrderedLists lists
   pub within : (place : ℕ) → place < count → slice_index_or used place false ≡ true → slice_index numbers place < length lists
   pub same : (place : ℕ) → place < count → slice_index_or used place false ≡ true → slice_index_or lists (slice_index numbers place) [] ≡ slice_index_or
       sorted place []

@@ -36,8 +36,8 @@ abbrev pub leads_inside : Table → List Bool → ℕ → ℕ → Bool
 leads_inside automaton inside category row = slice_index_or inside (step automaton row category) false
 
 -- the row is of the class, and leads by the category to the side on which rows of the class don't stay
-abbrev pub Leaves : Table → List ℕ → List Bool → ℕ → ℕ → Bool → ℕ → Type 0
-Leaves automaton classes inside class category stays row =
+abbrev pub LeavesClass : Table → List ℕ → List Bool → ℕ → ℕ → Bool → ℕ → Type 0
+LeavesClass automaton classes inside class category stays row =
     (slice_index classes row ≡ class) × (leads_inside automaton inside category row ≢ stays)
 
 -- By every category a row leads into the class into which the first row of its class leads.

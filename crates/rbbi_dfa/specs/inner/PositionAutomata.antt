@@ -9,7 +9,8 @@ use Rattle.rbbi_model.specs.Tables.{CategoryRange, category_of}
 use Rattle.rbbi_model.specs.Marks.{look_ahead_number}
 use Rattle.rbbi_model.specs.LeafSets.{first_position, SpellsPositions, Reads}
 use Rattle.rbbi_positions.specs.FollowPositions.{IsSpelled}
-use Rattle.rbbi_dfa.specs.inner.BitRows.{Holds, row_at}
+use Rattle.rbbi_bits.specs.BitRows.{Holds}
+use Rattle.rbbi_once.specs.NumberedRows.{listed_row}
 use Rattle.rbbi_dfa.specs.inner.PositionRows.{PositionMark, PositionRows}
 
 -- the list marks the position so
@@ -60,9 +61,9 @@ pub record IsOfRules (rules : List Rule) (ranges : List CategoryRange) (rows : P
   pub first : (position : ℕ) → Holds rows.first position ↔ ((number : ℕ) × FirstOf rules number position)
   pub chained : (position : ℕ) → Holds rows.chained position ↔ ((number : ℕ) × Chainable rules number × FirstOf rules number position)
   pub last : (position : ℕ) → Holds rows.last position ↔ ((number : ℕ) × LastOf rules number position)
-  pub follow : (position next : ℕ) → Holds (row_at rows.follow position) next ↔ ((number : ℕ) × FollowsIn rules number position next)
-  pub reads : (position c : ℕ) → IsCodePoint c → Holds (row_at rows.reads (category_of ranges c)) position ↔ Reads rules position c
-  pub unread : (position : ℕ) → ¬ Holds (row_at rows.reads 0) position
+  pub follow : (position next : ℕ) → Holds (listed_row rows.follow position) next ↔ ((number : ℕ) × FollowsIn rules number position next)
+  pub reads : (position c : ℕ) → IsCodePoint c → Holds (listed_row rows.reads (category_of ranges c)) position ↔ Reads rules position c
+  pub unread : (position : ℕ) → ¬ Holds (listed_row rows.reads 0) position
   pub completed : (position mark : ℕ) → Marked rows.completed position mark ↔
       ((number : ℕ) × LookAhead rules number × LastOf rules number position × (look_ahead_number rules number ≡ mark))
   pub fronts : (position mark : ℕ) → Marked rows.fronts position mark ↔ ((number : ℕ) × FrontLastOf rules number position ×

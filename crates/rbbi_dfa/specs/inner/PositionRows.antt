@@ -2,7 +2,7 @@
 use Rattle.std.specs.Prelude.{◌≡◌, ℕ, ◌<◌, ◌≤◌, List, length}
 use Rattle.std.specs.List.{All, AllPairs}
 use Rattle.rbbi_model.specs.Rules.{largest_tag}
-use Rattle.rbbi_dfa.specs.inner.BitRows.{row_at}
+use Rattle.rbbi_once.specs.NumberedRows.{listed_row}
 
 -- what is marked where the position reads the last code point: a number of a look-ahead rule, or a status number
 pub record PositionMark : Type 0 where
@@ -36,9 +36,9 @@ pub record AreRows (rows : PositionRows) : Type 0 where
   pub first : length rows.first ≡ rows.width
   pub chained : length rows.chained ≡ rows.width
   pub last : length rows.last ≡ rows.width
-  pub follow : (i : ℕ) → i < length rows.follow → length (row_at rows.follow i) ≡ rows.width
+  pub follow : (i : ℕ) → i < length rows.follow → length (listed_row rows.follow i) ≡ rows.width
   pub many_reads : length rows.reads ≡ rows.categories
-  pub reads : (i : ℕ) → i < length rows.reads → length (row_at rows.reads i) ≡ rows.width
+  pub reads : (i : ℕ) → i < length rows.reads → length (listed_row rows.reads i) ≡ rows.width
   pub completed : All (λ mark. mark.mark < rows.slashes) rows.completed
   pub fronts : All (λ mark. mark.mark < rows.slashes) rows.fronts
   pub small_tags : All (λ mark. mark.mark ≤ largest_tag) rows.tags

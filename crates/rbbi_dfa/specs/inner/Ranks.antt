@@ -4,12 +4,12 @@ use Rattle.std.specs.List.{Contains}
 use Rattle.rbbi_model.specs.ValidTables.{IsBefore}
 
 -- each list comes before all later ones
-abbrev pub AreRising : List (List ℕ) → Type 0
-AreRising sorted = (i j : ℕ) → i < j → j < length sorted → IsBefore (slice_index_or sorted i []) (slice_index_or sorted j [])
+abbrev pub AreOrderedLists : List (List ℕ) → Type 0
+AreOrderedLists sorted = (i j : ℕ) → i < j → j < length sorted → IsBefore (slice_index_or sorted i []) (slice_index_or sorted j [])
 
 -- the lists, each once and in order
 pub record AreSorted (lists sorted : List (List ℕ)) : Type 0 where
-  pub rising : AreRising sorted
+  pub rising : AreOrderedLists sorted
   pub all : (i : ℕ) → i < length lists → Contains sorted (slice_index_or lists i [])
 
 -- the rank of a list is its place among the sorted ones

@@ -1,17 +1,17 @@
-//! What may follow a set of positions, word by word. Sets that come one after another have most
-//! words in common, and what may follow a word is found once, until it is another.
+//! What may follow a set of positions, with a cache for each word of a set: sets that come one
+//! after another have most words in common.
 ghost use Rattle.std.specs.Prelude.{◌≡◌, ◌<◌, ◌↔◌, ℕ, length, slice_index, IfOk, OnOk};
-ghost use Rattle.rbbi_dfa.specs.inner.BitRows.{Holds};
+ghost use Rattle.rbbi_bits.specs.BitRows.{Holds};
 ghost use Rattle.rbbi_dfa.specs.inner.Determinizing.{AreFollowers};
 ghost use Rattle.rbbi_dfa.specs.inner.LastWords.{AddsFollowers, AreKept, FollowsWord};
 
-use crate::determinize::bits::is_set;
 use crate::determinize::position_rows::Rows;
 use crate::determinize::spanned::SpannedRow;
+use rbbi_bits::is_set;
 use std::alloc::{AllocError, Global};
 
-/// For each word of a set the value that it had last, and the positions that may follow those of
-/// it.
+/// A cache: for each word of a set the value that it had last, and the positions that may follow
+/// those of this value.
 #[derive(Drop)]
 pub(crate) struct LastWords {
     words: Vec<u64>,
@@ -45,7 +45,7 @@ fn union_of(alloc: Global, rows: &Rows, i: usize, word: u64) -> Result<SpannedRo
 }
 
 impl LastWords {
-    /// Words that are 0, which nothing follows.
+    /// The cache of the empty set, which nothing follows.
     pub fn new(alloc: Global, rows: &Rows) -> Result<LastWords, AllocError>
         ensures { IfOk result (λ last. AreKept rows.now last.words.items last.unions.items) }
     {
@@ -57,7 +57,7 @@ impl LastWords {
         Ok(LastWords { words, unions })
     }
 
-    /// Makes a word of the set this one.
+    /// Sees to it that the cache has this value of a word of the set.
     fn update(&mut self, alloc: Global, rows: &Rows, i: usize, word: u64) -> Result<(), AllocError>
         requires kept { AreKept rows.now self.old.words.items self.old.unions.items }
         requires within { i < rows.now.width }

@@ -3,8 +3,8 @@ ghost use Rattle.std.specs.Prelude.{◌≡◌, ◌<◌, ◌≤◌, ◌⊎◌, �
 ghost use Rattle.std.specs.Prelude.{slice_index, IfOk, OnOk};
 ghost use Rattle.rbbi_dfa.specs.inner.Determinizing.{IsAccept, AreFrontsOf, AreTagsOf};
 
-use crate::determinize::bits::{has, meet};
 use crate::determinize::position_rows::Rows;
+use rbbi_bits::{has, meet};
 use std::alloc::{AllocError, Global};
 
 /// The lower accept number of two, where those below 2 count as the highest.

@@ -1,8 +1,8 @@
 //! A set of positions with its span.
 ghost use Rattle.std.specs.Prelude.{◌≡◌, ◌⊎◌, ◌↔◌, ℕ, length};
-ghost use Rattle.rbbi_dfa.specs.inner.BitRows.{Holds};
+ghost use Rattle.rbbi_bits.specs.BitRows.{Holds};
 
-use crate::determinize::bits::{Span, span_of, unite};
+use rbbi_bits::{Span, span_of, unite_within};
 use std::marker::Model;
 
 /// A set of positions, with the words outside of which it holds nothing. What may follow a position
@@ -15,7 +15,7 @@ pub(crate) struct SpannedRow {
 
 impl Model for SpannedRow {
     ghost use Rattle.std.specs.Prelude.{List, ℕ};
-    ghost use Rattle.rbbi_dfa.specs.inner.BitRows.{IsSpan};
+    ghost use Rattle.rbbi_bits.specs.BitRows.{IsSpan};
 
     ghost Value = { List ℕ };
 
@@ -39,6 +39,6 @@ impl SpannedRow {
         ensures { (position : ℕ) →
             Holds set.new position ↔ (Holds set.old position ⊎ Holds self.now position) }
     {
-        unite(set, &self.words, self.span);
+        unite_within(set, &self.words, self.span);
     }
 }

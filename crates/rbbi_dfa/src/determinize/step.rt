@@ -1,16 +1,17 @@
 //! Which set of positions comes next by a category.
 ghost use Rattle.std.specs.Prelude.{◌≡◌, ◌<◌, ◌+◌, ◌*◌, ℕ, length, IsTrue, false};
-ghost use Rattle.rbbi_dfa.specs.inner.BitRows.{Holds, IsSpan, row_at};
+ghost use Rattle.rbbi_bits.specs.BitRows.{Holds, IsSpan};
+ghost use Rattle.rbbi_once.specs.NumberedRows.{listed_row};
 ghost use Rattle.rbbi_dfa.specs.inner.Determinizing.{IsStep, IsRow, AreFollowers, Completes};
 ghost use Rattle.rbbi_dfa.specs.inner.Determinizing.{AreFollowersUpTo};
 
-use crate::determinize::bits::{Span, has, intersect, meet, meet_within, unite_common};
 use crate::determinize::position_rows::Rows;
+use rbbi_bits::{Span, has, intersect, meet, meet_within, unite_common};
 
 /// The positions that can read the category.
 fn readers(rows: &Rows, category: usize) -> &[u64]
     requires category { category < rows.now.categories }
-    ensures readers { result.now ≡ row_at rows.now.reads category }
+    ensures readers { result.now ≡ listed_row rows.now.reads category }
     ensures wide { length result.now ≡ rows.now.width }
 {
     rows.reads[category].as_slice()
@@ -22,9 +23,9 @@ pub(crate) fn is_read(rows: &Rows, candidates: &[u64], span: Span, category: usi
     requires candidates { length candidates.now ≡ rows.now.width }
     requires span { IsSpan candidates.now span.from span.to }
     ensures some { IsTrue result → (position : ℕ)
-        × Holds candidates.now position × Holds (row_at rows.now.reads category) position }
+        × Holds candidates.now position × Holds (listed_row rows.now.reads category) position }
     ensures none { result ≡ false → (position : ℕ) →
-        Holds candidates.now position → ¬ Holds (row_at rows.now.reads category) position }
+        Holds candidates.now position → ¬ Holds (listed_row rows.now.reads category) position }
 {
     meet_within(candidates, readers(rows, category), span)
 }

@@ -25,7 +25,7 @@ fn have_same_marks(automaton: &Automaton, places: &[usize], this: u16, that: u16
         && places[these.list as usize] == places[those.list as usize]
 }
 
-/// The class with the marks of the row, but for class 0, and None exactly where there is none.
+/// The class with the marks of the row, but for class 0, or None exactly if there is none.
 fn class_with_marks(
     automaton: &Automaton,
     places: &[usize],

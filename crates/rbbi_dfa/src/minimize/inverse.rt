@@ -1,4 +1,4 @@
-//! The cells of an automaton turned round: the rows that lead to a row by a category.
+//! The inverse of the transitions: the rows that lead to a row by a category.
 ghost use Rattle.rbbi_dfa.specs.inner.Automata.{IsDetermined};
 
 use crate::automaton::Automaton;
@@ -17,7 +17,7 @@ pub(crate) struct Inverse {
 }
 
 impl Inverse {
-    /// Turns the cells of an automaton round.
+    /// Inverts the transitions of an automaton.
     pub fn new(alloc: Global, automaton: &Automaton) -> Result<Inverse, AllocError>
         requires { IsDetermined automaton.now }
     {

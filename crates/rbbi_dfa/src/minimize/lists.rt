@@ -3,7 +3,7 @@ ghost use Rattle.std.specs.Prelude.{◌≡◌, ℕ, ◌<◌, length, map, slice_
 ghost use Rattle.std.specs.List.{All};
 ghost use Rattle.rbbi_model.specs.Tables.{list_of};
 ghost use Rattle.rbbi_dfa.specs.inner.Automata.{IsDetermined};
-ghost use Rattle.rbbi_dfa.specs.inner.Ranks.{AreRising};
+ghost use Rattle.rbbi_dfa.specs.inner.Ranks.{AreOrderedLists};
 ghost use Rattle.rbbi_dfa.specs.inner.Numbers.{ArePlacesOf, AreUsed, AreNumbered};
 
 use crate::automaton::Automaton;
@@ -54,7 +54,7 @@ pub(crate) fn number_lists(
     sorted: &[&[u32]],
     used: &[bool],
 ) -> Result<(Vec<usize>, Vec<Vec<u32>>), AllocError>
-    requires rising { AreRising (map (λ statuses. statuses.now) sorted.now) }
+    requires rising { AreOrderedLists (map (λ statuses. statuses.now) sorted.now) }
     requires used { length used.now ≡ length sorted.now }
     ensures { IfOk result (λ made. AreNumbered used.now (map (λ statuses. statuses.now) sorted.now)
         (length sorted.now) made.0.items (map (λ statuses. statuses.items) made.1.items)) }

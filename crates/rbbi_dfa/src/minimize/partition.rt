@@ -2,7 +2,7 @@
 ghost use Rattle.std.specs.Prelude.{◌≡◌, ◌≢◌, ℕ, ◌+◌, ◌<◌, ◌≤◌, Bool, length, slice_index, OnOk};
 ghost use Rattle.std.specs.Prelude.{IsTrue, ◌↔◌};
 ghost use Rattle.rbbi_dfa.specs.inner.Automata.{IsDetermined};
-ghost use Rattle.rbbi_dfa.specs.inner.Partitions.{IsPartition, AreSides, Leaves, leads_inside};
+ghost use Rattle.rbbi_dfa.specs.inner.Partitions.{IsPartition, AreSides, LeavesClass, leads_inside};
 
 use crate::automaton::Automaton;
 use std::alloc::{AllocError, Global};
@@ -97,7 +97,7 @@ impl Cut {
         requires inside { length inside.now ≡ length automaton.now.rows }
         requires category { self.category < automaton.now.categories }
         requires row { row < length automaton.now.rows }
-        ensures { IsTrue result ↔ Leaves automaton.now classes.now inside.now self.class
+        ensures { IsTrue result ↔ LeavesClass automaton.now classes.now inside.now self.class
             self.category self.stays row }
     {
         classes[row as usize] == self.class

@@ -1,7 +1,7 @@
 //! The status lists of an automaton in order, each once.
 ghost use Rattle.std.specs.Prelude.{◌≡◌, ◌<◌, [], length, map, slice_index_or, IfOk};
 ghost use Rattle.std.specs.List.{Contains};
-ghost use Rattle.rbbi_dfa.specs.inner.Ranks.{AreRising, AreSorted, AreRanks, AreRanked};
+ghost use Rattle.rbbi_dfa.specs.inner.Ranks.{AreOrderedLists, AreSorted, AreRanks, AreRanked};
 
 use std::alloc::{AllocError, Global};
 
@@ -39,7 +39,7 @@ fn places(alloc: Global, lists: &[Vec<u32>], sorted: &[&[u32]]) -> Result<Vec<us
 
 /// The place of a list among sorted ones that hold it.
 fn place_of(sorted: &[&[u32]], statuses: &[u32]) -> usize
-    requires sorted { AreRising (map (λ statuses. statuses.now) sorted.now) }
+    requires sorted { AreOrderedLists (map (λ statuses. statuses.now) sorted.now) }
     requires held { Contains (map (λ statuses. statuses.now) sorted.now) statuses.now }
     ensures place { result < length sorted.now }
     ensures list { slice_index_or (map (λ statuses. statuses.now) sorted.now) result [] ≡

@@ -8,7 +8,7 @@ use crate::automaton::Automaton;
 use crate::minimize::Partition;
 
 /// A row and a category by which it leads into another class than the first row of its class does,
-/// and None exactly where there are none.
+/// or None exactly if there are none.
 pub(crate) fn disagreement(automaton: &Automaton, partition: &Partition) -> Option<(u16, u16)>
     requires determined { IsDetermined automaton.now }
     requires partition { IsPartition automaton.now partition.now.classes.items

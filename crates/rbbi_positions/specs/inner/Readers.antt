@@ -4,7 +4,7 @@ use Rattle.rbbi_model.specs.Words.{IsCodePoint}
 use Rattle.rbbi_model.specs.Ranges.{Range, Has}
 use Rattle.rbbi_model.specs.Tables.{CategoryRange, category_of}
 use Rattle.rbbi_resolve.specs.RuleTrees.{set_at}
-use Rattle.rbbi_positions.specs.PositionMarks.{in_row}
+use Rattle.rbbi_positions.specs.inner.Rows.{in_row}
 
 -- each category but 0 has a code point
 abbrev pub HasEachCategory : ℕ → List CategoryRange → Type 0

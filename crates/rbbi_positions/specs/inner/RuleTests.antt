@@ -6,7 +6,7 @@ use Rattle.rbbi_model.specs.Ranges.{Range, Has}
 use Rattle.rbbi_model.specs.Rules.{Rule, leaf_count, leaves_of}
 use Rattle.rbbi_model.specs.Tables.{CategoryRange, category_of}
 use Rattle.rbbi_resolve.specs.RuleTrees.{set_at}
-use Rattle.rbbi_positions.specs.inner.Rows.{row_bit}
+use Rattle.rbbi_bits.specs.BitRows.{row_bit}
 use Rattle.rbbi_positions.specs.inner.Trees.{begins, ends, goes}
 use Rattle.rbbi_positions.specs.FollowPositions.{IsOfRule}
 
@@ -15,7 +15,7 @@ abbrev pub some_rule : (Rule → ℕ → Bool) → List Rule → ℕ → Bool
 some_rule test [] first = false
 some_rule test (rule ∷ rules) first = test rule first || some_rule test rules (first + leaves_of rule)
 
--- some list of the rule begins with the position, where its front doesn't spell the empty list
+-- some list of the rule begins with the position, where its front isn't nullable
 abbrev pub rule_begins : ℕ → Rule → ℕ → Bool
 rule_begins position rule first = begins rule.front first position
 
@@ -23,11 +23,11 @@ rule_begins position rule first = begins rule.front first position
 abbrev pub front_ends : ℕ → Rule → ℕ → Bool
 front_ends position rule first = ends rule.front first position
 
--- some list of the rule ends with the position, where its rest doesn't spell the empty list
+-- some list of the rule ends with the position, where its rest isn't nullable
 abbrev pub rule_ends : ℕ → Rule → ℕ → Bool
 rule_ends position rule first = option_map_or (λ rest. ends rest (first + leaf_count rule.front) position) rule.rest (ends rule.front first position)
 
--- in some list of the rule the next position stands right after the position, where its rest doesn't spell the empty list
+-- in some list of the rule the next position stands right after the position, where its rest isn't nullable
 abbrev pub rule_goes : ℕ → ℕ → Rule → ℕ → Bool
 rule_goes position next rule first =
     option_map_or

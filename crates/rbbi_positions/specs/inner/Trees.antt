@@ -1,25 +1,25 @@
--- What is computed of a tree: whether it spells the empty list, and where its positions stand in the lists that it spells.
+-- What is computed of a tree: whether it is nullable, and where its positions stand in the lists that it spells.
 use Rattle.std.specs.Prelude.{ℕ, ◌+◌, ◌==◌, Bool, true, false, ◌&&◌, ◌||◌}
 use Rattle.rbbi_model.specs.Spelling.{Star, Plus, Quest, Tree, Leaf, Empty, Never, Then, Either, Repeat}
 use Rattle.rbbi_model.specs.Rules.{leaf_count}
 
--- whether the tree spells the empty list
-abbrev pub spells_empty : Tree → Bool
-spells_empty (Leaf set) = false
-spells_empty Empty = true
-spells_empty Never = false
-spells_empty (Then front rest) = spells_empty front && spells_empty rest
-spells_empty (Either front rest) = spells_empty front || spells_empty rest
-spells_empty (Repeat Star part) = true
-spells_empty (Repeat Plus part) = spells_empty part
-spells_empty (Repeat Quest part) = true
+-- whether the tree spells the empty list: it is nullable
+abbrev pub is_nullable : Tree → Bool
+is_nullable (Leaf set) = false
+is_nullable Empty = true
+is_nullable Never = false
+is_nullable (Then front rest) = is_nullable front && is_nullable rest
+is_nullable (Either front rest) = is_nullable front || is_nullable rest
+is_nullable (Repeat Star part) = true
+is_nullable (Repeat Plus part) = is_nullable part
+is_nullable (Repeat Quest part) = true
 
 -- whether some list that the tree spells begins with the position, where its first leaf has the one given
 abbrev pub begins : Tree → ℕ → ℕ → Bool
 begins (Leaf set) first position = position == first
 begins Empty first position = false
 begins Never first position = false
-begins (Then front rest) first position = begins front first position || (spells_empty front && begins rest (first + leaf_count front) position)
+begins (Then front rest) first position = begins front first position || (is_nullable front && begins rest (first + leaf_count front) position)
 begins (Either front rest) first position = begins front first position || begins rest (first + leaf_count front) position
 begins (Repeat repetition part) first position = begins part first position
 
@@ -28,13 +28,13 @@ abbrev pub ends : Tree → ℕ → ℕ → Bool
 ends (Leaf set) first position = position == first
 ends Empty first position = false
 ends Never first position = false
-ends (Then front rest) first position = ends rest (first + leaf_count front) position || (spells_empty rest && ends front first position)
+ends (Then front rest) first position = ends rest (first + leaf_count front) position || (is_nullable rest && ends front first position)
 ends (Either front rest) first position = ends front first position || ends rest (first + leaf_count front) position
 ends (Repeat repetition part) first position = ends part first position
 
 -- whether the next position may stand behind what stands before the tree, where behind the tree it may or not
 abbrev pub leads : Tree → ℕ → ℕ → Bool → Bool
-leads tree first next behind = begins tree first next || (spells_empty tree && behind)
+leads tree first next behind = begins tree first next || (is_nullable tree && behind)
 
 -- whether the next position may stand right after the position in the tree, where behind the tree it may or not
 abbrev pub goes : Tree → ℕ → ℕ → ℕ → Bool → Bool

@@ -1,5 +1,5 @@
 use Rattle.std.proofs.Common.{◌≡◌, ◌<◌, ◌+◌, length, sym, ap, ◌∙◌, subst, inr, arith}
-use Rattle.rbbi_dfa.specs.inner.BitRows.{row_at}
+use Rattle.rbbi_once.specs.NumberedRows.{listed_row}
 use Rattle.rbbi_dfa.specs.inner.PositionRows.{PositionRows}
 use Rattle.rbbi_dfa.specs.inner.Determinizing.{AreCellsUpTo, AddsZeros, AddsCells, Completes, AreFollowers}
 use Rattle.rbbi_dfa.specs.inner.LastWords.{AreKept}
@@ -34,7 +34,7 @@ lead_on-requires-else-completes-clause-candidates c =
     let rows = c.args.rows.now in
     let short : c.loop-i.i < length c.loop-i.sets = omega (arith, c.len.ensures.value, c.loop-i-test.true) in
     inr (
-      row_at c.loop-i.sets c.loop-i.i,
+      listed_row c.loop-i.sets c.loop-i.i,
       c.loop-i.invariant.led.reached.reached c.loop-i.i short,
       subst (λ l. ¬ Completes rows l) c.get-set.ensures (c.completes.ensures.none c.if-completes.false),
       subst (λ l. AreFollowers rows l c.follow.new.candidates) c.get-set.ensures c.in_ok-follow.ensures.followers,

@@ -17,8 +17,8 @@ returns-in_err-number_of-clause-refused c = λ refused.
     let gave = p.2 in
     let full = c.in_err-number_of.ensures.refused (cc) in
     let some = some_next c.args.rows.now c.args.candidates.now next c.loop-category.category c.step.ensures.step (c.is_read.ensures.some c.if-is_read.true) in
-    one_too_many c.args.rows.now c.number_of.new.self next
-    (kept_or_added c.args.rows.now c.loop-category.sets c.number_of.new.self next c.loop-category.invariant.reached c.in_err-number_of.ensures.sets
+    one_too_many c.args.rows.now c.number_of.new.sets next
+    (kept_or_added c.args.rows.now c.loop-category.sets c.number_of.new.sets next c.loop-category.invariant.reached c.in_err-number_of.ensures.sets
     c.step.ensures.row reached some).0 full.0 full.1 c.step.ensures.row reached some
 
 pub overflow_add-cell : goal.overflow_add-cell
@@ -47,7 +47,7 @@ loop-category-preserved c =
     elim c.if-is_read.branch [
       | then-is_read+in_ok-number_of w ↦
           let next = w.step.new.next in
-          let new = w.number_of.new.self in
+          let new = w.number_of.new.sets in
           let reached = reached_next rows candidates next category c.requires.candidates within w.step.ensures.step in
           let some = some_next rows candidates next category w.step.ensures.step (c.is_read.ensures.some w.if-is_read.true) in
           let more = kept_or_added rows here new next c.loop-category.invariant.reached w.in_ok-number_of.ensures.sets w.step.ensures.row reached some in

@@ -1,8 +1,9 @@
 use Rattle.std.proofs.Common.{◌<◌, ◌+◌, ◌^◌, ◌++◌, ◌∷◌, [], ℕ, Vec, Global, refl, sym, ap, ◌∙◌, subst, arith}
 use Rattle.std.proofs.lemmas.List.{map_push}
 use Rattle.rbbi_model.specs.Tables.{RowHead}
-use Rattle.rbbi_dfa.specs.inner.BitRows.{row_at}
-use Rattle.rbbi_dfa.specs.inner.Determinizing.{IsAccept, AreFrontsOf, AreTagsOf, AreMarked, items_of}
+use Rattle.rbbi_once.specs.NumberedRows.{listed_row}
+use Rattle.rbbi_dfa.specs.inner.Determinizing.{IsAccept, AreFrontsOf, AreTagsOf, AreMarked}
+use Rattle.rbbi_once.specs.NumberedRows.{items_of}
 use Rattle.rbbi_dfa.proofs.MarkLoops.{marked_more, no_fronts_small}
 use Rattle.rbbi_dfa.proofs.determinize.mark_all.Goals as goal
 use Rattle.rbbi_dfa.proofs.determinize.mark_all.Goals.{then-accept-lt2, else-accept-lt2}
@@ -25,7 +26,7 @@ loop-i-preserved c =
     (elim c.if-accept-lt2.branch [
       | then-accept-lt2 w ↦
           marked_more rows sets heads lists i head statuses refl accept
-          (λ small. subst (AreFrontsOf rows (row_at sets i)) (sym w.fronts-is)
+          (λ small. subst (AreFrontsOf rows (listed_row sets i)) (sym w.fronts-is)
           (subst (λ l. AreFrontsOf rows l w.fronts-fronts.result) set_is w.fronts-fronts.ensures.bits))
           (λ many. absurd (omega (arith, many, w.if-accept-lt2.true)))
           (subst (λ n. n < 2 ^ rows.slashes) (sym w.fronts-is) w.fronts-fronts.ensures.small) tags c.loop-i.invariant

@@ -3,7 +3,7 @@ use Rattle.std.proofs.Math.Bool.{or-false}
 use Rattle.rbbi_model.specs.Rules.{leaf_count}
 use Rattle.rbbi_resolve.specs.RuleTrees.{tree_of}
 use Rattle.rbbi_resolve.specs.declared.rules.Tree.TheViews.{the_lemmas}
-use Rattle.rbbi_positions.specs.inner.Rows.{row_bit}
+use Rattle.rbbi_bits.specs.BitRows.{row_bit}
 use Rattle.rbbi_positions.specs.inner.Trees.{begins}
 use Rattle.rbbi_positions.proofs.Folds.{same_leaves, of_repeat, tree_of_leaf}
 use Rattle.rbbi_positions.proofs.Parts.{count_sequence, count_choice, begins_on, begins_end, choice_on, begins_of, sequence_done, choice_done}

@@ -4,7 +4,7 @@ use Rattle.rbbi_model.specs.Ranges.{Range}
 use Rattle.rbbi_model.specs.Spelling.{sequence_of, choice_of}
 use Rattle.rbbi_model.specs.Rules.{leaf_count}
 use Rattle.rbbi_resolve.specs.RuleTrees.{tree_of}
-use Rattle.rbbi_positions.specs.inner.Rows.{row_bit}
+use Rattle.rbbi_bits.specs.BitRows.{row_bit}
 use Rattle.rbbi_positions.specs.inner.Trees.{begins}
 use Rattle.rbbi_positions.proofs.firsts.+add_firsts.Given as goal
 

@@ -7,8 +7,8 @@ use Rattle.rbbi_model.specs.Spelling.{Tree, sequence_of}
 use Rattle.rbbi_model.specs.Rules.{leaf_count}
 use Rattle.rbbi_resolve.specs.RuleTrees.{tree_of}
 use Rattle.rbbi_resolve.specs.declared.rules.Tree.TheViews.{the_lemmas}
-use Rattle.rbbi_positions.specs.inner.Rows.{row_bit}
-use Rattle.rbbi_positions.specs.PositionMarks.{in_row}
+use Rattle.rbbi_bits.specs.BitRows.{row_bit}
+use Rattle.rbbi_positions.specs.inner.Rows.{in_row}
 use Rattle.rbbi_positions.specs.inner.Trees.{goes, leads}
 use Rattle.rbbi_positions.specs.inner.Rounds.{behind_of}
 use Rattle.rbbi_positions.proofs.Folds.{same_leaves, tree_of_leaf, tree_of_all, tree_of_repeat, goes_repeat}

@@ -4,8 +4,8 @@ use Rattle.rbbi_model.specs.Ranges.{Range}
 use Rattle.rbbi_model.specs.Spelling.{sequence_of, choice_of}
 use Rattle.rbbi_model.specs.Rules.{leaf_count}
 use Rattle.rbbi_resolve.specs.RuleTrees.{tree_of}
-use Rattle.rbbi_positions.specs.inner.Rows.{row_bit}
-use Rattle.rbbi_positions.specs.PositionMarks.{in_row}
+use Rattle.rbbi_bits.specs.BitRows.{row_bit}
+use Rattle.rbbi_positions.specs.inner.Rows.{in_row}
 use Rattle.rbbi_positions.specs.inner.Trees.{goes}
 use Rattle.rbbi_positions.proofs.followers.+add_followers.Given as goal
 

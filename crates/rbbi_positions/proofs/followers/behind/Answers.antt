@@ -1,7 +1,7 @@
 use Rattle.std.proofs.Common.{Bool, ◌||◌, sym, ap, ◌∙◌}
 use Rattle.rbbi_tree.specs.declared.syntax.Quant.{Quant}
 use Rattle.rbbi_resolve.specs.RuleTrees.{tree_of}
-use Rattle.rbbi_positions.specs.inner.Rows.{row_bit}
+use Rattle.rbbi_bits.specs.BitRows.{row_bit}
 use Rattle.rbbi_positions.specs.inner.Trees.{begins}
 use Rattle.rbbi_positions.specs.inner.Rounds.{behind_of}
 use Rattle.rbbi_positions.proofs.RowWrites.{all_written}

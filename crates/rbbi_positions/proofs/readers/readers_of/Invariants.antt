@@ -2,7 +2,7 @@ use Rattle.std.proofs.Common.{◌≡◌, ℕ, ◌*◌, ◌<◌, ◌≤◌, ◌�
 use Rattle.std.specs.Prelude.{IsTrue}
 use Rattle.rbbi_model.specs.Ranges.{Has}
 use Rattle.rbbi_resolve.specs.RuleTrees.{set_at}
-use Rattle.rbbi_positions.specs.PositionMarks.{in_row}
+use Rattle.rbbi_positions.specs.inner.Rows.{in_row}
 use Rattle.rbbi_positions.proofs.readers.readers_of.Given as goal
 
 abbrev pub invariant-loop-category : goal.invariant-loop-category

@@ -2,7 +2,7 @@ use Rattle.std.proofs.Common.{◌≡◌, ℕ, ◌<◌, ◌↔◌, length, get_or
 use Rattle.std.specs.Prelude.{IsTrue}
 use Rattle.rbbi_model.specs.Ranges.{Has}
 use Rattle.rbbi_resolve.specs.RuleTrees.{set_at}
-use Rattle.rbbi_positions.specs.inner.Rows.{row_bit}
+use Rattle.rbbi_bits.specs.BitRows.{row_bit}
 use Rattle.rbbi_positions.proofs.readers.readers_of_code.Given as goal
 
 abbrev pub invariant-loop-position : goal.invariant-loop-position

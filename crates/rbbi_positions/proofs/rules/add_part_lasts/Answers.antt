@@ -1,14 +1,15 @@
-use Rattle.std.proofs.Common.{◌+◌, ◌||◌, false, [], get_or, sym, ap, ◌∙◌, arith}
+use Rattle.std.proofs.Common.{◌+◌, ◌||◌, [], sym, ap, ◌∙◌, arith}
 use Rattle.rbbi_model.specs.Rules.{leaf_count}
 use Rattle.rbbi_resolve.specs.RuleTrees.{tree_of}
 use Rattle.rbbi_resolve.specs.RuleLists.{rule_of}
+use Rattle.rbbi_bits.specs.BitRows.{row_bit}
 use Rattle.rbbi_positions.specs.inner.Trees.{ends}
 use Rattle.rbbi_positions.specs.inner.RuleParts.{part_ends}
 use Rattle.rbbi_positions.proofs.RuleFacts.{leaves_some, of_none, of_some}
 use Rattle.rbbi_positions.proofs.rules.add_part_lasts.Goals as goal
 
 pub overflow_add-first : goal.overflow_add-first
-overflow_add-first c = omega (arith, c.requires.few, c.requires.within [], c.count.ensures [], leaves_some [] c.args.rule.now c.in-Some.rest c.in-Some.is)
+overflow_add-first c = omega (arith, c.requires.short, c.requires.within [], c.count.ensures [], leaves_some [] c.args.rule.now c.in-Some.rest c.in-Some.is)
 
 pub add_lasts-requires-in-Some-clause-within : goal.add_lasts-requires-in-Some-clause-within
 add_lasts-requires-in-Some-clause-within c =
@@ -17,22 +18,22 @@ add_lasts-requires-in-Some-clause-within c =
 pub returns-in-Front : goal.returns-in-Front
 returns-in-Front c = λ sets position.
     c.add_lasts.ensures sets position
-    ∙ ap (λ part. get_or c.args.flags.now position false || part_ends part position (rule_of sets c.args.rule.now) c.args.first) (sym c.in-Front.is)
+    ∙ ap (λ part. row_bit c.args.row.now position || part_ends part position (rule_of sets c.args.rule.now) c.args.first) (sym c.in-Front.is)
 
 pub returns-in-None : goal.returns-in-None
 returns-in-None c = λ sets position.
     let front = tree_of sets c.args.rule.now.front in
     c.add_lasts-in-None.ensures sets position
-    ∙ ap (λ x. get_or c.args.flags.now position false || x)
+    ∙ ap (λ x. row_bit c.args.row.now position || x)
     (sym (of_none sets c.args.rule.now (λ rest. ends rest (c.args.first + leaf_count front) position) (ends front c.args.first position) c.in-None.is))
-    ∙ ap (λ part. get_or c.args.flags.now position false || part_ends part position (rule_of sets c.args.rule.now) c.args.first) (sym c.in-Whole.is)
+    ∙ ap (λ part. row_bit c.args.row.now position || part_ends part position (rule_of sets c.args.rule.now) c.args.first) (sym c.in-Whole.is)
 
 pub returns-in-Some : goal.returns-in-Some
 returns-in-Some c = λ sets position.
     let front = tree_of sets c.args.rule.now.front in
     c.add_lasts-in-Some.ensures sets position
-    ∙ ap (λ n. get_or c.args.flags.now position false || ends (tree_of sets c.in-Some.rest) (c.args.first + n) position) (c.count.ensures sets)
-    ∙ ap (λ x. get_or c.args.flags.now position false || x)
+    ∙ ap (λ n. row_bit c.args.row.now position || ends (tree_of sets c.in-Some.rest) (c.args.first + n) position) (c.count.ensures sets)
+    ∙ ap (λ x. row_bit c.args.row.now position || x)
     (sym (of_some sets c.args.rule.now c.in-Some.rest (λ rest. ends rest (c.args.first + leaf_count front) position) (ends front c.args.first position)
     c.in-Some.is))
-    ∙ ap (λ part. get_or c.args.flags.now position false || part_ends part position (rule_of sets c.args.rule.now) c.args.first) (sym c.in-Whole.is)
+    ∙ ap (λ part. row_bit c.args.row.now position || part_ends part position (rule_of sets c.args.rule.now) c.args.first) (sym c.in-Whole.is)

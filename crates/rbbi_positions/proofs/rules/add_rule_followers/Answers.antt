@@ -4,8 +4,8 @@ use Rattle.std.specs.Prelude.{OnOk}
 use Rattle.rbbi_model.specs.Rules.{leaf_count, leaves_of}
 use Rattle.rbbi_resolve.specs.RuleTrees.{tree_of}
 use Rattle.rbbi_resolve.specs.RuleLists.{rule_of}
-use Rattle.rbbi_positions.specs.inner.Rows.{row_bit}
-use Rattle.rbbi_positions.specs.PositionMarks.{in_row}
+use Rattle.rbbi_bits.specs.BitRows.{row_bit}
+use Rattle.rbbi_positions.specs.inner.Rows.{in_row}
 use Rattle.rbbi_positions.specs.inner.Trees.{begins, goes}
 use Rattle.rbbi_positions.proofs.RowWrites.{all_written, rows_within}
 use Rattle.rbbi_positions.proofs.RuleFacts.{leaves_some, of_none, of_some}

@@ -1,6 +1,6 @@
 use Rattle.std.proofs.Common.{◌||◌, [], length, ap, ◌∙◌, arith}
 use Rattle.rbbi_resolve.specs.RuleTrees.{tree_of}
-use Rattle.rbbi_positions.specs.inner.Rows.{row_bit}
+use Rattle.rbbi_bits.specs.BitRows.{row_bit}
 use Rattle.rbbi_positions.specs.inner.Trees.{begins}
 use Rattle.rbbi_positions.specs.inner.RuleTests.{rule_begins}
 use Rattle.rbbi_positions.proofs.RowWrites.{all_written}

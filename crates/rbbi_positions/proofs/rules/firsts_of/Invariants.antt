@@ -1,7 +1,7 @@
 use Rattle.std.proofs.Common.{◌≡◌, ℕ, length, take}
 use Rattle.rbbi_model.specs.LeafSets.{first_position}
 use Rattle.rbbi_resolve.specs.RuleLists.{rules_of}
-use Rattle.rbbi_positions.specs.inner.Rows.{row_bit}
+use Rattle.rbbi_bits.specs.BitRows.{row_bit}
 use Rattle.rbbi_positions.specs.inner.RuleTests.{some_rule, rule_begins}
 use Rattle.rbbi_positions.proofs.rules.firsts_of.Given as goal
 

@@ -1,9 +1,9 @@
 use Rattle.std.proofs.Common.{◌≡◌, ℕ, ◌+◌, ◌*◌, ◌<◌, ◌≤◌, ◌||◌, Bool, [], length, sym, ap, ◌∙◌, subst, arith}
 use Rattle.rbbi_model.specs.Rules.{leaves_of}
 use Rattle.rbbi_resolve.specs.RuleLists.{rule_of}
-use Rattle.rbbi_positions.specs.PositionMarks.{in_row}
+use Rattle.rbbi_positions.specs.inner.Rows.{in_row}
 use Rattle.rbbi_positions.specs.inner.RuleTests.{rule_goes}
-use Rattle.rbbi_positions.proofs.BitRows.{blank_row}
+use Rattle.rbbi_bits.proofs.Rows.{blank as blank_row}
 use Rattle.rbbi_positions.proofs.RowWrites.{all_written, rows_within}
 use Rattle.rbbi_positions.proofs.RuleFacts.{first_next, first_within, some_next}
 use Rattle.rbbi_positions.proofs.rules.followers_of.Goals as goal

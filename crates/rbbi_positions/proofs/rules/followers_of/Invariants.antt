@@ -1,7 +1,7 @@
 use Rattle.std.proofs.Common.{◌≡◌, ℕ, ◌*◌, ◌<◌, length, take}
 use Rattle.rbbi_model.specs.LeafSets.{first_position}
 use Rattle.rbbi_resolve.specs.RuleLists.{rules_of}
-use Rattle.rbbi_positions.specs.PositionMarks.{in_row}
+use Rattle.rbbi_positions.specs.inner.Rows.{in_row}
 use Rattle.rbbi_positions.specs.inner.RuleTests.{some_rule, rule_goes}
 use Rattle.rbbi_positions.proofs.rules.followers_of.Given as goal
 

@@ -1,5 +1,6 @@
-use Rattle.std.proofs.Common.{◌||◌, false, [], length, get_or, ap, ◌∙◌, arith}
+use Rattle.std.proofs.Common.{◌||◌, [], length, ap, ◌∙◌, arith}
 use Rattle.rbbi_resolve.specs.RuleLists.{rule_of}
+use Rattle.rbbi_bits.specs.BitRows.{row_bit}
 use Rattle.rbbi_positions.specs.inner.RuleParts.{part_ends}
 use Rattle.rbbi_positions.proofs.RowWrites.{all_written}
 use Rattle.rbbi_positions.proofs.RuleFacts.{first_next, first_within, some_next}
@@ -11,25 +12,25 @@ add_part_lasts-requires-clause-within c =
 
 pub count_of_rule-start-requires : goal.count_of_rule-start-requires
 count_of_rule-start-requires c =
-    λ sets. omega (arith, first_within c.args.rules.now _ _ c.get-rule.ensures sets, c.requires.all, c.requires.few)
+    λ sets. omega (arith, first_within c.args.rules.now _ _ c.get-rule.ensures sets, c.requires.wide, c.requires.few)
 
 pub overflow_add-start : goal.overflow_add-start
 overflow_add-start c =
-    omega (arith, c.count_of_rule-start.ensures [], first_within c.args.rules.now _ _ c.get-rule.ensures [], c.requires.all, c.requires.few)
+    omega (arith, c.count_of_rule-start.ensures [], first_within c.args.rules.now _ _ c.get-rule.ensures [], c.requires.wide, c.requires.few)
 
 pub loop-number-preserved : goal.loop-number-preserved
 loop-number-preserved c =
-    let written = all_written c.loop-number.flags _ c.add_part_lasts.new.flags c.deref_mut.ensures.value c.add_part_lasts.auto.flags in
+    let written = all_written c.loop-number.row _ c.add_part_lasts.new.row c.deref_mut.ensures.value c.add_part_lasts.auto.row in
     record {
-      many = ap length written ∙ c.add_part_lasts.auto.flags ∙ ap length c.deref_mut.ensures.value ∙ c.loop-number.invariant.many;
+      many = ap length written ∙ c.add_part_lasts.auto.row ∙ ap length c.deref_mut.ensures.value ∙ c.loop-number.invariant.many;
       at = omega (arith, c.loop-number.invariant.at, c.count_of_rule-start.ensures [], first_next c.args.rules.now _ _ c.get-rule.ensures []);
-      flags = λ position.
-          ap (λ flags. get_or flags position false) written
+      bits = λ position.
+          ap (λ row. row_bit row position) written
           ∙ some_next c.args.rules.now _ _ c.get-rule.ensures (part_ends c.args.part position) c.loop-number.start
-          (get_or c.loop-number.flags.items position false) (get_or c.add_part_lasts.new.flags position false) c.loop-number.invariant.at
-          (c.loop-number.invariant.flags position)
+          (row_bit c.loop-number.row.items position) (row_bit c.add_part_lasts.new.row position) c.loop-number.invariant.at
+          (c.loop-number.invariant.bits position)
           (c.add_part_lasts.ensures c.args.rules.now.sets position
-          ∙ ap (λ flags. get_or flags position false
+          ∙ ap (λ row. row_bit row position
           || part_ends c.args.part position (rule_of c.args.rules.now.sets c.get-rule.result.now) c.loop-number.start)
           c.deref_mut.ensures.value);
     }

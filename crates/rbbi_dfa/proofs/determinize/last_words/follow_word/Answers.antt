@@ -1,9 +1,9 @@
 use Rattle.std.proofs.Common.{◌+◌, ◌*◌, ◌<◌, length, sym, ap, ◌∙◌, subst, arith}
 use Rattle.std.proofs.lemmas.Bool.{false≢true}
-use Rattle.rbbi_dfa.specs.inner.BitRows.{row_at}
+use Rattle.rbbi_once.specs.NumberedRows.{listed_row}
 use Rattle.rbbi_dfa.specs.inner.PositionRows.{PositionRows}
 use Rattle.rbbi_dfa.specs.inner.LastWords.{AddsFollowers}
-use Rattle.rbbi_dfa.proofs.RowLists.{found_row}
+use Rattle.rbbi_once.proofs.RowLists.{found_row}
 use Rattle.rbbi_dfa.proofs.WordFollowers.{adds_none, adds_with, adds_without, adds_past}
 use Rattle.rbbi_dfa.proofs.determinize.last_words.follow_word.Goals as goal
 use Rattle.rbbi_dfa.proofs.determinize.last_words.follow_word.Goals.{then-position-len+then-is_set, else-position-len}
@@ -41,14 +41,14 @@ loop-bit-preserved c =
     elim c.if-position-len.branch [
       | then-position-len+then-is_set w ↦
           let short : position < length c.rows.inside.follow.items = omega (arith, w.if-position-len.true, c.len.ensures, c.rows.inside.follow.ok.0) in
-          let is = ap (λ l. row_at l position) (sym same) ∙ found_row c.rows.inside.follow.items position w.index.result.now short w.index.ensures in
+          let is = ap (λ l. listed_row l position) (sym same) ∙ found_row c.rows.inside.follow.items position w.index.result.now short w.index.ensures in
           subst (AddsFollowers follow i word (bit + 1) old) (sym w.next-is)
-          (adds_with follow i word bit old c.loop-bit.next w.add_to.new.set w.index.result.now here (w.is_set.ensures.0 w.if-is_set.true) is w.add_to.ensures)
+          (adds_with follow i word bit old c.loop-bit.next w.add_to.new.set w.index.result.now here (sym w.is_set.ensures ∙ w.if-is_set.true) is w.add_to.ensures)
       | else-position-len w ↦
           subst (AddsFollowers follow i word (bit + 1) old) (sym w.next-is)
           (elim w.else-position-len.branch [
             | else-position-len-via-then-position-len+else-is_set w' ↦ adds_without follow i word bit old c.loop-bit.next here
-                (λ one. false≢true (sym w'.if-is_set.false ∙ w'.is_set.ensures.1 one))
+                (λ one. false≢true (sym w'.if-is_set.false ∙ w'.is_set.ensures ∙ one))
             | else-position-len-via-else-position-len w' ↦ adds_past follow i word bit old c.loop-bit.next here
                 (omega (arith, w'.if-position-len.false, c.len.ensures, c.rows.inside.follow.ok.0, ap length same))
           ])

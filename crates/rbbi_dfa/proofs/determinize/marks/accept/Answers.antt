@@ -23,7 +23,7 @@ loop-mark-preserved c =
           subst (IsAcceptUpTo marks set last (i + 1)) (sym w.accept-is)
           (⊎_elim
           (λ takes. subst (IsAcceptUpTo marks set last (i + 1)) (sym takes.1)
-          (accept_takes marks set last i c.loop-mark.accept c.mark.inside.position c.mark.inside.mark read takes.0 (c.has.ensures.0 w.if-has.true)
+          (accept_takes marks set last i c.loop-mark.accept c.mark.inside.position c.mark.inside.mark read takes.0 (sym c.has.ensures ∙ w.if-has.true)
           c.loop-mark.invariant))
           (λ stays. subst (IsAcceptUpTo marks set last (i + 1)) (sym stays.2)
           (accept_stays marks set last i c.loop-mark.accept c.mark.inside.position c.mark.inside.mark read (λ holds. (stays.0, stays.1))
@@ -32,5 +32,5 @@ loop-mark-preserved c =
       | else-has w ↦
           subst (IsAcceptUpTo marks set last (i + 1)) (sym w.accept-is)
           (accept_stays marks set last i c.loop-mark.accept c.mark.inside.position c.mark.inside.mark read
-          (λ holds. absurd (false≢true (sym w.if-has.false ∙ c.has.ensures.1 holds))) c.loop-mark.invariant)
+          (λ holds. absurd (false≢true (sym w.if-has.false ∙ c.has.ensures ∙ holds))) c.loop-mark.invariant)
     ]

@@ -27,14 +27,14 @@ loop-mark-preserved c =
       | then-has w ↦ (
         subst (AreFrontsUpTo marks set (i + 1)) (sym w.fronts-is)
             (fronts_takes marks set i c.loop-mark.fronts c.mark.inside.position c.mark.inside.mark read (omega (arith, below, slashes))
-            (c.has.ensures.0 w.if-has.true) c.loop-mark.invariant.0),
+            (sym c.has.ensures ∙ w.if-has.true) c.loop-mark.invariant.0),
         subst (λ n. n < 2 ^ c.args.rows.now.slashes) (sym w.fronts-is)
             (fronts_small c.loop-mark.fronts c.mark.inside.mark c.args.rows.now.slashes below slashes c.loop-mark.invariant.1),
       )
       | else-has w ↦ (
         subst (AreFrontsUpTo marks set (i + 1)) (sym w.fronts-is)
             (fronts_stays marks set i c.loop-mark.fronts c.mark.inside.position c.mark.inside.mark read
-            (λ holds. false≢true (sym w.if-has.false ∙ c.has.ensures.1 holds)) c.loop-mark.invariant.0),
+            (λ holds. false≢true (sym w.if-has.false ∙ c.has.ensures ∙ holds)) c.loop-mark.invariant.0),
         omega (arith, w.fronts-is, c.loop-mark.invariant.1),
       )
     ]

@@ -32,11 +32,11 @@ loop-mark-preserved c =
           c.loop-mark.invariant))
           (λ takes.
           subst (AreTagsUpTo marks set (i + 1)) (sym takes.0)
-          (tags_takes marks set old i position mark read (c.has.ensures.0 w.if-has.true) takes.1 c.loop-mark.invariant))
+          (tags_takes marks set old i position mark read (sym c.has.ensures ∙ w.if-has.true) takes.1 c.loop-mark.invariant))
           w.in_ok-add_status.ensures)
       | else-has w ↦
           subst (λ v. AreTagsUpTo marks set (i + 1) v.items) (sym w.statuses-is)
-          (tags_stays marks set old i position mark read (λ holds. absurd (false≢true (sym w.if-has.false ∙ c.has.ensures.1 holds))) c.loop-mark.invariant)
+          (tags_stays marks set old i position mark read (λ holds. absurd (false≢true (sym w.if-has.false ∙ c.has.ensures ∙ holds))) c.loop-mark.invariant)
     ]
 
 pub returns : goal.returns

@@ -1,7 +1,7 @@
-use Rattle.rbbi_dfa.specs.declared.determinize.rows_of.RowKind.TheVariants.{Read}
-use Rattle.rbbi_dfa.specs.inner.Determinizing.{items_of}
-use Rattle.rbbi_dfa.specs.inner.MarkedRows.{AreRowsBy}
+use Rattle.rbbi_positions.specs.PositionMarks.{readers_in}
+use Rattle.rbbi_once.specs.NumberedRows.{items_of}
+use Rattle.rbbi_dfa.specs.inner.MarkedRows.{AreRowsIn}
 use Rattle.rbbi_dfa.proofs.determinize.rows_of.read_rows.Given as goal
 
 abbrev pub invariant-loop-category : goal.invariant-loop-category
-invariant-loop-category l = AreRowsBy l.positions (λ i. Read i) l.category (items_of l.rows.items)
+invariant-loop-category l = AreRowsIn l.positions.words l.category (readers_in l.positions) (items_of l.rows.items)

@@ -1,5 +1,5 @@
 use Rattle.std.proofs.Common.{ℕ, ◌<◌, get_or}
-use Rattle.rbbi_dfa.specs.inner.BitRows.{Holds}
+use Rattle.rbbi_bits.specs.BitRows.{Holds}
 use Rattle.rbbi_dfa.specs.inner.PositionRows.{PositionMark}
 use Rattle.rbbi_dfa.proofs.determinize.step.completes.Given as goal
 

@@ -1,5 +1,5 @@
 use Rattle.std.proofs.Common.{ℕ, List, sym, subst}
-use Rattle.rbbi_dfa.specs.inner.BitRows.{Holds}
+use Rattle.rbbi_bits.specs.BitRows.{Holds}
 use Rattle.rbbi_dfa.proofs.determinize.step.is_read.Goals as goal
 
 pub returns-clause-some : goal.returns-clause-some

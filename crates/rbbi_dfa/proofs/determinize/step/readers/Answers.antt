@@ -1,7 +1,7 @@
 use Rattle.std.proofs.Common.{length, sym, ap, ◌∙◌, arith}
-use Rattle.rbbi_dfa.specs.inner.BitRows.{row_at}
+use Rattle.rbbi_once.specs.NumberedRows.{listed_row}
 use Rattle.rbbi_dfa.specs.inner.PositionRows.{PositionRows}
-use Rattle.rbbi_dfa.proofs.RowLists.{items_at, items_many}
+use Rattle.rbbi_once.proofs.RowLists.{items_at, items_many}
 use Rattle.rbbi_dfa.proofs.determinize.step.readers.Goals as goal
 
 pub returns : goal.returns
@@ -13,6 +13,6 @@ returns c =
     c.index.ensures in
     let wide = c.rows.invariant.reads c.args.category (omega (arith, many, short, categories, c.requires)) in
     record {
-      readers = c.as_slice.ensures.value ∙ sym at ∙ ap (λ (r : PositionRows). row_at r.reads c.args.category) c.rows.view_is;
+      readers = c.as_slice.ensures.value ∙ sym at ∙ ap (λ (r : PositionRows). listed_row r.reads c.args.category) c.rows.view_is;
       wide = omega (arith, wide, ap length at, ap length c.as_slice.ensures.value, ap (λ (r : PositionRows). r.width) c.rows.view_is);
     }

@@ -1,0 +1,6 @@
+use Rattle.std.proofs.Common.{◌≡◌, ℕ, ◌<◌, ◌≤◌, get_or}
+use Rattle.std.specs.Prelude.{bit_and}
+use Rattle.rbbi_bits.proofs.combine.meet_within.Given as goal
+
+abbrev pub invariant-loop-i : goal.invariant-loop-i
+invariant-loop-i l = (k : ℕ) → l.fn.span.from ≤ k → k < l.i → bit_and (get_or l.these k 0) (get_or l.those k 0) ≡ 0

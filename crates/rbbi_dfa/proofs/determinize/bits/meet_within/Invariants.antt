@@ -1,6 +1,0 @@
-use Rattle.std.proofs.Common.{◌≡◌, ℕ, ◌<◌, ◌≤◌, get_or}
-use Rattle.std.specs.Prelude.{bit_and}
-use Rattle.rbbi_dfa.proofs.determinize.bits.meet_within.Given as goal
-
-abbrev pub invariant-loop-i : goal.invariant-loop-i
-invariant-loop-i l = (k : ℕ) → l.fn.span.from ≤ k → k < l.i → bit_and (get_or l.these k 0) (get_or l.those k 0) ≡ 0

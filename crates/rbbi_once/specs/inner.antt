@@ -1,0 +1,2 @@
+-- The index of the rows, by which they are found.
+pub mod Index

@@ -1,0 +1,11 @@
+//! Rows of words that are numbered, so that equal ones have one number and are kept once.
+#![tactic(auto)]
+
+mod hash;
+mod numbered;
+
+pub use hash::{hash_of, mixed};
+pub use numbered::NumberedRows;
+
+#[cfg(test)]
+mod tests;
