@@ -1,9 +1,4 @@
 pub mod Rising
 pub mod Covers
-pub mod Classes
-pub mod Steps
-pub mod Divisions
-pub mod Passing
-pub mod CharacterSets
 pub mod Laws
 pub mod inner

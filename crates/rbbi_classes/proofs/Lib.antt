@@ -1,0 +1,17 @@
+pub mod ClassBounds
+pub mod FirstCodePoints
+pub mod DividedMembers
+pub mod ClassWalks
+pub mod ClassWords
+pub mod ClassRows
+pub mod ClassMembers
+pub mod ClassRoom
+pub mod ClassSpans
+pub mod ClassChunks
+pub mod RangesWhere
+pub mod CharacterMembers
+pub mod Stepping
+pub mod StepFirsts
+pub mod StepMerges
+pub mod SetSteps
+pub mod Dividing
