@@ -15,3 +15,4 @@ pub mod StepFirsts
 pub mod StepMerges
 pub mod SetSteps
 pub mod Dividing
+pub mod Halving

@@ -1,12 +1,12 @@
 -- Steps at which one begins and ceases to be in a set.
-use Rattle.std.proofs.Common.{◌≡◌, ℕ, ◌+◌, ◌-◌, ◌<◌, ◌≤◌, List, [], ◌∷◌, ◌++◌, ◌⊎◌, length, get_or, take, drop, cond, leb, refl, ap, sym, ◌∙◌, inl}
+use Rattle.std.proofs.Common.{◌≡◌, ◌↔◌, ℕ, ◌+◌, ◌-◌, ◌<◌, ◌≤◌, List, [], ◌∷◌, ◌++◌, ◌⊎◌, length, get_or, take, drop, cond, leb, refl, ap, sym, ◌∙◌, inl}
 use Rattle.std.proofs.Common.{inr, arith, subst, Bool, true, false}
-use Rattle.std.proofs.lemmas.Bool.{cases_lt}
+use Rattle.std.proofs.lemmas.Bool.{cases_lt, cases_eq}
 use Rattle.std.proofs.lemmas.List.{take_more, take_all, drop_more, take-append-drop}
 use Rattle.rbbi_model.specs.Ranges.{Range, InRange, Has}
 use Rattle.rbbi_sets.specs.Rising.{AreRisingFrom, AreRising}
 use Rattle.rbbi_classes.specs.Steps.{number_at}
-use Rattle.rbbi_classes.specs.inner.Steps.{HasRestrictedGrowthFrom, Separate}
+use Rattle.rbbi_classes.specs.inner.Steps.{HasRestrictedGrowthFrom, Separate, DontSeparateMore}
 use Rattle.rbbi_classes.specs.declared.steps.Step.{Step}
 use Rattle.rbbi_sets.proofs.Coverage.{has-append}
 use Rattle.rbbi_classes.proofs.Stepping.{AreStepsTo, steps-weaker, steps-push, number-kept, number-pushed}
@@ -48,6 +48,7 @@ pub record AreOfRanges (set : List Range) (k inside : ℕ) (steps : List Step) :
   pub into : (c : ℕ) → Has (take k set) c → number_at steps c ≡ inside
   pub out : (c : ℕ) → c ≤ 0x10FFFF → number_at steps c ≡ inside → Has (take k set) c ⊎ ((k ≡ 0) × Has set 0)
   pub first : ((k ≡ 0) × (steps ≡ [])) ⊎ (2 ≤ at)
+  pub few : (c : ℕ) → c ≤ 0x10FFFF → number_at steps c ≤ 1
 
 -- no step is needed for no range
 none : (set : List Range) (inside : ℕ) → AreRising set → IsInside set inside → AreOfRanges set 0 inside []
@@ -60,6 +61,7 @@ none set inside rising is = record {
   into = λ c m. absurd m;
   out = λ c l e. elim is [ inl both ↦ inr (refl, both.0) | inr other ↦ absurd (omega (arith, e, other.1)) ];
   first = inl (refl, refl);
+  few = λ c l. omega arith;
 }
 
 -- and so it is for an empty list of steps
@@ -80,6 +82,27 @@ ranges-separate set k inside steps rising l h c d small few same other contains 
       | inl had ↦ subst (λ (xs : List Range). Has xs d) whole had
       | inr empty ↦ absurd (omega (arith, has-some set 0 empty.1, empty.0))
     ])
+
+-- and code points that are both members, or both not, have one number
+pub ranges-joint : (set : List Range) (k inside : ℕ) (steps : List Step) → inside ≤ 1 → length set ≤ k → AreOfRanges set k inside steps →
+    DontSeparateMore steps (set ∷ [])
+ranges-joint set k inside steps small l h c d low few alike =
+    let whole = take_all k set l in
+    let same : Has set c ↔ Has set d = alike set (0, omega arith, refl) in
+    let member : (code : ℕ) → code ≤ 0x10FFFF → number_at steps code ≡ inside → Has set code =
+    λ code le e. elim (h.out code le e) [
+      | inl had ↦ subst (λ (xs : List Range). Has xs code) whole had
+      | inr empty ↦ absurd (omega (arith, has-some set 0 empty.1, empty.0))
+    ] in
+    let number : (code : ℕ) → Has set code → number_at steps code ≡ inside =
+    λ code m. h.into code (subst (λ (xs : List Range). Has xs code) (sym whole) m) in
+    elim (cases_eq (number_at steps c) inside) [
+      | inl in_c ↦ in_c ∙ sym (number d (same.0 (member c low in_c)))
+      | inr out_c ↦ elim (cases_eq (number_at steps d) inside) [
+        | inl in_d ↦ absurd (out_c (number c (same.1 (member d few in_d))))
+        | inr out_d ↦ omega (arith, out_c, out_d, small, h.few c low, h.few d few)
+      ]
+    ]
 
 module _ (set : List Range) (k inside outside : ℕ) (old begun new : List Step) (range : Range) (rising : AreRising set) (l : k < length set)
     (range_is : range ≡ get_or set k range) (is : IsInside set inside) (other : outside ≡ 1 - inside) (h : AreOfRanges set k inside old)
@@ -259,4 +282,11 @@ module _ (set : List Range) (k inside outside : ℕ) (old begun new : List Step)
       ]
     ]);
     first = inr (omega arith);
+    few = λ c few. elim (cases_lt range.high c) [
+      | inl past ↦ omega (arith, new_past c few past, other)
+      | inr upto ↦ elim (cases_lt c range.low) [
+        | inl early ↦ omega (arith, new_kept c upto, begun_kept c early, h.few c few)
+        | inr from ↦ omega (arith, new_kept c upto, begun_into c from, small)
+      ]
+    ];
   }

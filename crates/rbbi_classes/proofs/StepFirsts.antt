@@ -23,6 +23,7 @@ pub record AreFirsts (steps : List Step) (i : ℕ) (bounds : List ℕ) : Type 0 
   pub before : last < at
   pub within : (c : ℕ) → number_at (take i steps) c ≤ length bounds
   pub first : (k : ℕ) → k ≤ length bounds → (first_of bounds k < at) × (number_at (take i steps) (first_of bounds k) ≡ k)
+  pub least : (c : ℕ) → first_of bounds (number_at (take i steps) c) ≤ c
 
 -- no bound belongs to no step
 none : (steps : List Step) → AreSteps steps → HasRestrictedGrowth steps → AreFirsts steps 0 []
@@ -36,6 +37,7 @@ none steps form order = record {
   before = omega arith;
   within = λ c. omega arith;
   first = λ k l. let zero : 0 ≡ k = omega arith in subst (λ (k : ℕ). (first_of [] k < 1) × (number_at [] (first_of [] k) ≡ k)) zero (omega arith, refl);
+  least = λ c. omega arith;
 }
 
 -- before the first step there is 0 alone
@@ -45,11 +47,13 @@ firsts-none steps bounds form order empty = subst (λ (xs : List ℕ). AreFirsts
 -- at the end the bounds are those of all numbers
 pub firsts-all : (steps : List Step) (i : ℕ) (bounds : List ℕ) → length steps ≤ i → AreFirsts steps i bounds →
     AreBounds bounds × ((c : ℕ) → number_at steps c ≤ length bounds) × ((k : ℕ) → k ≤ length bounds → number_at steps (first_of bounds k) ≡ k)
+    × ((c : ℕ) → first_of bounds (number_at steps c) ≤ c)
 firsts-all steps i bounds l h =
     let all = take_all i steps l in (
       bounds-form 0 bounds h.last h.form,
       λ c. subst (λ (xs : List Step). number_at xs c ≤ length bounds) all (h.within c),
       λ k m. subst (λ (xs : List Step). number_at xs (first_of bounds k) ≡ k) all (h.first k m).1,
+      λ c. subst (λ (xs : List Step). first_of bounds (number_at xs c) ≤ c) all (h.least c),
     )
 
 module _ (steps : List Step) (i : ℕ) (bounds : List ℕ) (step : Step) (l : i < length steps) (is : step ≡ get_or steps i step)
@@ -102,6 +106,10 @@ module _ (steps : List Step) (i : ℕ) (bounds : List ℕ) (step : Step) (l : i 
         let old = h.first k m in
         let early : first_of bounds k < step.start = omega (arith, old.0, rest_is.0) in
         (omega arith, kept (first_of bounds k) early ∙ old.1);
+    least = λ c. elim (cases_lt c step.start) [
+      | inl early ↦ omega (arith, ap (λ n. first_of bounds n) (kept c early), h.least c)
+      | inr from ↦ omega (arith, ap (λ n. first_of bounds n) (pushed c from), (h.first step.number few).0, rest_is.0)
+    ];
   }
 
   -- a number that comes for the first time adds a bound
@@ -139,6 +147,14 @@ module _ (steps : List Step) (i : ℕ) (bounds : List ℕ) (step : Step) (l : i 
               let early : first_of bounds k < step.start = omega (arith, old.0, rest_is.0) in
               let stays : first_of (bounds ++ step.start ∷ []) k ≡ first_of bounds k = get_or_append_left (0 ∷ bounds) (step.start ∷ []) 0 k (omega arith) in
               (omega (arith, stays), ap (λ c. number_at (take (i + 1) steps) c) stays ∙ kept (first_of bounds k) early ∙ old.1)
+        ];
+        least = λ c. elim (cases_lt c step.start) [
+          | inl early ↦
+              let number : ℕ = number_at (take i steps) c in
+              let stays : first_of (bounds ++ step.start ∷ []) number ≡ first_of bounds number =
+              get_or_append_left (0 ∷ bounds) (step.start ∷ []) 0 number (omega (arith, h.within c)) in
+              omega (arith, ap (λ n. first_of (bounds ++ step.start ∷ []) n) (kept c early), stays, h.least c)
+          | inr from ↦ omega (arith, ap (λ n. first_of (bounds ++ step.start ∷ []) n) (pushed c from ∙ new), at_end)
         ];
       }
 

@@ -8,15 +8,19 @@ use Rattle.std.proofs.lemmas.Option.{slice_get_within}
 use Rattle.std.proofs.Math.ListN.{length-append}
 use Rattle.rbbi_classes.specs.Steps.{number_at, AreStepsFrom, AreSteps}
 use Rattle.rbbi_classes.specs.inner.Steps.{HasRestrictedGrowthFrom, IsStepAt}
-use Rattle.rbbi_classes.specs.inner.Numbering.{IsNamed}
+use Rattle.rbbi_classes.specs.inner.Numbering.{IsNamed, AreNumbered}
 use Rattle.rbbi_classes.specs.declared.steps.Step.{Step}
 use Rattle.rbbi_classes.specs.declared.steps.Walk.{Walk}
 use Rattle.rbbi_classes.specs.declared.pairs.Pair.{Pair}
+use Rattle.rbbi_classes.specs.declared.pairs.Pairs.{Pairs}
 use Rattle.rbbi_classes.proofs.Stepping.{AreStepsTo, steps-weaker, steps-push, number-kept, number-pushed}
 
 -- what one option has, an equal one has
 some_same : {x y : Pair} → Some x ≡ Some y → x ≡ y
 some_same e = cc
+
+number_same : {x y : ℕ} → Some x ≡ Some y → x ≡ y
+number_same e = cc
 
 -- what an item of a list is, it is of the list with more at its end
 get-append : (xs ys : List Pair) (k : ℕ) (x : Pair) → slice_get xs k ≡ Some x → slice_get (xs ++ ys) k ≡ Some x
@@ -209,12 +213,27 @@ pub merging-all : (left right steps : List Step) (of_left of_right : Walk) (pair
     IsMerging left right steps of_left of_right pairs number → length left ≤ of_left.passed → length right ≤ of_right.passed → (c d : ℕ) →
     number_at steps c ≡ number_at steps d → (number_at left c ≡ number_at left d) × (number_at right c ≡ number_at right d)
 merging-all left right steps of_left of_right pairs number h l r c d same =
-    let Pairs : List Step → List Step → Type 0 = λ xs ys.
+    let Are : List Step → List Step → Type 0 = λ xs ys.
     (c : ℕ) → slice_get pairs (number_at steps c) ≡ Some (record { left = number_at xs c; right = number_at ys c }) in
-    let half = subst (λ (xs : List Step). Pairs xs (take of_right.passed right)) (take_all of_left.passed left l) h.pair in
-    let whole = subst (λ (ys : List Step). Pairs left ys) (take_all of_right.passed right r) half in
+    let half = subst (λ (xs : List Step). Are xs (take of_right.passed right)) (take_all of_left.passed left l) h.pair in
+    let whole = subst (λ (ys : List Step). Are left ys) (take_all of_right.passed right r) half in
     let both = sym (whole c) ∙ ap (λ n. slice_get pairs n) same ∙ whole d in
     (ap (λ (p : Pair). p.left) (some_same both), ap (λ (p : Pair). p.right) (some_same both))
+
+-- and code points that have one number by both have one number
+pub merging-joint : (left right steps : List Step) (of_left of_right : Walk) (pairs : Pairs) (number : ℕ) →
+    IsMerging left right steps of_left of_right pairs.items.items number → AreNumbered pairs → length left ≤ of_left.passed →
+    length right ≤ of_right.passed → (c d : ℕ) → number_at left c ≡ number_at left d → number_at right c ≡ number_at right d →
+    number_at steps c ≡ number_at steps d
+merging-joint left right steps of_left of_right pairs number h numbered l r c d e f =
+    let Are : List Step → List Step → Type 0 = λ xs ys.
+    (c : ℕ) → slice_get pairs.items.items (number_at steps c) ≡ Some (record { left = number_at xs c; right = number_at ys c }) in
+    let half = subst (λ (xs : List Step). Are xs (take of_right.passed right)) (take_all of_left.passed left l) h.pair in
+    let whole = subst (λ (ys : List Step). Are left ys) (take_all of_right.passed right r) half in
+    let pair = record_pair (number_at left d) (number_at right d) in
+    let one = numbered.found (number_at steps c) pair (whole c ∙ ap Some (same_pair e f)) in
+    let other = numbered.found (number_at steps d) pair (whole d) in
+    number_same (sym one ∙ other)
 
 module _ (left right old new : List Step) (of_left of_right to_left to_right : Walk) (pairs named : List Pair) (number next last start : ℕ)
     (h : IsMerging left right old of_left of_right pairs number) (small : start ≤ 0x10FFFF) (past : h.at ≤ start)

@@ -23,7 +23,7 @@ pub struct CharacterSet {
     held: Held,
 }
 
-/// What a set of characters keeps.
+/// How a set of characters is kept.
 #[derive(Debug, Drop)]
 enum Held {
     /// The set by itself, without surrogates.

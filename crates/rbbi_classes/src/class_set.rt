@@ -1,4 +1,4 @@
-//! Sets of classes.
+//! Sets of classes as rows of bits.
 ghost use Rattle.std.specs.Prelude.{◌≡◌, ◌+◌, ◌^◌, ◌<◌, ◌≤◌, ◌↔◌, ◌⊎◌, ℕ, List, length};
 ghost use Rattle.std.specs.Prelude.{IfOk, OnOk};
 ghost use Rattle.std.specs.Result.{OnErr};
@@ -11,9 +11,9 @@ use crate::{Layout, SharedClasses};
 use std::alloc::{AllocError, Global};
 use std::marker::Model;
 
-/// A set of classes, whose first code points a `Layout` has. It holds their numbers as bits, so to
-/// join two sets takes a step for 64 classes. Contracts see it as its words (`ClassBits`), and by
-/// `HasMember` whether it has the class that begins at a code point.
+/// A set of classes as a row of bits, one bit for each class of a `Layout`. An operation on two sets
+/// takes a step for 64 classes. Contracts see the set as its words (`ClassBits`), and by `HasMember`
+/// whether it has the class that begins at a code point.
 #[derive(Debug, Drop)]
 pub struct ClassSet {
     /// How many words, all 0, stand before those of `words`.
@@ -34,7 +34,7 @@ impl Model for ClassSet {
 }
 
 impl ClassSet {
-    /// The set that holds nothing.
+    /// The empty set.
     pub fn empty(alloc: Global) -> ClassSet
         ensures { (bounds : List ℕ) (c : ℕ) → ¬ HasMember bounds result c }
     {
@@ -75,7 +75,7 @@ impl ClassSet {
         Ok(ClassSet { from, words })
     }
 
-    /// Adds what is in the other set. Where it is refused, the set is as it was.
+    /// Makes the set its union with the other. If it is refused, the set is as it was.
     pub fn add(&mut self, alloc: Global, other: &ClassSet) -> Result<(), AllocError>
         ensures members { OnOk result ((bounds : List ℕ) (c : ℕ) → HasMember bounds self.new c
             ↔ (HasMember bounds self.old c ⊎ HasMember bounds other.now c)) }
@@ -91,7 +91,7 @@ impl ClassSet {
         Ok(())
     }
 
-    /// Adds what is in the other set. Where it is refused, the set is as it was.
+    /// Makes the set its union with the other. If it is refused, the set is as it was.
     pub fn add_shared(&mut self, alloc: Global, other: &SharedClasses) -> Result<(), AllocError>
         ensures members { OnOk result ((bounds : List ℕ) (c : ℕ) → HasMember bounds self.new c
             ↔ (HasMember bounds self.old c ⊎ HasMember bounds other.now c)) }
@@ -108,7 +108,7 @@ impl ClassSet {
         Ok(())
     }
 
-    /// What is in either set, in the words of the one that has more of them.
+    /// The union. It reuses the longer row.
     pub fn union(self, alloc: Global, other: ClassSet) -> Result<ClassSet, AllocError>
         ensures { IfOk result (λ set. (bounds : List ℕ) (c : ℕ) → HasMember bounds set c
             ↔ (HasMember bounds self c ⊎ HasMember bounds other c)) }
@@ -123,8 +123,7 @@ impl ClassSet {
         Ok(whole)
     }
 
-    /// What is in either set, in the words of the one that has more of them, which are copied where
-    /// they are the other's.
+    /// The union. It reuses this row, or a copy of the other if that is longer.
     pub fn union_shared(self, alloc: Global, other: &SharedClasses) -> Result<ClassSet, AllocError>
         ensures { IfOk result (λ set. (bounds : List ℕ) (c : ℕ) → HasMember bounds set c
             ↔ (HasMember bounds self c ⊎ HasMember bounds other.now c)) }
@@ -139,8 +138,8 @@ impl ClassSet {
         Ok(whole)
     }
 
-    /// Sees to it that the words from `first` to before `last` have a place, and keeps what is in
-    /// the set.
+    /// Makes room in the row for the words from `first` up to, but not including, `last`. The set
+    /// stays the same.
     fn make_room(&mut self, alloc: Global, first: usize, last: usize) -> Result<(), AllocError>
         requires ordered { first ≤ last }
         requires few { last ≤ 2 ^ 58 }
@@ -156,8 +155,8 @@ impl ClassSet {
         self.grow(alloc, first, last)
     }
 
-    /// Takes the words from the first to the last of its own and of these, and keeps what is in the
-    /// set.
+    /// Copies the row into one that also has the words from `first` up to, but not including,
+    /// `last`. The set stays the same.
     fn grow(&mut self, alloc: Global, first: usize, last: usize) -> Result<(), AllocError>
         requires ordered { first ≤ last }
         requires few { last ≤ 2 ^ 58 }
@@ -182,7 +181,7 @@ impl ClassSet {
         Ok(())
     }
 
-    /// Keeps what is in the other set too.
+    /// Makes the set its intersection with the other.
     pub fn meet(&mut self, other: &ClassSet)
         ensures { (bounds : List ℕ) (c : ℕ) → HasMember bounds self.new c
             ↔ (HasMember bounds self.old c × HasMember bounds other.now c) }
@@ -193,7 +192,7 @@ impl ClassSet {
         meet_words(row, self.from, other.words.as_slice(), first);
     }
 
-    /// Keeps what is in the other set too.
+    /// Makes the set its intersection with the other.
     pub fn meet_shared(&mut self, other: &SharedClasses)
         ensures { (bounds : List ℕ) (c : ℕ) → HasMember bounds self.new c
             ↔ (HasMember bounds self.old c × HasMember bounds other.now c) }
@@ -215,7 +214,7 @@ impl ClassSet {
         clear(row, first.saturating_sub(self.from));
     }
 
-    /// Takes away what is in the other set.
+    /// Makes the set its difference from the other.
     pub fn remove(&mut self, other: &ClassSet)
         ensures { (bounds : List ℕ) (c : ℕ) → HasMember bounds self.new c
             ↔ (HasMember bounds self.old c × ¬ HasMember bounds other.now c) }
@@ -224,7 +223,7 @@ impl ClassSet {
         remove_words(row, self.from, other.words.as_slice(), other.from);
     }
 
-    /// Takes away what is in the other set.
+    /// Makes the set its difference from the other.
     pub fn remove_shared(&mut self, other: &SharedClasses)
         ensures { (bounds : List ℕ) (c : ℕ) → HasMember bounds self.new c
             ↔ (HasMember bounds self.old c × ¬ HasMember bounds other.now c) }
@@ -233,7 +232,7 @@ impl ClassSet {
         remove_chunks(row, self.from, other.chunks(), other.from());
     }
 
-    /// Makes the set that of the other code points. Where it is refused, the set is as it was.
+    /// Makes the set its complement. If it is refused, the set is as it was.
     pub fn negate(&mut self, alloc: Global, layout: &Layout) -> Result<(), AllocError>
         ensures members { OnOk result ((c : ℕ) → HasMember layout.now self.new c
             ↔ ((c ≤ 0x10FFFF) × ¬ HasMember layout.now self.old c)) }
@@ -250,7 +249,7 @@ impl ClassSet {
         Ok(())
     }
 
-    /// The words but for those that are left out.
+    /// The words of the row.
     pub(crate) fn words(&self) -> &[u64]
         ensures value { result.now ≡ self.now.words }
         ensures few { self.now.from + length self.now.words ≤ 2 ^ 58 }

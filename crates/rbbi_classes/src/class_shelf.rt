@@ -1,4 +1,4 @@
-//! Chunks of words, of which each is kept once.
+//! Chunks of rows of bits, each kept once.
 ghost use Rattle.std.specs.Prelude.{◌≡◌, ◌↔◌, ◌<◌, ◌≤◌, ◌+◌, ◌^◌, IfOk, IsTrue, length};
 ghost use Rattle.std.specs.Rc.{rc_slice_items};
 
@@ -32,7 +32,7 @@ impl ClassShelf {
         }
     }
 
-    /// The set, in chunks of the shelf, to which it adds those that weren't there.
+    /// The same set in chunks of the shelf. New chunks are added to the shelf.
     pub fn keep(&mut self, alloc: Global, set: &ClassSet) -> Result<SharedClasses, AllocError>
         ensures { IfOk result (λ kept. kept ≡ set.now) }
     {

@@ -1,11 +1,12 @@
-//! Divisions of the code points into classes that sets don't tell apart.
-ghost use Rattle.std.specs.Prelude.{◌≡◌, ◌≤◌, ℕ, List, IfOk, length};
+//! The partition of the code points by sets.
+ghost use Rattle.std.specs.Prelude.{◌≡◌, ◌≤◌, ◌∷◌, ℕ, List, IfOk, length};
 ghost use Rattle.std.specs.List.{Contains};
 ghost use Rattle.rbbi_model.specs.Ranges.{Range};
 ghost use Rattle.rbbi_classes.specs.Classes.{AreBounds};
 ghost use Rattle.rbbi_classes.specs.Steps.{number_at, AreSteps};
 ghost use Rattle.rbbi_classes.specs.inner.Steps.{HasRestrictedGrowth};
-ghost use Rattle.rbbi_classes.specs.Divisions.{IsRespected, IsDivision, first_of};
+ghost use Rattle.rbbi_classes.specs.Divisions.{IsRespected, IsDivision, first_of, stand_in};
+ghost use Rattle.rbbi_sets.specs.Partitions.{IsPartitionBy, surrogates};
 
 use crate::steps::{Step, merged, steps_of};
 use crate::Layout;
@@ -25,12 +26,13 @@ const SURROGATES: [Step; 2] = [
     },
 ];
 
-/// A division of the code points into classes, of which each set that it was made of has all or
-/// nothing, as has each set that is made of these by unions, intersections, differences and
-/// complements. Two code points that no such set tells apart are in one class, wherever they stand.
+/// A partition of the code points by sets. Two code points are in one class exactly if none of the
+/// sets tells them apart, wherever they stand. So each set that is made of these by unions,
+/// intersections, differences and complements has all of a class or nothing of it.
 ///
-/// A class has the number of those whose first code point is less. Contracts see the division as
-/// the first code points of its classes (but for 0) and the steps at which the class changes.
+/// Classes are numbered by their least code points. Contracts see the partition as the first code
+/// points of its classes (but for 0) and the steps of the function from a code point to the number
+/// of its class.
 #[derive(Debug, Drop)]
 pub struct Division {
     layout: Layout,
@@ -54,10 +56,13 @@ impl Model for Division {
 }
 
 impl Division {
-    /// The division by some sets, and by whether a code point is a surrogate.
+    /// The partition by some sets and by the set of surrogates: the classes of code points that none
+    /// of these sets tells apart, numbered by their least code points.
     pub fn new(alloc: Global, sets: &[CodeSet]) -> Result<Division, AllocError>
         ensures respected { IfOk result (λ division. (set : List Range) → Contains sets.now set
             → IsRespected division set) }
+        ensures exact { IfOk result (λ division.
+            IsPartitionBy (surrogates ∷ sets.now) (stand_in division)) }
         ensures form { IfOk result (λ division. IsDivision division) }
     {
         let own = steps_of(alloc, sets)?;
@@ -105,6 +110,8 @@ fn first_code_points(alloc: Global, steps: &[Step]) -> Result<Vec<u32>, AllocErr
         number_at steps.now c ≤ length bounds.items) }
     ensures first { IfOk result (λ bounds. (k : ℕ) → k ≤ length bounds.items →
         number_at steps.now (first_of bounds.items k) ≡ k) }
+    ensures least { IfOk result (λ bounds. (c : ℕ) →
+        first_of bounds.items (number_at steps.now c) ≤ c) }
 {
     let mut bounds = Vec::new(alloc);
     for step in steps {

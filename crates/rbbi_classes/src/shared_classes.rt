@@ -1,4 +1,4 @@
-//! Sets of classes that keep their words together.
+//! Sets of classes whose rows share chunks.
 ghost use Rattle.std.specs.Prelude.{◌≡◌, ◌≤◌, ◌+◌, ◌^◌, IfOk, length};
 ghost use Rattle.std.specs.List.{flat_map};
 ghost use Rattle.std.specs.Rc.{rc_slice_items};
@@ -50,7 +50,7 @@ impl SharedClasses {
         Ok(SharedClasses { from, chunks })
     }
 
-    /// The set by itself.
+    /// The same set as a row of its own.
     pub fn to_classes(&self, alloc: Global) -> Result<ClassSet, AllocError>
         ensures { IfOk result (λ set. set ≡ self.now) }
     {
@@ -109,7 +109,7 @@ impl SharedClasses {
 impl Clone for SharedClasses {
     ghost is_clone = { λ set copy. copy ≡ set };
 
-    /// The same set, which takes no memory.
+    /// The same set. It copies a pointer.
     fn clone(&self) -> Result<SharedClasses, AllocError> {
         let chunks = self.chunks.clone()?;
         Ok(SharedClasses {

@@ -1,9 +1,10 @@
-//! Numbers of code points that change at steps, and tell apart what sets tell apart.
+//! Step functions on the code points, which tell apart what sets tell apart.
 ghost use Rattle.std.specs.Prelude.{◌≡◌, ◌≤◌, ◌<◌, ◌+◌, ◌⊎◌, ℕ, [], ◌∷◌, List, IfOk, length};
 ghost use Rattle.std.specs.Prelude.{slice_index_or};
 ghost use Rattle.rbbi_model.specs.Ranges.{Range};
 ghost use Rattle.rbbi_classes.specs.Steps.{number_at, AreSteps};
-ghost use Rattle.rbbi_classes.specs.inner.Steps.{HasRestrictedGrowth, Separate, IsStepAt};
+ghost use Rattle.rbbi_classes.specs.inner.Steps.{HasRestrictedGrowth, IsStepAt};
+ghost use Rattle.rbbi_classes.specs.inner.Steps.{Separate, DontSeparateMore};
 
 use crate::pairs::{Pair, Pairs};
 use rbbi_sets::CodeSet;
@@ -26,7 +27,8 @@ struct Walk {
 /// The last code point.
 const LAST: u32 = 0x10_FFFF;
 
-/// Steps by which code points of one number are in the same of the sets.
+/// A step function that has the same number at two code points exactly if they are in the same of
+/// the sets.
 ///
 /// The sets are halved, and the steps of the halves merged. So each end of a range is passed once
 /// for each time that the sets can be halved, however many sets hold a code point.
@@ -34,25 +36,29 @@ pub(crate) fn steps_of(alloc: Global, sets: &[CodeSet]) -> Result<Vec<Step>, All
     ensures form { IfOk result (λ steps. AreSteps steps.items) }
     ensures order { IfOk result (λ steps. HasRestrictedGrowth steps.items) }
     ensures separate { IfOk result (λ steps. Separate steps.items sets.now) }
+    ensures joint { IfOk result (λ steps. DontSeparateMore steps.items sets.now) }
 {
     if sets.is_empty() {
         return Ok(Vec::new(alloc));
     }
     if sets.len() == 1 {
-        return steps_of_set(alloc, &sets[0]);
+        let steps = steps_of_set(alloc, &sets[0])?;
+        return Ok(steps);
     }
     let (left, right) = sets.split_at(sets.len() / 2);
     let left = steps_of(alloc, left)?;
     let right = steps_of(alloc, right)?;
-    merged(alloc, &left, &right)
+    let steps = merged(alloc, &left, &right)?;
+    Ok(steps)
 }
 
-/// The steps of one set: those at which its ranges begin and behind which they end, with 0 and 1 in
-/// turn. So 0 is the number of its members where 0 is one of them, and else of the others.
+/// The step function of one set. It changes between 0 and 1 where a range begins and behind its
+/// end. Its members have the number 0 if the code point 0 is one of them, and else the number 1.
 fn steps_of_set(alloc: Global, set: &CodeSet) -> Result<Vec<Step>, AllocError>
     ensures form { IfOk result (λ steps. AreSteps steps.items) }
     ensures order { IfOk result (λ steps. HasRestrictedGrowth steps.items) }
     ensures separate { IfOk result (λ steps. Separate steps.items (set.now ∷ [])) }
+    ensures joint { IfOk result (λ steps. DontSeparateMore steps.items (set.now ∷ [])) }
 {
     let inside = if set.has(0) { 0 } else { 1 };
     let mut steps = Vec::new(alloc);
@@ -73,7 +79,7 @@ fn steps_of_set(alloc: Global, set: &CodeSet) -> Result<Vec<Step>, AllocError>
     Ok(steps)
 }
 
-/// Steps by which code points of one number have one number by both of these.
+/// The common refinement of two step functions.
 pub(crate) fn merged(alloc: Global, left: &[Step], right: &[Step]) -> Result<Vec<Step>, AllocError>
     requires left { AreSteps left.now }
     requires right { AreSteps right.now }
@@ -85,6 +91,10 @@ pub(crate) fn merged(alloc: Global, left: &[Step], right: &[Step]) -> Result<Vec
     ensures right { IfOk result (λ steps. (c d : ℕ) → c ≤ 0x10FFFF → d ≤ 0x10FFFF
         → number_at steps.items c ≡ number_at steps.items d
         → number_at right.now c ≡ number_at right.now d) }
+    ensures joint { IfOk result (λ steps. (c d : ℕ)
+        → number_at left.now c ≡ number_at left.now d
+        → number_at right.now c ≡ number_at right.now d
+        → number_at steps.items c ≡ number_at steps.items d) }
 {
     let mut pairs = Pairs::new(alloc)?;
     let mut steps = Vec::new(alloc);

@@ -1,4 +1,4 @@
-//! Rows of words put together with others that stand in chunks, one after another.
+//! Union, intersection and difference of a row of bits with one that stands in chunks.
 ghost use Rattle.std.specs.Prelude.{◌+◌, ◌^◌, ◌≤◌, ◌↔◌, ◌⊎◌, ℕ, length};
 ghost use Rattle.std.specs.List.{flat_map};
 ghost use Rattle.std.specs.Rc.{rc_slice_items};
@@ -8,8 +8,8 @@ ghost use Rattle.rbbi_classes.specs.inner.Classes.{IsOutside};
 use crate::word_rows::{join_words, meet_words, remove_words};
 use std::rc::RcSlice;
 
-/// Adds what is in the chunks, whose first word has the number `first`, to the row, whose first one
-/// has the number `from`. Each word of the chunks has a place in the row.
+/// Makes the row, whose first word has the number `from`, its union with the chunks, whose first
+/// word has the number `first`. Each word of the chunks has a place in the row.
 pub(crate) fn join_chunks(row: &mut [u64], from: usize, chunks: &[RcSlice<u64>], first: usize)
     requires from { from ≤ first }
     requires end { first + length (flat_map rc_slice_items chunks.now) ≤ from + length row.old }
@@ -26,8 +26,8 @@ pub(crate) fn join_chunks(row: &mut [u64], from: usize, chunks: &[RcSlice<u64>],
     }
 }
 
-/// Takes from the row, whose first word has the number `from`, what isn't in the chunks, whose
-/// first one has the number `first`, in the places of their words alone.
+/// Makes the row, whose first word has the number `from`, its intersection with the chunks, whose
+/// first word has the number `first`, in the places of their words alone.
 pub(crate) fn meet_chunks(row: &mut [u64], from: usize, chunks: &[RcSlice<u64>], first: usize)
     requires long { from + length row.old ≤ 2 ^ 58 }
     requires few { first + length (flat_map rc_slice_items chunks.now) ≤ 2 ^ 58 }
@@ -44,8 +44,8 @@ pub(crate) fn meet_chunks(row: &mut [u64], from: usize, chunks: &[RcSlice<u64>],
     }
 }
 
-/// Takes from the row, whose first word has the number `from`, what is in the chunks, whose first
-/// one has the number `first`.
+/// Makes the row, whose first word has the number `from`, its difference from the chunks, whose
+/// first word has the number `first`.
 pub(crate) fn remove_chunks(row: &mut [u64], from: usize, chunks: &[RcSlice<u64>], first: usize)
     requires long { from + length row.old ≤ 2 ^ 58 }
     requires few { first + length (flat_map rc_slice_items chunks.now) ≤ 2 ^ 58 }

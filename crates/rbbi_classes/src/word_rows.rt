@@ -1,4 +1,4 @@
-//! Rows of words, of which the first one has a number, put together with other words.
+//! Union, intersection, difference and complement of rows of bits, word by word.
 ghost use Rattle.std.specs.Prelude.{◌≡◌, ◌+◌, ◌/◌, ◌^◌, ◌<◌, ◌≤◌, ◌↔◌, ◌⊎◌, ℕ, length, IfOk};
 ghost use Rattle.std.specs.Prelude.{slice_index};
 ghost use Rattle.rbbi_classes.specs.Classes.{HasClass};
@@ -6,8 +6,8 @@ ghost use Rattle.rbbi_classes.specs.inner.Classes.{IsOutside};
 
 use std::alloc::{AllocError, Global};
 
-/// Adds what is in the words, of which the first one has the number `first`, to the row, whose
-/// first one has the number `from`. Each of the words has a place in the row.
+/// Makes the row, whose first word has the number `from`, its union with the words, of which the
+/// first has the number `first`. Each of the words has a place in the row.
 pub(crate) fn join_words(row: &mut [u64], from: usize, words: &[u64], first: usize)
     requires from { from ≤ first }
     requires end { first + length words.now ≤ from + length row.old }
@@ -21,8 +21,8 @@ pub(crate) fn join_words(row: &mut [u64], from: usize, words: &[u64], first: usi
     }
 }
 
-/// Takes from the row, whose first word has the number `from`, what isn't in the words, of which
-/// the first one has the number `first`, in the places of these words alone.
+/// Makes the row, whose first word has the number `from`, its intersection with the words, of which
+/// the first has the number `first`, in the places of these words alone.
 pub(crate) fn meet_words(row: &mut [u64], from: usize, words: &[u64], first: usize)
     requires long { from + length row.old ≤ 2 ^ 58 }
     requires few { first + length words.now ≤ 2 ^ 58 }
@@ -37,8 +37,8 @@ pub(crate) fn meet_words(row: &mut [u64], from: usize, words: &[u64], first: usi
     }
 }
 
-/// Takes from the row, whose first word has the number `from`, what is in the words, of which the
-/// first one has the number `first`.
+/// Makes the row, whose first word has the number `from`, its difference from the words, of which
+/// the first has the number `first`.
 pub(crate) fn remove_words(row: &mut [u64], from: usize, words: &[u64], first: usize)
     requires long { from + length row.old ≤ 2 ^ 58 }
     requires few { first + length words.now ≤ 2 ^ 58 }
@@ -62,7 +62,7 @@ pub(crate) fn clear(row: &mut [u64], count: usize)
     }
 }
 
-/// Turns each bit of the row.
+/// Flips each bit of the row.
 pub(crate) fn flip(row: &mut [u64])
     ensures { (k : ℕ) → k / 64 < length row.old → HasClass (record { from = 0; words = row.new }) k
         ↔ ¬ HasClass (record { from = 0; words = row.old }) k }

@@ -1,11 +1,10 @@
 -- What the members of a set are, from what its list of ranges covers.
-use Rattle.std.proofs.Common.{◌≡◌, ℕ, ◌+◌, ◌<◌, ◌≤◌, suc, length, Bool, not, ◌&&◌, ◌||◌, List, [], ◌∷◌, get_or, sym, ◌∙◌, inl, inr, arith, ◌⊎◌, ◌↔◌, Decides}
-use Rattle.std.proofs.lemmas.Bool.Decides.{Decides-and, Decides-or, Decides-not}
+use Rattle.std.proofs.Common.{◌≡◌, ℕ, ◌+◌, ◌<◌, ◌≤◌, suc, length, Bool, List, [], ◌∷◌, get_or, sym, ◌∙◌, inl, inr, arith, ◌⊎◌, ◌↔◌, Decides}
 use Rattle.rbbi_model.specs.Words.{IsSurrogate}
 use Rattle.rbbi_model.specs.Ranges.{Range, Has}
 use Rattle.rbbi_sets.specs.Covers.{covers}
 use Rattle.rbbi_sets.specs.Rising.{AreRisingFrom, AreRising}
-use Rattle.rbbi_sets.proofs.Coverage.{Decides-covers, covers-at, has_or_not}
+use Rattle.rbbi_sets.proofs.Coverage.{Decides-covers, covers-at}
 use Rattle.rbbi_sets.proofs.Rise.{rising-range}
 
 iff_from : {P Q : Type 0} (x y : Bool) → x ≡ y → Decides x P → Decides y Q → P ↔ Q

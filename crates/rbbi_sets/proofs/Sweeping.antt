@@ -1,12 +1,12 @@
 -- A set that is made by a pass over the code points, stretch by stretch.
-use Rattle.std.proofs.Common.{◌≡◌, ℕ, ◌+◌, ◌<◌, ◌≤◌, Bool, true, false, List, [], ◌∷◌, ◌↔◌, ◌⊎◌, length, get_or, ap, sym, ◌∙◌, subst, inl, inr, arith}
+use Rattle.std.proofs.Common.{◌≡◌, ℕ, ◌+◌, ◌<◌, ◌≤◌, Bool, List, [], ◌∷◌, ◌↔◌, ◌⊎◌, sym, ◌∙◌, inl, inr, arith}
 use Rattle.std.specs.Prelude.{IsTrue}
 use Rattle.std.proofs.lemmas.Bool.{cases_lt}
 use Rattle.std.proofs.lemmas.Bool.Decides.{Decides-or}
 use Rattle.rbbi_model.specs.Ranges.{Range, Has}
 use Rattle.rbbi_sets.specs.Covers.{covers, is_between}
 use Rattle.rbbi_sets.specs.Rising.{AreRising, AreRisingFrom}
-use Rattle.rbbi_sets.specs.inner.Rising.{BeginUpTo, IsNextRange}
+use Rattle.rbbi_sets.specs.inner.Rising.{BeginUpTo}
 use Rattle.rbbi_sets.specs.inner.Joins.{Joins}
 use Rattle.rbbi_sets.specs.inner.Sweeps.{Combined}
 use Rattle.rbbi_sets.specs.declared.sweep.Operation.{Operation}

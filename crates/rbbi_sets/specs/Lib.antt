@@ -1,4 +1,5 @@
 pub mod Rising
 pub mod Covers
+pub mod Partitions
 pub mod Laws
 pub mod inner

@@ -33,7 +33,7 @@ impl Model for CodeSet {
 }
 
 impl CodeSet {
-    /// The set that holds nothing.
+    /// The empty set.
     pub fn empty(alloc: Global) -> CodeSet
         ensures { result ≡ [] }
     {
@@ -53,8 +53,8 @@ impl CodeSet {
         Ok(CodeSet { ranges })
     }
 
-    /// The code points of many ranges, which may come in any order, overlap and touch. It sorts
-    /// them once and joins them in one pass.
+    /// The union of many ranges, which may come in any order, overlap and touch. It sorts them and
+    /// joins them in one pass.
     pub fn from_ranges(alloc: Global, ranges: Vec<CodeRange>) -> Result<CodeSet, AllocError>
         requires { All IsRange ranges.items }
         ensures members { IfOk result (λ set. (c : ℕ) → Has set c ↔ Has ranges.items c) }

@@ -1,5 +1,5 @@
 -- Step functions: in which order their numbers come, and which sets they tell apart.
-use Rattle.std.specs.Prelude.{◌≡◌, ℕ, ◌+◌, ◌<◌, ◌≤◌, nat_le, List, [], ◌∷◌, length, slice_index_or, if◌then◌else◌}
+use Rattle.std.specs.Prelude.{◌≡◌, ◌↔◌, ℕ, ◌+◌, ◌<◌, ◌≤◌, nat_le, List, [], ◌∷◌, length, slice_index_or, if◌then◌else◌}
 use Rattle.std.specs.List.{Contains}
 use Rattle.rbbi_model.specs.Ranges.{Range, Has}
 use Rattle.rbbi_classes.specs.declared.steps.Step.{Step}
@@ -18,6 +18,11 @@ HasRestrictedGrowth steps = HasRestrictedGrowthFrom 1 steps
 abbrev pub Separate : List Step → List (List Range) → Type 0
 Separate steps sets =
     (c d : ℕ) → c ≤ 0x10FFFF → d ≤ 0x10FFFF → number_at steps c ≡ number_at steps d → (set : List Range) → Contains sets set → Has set c → Has set d
+
+-- code points that are in the same of these sets have one number
+abbrev pub DontSeparateMore : List Step → List (List Range) → Type 0
+DontSeparateMore steps sets =
+    (c d : ℕ) → c ≤ 0x10FFFF → d ≤ 0x10FFFF → ((set : List Range) → Contains sets set → Has set c ↔ Has set d) → number_at steps c ≡ number_at steps d
 
 -- there is a step with this number, and it begins at the code point
 abbrev pub IsStepAt : List Step → ℕ → ℕ → Type 0

@@ -1,5 +1,5 @@
 -- What a list of ranges gains at its end.
-use Rattle.std.specs.Prelude.{◌≡◌, ℕ, ◌<◌, ◌≤◌, Bool, ◌||◌, List, length, slice_index_or, slice_range}
+use Rattle.std.specs.Prelude.{◌≡◌, ℕ, Bool, ◌||◌, List}
 use Rattle.rbbi_model.specs.Ranges.{Range}
 use Rattle.rbbi_sets.specs.Covers.{covers}
 use Rattle.rbbi_sets.specs.Rising.{AreRising}

@@ -26,4 +26,4 @@ loop-step-preserved c =
 pub returns : goal.returns
 returns c =
     let all = firsts-all c.args.steps.now c.loop-step.step-index c.loop-step.bounds.items c.loop-step-test.false c.loop-step.invariant in
-    record { form = all.0; within = all.1; first = all.2 }
+    record { form = all.0; within = all.1; first = all.2; least = all.3 }

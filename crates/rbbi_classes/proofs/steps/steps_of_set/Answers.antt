@@ -3,9 +3,9 @@ use Rattle.std.proofs.Common.{◌≡◌, ◌+◌, ◌-◌, ◌∷◌, [], get_or
 use Rattle.std.proofs.lemmas.Bool.{false≢true}
 use Rattle.std.proofs.lemmas.List.{get_or_default}
 use Rattle.rbbi_model.specs.Ranges.{Range}
-use Rattle.rbbi_classes.specs.inner.Steps.{Separate}
+use Rattle.rbbi_classes.specs.inner.Steps.{Separate, DontSeparateMore}
 use Rattle.rbbi_classes.proofs.Stepping.{steps-form}
-use Rattle.rbbi_classes.proofs.SetSteps.{IsInside, ranges-none, ranges-more, ranges-separate}
+use Rattle.rbbi_classes.proofs.SetSteps.{IsInside, ranges-none, ranges-more, ranges-separate, ranges-joint}
 use Rattle.rbbi_classes.proofs.steps.steps_of_set.Goals as goal
 use Rattle.rbbi_classes.proofs.steps.steps_of_set.Goals.{After-ranges-range-items, then-has, else-has}
 use Rattle.rbbi_classes.proofs.steps.steps_of_set.Goals.{then-range-gt0+in_ok-push, else-range-gt0, then-range-lt-LAST+in_ok-push-2, else-range-lt-LAST}
@@ -50,4 +50,9 @@ returns c =
       form = steps-form 1 steps (h.at + 1) (h.done (h.at + 1) (omega arith) (omega arith));
       order = h.order;
       separate = subst (λ set. Separate steps (set ∷ [])) c.ranges-range-items.ensures.value separate;
+      joint =
+          subst (λ set. DontSeparateMore steps (set ∷ [])) c.ranges-range-items.ensures.value
+          (ranges-joint set c.loop-range.range-index c.if-has.inside steps
+          (elim (inside (goal.at.returns c).After-ranges-range-items) [ inl zero ↦ omega (arith, zero.1) | inr one ↦ omega (arith, one.1) ])
+          c.loop-range-test.false h);
     }

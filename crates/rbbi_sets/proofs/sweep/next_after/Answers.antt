@@ -1,5 +1,5 @@
 -- The next range ends right before the code point, or later.
-use Rattle.std.proofs.Common.{◌≡◌, get_or, ap, ◌∙◌, arith}
+use Rattle.std.proofs.Common.{ap, ◌∙◌, arith}
 use Rattle.rbbi_model.specs.Ranges.{Range}
 use Rattle.rbbi_sets.proofs.Places.{next_stays, next_moves}
 use Rattle.rbbi_sets.proofs.sweep.next_after.Goals as goal

@@ -1,5 +1,5 @@
 -- No code point of the stretch is in a range, or all are in the next one.
-use Rattle.std.proofs.Common.{◌≡◌, get_or, ap, ◌∙◌, arith}
+use Rattle.std.proofs.Common.{ap, ◌∙◌, arith}
 use Rattle.std.proofs.lemmas.List.{get_or_default}
 use Rattle.rbbi_model.specs.Ranges.{Range}
 use Rattle.rbbi_sets.proofs.Coverage.{covers-at}

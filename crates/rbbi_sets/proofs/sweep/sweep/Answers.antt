@@ -1,8 +1,8 @@
 -- Each stretch is kept whole or left out whole, as the operation tells.
-use Rattle.std.proofs.Common.{◌≡◌, ◌<◌, ◌≤◌, ◌↔◌, ℕ, sym, ◌∙◌, inl, inr, arith}
+use Rattle.std.proofs.Common.{◌<◌, ◌≤◌, ◌↔◌, ℕ, sym, ◌∙◌, inl, inr, arith}
 use Rattle.std.specs.Prelude.{IsTrue}
 use Rattle.std.proofs.lemmas.Bool.{false≢true}
-use Rattle.rbbi_model.specs.Ranges.{Range, Has}
+use Rattle.rbbi_model.specs.Ranges.{Has}
 use Rattle.rbbi_sets.specs.inner.Sweeps.{Combined}
 use Rattle.rbbi_sets.proofs.Sweeping.{have-skip, have-more, combined-iff, combined-some, has-iff, members-points}
 use Rattle.rbbi_sets.proofs.sweep.sweep.Goals as goal

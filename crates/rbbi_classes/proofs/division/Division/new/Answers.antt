@@ -1,11 +1,12 @@
 -- A class has all or nothing of each set, since its first code point has its number.
-use Rattle.std.proofs.Common.{◌≡◌, ◌≤◌, ℕ, List, length, sym, subst}
+use Rattle.std.proofs.Common.{◌≡◌, ◌≤◌, ◌∷◌, ℕ, List, length, sym, subst}
 use Rattle.std.specs.List.{Contains}
 use Rattle.rbbi_model.specs.Ranges.{Range}
 use Rattle.rbbi_classes.specs.Steps.{number_at}
-use Rattle.rbbi_classes.specs.Divisions.{IsRespected, IsDivision, first_of}
+use Rattle.rbbi_classes.specs.Divisions.{IsRespected, IsDivision, first_of, stand_in}
+use Rattle.rbbi_sets.specs.Partitions.{IsPartitionBy, surrogates}
 use Rattle.rbbi_classes.specs.declared.steps.Step.{Step}
-use Rattle.rbbi_classes.proofs.Dividing.{respects, divides}
+use Rattle.rbbi_classes.proofs.Dividing.{respects, divides, is_exact}
 use Rattle.rbbi_classes.proofs.division.Division.new.Goals as goal
 use Rattle.rbbi_classes.proofs.division.Division.new.Goals.{After-of_bounds}
 
@@ -52,3 +53,17 @@ returns-clause-respected c = respected (goal.at.returns-clause-respected c).Afte
 
 pub returns-clause-form : goal.returns-clause-form
 returns-clause-form c = form (goal.at.returns-clause-form c).After-of_bounds
+
+-- and so are they by the sets and the surrogates
+exact : (c : After-of_bounds) →
+    IsPartitionBy (surrogates ∷ c.args.sets.now) (stand_in (record { bounds = c.of_bounds.result; steps = c.in_ok-steps.steps.items }))
+exact c =
+    subst (λ (bounds : List ℕ). IsPartitionBy (surrogates ∷ c.args.sets.now) (stand_in (record { bounds = bounds; steps = c.in_ok-steps.steps.items })))
+    (sym c.of_bounds.ensures)
+    (is_exact c.in_ok-own.own.items c.in_ok-steps.steps.items c.in_ok-bounds.bounds.items c.in_ok-bounds.ensures.form (within c) (first c) (left c)
+    c.in_ok-steps.ensures.right c.args.sets.now c.in_ok-own.ensures.separate c.in_ok-own.ensures.joint
+    (rw (← c.deref.ensures.value) c.in_ok-steps.ensures.joint)
+    (rw (← c.deref-2.ensures.value) c.in_ok-bounds.ensures.least))
+
+pub returns-clause-exact : goal.returns-clause-exact
+returns-clause-exact c = exact (goal.at.returns-clause-exact c).After-of_bounds

@@ -1,5 +1,4 @@
 -- The ranges begin up to the code points that are added.
-use Rattle.std.proofs.Common.{◌≡◌, ◌∙◌, sym, subst, arith}
 use Rattle.rbbi_sets.proofs.Sweeping.{begin-members, joined-members}
 use Rattle.rbbi_sets.proofs.set.CodeSet.push.Goals as goal
 
