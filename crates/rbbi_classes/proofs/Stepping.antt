@@ -41,11 +41,6 @@ pub steps-push : (least : ℕ) (steps : List Step) (bound : ℕ) (step : Step) �
 steps-push least [] bound step h l m = (omega (arith, h), m, omega arith)
 steps-push least (first ∷ steps) bound step h l m = (h.0, h.1, steps-push (first.start + 1) steps bound step h.2 l m)
 
--- steps from a code point on are steps from an earlier one on
-pub from-weaker : (least more : ℕ) (steps : List Step) → AreStepsFrom more steps → least ≤ more → AreStepsFrom least steps
-from-weaker least more [] h l = tt
-from-weaker least more (step ∷ steps) h l = (omega (arith, h.0), h.1, h.2)
-
 -- before a step that follows, the numbers stay
 pub number-kept : (before least : ℕ) (steps : List Step) (bound : ℕ) (step : Step) (c : ℕ) → AreStepsTo least steps bound → bound ≤ step.start →
     c < step.start → number_from before (steps ++ step ∷ []) c ≡ number_from before steps c
@@ -66,11 +61,6 @@ number-pushed before least [] bound step c h l m = number-from before step [] c 
 number-pushed before least (first ∷ steps) bound step c h l m =
     let up = steps-bound (first.start + 1) steps bound h.2 in
     number-from before first (steps ++ step ∷ []) c (omega arith) ∙ number-pushed first.number (first.start + 1) steps bound step c h.2 l m
-
--- before the first of all steps the number is the one given
-pub number-early : (before least : ℕ) (steps : List Step) (c : ℕ) → AreStepsFrom least steps → c < least → number_from before steps c ≡ before
-number-early before least [] c h l = refl
-number-early before least (step ∷ steps) c h l = number-before before step steps c (omega (arith, h.0))
 
 -- the steps before a place begin up to a code point, and those from it on don't
 abbrev pub IsPlace : List Step → ℕ → ℕ → Type 0

@@ -8,8 +8,8 @@ ghost use Rattle.rbbi_classes.specs.inner.Steps.{HasRestrictedGrowth};
 ghost use Rattle.rbbi_classes.specs.Divisions.{IsRespected, IsDivision, first_of, stand_in};
 ghost use Rattle.rbbi_sets.specs.Partitions.{IsPartitionBy, surrogates};
 
-use crate::steps::{Step, merged, steps_of};
 use crate::Layout;
+use crate::steps::{Step, merged, steps_of};
 use rbbi_sets::CodeSet;
 use std::alloc::{AllocError, Global};
 use std::marker::Model;

@@ -9,8 +9,8 @@ use Rattle.rbbi_classes.proofs.steps.merged.Goals.{In_ok-next}
 pub merge-init : goal.merge-init
 merge-init c = record {
   merging =
-    merging-none c.args.left.now c.args.right.now c.new-steps.result.items c.in_ok-pairs.pairs.items.items c.requires.left c.requires.right
-    c.new-steps.ensures.items c.in_ok-pairs.ensures.items;
+      merging-none c.args.left.now c.args.right.now c.new-steps.result.items c.in_ok-pairs.pairs.items.items c.requires.left c.requires.right
+      c.new-steps.ensures.items c.in_ok-pairs.ensures.items;
   numbered = c.in_ok-pairs.ensures.numbered;
 }
 
@@ -47,8 +47,8 @@ merge-smaller-then-next-number c = smaller (goal.at.merge-smaller-then-next-numb
 pub merge-preserved-then-next-number : goal.merge-preserved-then-next-number
 merge-preserved-then-next-number c = record {
   merging =
-    turn (goal.at.merge-preserved-then-next-number c).In_ok-next c.push.new.self.items c.in_ok-next.next
-    (inl (c.if-next-number.true, c.in_ok-push.ensures.items, refl));
+      turn (goal.at.merge-preserved-then-next-number c).In_ok-next c.push.new.self.items c.in_ok-next.next
+      (inl (c.if-next-number.true, c.in_ok-push.ensures.items, refl));
   numbered = c.in_ok-next.ensures.numbered;
 }
 
@@ -58,7 +58,7 @@ merge-smaller c = smaller (goal.at.merge-smaller c).In_ok-next
 pub merge-preserved : goal.merge-preserved
 merge-preserved c = record {
   merging =
-    turn (goal.at.merge-preserved c).In_ok-next c.merge.steps.items c.merge.number (inr (c.if-next-number.false, refl, refl));
+      turn (goal.at.merge-preserved c).In_ok-next c.merge.steps.items c.merge.number (inr (c.if-next-number.false, refl, refl));
   numbered = c.in_ok-next.ensures.numbered;
 }
 
