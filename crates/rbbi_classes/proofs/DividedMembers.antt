@@ -1,7 +1,7 @@
 -- The code points of classes of a division, and what holds while one goes over its steps.
-use Rattle.std.proofs.Common.{◌≡◌, ℕ, ◌+◌, ◌/◌, ◌%◌, ◌<◌, ◌≤◌, Bool, true, List, ◌∷◌, ◌↔◌, ◌⊎◌, length, get_or, drop, ap, sym, ◌∙◌, subst, inl, inr, arith, cond}
+use Rattle.std.proofs.Common.{◌≡◌, ℕ, ◌+◌, ◌/◌, ◌%◌, ◌<◌, ◌≤◌, Bool, true, List, ◌∷◌, ◌↔◌, length, get_or, drop, ap, sym, ◌∙◌, subst, arith, cond}
 use Rattle.std.specs.Int.{bit_at}
-use Rattle.std.proofs.lemmas.Bool.{cases_lt, le-leb, lt-leb}
+use Rattle.std.proofs.lemmas.Bool.{le-leb, lt-leb}
 use Rattle.std.proofs.lemmas.List.{drop_more, drop_all}
 use Rattle.rbbi_classes.specs.Classes.{ClassBits, HasClass, word_at}
 use Rattle.rbbi_classes.specs.Steps.{number_from, number_at, AreStepsFrom}

@@ -1,7 +1,5 @@
 -- Numbers of code points that change at steps.
-use Rattle.std.specs.Prelude.{◌≡◌, ℕ, ◌+◌, ◌<◌, ◌≤◌, nat_le, List, [], ◌∷◌, length, slice_index_or, if◌then◌else◌}
-use Rattle.std.specs.List.{Contains}
-use Rattle.rbbi_model.specs.Ranges.{Range, Has}
+use Rattle.std.specs.Prelude.{ℕ, ◌+◌, ◌≤◌, nat_le, List, [], ◌∷◌, if◌then◌else◌}
 use Rattle.rbbi_classes.specs.declared.steps.Step.{Step}
 
 -- the number of a code point: that of the last step that begins up to it, and before the first step the one given

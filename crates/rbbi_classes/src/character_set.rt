@@ -92,10 +92,8 @@ impl CharacterSet {
         match &self.held {
             Held::Ranges(set) => Ok(set.clone()?),
             Held::Classes(division, classes) => {
-                let whole = classes.to_classes(alloc)?;
-                let set = division.as_ref().members(alloc, &whole)?;
-                let without = set.without_surrogates(alloc)?;
-                Ok(without)
+                let set = division.as_ref().characters(alloc, classes)?;
+                Ok(set)
             }
         }
     }

@@ -1,5 +1,6 @@
 //! The code points of classes.
 ghost use Rattle.std.specs.Prelude.{◌↔◌, ℕ, IfOk, IsTrue};
+ghost use Rattle.rbbi_model.specs.Words.{IsSurrogate};
 ghost use Rattle.rbbi_model.specs.Ranges.{Has};
 ghost use Rattle.rbbi_sets.specs.Rising.{AreRising};
 ghost use Rattle.rbbi_classes.specs.Divisions.{HasDivided};
@@ -44,6 +45,25 @@ impl Division {
         if is_set(set.word(class / 64), class % 64) {
             found.push(start, LAST)?;
         }
+        Ok(found)
+    }
+
+    /// The characters whose classes are in the set. No class has both characters and surrogates
+    /// (0xD800 to 0xDFFF), so the classes of surrogates are left out.
+    pub(crate) fn characters(
+        &self,
+        alloc: Global,
+        set: &SharedClasses,
+    ) -> Result<CodeSet, AllocError>
+        ensures members { IfOk result (λ found. (c : ℕ) →
+            Has found c ↔ (HasDivided self.now set.now c × ¬ IsSurrogate c)) }
+        ensures form { IfOk result (λ found. AreRising found) }
+    {
+        let layout = self.layout();
+        let surrogates = ClassSet::range(alloc, layout, 0xD800, 0xDFFF)?;
+        let mut rest = set.to_classes(alloc)?;
+        rest.remove(&surrogates);
+        let found = self.members(alloc, &rest)?;
         Ok(found)
     }
 }

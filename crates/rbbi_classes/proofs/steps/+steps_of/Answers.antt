@@ -1,5 +1,5 @@
 -- The halves separate what their sets do, and no more, and so does their common refinement.
-use Rattle.std.proofs.Common.{◌≡◌, ◌∷◌, ◌++◌, List, [], subst, sym, arith}
+use Rattle.std.proofs.Common.{List, subst, sym, arith}
 use Rattle.rbbi_model.specs.Ranges.{Range}
 use Rattle.rbbi_classes.specs.inner.Steps.{Separate, DontSeparateMore}
 use Rattle.rbbi_classes.specs.declared.steps.Step.{Step}

@@ -10,20 +10,15 @@ use Rattle.rbbi_classes.proofs.RangesWhere.{ranges_where-rises}
 use Rattle.rbbi_classes.proofs.CharacterMembers.{has-characters}
 use Rattle.rbbi_classes.proofs.character_set.CharacterSet.to_set.Goals as goal
 
-pub returns-in_ok-without-in-Classes : goal.returns-in_ok-without-in-Classes
-returns-in_ok-without-in-Classes c =
+pub returns-in_ok-set-in-Classes : goal.returns-in_ok-set-in-Classes
+returns-in_ok-set-in-Classes c =
     let division = rc_value c.in-Classes.division in
     let classes = c.in-Classes.classes in
     let read : c.as_ref.result.now ≡ division = c.as_ref.ensures in
-    let whole : c.in_ok-whole-in-Classes.whole ≡ classes = c.in_ok-whole-in-Classes.ensures in
-    let members : (d : ℕ) → Has c.in_ok-set-in-Classes.set d ↔ HasDivided division classes d =
-    λ d. rw (← read, ← whole) (c.in_ok-set-in-Classes.ensures.members d) in
-    let same : (d : ℕ) → Has c.in_ok-without-in-Classes.without d ↔ (HasDivided division classes d × ¬ IsSurrogate d) =
-    λ d.
-    let own = c.in_ok-without-in-Classes.ensures.members d in
-    (λ h. let b = own.0 h in ((members d).0 b.0, b.1), λ m. own.1 ((members d).1 m.0, m.1)) in
+    let same : (d : ℕ) → Has c.in_ok-set-in-Classes.set d ↔ (HasDivided division classes d × ¬ IsSurrogate d) =
+    λ d. rw (← read) (c.in_ok-set-in-Classes.ensures.members d) in
     let test = is_character_of division classes in
-    members_determine_lem c.in_ok-without-in-Classes.without _ c.in_ok-without-in-Classes.ensures.form (ranges_where-rises test)
+    members_determine_lem c.in_ok-set-in-Classes.set _ c.in_ok-set-in-Classes.ensures.form (ranges_where-rises test)
     (λ d. let other = has-characters division classes d in (λ h. other.1 ((same d).0 h), λ h. (same d).1 (other.0 h)))
     ∙ ap ranges_held (sym c.in-Classes.is)
     ∙ c.self.view_is

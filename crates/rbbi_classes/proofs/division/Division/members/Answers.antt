@@ -1,7 +1,6 @@
 -- Up to each step the code points of the class before it are added where the set has the class, and from the last one on up to the last code point.
-use Rattle.std.proofs.Common.{◌≡◌, ◌<◌, ◌≤◌, ◌↔◌, ℕ, List, length, get_or, refl, sym, ap, ◌∙◌, subst, arith}
+use Rattle.std.proofs.Common.{◌≡◌, ◌<◌, ◌≤◌, ℕ, List, length, get_or, refl, sym, ap, ◌∙◌, subst, arith}
 use Rattle.std.proofs.lemmas.Bool.{false≢true}
-use Rattle.rbbi_model.specs.Ranges.{Has}
 use Rattle.rbbi_sets.proofs.Sweeping.{HaveUpTo, have-skip, have-more}
 use Rattle.rbbi_classes.specs.Classes.{HasClass}
 use Rattle.rbbi_classes.specs.Steps.{number_at}
