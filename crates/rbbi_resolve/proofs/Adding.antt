@@ -16,9 +16,9 @@ use Rattle.rbbi_tree.specs.Values.{seq_tree, item_tree}
 use Rattle.rbbi_tree.specs.declared.syntax.Quant.{Quant}
 use Rattle.rbbi_tree.specs.declared.syntax.Seq.{Seq}
 use Rattle.rbbi_tree.specs.declared.syntax.Item.{Item}
-use Rattle.rbbi_sets.specs.Classes.{ClassBits}
-use Rattle.rbbi_sets.specs.Divisions.{ClassDivision, IsDivision, HasDivided, stand_in}
-use Rattle.rbbi_sets.proofs.FirstCodePoints.{stand-in_is_first}
+use Rattle.rbbi_classes.specs.Classes.{ClassBits}
+use Rattle.rbbi_classes.specs.Divisions.{ClassDivision, IsDivision, HasDivided, stand_in}
+use Rattle.rbbi_classes.proofs.FirstCodePoints.{stand-in_is_first}
 use Rattle.rbbi_resolve.specs.inner.Covered.{Respects}
 use Rattle.rbbi_resolve.specs.inner.SetValues.{HasMembers}
 use Rattle.rbbi_resolve.specs.SetValues.{HasProperty, value_of_property, value_of_set}

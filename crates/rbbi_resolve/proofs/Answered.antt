@@ -7,7 +7,7 @@ use Rattle.std.specs.Rc.{rc_value}
 use Rattle.indexmap.specs.IndexMap.{insert_entry}
 use Rattle.rbbi_model.specs.Ranges.{Range}
 use Rattle.rbbi_model.specs.SetTrees as model
-use Rattle.rbbi_sets.specs.Classes.{ClassBits}
+use Rattle.rbbi_classes.specs.Classes.{ClassBits}
 use Rattle.rbbi_props.specs.Rows.{File}
 use Rattle.rbbi_resolve.specs.declared.classes.PropertyClasses.{PropertyClasses}
 use Rattle.rbbi_resolve.specs.declared.properties.Answer.{Answer}

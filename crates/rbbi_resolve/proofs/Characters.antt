@@ -6,9 +6,9 @@ use Rattle.std.proofs.lemmas.Bool.Decides.{nat_tests}
 use Rattle.rbbi_model.specs.Words.{IsSurrogate}
 use Rattle.rbbi_model.specs.Ranges.{Range, Has}
 use Rattle.rbbi_model.specs.SetTrees as model
-use Rattle.rbbi_sets.specs.Classes.{ClassBits, HasMember, IsFirstOfClass}
-use Rattle.rbbi_sets.specs.Divisions.{ClassDivision, IsDivision, stand_in}
-use Rattle.rbbi_sets.proofs.FirstCodePoints.{stand-in_is_first}
+use Rattle.rbbi_classes.specs.Classes.{ClassBits, HasMember, IsFirstOfClass}
+use Rattle.rbbi_classes.specs.Divisions.{ClassDivision, IsDivision, stand_in}
+use Rattle.rbbi_classes.proofs.FirstCodePoints.{stand-in_is_first}
 use Rattle.rbbi_resolve.specs.inner.Covered.{Respects}
 use Rattle.std.proofs.Common.{IfSome}
 use Rattle.rbbi_props.specs.Rows.{File}

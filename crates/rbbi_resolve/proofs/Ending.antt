@@ -6,7 +6,7 @@ use Rattle.std.specs.HashMap.{get_by_text}
 use Rattle.std.specs.Rc.{rc_value}
 use Rattle.rbbi_props.specs.Rows.{File}
 use Rattle.rbbi_tree.specs.Trees.{ExprTree, StatementTree}
-use Rattle.rbbi_sets.specs.Divisions.{stand_in}
+use Rattle.rbbi_classes.specs.Divisions.{stand_in}
 use Rattle.rbbi_resolve.specs.declared.fault.Fault.{Fault}
 use Rattle.rbbi_resolve.specs.declared.switches.Switches.{Switches}
 use Rattle.rbbi_resolve.specs.declared.counts.Counts as declared

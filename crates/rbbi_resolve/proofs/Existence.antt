@@ -30,8 +30,8 @@ use Rattle.rbbi_resolve.specs.TextCharacters.{AreOfCharacters, IsStatementOfChar
 use Rattle.rbbi_resolve.proofs.Characters.{held_character, in_leaf, in_leaf_tells}
 use Rattle.rbbi_resolve.proofs.PropertySets.{members_are_code_points}
 use Rattle.rbbi_resolve.proofs.Kept.{statement_keeps}
-use Rattle.rbbi_sets.specs.Passing.{passing}
-use Rattle.rbbi_sets.proofs.PassingRanges.{passing-rises, passing-has}
+use Rattle.rbbi_classes.specs.RangesWhere.{ranges_where}
+use Rattle.rbbi_classes.proofs.RangesWhere.{ranges_where-rises, ranges_where-has}
 use Rattle.rbbi_resolve.proofs.Sound.{first_empty, second_empty}
 use Rattle.rbbi_resolve.proofs.SoundFiles.{sound_after}
 use Rattle.rbbi_resolve.proofs.Steps.{meant}
@@ -66,12 +66,12 @@ member_within files (sets.Others set) w c p = p.0
 leaf_exists : (files : List File) (tree : sets.SetTree) → IsWithin tree → (rs : List Range) × IsLeafOf files tree rs
 leaf_exists files tree w =
     let test = in_leaf files tree in (
-      passing test,
+      ranges_where test,
       record {
-        rising = passing-rises test;
+        rising = ranges_where-rises test;
         members = λ c. (
-          λ h. (in_leaf_tells files tree c).0 ((passing-has test c).0 h).1,
-          λ p. (passing-has test c).1 (member_within files tree w c p.0, (in_leaf_tells files tree c).1 p),
+          λ h. (in_leaf_tells files tree c).0 ((ranges_where-has test c).0 h).1,
+          λ p. (ranges_where-has test c).1 (member_within files tree w c p.0, (in_leaf_tells files tree c).1 p),
         );
       },
     )

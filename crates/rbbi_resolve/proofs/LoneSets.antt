@@ -1,7 +1,7 @@
 -- The kept value of an expression that is a set or a property alone is the set of its one own leaf.
 use Rattle.std.proofs.Common.{◌≡◌, ℕ, IfSome, false, Option, Some, List, [], ◌∷◌, sym, subst}
 use Rattle.rbbi_model.specs.Ranges.{Range}
-use Rattle.rbbi_sets.specs.Classes.{ClassBits}
+use Rattle.rbbi_classes.specs.Classes.{ClassBits}
 use Rattle.rbbi_model.specs.SetTrees as model
 use Rattle.rbbi_props.specs.Rows.{File}
 use Rattle.rbbi_tree.specs.Trees.{ExprTree, AtomTree, no_alternatives, alternative, no_items, item, placed, character, quoted, any, name, property, set, group}

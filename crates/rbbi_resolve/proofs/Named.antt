@@ -1,7 +1,7 @@
 -- What a variable of the code says of that of the specification.
 use Rattle.std.proofs.Common.{◌≡◌, ℕ, ◌+◌, Bool, true, false, Option, Some, None, List, is_none, is_some, if◌then◌else◌, [], ◌∷◌, ◌++◌, sym, refl, ap, ◌∙◌}
 use Rattle.std.proofs.Common.{subst}
-use Rattle.rbbi_sets.specs.Classes.{ClassBits}
+use Rattle.rbbi_classes.specs.Classes.{ClassBits}
 use Rattle.rbbi_model.specs.SetTrees as model
 use Rattle.rbbi_props.specs.Rows.{File}
 use Rattle.rbbi_tree.specs.Trees as trees

@@ -3,7 +3,7 @@ use Rattle.std.proofs.Common.{◌≡◌, ℕ, ◌+◌, ◌<◌, ◌≤◌, ◌�
 use Rattle.std.proofs.Common.{drop, get_or, sym, refl, ap, ◌∙◌, subst}
 use Rattle.std.proofs.lemmas.List.{drop_all}
 use Rattle.rbbi_model.specs.SetTrees as model
-use Rattle.rbbi_sets.specs.Classes.{ClassBits, HasMember}
+use Rattle.rbbi_classes.specs.Classes.{ClassBits, HasMember}
 use Rattle.rbbi_props.specs.Rows.{File}
 use Rattle.rbbi_tree.specs.Trees.{PartsTree, no_parts, part, joined, parts_of}
 use Rattle.rbbi_tree.specs.Values.{set_tree, part_tree, set_item_tree, part_tree_out}

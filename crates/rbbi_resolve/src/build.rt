@@ -25,7 +25,7 @@ use crate::rules::Tree;
 use crate::scope::Scope;
 use crate::tree::{in_choice, in_sequence, next_leaf, no_tree, repeated_tree};
 use crate::variables::Kind;
-use rbbi_sets::CharacterSet;
+use rbbi_classes::CharacterSet;
 use rbbi_text::Word;
 use rbbi_tree::{Atom, Expr, Item, Seq, Statement, Statements};
 use std::alloc::{AllocError, Global};

@@ -20,7 +20,7 @@ ghost use Rattle.rbbi_resolve.specs.Expressions.{height_of_atom, height_of_varia
 ghost use Rattle.rbbi_resolve.specs.Parts.{Outside, parts_of_expr, parts_of_seq, parts_of_item};
 ghost use Rattle.rbbi_resolve.specs.Parts.{parts_of_set};
 ghost use Rattle.rbbi_resolve.specs.inner.Covered.{AreCovered, Respects, SetRespects};
-ghost use Rattle.rbbi_sets.specs.Divisions.{stand_in};
+ghost use Rattle.rbbi_classes.specs.Divisions.{stand_in};
 ghost use Rattle.rbbi_resolve.specs.inner.Faults.{noted_parts};
 ghost use Rattle.rbbi_resolve.specs.Faults.{is_empty_value};
 ghost use Rattle.rbbi_resolve.specs.inner.Scopes.{IsScope, KnowsQuotes, IsKindOf, bounds_of};
@@ -33,7 +33,8 @@ use crate::properties::Properties;
 use crate::scope::Scope;
 use crate::set_value::value_of_set;
 use crate::variables::{Kind, Summary};
-use rbbi_sets::{ClassSet, CodeSet, Division};
+use rbbi_classes::{ClassSet, Division};
+use rbbi_sets::CodeSet;
 use rbbi_text::Word;
 use rbbi_tree::{Atom, Expr, Item, Seq, SetExpr};
 use std::alloc::{AllocError, Global};

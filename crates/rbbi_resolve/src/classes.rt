@@ -10,7 +10,7 @@ ghost use Rattle.rbbi_resolve.specs.inner.Questions.{IsAnswer};
 ghost use Rattle.rbbi_resolve.specs.inner.Covered.{CoversAll};
 ghost use Rattle.std.specs.HashMap.{values};
 ghost use Rattle.std.specs.List.{All};
-ghost use Rattle.rbbi_sets.specs.Divisions.{stand_in};
+ghost use Rattle.rbbi_classes.specs.Divisions.{stand_in};
 
 use crate::collect::collect_statement;
 use crate::collection::Collection;
@@ -18,7 +18,7 @@ use crate::division::{Divided, divide_once};
 use crate::properties::{Answer, Properties};
 use crate::question::Question;
 use indexmap::IndexMap;
-use rbbi_sets::{ClassSet, Division, Layout};
+use rbbi_classes::{ClassSet, Division, Layout};
 use rbbi_text::Word;
 use rbbi_tree::Statements;
 use std::alloc::{AllocError, Global};

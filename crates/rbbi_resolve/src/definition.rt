@@ -21,7 +21,7 @@ use crate::properties::Properties;
 use crate::scope::Scope;
 use crate::set_value::value_of_property;
 use crate::variables::Kind;
-use rbbi_sets::SharedClasses;
+use rbbi_classes::SharedClasses;
 use rbbi_tree::{Atom, Expr, Item, Quant};
 use std::alloc::{AllocError, Global};
 

@@ -7,7 +7,8 @@ ghost use Rattle.rbbi_resolve.specs.inner.ClassValues.{IsDivided, AreSame};
 
 use crate::properties::{are_same, hash_of};
 use indexmap::IndexMap;
-use rbbi_sets::{ClassSet, CodeSet, Layout};
+use rbbi_classes::{ClassSet, Layout};
+use rbbi_sets::CodeSet;
 use std::alloc::{AllocError, Global};
 use std::rc::Rc;
 

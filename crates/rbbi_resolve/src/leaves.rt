@@ -12,7 +12,7 @@ ghost use Rattle.rbbi_resolve.specs.Parts.{parts_of_expr, parts_of_seq, parts_of
 ghost use Rattle.rbbi_resolve.specs.Faults.{faults_of_parts, is_empty_value};
 ghost use Rattle.rbbi_resolve.specs.inner.Scopes.{IsScope, context_of, stand_of};
 ghost use Rattle.rbbi_resolve.specs.inner.Covered.{AreCovered, Respects};
-ghost use Rattle.rbbi_sets.specs.Divisions.{IsDivision, stand_in};
+ghost use Rattle.rbbi_classes.specs.Divisions.{IsDivision, stand_in};
 ghost use Rattle.rbbi_resolve.specs.inner.Soundness.{AreSound};
 ghost use Rattle.rbbi_resolve.specs.inner.OwnLeaves.{AddsLeaves, leaves_of_expr, leaves_of_seq};
 ghost use Rattle.rbbi_resolve.specs.inner.OwnLeaves.{leaves_of_item};
@@ -21,7 +21,8 @@ use crate::fault::Fault;
 use crate::properties::Properties;
 use crate::scope::Scope;
 use crate::set_value::value_of_set;
-use rbbi_sets::{CharacterSet, CodeSet, Division, SharedClasses};
+use rbbi_classes::{CharacterSet, Division, SharedClasses};
+use rbbi_sets::CodeSet;
 use rbbi_text::Word;
 use rbbi_tree::{Atom, Expr, Item, Seq};
 use std::alloc::{AllocError, Global};

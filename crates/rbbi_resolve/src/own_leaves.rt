@@ -16,7 +16,7 @@ use crate::leaves::{add_classes, add_leaves};
 use crate::properties::Properties;
 use crate::scope::Scope;
 use crate::variables::Kind;
-use rbbi_sets::{CharacterSet, SharedClasses};
+use rbbi_classes::{CharacterSet, SharedClasses};
 use rbbi_tree::{Atom, Expr};
 use std::alloc::{AllocError, Global};
 

@@ -11,8 +11,9 @@ ghost use Rattle.std.specs.List.{All};
 
 use crate::question::{Question, key_of, text_of};
 use indexmap::IndexMap;
+use rbbi_classes::{ClassSet, ClassShelf, SharedClasses};
 use rbbi_props::PropTable;
-use rbbi_sets::{ClassSet, ClassShelf, CodeSet, SharedClasses};
+use rbbi_sets::CodeSet;
 use rbbi_text::Word;
 use std::alloc::{AllocError, Global};
 use std::marker::Model;

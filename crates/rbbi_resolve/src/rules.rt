@@ -3,7 +3,7 @@ ghost use Rattle.std.specs.Prelude.{◌≡◌, ◌<◌, length, slice_get, sum_b
 ghost use Rattle.rbbi_model.specs.Rules.{leaves_of, look_aheads};
 ghost use Rattle.rbbi_resolve.specs.RuleLists.{rules_of, AreWellFormed, AreCounted};
 
-use rbbi_sets::CharacterSet;
+use rbbi_classes::CharacterSet;
 use rbbi_tree::Quant;
 use std::marker::Model;
 

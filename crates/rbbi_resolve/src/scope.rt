@@ -6,7 +6,7 @@ ghost use Rattle.rbbi_resolve.specs.inner.Scopes.{bounds_of, visible};
 
 use crate::classes::Classes;
 use crate::variables::{Variable, Variables};
-use rbbi_sets::Layout;
+use rbbi_classes::Layout;
 use rbbi_text::Word;
 use rbbi_tree::Statements;
 

@@ -22,7 +22,7 @@ use crate::properties::Properties;
 use crate::question::key_of;
 use crate::scope::Scope;
 use crate::variables::Kind;
-use rbbi_sets::{ClassSet, Layout, SharedClasses};
+use rbbi_classes::{ClassSet, Layout, SharedClasses};
 use rbbi_text::Word;
 use rbbi_tree::{Join, SetExpr, SetItem};
 use std::alloc::{AllocError, Global};

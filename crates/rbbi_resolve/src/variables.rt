@@ -2,7 +2,7 @@
 ghost use Rattle.std.specs.Prelude.{◌≡◌, ◌≤◌};
 
 use indexmap::IndexMap;
-use rbbi_sets::SharedClasses;
+use rbbi_classes::SharedClasses;
 
 /// The most leaves that are told apart: one more than rules may have.
 pub(crate) const MANY_LEAVES: u32 = 8193;

@@ -1,5 +1,5 @@
 -- What a list of ranges covers.
-use Rattle.std.proofs.Common.{◌≡◌, ℕ, ◌<◌, ◌≤◌, suc, zero, Bool, true, false, ◌||◌, List, [], ◌∷◌, ◌++◌, length, get_or, refl, ap, ◌∙◌, inl, inr, arith, ◌⊎◌}
+use Rattle.std.proofs.Common.{◌≡◌, ℕ, ◌<◌, ◌≤◌, suc, zero, true, false, ◌||◌, List, [], ◌∷◌, ◌++◌, length, get_or, refl, ap, ◌∙◌, inl, inr, arith, ◌⊎◌}
 use Rattle.std.proofs.Common.{sym, ◌↔◌, Decides}
 use Rattle.std.proofs.Math.Bool.{or_assoc, or-false}
 use Rattle.std.proofs.lemmas.Bool.{false≢true, leb-true, le-leb, lt-leb, and_left, and_right, and_from, or_left, or_right}
@@ -31,13 +31,6 @@ covers-append (x ∷ xs) ys c =
     ap (λ b. is_between x.low x.high c || b) (covers-append xs ys c)
     ∙ sym (or_assoc (is_between x.low x.high c) (covers xs c) (covers ys c))
 
--- an `or` of which one side is false is the other side
-pub or_is_left : (x y : Bool) → y ≡ false → (x || y) ≡ x
-or_is_left x y e = ap (λ b. x || b) e ∙ or-false x
-
-pub or_is_right : (x y : Bool) → x ≡ false → (x || y) ≡ y
-or_is_right x y e = ap (λ b. b || y) e
-
 pub covers-push : (xs : List Range) (y : Range) (c : ℕ) → covers (xs ++ y ∷ []) c ≡ (covers xs c || is_between y.low y.high c)
 covers-push xs y c = covers-append xs (y ∷ []) c ∙ ap (λ b. covers xs c || b) (or-false (is_between y.low y.high c))
 
@@ -66,10 +59,3 @@ has-append (x ∷ xs) ys c =
       λ h. elim h [ inl g ↦ inl (inl g) | inr g ↦ elim (rest.0 g) [ inl k ↦ inl (inr k) | inr k ↦ inr k ] ],
       λ h. elim h [ inl g ↦ elim g [ inl k ↦ inl k | inr k ↦ inr (rest.1 (inl k)) ] | inr g ↦ inr (rest.1 (inr g)) ],
     )
-
--- a code point is in a set or not
-pub has_or_not : (ranges : List Range) (c : ℕ) → Has ranges c ⊎ ¬ Has ranges c
-has_or_not ranges c = by_test (covers ranges c) (Decides-covers ranges c) where
-  by_test : {P : Type 0} (b : Bool) → Decides b P → P ⊎ ¬ P
-  by_test true d = inl (d.0 refl)
-  by_test false d = inr (λ p. false≢true (d.1 p))

@@ -1,11 +1,10 @@
 -- What the members of a set are, from what its list of ranges covers.
-use Rattle.std.proofs.Common.{◌≡◌, ℕ, ◌+◌, ◌<◌, ◌≤◌, suc, length, Bool, not, ◌&&◌, ◌||◌, List, [], ◌∷◌, get_or, sym, ◌∙◌, inl, inr, arith, ◌⊎◌, ◌↔◌, Decides}
-use Rattle.std.proofs.lemmas.Bool.Decides.{Decides-and, Decides-or, Decides-not}
+use Rattle.std.proofs.Common.{◌≡◌, ℕ, ◌+◌, ◌<◌, ◌≤◌, suc, length, Bool, List, [], ◌∷◌, get_or, sym, ◌∙◌, inl, inr, arith, ◌⊎◌, ◌↔◌, Decides}
 use Rattle.rbbi_model.specs.Words.{IsSurrogate}
 use Rattle.rbbi_model.specs.Ranges.{Range, Has}
 use Rattle.rbbi_sets.specs.Covers.{covers}
 use Rattle.rbbi_sets.specs.Rising.{AreRisingFrom, AreRising}
-use Rattle.rbbi_sets.proofs.Coverage.{Decides-covers, covers-at, has_or_not}
+use Rattle.rbbi_sets.proofs.Coverage.{Decides-covers, covers-at}
 use Rattle.rbbi_sets.proofs.Rise.{rising-range}
 
 iff_from : {P Q : Type 0} (x y : Bool) → x ≡ y → Decides x P → Decides y Q → P ↔ Q
@@ -13,43 +12,6 @@ iff_from x y e p q = (λ h. q.0 (sym e ∙ p.1 h), λ h. p.0 (e ∙ q.1 h))
 
 pub same_members : (xs ys : List Range) (c : ℕ) → covers xs c ≡ covers ys c → Has xs c ↔ Has ys c
 same_members xs ys c e = iff_from _ _ e (Decides-covers xs c) (Decides-covers ys c)
-
-pub union_members : (xs ys zs : List Range) → ((c : ℕ) → covers zs c ≡ (covers xs c || covers ys c)) → (c : ℕ) → Has zs c ↔ (Has xs c ⊎ Has ys c)
-union_members xs ys zs e c =
-    iff_from _ _ (e c) (Decides-covers zs c) (Decides-or _ _ (Decides-covers xs c) (Decides-covers ys c))
-
--- what isn't in the difference is in both
-pub intersect_members : (xs ys others zs : List Range) → ((c : ℕ) → Has others c ↔ (Has xs c × ¬ Has ys c)) →
-    ((c : ℕ) → Has zs c ↔ (Has xs c × ¬ Has others c)) → (c : ℕ) → Has zs c ↔ (Has xs c × Has ys c)
-intersect_members xs ys others zs d e c = (
-  λ h.
-      let both = (e c).0 h in
-      (both.0, elim (has_or_not ys c) [ inl y ↦ y | inr n ↦ absurd (both.1 ((d c).1 (both.0, n))) ]),
-  λ h. (e c).1 (h.0, λ o. ((d c).0 o).1 h.1),
-)
-
-pub minus_members : (xs ys zs : List Range) → ((c : ℕ) → covers zs c ≡ (covers xs c && not (covers ys c))) → (c : ℕ) → Has zs c ↔ (Has xs c × ¬ Has ys c)
-minus_members xs ys zs e c =
-    iff_from _ _ (e c) (Decides-covers zs c) (Decides-and _ _ (Decides-covers xs c) (Decides-not _ (Decides-covers ys c)))
-
--- one range holds what lies between its ends
-pub one_members : (low high c : ℕ) → Has (record { low = low; high = high } ∷ []) c ↔ ((low ≤ c) × (c ≤ high))
-one_members low high c = (λ h. elim h [ inl inside ↦ inside | inr none ↦ absurd none ], λ h. inl h)
-
-pub complement_members : (ys zs : List Range) → ((c : ℕ) → covers zs c ≡ (covers (record { low = 0; high = 0x10FFFF } ∷ []) c && not (covers ys c))) →
-    (c : ℕ) → Has zs c ↔ ((c ≤ 0x10FFFF) × ¬ Has ys c)
-complement_members ys zs e c =
-    let minus = minus_members (record { low = 0; high = 0x10FFFF } ∷ []) ys zs e c in
-    let one = one_members 0 0x10FFFF c in
-    (λ h. ((one.0 (minus.0 h).0).1, (minus.0 h).1), λ h. minus.1 (one.1 (omega arith, h.0), h.1))
-
-pub without_members : (low high : ℕ) (xs zs : List Range) →
-    ((c : ℕ) → covers zs c ≡ (covers xs c && not (covers (record { low = low; high = high } ∷ []) c))) → (c : ℕ) →
-    Has zs c ↔ (Has xs c × ¬ ((low ≤ c) × (c ≤ high)))
-without_members low high xs zs e c =
-    let minus = minus_members xs (record { low = low; high = high } ∷ []) zs e c in
-    let one = one_members low high c in
-    (λ h. ((minus.0 h).0, λ i. (minus.0 h).1 (one.1 i)), λ h. minus.1 (h.0, λ i. h.1 (one.0 i)))
 
 -- all members lie from the bound on
 pub members_from : (bound : ℕ) (xs : List Range) (c : ℕ) → AreRisingFrom bound xs → Has xs c → bound ≤ c

@@ -1,7 +1,7 @@
 -- What the number of the first range that doesn't end before a code point tells.
 use Rattle.std.proofs.Common.{◌≡◌, ℕ, ◌+◌, ◌<◌, ◌≤◌, false, List, length, get_or, ap, inl, inr, arith, ◌⊎◌}
 use Rattle.std.specs.List.{AllWithin}
-use Rattle.std.proofs.lemmas.Bool.{cases_eq, cases_lt}
+use Rattle.std.proofs.lemmas.Bool.{cases_lt}
 use Rattle.std.proofs.lemmas.List.{get_or_default}
 use Rattle.rbbi_model.specs.Ranges.{Range}
 use Rattle.rbbi_sets.specs.Covers.{covers}
@@ -44,21 +44,3 @@ next_moves xs at next d r n l m = (ended_through xs at next d r n l, later) wher
   later k e a b =
       let first : (get_or xs next e).high ≡ (get_or xs next d).high = ap (λ (x : Range). x.high) (get_or_default xs next e d n) in
       omega (arith, rising-apart 0 xs r next k e (omega arith) b, (rising-range 0 xs r k e b).0, first)
-
--- no range is left
-pub next_past : (xs : List Range) (at next : ℕ) → AllWithin (λ (range : Range). range.high < at) xs 0 next → next ≡ length xs → IsNextRange xs at next
-next_past xs at next h e = (h, λ k d l m. absurd (omega arith))
-
--- where the ranges end before up to a number, and that of the number doesn't, it is the next
-pub next_found : (xs : List Range) (at next : ℕ) → AreRising xs → next ≤ length xs → AllWithin (λ (range : Range). range.high < at) xs 0 next →
-    ((d : Range) → next < length xs → at ≤ (get_or xs next d).high) → IsNextRange xs at next
-next_found xs at next r within h l =
-    elim (cases_eq next (length xs)) [
-      | inl none ↦ next_past xs at next h none
-      | inr some ↦ let d : Range = record { low = 0; high = 0 } in next_stays xs at next d r h (omega arith) (l d (omega arith))
-    ]
-
--- a range that ends before lies before the next one
-pub passed : (xs : List Range) (at k next : ℕ) (d : Range) → IsNextRange xs at next → k < length xs → (get_or xs k d).high < at → k < next
-passed xs at k next d place n l =
-    elim (cases_lt k next) [ inl before ↦ before | inr from ↦ absurd (omega (arith, place.1 k d from n)) ]

@@ -18,6 +18,11 @@ rising-bound bound (x ∷ xs) h (suc k) d l =
     let rest : x.high + 2 ≤ (get_or xs k d).low = rising-bound (x.high + 2) xs h.3 k d (omega arith) in
     omega (arith, h.0, h.1)
 
+-- a list that begins past a bound begins past a lesser one
+pub rising-weaker : (bound low : ℕ) (xs : List Range) → bound ≤ low → AreRisingFrom low xs → AreRisingFrom bound xs
+rising-weaker bound low [] l h = tt
+rising-weaker bound low (x ∷ xs) l h = (omega (arith, h.0), h.1, h.2, h.3)
+
 pub rising-range : (bound : ℕ) (xs : List Range) → AreRisingFrom bound xs → (k : ℕ) (d : Range) → k < length xs →
     ((get_or xs k d).low ≤ (get_or xs k d).high) × ((get_or xs k d).high ≤ 0x10FFFF)
 rising-range bound [] h k d l = absurd (omega arith)

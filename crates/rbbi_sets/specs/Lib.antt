@@ -1,9 +1,5 @@
 pub mod Rising
 pub mod Covers
-pub mod Classes
-pub mod Steps
-pub mod Divisions
-pub mod Passing
-pub mod CharacterSets
+pub mod Partitions
 pub mod Laws
 pub mod inner

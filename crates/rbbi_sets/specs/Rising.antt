@@ -1,6 +1,5 @@
 -- The form of a set's list of ranges.
-use Rattle.std.specs.Prelude.{ℕ, ◌+◌, ◌<◌, ◌≤◌, List, [], ◌∷◌}
-use Rattle.std.specs.List.Sorted.{IsPartitionPoint}
+use Rattle.std.specs.Prelude.{ℕ, ◌+◌, ◌≤◌, List, [], ◌∷◌}
 use Rattle.rbbi_model.specs.Ranges.{Range}
 
 -- the range has a first code point and a last one, in this order

@@ -1,7 +1,4 @@
 -- What only this crate's own code and proofs cite. Nothing that is promised rests on it.
 pub mod Rising
 pub mod Joins
-pub mod Classes
-pub mod Steps
-pub mod Numbering
-pub mod ClassRanges
+pub mod Sweeps

@@ -1,5 +1,6 @@
 //! Ranges put at the end of a list that rises.
-ghost use Rattle.std.specs.Prelude.{◌≤◌, OnOk};
+ghost use Rattle.std.specs.Prelude.{◌≡◌, ◌≤◌, OnOk};
+ghost use Rattle.std.specs.Result.{OnErr};
 ghost use Rattle.rbbi_sets.specs.Rising.{AreRising};
 ghost use Rattle.rbbi_sets.specs.inner.Rising.{BeginUpTo};
 ghost use Rattle.rbbi_sets.specs.Covers.{is_between};
@@ -15,7 +16,8 @@ pub(crate) fn join_last(ranges: &mut Vec<CodeRange>, low: u32, high: u32) -> Res
     requires code_points { high ≤ 0x10FFFF }
     requires rising { AreRising ranges.old.items }
     requires begin { BeginUpTo ranges.old.items low }
-    ensures { OnOk result (Joins ranges.old.items ranges.new.items (is_between low high) low) }
+    ensures joins { OnOk result (Joins ranges.old.items ranges.new.items (is_between low high) low) }
+    ensures refused { OnErr result (ranges.new.items ≡ ranges.old.items) }
 {
     let count = ranges.len();
     if count > 0 {

@@ -1,23 +1,17 @@
 //! A set of code points.
-ghost use Rattle.std.specs.Prelude.{◌≡◌, ◌≤◌, ◌↔◌, ◌⊎◌, ◌∷◌, [], ℕ, IfOk, IfSome, IsNone, IsTrue};
+ghost use Rattle.std.specs.Prelude.{◌≡◌, ◌≤◌, ◌↔◌, ◌⊎◌, ◌∷◌, [], ℕ};
+ghost use Rattle.std.specs.Prelude.{IfOk, IfSome, OnOk, IsNone, IsTrue};
+ghost use Rattle.std.specs.Result.{OnErr};
 ghost use Rattle.std.specs.List.{All};
 ghost use Rattle.rbbi_model.specs.Words.{IsSurrogate};
 ghost use Rattle.rbbi_model.specs.Ranges.{Has};
 ghost use Rattle.rbbi_sets.specs.Rising.{AreRising, IsRange};
-ghost use Rattle.rbbi_sets.specs.Covers.{covers};
 
 use crate::CodeRange;
-use crate::cut::cut;
-use crate::gaps::gaps;
 use crate::join::join_last;
-use crate::merge::merge;
+use crate::sweep::{Operation, sweep};
 use std::alloc::{AllocError, Global};
 use std::marker::Model;
-
-const SURROGATES: [CodeRange; 1] = [CodeRange {
-    low: 0xD800,
-    high: 0xDFFF,
-}];
 
 /// A set of code points. Contracts see it as its list of ranges, which rise and neither overlap nor
 /// touch.
@@ -39,7 +33,7 @@ impl Model for CodeSet {
 }
 
 impl CodeSet {
-    /// The set that holds nothing.
+    /// The empty set.
     pub fn empty(alloc: Global) -> CodeSet
         ensures { result ≡ [] }
     {
@@ -59,8 +53,8 @@ impl CodeSet {
         Ok(CodeSet { ranges })
     }
 
-    /// The code points of many ranges, which may come in any order, overlap and touch. It sorts
-    /// them once and joins them in one pass.
+    /// The union of many ranges, which may come in any order, overlap and touch. It sorts them and
+    /// joins them in one pass.
     pub fn from_ranges(alloc: Global, ranges: Vec<CodeRange>) -> Result<CodeSet, AllocError>
         requires { All IsRange ranges.items }
         ensures members { IfOk result (λ set. (c : ℕ) → Has set c ↔ Has ranges.items c) }
@@ -83,59 +77,66 @@ impl CodeSet {
         CodeSet { ranges }
     }
 
-    /// What is in either set.
+    /// Adds the code points from `low` to `high` behind the others. A last range that overlaps or
+    /// touches them takes them in. If it is refused, the set is as it was.
+    pub fn push(&mut self, low: u32, high: u32) -> Result<(), AllocError>
+        requires ordered { low ≤ high }
+        requires code_points { high ≤ 0x10FFFF }
+        requires behind { (c : ℕ) → Has self.old c → c ≤ low }
+        ensures members { OnOk result ((c : ℕ) →
+            Has self.new c ↔ (Has self.old c ⊎ ((low ≤ c) × (c ≤ high)))) }
+        ensures form { OnOk result (AreRising self.new) }
+        ensures refused { OnErr result (self.new ≡ self.old) }
+    {
+        join_last(&mut self.ranges, low, high)?;
+        Ok(())
+    }
+
+    /// The union.
     pub fn union(&self, alloc: Global, other: &CodeSet) -> Result<CodeSet, AllocError>
         ensures members { IfOk result (λ set. (c : ℕ) →
             Has set c ↔ (Has self.now c ⊎ Has other.now c)) }
         ensures form { IfOk result (λ set. AreRising set) }
     {
-        if other.first().is_none() {
-            let copy = self.ranges.as_slice().to_vec(alloc)?;
-            return Ok(CodeSet { ranges: copy });
-        }
-        let ranges = merge(alloc, &self.ranges, &other.ranges)?;
-        Ok(CodeSet { ranges })
+        sweep(alloc, self, other, Operation::Union)
     }
 
-    /// What is in both sets.
+    /// The intersection.
     pub fn intersect(&self, alloc: Global, other: &CodeSet) -> Result<CodeSet, AllocError>
         ensures members { IfOk result (λ set. (c : ℕ) →
             Has set c ↔ (Has self.now c × Has other.now c)) }
         ensures form { IfOk result (λ set. AreRising set) }
     {
-        let others = self.minus(alloc, other)?;
-        let both = self.minus(alloc, &others)?;
-        Ok(both)
+        sweep(alloc, self, other, Operation::Intersect)
     }
 
-    /// What is in this set and not in the other.
+    /// The difference: what is in this set and not in the other.
     pub fn minus(&self, alloc: Global, other: &CodeSet) -> Result<CodeSet, AllocError>
         ensures members { IfOk result (λ set. (c : ℕ) →
             Has set c ↔ (Has self.now c × ¬ Has other.now c)) }
         ensures form { IfOk result (λ set. AreRising set) }
     {
-        let ranges = cut(alloc, &self.ranges, &other.ranges)?;
-        Ok(CodeSet { ranges })
+        sweep(alloc, self, other, Operation::Minus)
     }
 
-    /// The code points, from 0 to 0x10FFFF, that aren't in this set.
+    /// The complement: the code points, from 0 to 0x10FFFF, that aren't in this set.
     pub fn complement(&self, alloc: Global) -> Result<CodeSet, AllocError>
         ensures members { IfOk result (λ set. (c : ℕ) →
             Has set c ↔ ((c ≤ 0x10FFFF) × ¬ Has self.now c)) }
         ensures form { IfOk result (λ set. AreRising set) }
     {
-        let ranges = gaps(alloc, &self.ranges)?;
-        Ok(CodeSet { ranges })
+        let all = CodeSet::range(alloc, 0, 0x10_FFFF)?;
+        all.minus(alloc, self)
     }
 
-    /// What is in this set and is a character: no surrogate (0xD800 to 0xDFFF).
+    /// The characters of the set: its members but for surrogates (0xD800 to 0xDFFF).
     pub fn without_surrogates(&self, alloc: Global) -> Result<CodeSet, AllocError>
         ensures members { IfOk result (λ set. (c : ℕ) →
             Has set c ↔ (Has self.now c × ¬ IsSurrogate c)) }
         ensures form { IfOk result (λ set. AreRising set) }
     {
-        let ranges = cut(alloc, &self.ranges, &SURROGATES)?;
-        Ok(CodeSet { ranges })
+        let surrogates = CodeSet::range(alloc, 0xD800, 0xDFFF)?;
+        self.minus(alloc, &surrogates)
     }
 
     /// Whether the code point is in the set, by a binary search.

@@ -7,10 +7,6 @@ use crate::{CodeRange, CodeSet, members_determine};
 use std::alloc::{AllocError, Global};
 use std::test::Fail;
 
-mod character_sets;
-mod classes;
-mod divisions;
-
 type Pairs = &'static [(u32, u32)];
 
 /// Two sets and what each operation gives of them.

@@ -5,8 +5,8 @@ use Rattle.std.specs.List.{All}
 use Rattle.std.specs.Rc.{rc_value}
 use Rattle.rbbi_model.specs.Ranges.{Range, Has}
 use Rattle.rbbi_model.specs.SetTrees as model
-use Rattle.rbbi_sets.specs.Classes.{ClassBits, HasMember, IsFirstOfClass}
-use Rattle.rbbi_sets.specs.Divisions.{IsDivision}
+use Rattle.rbbi_classes.specs.Classes.{ClassBits, HasMember, IsFirstOfClass}
+use Rattle.rbbi_classes.specs.Divisions.{IsDivision}
 use Rattle.rbbi_props.specs.Rows.{File}
 use Rattle.rbbi_resolve.specs.declared.classes.Classes.{Classes}
 use Rattle.rbbi_resolve.specs.declared.classes.PropertyClasses.{PropertyClasses}

@@ -6,7 +6,7 @@ use Rattle.rbbi_resolve.specs.declared.fault.Fault.{Fault}
 use Rattle.rbbi_resolve.specs.Contexts.{Context}
 use Rattle.rbbi_resolve.specs.Parts.{Part}
 use Rattle.rbbi_resolve.specs.inner.Faults.{noted_parts}
-use Rattle.rbbi_sets.specs.Classes.{ClassBits}
+use Rattle.rbbi_classes.specs.Classes.{ClassBits}
 use Rattle.rbbi_resolve.specs.inner.ClassValues.{IsClassValue}
 
 -- both are no set, or the one is the value of the other

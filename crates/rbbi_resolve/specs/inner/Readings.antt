@@ -12,7 +12,7 @@ use Rattle.rbbi_resolve.specs.declared.classes.Classes.{Classes}
 use Rattle.rbbi_resolve.specs.Faults.{noted}
 use Rattle.rbbi_resolve.specs.inner.ClassValues.{AreClasses}
 use Rattle.rbbi_resolve.specs.inner.Covered.{CoversAll}
-use Rattle.rbbi_sets.specs.Divisions.{stand_in}
+use Rattle.rbbi_classes.specs.Divisions.{stand_in}
 use Rattle.rbbi_resolve.specs.inner.Files.{context_at}
 use Rattle.rbbi_resolve.specs.Files.{faults_from, faults_of, rules_from, active_rules}
 use Rattle.rbbi_resolve.specs.inner.Scopes.{Variables, AreVariables}

@@ -17,7 +17,7 @@ use Rattle.rbbi_resolve.specs.inner.ClassValues.{IsClassValue, AreClasses}
 use Rattle.rbbi_resolve.specs.Contexts as contexts
 use Rattle.rbbi_resolve.specs.Contexts.{assigned_to, value_of_name}
 use Rattle.rbbi_resolve.specs.inner.Covered.{NamesRespect}
-use Rattle.rbbi_sets.specs.Divisions.{stand_in}
+use Rattle.rbbi_classes.specs.Divisions.{stand_in}
 use Rattle.rbbi_resolve.specs.Expressions.{variable_for}
 use Rattle.rbbi_resolve.specs.inner.Files.{context_at}
 use Rattle.rbbi_resolve.specs.inner.Summaries.{Summarizes}

@@ -1,5 +1,5 @@
 -- What items of sets are worth.
-use Rattle.rbbi_sets.specs.Classes.{ClassBits}
+use Rattle.rbbi_classes.specs.Classes.{ClassBits}
 use Rattle.rbbi_resolve.specs.declared.set_value.Worth.{Worth}
 use Rattle.rbbi_resolve.specs.declared.set_value.Worth.TheVariants.{Own, Kept}
 

@@ -1,5 +1,5 @@
--- The form of a set's list of ranges: what only this crate cites.
-use Rattle.std.specs.Prelude.{ℕ, ◌+◌, ◌<◌, ◌≤◌, List, [], ◌∷◌}
+-- Where the ranges of a list begin and end, seen from a code point.
+use Rattle.std.specs.Prelude.{ℕ, ◌<◌, ◌≤◌, List, [], ◌∷◌}
 use Rattle.std.specs.List.Sorted.{IsPartitionPoint}
 use Rattle.rbbi_model.specs.Ranges.{Range}
 

@@ -2,7 +2,7 @@ use Rattle.std.proofs.Common.{◌≡◌, [], length, sym, ◌∙◌, subst, arit
 use Rattle.std.proofs.lemmas.List.{length-map}
 use Rattle.std.specs.Rc.{rc_value}
 use Rattle.rbbi_tree.specs.Values.{statement_trees}
-use Rattle.rbbi_sets.specs.Divisions.{stand_in}
+use Rattle.rbbi_classes.specs.Divisions.{stand_in}
 use Rattle.rbbi_resolve.specs.Files.{active_rules, faults_of}
 use Rattle.rbbi_resolve.specs.inner.Files.{context_at}
 use Rattle.rbbi_resolve.specs.inner.Scopes.{AreVariables}

@@ -15,22 +15,22 @@ overflow_add-last-inside c =
     ap (λ (r : Range). r.high) c.last.view_is ∙ ap (λ (r : Range). r.high) c.index-last.ensures in
     omega (arith, inside.1, read)
 
-pub returns-then-last-high : goal.returns-then-last-high
-returns-then-last-high c =
+pub returns-then-last-high-clause-joins : goal.returns-then-last-high-clause-joins
+returns-then-last-high-clause-joins c =
     let high : c.last.inside.high ≡ c.index-last.result.now.high = ap (λ (r : Range). r.high) c.last.view_is in
     let low : c.last.inside.low ≡ c.index-last.result.now.low = ap (λ (r : Range). r.low) c.last.view_is in
     Joins-joined c.args.ranges.now.items (c.len-count.result - 1) c.index-last.result.now (record { low = c.last.inside.low; high = c.args.high }) c.args.low
     (omega (arith, c.args.ranges.now.ok.0)) c.index-last.ensures c.requires.rising c.requires.begin
     low (omega arith) (omega arith) c.requires.code_points
 
-pub returns-else-last-high : goal.returns-else-last-high
-returns-else-last-high c =
+pub returns-else-last-high-clause-joins : goal.returns-else-last-high-clause-joins
+returns-else-last-high-clause-joins c =
     let high : c.last.inside.high ≡ c.index-last.result.now.high = ap (λ (r : Range). r.high) c.last.view_is in
     Joins-inside c.args.ranges.now.items (c.len-count.result - 1) c.index-last.result.now c.args.low c.args.high
     (omega (arith, c.args.ranges.now.ok.0)) c.index-last.ensures c.requires.rising c.requires.begin (omega arith)
 
-pub returns : goal.returns
-returns c =
+pub returns-clause-joins : goal.returns-clause-joins
+returns-clause-joins c =
     rw c.in_ok-push.ensures.items
     (elim c.if-count-gt0.branch [
       | then-count-gt0+else-low-last w ↦

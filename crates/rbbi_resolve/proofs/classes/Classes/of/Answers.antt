@@ -6,8 +6,8 @@ use Rattle.std.proofs.lemmas.List.Elements.{All-weaker}
 use Rattle.std.proofs.lemmas.Option.{slice_get_within}
 use Rattle.std.specs.List.{All, Contains}
 use Rattle.rbbi_model.specs.Ranges.{Range}
-use Rattle.rbbi_sets.specs.Divisions.{ClassDivision, IsRespected, stand_in}
-use Rattle.rbbi_sets.proofs.FirstCodePoints.{stand-in_is_point}
+use Rattle.rbbi_classes.specs.Divisions.{ClassDivision, IsRespected, stand_in}
+use Rattle.rbbi_classes.proofs.FirstCodePoints.{stand-in_is_point}
 use Rattle.rbbi_resolve.specs.inner.ClassValues.{IsKnown}
 use Rattle.rbbi_tree.specs.Values.{statement_tree, statement_trees}
 use Rattle.rbbi_resolve.specs.inner.Questions.{IsAnswer}

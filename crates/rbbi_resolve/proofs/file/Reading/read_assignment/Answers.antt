@@ -15,7 +15,7 @@ use Rattle.rbbi_resolve.specs.inner.Scopes.{Variables, AreVariables, visible}
 use Rattle.rbbi_resolve.specs.inner.Readings.{IsReadTo}
 use Rattle.rbbi_resolve.proofs.Steps.{step, context_next, stay_variables, join_variable, note_three, with_known, with_new, describes, matches_some, unseen}
 use Rattle.rbbi_resolve.proofs.Ending.{switches_kept}
-use Rattle.rbbi_sets.specs.Divisions.{stand_in}
+use Rattle.rbbi_classes.specs.Divisions.{stand_in}
 use Rattle.rbbi_resolve.proofs.Respecting.{context_respects}
 use Rattle.rbbi_resolve.proofs.file.Reading.read_assignment.Goals as goal
 use Rattle.rbbi_resolve.proofs.file.Reading.read_assignment.Goals.{In_ok-kind}

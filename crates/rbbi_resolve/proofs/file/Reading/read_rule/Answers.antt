@@ -2,7 +2,7 @@ use Rattle.std.proofs.Common.{◌≡◌, ◌+◌, ◌∷◌, [], ◌++◌, true,
 use Rattle.std.specs.Rc.{rc_value}
 use Rattle.rbbi_tree.specs.Trees.{rule}
 use Rattle.rbbi_tree.specs.Values.{statement_trees, expr_tree, rest_tree}
-use Rattle.rbbi_sets.specs.Divisions.{stand_in}
+use Rattle.rbbi_classes.specs.Divisions.{stand_in}
 use Rattle.rbbi_resolve.specs.declared.counts.Counts as declared
 use Rattle.rbbi_resolve.specs.Files.{RuleMeaning, rule_in}
 use Rattle.rbbi_resolve.specs.inner.Files.{context_at}

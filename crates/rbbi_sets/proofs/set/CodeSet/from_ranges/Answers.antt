@@ -42,7 +42,7 @@ loop-range-preserved c =
     let high = ap (λ (r : Range). r.high) (c.range.view_is ∙ c.range-item.is) in
     IsJoined-more c.deref-range-items.result.now c.loop-range.joined.items c.join_last.new.ranges.items c.loop-range.range-index c.range-item.result
     c.range.inside.low c.range.inside.high
-    (rw items up) (omega arith) low high c.loop-range.invariant c.in_ok-join_last.ensures
+    (rw items up) (omega arith) low high c.loop-range.invariant c.in_ok-join_last.ensures.joins
 
 pub returns-clause-members : goal.returns-clause-members
 returns-clause-members c = λ code.

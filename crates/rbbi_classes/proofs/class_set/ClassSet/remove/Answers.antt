@@ -1,0 +1,23 @@
+use Rattle.std.proofs.Common.{ℕ, arith}
+use Rattle.std.specs.Vec.{with_items}
+use Rattle.std.proofs.lemmas.List.{with_items_is}
+use Rattle.rbbi_classes.specs.Classes.{ClassBits, class_of}
+use Rattle.rbbi_classes.proofs.ClassMembers.{AreAlike, alike_made, alike_view, removed_members}
+use Rattle.rbbi_classes.proofs.ClassWords.{bits_of}
+use Rattle.rbbi_classes.proofs.class_set.ClassSet.remove.Goals as goal
+
+pub returns : goal.returns
+returns c = λ bounds point.
+    let from : ℕ = c.self.inside.from in
+    let new : ClassBits = bits_of from c.remove_words.new.row in
+    let made : ClassBits = bits_of from (with_items c.self.inside.words c.remove_words.new.row).items in
+    let those : ClassBits = bits_of c.other.inside.from c.as_slice.result.now in
+    let row : ClassBits = bits_of from c.as_mut_slice-row.result.now in
+    let is : AreAlike made new =
+    alike_made from (with_items c.self.inside.words c.remove_words.new.row).items c.remove_words.new.row
+    (with_items_is c.self.inside.words c.remove_words.new.row (omega arith)) in
+    let given : AreAlike those c.args.other.now =
+    alike_view c.other.inside.from c.as_slice.result.now c.other.inside.words.items c.args.other.now c.as_slice.ensures.value c.other.view_is in
+    let was : AreAlike row c.args.self.now =
+    alike_view from c.as_mut_slice-row.result.now c.self.inside.words.items c.args.self.now c.as_mut_slice-row.ensures.value c.self.view_is in
+    removed_members new made those c.args.other.now is given bounds point c.args.self.now row was (c.remove_words.ensures (class_of bounds point))

@@ -1,0 +1,6 @@
+pub mod Classes
+pub mod Steps
+pub mod Divisions
+pub mod RangesWhere
+pub mod CharacterSets
+pub mod inner

@@ -1,8 +1,0 @@
-use Rattle.std.proofs.Common.{◌∙◌}
-use Rattle.rbbi_sets.proofs.Meanings.{without_members}
-use Rattle.rbbi_sets.proofs.set.CodeSet.without_surrogates.Goals as goal
-
-pub returns-clause-members : goal.returns-clause-members
-returns-clause-members c =
-    let inside = c.deref.ensures.value ∙ c.self.view_is in
-    rw (← inside) (without_members 0xD800 0xDFFF c.deref.result.now c.in_ok-ranges.ranges.items c.in_ok-ranges.ensures.members)

@@ -1,9 +1,0 @@
-use Rattle.std.proofs.Common.{◌+◌, ◌-◌, length}
-use Rattle.rbbi_sets.proofs.StepMerges.{IsMerging}
-use Rattle.rbbi_sets.proofs.steps.merged.Given as goal
-
-abbrev pub invariant-merge : goal.invariant-merge
-invariant-merge l = IsMerging l.left l.right l.steps.items l.of_left l.of_right l.pairs.items.items l.number
-
-abbrev pub decreases-merge : goal.decreases-merge
-decreases-merge l = (length l.left - l.of_left.passed) + (length l.right - l.of_right.passed)

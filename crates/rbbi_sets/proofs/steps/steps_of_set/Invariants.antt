@@ -1,5 +1,0 @@
-use Rattle.rbbi_sets.proofs.SetSteps.{AreOfRanges}
-use Rattle.rbbi_sets.proofs.steps.steps_of_set.Given as goal
-
-abbrev pub invariant-loop-range : goal.invariant-loop-range
-invariant-loop-range l = AreOfRanges l.range-items l.range-index l.inside l.steps.items
