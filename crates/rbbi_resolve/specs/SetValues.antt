@@ -18,12 +18,12 @@ Passes None c = ⊥
 Passes (Some test) c = IsCodePoint c × IsTrue (test c)
 
 -- what is found for the characters of a name, and of a value where there is one
-abbrev pub found : List File → List ℕ → Option (List ℕ) → Option (ℕ → Bool)
-found files name value = lookup files (encode_utf8_all name) (option_map encode_utf8_all value)
+abbrev pub property_test : List File → List ℕ → Option (List ℕ) → Option (ℕ → Bool)
+property_test files name value = lookup files (encode_utf8_all name) (option_map encode_utf8_all value)
 
 -- the code point has the property
 abbrev pub HasProperty : List File → List ℕ → Option (List ℕ) → ℕ → Type 0
-HasProperty files name value c = Passes (found files name value) c
+HasProperty files name value c = Passes (property_test files name value) c
 
 -- the sign of a join in the model of sets
 abbrev pub join_of : Join → model.Join
@@ -45,7 +45,7 @@ signed true set = model.Others set
 -- the value of a property, where it is known
 abbrev pub value_of_property : List File → Bool → List ℕ → Option (List ℕ) → Option model.SetTree
 value_of_property files negated name value =
-    if is_some (found files name value) then Some (model.Property negated name value) else None
+    if is_some (property_test files name value) then Some (model.Property negated name value) else None
 
 -- the value of a range, where its first character isn't greater than its last
 abbrev pub value_of_range : ℕ → ℕ → Option model.SetTree

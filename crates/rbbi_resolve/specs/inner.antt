@@ -3,9 +3,8 @@ pub mod SetValues
 pub mod Faults
 pub mod Files
 pub mod Countings
-pub mod Refusals
 pub mod Summaries
-pub mod Scopes
+pub mod Contexts
 pub mod Definitions
 pub mod LoneSets
 pub mod Switchings

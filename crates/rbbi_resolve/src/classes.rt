@@ -4,9 +4,9 @@ ghost use Rattle.std.specs.Rc.{rc_value};
 ghost use Rattle.rbbi_props.specs.Rows.{File};
 ghost use Rattle.rbbi_resolve.specs.SetValues.{value_of_property};
 ghost use Rattle.rbbi_tree.specs.Values.{statement_trees};
-ghost use Rattle.rbbi_resolve.specs.inner.ClassValues.{AreClasses, IsClassValue};
+ghost use Rattle.rbbi_resolve.specs.inner.ClassValues.{AreRightClasses, IsClassValue};
 ghost use Rattle.rbbi_resolve.specs.inner.ClassValues.{IsKnown, IsDivided};
-ghost use Rattle.rbbi_resolve.specs.inner.Questions.{IsAnswer};
+ghost use Rattle.rbbi_resolve.specs.inner.Questions.{IsRightAnswer};
 ghost use Rattle.rbbi_resolve.specs.inner.Covered.{CoversAll};
 ghost use Rattle.std.specs.HashMap.{values};
 ghost use Rattle.std.specs.List.{All};
@@ -48,7 +48,7 @@ impl Classes {
         properties: &mut Properties,
         statements: &Statements,
     ) -> Result<Classes, AllocError>
-        ensures classes { IfOk result (AreClasses properties.old) }
+        ensures classes { IfOk result (AreRightClasses properties.old) }
         ensures covers { IfOk result (λ classes.
             CoversAll properties.old (stand_in (rc_value classes.division))
             (statement_trees statements.now)) }
@@ -76,7 +76,7 @@ impl Classes {
         name: &Word,
         value: &Option<Word>,
     ) -> Option<&Option<ClassSet>>
-        ensures { IfSome result (λ set. (files : List File) → AreClasses files self.now
+        ensures { IfSome result (λ set. (files : List File) → AreRightClasses files self.now
             → IsClassValue files (rc_value self.now.division).bounds
             (value_of_property files negated name.now value.now) set.now) }
     {
@@ -95,7 +95,8 @@ fn by_classes(
     layout: &Layout,
     answers: &IndexMap<String, Answer>,
 ) -> Result<IndexMap<String, PropertyClasses>, AllocError>
-    ensures { IfOk result (λ sets. (files : List File) → All (IsAnswer files) (values answers.now)
+    ensures { IfOk result (λ sets. (files : List File) → All (IsRightAnswer files) (values
+        answers.now)
         → All (IsKnown files layout.now) (values sets)) }
 {
     let mut divided = IndexMap::new(alloc);
@@ -117,7 +118,8 @@ fn add_known(
 ) -> Result<(), AllocError>
     requires divided { All (IsDivided layout.now) (values divided.old) }
     ensures divided { OnOk result (All (IsDivided layout.now) (values divided.new)) }
-    ensures known { OnOk result ((files : List File) → All (IsAnswer files) (values answers.now)
+    ensures known { OnOk result ((files : List File) → All (IsRightAnswer files) (values
+        answers.now)
         → All (IsKnown files layout.now) (values known.old)
         → All (IsKnown files layout.now) (values known.new)) }
 {

@@ -17,7 +17,7 @@ pub(crate) struct Switches {
 impl Switches {
     /// Before the first statement rules are active, and nothing else is.
     pub(crate) fn new() -> Switches
-        ensures { (rows : List File) → AreSwitches result (files.start rows) }
+        ensures { (rows : List File) → AreSwitches result (files.initial_context rows) }
     {
         Switches {
             chained: false,

@@ -33,7 +33,7 @@ IsKnown files bounds known =
     (rc_value known.set)
 
 -- the classes are those of a division, and the sets of properties are right
-pub record AreClasses (files : List File) (classes : Classes) : Type 0 where
+pub record AreRightClasses (files : List File) (classes : Classes) : Type 0 where
   pub divides : IsDivision (rc_value classes.division)
   pub known : All (IsKnown files (rc_value classes.division).bounds) (values classes.sets)
 

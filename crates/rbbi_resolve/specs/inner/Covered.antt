@@ -12,7 +12,7 @@ use Rattle.rbbi_resolve.specs.declared.collection.Collection.{Collection}
 use Rattle.rbbi_resolve.specs.declared.properties.Answer.{Answer}
 use Rattle.rbbi_resolve.specs.inner.SetValues.{IsValue}
 use Rattle.rbbi_resolve.specs.SetValues.{HasProperty, value_of_property, value_of_set, value_of_part}
-use Rattle.rbbi_resolve.specs.inner.Questions.{IsAnswer}
+use Rattle.rbbi_resolve.specs.inner.Questions.{IsRightAnswer}
 use Rattle.rbbi_resolve.specs.Parts.{Part, Outside, parts_of_expr}
 
 -- The set has code points alone, and has a code point exactly where it has the one that stands for it.
@@ -76,7 +76,7 @@ pub record HasBase (files : List File) (bases : List (List Range)) (negated : Bo
 
 -- the answer is right, and its set is among these
 pub record IsBasedAnswer (files : List File) (bases : List (List Range)) (answer : Answer) : Type 0 where
-  pub right : IsAnswer files answer
+  pub right : IsRightAnswer files answer
   pub own : IfSome (rc_value answer.set) (Contains bases)
 
 -- what was found for properties is right, and was collected

@@ -10,8 +10,8 @@ use Rattle.rbbi_resolve.specs.Contexts.{Context, variable_of}
 use Rattle.rbbi_resolve.specs.Expressions.{meaning_of_expr, height_of_expr, variable_for}
 use Rattle.rbbi_resolve.specs.Parts.{parts_of_expr}
 use Rattle.rbbi_resolve.specs.Faults.{faults_where, faults_of_parts}
-use Rattle.rbbi_resolve.specs.Files.{start, context_after}
+use Rattle.rbbi_resolve.specs.Files.{initial_context, context_after}
 
 -- what stands before the statement with this number, from 0
 unfoldable pub context_at : List File → List StatementTree → ℕ → Context
-context_at files statements number = fold context_after (start files) (take number statements)
+context_at files statements number = fold context_after (initial_context files) (take number statements)

@@ -2,7 +2,7 @@
 ghost use Rattle.std.specs.Prelude.{◌≡◌, encode_utf8_all};
 ghost use Rattle.std.specs.Option.{option_copied};
 ghost use Rattle.std.specs.HashMap.{get_by_text};
-ghost use Rattle.rbbi_resolve.specs.inner.Scopes.{bounds_of, visible};
+ghost use Rattle.rbbi_resolve.specs.inner.Contexts.{bounds_of, visible};
 
 use crate::classes::Classes;
 use crate::variables::{Variable, Variables};
@@ -13,7 +13,7 @@ use rbbi_tree::Statements;
 /// What an expression may use: the variables that are assigned before the statement with the number
 /// `limit`.
 #[derive(Clone, Copy)]
-pub(crate) struct Scope<'a> {
+pub(crate) struct Context<'a> {
     pub(crate) statements: &'a Statements,
     pub(crate) variables: &'a Variables,
     pub(crate) classes: &'a Classes,
@@ -22,7 +22,7 @@ pub(crate) struct Scope<'a> {
     pub(crate) quoted_only: bool,
 }
 
-impl<'a> Scope<'a> {
+impl<'a> Context<'a> {
     /// The first code points of the classes of the file.
     pub(crate) fn layout(&self) -> &'a Layout
         ensures { result.now ≡ bounds_of self.now }
