@@ -18,7 +18,7 @@ use Rattle.rbbi_lex.specs.Characters.{is_bare, is_sign}
 abbrev pub start_state : State
 start_state = record { depth = 0 }
 
--- where one more token has been read, of this kind
+-- behind one more token, of this kind
 abbrev pub state_behind : State → TokenKind → State
 state_behind state SetOpen = record { depth = state.depth + 1 }
 state_behind state SetClose = record { depth = state.depth - 1 }

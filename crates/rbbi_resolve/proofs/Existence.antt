@@ -98,7 +98,7 @@ filled_tree files (Leaf tree) t g s =
     let own : IsLeafSet s.0 =
     record {
       rising = of.rising;
-      some = (w.0, (of.members w.0).1 (w.1, w.2));
+      some = (w.0, (of.members w.0).1 (w.2, w.3));
       characters = λ c h. (members_are_code_points 0 s.0 of.rising c h, ((of.members c).0 h).1);
     } in
     subst HasLawfulLeaves (sym s.1) own

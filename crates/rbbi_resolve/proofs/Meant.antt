@@ -120,7 +120,8 @@ pub unnamed : (files : List File) (context : Context) (word : List ℕ) → IsRe
     None ≡ visible context.limit (get_by_text context.variables.now (encode_utf8_all word)) →
     meaning_of_atom (context_of files context) (name word) ≡ Never
 unnamed files context word ready e =
-    let d = describes files (bounds_of context) (statement_trees context.statements.now) context.variables.now ready.end context.limit ready.low ready.variables in
+    let d = describes files (bounds_of context) (statement_trees context.statements.now) context.variables.now ready.end
+    context.limit ready.low ready.variables in
     unmatched files (bounds_of context) (variable_of (context_of files context) word) (subst (λ o. Matches files (bounds_of context) o (variable_of
     (context_of files context) word)) (sym e)
     (d.same (encode_utf8_all word)))

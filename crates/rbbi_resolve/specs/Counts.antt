@@ -24,7 +24,7 @@ too_many_rules_at rules = option_map (λ rule. rule.place) (slice_get rules 4096
 abbrev pub leaves_meant : RuleMeaning → ℕ
 leaves_meant rule = leaves_in rule.front + option_map_or leaves_in rule.rest 0
 
--- `TooManyLeaves`: the place of the first rule with which the sum passes 8,192, where so many leaves stand before
+-- `TooManyLeaves`: the place of the first rule with which the sum exceeds 8,192, after rules with `sum` leaves
 abbrev pub too_many_leaves_at : ℕ → List RuleMeaning → Option ℕ
 too_many_leaves_at sum [] = None
 too_many_leaves_at sum (rule ∷ rules) =

@@ -5,12 +5,12 @@ use Rattle.rbbi_sets.specs.Covers.{is_between}
 use Rattle.rbbi_props.specs.Rows.{File}
 use Rattle.rbbi_resolve.specs.SetValues.{property_test}
 
--- whether the code point passes the test, where there is one
+-- whether the code point passes the test, if there is one
 abbrev pub passes_test : Option (ℕ → Bool) → ℕ → Bool
 passes_test None c = false
 passes_test (Some test) c = nat_le c 0x10FFFF && test c
 
--- whether it has the property, or where that is negated, it is one of the others
+-- whether it is in the property, or in the complement if that is negated
 abbrev pub in_property : Bool → ℕ → Bool → Bool
 in_property false c own = own
 in_property true c own = nat_le c 0x10FFFF && not own

@@ -83,7 +83,7 @@ is_empty_set context (Outside place (set s)) =
     is_empty_value context.files (value_of_set context.files (value_of_name context) s)
 is_empty_set context _ = false
 
--- `BareLiteral`: a bare character outside of sets, where only quoted ones may stand
+-- `BareLiteral`: a bare character outside of sets, if only quoted ones may stand there
 abbrev pub is_bare_literal : Context → Part → Bool
 is_bare_literal context (Outside place (character c bare)) = bare && context.quoted_only
 is_bare_literal context _ = false
@@ -107,11 +107,11 @@ faults_of_parts context (part ∷ parts) = faults_of_part context part ++ faults
 abbrev pub comes_before : Fault → Fault → Bool
 comes_before f g = nat_lt f.place g.place || (nat_eq f.place g.place && nat_lt (rank f.kind) (rank g.kind))
 
--- the earlier one of what was noted and a fault
+-- the earlier of what was noted and a fault
 abbrev pub noted_one : Option Fault → Fault → Option Fault
 noted_one None f = Some f
 noted_one (Some g) f = if comes_before f g then Some f else Some g
 
--- the earliest one of what was noted and the faults
+-- the earliest of what was noted and the faults
 abbrev pub noted : Option Fault → List Fault → Option Fault
 noted least faults = fold noted_one least faults

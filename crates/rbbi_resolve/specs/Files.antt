@@ -20,11 +20,11 @@ initial_context files = record { files = files; variables = []; chained = false;
 abbrev pub ends_active : List ℕ → Bool
 ends_active name = bytes_eq name (codes "reverse") || (bytes_eq name (codes "safe_forward") || bytes_eq name (codes "safe_reverse"))
 
--- whether a control is known and has no effect that is supported
+-- whether a control is known to be unsupported
 abbrev pub is_unsupported : List ℕ → Bool
 is_unsupported name = bytes_eq name (codes "LBCMNoChain") || bytes_eq name (codes "unquoted_literals")
 
--- whether a control is known and supported
+-- whether a control is supported
 abbrev pub is_supported : List ℕ → Bool
 is_supported name =
     bytes_eq name (codes "chain") ||
@@ -60,7 +60,7 @@ faults_at_slash context front (Some slash) (Some rest) =
     faults_where (spells_empty (meaning_of_expr context front)) slash kinds.EmptyFront
     ++ faults_where (spells_empty (meaning_of_expr context rest)) slash kinds.EmptyRest
 
--- the faults of the parts of an expression that may be absent
+-- the faults of the parts of an expression, if there is one
 abbrev pub faults_of_rest : Context → Option ExprTree → List Fault
 faults_of_rest context None = []
 faults_of_rest context (Some rest) = faults_of_parts context (parts_of_expr rest)
@@ -99,7 +99,7 @@ pub record RuleMeaning : Type 0 where
   pub place : ℕ
   pub height : ℕ
 
--- the rule that a statement is, where rules are active
+-- the rule that a statement is, if rules are active
 abbrev pub rule_in : Context → StatementTree → List RuleMeaning
 rule_in context nothing = []
 rule_in context (control name place) = []

@@ -25,12 +25,12 @@ HasOneMeaning =
     (files : List File) (ignored : Bool) (statements : List StatementTree) (rules others : List model.Rule) →
     Means files ignored statements rules → Means files ignored statements others → rules ≡ others
 
--- what is noted of faults is the earliest of them, and nothing is noted where there is none
+-- what is noted of faults is the earliest of them, and nothing if there is none
 pub record NotesLeast (faults : List Fault) : Type 0 where
   pub least : (fault : Fault) → noted None faults ≡ Some fault → IsEarliest faults fault
   pub none : noted None faults ≡ None → faults ≡ []
 
--- The rules that a file means are lawful, where its statements are as the parser gives them: well made, and of characters.
+-- The rules that a file means are lawful if its statements are as the parser gives them: well made, and of characters.
 abbrev pub MeansLawfulRules : Type 0
 MeansLawfulRules =
     (files : List File) (ignored : Bool) (statements : List StatementTree) (rules : List model.Rule) →

@@ -27,7 +27,7 @@ leaves_in (Then first rest) = leaves_in first + leaves_in rest
 leaves_in (Either first rest) = leaves_in first + leaves_in rest
 leaves_in (Repeat repetition part) = leaves_in part
 
--- whether none of a part is one of its repetitions
+-- whether a repetition allows none of its part
 abbrev pub may_be_none : Repetition → Bool
 may_be_none Star = true
 may_be_none Plus = false

@@ -24,7 +24,7 @@ use crate::switches::Switches;
 use rbbi_tree::{Expr, Statement, Statements};
 use std::alloc::{AllocError, Global};
 
-/// The tree of a rest that may be absent.
+/// The tree of a rest, if there is one.
 fn tree_of_rest(
     alloc: Global,
     context: &Context,
@@ -56,7 +56,7 @@ fn tree_of_rest(
     }
 }
 
-/// Adds the rule of the statement with the number `limit`, where it is an active rule.
+/// Adds the rule of the statement with the number `limit`, if it is an active rule.
 fn add_statement(
     alloc: Global,
     context: &Context,

@@ -41,8 +41,8 @@ const MOST_SETS: usize = 4_294_967_295;
 pub(crate) struct Builder<'a> {
     pub(crate) properties: Properties<'a>,
     pub(crate) sets: Vec<CharacterSet>,
-    /// For each statement the number of the first set of its own leaves, where it assigns a
-    /// variable that was used.
+    /// For each statement the number of the first set of its own leaves, if it assigns a variable
+    /// that was used.
     pub(crate) bases: Vec<Option<usize>>,
 }
 
@@ -75,8 +75,8 @@ impl<'a> Builder<'a> {
         Ok(tree)
     }
 
-    /// Adds the sets of the own leaves of an expression, and tells the number of the first. `kept`
-    /// is what a variable keeps of it, where it is assigned to one.
+    /// Adds the sets of the own leaves of an expression and returns the number of the first.
+    /// `kept` is what a variable keeps of it, if it is assigned to one.
     fn add_own(
         &mut self,
         alloc: Global,
@@ -116,8 +116,7 @@ impl<'a> Builder<'a> {
         Ok(base)
     }
 
-    /// The number of the first set of the own leaves of a statement, which are added where they
-    /// aren't there yet.
+    /// The number of the first set of the own leaves of a statement. Adds them on the first call.
     fn base(
         &mut self,
         alloc: Global,
@@ -369,7 +368,7 @@ fn tree_of_word(alloc: Global, next: &mut usize, word: &Word) -> Result<Tree, Al
     Ok(in_sequence(items))
 }
 
-/// The expression that a statement assigns, where it is an assignment.
+/// The expression that a statement assigns, if it is an assignment.
 fn assigned(statements: &Statements, number: usize) -> Option<&Expr>
     requires { number < length statements.now }
     ensures some { IfSome result (λ expr. IsAssigned (statement_trees statements.now) number

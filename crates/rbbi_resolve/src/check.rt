@@ -175,7 +175,7 @@ fn check_atom(
     }
 }
 
-/// Counts a variable, and notes where it is undefined.
+/// Counts a variable; notes a fault if it is undefined.
 fn check_name(context: &Context, least: &mut Option<Fault>, place: u32, name: &Word) -> Summary
     ensures noted { (files : List File) → IsContext files context.now
         → least.new ≡ noted_parts (context_of files context.now) least.old
@@ -206,7 +206,7 @@ fn summary_of(kind: &Kind) -> Summary
     }
 }
 
-/// Notes where a property that stands as an atom is unknown or holds no character.
+/// Notes the fault of a property that stands as an atom: it is unknown or has no character.
 pub(crate) fn check_property(
     alloc: Global,
     properties: &mut Properties,
@@ -229,7 +229,7 @@ pub(crate) fn check_property(
     Ok(())
 }
 
-/// The value of a set that stands as an atom. Notes the faults in it, and where it holds no
+/// The value of a set that stands as an atom. Notes the faults in it, and that it has no
 /// character.
 pub(crate) fn check_set(
     alloc: Global,
@@ -256,7 +256,7 @@ pub(crate) fn check_set(
     Ok(value)
 }
 
-/// Whether a set of classes has a value and holds no character.
+/// Whether a set of classes has a value without characters.
 fn is_empty_set(division: &Division, value: &Option<ClassSet>) -> bool
     ensures { (files : List File) (tree : Option model.SetTree)
         → IsClassValue files division.now.bounds tree value.now
@@ -269,7 +269,7 @@ fn is_empty_set(division: &Division, value: &Option<ClassSet>) -> bool
     }
 }
 
-/// Whether a property is known and holds no character.
+/// Whether a property is known and has no character.
 fn is_empty_value(value: &Option<CodeSet>) -> bool
     ensures { (files : List File) (tree : Option model.SetTree)
         → IsValue files tree value.now → result ≡ is_empty_value files tree }

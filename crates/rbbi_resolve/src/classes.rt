@@ -1,4 +1,4 @@
-//! The classes of code points that no set of a rule file tells apart.
+//! The partition of the code points by the sets of a rule file.
 ghost use Rattle.std.specs.Prelude.{◌≡◌, List, IfOk, IfSome, OnOk};
 ghost use Rattle.std.specs.Rc.{rc_value};
 ghost use Rattle.rbbi_props.specs.Rows.{File};
@@ -24,16 +24,16 @@ use rbbi_tree::Statements;
 use std::alloc::{AllocError, Global};
 use std::rc::Rc;
 
-/// The set of a property by classes, and None where the property is unknown.
+/// The set of a property by classes; None if the property is unknown.
 #[derive(Debug, Drop)]
 pub(crate) struct PropertyClasses {
     pub(crate) question: Rc<Question>,
     pub(crate) set: Rc<Option<ClassSet>>,
 }
 
-/// The classes of a rule file: code points that no property of the file, and no characters and
-/// ranges that follow one another in a set, tell apart. So each set of the file has of a class all
-/// or nothing, as `of` ensures.
+/// The partition of the code points by the properties of a rule file and by the characters and
+/// ranges that follow one another in a set. Each set of the file is a union of its classes, as `of`
+/// ensures.
 #[derive(Drop)]
 pub(crate) struct Classes {
     pub(crate) division: Rc<Division>,
@@ -42,7 +42,7 @@ pub(crate) struct Classes {
 }
 
 impl Classes {
-    /// The classes of the statements of a rule file.
+    /// The partition for the statements of a rule file.
     pub(crate) fn of(
         alloc: Global,
         properties: &mut Properties,
@@ -68,7 +68,7 @@ impl Classes {
         })
     }
 
-    /// The set of a property under its key, and None where another property has that key.
+    /// The set of a property, by its key; None if another property has that key.
     pub(crate) fn known(
         &self,
         key: &str,
@@ -89,7 +89,7 @@ impl Classes {
     }
 }
 
-/// The sets that were found, by the classes of a layout, each made once.
+/// The sets of the properties that were looked up, by the classes of a layout, each made once.
 fn by_classes(
     alloc: Global,
     layout: &Layout,

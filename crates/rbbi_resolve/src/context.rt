@@ -1,4 +1,4 @@
-//! What an expression may use.
+//! What stands before a statement.
 ghost use Rattle.std.specs.Prelude.{◌≡◌, encode_utf8_all};
 ghost use Rattle.std.specs.Option.{option_copied};
 ghost use Rattle.std.specs.HashMap.{get_by_text};
@@ -10,8 +10,8 @@ use rbbi_sets::Layout;
 use rbbi_text::Word;
 use rbbi_tree::Statements;
 
-/// What an expression may use: the variables that are assigned before the statement with the number
-/// `limit`.
+/// What stands before the statement with the number `limit`: the variables that an expression may
+/// use, and the controls.
 #[derive(Clone, Copy)]
 pub(crate) struct Context<'a> {
     pub(crate) statements: &'a Statements,
@@ -23,14 +23,14 @@ pub(crate) struct Context<'a> {
 }
 
 impl<'a> Context<'a> {
-    /// The first code points of the classes of the file.
+    /// The first code point of each class.
     pub(crate) fn layout(&self) -> &'a Layout
         ensures { result.now ≡ bounds_of self.now }
     {
         self.classes.division.as_ref().layout()
     }
 
-    /// The variable of this name, where a statement before the limit assigns it.
+    /// The variable of this name, if a statement before the limit assigns it.
     pub(crate) fn variable(&self, name: &Word) -> Option<&'a Variable>
         ensures { option_copied result ≡ visible self.now.limit
             (get_by_text self.now.variables.now (encode_utf8_all name.now)) }

@@ -1,4 +1,4 @@
-//! The counts of the active rules, and where they pass their limits.
+//! The counts of the active rules and the first rule that exceeds each limit.
 ghost use Rattle.std.specs.Prelude.{◌≡◌, ◌≤◌, ◌<◌, ℕ, List, [], ◌∷◌, is_some, if◌then◌else◌};
 ghost use Rattle.rbbi_resolve.specs.Counts.{size_fault, leaves_meant};
 ghost use Rattle.rbbi_resolve.specs.Files.{RuleMeaning};
@@ -17,7 +17,8 @@ const MOST_SLASHES: u32 = 32;
 /// The greatest height of an active rule.
 const MOST_HEIGHT: u32 = 256;
 
-/// A sum over rules, and the place of the rule with which it passed its limit; it goes no further.
+/// A sum over rules, up to the first rule with which it exceeds its limit, and the place of that
+/// rule.
 #[derive(Clone, Copy, Debug)]
 pub(crate) struct Count {
     pub(crate) sum: u32,
@@ -56,7 +57,7 @@ impl Count {
     }
 }
 
-/// 1 where the test holds, or else 0.
+/// 1 if the test holds, else 0.
 fn one_where(test: bool) -> u32
     ensures few { result ≤ 1 }
     ensures one { result ≡ (if test then 1 else 0) }

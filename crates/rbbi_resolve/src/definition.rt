@@ -1,4 +1,4 @@
-//! What the expressions of assignments make of their names.
+//! The variables that assignments define.
 ghost use Rattle.std.specs.Prelude.{◌≡◌, ◌∷◌, [], None, Some, IfOk, IfSome, IfNone, MatchOption};
 ghost use Rattle.std.specs.Prelude.{OnOk};
 ghost use Rattle.rbbi_tree.specs.Trees.{placed, alternative, item as item_of, no_items};
@@ -25,7 +25,7 @@ use rbbi_sets::SharedClasses;
 use rbbi_tree::{Atom, Expr, Item, Quant};
 use std::alloc::{AllocError, Global};
 
-/// Notes the faults of an expression that is assigned, and tells what it makes of its name.
+/// Notes the faults of an assigned expression and returns the kind of variable that it defines.
 pub(crate) fn check_definition(
     alloc: Global,
     context: &Context,
@@ -53,7 +53,7 @@ pub(crate) fn check_definition(
     }
 }
 
-/// The value of an expression that is a set, with its faults noted; None where it is no set.
+/// The value of an expression that is a set, with its faults noted; None if it is no set.
 fn check_lone(
     alloc: Global,
     context: &Context,
@@ -77,7 +77,7 @@ fn check_lone(
     }
 }
 
-/// The value of an atom that is a set, with its faults noted; None where it is no set.
+/// The value of an atom that is a set, with its faults noted; None if it is no set.
 fn check_lone_atom(
     alloc: Global,
     context: &Context,
@@ -123,7 +123,7 @@ fn check_lone_atom(
     }
 }
 
-/// A copy of a set that may be absent.
+/// A copy of a set, if there is one.
 fn copy_of(set: &Option<SharedClasses>) -> Result<Option<SharedClasses>, AllocError>
     ensures { IfOk result (λ copy. copy ≡ set.now) }
 {

@@ -24,7 +24,7 @@ pub(crate) struct Reading<'a> {
     pub(crate) statements: &'a Statements,
     pub(crate) properties: Properties<'a>,
     pub(crate) classes: Classes,
-    /// Whether an assignment to `$dictionary` is one like any other.
+    /// Whether an assignment to `$dictionary` is read as any other.
     pub(crate) dictionary_ignored: bool,
     pub(crate) variables: Variables,
     /// The earliest fault so far.
@@ -34,7 +34,7 @@ pub(crate) struct Reading<'a> {
 }
 
 impl<'a> Reading<'a> {
-    /// Reads the statement with this number, before which all others were read.
+    /// Reads the statement with this number; all before it were read.
     pub(crate) fn read(&mut self, alloc: Global, number: usize) -> Result<(), AllocError>
         requires inside { number < length self.old.statements.now }
         requires reading { IsReading self.old number }
@@ -175,7 +175,7 @@ impl<'a> Reading<'a> {
     }
 }
 
-/// Whether a name is that of a dictionary, where one isn't ignored.
+/// Whether an assignment to the name is refused as a dictionary.
 fn is_refused_dictionary(name: &Word, ignored: bool) -> bool
     ensures { result ≡ (bytes_eq (encode_utf8_all name.now) (codes "dictionary") && not ignored) }
 {

@@ -27,8 +27,7 @@ use rbbi_tree::{Atom, Expr, Item, Seq};
 use std::alloc::{AllocError, Global};
 use std::rc::Rc;
 
-/// Adds the sets of the leaves of an expression without faults, but for those that come from
-/// variables.
+/// Adds the sets of the leaves of an expression without faults, except those of its variables.
 #[cycle(leaves)]
 pub(crate) fn add_leaves(
     alloc: Global,
@@ -128,7 +127,7 @@ fn add_leaves_of_item(
     }
 }
 
-/// Adds the characters of a set that holds one.
+/// Adds the characters of a set that has some.
 fn add_set(alloc: Global, sets: &mut Vec<CharacterSet>, set: &CodeSet) -> Result<(), AllocError>
     ensures { OnOk result ((files : List File) (tree : model.SetTree) →
         HasMembers files tree set.now
@@ -173,7 +172,7 @@ fn add_any(alloc: Global, sets: &mut Vec<CharacterSet>) -> Result<(), AllocError
     Ok(())
 }
 
-/// Adds the characters of a set that has a value and holds a character.
+/// Adds the characters of the value of a set, which has some.
 pub(crate) fn add_value(
     alloc: Global,
     sets: &mut Vec<CharacterSet>,
@@ -193,8 +192,7 @@ pub(crate) fn add_value(
     }
 }
 
-/// Adds the characters of a set by classes that has a value and holds a character. They stay in the
-/// chunks that they share.
+/// Adds the characters of the value of a set by classes, which has some. The chunks stay shared.
 pub(crate) fn add_classes(
     sets: &mut Vec<CharacterSet>,
     division: &Rc<Division>,

@@ -1,5 +1,5 @@
-//! The rules that the statements of a rule file mean, with the sets of their leaves, or the file's
-//! least fault.
+//! The rules that the statements of a rule file mean, with the sets of their leaves, or the first
+//! fault of the file.
 #![tactic(auto)]
 
 mod active;

@@ -1,4 +1,4 @@
-//! The sets of the own leaves of expressions, where variables keep their values.
+//! The sets of the own leaves of expressions, by what variables keep of them.
 ghost use Rattle.std.specs.Prelude.{◌≡◌, [], IfSome, IsTrue, OnOk};
 ghost use Rattle.rbbi_tree.specs.Values.{expr_tree};
 ghost use Rattle.rbbi_resolve.specs.Expressions.{variable_for};
@@ -22,8 +22,8 @@ use std::alloc::{AllocError, Global};
 
 /// Adds the sets of the own leaves of an expression without faults.
 ///
-/// `kept` is what a variable keeps of it, where it is assigned to one. Where that is the value of
-/// its one own leaf, it isn't evaluated again.
+/// `kept` is what a variable keeps of it, if it is assigned to one. If that is the value of its one
+/// own leaf, it isn't evaluated again.
 pub(crate) fn add_own_leaves(
     alloc: Global,
     context: &Context,

@@ -58,7 +58,7 @@ pub(crate) fn check_rule(
     }
 }
 
-/// Notes at the slash whether the front and the rest spell the empty word.
+/// Notes at the slash that the front or the rest spells the empty word.
 fn note_empty(least: &mut Option<Fault>, slash: Option<u32>, front: bool, rest: bool)
     ensures { least.new ≡ noted least.old (faults_where_empty slash front rest) }
 {

@@ -12,6 +12,7 @@ ghost use Rattle.rbbi_resolve.specs.inner.ClassValues.{IsClassValue};
 ghost use Rattle.rbbi_resolve.specs.inner.Worths.{classes_of};
 ghost use Rattle.rbbi_resolve.specs.Contexts.{value_of_name};
 ghost use Rattle.rbbi_resolve.specs.Parts.{Within, parts_of_set, parts_of_part};
+ghost use Rattle.rbbi_resolve.specs.declared.fault.FaultKind.TheVariants as kinds;
 ghost use Rattle.rbbi_resolve.specs.Faults.{noted, faults_where};
 ghost use Rattle.rbbi_resolve.specs.inner.Faults.{noted_parts};
 ghost use Rattle.rbbi_resolve.specs.inner.Contexts.{IsContext, bounds_of, context_of};
@@ -27,14 +28,14 @@ use rbbi_text::Word;
 use rbbi_tree::{Join, SetExpr, SetItem};
 use std::alloc::{AllocError, Global};
 
-/// What an item of a set is worth: a set of its own, or that which a variable keeps.
+/// The value of an item of a set: a set of its own, or the one that a variable keeps.
 #[derive(Debug, Drop)]
 enum Worth<'a> {
     Own(ClassSet),
     Kept(&'a SharedClasses),
 }
 
-/// The value of a set, and None where a part of it has none. The faults of its parts are noted.
+/// The value of a set; None if a part of it has none. Notes the faults of its parts.
 #[cycle(sets)]
 pub(crate) fn value_of_set(
     alloc: Global,
@@ -61,7 +62,7 @@ pub(crate) fn value_of_set(
     Ok(value)
 }
 
-/// The value of an item of a set, and None where it has none. Its faults are noted.
+/// The value of an item of a set, if it has one. Notes its faults.
 #[cycle(sets)]
 fn value_of_item<'a>(
     alloc: Global,
@@ -107,7 +108,7 @@ fn value_of_item<'a>(
     }
 }
 
-/// A set of its own, where there is one.
+/// The set as one of its own, if there is one.
 fn own<'a>(value: Option<ClassSet>) -> Option<Worth<'a>>
     ensures { option_map classes_of result ≡ value }
 {
@@ -117,7 +118,7 @@ fn own<'a>(value: Option<ClassSet>) -> Option<Worth<'a>>
     }
 }
 
-/// The value of a range. Notes where its first character is greater than its last.
+/// The value of a range; notes a fault if its first character is greater than its last.
 fn value_of_range(
     alloc: Global,
     layout: &Layout,
@@ -129,7 +130,7 @@ fn value_of_range(
     ensures value { IfOk result (λ value. (files : List File) →
         IsClassValue files layout.now (value_of_range first last) value) }
     ensures noted { OnOk result (least.new ≡ noted least.old
-        (faults_where (nat_lt last first) place 8)) }
+        (faults_where (nat_lt last first) place kinds.BadRange)) }
 {
     let low = first as u32;
     let high = last as u32;
@@ -141,7 +142,7 @@ fn value_of_range(
     Ok(Some(set))
 }
 
-/// The value of a name in a set. Notes where it has none.
+/// The value of a name in a set; notes a fault if it has none.
 fn value_of_variable<'a>(
     context: &Context<'a>,
     least: &mut Option<Fault>,
@@ -170,7 +171,7 @@ fn value_of_variable<'a>(
     }
 }
 
-/// The set that a variable keeps, where there is one.
+/// The set that a variable keeps, if there is one.
 fn kept(value: &Option<SharedClasses>) -> Option<Worth<'_>>
     ensures { option_map classes_of result ≡ value.now }
 {
@@ -180,7 +181,7 @@ fn kept(value: &Option<SharedClasses>) -> Option<Worth<'_>>
     }
 }
 
-/// The set of a property by classes, and None where it is unknown.
+/// The set of a property by classes; None if it is unknown.
 pub(crate) fn value_of_property(
     alloc: Global,
     context: &Context,
@@ -208,7 +209,7 @@ pub(crate) fn value_of_property(
     }
 }
 
-/// What stands to the left with an item joined to it, and None where one of them has no value.
+/// `left join item`; None if either has no value.
 fn join(
     alloc: Global,
     left: Option<ClassSet>,
@@ -236,7 +237,7 @@ fn join(
     }
 }
 
-/// What stands to the left with a set joined to it.
+/// `left join item`.
 fn join_own(
     alloc: Global,
     left: ClassSet,
@@ -266,8 +267,8 @@ fn join_own(
     }
 }
 
-/// What stands to the left with the set of a variable joined to it, which isn't copied but where
-/// the whole stands on it.
+/// `left join item`, for the set of a variable, which is copied only if the result shares its
+/// chunks.
 fn join_kept(
     alloc: Global,
     left: ClassSet,
@@ -297,7 +298,7 @@ fn join_kept(
     }
 }
 
-/// The same, or where a set is negated, the others.
+/// The set, or its complement if `negated`.
 fn with_sign(
     alloc: Global,
     layout: &Layout,

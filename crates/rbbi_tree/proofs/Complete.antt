@@ -66,7 +66,8 @@ run_quant Plus ts place atom done head groups level (at, h) = rw h refl
 run_quant Quest ts place atom done head groups level (at, h) = rw h refl
 
 mutual
-  run_item : (i : ItemTree) (ts : List Token) (done : List StatementTree) (head : HeadTree) (groups : List GroupTree) (level : LevelTree) → FollowsMachine head →
+  run_item : (i : ItemTree) (ts : List Token) (done : List StatementTree) (head : HeadTree) (groups : List GroupTree) (level : LevelTree) →
+      FollowsMachine head →
       IsItem ts i →
       run ts (inside done head groups level) ≡ Some (inside done head groups (with_item i level))
   run_item (placed place atom quant) ts done head groups level reads (a, b, h, is, q) =
@@ -92,7 +93,8 @@ mutual
       ∙ run-on a last (inside done head (new_set_level ∷ groups) empty_level) _ ran
       ∙ ap (λ e. Some (inside done head groups (with_item (placed place (group e) Once) level))) all)
 
-  run_items : (s : SeqTree) (ts : List Token) (done : List StatementTree) (head : HeadTree) (groups : List GroupTree) (level : LevelTree) → FollowsMachine head →
+  run_items : (s : SeqTree) (ts : List Token) (done : List StatementTree) (head : HeadTree) (groups : List GroupTree) (level : LevelTree) →
+      FollowsMachine head →
       AreItems ts s →
       run ts (inside done head groups level) ≡ Some (inside done head groups (with_items s level))
   run_items no_items ts done head groups level reads h = rw h refl
@@ -100,7 +102,8 @@ mutual
       rw h (run-on a b (inside done head groups level) _ (run_item i a done head groups level reads first)
       ∙ run_items more b done head groups (with_item i level) reads rest)
 
-  run_expr : (e : ExprTree) (ts : List Token) (done : List StatementTree) (head : HeadTree) (groups : List GroupTree) → FollowsMachine head → MayBar head groups →
+  run_expr : (e : ExprTree) (ts : List Token) (done : List StatementTree) (head : HeadTree) (groups : List GroupTree) → FollowsMachine head →
+      MayBar head groups →
       IsExpr ts e →
       Reaches ts done head groups empty_level e
   run_expr no_alternatives ts done head groups reads bars h = absurd h

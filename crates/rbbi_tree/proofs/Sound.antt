@@ -256,8 +256,10 @@ grow (resting at no_chain_in front slash) ts us groups groups' level level' read
 -- where there are items, an expression is being read
 reading-items : (head : HeadTree) (ts : List Token) (groups : List GroupTree) (sequences : List SeqTree) (i : ItemTree) (is : List ItemTree) →
     IsBegun ts head groups (with sequences (i ∷ is)) → Reading head
-reading-items between ts groups sequences i is (none, no_group, with_head_alone) = absurd (let e : i ∷ is ≡ [] = ap (λ level. level.items) with_head_alone in cc)
-reading-items (ended s) ts groups sequences i is (whole, no_group, with_head_alone) = absurd (let e : i ∷ is ≡ [] = ap (λ level. level.items) with_head_alone in cc)
+reading-items between ts groups sequences i is (none, no_group, with_head_alone) = absurd (let e : i ∷ is ≡ [] = ap
+    (λ level. level.items) with_head_alone in cc)
+reading-items (ended s) ts groups sequences i is (whole, no_group, with_head_alone) = absurd (let e : i ∷ is ≡ [] = ap
+    (λ level. level.items) with_head_alone in cc)
 reading-items (assigning word at) ts groups sequences i is h = tt
 reading-items (ruling at no_chain_in) ts groups sequences i is h = tt
 reading-items (resting at no_chain_in front slash) ts groups sequences i is h = tt
@@ -599,7 +601,11 @@ step_semi : (semi : ℕ) (ts : List Token) (done : List StatementTree) (head : H
     IsStillRead (ts ++ token Semi semi ∷ []) (at_semi head (made done head groups (with sequences items) None))
 step_semi semi ts done between groups sequences items read =
     let (a, b, h, file, (none, no_group, with_head_alone), starts) = outside ts done between groups (with sequences items) read in
-    added ts (token Semi semi ∷ []) a b done nothing groups (with sequences items) h file (semi, ap (λ b. b ++ token Semi semi ∷ []) none) no_group with_head_alone
+    added ts (token Semi semi ∷ []) a b done nothing groups (with sequences items) h file (
+      semi,
+      ap
+          (λ b. b ++ token Semi semi ∷ []) none,
+    ) no_group with_head_alone
 step_semi semi ts done (ended s) groups sequences items read =
     let (a, b, h, file, (is, no_group, with_head_alone), starts) = outside ts done (ended s) groups (with sequences items) read in
     added ts (token Semi semi ∷ []) a b done s groups (with sequences items) h file (is semi) no_group with_head_alone

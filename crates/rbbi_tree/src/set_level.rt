@@ -347,7 +347,8 @@ impl SetLevel {
 
     /// Adds what was read last and is no part yet, where the set may end.
     fn end(&mut self, place: u32) -> Result<(), TreeErr>
-        ensures read { let s = set_level_tree self.old in FollowsMachine place (ended_parts s.state s.parts)
+        ensures read { let s = set_level_tree self.old in
+            FollowsMachine place (ended_parts s.state s.parts)
             (λ _. (set_level_tree self.new).parts) result }
         ensures same { OnOk result
             ((self.new.place ≡ self.old.place) × (self.new.negated ≡ self.old.negated)) }

@@ -58,7 +58,7 @@ pub record IsAssigned (statements : List StatementTree) (number : ℕ) (expr : E
   pub place : ℕ
   pub at : slice_get statements number ≡ Some (assign word place expr)
 
--- the number of the first set of a statement's own leaves is right, where there is one
+-- the number of the first set of a statement's own leaves is right, if there is one
 pub record IsBuilder (files : List File) (statements : List StatementTree) (sets : List (List Range)) (bases : List (Option ℕ)) : Type 0 where
   pub few : length sets ≤ 4294967295
   pub formed : AllByRecursion IsLeafSet sets

@@ -1,4 +1,4 @@
--- What the variables of the code stand for.
+-- The context as the code has it: its variables, and what they stand for.
 use Rattle.std.specs.Prelude.{◌≡◌, ℕ, ◌<◌, ◌≤◌, nat_lt, Option, Some, None, List, slice_get, MatchOption, if◌then◌else◌}
 use Rattle.std.specs.HashMap.{HashMap, get_by_text}
 use Rattle.std.specs.Rc.{rc_value}
@@ -40,7 +40,7 @@ Matches files bounds None (Some there) = ⊥
 Matches files bounds (Some here) None = ⊥
 Matches files bounds (Some here) (Some there) = IsKindOf files bounds here.kind there
 
--- the variable, where a statement before the limit assigns it
+-- the variable, if a statement before the limit assigns it
 abbrev pub visible : ℕ → Option Variable → Option Variable
 visible limit None = None
 visible limit (Some variable) = if nat_lt variable.statement limit then Some variable else None

@@ -6,7 +6,7 @@ use Rattle.rbbi_resolve.specs.declared.counts.Counts as declared
 use Rattle.rbbi_resolve.specs.Files.{RuleMeaning}
 use Rattle.rbbi_resolve.specs.Counts.{leaves_meant}
 
--- the place of the first rule with which the sum of amounts passes the most, where so much stands before
+-- the place of the first rule with which the sum of amounts exceeds the most, after rules with this sum
 abbrev pub limit_place : (RuleMeaning → ℕ) → ℕ → ℕ → List RuleMeaning → Option ℕ
 limit_place amount most sum [] = None
 limit_place amount most sum (rule ∷ rules) =

@@ -1,4 +1,4 @@
--- The faults of the parts of an expression, by the number of the kind of fault: what only this crate cites.
+-- What was noted of the parts of an expression.
 use Rattle.std.specs.Prelude.{ℕ, Bool, true, false, not, ◌&&◌, ◌||◌, nat_lt, nat_eq, is_none, Option, Some, None, List, [], ◌∷◌, ◌++◌, fold}
 use Rattle.std.specs.Prelude.{if◌then◌else◌}
 use Rattle.rbbi_model.specs.SetTrees as model

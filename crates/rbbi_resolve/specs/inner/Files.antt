@@ -1,4 +1,4 @@
--- The faults and the active rules of a rule file: what only this crate cites.
+-- The context before each statement.
 use Rattle.std.specs.Prelude.{ℕ, Bool, true, false, not, ◌&&◌, ◌||◌, max, Option, Some, None, option_map, is_some, List, [], ◌∷◌, ◌++◌}
 use Rattle.std.specs.Prelude.{fold, take, codes, bytes_eq, encode_utf8_all, if◌then◌else◌}
 use Rattle.std.specs.Option.{option_map_or}

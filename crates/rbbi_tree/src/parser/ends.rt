@@ -30,7 +30,8 @@ impl Parser {
     ) -> Result<Statement, TreeErr>
         ensures read { let p = progress self.old in
             FollowsMachine place (statement_at p.level.items p.groups tag p) statement_tree result }
-        ensures with_head_alone { OnOk result (progress self.new ≡ with_head_alone between (progress self.old)) }
+        ensures head_alone { OnOk result
+            (progress self.new ≡ with_head_alone between (progress self.old)) }
     {
         if self.level.lacks_item() || !self.groups.is_empty() {
             return Err(TreeErr::Syntax(place));
