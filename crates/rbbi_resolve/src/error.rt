@@ -3,7 +3,7 @@ ghost use Rattle.std.specs.Prelude.{◌≡◌, codes};
 ghost use Rattle.rbbi_resolve.specs.Refusals.{label_of, place_of, fault_of};
 
 use crate::fault::{Fault, FaultKind};
-use std::alloc::{AllocError, AllocFailed};
+use std::alloc::AllocError;
 use thiserror::Error;
 
 /// Why a rule file is refused. Each place is in characters from 0.
@@ -125,16 +125,6 @@ impl From<AllocError> for ResolveErr {
     ghost from_gives = { λ _ e. e ≡ Memory };
 
     fn from(_e: AllocError) -> ResolveErr {
-        ResolveErr::Memory
-    }
-}
-
-impl<T: Drop> From<AllocFailed<T>> for ResolveErr {
-    ghost use Rattle.rbbi_resolve.specs.declared.error.ResolveErr.TheVariants.{Memory};
-
-    ghost from_gives = { λ _ e. e ≡ Memory };
-
-    fn from(_e: AllocFailed<T>) -> ResolveErr {
         ResolveErr::Memory
     }
 }
