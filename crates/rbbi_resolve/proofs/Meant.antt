@@ -79,7 +79,7 @@ pub record IsNamed (files : List File) (context : Context) (word : List ℕ) (v 
   pub expr : ExprTree
   pub assigned : IsAssigned (statement_trees context.statements.now) v.statement expr
   pub means : meaning_of_atom (context_of files context) (name word) ≡ meaning_of_expr (context_at files
-  (statement_trees context.statements.now) v.statement) expr
+      (statement_trees context.statements.now) v.statement) expr
   pub kept : (e : ExprTree) → IsAssigned (statement_trees context.statements.now) v.statement e →
       IsKindOf files (bounds_of context) v.kind (variable_for (context_at files (statement_trees context.statements.now) v.statement) e)
   pub low : v.statement < context.limit
