@@ -22,7 +22,7 @@ use Rattle.rbbi_lex.specs.Escapes.{form_of, braced_end, few_end, WritesCharacter
 use Rattle.rbbi_lex.specs.Quotations.{IsQuoted, QuotesUpTo}
 use Rattle.rbbi_lex.specs.Properties.{property, body_start, SpellsBraced, SpellsBracketed}
 use Rattle.rbbi_lex.specs.Spellings.{most_tag, digits_start, digits_end, tag_close, tag_number, SpellsName, SpellsControl, SpellsTag, SpellsQuotePair}
-use Rattle.rbbi_lex.specs.Spellings.{SpellsQuotation, SpellsEscape, Spells}
+use Rattle.rbbi_lex.specs.Spellings.{SpellsQuotation, SpellsEscape, SpellsCase}
 use Rattle.rbbi_lex.proofs.PointLemmas.{CharacterAt-unique, is_at-same, IsQuoted-closed, IsQuoted-unique, IsQuoted-forward}
 
 -- some token is spelled so, or none
@@ -252,7 +252,7 @@ decide_quotation x i =
     ]
 
 -- by each case a place spells a token, or none
-pub decide : (x : List ℕ) (case : Case) (i : ℕ) → Decided (Spells x case i)
+pub decide : (x : List ℕ) (case : Case) (i : ℕ) → Decided (SpellsCase x case i)
 decide x Sign i = some_kind (option_and_then outer_sign (slice_get x i)) i
 decide x SetSign i = some_kind (option_and_then inner_sign (slice_get x i)) i
 decide x BracketedProperty i = decide_bracketed x i

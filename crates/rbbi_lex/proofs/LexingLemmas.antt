@@ -3,7 +3,7 @@ use Rattle.std.proofs.Common.{◌≡◌, ℕ, ◌+◌, ◌<◌, ◌≤◌, List,
 use Rattle.rbbi_lex.specs.declared.token.Token.{Token}
 use Rattle.rbbi_lex.specs.declared.token.TokenKind.{TokenKind}
 use Rattle.rbbi_lex.specs.declared.state.State.{State}
-use Rattle.rbbi_lex.specs.Cases.{start, state_after}
+use Rattle.rbbi_lex.specs.Cases.{start_state, state_behind}
 use Rattle.rbbi_lex.specs.Spellings.{TokenAt}
 use Rattle.rbbi_lex.specs.Faults.{Fault, FaultAt}
 use Rattle.rbbi_lex.specs.Faults as Faults
@@ -15,20 +15,20 @@ use Rattle.rbbi_lex.specs.Errors.{Tells, TellsFault}
 use Rattle.rbbi_lex.specs.inner.Steps.{StopsAt}
 use Rattle.rbbi_lex.specs.Lexing.{UsesUp, AreTokens, IsLexFault}
 use Rattle.rbbi_lex.specs.Places.{PlacesRise}
-use Rattle.rbbi_lex.specs.WellMade.{AreWellMade}
+use Rattle.rbbi_lex.specs.WellMade.{AreWellMadeTokens}
 use Rattle.rbbi_lex.proofs.WellMadeLemmas.{Spells-well_made}
 use Rattle.rbbi_lex.proofs.SpellingLemmas.{TokenAt-forward, TokenAt-within, FaultAt-within, TokenAt-unique, FaultAt-unique, TokenAt-no_fault}
 use Rattle.rbbi_lex.proofs.SkipLemmas.{Skipped-forward, Skipped-unique}
 
 -- one more token at the end
 pub UsesUp-push : (x : List ℕ) (from : State) (i : ℕ) (ts : List Token) (to : State) (j : ℕ) (t : Token) (k : ℕ) → UsesUp x from i ts to j →
-    Skipped x to j t.place → TokenAt x to t.place k t.kind → UsesUp x from i (ts ++ t ∷ []) (state_after to t.kind) k
+    Skipped x to j t.place → TokenAt x to t.place k t.kind → UsesUp x from i (ts ++ t ∷ []) (state_behind to t.kind) k
 UsesUp-push x from i [] to j t k u s at =
     let back = sym u.0 in
     let s' = subst (λ (v : ℕ). Skipped x from v t.place) (sym u.1) (subst (λ (v : State). Skipped x v j t.place) back s) in
-    (k, s', subst (λ (v : State). TokenAt x v t.place k t.kind) back at, (ap (λ (v : State). state_after v t.kind) u.0, refl))
+    (k, s', subst (λ (v : State). TokenAt x v t.place k t.kind) back at, (ap (λ (v : State). state_behind v t.kind) u.0, refl))
 UsesUp-push x from i (first ∷ ts) to j t k u s at =
-    (u.0, u.1, u.2, UsesUp-push x (state_after from first.kind) u.0 ts to j t k u.3 s at)
+    (u.0, u.1, u.2, UsesUp-push x (state_behind from first.kind) u.0 ts to j t k u.3 s at)
 
 -- what an error tells, by what follows from it
 pub Tells-map : (P Q : Fault → ℕ → Type 0) (e : LexErr) → ((fault : Fault) (place : ℕ) → P fault place → Q fault place) → Tells P e → Tells Q e
@@ -50,7 +50,7 @@ error_of-tells P Faults.BadTag place h = h
 error_of-tells P Faults.BadName place h = h
 
 -- the fault at which the reading stops is the first
-pub StopsAt-tells : (x : List ℕ) (ts : List Token) (to : State) (j : ℕ) (e : LexErr) → UsesUp x start 0 ts to j → StopsAt x to j e → TellsFault x e
+pub StopsAt-tells : (x : List ℕ) (ts : List Token) (to : State) (j : ℕ) (e : LexErr) → UsesUp x start_state 0 ts to j → StopsAt x to j e → TellsFault x e
 StopsAt-tells x ts to j e u s =
     Tells-map (λ fault place. Skipped x to j place × FaultAt x to place fault) (IsLexFault x) e (λ fault place h. (ts, to, j, u, h.0, h.1)) s
 
@@ -113,23 +113,23 @@ read_once x from i (a ∷ ts) (b ∷ us) to to' j j' d e u p v q =
     let place = Skipped-unique x from i b.place a.place v.1 u.1 in
     let same = TokenAt-unique x from a.place v.0 u.0 b.kind a.kind (subst (λ (n : ℕ). TokenAt x from n v.0 b.kind) place v.2) u.2 in
     let v' =
-    subst (λ (kind : TokenKind). UsesUp x (state_after from kind) u.0 us to' j') same.1
-    (subst (λ (n : ℕ). UsesUp x (state_after from b.kind) n us to' j') same.0 v.3) in
-    let rest = read_once x (state_after from a.kind) u.0 ts us to to' j j' d e u.3 p v' q in
+    subst (λ (kind : TokenKind). UsesUp x (state_behind from kind) u.0 us to' j') same.1
+    (subst (λ (n : ℕ). UsesUp x (state_behind from b.kind) n us to' j') same.0 v.3) in
+    let rest = read_once x (state_behind from a.kind) u.0 ts us to to' j j' d e u.3 p v' q in
     let token = Token-equal a b (sym same.1) (sym place) in
     (cc, rest.1)
 
 pub tokens_unique : (x : List ℕ) (ts us : List Token) → AreTokens x ts → AreTokens x us → ts ≡ us
 tokens_unique x ts us a b =
-    (read_once x start 0 ts us a.0 b.0 a.1 b.1 Finished Finished a.2 a.3 b.2 b.3).0
+    (read_once x start_state 0 ts us a.0 b.0 a.1 b.1 Finished Finished a.2 a.3 b.2 b.3).0
 
 pub fault_unique : (x : List ℕ) (f g : Fault) (i j : ℕ) → IsLexFault x f i → IsLexFault x g j → (f ≡ g) × (i ≡ j)
 fault_unique x f g i j a b =
-    let same = (read_once x start 0 a.0 b.0 a.1 b.1 a.2 b.2 (Stopped f i) (Stopped g j) a.3 (a.4, a.5) b.3 (b.4, b.5)).1 in (cc, cc)
+    let same = (read_once x start_state 0 a.0 b.0 a.1 b.1 a.2 b.2 (Stopped f i) (Stopped g j) a.3 (a.4, a.5) b.3 (b.4, b.5)).1 in (cc, cc)
 
 pub not_both : (x : List ℕ) (ts : List Token) (f : Fault) (i : ℕ) → AreTokens x ts → IsLexFault x f i → ⊥
 not_both x ts f i a b =
-    let same = (read_once x start 0 ts b.0 a.0 b.1 a.1 b.2 Finished (Stopped f i) a.2 a.3 b.3 (b.4, b.5)).1 in cc
+    let same = (read_once x start_state 0 ts b.0 a.0 b.1 a.1 b.2 Finished (Stopped f i) a.2 a.3 b.3 (b.4, b.5)).1 in cc
 
 -- the places of tokens rise
 pub UsesUp-rise : (x : List ℕ) (from : State) (low i : ℕ) (ts : List Token) (to : State) (j : ℕ) → low ≤ i → UsesUp x from i ts to j →
@@ -138,10 +138,10 @@ UsesUp-rise x from low i [] to j h u = tt
 UsesUp-rise x from low i (t ∷ ts) to j h u =
     let skipped = Skipped-forward x from i t.place u.1 in
     let forward = TokenAt-forward x from t.place u.0 t.kind u.2 in
-    (omega arith, TokenAt-within x from t.place u.0 t.kind u.2, UsesUp-rise x (state_after from t.kind) (t.place + 1) u.0 ts to j (omega arith) u.3)
+    (omega arith, TokenAt-within x from t.place u.0 t.kind u.2, UsesUp-rise x (state_behind from t.kind) (t.place + 1) u.0 ts to j (omega arith) u.3)
 
 -- the tokens of a text are well made
-pub UsesUp-well_made : (x : List ℕ) (from : State) (i : ℕ) (ts : List Token) (to : State) (j : ℕ) → UsesUp x from i ts to j → AreWellMade ts
+pub UsesUp-well_made : (x : List ℕ) (from : State) (i : ℕ) (ts : List Token) (to : State) (j : ℕ) → UsesUp x from i ts to j → AreWellMadeTokens ts
 UsesUp-well_made x from i [] to j u = tt
 UsesUp-well_made x from i (t ∷ ts) to j u =
-    (Spells-well_made x u.2.0 t.place u.0 t.kind u.2.2, UsesUp-well_made x (state_after from t.kind) u.0 ts to j u.3)
+    (Spells-well_made x u.2.0 t.place u.0 t.kind u.2.2, UsesUp-well_made x (state_behind from t.kind) u.0 ts to j u.3)

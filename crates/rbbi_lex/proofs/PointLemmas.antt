@@ -15,7 +15,7 @@ use Rattle.rbbi_lex.specs.Cases.{first_case}
 use Rattle.rbbi_lex.specs.Points.{CharacterAt, is_at, CaseAt}
 use Rattle.rbbi_lex.specs.Escapes.{form_of, EscapeGoesOn, IsEscape}
 use Rattle.rbbi_lex.specs.Quotations.{IsQuoted, QuotesUpTo}
-use Rattle.rbbi_lex.specs.Spellings.{Spells}
+use Rattle.rbbi_lex.specs.Spellings.{SpellsCase}
 use Rattle.rbbi_lex.proofs.StretchLemmas.{is_at-within}
 
 pub CharacterAt-unique : (x : List ℕ) (i c d : ℕ) → CharacterAt x i c → CharacterAt x i d → c ≡ d
@@ -105,7 +105,7 @@ QuotesUpTo-close x i j (c ∷ w) p = QuotesUpTo-close x p.0 j w p.2
 same_Some : (a b : TokenKind) (o : Option TokenKind) → o ≡ Some a → o ≡ Some b → a ≡ b
 same_Some a b o p q = let e : Some a ≡ Some b = sym p ∙ q in cc
 
-pub Spells-unique : (x : List ℕ) (case : Case) (i j k : ℕ) (a b : TokenKind) → Spells x case i j a → Spells x case i k b → (j ≡ k) × (a ≡ b)
+pub Spells-unique : (x : List ℕ) (case : Case) (i j k : ℕ) (a b : TokenKind) → SpellsCase x case i j a → SpellsCase x case i k b → (j ≡ k) × (a ≡ b)
 Spells-unique x Sign i j k a b p q = (p.1 ∙ sym q.1, same_Some a b _ p.0 q.0)
 Spells-unique x SetSign i j k a b p q = (p.1 ∙ sym q.1, same_Some a b _ p.0 q.0)
 Spells-unique x BracketedProperty i j k a b p q = (p.2 ∙ sym q.2, p.3 ∙ sym q.3)

@@ -4,7 +4,7 @@ use Rattle.std.proofs.lemmas.Option.{slice_get_within}
 use Rattle.rbbi_lex.specs.declared.token.TokenKind.{TokenKind}
 use Rattle.rbbi_lex.specs.declared.token.TokenKind.TheVariants.{SetOpen, SetClose}
 use Rattle.rbbi_lex.specs.declared.state.State.{State}
-use Rattle.rbbi_lex.specs.Cases.{state_after}
+use Rattle.rbbi_lex.specs.Cases.{state_behind}
 use Rattle.rbbi_lex.specs.declared.escape.Form.{Form}
 use Rattle.rbbi_lex.specs.declared.escape.Form.TheVariants.{FourDigits, EightDigits, BracedDigits, FewDigits, StandsFor, Unknown}
 use Rattle.rbbi_lex.specs.declared.stretch.Stretch.TheVariants.{NameText, ControlText, HexadecimalDigits}
@@ -13,7 +13,7 @@ use Rattle.rbbi_lex.specs.declared.case.Case.TheVariants.{Sign, SetSign, Bracket
 use Rattle.rbbi_lex.specs.declared.case.Case.TheVariants.{BracedProperty, Escape, Brace, BareCharacter, SetCharacter, OtherCharacter}
 use Rattle.rbbi_lex.specs.Characters.{is_name_start}
 use Rattle.rbbi_lex.specs.Escapes.{form_of, braced_end, EscapeGoesOn, IsEscape}
-use Rattle.rbbi_lex.specs.Spellings.{tag_close, Spells, TokenAt}
+use Rattle.rbbi_lex.specs.Spellings.{tag_close, SpellsCase, TokenAt}
 use Rattle.rbbi_lex.specs.Faults.{Fault, fault_of, FaultAt}
 use Rattle.rbbi_lex.proofs.StretchLemmas.{stretch_end-within, stretch_end-moved, is_at-within, passes-within}
 use Rattle.rbbi_lex.proofs.PointLemmas.{CaseAt-unique, QuotesUpTo-forward, QuotesUpTo-close, Spells-unique}
@@ -37,7 +37,7 @@ IsEscape-bounds x i j c p =
     (omega (arith, rest.0), rest.1)
 
 -- a token goes forward, and ends within the text
-Spells-bounds : (x : List ℕ) (case : Case) (i j : ℕ) (kind : TokenKind) → i < length x → Spells x case i j kind → (i < j) × (j ≤ length x)
+Spells-bounds : (x : List ℕ) (case : Case) (i j : ℕ) (kind : TokenKind) → i < length x → SpellsCase x case i j kind → (i < j) × (j ≤ length x)
 Spells-bounds x Sign i j kind h p = (omega (arith, p.1), omega (arith, p.1))
 Spells-bounds x SetSign i j kind h p = (omega (arith, p.1), omega (arith, p.1))
 Spells-bounds x BracketedProperty i j kind h p =
@@ -86,7 +86,7 @@ FaultAt-within x state i fault f = slice_get_within x i f.1.0 f.1.1
 pub TokenAt-unique : (x : List ℕ) (state : State) (i j k : ℕ) (a b : TokenKind) → TokenAt x state i j a → TokenAt x state i k b → (j ≡ k) × (a ≡ b)
 TokenAt-unique x state i j k a b t u =
     let same = CaseAt-unique x state i u.0 t.0 u.1 t.1 in
-    Spells-unique x t.0 i j k a b t.2 (subst (λ (case : Case). Spells x case i k b) same u.2)
+    Spells-unique x t.0 i j k a b t.2 (subst (λ (case : Case). SpellsCase x case i k b) same u.2)
 
 -- at a place stands at most one fault
 pub FaultAt-unique : (x : List ℕ) (state : State) (i : ℕ) (f g : Fault) → FaultAt x state i f → FaultAt x state i g → f ≡ g
@@ -97,10 +97,10 @@ FaultAt-unique x state i f g p q =
 pub TokenAt-no_fault : (x : List ℕ) (state : State) (i j : ℕ) (kind : TokenKind) (fault : Fault) → TokenAt x state i j kind → FaultAt x state i fault → ⊥
 TokenAt-no_fault x state i j kind fault t f =
     let same = CaseAt-unique x state i t.0 f.0 t.1 f.1 in
-    f.2 j kind (subst (λ (case : Case). Spells x case i j kind) same t.2)
+    f.2 j kind (subst (λ (case : Case). SpellsCase x case i j kind) same t.2)
 
 -- a token opens at most one bracket
-pub state_after-depth : (state : State) (kind : TokenKind) → (state_after state kind).depth ≤ state.depth + 1
+pub state_after-depth : (state : State) (kind : TokenKind) → (state_behind state kind).depth ≤ state.depth + 1
 state_after-depth state SetOpen = omega arith
 state_after-depth state SetClose = omega arith
 state_after-depth state _ = omega arith

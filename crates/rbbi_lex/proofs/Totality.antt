@@ -11,9 +11,9 @@ use Rattle.rbbi_lex.specs.declared.state.State.{State}
 use Rattle.rbbi_lex.specs.declared.case.Case.{Case}
 use Rattle.rbbi_lex.specs.declared.case.Case.TheVariants.{Sign, SetSign, BracketedProperty, SetStart, Variable, ControlName, StatusNumber, QuotePair, Quotation}
 use Rattle.rbbi_lex.specs.declared.case.Case.TheVariants.{BracedProperty, Escape, Brace, BareCharacter, SetCharacter, OtherCharacter}
-use Rattle.rbbi_lex.specs.Cases.{start, state_after, fits, outer_cases, inner_cases, first_case}
+use Rattle.rbbi_lex.specs.Cases.{start_state, state_behind, fits, outer_cases, inner_cases, first_case}
 use Rattle.rbbi_lex.specs.Points.{CharacterAt, CaseAt}
-use Rattle.rbbi_lex.specs.Spellings.{Spells, TokenAt}
+use Rattle.rbbi_lex.specs.Spellings.{SpellsCase, TokenAt}
 use Rattle.rbbi_lex.specs.Faults.{Fault, fault_of, FaultAt}
 use Rattle.rbbi_lex.specs.Skips.{Skipped}
 use Rattle.rbbi_lex.specs.Lexing.{UsesUp, AreTokens, IsLexFault}
@@ -49,7 +49,7 @@ abbrev AtPoint : List ℕ → State → ℕ → Type 0
 AtPoint x state i =
     ((j : ℕ) × (kind : TokenKind) × TokenAt x state i j kind) ⊎ ((fault : Fault) × FaultAt x state i fault)
 
-by_row : (x : List ℕ) (state : State) (i : ℕ) (case : Case) → CaseAt x state i case → Decided (Spells x case i) → AtPoint x state i
+by_row : (x : List ℕ) (state : State) (i : ℕ) (case : Case) → CaseAt x state i case → Decided (SpellsCase x case i) → AtPoint x state i
 by_row x state i case r (inl t) = inl (t.0, t.1, (case, r, t.2))
 by_row x state i case r (inr none) = inr (fault_of case, (case, r, none, refl))
 
@@ -99,7 +99,7 @@ some_reading (suc n) x from i h l =
                 let token : Token = record { kind = t.1; place = s.0 } in
                 let ends = TokenAt-ends x from s.0 t.0 t.1 t.2 in
                 let further = TokenAt-forward x from s.0 t.0 t.1 t.2 in
-                let rest = some_reading n x (state_after from t.1) t.0 ends (omega arith) in
+                let rest = some_reading n x (state_behind from t.1) t.0 ends (omega arith) in
                 (token ∷ rest.0, rest.1, rest.2, rest.3, (t.0, s.1, t.2, rest.4), rest.5)
           ]
     ]
@@ -108,11 +108,11 @@ abbrev Outcome : List ℕ → Type 0
 Outcome x =
     ((ts : List Token) × AreTokens x ts) ⊎ ((fault : Fault) × (place : ℕ) × IsLexFault x fault place)
 
-outcome : (x : List ℕ) (ts : List Token) (to : State) (j : ℕ) (e : Ending) → UsesUp x start 0 ts to j → EndsAs x to j e → Outcome x
+outcome : (x : List ℕ) (ts : List Token) (to : State) (j : ℕ) (e : Ending) → UsesUp x start_state 0 ts to j → EndsAs x to j e → Outcome x
 outcome x ts to j Finished u s = inl (ts, (to, j, u, s))
 outcome x ts to j (Stopped fault place) u s = inr (fault, place, (ts, to, j, u, s.0, s.1))
 
 pub tokens_or_fault : (x : List ℕ) → ((ts : List Token) × AreTokens x ts) ⊎ ((fault : Fault) × (place : ℕ) × IsLexFault x fault place)
 tokens_or_fault x =
-    let r = some_reading (length x) x start 0 (omega arith) (omega arith) in
+    let r = some_reading (length x) x start_state 0 (omega arith) (omega arith) in
     outcome x r.0 r.1 r.2 r.3 r.4 r.5

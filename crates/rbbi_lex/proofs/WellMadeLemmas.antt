@@ -11,23 +11,23 @@ use Rattle.rbbi_lex.specs.declared.case.Case.TheVariants.{BracedProperty, Escape
 use Rattle.rbbi_lex.specs.Cases.{outer_sign, inner_sign}
 use Rattle.rbbi_lex.specs.Points.{is_at}
 use Rattle.rbbi_lex.specs.Quotations.{QuotesUpTo}
-use Rattle.rbbi_lex.specs.Spellings.{Spells}
-use Rattle.rbbi_lex.specs.WellMade.{IsWellMade}
+use Rattle.rbbi_lex.specs.Spellings.{SpellsCase}
+use Rattle.rbbi_lex.specs.WellMade.{IsWellMadeKind}
 
 -- where there is a kind, it is well made
 HasWellMade : Option TokenKind → Type 0
 HasWellMade None = Unit {0}
-HasWellMade (Some kind) = IsWellMade kind
+HasWellMade (Some kind) = IsWellMadeKind kind
 
 none : HasWellMade None
 unfolding HasWellMade
 none = tt
 
-made : (kind : TokenKind) → HasWellMade (Some kind) → IsWellMade kind
+made : (kind : TokenKind) → HasWellMade (Some kind) → IsWellMadeKind kind
 unfolding HasWellMade
 made kind h = h
 
-choice : (b : Bool) (kind : TokenKind) (others : Option TokenKind) → IsWellMade kind → HasWellMade others → HasWellMade (cond b (Some kind) others)
+choice : (b : Bool) (kind : TokenKind) (others : Option TokenKind) → IsWellMadeKind kind → HasWellMade others → HasWellMade (cond b (Some kind) others)
 unfolding HasWellMade
 choice true kind others h g = h
 choice false kind others h g = g
@@ -58,21 +58,21 @@ quoted_some x i [] close single q =
 quoted_some x i (c ∷ word) close single q = omega arith
 
 -- what a case spells is well made
-pub Spells-well_made : (x : List ℕ) (case : Case) (i j : ℕ) (kind : TokenKind) → Spells x case i j kind → IsWellMade kind
+pub Spells-well_made : (x : List ℕ) (case : Case) (i j : ℕ) (kind : TokenKind) → SpellsCase x case i j kind → IsWellMadeKind kind
 Spells-well_made x Sign i j kind p =
     made kind (subst HasWellMade p.0 (at_sign outer_sign (slice_get x i) outer))
 Spells-well_made x SetSign i j kind p =
     made kind (subst HasWellMade p.0 (at_sign inner_sign (slice_get x i) inner))
-Spells-well_made x BracketedProperty i j kind p = subst IsWellMade (sym p.3) tt
-Spells-well_made x SetStart i j kind p = subst IsWellMade (sym p.1) tt
-Spells-well_made x Variable i j kind p = subst IsWellMade (sym p.2) tt
-Spells-well_made x ControlName i j kind p = subst IsWellMade (sym p.2) tt
-Spells-well_made x StatusNumber i j kind p = subst IsWellMade (sym p.4) p.2
-Spells-well_made x QuotePair i j kind p = subst IsWellMade (sym p.2) tt
+Spells-well_made x BracketedProperty i j kind p = subst IsWellMadeKind (sym p.3) tt
+Spells-well_made x SetStart i j kind p = subst IsWellMadeKind (sym p.1) tt
+Spells-well_made x Variable i j kind p = subst IsWellMadeKind (sym p.2) tt
+Spells-well_made x ControlName i j kind p = subst IsWellMadeKind (sym p.2) tt
+Spells-well_made x StatusNumber i j kind p = subst IsWellMadeKind (sym p.4) p.2
+Spells-well_made x QuotePair i j kind p = subst IsWellMadeKind (sym p.2) tt
 Spells-well_made x Quotation i j kind p =
-    subst IsWellMade (sym p.1.4) (quoted_some x (i + 1) p.1.0 p.1.1 p.0 p.1.2)
-Spells-well_made x BracedProperty i j kind p = subst IsWellMade (sym p.2) tt
-Spells-well_made x Escape i j kind p = subst IsWellMade (sym p.2) tt
+    subst IsWellMadeKind (sym p.1.4) (quoted_some x (i + 1) p.1.0 p.1.1 p.0 p.1.2)
+Spells-well_made x BracedProperty i j kind p = subst IsWellMadeKind (sym p.2) tt
+Spells-well_made x Escape i j kind p = subst IsWellMadeKind (sym p.2) tt
 Spells-well_made x Brace i j kind p = absurd p
 Spells-well_made x BareCharacter i j kind p = made kind (subst HasWellMade p.0 (at_bare (slice_get x i)))
 Spells-well_made x SetCharacter i j kind p = made kind (subst HasWellMade p.0 (at_bare (slice_get x i)))

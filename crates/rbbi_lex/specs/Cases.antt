@@ -15,14 +15,14 @@ use Rattle.rbbi_lex.specs.declared.case.Case.TheVariants.{BracedProperty, Escape
 use Rattle.rbbi_lex.specs.Characters.{is_bare, is_sign}
 
 -- where no token has been read: outside of sets
-abbrev pub start : State
-start = record { depth = 0 }
+abbrev pub start_state : State
+start_state = record { depth = 0 }
 
--- where one more token has been read, of this kind
-abbrev pub state_after : State → TokenKind → State
-state_after state SetOpen = record { depth = state.depth + 1 }
-state_after state SetClose = record { depth = state.depth - 1 }
-state_after state _ = state
+-- behind one more token, of this kind
+abbrev pub state_behind : State → TokenKind → State
+state_behind state SetOpen = record { depth = state.depth + 1 }
+state_behind state SetClose = record { depth = state.depth - 1 }
+state_behind state _ = state
 
 -- outside of sets the character is a token of this kind by itself
 unfoldable pub outer_sign : ℕ → Option TokenKind

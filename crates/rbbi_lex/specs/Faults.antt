@@ -5,7 +5,7 @@ use Rattle.rbbi_lex.specs.declared.state.State.{State}
 use Rattle.rbbi_lex.specs.declared.case.Case.{Case}
 use Rattle.rbbi_lex.specs.declared.case.Case.TheVariants.{BracketedProperty, Variable, ControlName, StatusNumber, Quotation, BracedProperty, Escape}
 use Rattle.rbbi_lex.specs.Points.{CaseAt}
-use Rattle.rbbi_lex.specs.Spellings.{Spells}
+use Rattle.rbbi_lex.specs.Spellings.{SpellsCase}
 
 -- why no token stands at a place
 pub data Fault : Type 0 where
@@ -29,7 +29,7 @@ fault_of _ = BadChar
 
 -- by this case no token is spelled from the place on
 abbrev pub SpellsNone : List ℕ → Case → ℕ → Type 0
-SpellsNone x case i = (j : ℕ) (kind : TokenKind) → ¬ Spells x case i j kind
+SpellsNone x case i = (j : ℕ) (kind : TokenKind) → ¬ SpellsCase x case i j kind
 
 -- the first case that fits at the place spells no token, and this is its fault
 abbrev pub FaultAt : List ℕ → State → ℕ → Fault → Type 0

@@ -77,23 +77,23 @@ abbrev pub SpellsEscape : List ℕ → ℕ → ℕ → TokenKind → Type 0
 SpellsEscape x i j kind = (c : ℕ) × IsEscape x i j c × (kind ≡ Char c false)
 
 -- by this case the characters from one place to another spell a token of this kind
-abbrev pub Spells : List ℕ → Case → ℕ → ℕ → TokenKind → Type 0
-Spells x Sign i j kind = SpellsSign outer_sign x i j kind
-Spells x SetSign i j kind = SpellsSign inner_sign x i j kind
-Spells x BracketedProperty i j kind = SpellsBracketed x i j kind
-Spells x SetStart i j kind = (j ≡ i + 1) × (kind ≡ SetOpen)
-Spells x Variable i j kind = SpellsName x i j kind
-Spells x ControlName i j kind = SpellsControl x i j kind
-Spells x StatusNumber i j kind = SpellsTag x i j kind
-Spells x QuotePair i j kind = SpellsQuotePair x i j kind
-Spells x Quotation i j kind = SpellsQuotation x i j kind
-Spells x BracedProperty i j kind = SpellsBraced x i j kind
-Spells x Escape i j kind = SpellsEscape x i j kind
-Spells x Brace i j kind = ⊥
-Spells x BareCharacter i j kind = SpellsBare x i j kind
-Spells x SetCharacter i j kind = SpellsBare x i j kind
-Spells x OtherCharacter i j kind = ⊥
+abbrev pub SpellsCase : List ℕ → Case → ℕ → ℕ → TokenKind → Type 0
+SpellsCase x Sign i j kind = SpellsSign outer_sign x i j kind
+SpellsCase x SetSign i j kind = SpellsSign inner_sign x i j kind
+SpellsCase x BracketedProperty i j kind = SpellsBracketed x i j kind
+SpellsCase x SetStart i j kind = (j ≡ i + 1) × (kind ≡ SetOpen)
+SpellsCase x Variable i j kind = SpellsName x i j kind
+SpellsCase x ControlName i j kind = SpellsControl x i j kind
+SpellsCase x StatusNumber i j kind = SpellsTag x i j kind
+SpellsCase x QuotePair i j kind = SpellsQuotePair x i j kind
+SpellsCase x Quotation i j kind = SpellsQuotation x i j kind
+SpellsCase x BracedProperty i j kind = SpellsBraced x i j kind
+SpellsCase x Escape i j kind = SpellsEscape x i j kind
+SpellsCase x Brace i j kind = ⊥
+SpellsCase x BareCharacter i j kind = SpellsBare x i j kind
+SpellsCase x SetCharacter i j kind = SpellsBare x i j kind
+SpellsCase x OtherCharacter i j kind = ⊥
 
 -- the first case that fits at one place spells a token of this kind up to the other
 abbrev pub TokenAt : List ℕ → State → ℕ → ℕ → TokenKind → Type 0
-TokenAt x state i j kind = (case : Case) × CaseAt x state i case × Spells x case i j kind
+TokenAt x state i j kind = (case : Case) × CaseAt x state i case × SpellsCase x case i j kind

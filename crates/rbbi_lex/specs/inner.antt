@@ -1,3 +1,3 @@
--- What only this crate's own code and proofs cite. Nothing that is promised rests on it.
+-- The single steps of the lexer. No public clause rests on them.
 pub mod Errors
 pub mod Steps

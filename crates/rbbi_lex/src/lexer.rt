@@ -3,7 +3,7 @@ ghost use Rattle.std.specs.Prelude.{◌≡◌, ◌≤◌, ◌<◌, vec_len, leng
 ghost use Rattle.rbbi_text.specs.Bytes.{most_bytes};
 ghost use Rattle.rbbi_lex.specs.Points.{CaseAt};
 ghost use Rattle.rbbi_lex.specs.Skips.{Skipped};
-ghost use Rattle.rbbi_lex.specs.inner.Steps.{IsPieceEnd, IsStep};
+ghost use Rattle.rbbi_lex.specs.inner.Steps.{IsPieceEnd, ReadsNext};
 
 use crate::case::{Case, case_of};
 use crate::character::character_at;
@@ -68,7 +68,7 @@ impl Lexer {
     /// Reads the next token, or `None` at the end of the text.
     pub(crate) fn next_token(&mut self, alloc: Global) -> Result<Option<Token>, LexErr>
         ensures characters { self.new.characters ≡ self.old.characters }
-        ensures step { IsStep self.old.characters.items self.old.state self.old.place result
+        ensures step { ReadsNext self.old.characters.items self.old.state self.old.place result
             self.new.state self.new.place }
     {
         self.skip();

@@ -5,7 +5,7 @@ ghost use Rattle.rbbi_text.specs.Bytes.{most_bytes};
 ghost use Rattle.rbbi_lex.specs.Lexing.{AreTokens};
 ghost use Rattle.rbbi_lex.specs.Errors.{TellsFault};
 ghost use Rattle.rbbi_lex.specs.Places.{PlacesRise};
-ghost use Rattle.rbbi_lex.specs.WellMade.{AreWellMade};
+ghost use Rattle.rbbi_lex.specs.WellMade.{AreWellMadeTokens};
 
 use crate::error::LexErr;
 use crate::lexer::Lexer;
@@ -34,7 +34,7 @@ pub fn lex(alloc: Global, text: &str) -> Result<Tokens, LexErr>
     requires { length text.now ≤ most_bytes }
     ensures exact { MatchResult result (AreTokens (chars text.now)) (TellsFault (chars text.now)) }
     ensures places { IfOk result (PlacesRise 0 (length (chars text.now))) }
-    ensures well_made { IfOk result AreWellMade }
+    ensures well_made { IfOk result AreWellMadeTokens }
 {
     let mut tokens = Tokens::new(alloc);
     let mut lexer = Lexer {

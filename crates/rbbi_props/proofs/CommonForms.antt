@@ -13,7 +13,7 @@ use Rattle.rbbi_model.specs.Ranges.{Range}
 use Rattle.rbbi_props.specs.Rows.{File}
 use Rattle.rbbi_props.specs.LooseForms.{is_counted, is_name_byte, is_well_formed, loose}
 use Rattle.rbbi_props.specs.Lookups.{single, lookup, of_ranges, ranges_with, is_category_or_script}
-use Rattle.rbbi_props.specs.CommonForms.{mark_of, common_form, AreAlike}
+use Rattle.rbbi_props.specs.CommonForms.{mark_of, common_form, HaveOneForm}
 
 -- a byte of a name is one of ASCII
 name_byte_is_ascii : (b : ℕ) → is_name_byte b ≡ true → nat_lt b 128 ≡ true
@@ -169,7 +169,7 @@ value_alike files name value other other_value e f =
 
 -- what is alike is looked up alike
 pub lookup_alike : (files : List File) (name : List ℕ) (value : Option (List ℕ)) (other : List ℕ) (other_value : Option (List ℕ)) →
-    AreAlike name value other other_value → lookup files name value ≡ lookup files other other_value
+    HaveOneForm name value other other_value → lookup files name value ≡ lookup files other other_value
 lookup_alike files name None other None alike = single_alike name other alike.names
 lookup_alike files name None other (Some other_value) alike = let e = alike.values in absurd cc
 lookup_alike files name (Some value) other None alike = let e = alike.values in absurd cc

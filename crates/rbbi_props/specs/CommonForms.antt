@@ -13,6 +13,6 @@ abbrev pub common_form : List ℕ → List ℕ
 common_form text = if is_well_formed text then mark_of (has_prefix text) ∷ loose text else 63 ∷ []
 
 -- the names have one common form, and so have the values, or there are none
-pub record AreAlike (name : List ℕ) (value : Option (List ℕ)) (other : List ℕ) (other_value : Option (List ℕ)) : Type 0 where
+pub record HaveOneForm (name : List ℕ) (value : Option (List ℕ)) (other : List ℕ) (other_value : Option (List ℕ)) : Type 0 where
   pub names : common_form name ≡ common_form other
   pub values : option_map common_form value ≡ option_map common_form other_value

@@ -10,5 +10,5 @@ abbrev pub file_rows : List ℕ → List Row
 file_rows bytes = filter_map property_row (file_lines bytes)
 
 -- a file under a name
-abbrev pub file_of : List ℕ → List ℕ → File
-file_of name bytes = record { name = loose name; rows = file_rows bytes }
+abbrev pub named_file : List ℕ → List ℕ → File
+named_file name bytes = record { name = loose name; rows = file_rows bytes }

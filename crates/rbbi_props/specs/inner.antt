@@ -1,4 +1,4 @@
--- What only this crate's own code and proofs cite. Nothing that is promised rests on it.
+-- How the code goes about look-ups, runs and lines. No public clause rests on it.
 pub mod Lookups
 pub mod Refusals
 pub mod RunStarts

@@ -7,7 +7,7 @@ ghost use Rattle.rbbi_props.specs.Rows.{File};
 ghost use Rattle.rbbi_props.specs.LooseForms as spec;
 ghost use Rattle.rbbi_props.specs.LooseForms.{loose};
 ghost use Rattle.rbbi_props.specs.Lookups.{lookup};
-ghost use Rattle.rbbi_props.specs.CommonForms.{common_form, AreAlike};
+ghost use Rattle.rbbi_props.specs.CommonForms.{common_form, HaveOneForm};
 
 use crate::loose::is_well_formed;
 use rbbi_text::push_character;
@@ -19,7 +19,7 @@ use std::alloc::AllocError;
 /// and spaces, `_` and `-` don't count. A text that begins with "is" is apart from others, since
 /// the names of the database are found without it. Texts that aren't well formed are alike.
 pub fn are_alike(name: &str, value: Option<&str>, other: &str, other_value: Option<&str>) -> bool
-    ensures exact { IsTrue result ↔ AreAlike name.now (option_copied value.entry)
+    ensures exact { IsTrue result ↔ HaveOneForm name.now (option_copied value.entry)
         other.now (option_copied other_value.entry) }
     ensures found { IsTrue result → (files : List File) →
         lookup files name.now (option_copied value.entry)

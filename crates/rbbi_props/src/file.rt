@@ -5,7 +5,7 @@ ghost use Rattle.std.specs.List.{position};
 ghost use Rattle.std.specs.Str.Lines.{lines};
 ghost use Rattle.rbbi_text.specs.Bytes.{most_bytes};
 ghost use Rattle.rbbi_props.specs.RowLines.{property_row, is_bad};
-ghost use Rattle.rbbi_props.specs.Files.{file_of};
+ghost use Rattle.rbbi_props.specs.Files.{named_file};
 ghost use Rattle.rbbi_props.specs.Refusals.{HasRowsAlone, IsCause};
 ghost use Rattle.rbbi_props.specs.inner.Refusals.{IsLineCause, IsOneLineCause};
 
@@ -36,7 +36,7 @@ pub(crate) fn read_file(alloc: Global, name: &str, bytes: &[u8]) -> Result<PropF
     requires { length bytes.now ≤ most_bytes }
     ensures utf8 { OnOk result (IsUtf8 bytes.now) }
     ensures rows { OnOk result (HasRowsAlone bytes.now) }
-    ensures file { IfOk result (λ file. file ≡ file_of name.now bytes.now) }
+    ensures file { IfOk result (λ file. file ≡ named_file name.now bytes.now) }
     ensures cause { IfErr result (λ e. IsCause e bytes.now) }
 {
     let text = match utf8_text(bytes) {

@@ -6,7 +6,7 @@ ghost use Rattle.std.specs.Option.{option_copied};
 ghost use Rattle.rbbi_sets.specs.Rising.{IsRange};
 ghost use Rattle.rbbi_text.specs.Bytes.{most_bytes};
 ghost use Rattle.rbbi_props.specs.Rows.{Row, File};
-ghost use Rattle.rbbi_props.specs.Files.{file_of};
+ghost use Rattle.rbbi_props.specs.Files.{named_file};
 ghost use Rattle.rbbi_props.specs.Refusals.{HasRowsAlone, IsCause};
 ghost use Rattle.rbbi_props.specs.Lookups as spec;
 ghost use Rattle.rbbi_props.specs.inner.Lookups.{IsSetOf};
@@ -60,7 +60,7 @@ impl PropTable {
         requires { length bytes.now ≤ most_bytes }
         ensures utf8 { OnOk result (IsUtf8 bytes.now) }
         ensures rows { OnOk result (HasRowsAlone bytes.now) }
-        ensures added { OnOk result (self.new ≡ self.old ++ file_of name.now bytes.now ∷ []) }
+        ensures added { OnOk result (self.new ≡ self.old ++ named_file name.now bytes.now ∷ []) }
         ensures cause { IfErr result (λ e. IsCause e bytes.now) }
         ensures unchanged { OnErr result (self.new ≡ self.old) }
     {

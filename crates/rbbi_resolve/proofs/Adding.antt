@@ -119,7 +119,7 @@ of_classes files division tree classes set divides is respects e rising same =
       };
       form = record {
         rising = rising;
-        some = (w.0, (same w.0).1 (dividing w.0 w.1, w.2));
+        some = (w.0, (same w.0).1 (dividing w.0 w.2, w.3));
         characters = λ c h. let b = (same c).0 h in (b.0.0, b.1);
       };
     }

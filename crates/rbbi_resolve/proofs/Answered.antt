@@ -14,7 +14,7 @@ use Rattle.rbbi_resolve.specs.declared.properties.Answer.{Answer}
 use Rattle.rbbi_resolve.specs.inner.SetValues.{IsValue}
 use Rattle.rbbi_resolve.specs.SetValues.{value_of_property}
 use Rattle.rbbi_resolve.specs.inner.ClassValues.{AreSame, IsClassValue, IsKnown}
-use Rattle.rbbi_resolve.specs.inner.Questions.{IsAnswer}
+use Rattle.rbbi_resolve.specs.inner.Questions.{IsRightAnswer}
 
 -- each does so after an insertion
 pub values_insert : {K V : Type 0} (eq : K → K → Bool) (P : V → Type 0) (entries : List (K × V)) (k : K) (v : V) →
@@ -44,7 +44,7 @@ classes_of_value files bounds (Some tree) (Some set) (Some classes) is same =
     λ c first. (λ h. (is.members c).0 ((same c first).0 h), λ m. (same c first).1 ((is.members c).1 m))
 
 -- an answer is known by classes
-pub answer_known : (files : List File) (bounds : List ℕ) (answer : Answer) (known : PropertyClasses) → IsAnswer files answer →
+pub answer_known : (files : List File) (bounds : List ℕ) (answer : Answer) (known : PropertyClasses) → IsRightAnswer files answer →
     rc_value known.question ≡ rc_value answer.question → AreSame bounds (rc_value answer.set) (rc_value known.set) → IsKnown files bounds known
 answer_known files bounds answer known right same sets =
     subst (λ q. IsClassValue files bounds

@@ -22,7 +22,7 @@ use Rattle.rbbi_resolve.specs.RuleTrees.{tree_of, numbers_of, set_at}
 use Rattle.rbbi_resolve.specs.RuleLists.{IsLeafSet}
 use Rattle.rbbi_resolve.specs.inner.OwnLeaves.{IsSetOfLeaf, AddsLeaves, leaves_of_expr}
 use Rattle.rbbi_resolve.specs.inner.Files.{context_at}
-use Rattle.rbbi_resolve.specs.inner.Builders.{StandFrom, HasLeafSets, IsPart, IsBuilt, IsBuilder, GoesOn}
+use Rattle.rbbi_resolve.specs.inner.Builders.{StandFrom, HasLawfulLeaves, IsPart, IsBuilt, IsBuilder, Extends}
 
 -- one of several that follow one another, and a choice of several
 abbrev pub sequence_meaning : List Meaning → Meaning
@@ -166,7 +166,7 @@ module _ (files : List File) where
       record {
         part = record {
           stands = λ more. ((w more).0, is more, (w more).2.of_leaf);
-          filled = λ more. subst HasLeafSets (sym (is more)) (w more).2.form;
+          filled = λ more. subst HasLawfulLeaves (sym (is more)) (w more).2.form;
           numbered = subst (AllByRecursion (λ k. k < length sets)) (sym numbers) ((let low = stand_low sets n (tree ∷ []) s in omega arith), tt);
         };
         own = λ k low high. subst (λ ns. Contains ns k) (sym numbers) (0, omega arith, omega arith);
@@ -180,7 +180,7 @@ module _ (files : List File) where
       record {
         part = record {
           stands = λ more. of (sets ++ more);
-          filled = λ more. subst HasLeafSets (sym (of (sets ++ more))) tt;
+          filled = λ more. subst HasLawfulLeaves (sym (of (sets ++ more))) tt;
           numbered = subst (AllByRecursion (λ k. k < length sets)) (sym numbers) tt;
         };
         own = λ k low high. absurd (omega arith);
@@ -193,7 +193,7 @@ module _ (files : List File) where
   stands_repeated quant.Plus m t s = (t, refl, s)
   stands_repeated quant.Quest m t s = (t, refl, s)
 
-  filled_repeated : (q : Quant) (t : spelling.Tree) → HasLeafSets t → HasLeafSets (trees.repeated q t)
+  filled_repeated : (q : Quant) (t : spelling.Tree) → HasLawfulLeaves t → HasLawfulLeaves (trees.repeated q t)
   filled_repeated quant.Once t f = f
   filled_repeated quant.Star t f = f
   filled_repeated quant.Plus t f = f
@@ -207,7 +207,7 @@ module _ (files : List File) where
       record {
         part = record {
           stands = λ more. subst (Stands files (repeated q m)) (sym (of (sets ++ more))) (stands_repeated q m (tree_of (sets ++ more) t) (b.part.stands more));
-          filled = λ more. subst HasLeafSets (sym (of (sets ++ more))) (filled_repeated q (tree_of (sets ++ more) t) (b.part.filled more));
+          filled = λ more. subst HasLawfulLeaves (sym (of (sets ++ more))) (filled_repeated q (tree_of (sets ++ more) t) (b.part.filled more));
           numbered = subst (AllByRecursion (λ k. k < length sets)) (sym numbers) b.part.numbered;
         };
         own = λ k low high. subst (λ ns. Contains ns k) (sym numbers) (b.own k low high);
@@ -218,7 +218,7 @@ module _ (files : List File) where
   part_more sets ext m t p =
       record {
         stands = λ more. subst (λ ss. Stands files m (tree_of ss t)) (sym (append_assoc sets ext more)) (p.stands (ext ++ more));
-        filled = λ more. subst (λ ss. HasLeafSets (tree_of ss t)) (sym (append_assoc sets ext more)) (p.filled (ext ++ more));
+        filled = λ more. subst (λ ss. HasLawfulLeaves (tree_of ss t)) (sym (append_assoc sets ext more)) (p.filled (ext ++ more));
         numbered = all_map (λ k. k < length sets) (λ k. k < length (sets ++ ext)) (numbers_of t) (λ k low. let l =
             length-append sets ext in omega arith) p.numbered;
       }
@@ -295,7 +295,7 @@ module _ (files : List File) where
   zip_stands sets more (m ∷ ms) (t ∷ ts) z = (z.0.stands more, zip_stands sets more ms ts z.1)
 
   all_filled : (sets more : List (List Range)) (ms : List Meaning) (ts : List Tree) → AllZip (IsPart files sets) ms ts →
-      AllByRecursion HasLeafSets (map (tree_of (sets ++ more)) ts)
+      AllByRecursion HasLawfulLeaves (map (tree_of (sets ++ more)) ts)
   all_filled sets more [] [] z = tt
   all_filled sets more [] (t ∷ ts) z = absurd z
   all_filled sets more (m ∷ ms) [] z = absurd z
@@ -326,12 +326,12 @@ module _ (files : List File) where
   sequence_stands (m ∷ n ∷ ms) (t ∷ []) z = absurd z.1
   sequence_stands (m ∷ n ∷ ms) (t ∷ u ∷ ts) z = (t, spelling.sequence_of (u ∷ ts), refl, z.0, sequence_stands (n ∷ ms) (u ∷ ts) z.1)
 
-  choice_filled : (ts : List spelling.Tree) → AllByRecursion HasLeafSets ts → HasLeafSets (spelling.choice_of ts)
+  choice_filled : (ts : List spelling.Tree) → AllByRecursion HasLawfulLeaves ts → HasLawfulLeaves (spelling.choice_of ts)
   choice_filled [] a = tt
   choice_filled (t ∷ []) a = a.0
   choice_filled (t ∷ u ∷ ts) a = (a.0, choice_filled (u ∷ ts) a.1)
 
-  sequence_filled : (ts : List spelling.Tree) → AllByRecursion HasLeafSets ts → HasLeafSets (spelling.sequence_of ts)
+  sequence_filled : (ts : List spelling.Tree) → AllByRecursion HasLawfulLeaves ts → HasLawfulLeaves (spelling.sequence_of ts)
   sequence_filled [] a = tt
   sequence_filled (t ∷ []) a = a.0
   sequence_filled (t ∷ u ∷ ts) a = (a.0, sequence_filled (u ∷ ts) a.1)
@@ -345,7 +345,8 @@ module _ (files : List File) where
         part = record {
           stands = λ more. subst (Stands files (choice_meaning ms)) (sym (of (sets ++ more)))
               (choice_stands ms (map (tree_of (sets ++ more)) ts) (zip_stands sets more ms ts a.each));
-          filled = λ more. subst HasLeafSets (sym (of (sets ++ more))) (choice_filled (map (tree_of (sets ++ more)) ts) (all_filled sets more ms ts a.each));
+          filled = λ more. subst HasLawfulLeaves (sym (of (sets ++ more))) (choice_filled (map (tree_of (sets ++ more)) ts)
+              (all_filled sets more ms ts a.each));
           numbered = subst (AllByRecursion (λ k. k < length sets)) (sym numbers) (all_numbered sets ms ts a.each);
         };
         own = λ k low high. subst (λ ns. Contains ns k) (sym numbers) (a.own k low high);
@@ -361,7 +362,8 @@ module _ (files : List File) where
         part = record {
           stands = λ more. subst (Stands files (sequence_meaning ms)) (sym (of (sets ++ more)))
               (sequence_stands ms (map (tree_of (sets ++ more)) ts) (zip_stands sets more ms ts a.each));
-          filled = λ more. subst HasLeafSets (sym (of (sets ++ more))) (sequence_filled (map (tree_of (sets ++ more)) ts) (all_filled sets more ms ts a.each));
+          filled = λ more. subst HasLawfulLeaves (sym (of (sets ++ more))) (sequence_filled (map (tree_of (sets ++ more)) ts)
+              (all_filled sets more ms ts a.each));
           numbered = subst (AllByRecursion (λ k. k < length sets)) (sym numbers) (all_numbered sets ms ts a.each);
         };
         own = λ k low high. subst (λ ns. Contains ns k) (sym numbers) (a.own k low high);
@@ -370,18 +372,18 @@ module _ (files : List File) where
 
   -- sets were added, and added again
   pub goes_nowhere : (statements : List StatementTree) (sets : List (List Range)) (bases : List (Option ℕ)) → IsBuilder files statements sets bases →
-      GoesOn files statements sets sets bases
+      Extends files statements sets sets bases
   goes_nowhere statements sets bases b = record { more = []; is = sym (append-nil sets); builder = b }
 
-  pub goes_further : (statements : List StatementTree) (a b d : List (List Range)) (bases bases' : List (Option ℕ)) → GoesOn files statements a b bases →
-      GoesOn files statements b d bases' → GoesOn files statements a d bases'
+  pub goes_further : (statements : List StatementTree) (a b d : List (List Range)) (bases bases' : List (Option ℕ)) → Extends files statements a b bases →
+      Extends files statements b d bases' → Extends files statements a d bases'
   goes_further statements a b d bases bases' x y =
       record { more = x.more ++ y.more; is = y.is ∙ ap (λ s. s ++ y.more) x.is ∙ append_assoc a x.more y.more; builder = y.builder }
 
 -- what building a part does
 pub record Builds (files : List File) (statements : List StatementTree) (sets sets' : List (List Range)) (bases' : List (Option ℕ)) (next next' : ℕ)
     (leaves : List model.SetTree) (meaning : Meaning) (t : Tree) : Type 0 where
-  pub on : GoesOn files statements sets sets' bases'
+  pub on : Extends files statements sets sets' bases'
   pub moved : next' ≡ next + length leaves
   pub built : IsBuilt files (length sets) sets' next next' meaning t
 
@@ -390,7 +392,7 @@ pub record AreBuilding (files : List File) (statements : List StatementTree) (st
     (all : List model.SetTree) (now : List File) (sets : List (List Range)) (bases : List (Option ℕ)) (next : ℕ) (ts : List Tree) (left : List Meaning)
     (leaves : List model.SetTree) : Type 0 where
   pub same : now ≡ files
-  pub goes : GoesOn files statements start sets bases
+  pub goes : Extends files statements start sets bases
   pub done : List Meaning
   pub every : done ++ left ≡ whole
   pub parts : AreBuilt files (length start) sets from next done ts

@@ -1,9 +1,9 @@
 -- The test whether a set holds a character says whether it does.
 use Rattle.std.proofs.Common.{◌≡◌, ℕ, zero, suc, ◌<◌, ◌≤◌, Bool, true, false, not, ◌&&◌, ◌||◌, eqb, leb, ◌⊎◌, ◌↔◌, inl, inr, List, Option, Some, None}
 use Rattle.std.proofs.Common.{IsTrue, sym, refl, ap, subst, arith}
-use Rattle.std.proofs.lemmas.Bool.{cases_lt}
+use Rattle.std.proofs.lemmas.Bool.{cases_lt, false_from_ne_true}
 use Rattle.std.proofs.lemmas.Bool.Decides.{nat_tests}
-use Rattle.rbbi_model.specs.Words.{IsSurrogate}
+use Rattle.rbbi_model.specs.Words.{IsCodePoint, IsSurrogate}
 use Rattle.rbbi_model.specs.Ranges.{Range, Has}
 use Rattle.rbbi_model.specs.SetTrees as model
 use Rattle.rbbi_classes.specs.Classes.{ClassBits, HasMember, IsFirstOfClass}
@@ -12,10 +12,10 @@ use Rattle.rbbi_classes.proofs.FirstCodePoints.{stand-in_is_first}
 use Rattle.rbbi_resolve.specs.inner.Covered.{Respects}
 use Rattle.std.proofs.Common.{IfSome}
 use Rattle.rbbi_props.specs.Rows.{File}
-use Rattle.rbbi_resolve.specs.SetValues.{Passes, found, HasProperty}
+use Rattle.rbbi_resolve.specs.SetValues.{Passes, property_test, HasProperty}
 use Rattle.rbbi_resolve.specs.inner.SetValues.{HasMembers, IsValue}
 use Rattle.rbbi_resolve.specs.inner.ClassValues.{IsClassValue}
-use Rattle.rbbi_resolve.specs.Emptiness.{passes, in_property, in_join, in_set, is_no_surrogate, any_below, holds_character}
+use Rattle.rbbi_resolve.specs.Emptiness.{passes_test, in_property, in_join, in_set, is_no_surrogate, any_below, holds_character}
 use Rattle.rbbi_resolve.specs.Faults.{is_empty_value}
 use Rattle.rbbi_resolve.proofs.PropertySets.{members_are_code_points}
 
@@ -44,7 +44,7 @@ tells_eq a b = (λ e. grind (arith, nat_tests), λ h. grind (arith, nat_tests))
 tells_true : (b : Bool) → Tells b (IsTrue b)
 tells_true b = (λ e. e, λ t. t)
 
-tells_passes : (test : Option (ℕ → Bool)) (c : ℕ) → Tells (passes test c) (Passes test c)
+tells_passes : (test : Option (ℕ → Bool)) (c : ℕ) → Tells (passes_test test c) (Passes test c)
 tells_passes None c = (λ e. cc, λ p. absurd p)
 tells_passes (Some test) c = tells_and (leb c 0x10FFFF) (test c) (c ≤ 0x10FFFF) (IsTrue (test c)) (tells_le c 0x10FFFF) (tells_true (test c))
 
@@ -63,7 +63,8 @@ tells_in_set files (model.Character d) c = tells_eq c d
 tells_in_set files (model.Span range) c = tells_and (leb range.low c) (leb c range.high) (range.low ≤ c) (c ≤ range.high) (tells_le range.low c)
     (tells_le c range.high)
 tells_in_set files (model.Property negated name value) c =
-    tells_property negated (passes (found files name value) c) c (Passes (found files name value) c) (tells_passes (found files name value) c)
+    tells_property negated (passes_test (property_test files name value) c) c (Passes (property_test files name value) c) (tells_passes
+    (property_test files name value) c)
 tells_in_set files (model.Joined left join part) c =
     tells_join join (in_set files left c) (in_set files part c) (model.InSet (HasProperty files) left c) (model.InSet (HasProperty files) part c)
     (tells_in_set files left c) (tells_in_set files part c)
@@ -140,14 +141,14 @@ character_held files tree c low whole is =
     ((tells_and (is_no_surrogate c) (in_set files tree c) (¬ IsSurrogate c) (in_set files tree c ≡ true) (no_surrogate c) (λ e. e, λ e. e)).1 (whole, is))
 
 -- and a set that holds one has one
-pub held_character : (files : List File) (tree : model.SetTree) → holds_character files tree ≡ true → (c : ℕ) × model.InSet (HasProperty files) tree c ×
-    ¬ IsSurrogate c
+pub held_character : (files : List File) (tree : model.SetTree) → holds_character files tree ≡ true →
+    (c : ℕ) × IsCodePoint c × model.InSet (HasProperty files) tree c × ¬ IsSurrogate c
 unfolding holds_character
 held_character files tree e =
     let w = any_below_gives (λ c. is_no_surrogate c && in_set files tree c) 0x110000 e in
     let both = (tells_and (is_no_surrogate w.0) (in_set files tree w.0) (¬ IsSurrogate w.0) (model.InSet (HasProperty files) tree w.0) (no_surrogate w.0)
     (tells_in_set files tree w.0)).0 w.2 in
-    (w.0, both.1, both.0)
+    (w.0, let below = w.1 in omega arith, both.1, both.0)
 
 -- the same of classes, where the set has all or nothing of each
 pub classes_emptiness : (files : List File) (division : ClassDivision) (tree : Option model.SetTree) (set : ClassBits) (holds : Bool) → IsDivision division →
@@ -159,13 +160,13 @@ classes_emptiness files division (Some tree) set holds divides tells is respects
     (λ e. let w = tells.0 e in character_held files tree w.0 w.2.0 w.3 (in_set_takes files tree w.0 ((is w.0 w.1).0 w.2)))
     (λ e.
     let w = held_character files tree e in
-    let low = respects.low w.0 w.1 in
+    let low = w.1 in
     let first = stand-in_is_first division divides w.0 low in
     (tells_true holds).1 (tells.1 (
       stand_in division w.0,
       first,
-      (is (stand_in division w.0) first).1 ((respects.same w.0 low).0 w.1),
-      λ surrogate. w.2 ((divides.surrogates w.0 low).1 surrogate),
+      (is (stand_in division w.0) first).1 ((respects.same w.0 low).0 w.2),
+      λ surrogate. w.3 ((divides.surrogates w.0 low).1 surrogate),
     ))))
 
 -- the test whether a code point is in the set and no surrogate
@@ -180,3 +181,21 @@ in_leaf_tells files tree c =
     let t = tells_and (is_no_surrogate c) (in_set files tree c) (¬ IsSurrogate c) (model.InSet (HasProperty files) tree c) (no_surrogate c)
     (tells_in_set files tree c) in
     (λ e. let b = t.0 e in (b.1, b.0), λ b. t.1 (b.1, b.0))
+
+surrogate_or_not : (c : ℕ) (b : Bool) → is_no_surrogate c ≡ b → IsSurrogate c ⊎ ¬ IsSurrogate c
+surrogate_or_not c true e = inr ((no_surrogate c).0 e)
+surrogate_or_not c false e = inl (grind (arith, nat_tests))
+
+-- a set holds no character exactly if no code point but surrogates is in it
+pub holds_none : (files : List File) (tree : model.SetTree) →
+    (is_empty_value files (Some tree) ≡ true) ↔ ((c : ℕ) → IsCodePoint c → model.InSet (HasProperty files) tree c → IsSurrogate c)
+holds_none files tree = (
+  λ e c low is.
+      elim (surrogate_or_not c (is_no_surrogate c) refl) [
+        | inl surrogate ↦ surrogate
+        | inr whole ↦ let held = character_held files tree c low whole (in_set_takes files tree c is) in absurd cc
+      ],
+  λ none.
+      let none_held : holds_character files tree ≡ true → ⊥ = λ e. let w = held_character files tree e in w.3 (none w.0 w.1 w.2) in
+      ap not (false_from_ne_true (holds_character files tree) none_held),
+)

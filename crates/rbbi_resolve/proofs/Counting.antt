@@ -16,7 +16,7 @@ use Rattle.rbbi_tree.specs.declared.syntax.Quant.TheVariants as quant
 use Rattle.rbbi_tree.specs.declared.syntax.Atom.TheViews.{out-Expr, out-Seq}
 use Rattle.rbbi_resolve.specs.declared.fault.Fault.{Fault}
 use Rattle.rbbi_resolve.specs.declared.variables.Summary.{Summary}
-use Rattle.rbbi_resolve.specs.Meanings.{Meaning, leaf_count, spells_empty}
+use Rattle.rbbi_resolve.specs.Meanings.{Meaning, leaves_in, spells_empty}
 use Rattle.rbbi_resolve.specs.Contexts.{Context}
 use Rattle.rbbi_resolve.specs.Expressions.{meaning_of_expr, meaning_of_seq, meaning_of_item, height_of_expr, highest_of_expr, height_of_seq, highest_of_seq}
 use Rattle.rbbi_resolve.specs.Expressions.{height_of_item, repeated}
@@ -32,8 +32,8 @@ expr_by_items e items is = expr_tree_out e ∙ ap (λ ps. expr_of (map seq_tree 
 pub seq_by_items : (s : Seq) (items : List Item) → items ≡ (out-Seq s).items.items → seq_tree s ≡ seq_of (map item_tree items)
 seq_by_items s items is = seq_tree_out s ∙ ap (λ ps. seq_of (map item_tree ps)) (sym is)
 
-expr_leaves : (context : Context) (first : SeqTree) (more : ExprTree) → leaf_count (meaning_of_expr context (alternative first more)) ≡ leaf_count
-    (meaning_of_seq context first) + leaf_count (meaning_of_expr context more)
+expr_leaves : (context : Context) (first : SeqTree) (more : ExprTree) → leaves_in (meaning_of_expr context (alternative first more)) ≡ leaves_in
+    (meaning_of_seq context first) + leaves_in (meaning_of_expr context more)
 expr_leaves context first no_alternatives = omega arith
 expr_leaves context first (alternative second more) = refl
 
@@ -43,8 +43,8 @@ expr_empty : (context : Context) (first : SeqTree) (more : ExprTree) →
 expr_empty context first no_alternatives = sym (or-false (spells_empty (meaning_of_seq context first)))
 expr_empty context first (alternative second more) = refl
 
-seq_leaves : (context : Context) (first : ItemTree) (more : SeqTree) → leaf_count (meaning_of_seq context (item first more)) ≡ leaf_count
-    (meaning_of_item context first) + leaf_count (meaning_of_seq context more)
+seq_leaves : (context : Context) (first : ItemTree) (more : SeqTree) → leaves_in (meaning_of_seq context (item first more)) ≡ leaves_in
+    (meaning_of_item context first) + leaves_in (meaning_of_seq context more)
 seq_leaves context first no_items = omega arith
 seq_leaves context first (item second more) = refl
 
@@ -100,15 +100,15 @@ and-join false b c = refl
 -- the loop over the sequences of an expression
 abbrev pub CountingExpr : List File → Context → Option Fault → ExprTree → Summary → Option Fault → List File → ExprTree → Type 0
 CountingExpr files context before whole summary least now left =
-    IsCounting files context before ◌||◌ (parts_of_expr whole) (leaf_count (meaning_of_expr context whole)) (highest_of_expr context whole)
-    (spells_empty (meaning_of_expr context whole)) summary least now (parts_of_expr left) (leaf_count (meaning_of_expr context left))
+    IsCounting files context before ◌||◌ (parts_of_expr whole) (leaves_in (meaning_of_expr context whole)) (highest_of_expr context whole)
+    (spells_empty (meaning_of_expr context whole)) summary least now (parts_of_expr left) (leaves_in (meaning_of_expr context left))
     (highest_of_expr context left) (spells_empty (meaning_of_expr context left))
 
 -- the loop over the items of a sequence
 abbrev pub CountingSeq : List File → Context → Option Fault → SeqTree → Summary → Option Fault → List File → SeqTree → Type 0
 CountingSeq files context before whole summary least now left =
-    IsCounting files context before ◌&&◌ (parts_of_seq whole) (leaf_count (meaning_of_seq context whole)) (highest_of_seq context whole)
-    (spells_empty (meaning_of_seq context whole)) summary least now (parts_of_seq left) (leaf_count (meaning_of_seq context left))
+    IsCounting files context before ◌&&◌ (parts_of_seq whole) (leaves_in (meaning_of_seq context whole)) (highest_of_seq context whole)
+    (spells_empty (meaning_of_seq context whole)) summary least now (parts_of_seq left) (leaves_in (meaning_of_seq context left))
     (highest_of_seq context left) (spells_empty (meaning_of_seq context left))
 
 -- what counting a part does
@@ -143,7 +143,7 @@ expr_turn context files before whole summary part summary' least least' now now'
     subst (λ n. CountsPart context (parts_of_seq s) (λ k. meaning_of_seq k s) (λ k. height_of_seq k s) n part least least' now') here.same step in
     record {
       same = step'.same;
-      leaf_number = here.leaf_number + leaf_count (meaning_of_seq c s);
+      leaf_number = here.leaf_number + leaves_in (meaning_of_seq c s);
       height_number = max here.height_number (height_of_seq c s);
       empty_so_far = here.empty_so_far || spells_empty (meaning_of_seq c s);
       sums = joins _ _ _ _ _ _ here.sums step'.counts;
@@ -172,7 +172,7 @@ seq_turn context files before whole summary part summary' least least' now now' 
     subst (λ n. CountsPart context (parts_of_item s) (λ k. meaning_of_item k s) (λ k. height_of_item k s) n part least least' now') here.same step in
     record {
       same = step'.same;
-      leaf_number = here.leaf_number + leaf_count (meaning_of_item c s);
+      leaf_number = here.leaf_number + leaves_in (meaning_of_item c s);
       height_number = max here.height_number (height_of_item c s);
       empty_so_far = here.empty_so_far && spells_empty (meaning_of_item c s);
       sums = joins _ _ _ _ _ _ here.sums step'.counts;
@@ -195,7 +195,7 @@ module _ (files : List File) (context : Context) (before : Option Fault) (summar
       let end : CountingExpr files context before whole summary least now no_alternatives =
       subst (λ ps. CountingExpr files context before whole summary least now (expr_of (map seq_tree ps))) (drop_all i items done) counting in
       let tree : expr_tree e ≡ whole = expr_by_items e _ is in
-      let leaves : end.leaf_number ≡ leaf_count (meaning_of_expr context whole) = let f = end.all_leaves in omega arith in
+      let leaves : end.leaf_number ≡ leaves_in (meaning_of_expr context whole) = let f = end.all_leaves in omega arith in
       let heights : end.height_number ≡ highest_of_expr context whole = sym (max-zero end.height_number) ∙ end.all_heights in
       let empty : end.empty_so_far ≡ spells_empty (meaning_of_expr context whole) = sym (or-false end.empty_so_far) ∙ end.all_empty in
       let same_len : length (map seq_tree items) ≡ length items = simp length-map in
@@ -215,7 +215,7 @@ module _ (files : List File) (context : Context) (before : Option Fault) (summar
       let end : CountingSeq files context before whole summary least now no_items =
       subst (λ ps. CountingSeq files context before whole summary least now (seq_of (map item_tree ps))) (drop_all i items done) counting in
       let tree : seq_tree e ≡ whole = seq_by_items e _ is in
-      let leaves : end.leaf_number ≡ leaf_count (meaning_of_seq context whole) = let f = end.all_leaves in omega arith in
+      let leaves : end.leaf_number ≡ leaves_in (meaning_of_seq context whole) = let f = end.all_leaves in omega arith in
       let heights : end.height_number ≡ highest_of_seq context whole = sym (max-zero end.height_number) ∙ end.all_heights in
       let empty : end.empty_so_far ≡ spells_empty (meaning_of_seq context whole) = sym (and-true end.empty_so_far) ∙ end.all_empty in
       let same_len : length (map item_tree items) ≡ length items = simp length-map in
@@ -226,7 +226,7 @@ module _ (files : List File) (context : Context) (before : Option Fault) (summar
       rw tree (rw (sym leaves, sym empty, height) sums, end.noted)
 
 -- an atom as often as it stands
-pub repeated_sums : (quant : Quant) (meaning : Meaning) (height : ℕ) (summary : Summary) → Sums summary (leaf_count meaning) height
+pub repeated_sums : (quant : Quant) (meaning : Meaning) (height : ℕ) (summary : Summary) → Sums summary (leaves_in meaning) height
     (empty_of_quant quant (spells_empty meaning)) → Summarizes summary (repeated quant meaning) height
 repeated_sums quant.Once meaning height summary sums = sums
 repeated_sums quant.Star meaning height summary sums = sums

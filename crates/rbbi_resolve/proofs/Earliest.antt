@@ -1,12 +1,45 @@
 -- Of faults that are noted one after another the earliest is kept.
 use Rattle.std.proofs.Common.{◌≡◌, suc, Bool, true, false, cond, if◌then◌else◌, ◌⊎◌, inl, inr, Option, Some, None, List, [], ◌∷◌}
-use Rattle.std.proofs.Common.{sym, refl, subst, arith}
+use Rattle.std.proofs.Common.{sym, refl, ap, ◌∙◌, subst, slice_get, arith}
 use Rattle.std.specs.List.{AllByRecursion, Contains}
 use Rattle.std.proofs.lemmas.Bool.Decides.{nat_tests}
 use Rattle.rbbi_resolve.specs.declared.fault.Fault.{Fault}
-use Rattle.rbbi_resolve.specs.Faults.{comes_before, noted, noted_one}
-use Rattle.rbbi_resolve.specs.Refusals.{IsLeast}
+use Rattle.rbbi_resolve.specs.declared.fault.FaultKind.{FaultKind}
+use Rattle.rbbi_resolve.specs.declared.fault.FaultKind.TheVariants as kinds
+use Rattle.rbbi_resolve.specs.Faults.{rank, comes_before, noted, noted_one}
+use Rattle.rbbi_resolve.specs.Refusals.{IsEarliest}
 use Rattle.rbbi_resolve.proofs.Noting.{other_way}
+
+-- the kinds in their order
+in_order : List FaultKind
+in_order =
+    kinds.UnknownControl ∷ kinds.UnsupportedControl ∷ kinds.Dictionary ∷ kinds.Redefined ∷ kinds.Undefined ∷ kinds.NotASet ∷
+    kinds.UnknownProperty ∷ kinds.BadRange ∷ kinds.EmptySet ∷ kinds.BareLiteral ∷ kinds.EmptyFront ∷ kinds.EmptyRest ∷
+    kinds.NoRules ∷ kinds.TooManyRules ∷ kinds.TooManyLeaves ∷ kinds.TooManySlashes ∷ kinds.TooTall ∷ []
+
+ranked : (kind : FaultKind) → slice_get in_order (rank kind) ≡ Some kind
+unfolding in_order
+ranked kinds.UnknownControl = refl
+ranked kinds.UnsupportedControl = refl
+ranked kinds.Dictionary = refl
+ranked kinds.Redefined = refl
+ranked kinds.Undefined = refl
+ranked kinds.NotASet = refl
+ranked kinds.UnknownProperty = refl
+ranked kinds.BadRange = refl
+ranked kinds.EmptySet = refl
+ranked kinds.BareLiteral = refl
+ranked kinds.EmptyFront = refl
+ranked kinds.EmptyRest = refl
+ranked kinds.NoRules = refl
+ranked kinds.TooManyRules = refl
+ranked kinds.TooManyLeaves = refl
+ranked kinds.TooManySlashes = refl
+ranked kinds.TooTall = refl
+
+-- kinds of one rank are one kind
+pub one_kind : (kind other : FaultKind) → rank kind ≡ rank other → kind ≡ other
+one_kind kind other e = let same : Some kind ≡ Some other = sym (ranked kind) ∙ ap (slice_get in_order) e ∙ ranked other in cc
 
 not_itself : (f : Fault) → comes_before f f ≡ false
 not_itself f = grind (arith, nat_tests)
@@ -61,7 +94,7 @@ least_from (Some g) [] f e =
 least_from None (x ∷ xs) f e = from_none x f xs (least_from (Some x) xs f e)
 least_from (Some g) (x ∷ xs) f e = from_some g x f xs (comes_before x g) refl (least_from (noted_one (Some g) x) xs f e)
 
-pub least_noted : (faults : List Fault) (f : Fault) → noted None faults ≡ Some f → IsLeast faults f
+pub least_noted : (faults : List Fault) (f : Fault) → noted None faults ≡ Some f → IsEarliest faults f
 least_noted faults f e =
     let i = least_from None faults f e in
     record { one_of = elim i.one_of [ inl n ↦ absurd cc | inr w ↦ w ]; least = i.least }

@@ -13,21 +13,21 @@ use Rattle.rbbi_resolve.specs.declared.counts.Counts as declared
 use Rattle.rbbi_resolve.specs.Contexts.{Context, assigned_to, variable_of}
 use Rattle.rbbi_resolve.specs.Expressions.{variable_for}
 use Rattle.rbbi_resolve.specs.Faults.{noted}
-use Rattle.rbbi_resolve.specs.Files.{RuleMeaning, start, with_variable, faults_from, faults_of, rules_from, active_rules}
+use Rattle.rbbi_resolve.specs.Files.{RuleMeaning, initial_context, with_variable, faults_from, faults_of, rules_from, active_rules}
 use Rattle.rbbi_resolve.specs.inner.Files.{context_at}
-use Rattle.rbbi_resolve.specs.Counts.{counted, leaves_meant}
-use Rattle.rbbi_resolve.specs.inner.Scopes.{Variables, IsUnassigned, IsDefinedBy}
+use Rattle.rbbi_resolve.specs.Counts.{size_fault, leaves_meant}
+use Rattle.rbbi_resolve.specs.inner.Contexts.{Variables, IsUnassigned, IsDefinedBy}
 use Rattle.rbbi_resolve.specs.inner.Switchings.{AreSwitches}
 use Rattle.rbbi_resolve.specs.inner.Countings.{AreCounting, slash_of}
 use Rattle.rbbi_resolve.specs.declared.classes.Classes.{Classes}
-use Rattle.rbbi_resolve.specs.inner.ClassValues.{AreClasses}
+use Rattle.rbbi_resolve.specs.inner.ClassValues.{AreRightClasses}
 use Rattle.rbbi_resolve.specs.inner.Covered.{CoversAll}
 use Rattle.rbbi_resolve.specs.inner.Readings.{IsReadTo}
 use Rattle.rbbi_resolve.proofs.Counted.{passed_at_end}
 use Rattle.rbbi_resolve.proofs.Lawful.{within}
 use Rattle.rbbi_resolve.proofs.Steps.{made}
 
-at_start : (files : List File) (statements : List StatementTree) → context_at files statements 0 ≡ start files
+at_start : (files : List File) (statements : List StatementTree) → context_at files statements 0 ≡ initial_context files
 unfolding context_at
 at_start files [] = refl
 at_start files (s ∷ statements) = refl
@@ -38,9 +38,10 @@ all_left (s ∷ statements) = refl
 
 pub rules_at_start : (files : List File) (statements : List StatementTree) → rules_from (context_at files statements 0) (drop 0 statements) ≡ active_rules
     files statements
-rules_at_start files statements = ap (λ k. rules_from k (drop 0 statements)) (at_start files statements) ∙ ap (rules_from (start files)) (all_left statements)
+rules_at_start files statements = ap (λ k. rules_from k (drop 0 statements)) (at_start files statements)
+    ∙ ap (rules_from (initial_context files)) (all_left statements)
 
-pub switches_at_start : (files : List File) (statements : List StatementTree) (switches : Switches) → AreSwitches switches (start files) →
+pub switches_at_start : (files : List File) (statements : List StatementTree) (switches : Switches) → AreSwitches switches (initial_context files) →
     AreSwitches switches (context_at files statements 0)
 switches_at_start files statements switches is = subst (AreSwitches switches) (sym (at_start files statements)) is
 
@@ -51,7 +52,7 @@ none_at_start files statements name = λ limit low. let e : limit ≡ 0 = omega 
 -- before the first statement
 pub read_none : (files : List File) (classes : Classes) (ignored : Bool) (statements : List StatementTree) (variables : Variables) (switches : Switches)
     (counts : declared.Counts) → ((name : List ℕ) → get_by_text variables name ≡ None) →
-    AreSwitches switches (start files) → ((all : List RuleMeaning) → AreCounting counts all all) → AreClasses files classes →
+    AreSwitches switches (initial_context files) → ((all : List RuleMeaning) → AreCounting counts all all) → AreRightClasses files classes →
     CoversAll files (stand_in (rc_value classes.division)) statements → IsReadTo files classes ignored statements variables None switches counts 0
 read_none files classes ignored statements variables switches counts none is counting classified covered =
     record {
@@ -62,7 +63,7 @@ read_none files classes ignored statements variables switches counts none is cou
             statements 0 name)) (sym (none name)) (none_at_start files statements name);
       };
       noted_so_far = ap (λ k. noted None (faults_from ignored k (drop 0 statements))) (at_start files statements)
-          ∙ ap (λ ss. noted None (faults_from ignored (start files) ss)) (all_left statements);
+          ∙ ap (λ ss. noted None (faults_from ignored (initial_context files) ss)) (all_left statements);
       switched = switches_at_start files statements switches is;
       counted_so_far = subst (λ ms. AreCounting counts ms (active_rules files statements)) (sym (rules_at_start files statements))
           (counting (active_rules files statements));
@@ -91,14 +92,14 @@ counting_all files classes ignored statements variables least switches counts n 
     let k = context_at files statements n in
     subst (λ ms. AreCounting counts ms (active_rules files statements)) (ap (rules_from k) (drop_all n statements long) ∙ rules_of_none k) read.counted_so_far
 
-pub leaves_counted : (counts : declared.Counts) (end : ℕ) (ms : List RuleMeaning) → AreCounting counts [] ms → counted end ms ≡ None →
+pub leaves_counted : (counts : declared.Counts) (end : ℕ) (ms : List RuleMeaning) → AreCounting counts [] ms → size_fault end ms ≡ None →
     counts.leaves.sum ≡ sum_by leaves_meant ms
 leaves_counted counts end ms is e =
     let w = within end ms e in
     let sum = is.leaf_count.sum_of (sym (passed_at_end leaves_meant 8192 counts.leaves ms is.leaf_count) ∙ w.leaves) in
     omega arith
 
-pub slashes_counted : (counts : declared.Counts) (end : ℕ) (ms : List RuleMeaning) → AreCounting counts [] ms → counted end ms ≡ None →
+pub slashes_counted : (counts : declared.Counts) (end : ℕ) (ms : List RuleMeaning) → AreCounting counts [] ms → size_fault end ms ≡ None →
     counts.slashes.sum ≡ sum_by slash_of ms
 slashes_counted counts end ms is e =
     let w = within end ms e in

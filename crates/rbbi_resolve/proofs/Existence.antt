@@ -12,19 +12,19 @@ use Rattle.rbbi_props.specs.Rows.{File}
 use Rattle.rbbi_tree.specs.Trees.{ExprTree, StatementTree, nothing, control, assign, rule}
 use Rattle.rbbi_tree.specs.WellMade.{AreWellMade}
 use Rattle.rbbi_resolve.specs.declared.fault.Fault.{Fault}
-use Rattle.rbbi_resolve.specs.SetValues.{Passes, found, HasProperty}
+use Rattle.rbbi_resolve.specs.SetValues.{Passes, property_test, HasProperty}
 use Rattle.rbbi_resolve.specs.Meanings.{Meaning, Leaf, Empty, Never, Then, Either, Repeat, IsLeafOf, Stands}
 use Rattle.rbbi_resolve.specs.Contexts.{Context}
 use Rattle.rbbi_resolve.specs.Expressions.{meaning_of_expr}
 use Rattle.rbbi_resolve.specs.Parts.{parts_of_expr}
 use Rattle.rbbi_resolve.specs.Faults.{faults_of_parts, noted}
-use Rattle.rbbi_resolve.specs.Files.{RuleMeaning, start, context_after, faults_of_rest, faults_at_slash, faults_of_statement, faults_from, faults_of, rule_in}
+use Rattle.rbbi_resolve.specs.Files.{RuleMeaning, initial_context, context_after, faults_of_rest, faults_at_slash, faults_of_statement, faults_from, faults_of, rule_in}
 use Rattle.rbbi_resolve.specs.Files.{rules_from, active_rules}
-use Rattle.rbbi_resolve.specs.Counts.{counted}
-use Rattle.rbbi_resolve.specs.Refusals.{IsFaultOf}
+use Rattle.rbbi_resolve.specs.Counts.{size_fault}
+use Rattle.rbbi_resolve.specs.Refusals.{IsReportedFault}
 use Rattle.rbbi_resolve.specs.Outcomes.{BothStand, IsRuleOf, Means}
 use Rattle.rbbi_resolve.specs.RuleLists.{IsLeafSet}
-use Rattle.rbbi_resolve.specs.inner.Builders.{HasLeafSets}
+use Rattle.rbbi_resolve.specs.inner.Builders.{HasLawfulLeaves}
 use Rattle.rbbi_resolve.specs.inner.Soundness.{AreSound}
 use Rattle.rbbi_resolve.specs.TextCharacters.{AreOfCharacters, IsStatementOfCharacters, IsRestOfCharacters}
 use Rattle.rbbi_resolve.proofs.Characters.{held_character, in_leaf, in_leaf_tells}
@@ -45,7 +45,7 @@ passes_within (Some test) c p = p.0
 
 property_within : (files : List File) (negated : Bool) (word : List ℕ) (value : Option (List ℕ)) (c : ℕ) →
     sets.InProperty negated c (HasProperty files word value c) → c ≤ 0x10FFFF
-property_within files false word value c p = passes_within (found files word value) c p
+property_within files false word value c p = passes_within (property_test files word value) c p
 property_within files true word value c p = p.0
 
 join_within : (join : sets.Join) (c : ℕ) (A B : Type 0) → (A → c ≤ 0x10FFFF) → (B → c ≤ 0x10FFFF) → sets.InJoin join A B → c ≤ 0x10FFFF
@@ -91,22 +91,22 @@ tree_exists files (Either first rest) g =
 tree_exists files (Repeat repetition part) g = let a = tree_exists files part g in (spelling.Repeat repetition a.0, (a.0, refl, a.1))
 
 -- the leaves of what stands for a good meaning have sets that they may have
-filled_tree : (files : List File) (m : Meaning) (t : spelling.Tree) → IsGood files m → Stands files m t → HasLeafSets t
+filled_tree : (files : List File) (m : Meaning) (t : spelling.Tree) → IsGood files m → Stands files m t → HasLawfulLeaves t
 filled_tree files (Leaf tree) t g s =
     let of = s.2 in
     let w = held_character files tree g.holds in
     let own : IsLeafSet s.0 =
     record {
       rising = of.rising;
-      some = (w.0, (of.members w.0).1 (w.1, w.2));
+      some = (w.0, (of.members w.0).1 (w.2, w.3));
       characters = λ c h. (members_are_code_points 0 s.0 of.rising c h, ((of.members c).0 h).1);
     } in
-    subst HasLeafSets (sym s.1) own
-filled_tree files Empty t g s = subst HasLeafSets (sym s) tt
-filled_tree files Never t g s = subst HasLeafSets (sym s) tt
-filled_tree files (Then first rest) t g s = subst HasLeafSets (sym s.2) (filled_tree files first s.0 g.0 s.3, filled_tree files rest s.1 g.1 s.4)
-filled_tree files (Either first rest) t g s = subst HasLeafSets (sym s.2) (filled_tree files first s.0 g.0 s.3, filled_tree files rest s.1 g.1 s.4)
-filled_tree files (Repeat repetition part) t g s = subst HasLeafSets (sym s.1) (filled_tree files part s.0 g s.2)
+    subst HasLawfulLeaves (sym s.1) own
+filled_tree files Empty t g s = subst HasLawfulLeaves (sym s) tt
+filled_tree files Never t g s = subst HasLawfulLeaves (sym s) tt
+filled_tree files (Then first rest) t g s = subst HasLawfulLeaves (sym s.2) (filled_tree files first s.0 g.0 s.3, filled_tree files rest s.1 g.1 s.4)
+filled_tree files (Either first rest) t g s = subst HasLawfulLeaves (sym s.2) (filled_tree files first s.0 g.0 s.3, filled_tree files rest s.1 g.1 s.4)
+filled_tree files (Repeat repetition part) t g s = subst HasLawfulLeaves (sym s.1) (filled_tree files part s.0 g s.2)
 
 record IsGoodRule (files : List File) (m : RuleMeaning) : Type 0 where
   pub front : IsGood files m.front
@@ -116,7 +116,7 @@ rest_exists : (files : List File) (m : Option Meaning) → IfSome m (IsGood file
 rest_exists files None g = (None, tt)
 rest_exists files (Some m) g = let a = tree_exists files m g in (Some a.0, a.1)
 
-rest_filled : (files : List File) (m : Option Meaning) (t : Option spelling.Tree) → IfSome m (IsGood files) → BothStand files m t → IfSome t HasLeafSets
+rest_filled : (files : List File) (m : Option Meaning) (t : Option spelling.Tree) → IfSome m (IsGood files) → BothStand files m t → IfSome t HasLawfulLeaves
 rest_filled files None None g b = tt
 rest_filled files None (Some t) g b = absurd b
 rest_filled files (Some m) None g b = absurd b
@@ -185,7 +185,7 @@ rules_good files ignored k (s ∷ statements) same sound good well c e =
 file_good : (files : List File) (ignored : Bool) (statements : List StatementTree) → AreWellMade statements → AreOfCharacters statements →
     faults_of files ignored statements ≡ [] → AllByRecursion (IsGoodRule files) (active_rules files statements)
 file_good files ignored statements well c e =
-    rules_good files ignored (start files) statements refl (record { each = λ name. tt }) (record { each = λ name. tt }) well c e
+    rules_good files ignored (initial_context files) statements refl (record { each = λ name. tt }) (record { each = λ name. tt }) well c e
 
 -- what a file of characters means is lawful
 pub lawful_meaning : (files : List File) (ignored : Bool) (statements : List StatementTree) (rs : List model.Rule) → AreWellMade statements →
@@ -197,17 +197,17 @@ lawful_meaning files ignored statements rs well c means =
 -- and it means something or has a fault
 pub meaning_or_fault : (files : List File) (ignored : Bool) (statements : List StatementTree) (end : ℕ) → AreWellMade statements → AreOfCharacters statements →
     ((rs : List model.Rule) × Means files ignored statements rs) ⊎
-    ((fault : Fault) × IsFaultOf (faults_of files ignored statements) (counted end (active_rules files statements)) fault)
+    ((fault : Fault) × IsReportedFault (faults_of files ignored statements) (size_fault end (active_rules files statements)) fault)
 meaning_or_fault files ignored statements end well c =
     let faults = faults_of files ignored statements in
     let ms = active_rules files statements in
     elim (noted None faults) as (λ o. noted None faults ≡ o → ((rs : List model.Rule) × Means files ignored statements rs) ⊎
-    ((fault : Fault) × IsFaultOf faults (counted end ms) fault)) [
+    ((fault : Fault) × IsReportedFault faults (size_fault end ms) fault)) [
       | Some f ↦ λ e. inr (f, inl (least_noted faults f e))
       | None ↦ λ e.
           let none = none_noted faults e in
-          elim (counted end ms) as (λ o. counted end ms ≡ o → ((rs : List model.Rule) × Means files ignored statements rs) ⊎
-          ((fault : Fault) × IsFaultOf faults (counted end ms) fault)) [
+          elim (size_fault end ms) as (λ o. size_fault end ms ≡ o → ((rs : List model.Rule) × Means files ignored statements rs) ⊎
+          ((fault : Fault) × IsReportedFault faults (size_fault end ms) fault)) [
             | Some f ↦ λ g. inr (f, inr (none, g))
             | None ↦ λ g.
                 let r = rules_exist files ms (file_good files ignored statements well c none) in
@@ -218,7 +218,7 @@ meaning_or_fault files ignored statements end well c =
 -- but not both
 pub not_both : (files : List File) (ignored : Bool) (statements : List StatementTree) (end : ℕ) (rs : List model.Rule) (fault : Fault) →
     Means files ignored statements rs →
-    IsFaultOf (faults_of files ignored statements) (counted end (active_rules files statements)) fault → ⊥
+    IsReportedFault (faults_of files ignored statements) (size_fault end (active_rules files statements)) fault → ⊥
 not_both files ignored statements end rs fault means f =
     elim f [
       | inl least ↦ (let w = least.one_of in let long = ap length means.faultless in omega (arith, w.1))

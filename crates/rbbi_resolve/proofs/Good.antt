@@ -15,7 +15,7 @@ use Rattle.rbbi_tree.specs.Trees.{StatementTree, nothing, control, assign, rule}
 use Rattle.rbbi_tree.specs.declared.syntax.Quant.{Quant}
 use Rattle.rbbi_tree.specs.declared.syntax.Quant.TheVariants as quant
 use Rattle.rbbi_tree.specs.declared.syntax.Join.{Join}
-use Rattle.rbbi_resolve.specs.SetValues.{found, joined_to, signed, value_of_property, value_of_range, value_of_set, value_of_parts}
+use Rattle.rbbi_resolve.specs.SetValues.{property_test, joined_to, signed, value_of_property, value_of_range, value_of_set, value_of_parts}
 use Rattle.rbbi_resolve.specs.SetValues.{value_of_part, value_of_item}
 use Rattle.rbbi_resolve.specs.Emptiness.{holds_character}
 use Rattle.rbbi_resolve.specs.Meanings.{Meaning, Leaf, Empty, Never, Then, Either, Repeat}
@@ -90,7 +90,8 @@ within_range first last c =
 
 within_property : (files : List File) (negated : Bool) (word : List ℕ) (value : Option (List ℕ)) → IsValueWithin (value_of_property files negated word value)
 within_property files negated word value =
-    elim (is_some (found files word value)) as (λ b. IsValueWithin (if b then Some (model.Property negated word value) else None)) [ true ↦ tt | false ↦ tt ]
+    elim (is_some (property_test files word value)) as (λ b. IsValueWithin (if b then Some
+    (model.Property negated word value) else None)) [ true ↦ tt | false ↦ tt ]
 
 mutual
   within_set : (k : Context) → AreGood k → (s : SetSyntax) → IsSetOfCharacters s → IsValueWithin (value_of_set k.files (value_of_name k) s)

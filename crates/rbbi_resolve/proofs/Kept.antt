@@ -3,7 +3,7 @@ use Rattle.std.proofs.Common.{◌≡◌, ℕ, Bool, true, false, List, [], ◌�
 use Rattle.rbbi_props.specs.Rows.{File}
 use Rattle.rbbi_tree.specs.Trees.{StatementTree, nothing, control, assign, rule}
 use Rattle.rbbi_resolve.specs.Contexts.{Context, variable_of}
-use Rattle.rbbi_resolve.specs.Files.{start, context_after, ends_active}
+use Rattle.rbbi_resolve.specs.Files.{initial_context, context_after, ends_active}
 use Rattle.rbbi_resolve.specs.inner.Files.{context_at}
 
 control_keeps : (context : Context) (a b c d : Bool) →
@@ -35,4 +35,4 @@ statements_keep context (s ∷ statements) = statements_keep (context_after cont
 
 pub files_stay : (files : List File) (statements : List StatementTree) (number : ℕ) → (context_at files statements number).files ≡ files
 unfolding context_at
-files_stay files statements number = statements_keep (start files) (take number statements)
+files_stay files statements number = statements_keep (initial_context files) (take number statements)

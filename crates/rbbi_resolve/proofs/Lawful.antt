@@ -16,42 +16,45 @@ use Rattle.rbbi_props.specs.Rows.{File}
 use Rattle.rbbi_tree.specs.Trees.{ExprTree, StatementTree, nothing, control, assign, rule}
 use Rattle.rbbi_tree.specs.WellMade.{AreWellMade, IsWellMade, IsWellMadeRest}
 use Rattle.rbbi_resolve.specs.declared.fault.Fault.{Fault}
-use Rattle.rbbi_resolve.specs.Meanings.{Meaning, Leaf, Empty, Never, Then, Either, Repeat, Stands, leaf_count, spells_empty}
+use Rattle.rbbi_resolve.specs.declared.fault.FaultKind.{FaultKind}
+use Rattle.rbbi_resolve.specs.declared.fault.FaultKind.TheVariants as kinds
+use Rattle.rbbi_resolve.specs.Meanings.{Meaning, Leaf, Empty, Never, Then, Either, Repeat, Stands, leaves_in, spells_empty}
 use Rattle.rbbi_resolve.specs.Contexts.{Context}
 use Rattle.rbbi_resolve.specs.Expressions.{meaning_of_expr}
 use Rattle.rbbi_resolve.specs.Parts.{parts_of_expr}
 use Rattle.rbbi_resolve.specs.Faults.{faults_where, faults_of_parts}
-use Rattle.rbbi_resolve.specs.Files.{RuleMeaning, start, context_after, faults_of_rest, faults_at_slash, faults_of_statement, faults_from, rule_in}
+use Rattle.rbbi_resolve.specs.Files.{RuleMeaning, initial_context, context_after, faults_of_rest, faults_at_slash, faults_of_statement, faults_from, rule_in}
 use Rattle.rbbi_resolve.specs.Files.{rules_from, active_rules}
-use Rattle.rbbi_resolve.specs.Counts.{counted, fault_at, no_rules_at, too_many_rules_at, too_many_leaves_at, too_many_slashes_at, too_tall_at}
+use Rattle.rbbi_resolve.specs.Counts.{size_fault, placed_fault, no_rules_at, too_many_rules_at, too_many_leaves_at, too_many_slashes_at, too_tall_at}
 use Rattle.rbbi_resolve.specs.Counts as counts
-use Rattle.rbbi_resolve.specs.inner.Countings.{passing, one, slash_of}
+use Rattle.rbbi_resolve.specs.inner.Countings.{limit_place, one, slash_of}
 use Rattle.rbbi_resolve.specs.Outcomes.{BothStand, IsRuleOf, Means}
 use Rattle.rbbi_resolve.specs.RuleLists.{IsLeafSet}
-use Rattle.rbbi_resolve.specs.inner.Builders.{HasLeafSets}
+use Rattle.rbbi_resolve.specs.inner.Builders.{HasLawfulLeaves}
 use Rattle.rbbi_resolve.specs.inner.Soundness.{IsFull, AreSound}
-use Rattle.rbbi_resolve.proofs.Counted.{passing_one, passing_leaves, passing_slashes}
+use Rattle.rbbi_resolve.proofs.Counted.{limit_place_one, limit_place_leaves, limit_place_slashes}
+use Rattle.rbbi_resolve.proofs.EmptyWords.{not_empty}
 use Rattle.rbbi_resolve.proofs.Sound.{first_empty, second_empty, not_where, full_expr}
 use Rattle.rbbi_resolve.proofs.SoundFiles.{sound_after}
 use Rattle.rbbi_resolve.proofs.Steps.{meant}
 
-lawful_tree : (files : List File) (m : Meaning) (t : spelling.Tree) → IsFull m → Stands files m t → HasLeafSets t → IsLawfulTree t
+lawful_tree : (files : List File) (m : Meaning) (t : spelling.Tree) → IsFull m → Stands files m t → HasLawfulLeaves t → IsLawfulTree t
 lawful_tree files (Leaf tree) t full s f =
-    let own : IsLeafSet s.0 = subst HasLeafSets s.1 f in
+    let own : IsLeafSet s.0 = subst HasLawfulLeaves s.1 f in
     subst IsLawfulTree (sym s.1) (own.some, own.characters)
 lawful_tree files Empty t full s f = absurd full
 lawful_tree files Never t full s f = absurd full
 lawful_tree files (Then first rest) t full s f =
-    let own : HasLeafSets s.0 × HasLeafSets s.1 = subst HasLeafSets s.2 f in
+    let own : HasLawfulLeaves s.0 × HasLawfulLeaves s.1 = subst HasLawfulLeaves s.2 f in
     subst IsLawfulTree (sym s.2) (lawful_tree files first s.0 full.0 s.3 own.0, lawful_tree files rest s.1 full.1 s.4 own.1)
 lawful_tree files (Either first rest) t full s f =
-    let own : HasLeafSets s.0 × HasLeafSets s.1 = subst HasLeafSets s.2 f in
+    let own : HasLawfulLeaves s.0 × HasLawfulLeaves s.1 = subst HasLawfulLeaves s.2 f in
     subst IsLawfulTree (sym s.2) (lawful_tree files first s.0 full.0 s.3 own.0, lawful_tree files rest s.1 full.1 s.4 own.1)
 lawful_tree files (Repeat repetition part) t full s f =
-    let own : HasLeafSets s.0 = subst HasLeafSets s.1 f in
+    let own : HasLawfulLeaves s.0 = subst HasLawfulLeaves s.1 f in
     subst IsLawfulTree (sym s.1) (lawful_tree files part s.0 full s.2 own)
 
-count_stands : (files : List File) (m : Meaning) (t : spelling.Tree) → Stands files m t → model.leaf_count t ≡ leaf_count m
+count_stands : (files : List File) (m : Meaning) (t : spelling.Tree) → Stands files m t → model.leaf_count t ≡ leaves_in m
 count_stands files (Leaf tree) t s = ap model.leaf_count s.1
 count_stands files Empty t s = ap model.leaf_count s
 count_stands files Never t s = ap model.leaf_count s
@@ -66,35 +69,6 @@ count_stands files (Either first rest) t s =
     let e : model.leaf_count t ≡ model.leaf_count s.0 + model.leaf_count s.1 = ap model.leaf_count s.2 in
     omega arith
 count_stands files (Repeat repetition part) t s = ap model.leaf_count s.1 ∙ count_stands files part s.0 s.2
-
-piece_empty : (t : spelling.Tree) (pieces : List (List ℕ)) → (pieces ≡ [] → ⊥) → AllByRecursion (Spells t) pieces → [] ≡ joined pieces → Spells t []
-piece_empty t [] some all e = absurd (some refl)
-piece_empty t (piece ∷ pieces) some all e = subst (Spells t) (first_empty piece (joined pieces) (sym e)) all.0
-
-not_empty : (files : List File) (m : Meaning) (t : spelling.Tree) → Stands files m t → spells_empty m ≡ false → ¬ Spells t []
-not_empty files (Leaf tree) t s e = λ p. let q = subst (λ x. Spells x []) s.1 p in let f = q.2 in absurd cc
-not_empty files Empty t s e = absurd cc
-not_empty files Never t s e = λ p. subst (λ x. Spells x []) s p
-not_empty files (Then first rest) t s e =
-    λ p.
-    let q = subst (λ x. Spells x []) s.2 p in
-    let u = first_empty q.0 q.1 (sym q.4) in
-    let v = second_empty q.0 q.1 (sym q.4) in
-    elim (and_cases (spells_empty first) (spells_empty rest) e) [
-      | inl a ↦ not_empty files first s.0 s.3 a (subst (Spells s.0) u q.2)
-      | inr b ↦ not_empty files rest s.1 s.4 b (subst (Spells s.1) v q.3)
-    ]
-not_empty files (Either first rest) t s e =
-    λ p.
-    let both = or_parts (spells_empty first) (spells_empty rest) e in
-    let q : Spells s.0 [] ⊎ Spells s.1 [] = subst (λ x. Spells x []) s.2 p in
-    elim q [ inl a ↦ not_empty files first s.0 s.3 both.0 a | inr b ↦ not_empty files rest s.1 s.4 both.1 b ]
-not_empty files (Repeat Star part) t s e = absurd cc
-not_empty files (Repeat Plus part) t s e =
-    λ p.
-    let q = subst (λ x. Spells x []) s.1 p in
-    not_empty files part s.0 s.2 e (piece_empty s.0 q.0 q.1 q.2 q.3)
-not_empty files (Repeat Quest part) t s e = absurd cc
 
 -- what makes the rule of a meaning lawful
 pub record IsSoundRule (m : RuleMeaning) : Type 0 where
@@ -113,10 +87,10 @@ rest_sound k sound front (Some slash) None well e = absurd well
 rest_sound k sound front (Some slash) (Some rest) well e =
     let own = first_empty (faults_of_parts k (parts_of_expr rest)) (faults_at_slash k front (Some slash) (Some rest)) e in
     let at = second_empty (faults_of_parts k (parts_of_expr rest)) (faults_at_slash k front (Some slash) (Some rest)) e in
-    let a = faults_where (spells_empty (meaning_of_expr k front)) slash 11 in
-    let b = faults_where (spells_empty (meaning_of_expr k rest)) slash 12 in (
-      (full_expr k sound rest well.0 well.1 own, not_where (spells_empty (meaning_of_expr k rest)) slash 12 (second_empty a b at)),
-      λ s. not_where (spells_empty (meaning_of_expr k front)) slash 11 (first_empty a b at),
+    let a = faults_where (spells_empty (meaning_of_expr k front)) slash kinds.EmptyFront in
+    let b = faults_where (spells_empty (meaning_of_expr k rest)) slash kinds.EmptyRest in (
+      (full_expr k sound rest well.0 well.1 own, not_where (spells_empty (meaning_of_expr k rest)) slash kinds.EmptyRest (second_empty a b at)),
+      λ s. not_where (spells_empty (meaning_of_expr k front)) slash kinds.EmptyFront (first_empty a b at),
     )
 
 rule_sound : (ignored : Bool) (k : Context) (s : StatementTree) → AreSound k → IsWellMade s → faults_of_statement ignored k s ≡ [] →
@@ -144,11 +118,11 @@ rules_sound ignored k (s ∷ statements) sound well e =
 
 -- the leaves of a rule have sets that they may have
 pub record HasRuleSets (r : model.Rule) : Type 0 where
-  pub front : HasLeafSets r.front
-  pub rest : IfSome r.rest HasLeafSets
+  pub front : HasLawfulLeaves r.front
+  pub rest : IfSome r.rest HasLawfulLeaves
 
 rest_lawful : (files : List File) (m : Option Meaning) (t : Option spelling.Tree) → BothStand files m t →
-    IfSome m (λ x. IsFull x × (spells_empty x ≡ false)) → IfSome t HasLeafSets →
+    IfSome m (λ x. IsFull x × (spells_empty x ≡ false)) → IfSome t HasLawfulLeaves →
     IfSome t IsLawfulTree × IfSome t (λ x. ¬ Spells x []) × (IsSome t → IsSome m)
 rest_lawful files None None b f h = (tt, tt, λ s. s)
 rest_lawful files None (Some t) b f h = absurd b
@@ -174,7 +148,7 @@ each_lawful files (m ∷ ms) [] z s h = absurd z
 each_lawful files (m ∷ ms) (r ∷ rs) z s h = (rule_lawful files m r z.0 s.0 h.0, each_lawful files ms rs z.1 s.1 h.1)
 
 rest_count : (files : List File) (m : Option Meaning) (t : Option spelling.Tree) → BothStand files m t →
-    option_map_or model.leaf_count t 0 ≡ option_map_or leaf_count m 0
+    option_map_or model.leaf_count t 0 ≡ option_map_or leaves_in m 0
 rest_count files None None b = refl
 rest_count files None (Some t) b = absurd b
 rest_count files (Some m) None b = absurd b
@@ -221,11 +195,12 @@ sum_of_ones : (ms : List RuleMeaning) → sum_by one ms ≡ length ms
 sum_of_ones [] = refl
 sum_of_ones (m ∷ ms) = let e = sum_by-cons one m ms in let r = sum_of_ones ms in omega arith
 
-not_passed : (amount : RuleMeaning → ℕ) (most sum : ℕ) (ms : List RuleMeaning) → sum ≤ most → passing amount most sum ms ≡ None → sum + sum_by amount ms ≤ most
+not_passed : (amount : RuleMeaning → ℕ) (most sum : ℕ) (ms : List RuleMeaning) → sum ≤ most → limit_place amount most sum ms ≡ None →
+    sum + sum_by amount ms ≤ most
 not_passed amount most sum [] low e = omega arith
 not_passed amount most sum (m ∷ ms) low e =
     elim (nat_lt most (sum + amount m)) as (λ b. nat_lt most (sum + amount m) ≡ b →
-    (if b then Some m.place else passing amount most (sum + amount m) ms) ≡ None → sum + sum_by amount (m ∷ ms) ≤ most) [
+    (if b then Some m.place else limit_place amount most (sum + amount m) ms) ≡ None → sum + sum_by amount (m ∷ ms) ≤ most) [
       | true ↦ λ t f. absurd cc
       | false ↦ λ t f.
           let low' : sum + amount m ≤ most = grind (arith, nat_tests) in
@@ -234,40 +209,32 @@ not_passed amount most sum (m ∷ ms) low e =
           omega arith
     ] refl e
 
-or_none : (a b : Option Fault) → option_or a b ≡ None → (a ≡ None) × (b ≡ None)
-or_none None b e = (refl, e)
-or_none (Some f) b e = absurd cc
-
-no_place : (number : ℕ) (p : Option ℕ) → fault_at number p ≡ None → p ≡ None
-no_place number None e = refl
-no_place number (Some p) e = absurd cc
+none_at : (kind : FaultKind) (p : Option ℕ) (other : Option Fault) → option_or (placed_fault kind p) other ≡ None → (p ≡ None) × (other ≡ None)
+none_at kind None other e = (refl, e)
+none_at kind (Some p) other e = absurd cc
 
 -- nothing is counted: there are rules, and not too many of anything
 pub record IsWithin (end : ℕ) (ms : List RuleMeaning) : Type 0 where
   pub some : no_rules_at end ms ≡ None
-  pub rules : passing one 4096 0 ms ≡ None
-  pub leaves : passing counts.leaves_meant 8192 0 ms ≡ None
-  pub slashes : passing slash_of 32 0 ms ≡ None
+  pub rules : limit_place one 4096 0 ms ≡ None
+  pub leaves : limit_place counts.leaves_meant 8192 0 ms ≡ None
+  pub slashes : limit_place slash_of 32 0 ms ≡ None
 
-pub within : (end : ℕ) (ms : List RuleMeaning) → counted end ms ≡ None → IsWithin end ms
+pub within : (end : ℕ) (ms : List RuleMeaning) → size_fault end ms ≡ None → IsWithin end ms
 within end ms e =
-    let f17 = fault_at 17 (too_tall_at ms) in
-    let f16 = fault_at 16 (too_many_slashes_at ms) in
-    let f15 = fault_at 15 (too_many_leaves_at 0 ms) in
-    let f14 = fault_at 14 (too_many_rules_at ms) in
-    let a = or_none (fault_at 13 (no_rules_at end ms)) (option_or f14 (option_or f15 (option_or f16 f17))) e in
-    let b = or_none f14 (option_or f15 (option_or f16 f17)) a.1 in
-    let c = or_none f15 (option_or f16 f17) b.1 in
-    let d = or_none f16 f17 c.1 in
+    let none = none_at kinds.NoRules (no_rules_at end ms) _ e in
+    let many = none_at kinds.TooManyRules (too_many_rules_at ms) _ none.1 in
+    let leaves = none_at kinds.TooManyLeaves (too_many_leaves_at 0 ms) _ many.1 in
+    let slashes = none_at kinds.TooManySlashes (too_many_slashes_at ms) _ leaves.1 in
     record {
-      some = no_place 13 (no_rules_at end ms) a.0;
-      rules = passing_one 4096 0 4096 ms refl ∙ no_place 14 (too_many_rules_at ms) b.0;
-      leaves = passing_leaves 0 ms ∙ no_place 15 (too_many_leaves_at 0 ms) c.0;
-      slashes = passing_slashes 32 ms 0 32 refl ∙ no_place 16 (too_many_slashes_at ms) d.0;
+      some = none.0;
+      rules = limit_place_one 4096 0 4096 ms refl ∙ many.0;
+      leaves = limit_place_leaves 0 ms ∙ leaves.0;
+      slashes = limit_place_slashes 32 ms 0 32 refl ∙ slashes.0;
     }
 
 -- nothing is counted, wherever the end is
-pub within_anywhere : (end other : ℕ) (ms : List RuleMeaning) → counted end ms ≡ None → counted other ms ≡ None
+pub within_anywhere : (end other : ℕ) (ms : List RuleMeaning) → size_fault end ms ≡ None → size_fault other ms ≡ None
 within_anywhere end other [] e = absurd cc
 within_anywhere end other (m ∷ ms) e = e
 
@@ -294,6 +261,7 @@ lawful_rules files ignored statements rs well means has =
       few = omega arith;
       few_look_aheads = omega arith;
       few_leaves = omega arith;
-      each = each_lawful files ms rs means.rules_in_order (rules_sound ignored (start files) statements (record { each = λ name. tt }) well means.faultless)
+      each = each_lawful files ms rs means.rules_in_order (rules_sound ignored (initial_context files) statements
+          (record { each = λ name. tt }) well means.faultless)
           has;
     }

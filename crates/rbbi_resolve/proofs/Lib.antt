@@ -16,6 +16,7 @@ pub mod Collecting
 pub mod ItemTrees
 pub mod OneMeaning
 pub mod Earliest
+pub mod EmptyWords
 pub mod Counted
 pub mod Lone
 pub mod Steps
@@ -29,7 +30,6 @@ pub mod Building
 pub mod Meant
 pub mod Lawful
 pub mod RulesBuilt
-pub mod FaultKinds
 pub mod Ending
 pub mod Good
 pub mod Existence

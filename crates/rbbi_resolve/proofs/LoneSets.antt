@@ -11,7 +11,7 @@ use Rattle.rbbi_resolve.specs.declared.variables.Kind.TheVariants as kinds
 use Rattle.rbbi_resolve.specs.Contexts.{Context, value_of_name, value_of_variable}
 use Rattle.rbbi_resolve.specs.inner.Covered.{Respects}
 use Rattle.rbbi_resolve.specs.Expressions.{variable_for}
-use Rattle.rbbi_resolve.specs.inner.Scopes.{IsKindOf}
+use Rattle.rbbi_resolve.specs.inner.Contexts.{IsKindOf}
 use Rattle.rbbi_resolve.specs.SetValues.{value_of_set, value_of_property}
 use Rattle.rbbi_resolve.specs.inner.ClassValues.{IsClassValue}
 use Rattle.rbbi_resolve.specs.Parts.{parts_of_expr, parts_of_seq, parts_of_item}

@@ -11,16 +11,16 @@ use Rattle.rbbi_tree.specs.Trees.{ExprTree, SeqTree, ItemTree, AtomTree, no_alte
 use Rattle.rbbi_tree.specs.Trees.{property, set, group, expr_of, seq_of}
 use Rattle.rbbi_tree.specs.Values.{statement_trees}
 use Rattle.rbbi_tree.specs.declared.syntax.Quant.TheVariants as quant
-use Rattle.rbbi_resolve.specs.declared.scope.Scope.{Scope}
+use Rattle.rbbi_resolve.specs.declared.context.Context.{Context}
 use Rattle.rbbi_resolve.specs.declared.variables.Variable.{Variable}
 use Rattle.rbbi_resolve.specs.Meanings as Meanings
 use Rattle.rbbi_resolve.specs.Meanings.{Meaning, Leaf, Never}
 use Rattle.rbbi_resolve.specs.Contexts as contexts
-use Rattle.rbbi_resolve.specs.Contexts.{Set, Expression, Context, assigned_to, variable_of}
+use Rattle.rbbi_resolve.specs.Contexts.{Set, Expression, assigned_to, variable_of}
 use Rattle.rbbi_resolve.specs.Expressions.{leaf_of, word_of, meaning_of_variable, meaning_of_expr, meaning_of_seq, meaning_of_item, meaning_of_atom}
 use Rattle.rbbi_resolve.specs.Expressions.{height_of_expr, set_of_variable, set_of_atom, set_of_item, set_of_expr, variable_with, variable_for}
 use Rattle.rbbi_resolve.specs.inner.Files.{context_at}
-use Rattle.rbbi_resolve.specs.inner.Scopes.{visible, Matches, IsKindOf, IsUnassigned, IsDefinedBy, context_of, bounds_of}
+use Rattle.rbbi_resolve.specs.inner.Contexts.{visible, Matches, IsKindOf, IsUnassigned, IsDefinedBy, context_of, bounds_of}
 use Rattle.rbbi_resolve.specs.inner.OwnLeaves.{set_or_nothing}
 use Rattle.rbbi_resolve.specs.inner.Builders.{IsAssigned, IsReady}
 use Rattle.rbbi_resolve.proofs.Building.{sequence_meaning, choice_meaning}
@@ -36,7 +36,7 @@ abbrev meaning_of_set : Option (Option model.SetTree) → Meaning
 meaning_of_set None = Never
 meaning_of_set (Some value) = leaf_of value
 
-atom_is_leaf : (k : Context) (x : AtomTree) (value : Option model.SetTree) → set_of_atom k x ≡ Some value → meaning_of_atom k x ≡ leaf_of value
+atom_is_leaf : (k : contexts.Context) (x : AtomTree) (value : Option model.SetTree) → set_of_atom k x ≡ Some value → meaning_of_atom k x ≡ leaf_of value
 atom_is_leaf k (character c bare) value e = absurd cc
 atom_is_leaf k (quoted word) value e = absurd cc
 atom_is_leaf k any value e = absurd cc
@@ -45,20 +45,20 @@ atom_is_leaf k (property negated word own) value e = ap meaning_of_set e
 atom_is_leaf k (set s) value e = ap meaning_of_set e
 atom_is_leaf k (group inner) value e = absurd cc
 
-item_is_leaf : (k : Context) (x : ItemTree) (value : Option model.SetTree) → set_of_item k x ≡ Some value → meaning_of_item k x ≡ leaf_of value
+item_is_leaf : (k : contexts.Context) (x : ItemTree) (value : Option model.SetTree) → set_of_item k x ≡ Some value → meaning_of_item k x ≡ leaf_of value
 item_is_leaf k (placed place atom quant.Once) value e = atom_is_leaf k atom value e
 item_is_leaf k (placed place atom quant.Star) value e = absurd cc
 item_is_leaf k (placed place atom quant.Plus) value e = absurd cc
 item_is_leaf k (placed place atom quant.Quest) value e = absurd cc
 
-expr_is_leaf : (k : Context) (x : ExprTree) (value : Option model.SetTree) → set_of_expr k x ≡ Some value → meaning_of_expr k x ≡ leaf_of value
+expr_is_leaf : (k : contexts.Context) (x : ExprTree) (value : Option model.SetTree) → set_of_expr k x ≡ Some value → meaning_of_expr k x ≡ leaf_of value
 expr_is_leaf k no_alternatives value e = absurd cc
 expr_is_leaf k (alternative no_items more) value e = absurd cc
 expr_is_leaf k (alternative (item first (item second rest)) more) value e = absurd cc
 expr_is_leaf k (alternative (item first no_items) (alternative second more)) value e = absurd cc
 expr_is_leaf k (alternative (item first no_items) no_alternatives) value e = item_is_leaf k first value e
 
-variable_means : (k : Context) (x : ExprTree) (o : Option (Option model.SetTree)) → set_of_expr k x ≡ o →
+variable_means : (k : contexts.Context) (x : ExprTree) (o : Option (Option model.SetTree)) → set_of_expr k x ≡ o →
     meaning_of_variable (Some (variable_with o (meaning_of_expr k x) (height_of_expr k x))) ≡ meaning_of_expr k x
 variable_means k x None e = refl
 variable_means k x (Some value) e = sym (expr_is_leaf k x value e)
@@ -74,29 +74,30 @@ seen_is limit (Some w) v e =
       | false ↦ λ t f. absurd cc
     ] refl e
 
--- what a name stands for in a scope
-pub record IsNamed (files : List File) (scope : Scope) (word : List ℕ) (v : Variable) : Type 0 where
+-- what a name stands for in a context
+pub record IsNamed (files : List File) (context : Context) (word : List ℕ) (v : Variable) : Type 0 where
   pub expr : ExprTree
-  pub assigned : IsAssigned (statement_trees scope.statements.now) v.statement expr
-  pub means : meaning_of_atom (context_of files scope) (name word) ≡ meaning_of_expr (context_at files (statement_trees scope.statements.now) v.statement) expr
-  pub kept : (e : ExprTree) → IsAssigned (statement_trees scope.statements.now) v.statement e →
-      IsKindOf files (bounds_of scope) v.kind (variable_for (context_at files (statement_trees scope.statements.now) v.statement) e)
-  pub low : v.statement < scope.limit
-  pub inside : v.statement < length scope.statements.now
+  pub assigned : IsAssigned (statement_trees context.statements.now) v.statement expr
+  pub means : meaning_of_atom (context_of files context) (name word) ≡ meaning_of_expr (context_at files
+      (statement_trees context.statements.now) v.statement) expr
+  pub kept : (e : ExprTree) → IsAssigned (statement_trees context.statements.now) v.statement e →
+      IsKindOf files (bounds_of context) v.kind (variable_for (context_at files (statement_trees context.statements.now) v.statement) e)
+  pub low : v.statement < context.limit
+  pub inside : v.statement < length context.statements.now
 
-pub named : (files : List File) (scope : Scope) (word : List ℕ) (v : Variable) → IsReady files scope →
-    Some v ≡ visible scope.limit (get_by_text scope.variables.now (encode_utf8_all word)) → IsNamed files scope word v
-named files scope word v ready e =
-    let trees = statement_trees scope.statements.now in
+pub named : (files : List File) (context : Context) (word : List ℕ) (v : Variable) → IsReady files context →
+    Some v ≡ visible context.limit (get_by_text context.variables.now (encode_utf8_all word)) → IsNamed files context word v
+named files context word v ready e =
+    let trees = statement_trees context.statements.now in
     let text = encode_utf8_all word in
-    let s = seen_is scope.limit (get_by_text scope.variables.now text) v e in
-    let d : IsDefinedBy files (bounds_of scope) trees ready.end text v =
-    subst (λ o. MatchOption o (IsUnassigned files trees ready.end text) (IsDefinedBy files (bounds_of scope) trees ready.end text)) s.0
+    let s = seen_is context.limit (get_by_text context.variables.now text) v e in
+    let d : IsDefinedBy files (bounds_of context) trees ready.end text v =
+    subst (λ o. MatchOption o (IsUnassigned files trees ready.end text) (IsDefinedBy files (bounds_of context) trees ready.end text)) s.0
     (ready.variables.each text) in
     let k = context_at files trees v.statement in
-    let found : variable_of (context_of files scope) word ≡ Some (variable_for k d.expr) = d.behind scope.limit s.1 ready.low in
+    let found : variable_of (context_of files context) word ≡ Some (variable_for k d.expr) = d.behind context.limit s.1 ready.low in
     let within = slice_get_within trees v.statement _ d.assigns in
-    let long : length trees ≡ length scope.statements.now = simp length-map in
+    let long : length trees ≡ length context.statements.now = simp length-map in
     record {
       expr = d.expr;
       assigned = record { word = d.word; place = d.place; at = d.assigns };
@@ -105,7 +106,7 @@ named files scope word v ready e =
           let at = d.assigns in
           let other = is.at in
           let same : d.expr ≡ e = cc in
-          subst (λ x. IsKindOf files (bounds_of scope) v.kind (variable_for k x)) same d.kind;
+          subst (λ x. IsKindOf files (bounds_of context) v.kind (variable_for k x)) same d.kind;
       low = s.1;
       inside = omega arith;
     }
@@ -115,22 +116,23 @@ unmatched files bounds None m = refl
 unmatched files bounds (Some v) m = absurd m
 
 -- what a name means that stands for nothing
-pub unnamed : (files : List File) (scope : Scope) (word : List ℕ) → IsReady files scope →
-    None ≡ visible scope.limit (get_by_text scope.variables.now (encode_utf8_all word)) →
-    meaning_of_atom (context_of files scope) (name word) ≡ Never
-unnamed files scope word ready e =
-    let d = describes files (bounds_of scope) (statement_trees scope.statements.now) scope.variables.now ready.end scope.limit ready.low ready.variables in
-    unmatched files (bounds_of scope) (variable_of (context_of files scope) word) (subst (λ o. Matches files (bounds_of scope) o (variable_of
-    (context_of files scope) word)) (sym e)
+pub unnamed : (files : List File) (context : Context) (word : List ℕ) → IsReady files context →
+    None ≡ visible context.limit (get_by_text context.variables.now (encode_utf8_all word)) →
+    meaning_of_atom (context_of files context) (name word) ≡ Never
+unnamed files context word ready e =
+    let d = describes files (bounds_of context) (statement_trees context.statements.now) context.variables.now ready.end
+    context.limit ready.low ready.variables in
+    unmatched files (bounds_of context) (variable_of (context_of files context) word) (subst (λ o. Matches files (bounds_of context) o (variable_of
+    (context_of files context) word)) (sym e)
     (d.same (encode_utf8_all word)))
 
 -- an expression is a choice of its sequences, and a sequence its items
-pub expr_means : (k : Context) (ss : List SeqTree) → meaning_of_expr k (expr_of ss) ≡ choice_meaning (map (meaning_of_seq k) ss)
+pub expr_means : (k : contexts.Context) (ss : List SeqTree) → meaning_of_expr k (expr_of ss) ≡ choice_meaning (map (meaning_of_seq k) ss)
 expr_means k [] = refl
 expr_means k (s ∷ []) = refl
 expr_means k (s ∷ t ∷ ss) = ap (Meanings.Either (meaning_of_seq k s)) (expr_means k (t ∷ ss))
 
-pub seq_means : (k : Context) (is : List ItemTree) → meaning_of_seq k (seq_of is) ≡ sequence_meaning (map (meaning_of_item k) is)
+pub seq_means : (k : contexts.Context) (is : List ItemTree) → meaning_of_seq k (seq_of is) ≡ sequence_meaning (map (meaning_of_item k) is)
 seq_means k [] = refl
 seq_means k (i ∷ []) = refl
 seq_means k (i ∷ j ∷ is) = ap (Meanings.Then (meaning_of_item k i)) (seq_means k (j ∷ is))

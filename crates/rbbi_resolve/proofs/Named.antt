@@ -8,14 +8,16 @@ use Rattle.rbbi_tree.specs.Trees as trees
 use Rattle.rbbi_tree.specs.Trees.{SetSyntax, joined, set_property, set_within}
 use Rattle.rbbi_tree.specs.declared.syntax.Join.{Join}
 use Rattle.rbbi_resolve.specs.declared.fault.Fault.{Fault}
+use Rattle.rbbi_resolve.specs.declared.fault.FaultKind.{FaultKind}
+use Rattle.rbbi_resolve.specs.declared.fault.FaultKind.TheVariants as kinds
 use Rattle.rbbi_resolve.specs.declared.variables.Summary.{Summary}
 use Rattle.rbbi_resolve.specs.declared.variables.Kind.{Kind}
 use Rattle.rbbi_resolve.specs.declared.variables.Kind.TheVariants as kind
 use Rattle.rbbi_resolve.specs.Contexts as contexts
 use Rattle.rbbi_resolve.specs.Contexts.{value_of_variable, value_of_name}
 use Rattle.rbbi_resolve.specs.Expressions.{meaning_of_variable, height_of_variable}
-use Rattle.rbbi_resolve.specs.inner.Scopes.{IsKindOf}
-use Rattle.rbbi_resolve.specs.SetValues.{found, value_of_set, value_of_property}
+use Rattle.rbbi_resolve.specs.inner.Contexts.{IsKindOf}
+use Rattle.rbbi_resolve.specs.SetValues.{property_test, value_of_set, value_of_property}
 use Rattle.rbbi_resolve.specs.inner.ClassValues.{IsClassValue}
 use Rattle.rbbi_resolve.specs.Parts.{Outside, Within, parts_of_part, parts_of_set}
 use Rattle.rbbi_resolve.specs.Faults.{is_empty_value, noted, faults_where}
@@ -43,22 +45,23 @@ known_where files bounds (Some test) tree None is = absurd is
 known_where files bounds (Some test) tree (Some set) is = refl
 
 pub known_classes : (files : List File) (bounds : List ℕ) (negated : Bool) (word : List ℕ) (value : Option (List ℕ)) (set : Option ClassBits) →
-    IsClassValue files bounds (value_of_property files negated word value) set → is_none set ≡ is_none (found files word value)
+    IsClassValue files bounds (value_of_property files negated word value) set → is_none set ≡ is_none (property_test files word value)
 known_classes files bounds negated word value set is =
-    known_where files bounds (found files word value) (model.Property negated word value) set is
+    known_where files bounds (property_test files word value) (model.Property negated word value) set is
 
-one_fault : (least : Option Fault) (b : Bool) (place number : ℕ) → noted least (faults_where b place number) ≡ noted least
-    ((faults_where b place number ++ []) ++ [])
-one_fault least true place number = refl
-one_fault least false place number = refl
+one_fault : (least : Option Fault) (b : Bool) (place : ℕ) (kind : FaultKind) → noted least (faults_where b place kind) ≡ noted least
+    ((faults_where b place kind ++ []) ++ [])
+one_fault least true place kind = refl
+one_fault least false place kind = refl
 
 -- what is noted of a property in a set
 pub property_noted : (context : contexts.Context) (files : List File) (least : Option Fault) (place : ℕ) (join : Join) (negated : Bool) (word : List ℕ)
-    (value : Option (List ℕ)) (unknown : Bool) → context.files ≡ files → unknown ≡ is_none (found files word value) →
-    noted least (faults_where unknown place 7) ≡ noted_parts context least (parts_of_part (joined place join (set_property negated word value)))
+    (value : Option (List ℕ)) (unknown : Bool) → context.files ≡ files → unknown ≡ is_none (property_test files word value) →
+    noted least (faults_where unknown place kinds.UnknownProperty) ≡ noted_parts context least (parts_of_part (joined place join
+    (set_property negated word value)))
 property_noted context files least place join negated word value unknown same is =
-    ap (λ b. noted least (faults_where b place 7)) (is ∙ ap (λ f. is_none (found f word value)) (sym same))
-    ∙ one_fault least (is_none (found context.files word value)) place 7
+    ap (λ b. noted least (faults_where b place kinds.UnknownProperty)) (is ∙ ap (λ f. is_none (property_test f word value)) (sym same))
+    ∙ one_fault least (is_none (property_test context.files word value)) place kinds.UnknownProperty
 
 -- what is noted of a set in a set
 pub within_noted : (context : contexts.Context) (least : Option Fault) (place : ℕ) (join : Join) (inner : SetSyntax) →
@@ -68,12 +71,12 @@ within_noted context least place join inner = sym (noted_parts_of_append context
 -- what is noted of a set outside of sets
 pub set_noted : (context : contexts.Context) (files : List File) (least : Option Fault) (place : ℕ) (s : SetSyntax) (empty : Bool) →
     context.files ≡ files → empty ≡ is_empty_value files (value_of_set files (value_of_name context) s) →
-    noted (noted_parts context least (parts_of_set s)) (faults_where empty place 9) ≡ noted_parts context least
+    noted (noted_parts context least (parts_of_set s)) (faults_where empty place kinds.EmptySet) ≡ noted_parts context least
     (parts_of_set s ++ Outside place (trees.set s) ∷ [])
 set_noted context files least place s empty same is =
     let e : empty ≡ is_empty_value context.files (value_of_set context.files (value_of_name context) s) =
     subst (λ f. empty ≡ is_empty_value f (value_of_set f (value_of_name context) s)) (sym same) is in
     let m = noted_parts context least (parts_of_set s) in
-    ap (λ b. noted m (faults_where b place 9)) e
-    ∙ one_fault m (is_empty_value context.files (value_of_set context.files (value_of_name context) s)) place 9
+    ap (λ b. noted m (faults_where b place kinds.EmptySet)) e
+    ∙ one_fault m (is_empty_value context.files (value_of_set context.files (value_of_name context) s)) place kinds.EmptySet
     ∙ sym (noted_parts_of_append context least (parts_of_set s) (Outside place (trees.set s) ∷ []))

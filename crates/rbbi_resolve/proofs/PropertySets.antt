@@ -4,7 +4,7 @@ use Rattle.rbbi_model.specs.Ranges.{Range, Has}
 use Rattle.rbbi_sets.specs.Rising.{AreRisingFrom}
 use Rattle.rbbi_props.specs.Rows.{File}
 use Rattle.rbbi_props.specs.inner.Lookups.{IsSetOf}
-use Rattle.rbbi_resolve.specs.SetValues.{found, value_of_property}
+use Rattle.rbbi_resolve.specs.SetValues.{property_test, value_of_property}
 use Rattle.rbbi_resolve.specs.inner.SetValues.{IsValue}
 
 -- what rising ranges hold is a code point
@@ -15,7 +15,7 @@ members_are_code_points bound (range ∷ ranges) rising c has =
 
 -- what was found is the value of the property
 pub value_of_found : (files : List File) (name : List ℕ) (value : Option (List ℕ)) (t : Option (ℕ → Bool)) (set : Option (List Range)) →
-    found files name value ≡ t → IsSetOf set t → IsValue files (value_of_property files false name value) set
+    property_test files name value ≡ t → IsSetOf set t → IsValue files (value_of_property files false name value) set
 value_of_found files name value None None e h = rw e tt
 value_of_found files name value None (Some set) e h = absurd h
 value_of_found files name value (Some test) None e h = absurd h

@@ -11,7 +11,7 @@ use Rattle.rbbi_resolve.specs.Contexts as contexts
 use Rattle.rbbi_resolve.specs.Contexts.{Context, assigned_to, variable_of, value_of_variable, value_of_name}
 use Rattle.rbbi_resolve.specs.Expressions.{set_of_variable, set_of_atom, set_of_item, set_of_expr, variable_with, variable_for, meaning_of_expr, height_of_expr}
 use Rattle.rbbi_resolve.specs.Parts.{parts_of_expr, parts_of_seq, parts_of_item}
-use Rattle.rbbi_resolve.specs.Files.{context_after, start}
+use Rattle.rbbi_resolve.specs.Files.{context_after, initial_context}
 use Rattle.rbbi_resolve.specs.inner.Files.{context_at}
 use Rattle.rbbi_resolve.specs.inner.Covered.{Respects, NamesRespect, AreCovered, CoversAll, parts_of_statement}
 use Rattle.rbbi_resolve.proofs.Covering.{covered_left, covered_alone}
@@ -109,4 +109,4 @@ pub context_respects : (files : List File) (stand : ℕ → ℕ) (statements : L
     NamesRespect files stand (value_of_name (context_at files statements n))
 unfolding context_at
 context_respects files stand statements n covers =
-    folded_respects files stand statements n (start files) refl (record { each = λ word. tt }) covers.each
+    folded_respects files stand statements n (initial_context files) refl (record { each = λ word. tt }) covers.each

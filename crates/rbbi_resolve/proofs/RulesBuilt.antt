@@ -19,7 +19,7 @@ use Rattle.rbbi_resolve.specs.inner.Files.{context_at}
 use Rattle.rbbi_resolve.specs.inner.Switchings.{AreSwitches}
 use Rattle.rbbi_resolve.specs.RuleTrees.{tree_of, numbers_of}
 use Rattle.rbbi_resolve.specs.RuleLists.{rule_of, numbers_of_rule, AreWellFormed}
-use Rattle.rbbi_resolve.specs.inner.Builders.{HasLeafSets, IsBuilt, GoesOn}
+use Rattle.rbbi_resolve.specs.inner.Builders.{HasLawfulLeaves, IsBuilt, Extends}
 use Rattle.rbbi_resolve.specs.Outcomes.{BothStand, IsRuleOf}
 use Rattle.rbbi_resolve.specs.inner.RulesSoFar.{IsRest, IsRestBuilt, IsRuleBuilt, AreRulesTo, AreAllRules}
 use Rattle.rbbi_resolve.proofs.Steps.{left_here, context_next, rules_next}
@@ -66,7 +66,7 @@ module _ (files : List File) where
   -- one statement further
   pub statement_built : (statements : List StatementTree) (sets sets' : List (List Range)) (bases bases' : List (Option ℕ)) (switches switches' : Switches)
       (rules rules' new : List Rule) (n : ℕ) (s : StatementTree) →
-      AreRulesTo files statements sets bases switches rules n → slice_get statements n ≡ Some s → GoesOn files statements sets sets' bases' →
+      AreRulesTo files statements sets bases switches rules n → slice_get statements n ≡ Some s → Extends files statements sets sets' bases' →
       AreSwitches switches' (context_after (context_at files statements n) s) → AllZip (IsRuleBuilt files sets') (rule_in (context_at files statements n) s)
       new → rules' ≡ rules ++ new →
       ((k : ℕ) → length sets ≤ k → k < length sets' → Contains (flat_map numbers_of_rule new) k) →
@@ -149,11 +149,11 @@ module _ (files : List File) where
   rules_stand sets (m ∷ ms) [] z = absurd z
   rules_stand sets (m ∷ ms) (r ∷ rs) z = (rule_stands sets m r z.0, rules_stand sets ms rs z.1)
 
-  rest_filled : (sets : List (List Range)) (m : Option Meaning) (t : Option Tree) → IsRest files sets m t → IfSome (option_map (tree_of sets) t) HasLeafSets
+  rest_filled : (sets : List (List Range)) (m : Option Meaning) (t : Option Tree) → IsRest files sets m t → IfSome (option_map (tree_of sets) t) HasLawfulLeaves
   rest_filled sets None None r = tt
   rest_filled sets None (Some t) r = absurd r
   rest_filled sets (Some m) None r = absurd r
-  rest_filled sets (Some m) (Some t) r = subst (λ ss. HasLeafSets (tree_of ss t)) (append-nil sets) (r.filled [])
+  rest_filled sets (Some m) (Some t) r = subst (λ ss. HasLawfulLeaves (tree_of ss t)) (append-nil sets) (r.filled [])
 
   pub rules_filled : (sets : List (List Range)) (ms : List RuleMeaning) (rs : List Rule) → AllZip (IsRuleBuilt files sets) ms rs →
       AllByRecursion HasRuleSets (map (rule_of sets) rs)
@@ -161,7 +161,11 @@ module _ (files : List File) where
   rules_filled sets [] (r ∷ rs) z = absurd z
   rules_filled sets (m ∷ ms) [] z = absurd z
   rules_filled sets (m ∷ ms) (r ∷ rs) z = (
-    record { front = subst (λ ss. HasLeafSets (tree_of ss r.front)) (append-nil sets) (z.0.front.filled []); rest = rest_filled sets m.rest r.rest z.0.rest },
+    record {
+      front = subst (λ ss. HasLawfulLeaves (tree_of ss r.front)) (append-nil sets)
+          (z.0.front.filled []);
+      rest = rest_filled sets m.rest r.rest z.0.rest;
+    },
     rules_filled sets ms rs z.1,
   )
 

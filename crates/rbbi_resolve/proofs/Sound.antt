@@ -13,7 +13,10 @@ use Rattle.rbbi_tree.specs.Trees.{property, set, group}
 use Rattle.rbbi_tree.specs.WellMade.{IsWellMadeExpr, AreWellMadeSeqs, AreWellMadeItems, IsWellMadeItem, IsWellMadeAtom, HasSeq, HasItem}
 use Rattle.rbbi_tree.specs.declared.syntax.Quant.{Quant}
 use Rattle.rbbi_tree.specs.declared.syntax.Quant.TheVariants as quant
-use Rattle.rbbi_resolve.specs.SetValues.{found, join_of, joined_to, signed, value_of_property, value_of_range, value_of_set, value_of_parts, value_of_part}
+use Rattle.rbbi_resolve.specs.declared.fault.Fault.{Fault}
+use Rattle.rbbi_resolve.specs.declared.fault.FaultKind.{FaultKind}
+use Rattle.rbbi_resolve.specs.declared.fault.FaultKind.TheVariants as kinds
+use Rattle.rbbi_resolve.specs.SetValues.{property_test, join_of, joined_to, signed, value_of_property, value_of_range, value_of_set, value_of_parts, value_of_part}
 use Rattle.rbbi_resolve.specs.SetValues.{value_of_item}
 use Rattle.rbbi_resolve.specs.Meanings.{Meaning}
 use Rattle.rbbi_resolve.specs.Contexts.{Variable, Set, Expression, Context, variable_of, value_of_name, value_of_variable}
@@ -22,7 +25,7 @@ use Rattle.rbbi_resolve.specs.Expressions.{height_of_expr, set_of_variable, set_
 use Rattle.rbbi_resolve.specs.Parts.{Part, Outside, Within, parts_of_set, parts_of_parts, parts_of_part, parts_in_item, parts_of_expr, parts_of_seq}
 use Rattle.rbbi_resolve.specs.Parts.{parts_of_item, parts_in_atom}
 use Rattle.rbbi_resolve.specs.Faults.{faults_where, faults_of_part, faults_of_parts, is_undefined, is_expression, is_not_a_set, is_unknown_property}
-use Rattle.rbbi_resolve.specs.Faults.{is_bad_range, is_empty_set, is_bare_literal, place_of}
+use Rattle.rbbi_resolve.specs.Faults.{is_bad_range, is_empty_set, is_bare_literal, place_of_part}
 use Rattle.rbbi_resolve.specs.inner.Soundness.{IsFull, IsSound, AreSound}
 use Rattle.rbbi_resolve.proofs.Noting.{faults_of_append}
 
@@ -35,9 +38,13 @@ pub second_empty : {A : Type 0} (a b : List A) → a ++ b ≡ [] → b ≡ []
 second_empty [] b e = e
 second_empty (x ∷ a) b e = absurd cc
 
-pub not_where : (b : Bool) (place number : ℕ) → faults_where b place number ≡ [] → b ≡ false
-not_where false place number e = refl
-not_where true place number e = absurd cc
+pub not_where : (b : Bool) (place : ℕ) (kind : FaultKind) → faults_where b place kind ≡ [] → b ≡ false
+not_where false place kind e = refl
+not_where true place kind e = absurd cc
+
+none_where : (b : Bool) (place : ℕ) (kind : FaultKind) (more : List Fault) → faults_where b place kind ++ more ≡ [] → (b ≡ false) × (more ≡ [])
+none_where false place kind more e = (refl, e)
+none_where true place kind more e = absurd cc
 
 -- no fault of a part
 pub record IsFaultless (k : Context) (p : Part) : Type 0 where
@@ -49,24 +56,12 @@ pub record IsFaultless (k : Context) (p : Part) : Type 0 where
 
 pub faultless_part : (k : Context) (p : Part) → faults_of_parts k (p ∷ []) ≡ [] → IsFaultless k p
 faultless_part k p e =
-    let f5 = faults_where (is_undefined k p) (place_of p) 5 in
-    let f6 = faults_where (is_not_a_set k p) (place_of p) 6 in
-    let f7 = faults_where (is_unknown_property k p) (place_of p) 7 in
-    let f8 = faults_where (is_bad_range k p) (place_of p) 8 in
-    let f9 = faults_where (is_empty_set k p) (place_of p) 9 in
-    let f10 = faults_where (is_bare_literal k p) (place_of p) 10 in
-    let whole : f5 ++ (f6 ++ (f7 ++ (f8 ++ (f9 ++ f10)))) ≡ [] = first_empty (faults_of_part k p) [] e in
-    let e6 = second_empty f5 (f6 ++ (f7 ++ (f8 ++ (f9 ++ f10)))) whole in
-    let e7 = second_empty f6 (f7 ++ (f8 ++ (f9 ++ f10))) e6 in
-    let e8 = second_empty f7 (f8 ++ (f9 ++ f10)) e7 in
-    let e9 = second_empty f8 (f9 ++ f10) e8 in
-    record {
-      defined = not_where (is_undefined k p) (place_of p) 5 (first_empty f5 (f6 ++ (f7 ++ (f8 ++ (f9 ++ f10)))) whole);
-      sets = not_where (is_not_a_set k p) (place_of p) 6 (first_empty f6 (f7 ++ (f8 ++ (f9 ++ f10))) e6);
-      known = not_where (is_unknown_property k p) (place_of p) 7 (first_empty f7 (f8 ++ (f9 ++ f10)) e7);
-      ranges = not_where (is_bad_range k p) (place_of p) 8 (first_empty f8 (f9 ++ f10) e8);
-      filled = not_where (is_empty_set k p) (place_of p) 9 (first_empty f9 f10 e9);
-    }
+    let undefined = none_where (is_undefined k p) (place_of_part p) kinds.Undefined _ (first_empty (faults_of_part k p) [] e) in
+    let no_set = none_where (is_not_a_set k p) (place_of_part p) kinds.NotASet _ undefined.1 in
+    let unknown = none_where (is_unknown_property k p) (place_of_part p) kinds.UnknownProperty _ no_set.1 in
+    let falling = none_where (is_bad_range k p) (place_of_part p) kinds.BadRange _ unknown.1 in
+    let empty = none_where (is_empty_set k p) (place_of_part p) kinds.EmptySet _ falling.1 in
+    record { defined = undefined.0; sets = no_set.0; known = unknown.0; ranges = falling.0; filled = empty.0 }
 
 -- no fault of parts, of two lists of them
 pub faultless_first : (k : Context) (a b : List Part) → faults_of_parts k (a ++ b) ≡ [] → faults_of_parts k a ≡ []
@@ -79,12 +74,12 @@ faultless_second k a b e = second_empty (faults_of_parts k a) (faults_of_parts k
 abbrev pub IsThere : Option model.SetTree → Type 0
 IsThere value = (tree : model.SetTree) × (value ≡ Some tree)
 
-pub known_there : (files : List File) (negated : Bool) (word : List ℕ) (value : Option (List ℕ)) → is_none (found files word value) ≡ false →
+pub known_there : (files : List File) (negated : Bool) (word : List ℕ) (value : Option (List ℕ)) → is_none (property_test files word value) ≡ false →
     IsThere (value_of_property files negated word value)
 known_there files negated word value e =
     let some : (o : Option (ℕ → Bool)) → is_none o ≡ false → is_some o ≡ true =
     λ o. elim o as (λ x. is_none x ≡ false → is_some x ≡ true) [ None ↦ λ n. absurd cc | Some test ↦ λ n. refl ] in
-    (model.Property negated word value, ap (λ b. if b then Some (model.Property negated word value) else None) (some (found files word value) e))
+    (model.Property negated word value, ap (λ b. if b then Some (model.Property negated word value) else None) (some (property_test files word value) e))
 
 range_there : (first last : ℕ) → nat_lt last first ≡ false → IsThere (value_of_range first last)
 range_there first last e =

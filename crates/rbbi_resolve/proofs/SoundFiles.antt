@@ -4,11 +4,12 @@ use Rattle.std.proofs.Common.{fold, take, slice_get, bytes_eq, codes, encode_utf
 use Rattle.rbbi_props.specs.Rows.{File}
 use Rattle.rbbi_tree.specs.Trees.{ExprTree, StatementTree, nothing, control, assign, rule}
 use Rattle.rbbi_tree.specs.WellMade.{AreWellMade, IsWellMade}
+use Rattle.rbbi_resolve.specs.declared.fault.FaultKind.TheVariants as kinds
 use Rattle.rbbi_resolve.specs.Contexts.{Assigned, Context, assigned_to, variable_of}
 use Rattle.rbbi_resolve.specs.Expressions.{variable_for}
 use Rattle.rbbi_resolve.specs.Parts.{parts_of_expr}
 use Rattle.rbbi_resolve.specs.Faults.{faults_where, faults_of_parts}
-use Rattle.rbbi_resolve.specs.Files.{start, context_after, faults_of_statement, faults_from, faults_of}
+use Rattle.rbbi_resolve.specs.Files.{initial_context, context_after, faults_of_statement, faults_from, faults_of}
 use Rattle.rbbi_resolve.specs.inner.Files.{context_at}
 use Rattle.rbbi_resolve.specs.inner.Soundness.{IsSound, AreSound}
 use Rattle.rbbi_resolve.proofs.Steps.{control_variables}
@@ -18,8 +19,8 @@ use Rattle.rbbi_resolve.proofs.Sound.{first_empty, second_empty, sound_variable}
 pub assigned_faultless : (ignored : Bool) (k : Context) (word : List ℕ) (place : ℕ) (x : ExprTree) →
     faults_of_statement ignored k (assign word place x) ≡ [] → faults_of_parts k (parts_of_expr x) ≡ []
 assigned_faultless ignored k word place x e =
-    let f3 = faults_where (bytes_eq (encode_utf8_all word) (codes "dictionary") && not ignored) place 3 in
-    let f4 = faults_where (is_some (variable_of k word)) place 4 in
+    let f3 = faults_where (bytes_eq (encode_utf8_all word) (codes "dictionary") && not ignored) place kinds.Dictionary in
+    let f4 = faults_where (is_some (variable_of k word)) place kinds.Redefined in
     second_empty f4 (faults_of_parts k (parts_of_expr x)) (second_empty f3 (f4 ++ faults_of_parts k (parts_of_expr x)) e)
 
 sound_joined : (k : Context) (a : Assigned) (name : List ℕ) → AreSound k → IsSound (Some a.variable) →
@@ -57,7 +58,7 @@ sound_through ignored k (s ∷ statements) (suc n) sound well e =
 pub sound_at : (files : List File) (ignored : Bool) (statements : List StatementTree) (n : ℕ) → AreWellMade statements →
     faults_of files ignored statements ≡ [] → AreSound (context_at files statements n)
 unfolding context_at
-sound_at files ignored statements n well e = sound_through ignored (start files) statements n (record { each = λ name. tt }) well e
+sound_at files ignored statements n well e = sound_through ignored (initial_context files) statements n (record { each = λ name. tt }) well e
 
 faultless_through : (ignored : Bool) (k : Context) (statements : List StatementTree) (n : ℕ) (s : StatementTree) → slice_get statements n ≡ Some s →
     faults_from ignored k statements ≡ [] →
@@ -77,4 +78,4 @@ pub faultless_at : (files : List File) (ignored : Bool) (statements : List State
     faults_of files ignored statements ≡ [] →
     faults_of_statement ignored (context_at files statements n) s ≡ []
 unfolding context_at
-faultless_at files ignored statements n s at e = faultless_through ignored (start files) statements n s at e
+faultless_at files ignored statements n s at e = faultless_through ignored (initial_context files) statements n s at e

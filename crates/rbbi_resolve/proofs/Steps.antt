@@ -26,10 +26,10 @@ use Rattle.rbbi_resolve.specs.Contexts as contexts
 use Rattle.rbbi_resolve.specs.Contexts.{Context, assigned_to, variable_of}
 use Rattle.rbbi_resolve.specs.Expressions.{variable_for, meaning_of_expr, height_of_expr}
 use Rattle.rbbi_resolve.specs.Faults.{noted}
-use Rattle.rbbi_resolve.specs.Files.{start, ends_active, after_control, with_variable, context_after, faults_of_statement, faults_from}
+use Rattle.rbbi_resolve.specs.Files.{initial_context, ends_active, after_control, with_variable, context_after, faults_of_statement, faults_from}
 use Rattle.rbbi_resolve.specs.inner.Files.{context_at}
 use Rattle.rbbi_resolve.specs.Files.{RuleMeaning, rule_in, rules_from, active_rules}
-use Rattle.rbbi_resolve.specs.inner.Scopes.{Variables, IsKindOf, Matches, visible, Describes, IsUnassigned, IsDefinedBy, AreVariables}
+use Rattle.rbbi_resolve.specs.inner.Contexts.{Variables, IsKindOf, Matches, visible, Describes, IsUnassigned, IsDefinedBy, AreVariables}
 use Rattle.rbbi_resolve.specs.inner.Switchings.{AreSwitches}
 use Rattle.rbbi_resolve.specs.inner.Countings.{AreCounting}
 use Rattle.rbbi_resolve.specs.declared.classes.Classes.{Classes}
@@ -53,9 +53,9 @@ pub context_next : (files : List File) (statements : List StatementTree) (number
     context_at files statements (number + 1) ≡ context_after (context_at files statements number) s
 unfolding context_at
 context_next files statements number s at =
-    ap (fold context_after (start files)) (take_more statements number s (slice_get_within statements number s at)
+    ap (fold context_after (initial_context files)) (take_more statements number s (slice_get_within statements number s at)
     ∙ ap (λ x. take number statements ++ x ∷ []) (get_or_from_slice_get statements number s s at))
-    ∙ fold-append context_after (start files) (take number statements) (s ∷ [])
+    ∙ fold-append context_after (initial_context files) (take number statements) (s ∷ [])
 
 pub faults_next : (ignored : Bool) (k : Context) (s : StatementTree) (rest : List StatementTree) →
     faults_from ignored k (s ∷ rest) ≡ faults_of_statement ignored k s ++ faults_from ignored (context_after k s) rest

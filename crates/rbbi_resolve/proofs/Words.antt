@@ -1,12 +1,12 @@
 -- The counts of a quoted sequence are those of its characters.
 use Rattle.std.proofs.Common.{◌≡◌, ℕ, ◌<◌, ◌≤◌, false, eqb, List, [], ◌∷◌, length, refl, sym, arith, rules}
-use Rattle.rbbi_resolve.specs.Meanings.{leaf_count, spells_empty}
+use Rattle.rbbi_resolve.specs.Meanings.{leaves_in, spells_empty}
 use Rattle.rbbi_resolve.specs.Expressions.{word_of, height_of_word}
 
-pub leaf_count-word_of : (word : List ℕ) → leaf_count (word_of word) ≡ length word
-leaf_count-word_of [] = refl
-leaf_count-word_of (c ∷ []) = refl
-leaf_count-word_of (c ∷ d ∷ word) = let e = leaf_count-word_of (d ∷ word) in omega arith
+pub leaves_in-word_of : (word : List ℕ) → leaves_in (word_of word) ≡ length word
+leaves_in-word_of [] = refl
+leaves_in-word_of (c ∷ []) = refl
+leaves_in-word_of (c ∷ d ∷ word) = let e = leaves_in-word_of (d ∷ word) in omega arith
 
 pub height-long : (word : List ℕ) → 1 < length word → height_of_word word ≡ 1
 height-long [] long = absurd (omega arith)

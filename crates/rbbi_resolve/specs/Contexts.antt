@@ -4,7 +4,7 @@ use Rattle.rbbi_model.specs.SetTrees as model
 use Rattle.rbbi_props.specs.Rows.{File}
 use Rattle.rbbi_resolve.specs.Meanings.{Meaning}
 
--- What a name stands for: a set, which has no value where a variable or a part in it is faulty; or an expression, with
+-- What a name stands for: a set, which has no value if a variable or a part in it is faulty; or an expression, with
 -- its meaning and its height.
 pub data Variable : Type 0 where
   Set : (value : Option model.SetTree) → Variable
@@ -23,12 +23,12 @@ pub record Context : Type 0 where
   pub quoted_only : Bool
   pub active : Bool
 
--- what the list has under a name
+-- what the list has for a name
 abbrev pub assigned_to : List Assigned → List ℕ → Option Variable
 assigned_to [] word = None
 assigned_to (first ∷ more) word = if bytes_eq first.name word then Some first.variable else assigned_to more word
 
--- what a name stands for, where an earlier statement assigns it
+-- what a name stands for, if an earlier statement assigns it
 abbrev pub variable_of : Context → List ℕ → Option Variable
 variable_of context word = assigned_to context.variables (encode_utf8_all word)
 

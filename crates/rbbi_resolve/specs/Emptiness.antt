@@ -3,14 +3,14 @@ use Rattle.std.specs.Prelude.{ℕ, zero, suc, ◌==◌, Bool, true, false, not, 
 use Rattle.rbbi_model.specs.SetTrees as model
 use Rattle.rbbi_sets.specs.Covers.{is_between}
 use Rattle.rbbi_props.specs.Rows.{File}
-use Rattle.rbbi_resolve.specs.SetValues.{found}
+use Rattle.rbbi_resolve.specs.SetValues.{property_test}
 
--- whether the code point passes the test, where there is one
-abbrev pub passes : Option (ℕ → Bool) → ℕ → Bool
-passes None c = false
-passes (Some test) c = nat_le c 0x10FFFF && test c
+-- whether the code point passes the test, if there is one
+abbrev pub passes_test : Option (ℕ → Bool) → ℕ → Bool
+passes_test None c = false
+passes_test (Some test) c = nat_le c 0x10FFFF && test c
 
--- whether it has the property, or where that is negated, it is one of the others
+-- whether it is in the property, or in the complement if that is negated
 abbrev pub in_property : Bool → ℕ → Bool → Bool
 in_property false c own = own
 in_property true c own = nat_le c 0x10FFFF && not own
@@ -25,7 +25,7 @@ abbrev pub in_set : List File → model.SetTree → ℕ → Bool
 in_set files model.Nothing c = false
 in_set files (model.Character d) c = c == d
 in_set files (model.Span range) c = is_between range.low range.high c
-in_set files (model.Property negated name value) c = in_property negated c (passes (found files name value) c)
+in_set files (model.Property negated name value) c = in_property negated c (passes_test (property_test files name value) c)
 in_set files (model.Joined left join part) c = in_join join (in_set files left c) (in_set files part c)
 in_set files (model.Others set) c = nat_le c 0x10FFFF && not (in_set files set c)
 

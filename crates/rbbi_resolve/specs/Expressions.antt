@@ -1,4 +1,4 @@
--- What the expressions of a rule file mean, and how high they are, where these variables stand before them.
+-- What the expressions of a rule file mean, and how high they are, in the context before them.
 use Rattle.std.specs.Prelude.{ℕ, ◌+◌, max, Option, Some, None, List, [], ◌∷◌}
 use Rattle.rbbi_model.specs.SetTrees as model
 use Rattle.rbbi_model.specs.Spelling.{Star, Plus, Quest}
@@ -10,7 +10,7 @@ use Rattle.rbbi_resolve.specs.Meanings.{Meaning, Leaf, Empty, Never, Then, Eithe
 use Rattle.rbbi_resolve.specs.SetValues.{value_of_set, value_of_property}
 use Rattle.rbbi_resolve.specs.Contexts.{Variable, Set, Expression, Context, variable_of, value_of_name}
 
--- one leaf with the set, and nothing in it where it has no value
+-- one leaf with the set, which is empty if it has no value
 abbrev pub leaf_of : Option model.SetTree → Meaning
 leaf_of None = Leaf model.Nothing
 leaf_of (Some tree) = Leaf tree
@@ -27,7 +27,7 @@ meaning_of_variable None = Never
 meaning_of_variable (Some (Set value)) = leaf_of value
 meaning_of_variable (Some (Expression meaning height)) = meaning
 
--- as often as it stands
+-- the repetition by the quantifier
 abbrev pub repeated : Quant → Meaning → Meaning
 repeated quant.Once meaning = meaning
 repeated quant.Star meaning = Repeat Star meaning
@@ -35,21 +35,21 @@ repeated quant.Plus meaning = Repeat Plus meaning
 repeated quant.Quest meaning = Repeat Quest meaning
 
 abbrev mutual
-  -- one of the sequences
+  -- the choice of the sequences
   pub meaning_of_expr : Context → ExprTree → Meaning
   meaning_of_expr context no_alternatives = Never
   meaning_of_expr context (alternative first no_alternatives) = meaning_of_seq context first
   meaning_of_expr context (alternative first (alternative second more)) =
       Either (meaning_of_seq context first) (meaning_of_expr context (alternative second more))
 
-  -- the items, one after another
+  -- the sequence of the items
   pub meaning_of_seq : Context → SeqTree → Meaning
   meaning_of_seq context no_items = Empty
   meaning_of_seq context (item first no_items) = meaning_of_item context first
   meaning_of_seq context (item first (item second more)) =
       Then (meaning_of_item context first) (meaning_of_seq context (item second more))
 
-  -- the atom, as often as it stands
+  -- the repetition of the atom
   pub meaning_of_item : Context → ItemTree → Meaning
   meaning_of_item context (placed place atom quant) = repeated quant (meaning_of_atom context atom)
 

@@ -19,15 +19,15 @@ pub data Meaning : Type 0 where
   Repeat : (repetition : Repetition) → (part : Meaning) → Meaning
 
 -- how many leaves it has
-abbrev pub leaf_count : Meaning → ℕ
-leaf_count (Leaf set) = 1
-leaf_count Empty = 0
-leaf_count Never = 0
-leaf_count (Then first rest) = leaf_count first + leaf_count rest
-leaf_count (Either first rest) = leaf_count first + leaf_count rest
-leaf_count (Repeat repetition part) = leaf_count part
+abbrev pub leaves_in : Meaning → ℕ
+leaves_in (Leaf set) = 1
+leaves_in Empty = 0
+leaves_in Never = 0
+leaves_in (Then first rest) = leaves_in first + leaves_in rest
+leaves_in (Either first rest) = leaves_in first + leaves_in rest
+leaves_in (Repeat repetition part) = leaves_in part
 
--- whether none of a part is one of its repetitions
+-- whether a repetition allows none of its part
 abbrev pub may_be_none : Repetition → Bool
 may_be_none Star = true
 may_be_none Plus = false

@@ -7,7 +7,7 @@ use Rattle.rbbi_props.specs.Rows.{File}
 use Rattle.rbbi_tree.specs.Trees.{StatementTree}
 use Rattle.rbbi_resolve.specs.Meanings.{Meaning, Stands}
 use Rattle.rbbi_resolve.specs.Files.{RuleMeaning, faults_of, active_rules}
-use Rattle.rbbi_resolve.specs.Counts.{counted}
+use Rattle.rbbi_resolve.specs.Counts.{size_fault}
 
 -- both are absent, or the tree is that of the meaning
 abbrev pub BothStand : List File → Option Meaning → Option spelling.Tree → Type 0
@@ -28,5 +28,5 @@ pub record IsRuleOf (files : List File) (meaning : RuleMeaning) (rule : model.Ru
 -- with its set.
 pub record Means (files : List File) (ignored : Bool) (statements : List StatementTree) (rules : List model.Rule) : Type 0 where
   pub faultless : faults_of files ignored statements ≡ []
-  pub within : (end : ℕ) → counted end (active_rules files statements) ≡ None
+  pub within : (end : ℕ) → size_fault end (active_rules files statements) ≡ None
   pub rules_in_order : AllZip (IsRuleOf files) (active_rules files statements) rules

@@ -11,14 +11,14 @@ use Rattle.rbbi_resolve.specs.declared.rules.Tree.TheOpen.{Tree-F, Trees-F}
 use Rattle.rbbi_resolve.specs.declared.rules.Tree.TheViews.{out-Trees}
 use Rattle.rbbi_resolve.specs.declared.rules.Tree.TheFolds.{fold-Tree, fold-Trees, fold_out-Trees}
 
--- so often what the tree spells: once is the tree itself
+-- the repetition of a tree; once is the tree itself
 abbrev pub repeated : Quant → spelling.Tree → spelling.Tree
 repeated Once tree = tree
 repeated Star tree = spelling.Repeat spelling.Star tree
 repeated Plus tree = spelling.Repeat spelling.Plus tree
 repeated Quest tree = spelling.Repeat spelling.Quest tree
 
--- the set with a number, and the empty set where there is none
+-- the set with a number, and the empty set if there is none
 abbrev pub set_at : List (List Range) → ℕ → List Range
 set_at sets number = unwrap_or (slice_get sets number) []
 

@@ -1,4 +1,4 @@
--- What the set expressions of a rule file are worth.
+-- The values of the set expressions of a rule file.
 use Rattle.std.specs.Prelude.{ℕ, ◌↔◌, Bool, true, false, nat_le, IsTrue, Option, Some, None, option_map, is_some, List, encode_utf8_all}
 use Rattle.std.specs.Prelude.{if◌then◌else◌}
 use Rattle.rbbi_model.specs.Words.{IsCodePoint}
@@ -12,18 +12,18 @@ use Rattle.rbbi_tree.specs.Trees.{set_within}
 use Rattle.rbbi_tree.specs.declared.syntax.Join.{Join}
 use Rattle.rbbi_tree.specs.declared.syntax.Join.TheVariants.{Add, Both, Minus}
 
--- the code points of a property, of which the files, or else the database, have a test: those that pass
+-- the code points of a property: those that pass its test
 abbrev pub Passes : Option (ℕ → Bool) → ℕ → Type 0
 Passes None c = ⊥
 Passes (Some test) c = IsCodePoint c × IsTrue (test c)
 
--- what is found for the characters of a name, and of a value where there is one
-abbrev pub found : List File → List ℕ → Option (List ℕ) → Option (ℕ → Bool)
-found files name value = lookup files (encode_utf8_all name) (option_map encode_utf8_all value)
+-- the test that the files, or else the database, have for a name and a value, which are of characters
+abbrev pub property_test : List File → List ℕ → Option (List ℕ) → Option (ℕ → Bool)
+property_test files name value = lookup files (encode_utf8_all name) (option_map encode_utf8_all value)
 
 -- the code point has the property
 abbrev pub HasProperty : List File → List ℕ → Option (List ℕ) → ℕ → Type 0
-HasProperty files name value c = Passes (found files name value) c
+HasProperty files name value c = Passes (property_test files name value) c
 
 -- the sign of a join in the model of sets
 abbrev pub join_of : Join → model.Join
@@ -31,27 +31,27 @@ join_of Add = model.Add
 join_of Both = model.Both
 join_of Minus = model.Minus
 
--- a part joined to what stands to its left, which comes last here, where both have a value
+-- `left join item`, if both have a value; the left one is the last argument
 abbrev pub joined_to : Join → Option model.SetTree → Option model.SetTree → Option model.SetTree
 joined_to join None left = None
 joined_to join (Some item) None = None
 joined_to join (Some item) (Some left) = Some (model.Joined left (join_of join) item)
 
--- the set, or where it is negated, the others
+-- the set, or its complement if negated
 abbrev pub signed : Bool → model.SetTree → model.SetTree
 signed false set = set
 signed true set = model.Others set
 
--- the value of a property, where it is known
+-- the value of a property, if it is known
 abbrev pub value_of_property : List File → Bool → List ℕ → Option (List ℕ) → Option model.SetTree
 value_of_property files negated name value =
-    if is_some (found files name value) then Some (model.Property negated name value) else None
+    if is_some (property_test files name value) then Some (model.Property negated name value) else None
 
--- the value of a range, where its first character isn't greater than its last
+-- the value of a range, unless its first character is greater than its last
 abbrev pub value_of_range : ℕ → ℕ → Option model.SetTree
 value_of_range first last = if nat_le first last then Some (model.Span (record { low = first; high = last })) else None
 
--- The value of a set by what names are worth: from the left, starting empty. It has none where a part has none.
+-- The value of a set by the values of names: from the left, starting empty. It has none if a part has none.
 abbrev mutual
   pub value_of_set : List File → (List ℕ → Option model.SetTree) → SetSyntax → Option model.SetTree
   value_of_set files named (set_of place negated parts) =

@@ -60,6 +60,6 @@ IsStatementOfCharacters (control word place) = Unit {0}
 IsStatementOfCharacters (assign word place expr) = IsOfCharacters expr
 IsStatementOfCharacters (rule place no_chain_in front slash rest tag) = IsOfCharacters front × IsRestOfCharacters rest
 
--- those of each statement are
+-- the characters of each statement are characters
 abbrev pub AreOfCharacters : List StatementTree → Type 0
 AreOfCharacters statements = AllByRecursion IsStatementOfCharacters statements

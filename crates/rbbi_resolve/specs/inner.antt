@@ -1,11 +1,10 @@
--- What only this crate's own code and proofs cite. Nothing that is promised rests on it.
+-- What the code keeps and builds while it reads a rule file, and how it stands to the definitions. No public clause rests on it.
 pub mod SetValues
 pub mod Faults
 pub mod Files
 pub mod Countings
-pub mod Refusals
 pub mod Summaries
-pub mod Scopes
+pub mod Contexts
 pub mod Definitions
 pub mod LoneSets
 pub mod Switchings

@@ -6,76 +6,76 @@ ghost use Rattle.rbbi_tree.specs.Values.{statement_trees, expr_tree, rest_tree};
 ghost use Rattle.rbbi_tree.specs.WellMade.{AreWellMade};
 ghost use Rattle.rbbi_resolve.specs.Expressions.{meaning_of_expr};
 ghost use Rattle.rbbi_resolve.specs.Files.{faults_of, faults_of_rest, active_rules};
-ghost use Rattle.rbbi_resolve.specs.Counts.{counted};
-ghost use Rattle.rbbi_resolve.specs.inner.Scopes.{stand_of, context_of};
+ghost use Rattle.rbbi_resolve.specs.Counts.{size_fault};
+ghost use Rattle.rbbi_resolve.specs.inner.Contexts.{stand_of, context_of};
 ghost use Rattle.rbbi_resolve.specs.inner.Covered.{AreCovered, parts_of_rest};
-ghost use Rattle.rbbi_resolve.specs.inner.Builders.{IsBuilder, IsReady, GoesOn};
+ghost use Rattle.rbbi_resolve.specs.inner.Builders.{IsBuilder, IsReady, Extends};
 ghost use Rattle.rbbi_resolve.specs.inner.RulesSoFar.{IsRestBuilt, AreRulesTo, AreAllRules};
 ghost use Rattle.rbbi_resolve.specs.RuleLists.{rules_of};
 ghost use Rattle.rbbi_resolve.specs.inner.Readings.{IsReading};
 ghost use Rattle.rbbi_resolve.specs.Outcomes.{Means};
 
 use crate::build::Builder;
+use crate::context::Context;
 use crate::file::Reading;
 use crate::properties::Properties;
 use crate::rules::{Rule, Rules, Tree};
-use crate::scope::Scope;
 use crate::switches::Switches;
 use rbbi_tree::{Expr, Statement, Statements};
 use std::alloc::{AllocError, Global};
 
-/// The tree of a rest that may be absent.
+/// The tree of a rest, if there is one.
 fn tree_of_rest(
     alloc: Global,
-    scope: &Scope,
+    context: &Context,
     builder: &mut Builder,
     rest: &Option<Expr>,
 ) -> Result<Option<Tree>, AllocError>
-    requires ready { IsReady builder.old.properties scope.now }
-    requires builder { IsBuilder builder.old.properties (statement_trees scope.now.statements.now)
+    requires ready { IsReady builder.old.properties context.now }
+    requires builder { IsBuilder builder.old.properties (statement_trees context.now.statements.now)
         builder.old.sets.items builder.old.bases.items }
-    requires faultless { faults_of_rest (context_of builder.old.properties scope.now)
+    requires faultless { faults_of_rest (context_of builder.old.properties context.now)
         (rest_tree rest.now) ≡ [] }
-    requires covered { AreCovered builder.old.properties (stand_of scope.now)
+    requires covered { AreCovered builder.old.properties (stand_of context.now)
         (parts_of_rest (rest_tree rest.now)) }
-    ensures on { OnOk result (GoesOn builder.old.properties
-        (statement_trees scope.now.statements.now)
+    ensures on { OnOk result (Extends builder.old.properties
+        (statement_trees context.now.statements.now)
         builder.old.sets.items builder.new.sets.items builder.new.bases.items) }
     ensures built { IfOk result (IsRestBuilt builder.old.properties
         (length builder.old.sets.items) builder.new.sets.items
-        (option_map (meaning_of_expr (context_of builder.old.properties scope.now))
+        (option_map (meaning_of_expr (context_of builder.old.properties context.now))
         (rest_tree rest.now))) }
     ensures same { builder.new.properties ≡ builder.old.properties }
 {
     match rest {
         Some(rest) => {
-            let tree = builder.tree(alloc, scope, rest)?;
+            let tree = builder.tree(alloc, context, rest)?;
             Ok(Some(tree))
         }
         None => Ok(None),
     }
 }
 
-/// Adds the rule of the statement with the number `limit`, where it is an active rule.
+/// Adds the rule of the statement with the number `limit`, if it is an active rule.
 fn add_statement(
     alloc: Global,
-    scope: &Scope,
+    context: &Context,
     builder: &mut Builder,
     switches: &mut Switches,
     rules: &mut Vec<Rule>,
 ) -> Result<(), AllocError>
-    requires ready { IsReady builder.old.properties scope.now }
+    requires ready { IsReady builder.old.properties context.now }
     requires rules { AreRulesTo builder.old.properties
-        (statement_trees scope.now.statements.now) builder.old.sets.items
-        builder.old.bases.items switches.old rules.old.items scope.now.limit }
-    requires inside { scope.now.limit < length scope.now.statements.now }
+        (statement_trees context.now.statements.now) builder.old.sets.items
+        builder.old.bases.items switches.old rules.old.items context.now.limit }
+    requires inside { context.now.limit < length context.now.statements.now }
     ensures added { OnOk result (AreRulesTo builder.old.properties
-        (statement_trees scope.now.statements.now)
+        (statement_trees context.now.statements.now)
         builder.new.sets.items builder.new.bases.items switches.new rules.new.items
-        (scope.now.limit + 1)) }
+        (context.now.limit + 1)) }
     ensures same { builder.new.properties ≡ builder.old.properties }
 {
-    match scope.statements.get(scope.limit) {
+    match context.statements.get(context.limit) {
         Statement::Nothing => Ok(()),
         Statement::Assign { .. } => Ok(()),
         Statement::Control { name, .. } => {
@@ -93,8 +93,8 @@ fn add_statement(
             if !switches.active {
                 return Ok(());
             }
-            let front = builder.tree(alloc, scope, front)?;
-            let rest = tree_of_rest(alloc, scope, builder, rest)?;
+            let front = builder.tree(alloc, context, front)?;
+            let rest = tree_of_rest(alloc, context, builder, rest)?;
             let chained_into = is_chained(switches, *no_chain_in);
             rules.push(Rule {
                 front,
@@ -111,27 +111,27 @@ fn add_statement(
 /// The active rules of all statements.
 fn rules_with_trees(
     alloc: Global,
-    scope: &Scope,
+    context: &Context,
     builder: &mut Builder,
 ) -> Result<Vec<Rule>, AllocError>
-    requires ready { IsReady builder.old.properties scope.now }
-    requires builder { IsBuilder builder.old.properties (statement_trees scope.now.statements.now)
+    requires ready { IsReady builder.old.properties context.now }
+    requires builder { IsBuilder builder.old.properties (statement_trees context.now.statements.now)
         builder.old.sets.items builder.old.bases.items }
     requires empty { builder.old.sets.items ≡ [] }
-    requires all { scope.now.limit ≡ length scope.now.statements.now }
+    requires all { context.now.limit ≡ length context.now.statements.now }
     ensures built { IfOk result (λ rules. AreAllRules builder.old.properties
-        (statement_trees scope.now.statements.now)
+        (statement_trees context.now.statements.now)
         builder.new.sets.items rules.items) }
 {
     let mut switches = Switches::new();
     let mut rules = Vec::new(alloc);
-    for number in 0..scope.limit {
-        let inner = Scope {
-            statements: scope.statements,
-            variables: scope.variables,
-            classes: scope.classes,
+    for number in 0..context.limit {
+        let inner = Context {
+            statements: context.statements,
+            variables: context.variables,
+            classes: context.classes,
             limit: number,
-            quoted_only: scope.quoted_only,
+            quoted_only: context.quoted_only,
         };
         add_statement(alloc, &inner, builder, &mut switches, &mut rules)?;
     }
@@ -144,7 +144,7 @@ pub(crate) fn build_rules(alloc: Global, reading: Reading) -> Result<Rules, Allo
     requires well_made { AreWellMade (statement_trees reading.statements.now) }
     requires faultless { faults_of reading.properties reading.dictionary_ignored
         (statement_trees reading.statements.now) ≡ [] }
-    requires few { (end : ℕ) × (counted end (active_rules reading.properties
+    requires few { (end : ℕ) × (size_fault end (active_rules reading.properties
         (statement_trees reading.statements.now)) ≡ None) }
     ensures means { IfOk result (λ rules. Means reading.entry.properties
         reading.entry.dictionary_ignored
@@ -159,7 +159,7 @@ pub(crate) fn build_rules(alloc: Global, reading: Reading) -> Result<Rules, Allo
         counts,
         ..
     } = reading;
-    let scope = Scope {
+    let context = Context {
         statements,
         variables: &variables,
         classes: &classes,
@@ -167,7 +167,7 @@ pub(crate) fn build_rules(alloc: Global, reading: Reading) -> Result<Rules, Allo
         quoted_only: false,
     };
     let mut builder = new_builder(alloc, statements, properties)?;
-    let rules = rules_with_trees(alloc, &scope, &mut builder)?;
+    let rules = rules_with_trees(alloc, &context, &mut builder)?;
     let Builder { sets, .. } = builder;
     Ok(Rules::new(rules, sets, counts.leaves.sum, counts.slashes.sum))
 }

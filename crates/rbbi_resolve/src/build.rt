@@ -11,18 +11,18 @@ ghost use Rattle.rbbi_resolve.specs.Expressions.{word_of, meaning_of_expr, meani
 ghost use Rattle.rbbi_resolve.specs.Expressions.{meaning_of_item, meaning_of_atom, variable_for};
 ghost use Rattle.rbbi_resolve.specs.Parts.{parts_of_expr};
 ghost use Rattle.rbbi_resolve.specs.Faults.{faults_of_parts};
-ghost use Rattle.rbbi_resolve.specs.inner.Scopes.{IsKindOf, bounds_of, context_of, stand_of};
+ghost use Rattle.rbbi_resolve.specs.inner.Contexts.{IsKindOf, bounds_of, context_of, stand_of};
 ghost use Rattle.rbbi_resolve.specs.inner.Covered.{AreCovered};
 ghost use Rattle.rbbi_resolve.specs.inner.OwnLeaves.{leaves_of_expr, leaves_of_seq, leaves_of_item};
 ghost use Rattle.rbbi_resolve.specs.inner.OwnLeaves.{leaves_of_atom};
 ghost use Rattle.rbbi_resolve.specs.inner.Builders.{StandFrom, IsBuilt, IsBuilder, IsAssigned};
-ghost use Rattle.rbbi_resolve.specs.inner.Builders.{GoesOn};
+ghost use Rattle.rbbi_resolve.specs.inner.Builders.{Extends};
 ghost use Rattle.rbbi_resolve.specs.inner.Builders.{IsReady};
 
+use crate::context::Context;
 use crate::own_leaves::add_own_leaves;
 use crate::properties::Properties;
 use crate::rules::Tree;
-use crate::scope::Scope;
 use crate::tree::{in_choice, in_sequence, next_leaf, no_tree, repeated_tree};
 use crate::variables::Kind;
 use rbbi_classes::CharacterSet;
@@ -41,8 +41,8 @@ const MOST_SETS: usize = 4_294_967_295;
 pub(crate) struct Builder<'a> {
     pub(crate) properties: Properties<'a>,
     pub(crate) sets: Vec<CharacterSet>,
-    /// For each statement the number of the first set of its own leaves, where it assigns a
-    /// variable that was used.
+    /// For each statement the number of the first set of its own leaves, if it assigns a variable
+    /// that was used.
     pub(crate) bases: Vec<Option<usize>>,
 }
 
@@ -51,103 +51,106 @@ impl<'a> Builder<'a> {
     pub(crate) fn tree(
         &mut self,
         alloc: Global,
-        scope: &Scope,
+        context: &Context,
         expr: &Expr,
     ) -> Result<Tree, AllocError>
-        requires ready { IsReady self.old.properties scope.now }
-        requires builder { IsBuilder self.old.properties (statement_trees scope.now.statements.now)
+        requires ready { IsReady self.old.properties context.now }
+        requires builder { IsBuilder self.old.properties
+            (statement_trees context.now.statements.now)
             self.old.sets.items self.old.bases.items }
-        requires faultless { faults_of_parts (context_of self.old.properties scope.now)
+        requires faultless { faults_of_parts (context_of self.old.properties context.now)
             (parts_of_expr (expr_tree expr.now)) ≡ [] }
-        requires covered { AreCovered self.old.properties (stand_of scope.now)
+        requires covered { AreCovered self.old.properties (stand_of context.now)
             (parts_of_expr (expr_tree expr.now)) }
-        ensures on { OnOk result (GoesOn self.old.properties
-            (statement_trees scope.now.statements.now)
+        ensures on { OnOk result (Extends self.old.properties
+            (statement_trees context.now.statements.now)
             self.old.sets.items self.new.sets.items self.new.bases.items) }
         ensures built { IfOk result (IsBuilt self.old.properties
             (length self.old.sets.items) self.new.sets.items 0 0
-            (meaning_of_expr (context_of self.old.properties scope.now) (expr_tree expr.now))) }
+            (meaning_of_expr (context_of self.old.properties context.now) (expr_tree expr.now))) }
         ensures same { self.new.properties ≡ self.old.properties }
     {
-        let mut next = self.add_own(alloc, scope, None, expr)?;
-        let tree = self.tree_of_expr(alloc, scope, &mut next, expr)?;
+        let mut next = self.add_own(alloc, context, None, expr)?;
+        let tree = self.tree_of_expr(alloc, context, &mut next, expr)?;
         Ok(tree)
     }
 
-    /// Adds the sets of the own leaves of an expression, and tells the number of the first. `kept`
-    /// is what a variable keeps of it, where it is assigned to one.
+    /// Adds the sets of the own leaves of an expression and returns the number of the first.
+    /// `kept` is what a variable keeps of it, if it is assigned to one.
     fn add_own(
         &mut self,
         alloc: Global,
-        scope: &Scope,
+        context: &Context,
         kept: Option<&Kind>,
         expr: &Expr,
     ) -> Result<usize, AllocError>
-        requires ready { IsReady self.old.properties scope.now }
-        requires builder { IsBuilder self.old.properties (statement_trees scope.now.statements.now)
+        requires ready { IsReady self.old.properties context.now }
+        requires builder { IsBuilder self.old.properties
+            (statement_trees context.now.statements.now)
             self.old.sets.items self.old.bases.items }
-        requires faultless { faults_of_parts (context_of self.old.properties scope.now)
+        requires faultless { faults_of_parts (context_of self.old.properties context.now)
             (parts_of_expr (expr_tree expr.now)) ≡ [] }
-        requires covered { AreCovered self.old.properties (stand_of scope.now)
+        requires covered { AreCovered self.old.properties (stand_of context.now)
             (parts_of_expr (expr_tree expr.now)) }
         requires kept { IfSome kept (λ kind.
-            IsKindOf self.old.properties (bounds_of scope.now) kind.now
-            (variable_for (context_of self.old.properties scope.now) (expr_tree expr.now))) }
-        ensures on { OnOk result (GoesOn self.old.properties
-            (statement_trees scope.now.statements.now)
+            IsKindOf self.old.properties (bounds_of context.now) kind.now
+            (variable_for (context_of self.old.properties context.now) (expr_tree expr.now))) }
+        ensures on { OnOk result (Extends self.old.properties
+            (statement_trees context.now.statements.now)
             self.old.sets.items self.new.sets.items self.new.bases.items) }
         ensures stand { IfOk result (λ base. StandFrom self.old.properties self.new.sets.items base
-            (leaves_of_expr (context_of self.old.properties scope.now) (expr_tree expr.now))) }
+            (leaves_of_expr (context_of self.old.properties context.now) (expr_tree expr.now))) }
         ensures fresh { IfOk result (λ base. base ≡ length self.old.sets.items) }
         ensures all { IfOk result (λ base. length self.new.sets.items ≡ base
-            + length (leaves_of_expr (context_of self.old.properties scope.now)
+            + length (leaves_of_expr (context_of self.old.properties context.now)
             (expr_tree expr.now))) }
         ensures bases { self.new.bases ≡ self.old.bases }
         ensures same { self.new.properties ≡ self.old.properties }
     {
         let base = self.sets.len();
         let properties = &mut self.properties;
-        add_own_leaves(alloc, scope, properties, &mut self.sets, kept, expr)?;
+        add_own_leaves(alloc, context, properties, &mut self.sets, kept, expr)?;
         if self.sets.len() > MOST_SETS {
             return Err(AllocError);
         }
         Ok(base)
     }
 
-    /// The number of the first set of the own leaves of a statement, which are added where they
-    /// aren't there yet.
+    /// The number of the first set of the own leaves of a statement. Adds them on the first call.
     fn base(
         &mut self,
         alloc: Global,
-        scope: &Scope,
+        context: &Context,
         kept: &Kind,
         expr: &Expr,
     ) -> Result<usize, AllocError>
-        requires ready { IsReady self.old.properties scope.now }
-        requires builder { IsBuilder self.old.properties (statement_trees scope.now.statements.now)
+        requires ready { IsReady self.old.properties context.now }
+        requires builder { IsBuilder self.old.properties
+            (statement_trees context.now.statements.now)
             self.old.sets.items self.old.bases.items }
-        requires assigned { IsAssigned (statement_trees scope.now.statements.now) scope.now.limit
+        requires assigned { IsAssigned (statement_trees context.now.statements.now)
+            context.now.limit
             (expr_tree expr.now) }
-        requires kept { IsKindOf self.old.properties (bounds_of scope.now) kept.now
-            (variable_for (context_of self.old.properties scope.now) (expr_tree expr.now)) }
-        ensures on { OnOk result (GoesOn self.old.properties
-            (statement_trees scope.now.statements.now)
+        requires kept { IsKindOf self.old.properties (bounds_of context.now) kept.now
+            (variable_for (context_of self.old.properties context.now) (expr_tree expr.now)) }
+        ensures on { OnOk result (Extends self.old.properties
+            (statement_trees context.now.statements.now)
             self.old.sets.items self.new.sets.items self.new.bases.items) }
         ensures stand { IfOk result (λ base. StandFrom self.old.properties self.new.sets.items base
-            (leaves_of_expr (context_of self.old.properties scope.now) (expr_tree expr.now))) }
+            (leaves_of_expr (context_of self.old.properties context.now) (expr_tree expr.now))) }
         ensures fresh { IfOk result (λ base. (number : ℕ) → length self.old.sets.items ≤ number
             → number < length self.new.sets.items → base ≤ number) }
         ensures all { IfOk result (λ base. (number : ℕ) → length self.old.sets.items ≤ number
             → number < length self.new.sets.items → number < base
-            + length (leaves_of_expr (context_of self.old.properties scope.now)
+            + length (leaves_of_expr (context_of self.old.properties context.now)
             (expr_tree expr.now))) }
         ensures same { self.new.properties ≡ self.old.properties }
     {
-        match self.bases[scope.limit] {
+        match self.bases[context.limit] {
             Some(base) => Ok(base),
             None => {
-                let base = self.add_own(alloc, scope, Some(kept), expr)?;
-                self.bases[scope.limit] = Some(base);
+                let base = self.add_own(alloc, context, Some(kept), expr)?;
+                self.bases[context.limit] = Some(base);
                 Ok(base)
             }
         }
@@ -156,28 +159,34 @@ impl<'a> Builder<'a> {
     /// The tree of the expression that the statement with the number `limit` assigns. `kept` is
     /// what its variable keeps of it.
     #[cycle(build)]
-    fn definition(&mut self, alloc: Global, scope: &Scope, kept: &Kind) -> Result<Tree, AllocError>
-        requires ready { IsReady self.old.properties scope.now }
-        requires builder { IsBuilder self.old.properties (statement_trees scope.now.statements.now)
+    fn definition(
+        &mut self,
+        alloc: Global,
+        context: &Context,
+        kept: &Kind,
+    ) -> Result<Tree, AllocError>
+        requires ready { IsReady self.old.properties context.now }
+        requires builder { IsBuilder self.old.properties
+            (statement_trees context.now.statements.now)
             self.old.sets.items self.old.bases.items }
-        requires inside { scope.now.limit < length scope.now.statements.now }
+        requires inside { context.now.limit < length context.now.statements.now }
         requires kept { (expr : ExprTree)
-            → IsAssigned (statement_trees scope.now.statements.now) scope.now.limit expr
-            → IsKindOf self.old.properties (bounds_of scope.now) kept.now
-            (variable_for (context_of self.old.properties scope.now) expr) }
-        ensures on { OnOk result (GoesOn self.old.properties
-            (statement_trees scope.now.statements.now)
+            → IsAssigned (statement_trees context.now.statements.now) context.now.limit expr
+            → IsKindOf self.old.properties (bounds_of context.now) kept.now
+            (variable_for (context_of self.old.properties context.now) expr) }
+        ensures on { OnOk result (Extends self.old.properties
+            (statement_trees context.now.statements.now)
             self.old.sets.items self.new.sets.items self.new.bases.items) }
         ensures built { IfOk result (λ tree. (expr : ExprTree)
-            → IsAssigned (statement_trees scope.now.statements.now) scope.now.limit expr
+            → IsAssigned (statement_trees context.now.statements.now) context.now.limit expr
             → IsBuilt self.old.properties (length self.old.sets.items) self.new.sets.items 0 0
-            (meaning_of_expr (context_of self.old.properties scope.now) expr) tree) }
+            (meaning_of_expr (context_of self.old.properties context.now) expr) tree) }
         ensures same { self.new.properties ≡ self.old.properties }
     {
-        match assigned(scope.statements, scope.limit) {
+        match assigned(context.statements, context.limit) {
             Some(expr) => {
-                let mut next = self.base(alloc, scope, kept, expr)?;
-                let tree = self.tree_of_expr(alloc, scope, &mut next, expr)?;
+                let mut next = self.base(alloc, context, kept, expr)?;
+                let tree = self.tree_of_expr(alloc, context, &mut next, expr)?;
                 Ok(tree)
             }
             None => Ok(no_tree(alloc)),
@@ -189,30 +198,31 @@ impl<'a> Builder<'a> {
     fn tree_of_expr(
         &mut self,
         alloc: Global,
-        scope: &Scope,
+        context: &Context,
         next: &mut usize,
         expr: &Expr,
     ) -> Result<Tree, AllocError>
-        requires ready { IsReady self.old.properties scope.now }
-        requires builder { IsBuilder self.old.properties (statement_trees scope.now.statements.now)
+        requires ready { IsReady self.old.properties context.now }
+        requires builder { IsBuilder self.old.properties
+            (statement_trees context.now.statements.now)
             self.old.sets.items self.old.bases.items }
         requires stand { StandFrom self.old.properties self.old.sets.items next.old
-            (leaves_of_expr (context_of self.old.properties scope.now) (expr_tree expr.now)) }
-        ensures on { OnOk result (GoesOn self.old.properties
-            (statement_trees scope.now.statements.now)
+            (leaves_of_expr (context_of self.old.properties context.now) (expr_tree expr.now)) }
+        ensures on { OnOk result (Extends self.old.properties
+            (statement_trees context.now.statements.now)
             self.old.sets.items self.new.sets.items self.new.bases.items) }
         ensures moved { OnOk result (next.new ≡ next.old
-            + length (leaves_of_expr (context_of self.old.properties scope.now)
+            + length (leaves_of_expr (context_of self.old.properties context.now)
             (expr_tree expr.now))) }
         ensures built { IfOk result (IsBuilt self.old.properties
             (length self.old.sets.items) self.new.sets.items
-            next.old next.new (meaning_of_expr (context_of self.old.properties scope.now)
+            next.old next.new (meaning_of_expr (context_of self.old.properties context.now)
             (expr_tree expr.now))) }
         ensures same { self.new.properties ≡ self.old.properties }
     {
         let mut items = Vec::new(alloc);
         for seq in &expr.items {
-            let part = self.tree_of_seq(alloc, scope, next, seq)?;
+            let part = self.tree_of_seq(alloc, context, next, seq)?;
             items.push(part)?;
         }
         Ok(in_choice(items))
@@ -223,30 +233,31 @@ impl<'a> Builder<'a> {
     fn tree_of_seq(
         &mut self,
         alloc: Global,
-        scope: &Scope,
+        context: &Context,
         next: &mut usize,
         seq: &Seq,
     ) -> Result<Tree, AllocError>
-        requires ready { IsReady self.old.properties scope.now }
-        requires builder { IsBuilder self.old.properties (statement_trees scope.now.statements.now)
+        requires ready { IsReady self.old.properties context.now }
+        requires builder { IsBuilder self.old.properties
+            (statement_trees context.now.statements.now)
             self.old.sets.items self.old.bases.items }
         requires stand { StandFrom self.old.properties self.old.sets.items next.old
-            (leaves_of_seq (context_of self.old.properties scope.now) (seq_tree seq.now)) }
-        ensures on { OnOk result (GoesOn self.old.properties
-            (statement_trees scope.now.statements.now)
+            (leaves_of_seq (context_of self.old.properties context.now) (seq_tree seq.now)) }
+        ensures on { OnOk result (Extends self.old.properties
+            (statement_trees context.now.statements.now)
             self.old.sets.items self.new.sets.items self.new.bases.items) }
         ensures moved { OnOk result (next.new ≡ next.old
-            + length (leaves_of_seq (context_of self.old.properties scope.now)
+            + length (leaves_of_seq (context_of self.old.properties context.now)
             (seq_tree seq.now))) }
         ensures built { IfOk result (IsBuilt self.old.properties
             (length self.old.sets.items) self.new.sets.items
-            next.old next.new (meaning_of_seq (context_of self.old.properties scope.now)
+            next.old next.new (meaning_of_seq (context_of self.old.properties context.now)
             (seq_tree seq.now))) }
         ensures same { self.new.properties ≡ self.old.properties }
     {
         let mut items = Vec::new(alloc);
         for item in &seq.items {
-            let part = self.tree_of_item(alloc, scope, next, item)?;
+            let part = self.tree_of_item(alloc, context, next, item)?;
             items.push(part)?;
         }
         Ok(in_sequence(items))
@@ -257,28 +268,29 @@ impl<'a> Builder<'a> {
     fn tree_of_item(
         &mut self,
         alloc: Global,
-        scope: &Scope,
+        context: &Context,
         next: &mut usize,
         item: &Item,
     ) -> Result<Tree, AllocError>
-        requires ready { IsReady self.old.properties scope.now }
-        requires builder { IsBuilder self.old.properties (statement_trees scope.now.statements.now)
+        requires ready { IsReady self.old.properties context.now }
+        requires builder { IsBuilder self.old.properties
+            (statement_trees context.now.statements.now)
             self.old.sets.items self.old.bases.items }
         requires stand { StandFrom self.old.properties self.old.sets.items next.old
-            (leaves_of_item (context_of self.old.properties scope.now) (item_tree item.now)) }
-        ensures on { OnOk result (GoesOn self.old.properties
-            (statement_trees scope.now.statements.now)
+            (leaves_of_item (context_of self.old.properties context.now) (item_tree item.now)) }
+        ensures on { OnOk result (Extends self.old.properties
+            (statement_trees context.now.statements.now)
             self.old.sets.items self.new.sets.items self.new.bases.items) }
         ensures moved { OnOk result (next.new ≡ next.old
-            + length (leaves_of_item (context_of self.old.properties scope.now)
+            + length (leaves_of_item (context_of self.old.properties context.now)
             (item_tree item.now))) }
         ensures built { IfOk result (IsBuilt self.old.properties
             (length self.old.sets.items) self.new.sets.items
-            next.old next.new (meaning_of_item (context_of self.old.properties scope.now)
+            next.old next.new (meaning_of_item (context_of self.old.properties context.now)
             (item_tree item.now))) }
         ensures same { self.new.properties ≡ self.old.properties }
     {
-        let part = self.tree_of_atom(alloc, scope, next, &item.atom)?;
+        let part = self.tree_of_atom(alloc, context, next, &item.atom)?;
         let tree = repeated_tree(alloc, item.quant, part)?;
         Ok(tree)
     }
@@ -288,24 +300,25 @@ impl<'a> Builder<'a> {
     fn tree_of_atom(
         &mut self,
         alloc: Global,
-        scope: &Scope,
+        context: &Context,
         next: &mut usize,
         atom: &Atom,
     ) -> Result<Tree, AllocError>
-        requires ready { IsReady self.old.properties scope.now }
-        requires builder { IsBuilder self.old.properties (statement_trees scope.now.statements.now)
+        requires ready { IsReady self.old.properties context.now }
+        requires builder { IsBuilder self.old.properties
+            (statement_trees context.now.statements.now)
             self.old.sets.items self.old.bases.items }
         requires stand { StandFrom self.old.properties self.old.sets.items next.old
-            (leaves_of_atom (context_of self.old.properties scope.now) (atom_tree atom.now)) }
-        ensures on { OnOk result (GoesOn self.old.properties
-            (statement_trees scope.now.statements.now)
+            (leaves_of_atom (context_of self.old.properties context.now) (atom_tree atom.now)) }
+        ensures on { OnOk result (Extends self.old.properties
+            (statement_trees context.now.statements.now)
             self.old.sets.items self.new.sets.items self.new.bases.items) }
         ensures moved { OnOk result (next.new ≡ next.old
-            + length (leaves_of_atom (context_of self.old.properties scope.now)
+            + length (leaves_of_atom (context_of self.old.properties context.now)
             (atom_tree atom.now))) }
         ensures built { IfOk result (IsBuilt self.old.properties
             (length self.old.sets.items) self.new.sets.items
-            next.old next.new (meaning_of_atom (context_of self.old.properties scope.now)
+            next.old next.new (meaning_of_atom (context_of self.old.properties context.now)
             (atom_tree atom.now))) }
         ensures same { self.new.properties ≡ self.old.properties }
     {
@@ -318,14 +331,14 @@ impl<'a> Builder<'a> {
                 let tree = tree_of_word(alloc, next, word)?;
                 Ok(tree)
             }
-            Atom::Name(name) => match scope.variable(name) {
+            Atom::Name(name) => match context.variable(name) {
                 Some(variable) => {
-                    let inner = Scope {
-                        statements: scope.statements,
-                        variables: scope.variables,
-                        classes: scope.classes,
+                    let inner = Context {
+                        statements: context.statements,
+                        variables: context.variables,
+                        classes: context.classes,
                         limit: variable.statement,
-                        quoted_only: scope.quoted_only,
+                        quoted_only: context.quoted_only,
                     };
                     let tree = self.definition(alloc, &inner, &variable.kind)?;
                     Ok(tree)
@@ -333,7 +346,7 @@ impl<'a> Builder<'a> {
                 None => Ok(no_tree(alloc)),
             },
             Atom::Group(inner) => {
-                let tree = self.tree_of_expr(alloc, scope, next, inner)?;
+                let tree = self.tree_of_expr(alloc, context, next, inner)?;
                 Ok(tree)
             }
         }
@@ -355,7 +368,7 @@ fn tree_of_word(alloc: Global, next: &mut usize, word: &Word) -> Result<Tree, Al
     Ok(in_sequence(items))
 }
 
-/// The expression that a statement assigns, where it is an assignment.
+/// The expression that a statement assigns, if it is an assignment.
 fn assigned(statements: &Statements, number: usize) -> Option<&Expr>
     requires { number < length statements.now }
     ensures some { IfSome result (λ expr. IsAssigned (statement_trees statements.now) number

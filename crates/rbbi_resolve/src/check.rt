@@ -23,14 +23,14 @@ ghost use Rattle.rbbi_resolve.specs.inner.Covered.{AreCovered, Respects, SetResp
 ghost use Rattle.rbbi_classes.specs.Divisions.{stand_in};
 ghost use Rattle.rbbi_resolve.specs.inner.Faults.{noted_parts};
 ghost use Rattle.rbbi_resolve.specs.Faults.{is_empty_value};
-ghost use Rattle.rbbi_resolve.specs.inner.Scopes.{IsScope, KnowsQuotes, IsKindOf, bounds_of};
-ghost use Rattle.rbbi_resolve.specs.inner.Scopes.{context_of};
-ghost use Rattle.rbbi_resolve.specs.inner.Scopes.{stand_of};
+ghost use Rattle.rbbi_resolve.specs.inner.Contexts.{IsContext, KnowsQuotes, IsKindOf, bounds_of};
+ghost use Rattle.rbbi_resolve.specs.inner.Contexts.{context_of};
+ghost use Rattle.rbbi_resolve.specs.inner.Contexts.{stand_of};
 ghost use Rattle.rbbi_resolve.specs.inner.Summaries.{Summarizes};
 
-use crate::fault::{Fault, note, note_where};
+use crate::context::Context;
+use crate::fault::{Fault, FaultKind, note, note_where};
 use crate::properties::Properties;
-use crate::scope::Scope;
 use crate::set_value::value_of_set;
 use crate::variables::{Kind, Summary};
 use rbbi_classes::{ClassSet, Division};
@@ -43,26 +43,26 @@ use std::alloc::{AllocError, Global};
 #[cycle(check)]
 pub(crate) fn check_expr(
     alloc: Global,
-    scope: &Scope,
+    context: &Context,
     properties: &mut Properties,
     least: &mut Option<Fault>,
     expr: &Expr,
 ) -> Result<Summary, AllocError>
-    requires scope { IsScope properties.old scope.now }
-    requires quotes { KnowsQuotes properties.old scope.now }
-    requires covered { AreCovered properties.old (stand_of scope.now)
+    requires context { IsContext properties.old context.now }
+    requires quotes { KnowsQuotes properties.old context.now }
+    requires covered { AreCovered properties.old (stand_of context.now)
         (parts_of_expr (expr_tree expr.now)) }
     ensures noted { OnOk result (least.new ≡ noted_parts
-        (context_of properties.old scope.now) least.old
+        (context_of properties.old context.now) least.old
         (parts_of_expr (expr_tree expr.now))) }
     ensures counts { IfOk result (λ summary. Summarizes summary
-        (meaning_of_expr (context_of properties.old scope.now) (expr_tree expr.now))
-        (height_of_expr (context_of properties.old scope.now) (expr_tree expr.now))) }
+        (meaning_of_expr (context_of properties.old context.now) (expr_tree expr.now))
+        (height_of_expr (context_of properties.old context.now) (expr_tree expr.now))) }
     ensures same { properties.new ≡ properties.old }
 {
     let mut whole = Summary::never();
     for seq in &expr.items {
-        let part = check_seq(alloc, scope, properties, least, seq)?;
+        let part = check_seq(alloc, context, properties, least, seq)?;
         whole = whole.or(part);
     }
     Ok(whole.raised(expr.items.len() > 1))
@@ -72,26 +72,26 @@ pub(crate) fn check_expr(
 #[cycle(check)]
 fn check_seq(
     alloc: Global,
-    scope: &Scope,
+    context: &Context,
     properties: &mut Properties,
     least: &mut Option<Fault>,
     seq: &Seq,
 ) -> Result<Summary, AllocError>
-    requires scope { IsScope properties.old scope.now }
-    requires quotes { KnowsQuotes properties.old scope.now }
-    requires covered { AreCovered properties.old (stand_of scope.now)
+    requires context { IsContext properties.old context.now }
+    requires quotes { KnowsQuotes properties.old context.now }
+    requires covered { AreCovered properties.old (stand_of context.now)
         (parts_of_seq (seq_tree seq.now)) }
     ensures noted { OnOk result (least.new ≡ noted_parts
-        (context_of properties.old scope.now) least.old
+        (context_of properties.old context.now) least.old
         (parts_of_seq (seq_tree seq.now))) }
     ensures counts { IfOk result (λ summary. Summarizes summary
-        (meaning_of_seq (context_of properties.old scope.now) (seq_tree seq.now))
-        (height_of_seq (context_of properties.old scope.now) (seq_tree seq.now))) }
+        (meaning_of_seq (context_of properties.old context.now) (seq_tree seq.now))
+        (height_of_seq (context_of properties.old context.now) (seq_tree seq.now))) }
     ensures same { properties.new ≡ properties.old }
 {
     let mut whole = Summary::empty();
     for item in &seq.items {
-        let part = check_item(alloc, scope, properties, least, item)?;
+        let part = check_item(alloc, context, properties, least, item)?;
         whole = whole.then(part);
     }
     Ok(whole.raised(seq.items.len() > 1))
@@ -101,24 +101,24 @@ fn check_seq(
 #[cycle(check)]
 fn check_item(
     alloc: Global,
-    scope: &Scope,
+    context: &Context,
     properties: &mut Properties,
     least: &mut Option<Fault>,
     item: &Item,
 ) -> Result<Summary, AllocError>
-    requires scope { IsScope properties.old scope.now }
-    requires quotes { KnowsQuotes properties.old scope.now }
-    requires covered { AreCovered properties.old (stand_of scope.now)
+    requires context { IsContext properties.old context.now }
+    requires quotes { KnowsQuotes properties.old context.now }
+    requires covered { AreCovered properties.old (stand_of context.now)
         (parts_of_item (item_tree item.now)) }
     ensures noted { OnOk result (least.new ≡ noted_parts
-        (context_of properties.old scope.now) least.old
+        (context_of properties.old context.now) least.old
         (parts_of_item (item_tree item.now))) }
     ensures counts { IfOk result (λ summary. Summarizes summary
-        (meaning_of_item (context_of properties.old scope.now) (item_tree item.now))
-        (height_of_item (context_of properties.old scope.now) (item_tree item.now))) }
+        (meaning_of_item (context_of properties.old context.now) (item_tree item.now))
+        (height_of_item (context_of properties.old context.now) (item_tree item.now))) }
     ensures same { properties.new ≡ properties.old }
 {
-    let atom = check_atom(alloc, scope, properties, least, item.place, &item.atom)?;
+    let atom = check_atom(alloc, context, properties, least, item.place, &item.atom)?;
     Ok(atom.repeated(item.quant))
 }
 
@@ -126,32 +126,37 @@ fn check_item(
 #[cycle(check)]
 fn check_atom(
     alloc: Global,
-    scope: &Scope,
+    context: &Context,
     properties: &mut Properties,
     least: &mut Option<Fault>,
     place: u32,
     atom: &Atom,
 ) -> Result<Summary, AllocError>
-    requires scope { IsScope properties.old scope.now }
-    requires quotes { KnowsQuotes properties.old scope.now }
-    requires covered { AreCovered properties.old (stand_of scope.now)
+    requires context { IsContext properties.old context.now }
+    requires quotes { KnowsQuotes properties.old context.now }
+    requires covered { AreCovered properties.old (stand_of context.now)
         (parts_of_item (placed place (atom_tree atom.now) Once)) }
     ensures noted { OnOk result ((quant : Quant) →
-        least.new ≡ noted_parts (context_of properties.old scope.now) least.old
+        least.new ≡ noted_parts (context_of properties.old context.now) least.old
         (parts_of_item (placed place (atom_tree atom.now) quant))) }
     ensures counts { IfOk result (λ summary. Summarizes summary
-        (meaning_of_atom (context_of properties.old scope.now) (atom_tree atom.now))
-        (height_of_atom (context_of properties.old scope.now) (atom_tree atom.now))) }
+        (meaning_of_atom (context_of properties.old context.now) (atom_tree atom.now))
+        (height_of_atom (context_of properties.old context.now) (atom_tree atom.now))) }
     ensures same { properties.new ≡ properties.old }
 {
     match atom {
         Atom::Char { bare, .. } => {
-            note_where(least, *bare && scope.quoted_only, place, 10);
+            note_where(
+                least,
+                *bare && context.quoted_only,
+                place,
+                FaultKind::BareLiteral,
+            );
             Ok(Summary::leaf())
         }
         Atom::Quoted(word) => Ok(Summary::of_word(word)),
         Atom::Any => Ok(Summary::leaf()),
-        Atom::Name(name) => Ok(check_name(scope, least, place, name)),
+        Atom::Name(name) => Ok(check_name(context, least, place, name)),
         Atom::Prop {
             negated,
             name,
@@ -161,29 +166,29 @@ fn check_atom(
             Ok(Summary::leaf())
         }
         Atom::Set(set) => {
-            check_set(alloc, scope, properties, least, place, set)?;
+            check_set(alloc, context, properties, least, place, set)?;
             Ok(Summary::leaf())
         }
         Atom::Group(inner) => {
-            let whole = check_expr(alloc, scope, properties, least, inner)?;
+            let whole = check_expr(alloc, context, properties, least, inner)?;
             Ok(whole.higher())
         }
     }
 }
 
-/// Counts a variable, and notes where it is undefined.
-fn check_name(scope: &Scope, least: &mut Option<Fault>, place: u32, name: &Word) -> Summary
-    ensures noted { (files : List File) → IsScope files scope.now
-        → least.new ≡ noted_parts (context_of files scope.now) least.old
+/// Counts a variable; notes a fault if it is undefined.
+fn check_name(context: &Context, least: &mut Option<Fault>, place: u32, name: &Word) -> Summary
+    ensures noted { (files : List File) → IsContext files context.now
+        → least.new ≡ noted_parts (context_of files context.now) least.old
         (Outside place (named_atom name.now) ∷ []) }
-    ensures counts { (files : List File) → IsScope files scope.now → Summarizes result
-        (meaning_of_variable (variable_of (context_of files scope.now) name.now))
-        (height_of_variable (variable_of (context_of files scope.now) name.now)) }
+    ensures counts { (files : List File) → IsContext files context.now → Summarizes result
+        (meaning_of_variable (variable_of (context_of files context.now) name.now))
+        (height_of_variable (variable_of (context_of files context.now) name.now)) }
 {
-    match scope.variable(name) {
+    match context.variable(name) {
         Some(variable) => summary_of(&variable.kind),
         None => {
-            note(least, place, 5);
+            note(least, place, FaultKind::Undefined);
             Summary::never()
         }
     }
@@ -202,7 +207,7 @@ fn summary_of(kind: &Kind) -> Summary
     }
 }
 
-/// Notes where a property that stands as an atom is unknown or holds no character.
+/// Notes the fault of a property that stands as an atom: it is unknown or has no character.
 pub(crate) fn check_property(
     alloc: Global,
     properties: &mut Properties,
@@ -219,40 +224,40 @@ pub(crate) fn check_property(
 {
     let set = properties.set_of(alloc, negated, name, value)?;
     let found = set.as_ref();
-    note_where(least, found.is_none(), place, 7);
+    note_where(least, found.is_none(), place, FaultKind::UnknownProperty);
     let is_empty = is_empty_value(found);
-    note_where(least, is_empty, place, 9);
+    note_where(least, is_empty, place, FaultKind::EmptySet);
     Ok(())
 }
 
-/// The value of a set that stands as an atom. Notes the faults in it, and where it holds no
+/// The value of a set that stands as an atom. Notes the faults in it, and that it has no
 /// character.
 pub(crate) fn check_set(
     alloc: Global,
-    scope: &Scope,
+    context: &Context,
     properties: &mut Properties,
     least: &mut Option<Fault>,
     place: u32,
     set: &SetExpr,
 ) -> Result<Option<ClassSet>, AllocError>
-    requires scope { IsScope properties.old scope.now }
-    requires covered { SetRespects properties.old (stand_of scope.now)
+    requires context { IsContext properties.old context.now }
+    requires covered { SetRespects properties.old (stand_of context.now)
         (set_tree set.now) }
     ensures noted { OnOk result ((quant : Quant) →
-        least.new ≡ noted_parts (context_of properties.old scope.now) least.old
+        least.new ≡ noted_parts (context_of properties.old context.now) least.old
         (parts_of_item (placed place (set_atom (set_tree set.now)) quant))) }
-    ensures value { IfOk result (λ value. IsClassValue properties.old (bounds_of scope.now)
-        (value_of_set properties.old (value_of_name (context_of properties.old scope.now))
+    ensures value { IfOk result (λ value. IsClassValue properties.old (bounds_of context.now)
+        (value_of_set properties.old (value_of_name (context_of properties.old context.now))
         (set_tree set.now)) value) }
     ensures same { properties.new ≡ properties.old }
 {
-    let value = value_of_set(alloc, scope, properties, least, set)?;
-    let is_empty = is_empty_set(scope.classes.division.as_ref(), &value);
-    note_where(least, is_empty, place, 9);
+    let value = value_of_set(alloc, context, properties, least, set)?;
+    let is_empty = is_empty_set(context.classes.division.as_ref(), &value);
+    note_where(least, is_empty, place, FaultKind::EmptySet);
     Ok(value)
 }
 
-/// Whether a set of classes has a value and holds no character.
+/// Whether a set of classes has a value without characters.
 fn is_empty_set(division: &Division, value: &Option<ClassSet>) -> bool
     ensures { (files : List File) (tree : Option model.SetTree)
         → IsClassValue files division.now.bounds tree value.now
@@ -265,7 +270,7 @@ fn is_empty_set(division: &Division, value: &Option<ClassSet>) -> bool
     }
 }
 
-/// Whether a property is known and holds no character.
+/// Whether a property is known and has no character.
 fn is_empty_value(value: &Option<CodeSet>) -> bool
     ensures { (files : List File) (tree : Option model.SetTree)
         → IsValue files tree value.now → result ≡ is_empty_value files tree }

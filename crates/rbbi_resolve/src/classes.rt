@@ -1,12 +1,12 @@
-//! The classes of code points that no set of a rule file tells apart.
+//! The partition of the code points by the sets of a rule file.
 ghost use Rattle.std.specs.Prelude.{◌≡◌, List, IfOk, IfSome, OnOk};
 ghost use Rattle.std.specs.Rc.{rc_value};
 ghost use Rattle.rbbi_props.specs.Rows.{File};
 ghost use Rattle.rbbi_resolve.specs.SetValues.{value_of_property};
 ghost use Rattle.rbbi_tree.specs.Values.{statement_trees};
-ghost use Rattle.rbbi_resolve.specs.inner.ClassValues.{AreClasses, IsClassValue};
+ghost use Rattle.rbbi_resolve.specs.inner.ClassValues.{AreRightClasses, IsClassValue};
 ghost use Rattle.rbbi_resolve.specs.inner.ClassValues.{IsKnown, IsDivided};
-ghost use Rattle.rbbi_resolve.specs.inner.Questions.{IsAnswer};
+ghost use Rattle.rbbi_resolve.specs.inner.Questions.{IsRightAnswer};
 ghost use Rattle.rbbi_resolve.specs.inner.Covered.{CoversAll};
 ghost use Rattle.std.specs.HashMap.{values};
 ghost use Rattle.std.specs.List.{All};
@@ -24,16 +24,16 @@ use rbbi_tree::Statements;
 use std::alloc::{AllocError, Global};
 use std::rc::Rc;
 
-/// The set of a property by classes, and None where the property is unknown.
+/// The set of a property by classes; None if the property is unknown.
 #[derive(Debug, Drop)]
 pub(crate) struct PropertyClasses {
     pub(crate) question: Rc<Question>,
     pub(crate) set: Rc<Option<ClassSet>>,
 }
 
-/// The classes of a rule file: code points that no property of the file, and no characters and
-/// ranges that follow one another in a set, tell apart. So each set of the file has of a class all
-/// or nothing, as `of` ensures.
+/// The partition of the code points by the properties of a rule file and by the characters and
+/// ranges that follow one another in a set. Each set of the file is a union of its classes, as `of`
+/// ensures.
 #[derive(Drop)]
 pub(crate) struct Classes {
     pub(crate) division: Rc<Division>,
@@ -42,13 +42,13 @@ pub(crate) struct Classes {
 }
 
 impl Classes {
-    /// The classes of the statements of a rule file.
+    /// The partition for the statements of a rule file.
     pub(crate) fn of(
         alloc: Global,
         properties: &mut Properties,
         statements: &Statements,
     ) -> Result<Classes, AllocError>
-        ensures classes { IfOk result (AreClasses properties.old) }
+        ensures classes { IfOk result (AreRightClasses properties.old) }
         ensures covers { IfOk result (λ classes.
             CoversAll properties.old (stand_in (rc_value classes.division))
             (statement_trees statements.now)) }
@@ -68,7 +68,7 @@ impl Classes {
         })
     }
 
-    /// The set of a property under its key, and None where another property has that key.
+    /// The set of a property, by its key; None if another property has that key.
     pub(crate) fn known(
         &self,
         key: &str,
@@ -76,7 +76,7 @@ impl Classes {
         name: &Word,
         value: &Option<Word>,
     ) -> Option<&Option<ClassSet>>
-        ensures { IfSome result (λ set. (files : List File) → AreClasses files self.now
+        ensures { IfSome result (λ set. (files : List File) → AreRightClasses files self.now
             → IsClassValue files (rc_value self.now.division).bounds
             (value_of_property files negated name.now value.now) set.now) }
     {
@@ -89,13 +89,14 @@ impl Classes {
     }
 }
 
-/// The sets that were found, by the classes of a layout, each made once.
+/// The sets of the properties that were looked up, by the classes of a layout, each made once.
 fn by_classes(
     alloc: Global,
     layout: &Layout,
     answers: &IndexMap<String, Answer>,
 ) -> Result<IndexMap<String, PropertyClasses>, AllocError>
-    ensures { IfOk result (λ sets. (files : List File) → All (IsAnswer files) (values answers.now)
+    ensures { IfOk result (λ sets. (files : List File) → All (IsRightAnswer files) (values
+        answers.now)
         → All (IsKnown files layout.now) (values sets)) }
 {
     let mut divided = IndexMap::new(alloc);
@@ -117,7 +118,8 @@ fn add_known(
 ) -> Result<(), AllocError>
     requires divided { All (IsDivided layout.now) (values divided.old) }
     ensures divided { OnOk result (All (IsDivided layout.now) (values divided.new)) }
-    ensures known { OnOk result ((files : List File) → All (IsAnswer files) (values answers.now)
+    ensures known { OnOk result ((files : List File) → All (IsRightAnswer files) (values
+        answers.now)
         → All (IsKnown files layout.now) (values known.old)
         → All (IsKnown files layout.now) (values known.new)) }
 {

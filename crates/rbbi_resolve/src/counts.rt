@@ -1,11 +1,11 @@
-//! The counts of the active rules, and where they pass their limits.
+//! The counts of the active rules and the first rule that exceeds each limit.
 ghost use Rattle.std.specs.Prelude.{◌≡◌, ◌≤◌, ◌<◌, ℕ, List, [], ◌∷◌, is_some, if◌then◌else◌};
-ghost use Rattle.rbbi_resolve.specs.Counts.{counted, leaves_meant};
+ghost use Rattle.rbbi_resolve.specs.Counts.{size_fault, leaves_meant};
 ghost use Rattle.rbbi_resolve.specs.Files.{RuleMeaning};
 ghost use Rattle.rbbi_resolve.specs.inner.Summaries.{IsCapped};
-ghost use Rattle.rbbi_resolve.specs.inner.Countings.{IsCount, AreCounting};
+ghost use Rattle.rbbi_resolve.specs.inner.Countings.{IsPartialCount, AreCounting};
 
-use crate::fault::Fault;
+use crate::fault::{Fault, FaultKind};
 use crate::variables::Summary;
 
 /// The most active rules.
@@ -17,7 +17,8 @@ const MOST_SLASHES: u32 = 32;
 /// The greatest height of an active rule.
 const MOST_HEIGHT: u32 = 256;
 
-/// A sum over rules, and the place of the rule with which it passed its limit; it goes no further.
+/// A sum over rules, up to the first rule with which it exceeds its limit, and the place of that
+/// rule.
 #[derive(Clone, Copy, Debug)]
 pub(crate) struct Count {
     pub(crate) sum: u32,
@@ -28,7 +29,7 @@ impl Count {
     /// No rules.
     fn new() -> Count
         ensures { (amount : RuleMeaning → ℕ) (most : ℕ) (all : List RuleMeaning)
-            → IsCount amount most result all all }
+            → IsPartialCount amount most result all all }
     {
         Count {
             sum: 0,
@@ -42,8 +43,8 @@ impl Count {
         ensures { (cap : ℕ) (amount_of : RuleMeaning → ℕ) (rule : RuleMeaning)
             (left all : List RuleMeaning)
             → most < cap → rule.place ≡ place → IsCapped cap (amount_of rule) amount
-            → IsCount amount_of most self.old (rule ∷ left) all →
-            IsCount amount_of most self.new left all }
+            → IsPartialCount amount_of most self.old (rule ∷ left) all →
+            IsPartialCount amount_of most self.new left all }
     {
         if self.passed.is_none() {
             let sum = self.sum.saturating_add(amount);
@@ -56,7 +57,7 @@ impl Count {
     }
 }
 
-/// 1 where the test holds, or else 0.
+/// 1 if the test holds, else 0.
 fn one_where(test: bool) -> u32
     ensures few { result ≤ 1 }
     ensures one { result ≡ (if test then 1 else 0) }
@@ -101,28 +102,40 @@ impl Counts {
             .add(one_where(whole.height > MOST_HEIGHT), 0, place);
     }
 
-    /// The first fault, by number, of these counts. The text has this length.
+    /// The first fault, by kind, of these counts. The text has this length.
     pub(crate) fn fault(&self, end: u32) -> Option<Fault>
         ensures { (all : List RuleMeaning) → AreCounting self.now [] all →
-            result ≡ counted end all }
+            result ≡ size_fault end all }
     {
         if let Some(place) = self.rules.passed {
-            return Some(Fault { place, number: 14 });
+            return Some(Fault {
+                place,
+                kind: FaultKind::TooManyRules,
+            });
         }
         if self.rules.sum == 0 {
             return Some(Fault {
                 place: end,
-                number: 13,
+                kind: FaultKind::NoRules,
             });
         }
         if let Some(place) = self.leaves.passed {
-            return Some(Fault { place, number: 15 });
+            return Some(Fault {
+                place,
+                kind: FaultKind::TooManyLeaves,
+            });
         }
         if let Some(place) = self.slashes.passed {
-            return Some(Fault { place, number: 16 });
+            return Some(Fault {
+                place,
+                kind: FaultKind::TooManySlashes,
+            });
         }
         match self.tall.passed {
-            Some(place) => Some(Fault { place, number: 17 }),
+            Some(place) => Some(Fault {
+                place,
+                kind: FaultKind::TooTall,
+            }),
             None => None,
         }
     }

@@ -1,10 +1,9 @@
 //! Why a rule file is refused.
 ghost use Rattle.std.specs.Prelude.{◌≡◌, codes};
 ghost use Rattle.rbbi_resolve.specs.Refusals.{label_of, place_of, fault_of};
-ghost use Rattle.rbbi_resolve.specs.inner.Refusals.{IsKind};
 
-use crate::fault::Fault;
-use std::alloc::{AllocError, AllocFailed};
+use crate::fault::{Fault, FaultKind};
+use std::alloc::AllocError;
 use thiserror::Error;
 
 /// Why a rule file is refused. Each place is in characters from 0.
@@ -130,39 +129,28 @@ impl From<AllocError> for ResolveErr {
     }
 }
 
-impl<T: Drop> From<AllocFailed<T>> for ResolveErr {
-    ghost use Rattle.rbbi_resolve.specs.declared.error.ResolveErr.TheVariants.{Memory};
-
-    ghost from_gives = { λ _ e. e ≡ Memory };
-
-    fn from(_e: AllocFailed<T>) -> ResolveErr {
-        ResolveErr::Memory
-    }
-}
-
-/// The refusal for a fault, by its number.
+/// The refusal that tells a fault.
 pub(crate) fn refusal(fault: Fault) -> ResolveErr
-    requires { IsKind fault.number }
     ensures { fault_of result ≡ Some fault }
 {
     let place = fault.place;
-    match fault.number {
-        1 => ResolveErr::UnknownControl(place),
-        2 => ResolveErr::UnsupportedControl(place),
-        3 => ResolveErr::Dictionary(place),
-        4 => ResolveErr::Redefined(place),
-        5 => ResolveErr::Undefined(place),
-        6 => ResolveErr::NotASet(place),
-        7 => ResolveErr::UnknownProperty(place),
-        8 => ResolveErr::BadRange(place),
-        9 => ResolveErr::EmptySet(place),
-        10 => ResolveErr::BareLiteral(place),
-        11 => ResolveErr::EmptyFront(place),
-        12 => ResolveErr::EmptyRest(place),
-        13 => ResolveErr::NoRules(place),
-        14 => ResolveErr::TooManyRules(place),
-        15 => ResolveErr::TooManyLeaves(place),
-        16 => ResolveErr::TooManySlashes(place),
-        _ => ResolveErr::TooTall(place),
+    match fault.kind {
+        FaultKind::UnknownControl => ResolveErr::UnknownControl(place),
+        FaultKind::UnsupportedControl => ResolveErr::UnsupportedControl(place),
+        FaultKind::Dictionary => ResolveErr::Dictionary(place),
+        FaultKind::Redefined => ResolveErr::Redefined(place),
+        FaultKind::Undefined => ResolveErr::Undefined(place),
+        FaultKind::NotASet => ResolveErr::NotASet(place),
+        FaultKind::UnknownProperty => ResolveErr::UnknownProperty(place),
+        FaultKind::BadRange => ResolveErr::BadRange(place),
+        FaultKind::EmptySet => ResolveErr::EmptySet(place),
+        FaultKind::BareLiteral => ResolveErr::BareLiteral(place),
+        FaultKind::EmptyFront => ResolveErr::EmptyFront(place),
+        FaultKind::EmptyRest => ResolveErr::EmptyRest(place),
+        FaultKind::NoRules => ResolveErr::NoRules(place),
+        FaultKind::TooManyRules => ResolveErr::TooManyRules(place),
+        FaultKind::TooManyLeaves => ResolveErr::TooManyLeaves(place),
+        FaultKind::TooManySlashes => ResolveErr::TooManySlashes(place),
+        FaultKind::TooTall => ResolveErr::TooTall(place),
     }
 }

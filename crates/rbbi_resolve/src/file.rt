@@ -6,12 +6,12 @@ ghost use Rattle.rbbi_tree.specs.Values.{statement_trees, expr_tree, rest_tree};
 ghost use Rattle.rbbi_resolve.specs.inner.Readings.{IsReading, ReadsOn};
 
 use crate::classes::Classes;
+use crate::context::Context;
 use crate::counts::Counts;
 use crate::definition::check_definition;
-use crate::fault::{Fault, note_where};
+use crate::fault::{Fault, FaultKind, note_where};
 use crate::properties::Properties;
 use crate::rule::check_rule;
-use crate::scope::Scope;
 use crate::switches::{Switches, is_unknown, is_unsupported};
 use crate::variables::{Variable, Variables};
 use rbbi_text::Word;
@@ -24,7 +24,7 @@ pub(crate) struct Reading<'a> {
     pub(crate) statements: &'a Statements,
     pub(crate) properties: Properties<'a>,
     pub(crate) classes: Classes,
-    /// Whether an assignment to `$dictionary` is one like any other.
+    /// Whether an assignment to `$dictionary` is read as any other.
     pub(crate) dictionary_ignored: bool,
     pub(crate) variables: Variables,
     /// The earliest fault so far.
@@ -34,7 +34,7 @@ pub(crate) struct Reading<'a> {
 }
 
 impl<'a> Reading<'a> {
-    /// Reads the statement with this number, before which all others were read.
+    /// Reads the statement with this number; all before it were read.
     pub(crate) fn read(&mut self, alloc: Global, number: usize) -> Result<(), AllocError>
         requires inside { number < length self.old.statements.now }
         requires reading { IsReading self.old number }
@@ -79,8 +79,18 @@ impl<'a> Reading<'a> {
     {
         let _number = number;
         let name = name.as_str();
-        note_where(&mut self.least, is_unknown(name), place, 1);
-        note_where(&mut self.least, is_unsupported(name), place, 2);
+        note_where(
+            &mut self.least,
+            is_unknown(name),
+            place,
+            FaultKind::UnknownControl,
+        );
+        note_where(
+            &mut self.least,
+            is_unsupported(name),
+            place,
+            FaultKind::UnsupportedControl,
+        );
         self.switches = self.switches.after(name);
     }
 
@@ -98,7 +108,7 @@ impl<'a> Reading<'a> {
         requires reading { IsReading self.old number }
         ensures { OnOk result (ReadsOn self.old self.new (number + 1)) }
     {
-        let scope = Scope {
+        let context = Context {
             statements: self.statements,
             variables: &self.variables,
             classes: &self.classes,
@@ -106,10 +116,10 @@ impl<'a> Reading<'a> {
             quoted_only: self.switches.quoted_only,
         };
         let is_dictionary = is_refused_dictionary(name, self.dictionary_ignored);
-        let is_assigned = scope.variable(name).is_some();
-        note_where(&mut self.least, is_dictionary, place, 3);
-        note_where(&mut self.least, is_assigned, place, 4);
-        let kind = check_definition(alloc, &scope, &mut self.properties, &mut self.least, expr)?;
+        let is_assigned = context.variable(name).is_some();
+        note_where(&mut self.least, is_dictionary, place, FaultKind::Dictionary);
+        note_where(&mut self.least, is_assigned, place, FaultKind::Redefined);
+        let kind = check_definition(alloc, &context, &mut self.properties, &mut self.least, expr)?;
         if is_assigned {
             return Ok(());
         }
@@ -142,7 +152,7 @@ impl<'a> Reading<'a> {
         requires reading { IsReading self.old number }
         ensures { OnOk result (ReadsOn self.old self.new (number + 1)) }
     {
-        let scope = Scope {
+        let context = Context {
             statements: self.statements,
             variables: &self.variables,
             classes: &self.classes,
@@ -151,7 +161,7 @@ impl<'a> Reading<'a> {
         };
         let whole = check_rule(
             alloc,
-            &scope,
+            &context,
             &mut self.properties,
             &mut self.least,
             front,
@@ -165,7 +175,7 @@ impl<'a> Reading<'a> {
     }
 }
 
-/// Whether a name is that of a dictionary, where one isn't ignored.
+/// Whether an assignment to the name is refused as a dictionary.
 fn is_refused_dictionary(name: &Word, ignored: bool) -> bool
     ensures { result ≡ (bytes_eq (encode_utf8_all name.now) (codes "dictionary") && not ignored) }
 {

@@ -3,6 +3,7 @@ ghost use Rattle.std.specs.Prelude.{List};
 ghost use Rattle.rbbi_resolve.specs.declared.fault.Fault.{Fault};
 ghost use Rattle.rbbi_resolve.specs.Laws.{HasMeaningOrFault, HasNotBoth, HasOneMeaning};
 ghost use Rattle.rbbi_resolve.specs.Laws.{MeansLawfulRules, NotesLeast};
+ghost use Rattle.rbbi_resolve.specs.Laws.{HasNoCharacterIfEmpty, SpellsEmptyIfTreeDoes};
 
 use rbbi_sets::members_determine;
 
@@ -14,7 +15,7 @@ pub fn at_most_one_meaning()
 }
 
 /// Law: of a list of faults the earliest is kept when they are noted one after another, that is the
-/// one of least place, and at one place that of least number.
+/// one of least place, and at one place that of the first kind.
 pub fn the_earliest_is_noted()
     ensures { (faults : List Fault) → NotesLeast faults }
 {}
@@ -32,4 +33,16 @@ pub fn meaning_or_fault()
 /// Law: a rule file that means rules has no fault.
 pub fn meaning_excludes_faults()
     ensures { HasNotBoth }
+{}
+
+/// Law: a set of a file holds no character, as the faults have it, exactly if no code point but
+/// surrogates is in it.
+pub fn empty_sets_hold_no_character()
+    ensures { HasNoCharacterIfEmpty }
+{}
+
+/// Law: a front or a rest spells the empty word, as the faults have it, exactly if its rule tree
+/// spells it.
+pub fn empty_fronts_spell_the_empty_word()
+    ensures { SpellsEmptyIfTreeDoes }
 {}

@@ -10,16 +10,16 @@ ghost use Rattle.rbbi_resolve.specs.inner.SetValues.{IsValue, HasMembers};
 ghost use Rattle.rbbi_resolve.specs.inner.ClassValues.{IsClassValue};
 ghost use Rattle.rbbi_resolve.specs.Parts.{parts_of_expr, parts_of_seq, parts_of_item};
 ghost use Rattle.rbbi_resolve.specs.Faults.{faults_of_parts, is_empty_value};
-ghost use Rattle.rbbi_resolve.specs.inner.Scopes.{IsScope, context_of, stand_of};
+ghost use Rattle.rbbi_resolve.specs.inner.Contexts.{IsContext, context_of, stand_of};
 ghost use Rattle.rbbi_resolve.specs.inner.Covered.{AreCovered, Respects};
 ghost use Rattle.rbbi_classes.specs.Divisions.{IsDivision, stand_in};
 ghost use Rattle.rbbi_resolve.specs.inner.Soundness.{AreSound};
 ghost use Rattle.rbbi_resolve.specs.inner.OwnLeaves.{AddsLeaves, leaves_of_expr, leaves_of_seq};
 ghost use Rattle.rbbi_resolve.specs.inner.OwnLeaves.{leaves_of_item};
 
+use crate::context::Context;
 use crate::fault::Fault;
 use crate::properties::Properties;
-use crate::scope::Scope;
 use crate::set_value::value_of_set;
 use rbbi_classes::{CharacterSet, Division, SharedClasses};
 use rbbi_sets::CodeSet;
@@ -28,29 +28,28 @@ use rbbi_tree::{Atom, Expr, Item, Seq};
 use std::alloc::{AllocError, Global};
 use std::rc::Rc;
 
-/// Adds the sets of the leaves of an expression without faults, but for those that come from
-/// variables.
+/// Adds the sets of the leaves of an expression without faults, except those of its variables.
 #[cycle(leaves)]
 pub(crate) fn add_leaves(
     alloc: Global,
-    scope: &Scope,
+    context: &Context,
     properties: &mut Properties,
     sets: &mut Vec<CharacterSet>,
     expr: &Expr,
 ) -> Result<(), AllocError>
-    requires scope { IsScope properties.old scope.now }
-    requires covered { AreCovered properties.old (stand_of scope.now)
+    requires context { IsContext properties.old context.now }
+    requires covered { AreCovered properties.old (stand_of context.now)
         (parts_of_expr (expr_tree expr.now)) }
-    ensures added { OnOk result (AreSound (context_of properties.old scope.now)
-        → faults_of_parts (context_of properties.old scope.now)
+    ensures added { OnOk result (AreSound (context_of properties.old context.now)
+        → faults_of_parts (context_of properties.old context.now)
         (parts_of_expr (expr_tree expr.now)) ≡ []
         → AddsLeaves properties.old
-        (leaves_of_expr (context_of properties.old scope.now) (expr_tree expr.now)) sets.old.items
+        (leaves_of_expr (context_of properties.old context.now) (expr_tree expr.now)) sets.old.items
         sets.new.items) }
     ensures same { properties.new ≡ properties.old }
 {
     for seq in &expr.items {
-        add_leaves_of_seq(alloc, scope, properties, sets, seq)?;
+        add_leaves_of_seq(alloc, context, properties, sets, seq)?;
     }
     Ok(())
 }
@@ -59,24 +58,24 @@ pub(crate) fn add_leaves(
 #[cycle(leaves)]
 fn add_leaves_of_seq(
     alloc: Global,
-    scope: &Scope,
+    context: &Context,
     properties: &mut Properties,
     sets: &mut Vec<CharacterSet>,
     seq: &Seq,
 ) -> Result<(), AllocError>
-    requires scope { IsScope properties.old scope.now }
-    requires covered { AreCovered properties.old (stand_of scope.now)
+    requires context { IsContext properties.old context.now }
+    requires covered { AreCovered properties.old (stand_of context.now)
         (parts_of_seq (seq_tree seq.now)) }
-    ensures added { OnOk result (AreSound (context_of properties.old scope.now)
-        → faults_of_parts (context_of properties.old scope.now)
+    ensures added { OnOk result (AreSound (context_of properties.old context.now)
+        → faults_of_parts (context_of properties.old context.now)
         (parts_of_seq (seq_tree seq.now)) ≡ []
         → AddsLeaves properties.old
-        (leaves_of_seq (context_of properties.old scope.now) (seq_tree seq.now)) sets.old.items
+        (leaves_of_seq (context_of properties.old context.now) (seq_tree seq.now)) sets.old.items
         sets.new.items) }
     ensures same { properties.new ≡ properties.old }
 {
     for item in &seq.items {
-        add_leaves_of_item(alloc, scope, properties, sets, item)?;
+        add_leaves_of_item(alloc, context, properties, sets, item)?;
     }
     Ok(())
 }
@@ -85,19 +84,19 @@ fn add_leaves_of_seq(
 #[cycle(leaves)]
 fn add_leaves_of_item(
     alloc: Global,
-    scope: &Scope,
+    context: &Context,
     properties: &mut Properties,
     sets: &mut Vec<CharacterSet>,
     item: &Item,
 ) -> Result<(), AllocError>
-    requires scope { IsScope properties.old scope.now }
-    requires covered { AreCovered properties.old (stand_of scope.now)
+    requires context { IsContext properties.old context.now }
+    requires covered { AreCovered properties.old (stand_of context.now)
         (parts_of_item (item_tree item.now)) }
-    ensures added { OnOk result (AreSound (context_of properties.old scope.now)
-        → faults_of_parts (context_of properties.old scope.now)
+    ensures added { OnOk result (AreSound (context_of properties.old context.now)
+        → faults_of_parts (context_of properties.old context.now)
         (parts_of_item (item_tree item.now)) ≡ []
         → AddsLeaves properties.old
-        (leaves_of_item (context_of properties.old scope.now) (item_tree item.now)) sets.old.items
+        (leaves_of_item (context_of properties.old context.now) (item_tree item.now)) sets.old.items
         sets.new.items) }
     ensures same { properties.new ≡ properties.old }
 {
@@ -117,19 +116,19 @@ fn add_leaves_of_item(
         }
         Atom::Set(set) => {
             let mut least: Option<Fault> = None;
-            let value = value_of_set(alloc, scope, properties, &mut least, set)?;
+            let value = value_of_set(alloc, context, properties, &mut least, set)?;
             let kept = properties.keep(alloc, &value)?;
-            add_classes(sets, &scope.classes.division, &kept)?;
+            add_classes(sets, &context.classes.division, &kept)?;
             Ok(())
         }
         Atom::Group(inner) => {
-            add_leaves(alloc, scope, properties, sets, inner)?;
+            add_leaves(alloc, context, properties, sets, inner)?;
             Ok(())
         }
     }
 }
 
-/// Adds the characters of a set that holds one.
+/// Adds the characters of a set that has some.
 fn add_set(alloc: Global, sets: &mut Vec<CharacterSet>, set: &CodeSet) -> Result<(), AllocError>
     ensures { OnOk result ((files : List File) (tree : model.SetTree) →
         HasMembers files tree set.now
@@ -174,7 +173,7 @@ fn add_any(alloc: Global, sets: &mut Vec<CharacterSet>) -> Result<(), AllocError
     Ok(())
 }
 
-/// Adds the characters of a set that has a value and holds a character.
+/// Adds the characters of the value of a set, which has some.
 pub(crate) fn add_value(
     alloc: Global,
     sets: &mut Vec<CharacterSet>,
@@ -194,8 +193,7 @@ pub(crate) fn add_value(
     }
 }
 
-/// Adds the characters of a set by classes that has a value and holds a character. They stay in the
-/// chunks that they share.
+/// Adds the characters of the value of a set by classes, which has some. The chunks stay shared.
 pub(crate) fn add_classes(
     sets: &mut Vec<CharacterSet>,
     division: &Rc<Division>,

@@ -1,5 +1,5 @@
-//! The rules that the statements of a rule file mean, with the sets of their leaves, or the file's
-//! least fault.
+//! The rules that the statements of a rule file mean, with the sets of their leaves, or the first
+//! fault of the file.
 #![tactic(auto)]
 
 mod active;
@@ -8,6 +8,7 @@ mod check;
 mod classes;
 mod collect;
 mod collection;
+mod context;
 mod counts;
 mod definition;
 mod division;
@@ -22,7 +23,6 @@ mod properties;
 mod question;
 mod rule;
 mod rules;
-mod scope;
 mod set_value;
 mod summary;
 mod switches;
@@ -33,8 +33,8 @@ mod variables;
 
 pub use error::ResolveErr;
 pub use laws::{
-    at_most_one_meaning, meaning_excludes_faults, meaning_is_lawful, meaning_or_fault,
-    the_earliest_is_noted,
+    at_most_one_meaning, empty_fronts_spell_the_empty_word, empty_sets_hold_no_character,
+    meaning_excludes_faults, meaning_is_lawful, meaning_or_fault, the_earliest_is_noted,
 };
 pub use outcome::resolve;
 pub use rules::{Rule, Rules, SetList, Tree, Trees};

@@ -26,9 +26,9 @@ use std::alloc::{AllocError, Global};
 /// `end` is the length of the text in characters. An assignment to `$dictionary` is refused, unless
 /// `ignore_dictionary` says to read it as any other (ICU User Guide, "Break Rules").
 ///
-/// Refuses the fault of least place of the first twelve kinds, at one place that of the earlier
-/// kind; without any of these the first, by kind, of `NoRules`, `TooManyRules`, `TooManyLeaves`,
-/// `TooManySlashes` and `TooTall`; and `Memory`.
+/// Refuses the fault of a statement with the least place, at one place that of the first kind; if
+/// there is none, the first of `NoRules`, `TooManyRules`, `TooManyLeaves`, `TooManySlashes` and
+/// `TooTall`; and `Memory`.
 pub fn resolve(
     alloc: Global,
     statements: &Statements,

@@ -1,20 +1,20 @@
-//! The sets of the own leaves of expressions, where variables keep their values.
+//! The sets of the own leaves of expressions, by what variables keep of them.
 ghost use Rattle.std.specs.Prelude.{◌≡◌, [], IfSome, IsTrue, OnOk};
 ghost use Rattle.rbbi_tree.specs.Values.{expr_tree};
 ghost use Rattle.rbbi_resolve.specs.Expressions.{variable_for};
 ghost use Rattle.rbbi_resolve.specs.Parts.{parts_of_expr};
 ghost use Rattle.rbbi_resolve.specs.Faults.{faults_of_parts};
-ghost use Rattle.rbbi_resolve.specs.inner.Scopes.{IsScope, IsKindOf, bounds_of, context_of};
-ghost use Rattle.rbbi_resolve.specs.inner.Scopes.{stand_of};
+ghost use Rattle.rbbi_resolve.specs.inner.Contexts.{IsContext, IsKindOf, bounds_of, context_of};
+ghost use Rattle.rbbi_resolve.specs.inner.Contexts.{stand_of};
 ghost use Rattle.rbbi_resolve.specs.inner.Covered.{AreCovered};
 ghost use Rattle.rbbi_resolve.specs.inner.Soundness.{AreSound};
 ghost use Rattle.rbbi_resolve.specs.inner.OwnLeaves.{AddsLeaves, leaves_of_expr};
 ghost use Rattle.rbbi_resolve.specs.inner.LoneSets.{IsLoneSet};
 
+use crate::context::Context;
 use crate::definition::lone_item;
 use crate::leaves::{add_classes, add_leaves};
 use crate::properties::Properties;
-use crate::scope::Scope;
 use crate::variables::Kind;
 use rbbi_classes::{CharacterSet, SharedClasses};
 use rbbi_tree::{Atom, Expr};
@@ -22,36 +22,36 @@ use std::alloc::{AllocError, Global};
 
 /// Adds the sets of the own leaves of an expression without faults.
 ///
-/// `kept` is what a variable keeps of it, where it is assigned to one. Where that is the value of
-/// its one own leaf, it isn't evaluated again.
+/// `kept` is what a variable keeps of it, if it is assigned to one. If that is the value of its one
+/// own leaf, it isn't evaluated again.
 pub(crate) fn add_own_leaves(
     alloc: Global,
-    scope: &Scope,
+    context: &Context,
     properties: &mut Properties,
     sets: &mut Vec<CharacterSet>,
     kept: Option<&Kind>,
     expr: &Expr,
 ) -> Result<(), AllocError>
-    requires scope { IsScope properties.old scope.now }
-    requires kept { IfSome kept (λ kind. IsKindOf properties.old (bounds_of scope.now) kind.now
-        (variable_for (context_of properties.old scope.now) (expr_tree expr.now))) }
-    requires covered { AreCovered properties.old (stand_of scope.now)
+    requires context { IsContext properties.old context.now }
+    requires kept { IfSome kept (λ kind. IsKindOf properties.old (bounds_of context.now) kind.now
+        (variable_for (context_of properties.old context.now) (expr_tree expr.now))) }
+    requires covered { AreCovered properties.old (stand_of context.now)
         (parts_of_expr (expr_tree expr.now)) }
-    ensures added { OnOk result (AreSound (context_of properties.old scope.now)
-        → faults_of_parts (context_of properties.old scope.now)
+    ensures added { OnOk result (AreSound (context_of properties.old context.now)
+        → faults_of_parts (context_of properties.old context.now)
         (parts_of_expr (expr_tree expr.now)) ≡ []
         → AddsLeaves properties.old
-        (leaves_of_expr (context_of properties.old scope.now) (expr_tree expr.now)) sets.old.items
+        (leaves_of_expr (context_of properties.old context.now) (expr_tree expr.now)) sets.old.items
         sets.new.items) }
     ensures same { properties.new ≡ properties.old }
 {
     if let Some(kind) = kept {
         if let Some(value) = kept_value(kind, expr) {
-            add_classes(sets, &scope.classes.division, value)?;
+            add_classes(sets, &context.classes.division, value)?;
             return Ok(());
         }
     }
-    add_leaves(alloc, scope, properties, sets, expr)?;
+    add_leaves(alloc, context, properties, sets, expr)?;
     Ok(())
 }
 

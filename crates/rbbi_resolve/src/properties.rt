@@ -3,8 +3,8 @@ ghost use Rattle.std.specs.Prelude.{◌≡◌, List, IfOk, IfSome, OnOk, IsTrue}
 ghost use Rattle.std.specs.Rc.{rc_value};
 ghost use Rattle.rbbi_props.specs.inner.Lookups.{IsSetOf};
 ghost use Rattle.rbbi_resolve.specs.inner.SetValues.{IsValue};
-ghost use Rattle.rbbi_resolve.specs.SetValues.{value_of_property, found};
-ghost use Rattle.rbbi_resolve.specs.inner.Questions.{IsAnswer};
+ghost use Rattle.rbbi_resolve.specs.SetValues.{value_of_property, property_test};
+ghost use Rattle.rbbi_resolve.specs.inner.Questions.{IsRightAnswer};
 ghost use Rattle.rbbi_props.specs.Rows.{File};
 ghost use Rattle.std.specs.HashMap.{values};
 ghost use Rattle.std.specs.List.{All};
@@ -50,11 +50,11 @@ impl<'a> Model for Properties<'a> {
 
     ghost use Rattle.std.specs.HashMap.{values};
     ghost use Rattle.std.specs.List.{All};
-    ghost use Rattle.rbbi_resolve.specs.inner.Questions.{IsAnswer};
+    ghost use Rattle.rbbi_resolve.specs.inner.Questions.{IsRightAnswer};
 
     ghost view = { λ properties. properties.table.now };
 
-    ghost invariant = { λ properties. All (IsAnswer properties.table.now)
+    ghost invariant = { λ properties. All (IsRightAnswer properties.table.now)
         (values properties.answers) };
 }
 
@@ -147,7 +147,7 @@ pub(crate) fn answer_of(
 ) -> Result<Answer, AllocError>
     ensures right { IfOk result (λ answer. (files : List File) → IsValue files
         (value_of_property files negated name.now value.now) (rc_value set)
-        → IsAnswer files answer) }
+        → IsRightAnswer files answer) }
     ensures set { IfOk result (λ answer. rc_value answer.set ≡ rc_value set) }
 {
     let question = Question {
@@ -235,7 +235,7 @@ fn own_set(
     name: &Word,
     value: &Option<Word>,
 ) -> Result<Option<CodeSet>, AllocError>
-    ensures { IfOk result (λ set. IsSetOf set (found table.now name.now value.now)) }
+    ensures { IfOk result (λ set. IsSetOf set (property_test table.now name.now value.now)) }
 {
     match value {
         Some(value) => table.lookup(alloc, name.as_str(), Some(value.as_str())),

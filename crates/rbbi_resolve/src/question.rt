@@ -56,7 +56,7 @@ pub(crate) fn key_of(
     Ok(key)
 }
 
-/// A copy of a word that may be absent.
+/// A copy of a word, if there is one.
 pub(crate) fn text_of(alloc: Global, word: &Option<Word>) -> Result<Option<String>, AllocError>
     ensures { IfOk result (λ text. option_map (λ t. chars (string_bytes t)) text ≡ word.now) }
 {

@@ -31,7 +31,7 @@ pub struct Trees {
 /// An active rule of a rule file.
 #[derive(Debug, Drop)]
 pub struct Rule {
-    /// What it matches, up to the `/` where there is one.
+    /// What it matches, up to the `/` if there is one.
     pub front: Tree,
     /// What it matches behind the `/`.
     pub rest: Option<Tree>,

@@ -12,102 +12,103 @@ ghost use Rattle.rbbi_resolve.specs.inner.ClassValues.{IsClassValue};
 ghost use Rattle.rbbi_resolve.specs.inner.Worths.{classes_of};
 ghost use Rattle.rbbi_resolve.specs.Contexts.{value_of_name};
 ghost use Rattle.rbbi_resolve.specs.Parts.{Within, parts_of_set, parts_of_part};
+ghost use Rattle.rbbi_resolve.specs.declared.fault.FaultKind.TheVariants as kinds;
 ghost use Rattle.rbbi_resolve.specs.Faults.{noted, faults_where};
 ghost use Rattle.rbbi_resolve.specs.inner.Faults.{noted_parts};
-ghost use Rattle.rbbi_resolve.specs.inner.Scopes.{IsScope, bounds_of, context_of};
+ghost use Rattle.rbbi_resolve.specs.inner.Contexts.{IsContext, bounds_of, context_of};
 
+use crate::context::Context;
 use crate::division::divide;
-use crate::fault::{Fault, note, note_where};
+use crate::fault::{Fault, FaultKind, note, note_where};
 use crate::properties::Properties;
 use crate::question::key_of;
-use crate::scope::Scope;
 use crate::variables::Kind;
 use rbbi_classes::{ClassSet, Layout, SharedClasses};
 use rbbi_text::Word;
 use rbbi_tree::{Join, SetExpr, SetItem};
 use std::alloc::{AllocError, Global};
 
-/// What an item of a set is worth: a set of its own, or that which a variable keeps.
+/// The value of an item of a set: a set of its own, or the one that a variable keeps.
 #[derive(Debug, Drop)]
 enum Worth<'a> {
     Own(ClassSet),
     Kept(&'a SharedClasses),
 }
 
-/// The value of a set, and None where a part of it has none. The faults of its parts are noted.
+/// The value of a set; None if a part of it has none. Notes the faults of its parts.
 #[cycle(sets)]
 pub(crate) fn value_of_set(
     alloc: Global,
-    scope: &Scope,
+    context: &Context,
     properties: &mut Properties,
     least: &mut Option<Fault>,
     set: &SetExpr,
 ) -> Result<Option<ClassSet>, AllocError>
-    requires { IsScope properties.old scope.now }
-    ensures value { IfOk result (λ value. IsClassValue properties.old (bounds_of scope.now)
-        (value_of_set properties.old (value_of_name (context_of properties.old scope.now))
+    requires { IsContext properties.old context.now }
+    ensures value { IfOk result (λ value. IsClassValue properties.old (bounds_of context.now)
+        (value_of_set properties.old (value_of_name (context_of properties.old context.now))
         (set_tree set.now)) value) }
     ensures noted { OnOk result (least.new ≡ noted_parts
-        (context_of properties.old scope.now) least.old
+        (context_of properties.old context.now) least.old
         (parts_of_set (set_tree set.now))) }
     ensures same { properties.new ≡ properties.old }
 {
     let mut whole = Some(ClassSet::empty(alloc));
     for part in &set.parts.items {
-        let item = value_of_item(alloc, scope, properties, least, part.place, &part.item)?;
+        let item = value_of_item(alloc, context, properties, least, part.place, &part.item)?;
         whole = join(alloc, whole, part.join, item)?;
     }
-    let value = with_sign(alloc, scope.layout(), set.negated, whole)?;
+    let value = with_sign(alloc, context.layout(), set.negated, whole)?;
     Ok(value)
 }
 
-/// The value of an item of a set, and None where it has none. Its faults are noted.
+/// The value of an item of a set, if it has one. Notes its faults.
 #[cycle(sets)]
 fn value_of_item<'a>(
     alloc: Global,
-    scope: &Scope<'a>,
+    context: &Context<'a>,
     properties: &mut Properties,
     least: &mut Option<Fault>,
     place: u32,
     item: &SetItem,
 ) -> Result<Option<Worth<'a>>, AllocError>
-    requires { IsScope properties.old scope.now }
-    ensures value { IfOk result (λ value. IsClassValue properties.old (bounds_of scope.now)
-        (value_of_item properties.old (value_of_name (context_of properties.old scope.now))
+    requires { IsContext properties.old context.now }
+    ensures value { IfOk result (λ value. IsClassValue properties.old (bounds_of context.now)
+        (value_of_item properties.old (value_of_name (context_of properties.old context.now))
         (set_item_tree item.now)) (option_map classes_of value)) }
     ensures noted { OnOk result ((join : trees.Join) → least.new ≡ noted_parts
-        (context_of properties.old scope.now) least.old
+        (context_of properties.old context.now) least.old
         (parts_of_part (joined place join (set_item_tree item.now)))) }
     ensures same { properties.new ≡ properties.old }
 {
     match item {
         SetItem::Char(c) => {
             let code = *c as u32;
-            let value = ClassSet::range(alloc, scope.layout(), code, code)?;
+            let value = ClassSet::range(alloc, context.layout(), code, code)?;
             Ok(Some(Worth::Own(value)))
         }
         SetItem::Range(first, last) => {
-            let value = value_of_range(alloc, scope.layout(), least, place, *first, *last)?;
+            let value = value_of_range(alloc, context.layout(), least, place, *first, *last)?;
             Ok(own(value))
         }
-        SetItem::Name(name) => { Ok(value_of_variable(scope, least, place, name)) }
+        SetItem::Name(name) => { Ok(value_of_variable(context, least, place, name)) }
         SetItem::Prop {
             negated,
             name,
             value,
         } => {
-            let found = value_of_property(alloc, scope, properties, *negated, name, value)?;
-            note_where(least, found.is_none(), place, 7);
+            let found = value_of_property(alloc, context, properties, *negated, name, value)?;
+            note_where(least, found.is_none(), place, FaultKind::UnknownProperty);
             Ok(own(found))
         }
         SetItem::Set(inner) => {
-            let value = value_of_set(alloc, scope, properties, least, inner)?;
+            let value = value_of_set(alloc, context, properties, least, inner)?;
             Ok(own(value))
         }
     }
 }
 
-/// A set of its own, where there is one.
+/// The set as one of its own, if there is one.
 fn own<'a>(value: Option<ClassSet>) -> Option<Worth<'a>>
     ensures { option_map classes_of result ≡ value }
 {
@@ -117,7 +118,7 @@ fn own<'a>(value: Option<ClassSet>) -> Option<Worth<'a>>
     }
 }
 
-/// The value of a range. Notes where its first character is greater than its last.
+/// The value of a range; notes a fault if its first character is greater than its last.
 fn value_of_range(
     alloc: Global,
     layout: &Layout,
@@ -129,11 +130,11 @@ fn value_of_range(
     ensures value { IfOk result (λ value. (files : List File) →
         IsClassValue files layout.now (value_of_range first last) value) }
     ensures noted { OnOk result (least.new ≡ noted least.old
-        (faults_where (nat_lt last first) place 8)) }
+        (faults_where (nat_lt last first) place kinds.BadRange)) }
 {
     let low = first as u32;
     let high = last as u32;
-    note_where(least, high < low, place, 8);
+    note_where(least, high < low, place, FaultKind::BadRange);
     if high < low {
         return Ok(None);
     }
@@ -141,36 +142,36 @@ fn value_of_range(
     Ok(Some(set))
 }
 
-/// The value of a name in a set. Notes where it has none.
+/// The value of a name in a set; notes a fault if it has none.
 fn value_of_variable<'a>(
-    scope: &Scope<'a>,
+    context: &Context<'a>,
     least: &mut Option<Fault>,
     place: u32,
     name: &Word,
 ) -> Option<Worth<'a>>
-    ensures value { (files : List File) → IsScope files scope.now
-        → IsClassValue files (bounds_of scope.now)
-        (value_of_name (context_of files scope.now) name.now) (option_map classes_of result) }
-    ensures noted { (files : List File) → IsScope files scope.now
-        → least.new ≡ noted_parts (context_of files scope.now) least.old
+    ensures value { (files : List File) → IsContext files context.now
+        → IsClassValue files (bounds_of context.now)
+        (value_of_name (context_of files context.now) name.now) (option_map classes_of result) }
+    ensures noted { (files : List File) → IsContext files context.now
+        → least.new ≡ noted_parts (context_of files context.now) least.old
         (Within place (set_name name.now) ∷ []) }
 {
-    match scope.variable(name) {
+    match context.variable(name) {
         Some(variable) => match &variable.kind {
             Kind::Set(value) => kept(value),
             Kind::Expression(_) => {
-                note(least, place, 6);
+                note(least, place, FaultKind::NotASet);
                 None
             }
         },
         None => {
-            note(least, place, 5);
+            note(least, place, FaultKind::Undefined);
             None
         }
     }
 }
 
-/// The set that a variable keeps, where there is one.
+/// The set that a variable keeps, if there is one.
 fn kept(value: &Option<SharedClasses>) -> Option<Worth<'_>>
     ensures { option_map classes_of result ≡ value.now }
 {
@@ -180,35 +181,35 @@ fn kept(value: &Option<SharedClasses>) -> Option<Worth<'_>>
     }
 }
 
-/// The set of a property by classes, and None where it is unknown.
+/// The set of a property by classes; None if it is unknown.
 pub(crate) fn value_of_property(
     alloc: Global,
-    scope: &Scope,
+    context: &Context,
     properties: &mut Properties,
     negated: bool,
     name: &Word,
     value: &Option<Word>,
 ) -> Result<Option<ClassSet>, AllocError>
-    requires { IsScope properties.old scope.now }
-    ensures value { IfOk result (λ set. IsClassValue properties.old (bounds_of scope.now)
+    requires { IsContext properties.old context.now }
+    ensures value { IfOk result (λ set. IsClassValue properties.old (bounds_of context.now)
         (value_of_property properties.old negated name.now value.now) set) }
     ensures same { properties.new ≡ properties.old }
 {
     let key = key_of(alloc, negated, name, value)?;
-    match scope.classes.known(key.as_str(), negated, name, value) {
+    match context.classes.known(key.as_str(), negated, name, value) {
         Some(set) => {
             let copy = set.clone()?;
             Ok(copy)
         }
         None => {
             let found = properties.set_of(alloc, negated, name, value)?;
-            let set = divide(alloc, scope.layout(), found.as_ref())?;
+            let set = divide(alloc, context.layout(), found.as_ref())?;
             Ok(set)
         }
     }
 }
 
-/// What stands to the left with an item joined to it, and None where one of them has no value.
+/// `left join item`; None if either has no value.
 fn join(
     alloc: Global,
     left: Option<ClassSet>,
@@ -236,7 +237,7 @@ fn join(
     }
 }
 
-/// What stands to the left with a set joined to it.
+/// `left join item`.
 fn join_own(
     alloc: Global,
     left: ClassSet,
@@ -266,8 +267,8 @@ fn join_own(
     }
 }
 
-/// What stands to the left with the set of a variable joined to it, which isn't copied but where
-/// the whole stands on it.
+/// `left join item`, for the set of a variable, which is copied only if the result shares its
+/// chunks.
 fn join_kept(
     alloc: Global,
     left: ClassSet,
@@ -297,7 +298,7 @@ fn join_kept(
     }
 }
 
-/// The same, or where a set is negated, the others.
+/// The set, or its complement if `negated`.
 fn with_sign(
     alloc: Global,
     layout: &Layout,

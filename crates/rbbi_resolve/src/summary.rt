@@ -8,7 +8,7 @@ use crate::variables::{MANY_LEAVES, Summary, TALL};
 use rbbi_text::Word;
 use rbbi_tree::Quant;
 
-/// The sum of two numbers, but the cap where it is greater.
+/// The sum of two numbers, at most the cap.
 fn capped_sum(left: u32, right: u32, cap: u32) -> u32
     requires left_low { left ≤ 65536 }
     requires right_low { right ≤ 65536 }
@@ -36,7 +36,7 @@ fn count_of(word: &Word) -> usize
     word.as_str().chars().count()
 }
 
-/// A number of leaves as it is kept.
+/// A number of leaves, at most the cap.
 fn capped(count: usize) -> u32
     ensures { IsCapped 8193 count result }
 {
@@ -93,7 +93,7 @@ impl Summary {
         }
     }
 
-    /// One or the other; the height is that of the higher one.
+    /// The choice of the two; its height is the greater one.
     pub(crate) fn or(self, other: Summary) -> Summary
         ensures { (a b h k : ℕ) (e f : Bool) → Sums self a h e → Sums other b k f
             → Sums result (a + b) (max h k) (e || f) }
@@ -105,7 +105,7 @@ impl Summary {
         }
     }
 
-    /// One after the other; the height is that of the higher one.
+    /// The sequence of the two; its height is the greater one.
     pub(crate) fn then(self, other: Summary) -> Summary
         ensures { (a b h k : ℕ) (e f : Bool) → Sums self a h e → Sums other b k f
             → Sums result (a + b) (max h k) (e && f) }
@@ -117,7 +117,7 @@ impl Summary {
         }
     }
 
-    /// What is higher by 1.
+    /// The same, higher by 1.
     pub(crate) fn higher(self) -> Summary
         ensures { (a h : ℕ) (e : Bool) → Sums self a h e → Sums result a (h + 1) e }
     {
@@ -128,7 +128,7 @@ impl Summary {
         }
     }
 
-    /// What is higher by 1 where it has many parts.
+    /// The same, higher by 1 if it has several parts.
     pub(crate) fn raised(self, many: bool) -> Summary
         ensures { (a h : ℕ) (e : Bool) → Sums self a h e →
             Sums result a (h + (if many then 1 else 0)) e }
@@ -136,7 +136,7 @@ impl Summary {
         if many { self.higher() } else { self }
     }
 
-    /// What may also be the empty word, and is higher by 1.
+    /// The same or the empty word, higher by 1.
     fn optional(self) -> Summary
         ensures { (a h : ℕ) (e : Bool) → Sums self a h e → Sums result a (h + 1) true }
     {
@@ -147,7 +147,7 @@ impl Summary {
         }
     }
 
-    /// As often as it stands.
+    /// The repetition by the quantifier.
     pub(crate) fn repeated(self, quant: Quant) -> Summary
         ensures { (a h : ℕ) (e : Bool) → Sums self a h e
             → Sums result a (h + height_of_quant quant) (empty_of_quant quant e) }

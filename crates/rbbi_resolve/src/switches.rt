@@ -17,7 +17,7 @@ pub(crate) struct Switches {
 impl Switches {
     /// Before the first statement rules are active, and nothing else is.
     pub(crate) fn new() -> Switches
-        ensures { (rows : List File) → AreSwitches result (files.start rows) }
+        ensures { (rows : List File) → AreSwitches result (files.initial_context rows) }
     {
         Switches {
             chained: false,
@@ -26,7 +26,7 @@ impl Switches {
         }
     }
 
-    /// What is switched on behind a control.
+    /// The switches behind a control.
     pub(crate) fn after(self, name: &str) -> Switches
         ensures { (context : contexts.Context) → AreSwitches self context
             → AreSwitches result (after_control context name.now) }
@@ -66,21 +66,21 @@ fn ends_active(name: &str) -> bool
     name == "reverse" || name == "safe_forward" || name == "safe_reverse"
 }
 
-/// Whether a control is known and has no effect that is supported.
+/// Whether a control is known to be unsupported.
 pub(crate) fn is_unsupported(name: &str) -> bool
     ensures { result ≡ files.is_unsupported name.now }
 {
     name == "LBCMNoChain" || name == "unquoted_literals"
 }
 
-/// Whether a control is neither supported nor known to be not.
+/// Whether a control is neither supported nor known to be unsupported.
 pub(crate) fn is_unknown(name: &str) -> bool
     ensures { result ≡ (not (files.is_supported name.now) && not (files.is_unsupported name.now)) }
 {
     !is_supported(name) && !is_unsupported(name)
 }
 
-/// Whether a control is known and supported.
+/// Whether a control is supported.
 fn is_supported(name: &str) -> bool
     ensures { result ≡ files.is_supported name.now }
 {

@@ -60,7 +60,7 @@ pub(crate) fn in_choice(mut items: Vec<Tree>) -> Tree
     }
 }
 
-/// A part as often as it stands.
+/// The repetition of a part by the quantifier.
 pub(crate) fn repeated_tree(alloc: Global, quant: Quant, part: Tree) -> Result<Tree, AllocError>
     ensures tree { IfOk result (λ tree. (sets : List (List Range))
         → tree_of sets tree ≡ repeated quant (tree_of sets part)) }

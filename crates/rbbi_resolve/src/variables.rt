@@ -4,14 +4,14 @@ ghost use Rattle.std.specs.Prelude.{◌≡◌, ◌≤◌};
 use indexmap::IndexMap;
 use rbbi_classes::SharedClasses;
 
-/// The most leaves that are told apart: one more than rules may have.
+/// The cap of leaf counts: one more than rules may have.
 pub(crate) const MANY_LEAVES: u32 = 8193;
 
-/// The greatest height that is told apart: one more than a rule may have.
+/// The cap of heights: one more than a rule may have.
 pub(crate) const TALL: u32 = 257;
 
-/// What is kept of an expression: how many leaves it has, or `MANY_LEAVES` where it has more; its
-/// height, or `TALL` where it is higher; and whether it spells the empty word.
+/// What is kept of an expression: its number of leaves, at most `MANY_LEAVES`; its height, at most
+/// `TALL`; and whether it spells the empty word.
 #[derive(Clone, Copy, Debug)]
 pub(crate) struct Summary {
     pub(crate) leaves: u32,
@@ -24,7 +24,7 @@ pub(crate) struct Summary {
 /// What a variable stands for.
 #[derive(Debug, Drop)]
 pub(crate) enum Kind {
-    /// A set, and None where it has no value, since a variable or a part in it is faulty.
+    /// A set; None if it has no value, since a variable or a part in it is faulty.
     Set(Option<SharedClasses>),
     /// An expression that is no set.
     Expression(Summary),

@@ -2,7 +2,7 @@
 use Rattle.std.proofs.Common.{◌≡◌, ◌<◌, ◌≤◌, ◌+◌, ℕ, List, [], ◌∷◌, ◌++◌, length, drop, get_or, sym, ap, ◌∙◌, subst, inl, inr, append_assoc, arith}
 use Rattle.std.proofs.lemmas.List.{drop_more, drop_all, append-nil}
 use Rattle.rbbi_props.specs.Rows as rows
-use Rattle.rbbi_props.specs.Files.{file_of}
+use Rattle.rbbi_props.specs.Files.{named_file}
 use Rattle.rbbi_tool.specs.declared.words.setting.Property.{Property}
 use Rattle.rbbi_tool.specs.declared.refusal.Refusal.{Refusal}
 use Rattle.rbbi_tool.specs.Stages.{Stage}
@@ -36,13 +36,13 @@ module _ {properties : List Property} {handed : List (List ℕ)} {files : List r
       (subst (λ bs. (properties_stage (property ∷ drop (i + 1) properties) bs).refuses r) (sym first_bytes) (inl refused)))
 
   -- this one passes
-  pub handing_more : (files' : List rows.File) → (property_stage property.file bytes).passes tt → files' ≡ files ++ file_of property.name bytes ∷ []
+  pub handing_more : (files' : List rows.File) → (property_stage property.file bytes).passes tt → files' ≡ files ++ named_file property.name bytes ∷ []
       → AreHandedTo properties handed files' (i + 1)
   handing_more files' passed pushed = record {
     inside = omega arith;
     files_are =
         ap (λ fs. fs ++ property_files (drop (i + 1) properties) (drop (i + 1) handed)) pushed
-        ∙ append_assoc files (file_of property.name bytes ∷ []) (property_files (drop (i + 1) properties) (drop (i + 1) handed))
+        ∙ append_assoc files (named_file property.name bytes ∷ []) (property_files (drop (i + 1) properties) (drop (i + 1) handed))
         ∙ ap (λ bs. files ++ property_files (property ∷ drop (i + 1) properties) bs) (sym first_bytes)
         ∙ ap (λ ps. files ++ property_files ps (drop i handed)) (sym first_left) ∙ so_far.files_are;
     refuses = λ r refused.

@@ -258,7 +258,7 @@ module _ (laws : Laws) where
   statements_determined : (x : List ℕ) (ts : List Token) → IsDetermined (List StatementTree) (statements_stage x ts)
   statements_determined x ts = record {
     value = λ f g is is'. laws.readings ts f g is.0 is'.0;
-    refusal = told_once (parser.IsRefusedFor ts (length x)) parser.label_of parser.place_of x
+    refusal = told_once (parser.IsRefusalOf ts (length x)) parser.label_of parser.place_of x
         (λ e f i j is placed is' placed'. laws.refusals ts (length x) e f (is, ap is_some placed) (is', ap is_some placed'));
     apart = λ f r is is'. laws.excludes ts (length x) f is'.error is.0 is.1 (is'.holds, ap is_some is'.placed);
   }

@@ -2,7 +2,7 @@
 use Rattle.std.specs.Prelude.{◌≡◌, ℕ, List, [], ◌∷◌, length, codes}
 use Rattle.rbbi_text.specs.Bytes.{file_lines}
 use Rattle.rbbi_props.specs.Rows as rows
-use Rattle.rbbi_props.specs.Files.{file_of}
+use Rattle.rbbi_props.specs.Files.{named_file}
 use Rattle.rbbi_props.specs.Refusals.{HasRowsAlone, IsBadRow}
 use Rattle.rbbi_tool.specs.declared.words.setting.Property.{Property}
 use Rattle.rbbi_tool.specs.declared.refusal.Subject.TheVariants.{File}
@@ -34,4 +34,4 @@ properties_stage (property ∷ properties) (bytes ∷ handed) =
 abbrev pub property_files : List Property → List (List ℕ) → List rows.File
 property_files [] handed = []
 property_files (property ∷ properties) [] = []
-property_files (property ∷ properties) (bytes ∷ handed) = file_of property.name bytes ∷ property_files properties handed
+property_files (property ∷ properties) (bytes ∷ handed) = named_file property.name bytes ∷ property_files properties handed

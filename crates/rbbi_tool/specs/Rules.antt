@@ -50,7 +50,7 @@ tokens_stage x = record { passes = AreTokens x; refuses = IsTold (lexer.TellsFau
 abbrev pub statements_stage : List ℕ → List Token → Stage (List StatementTree)
 statements_stage x tokens = record {
   passes = λ statements. IsFile tokens statements × IsShallow tokens;
-  refuses = IsTold (parser.IsRefusedFor tokens (length x)) parser.label_of parser.place_of x;
+  refuses = IsTold (parser.IsRefusalOf tokens (length x)) parser.label_of parser.place_of x;
 }
 
 -- the rules that the statements mean, or the first fault, with these property files

@@ -1,7 +1,7 @@
 //! From the bytes of property files to their rows.
 ghost use Rattle.std.specs.Prelude.{◌≡◌, ◌+◌, ◌≤◌, ◌∷◌, [], ◌++◌, length, sum_by, IfOk, OnOk};
 ghost use Rattle.rbbi_text.specs.Bytes.{most_bytes};
-ghost use Rattle.rbbi_props.specs.Files.{file_of};
+ghost use Rattle.rbbi_props.specs.Files.{named_file};
 ghost use Rattle.rbbi_script.specs.Reading.{RisesUpTo};
 ghost use Rattle.rbbi_tool.specs.inner.Stages.{Meets};
 ghost use Rattle.rbbi_tool.specs.Properties as spec;
@@ -26,7 +26,7 @@ fn add<L: Ledger>(
     requires { length bytes.now ≤ most_bytes }
     ensures exact { Meets (λ _. tt) (spec.property_stage property.now.file bytes.now) result }
     ensures added { OnOk result
-        (table.new ≡ table.old ++ file_of property.now.name bytes.now ∷ []) }
+        (table.new ≡ table.old ++ named_file property.now.name bytes.now ∷ []) }
     ensures steps { steps.new ≡ steps.old + length bytes.now }
 {
     match table.add(property.name.as_str(), bytes.bytes(steps)) {

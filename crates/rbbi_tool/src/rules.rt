@@ -69,7 +69,7 @@ fn tokens_of(alloc: Global, text: &str) -> Result<Tokens, Refusal>
     requires { length text.now ≤ most_bytes }
     ensures exact { Meets (λ tokens. tokens) (spec.tokens_stage (chars text.now)) result }
     ensures places { IfOk result (PlacesRise 0 (length (chars text.now))) }
-    ensures well_made { IfOk result lex.AreWellMade }
+    ensures well_made { IfOk result lex.AreWellMadeTokens }
 {
     match rbbi_lex::lex(alloc, text) {
         Ok(tokens) => Ok(tokens),
@@ -81,7 +81,7 @@ fn tokens_of(alloc: Global, text: &str) -> Result<Tokens, Refusal>
 fn statements_of(alloc: Global, text: &str, tokens: &Tokens) -> Result<Statements, Refusal>
     requires short { length text.now ≤ most_bytes }
     requires places { PlacesRise 0 (length (chars text.now)) tokens.now }
-    requires well_made { lex.AreWellMade tokens.now }
+    requires well_made { lex.AreWellMadeTokens tokens.now }
     ensures exact { Meets statement_trees
         (spec.statements_stage (chars text.now) tokens.now) result }
     ensures well_made { IfOk result (λ statements. AreWellMade (statement_trees statements)) }

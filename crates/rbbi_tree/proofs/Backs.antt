@@ -3,8 +3,8 @@ use Rattle.std.proofs.Common.{◌≡◌, List, [], ◌∷◌, ◌++◌, reverse,
 use Rattle.std.proofs.lemmas.List.{reverse-append}
 use Rattle.rbbi_tree.specs.Trees.{PartsTree, PartTree, no_parts, part, parts_of, SeqTree, ItemTree, ExprTree, no_items, item, seq_of, no_alternatives}
 use Rattle.rbbi_tree.specs.Trees.{alternative, expr_of}
-use Rattle.rbbi_tree.specs.inner.Machine.Sets.{parts_back}
-use Rattle.rbbi_tree.specs.inner.Machine.Statements.{items_back, sequences_back}
+use Rattle.rbbi_tree.specs.inner.Sets.{parts_back}
+use Rattle.rbbi_tree.specs.inner.Statements.{items_back, sequences_back}
 
 parts_back-append : (a b : List PartTree) (more : PartsTree) → parts_back (a ++ b) more ≡ parts_back b (parts_back a more)
 parts_back-append [] b more = refl

@@ -8,10 +8,10 @@ use Rattle.rbbi_tree.specs.declared.syntax.Quant.{Quant}
 use Rattle.rbbi_tree.specs.declared.syntax.Quant.TheVariants.{Once, Star, Plus, Quest}
 use Rattle.rbbi_tree.specs.Trees.{set_of, ExprTree, SeqTree, ItemTree, AtomTree, StatementTree, no_alternatives, alternative, no_items, item, placed}
 use Rattle.rbbi_tree.specs.Trees.{character, quoted, any, name, property, set, group, nothing, control, assign, rule}
-use Rattle.rbbi_tree.specs.Grammar.{token, BeginsAt, IsCaret, IsQuant, IsTag, IsExpr, AreMoreAlternatives, IsSeq, AreItems, IsItem, IsAtom, IsOneSeq, IsMatcher}
+use Rattle.rbbi_tree.specs.Grammar.{token, HasFirstPlace, IsCaret, IsQuant, IsTag, IsExpr, AreMoreAlternatives, IsSeq, AreItems, IsItem, IsAtom, IsOneSeq, IsMatcher}
 use Rattle.rbbi_tree.specs.Grammar.{IsStatement, IsFile}
-use Rattle.rbbi_tree.specs.inner.Machine.Statements.{LevelTree, GroupTree, HeadTree, assigning, ruling, resting, Progress, empty_level, after, items_back}
-use Rattle.rbbi_tree.specs.inner.Machine.Statements.{sequences_back, with_item, with_sequence, whole, begun, atom_read, group_begun, set_begun, at_bar, run}
+use Rattle.rbbi_tree.specs.inner.Statements.{LevelTree, GroupTree, HeadTree, assigning, ruling, resting, Progress, empty_level, after, items_back}
+use Rattle.rbbi_tree.specs.inner.Statements.{sequences_back, with_item, with_sequence, whole, begun, atom_read, group_begun, set_begun, at_bar, run}
 use Rattle.rbbi_tree.proofs.Runs.{run-on}
 use Rattle.rbbi_tree.proofs.CompleteSets.{run_set}
 
@@ -20,8 +20,8 @@ abbrev pub inside : List StatementTree → HeadTree → List GroupTree → Level
 inside done head groups level = record { statements = done; head = head; groups = groups; level = level; sets = None }
 
 -- after this head an atom may be read
-abbrev pub Reads : HeadTree → Type 0
-Reads head = (place : ℕ) (p : Progress) → begun place head p ≡ Some p
+abbrev pub FollowsMachine : HeadTree → Type 0
+FollowsMachine head = (place : ℕ) (p : Progress) → begun place head p ≡ Some p
 
 -- after this head and in these groups a bar may be read
 abbrev MayBar : HeadTree → List GroupTree → Type 0
@@ -51,7 +51,7 @@ Reaches ts done head groups level e =
     (whole (record { sequences = sequences; items = i ∷ is }) ≡ e)
 
 -- an atom of one token
-one : (place : ℕ) (atom : AtomTree) (done : List StatementTree) (head : HeadTree) (groups : List GroupTree) (level : LevelTree) → Reads head →
+one : (place : ℕ) (atom : AtomTree) (done : List StatementTree) (head : HeadTree) (groups : List GroupTree) (level : LevelTree) → FollowsMachine head →
     option_and_then (run []) (option_map (atom_read place atom) (begun place head (inside done head groups level)))
     ≡ Some (inside done head groups (with_item (placed place atom Once) level))
 one place atom done head groups level reads =
@@ -66,7 +66,8 @@ run_quant Plus ts place atom done head groups level (at, h) = rw h refl
 run_quant Quest ts place atom done head groups level (at, h) = rw h refl
 
 mutual
-  run_item : (i : ItemTree) (ts : List Token) (done : List StatementTree) (head : HeadTree) (groups : List GroupTree) (level : LevelTree) → Reads head →
+  run_item : (i : ItemTree) (ts : List Token) (done : List StatementTree) (head : HeadTree) (groups : List GroupTree) (level : LevelTree) →
+      FollowsMachine head →
       IsItem ts i →
       run ts (inside done head groups level) ≡ Some (inside done head groups (with_item i level))
   run_item (placed place atom quant) ts done head groups level reads (a, b, h, is, q) =
@@ -74,7 +75,7 @@ mutual
       run_quant quant b place atom done head groups level q)
 
   run_atom : (atom : AtomTree) (place : ℕ) (ts : List Token) (done : List StatementTree) (head : HeadTree) (groups : List GroupTree) (level : LevelTree) →
-      Reads head → IsAtom place ts atom →
+      FollowsMachine head → IsAtom place ts atom →
       run ts (inside done head groups level) ≡ Some (inside done head groups (with_item (placed place atom Once) level))
   run_atom (character c bare) place ts done head groups level reads h = rw h (one place (character c bare) done head groups level reads)
   run_atom (quoted word) place ts done head groups level reads h = rw h (one place (quoted word) done head groups level reads)
@@ -85,14 +86,15 @@ mutual
       rw (h, here) (ap (λ o. option_and_then (run (caret ++ rest)) (option_map (set_begun place) o)) (reads place (inside done head groups level))
       ∙ run_set negated parts caret rest place (inside done head groups level) caret_is others)
   run_atom (group inner) place ts done head groups level reads (close, a, h, e) =
-      let opened : GroupTree = record { place = place; outer = level } in
+      let new_set_level : GroupTree = record { place = place; outer = level } in
       let last = token ParenClose close ∷ [] in
-      let (sequences, i, is, ran, all) = run_expr inner a done head (opened ∷ groups) reads (λ done level i is. refl) e in
+      let (sequences, i, is, ran, all) = run_expr inner a done head (new_set_level ∷ groups) reads (λ done level i is. refl) e in
       rw h (ap (λ o. option_and_then (run (a ++ last)) (option_map (group_begun place) o)) (reads place (inside done head groups level))
-      ∙ run-on a last (inside done head (opened ∷ groups) empty_level) _ ran
+      ∙ run-on a last (inside done head (new_set_level ∷ groups) empty_level) _ ran
       ∙ ap (λ e. Some (inside done head groups (with_item (placed place (group e) Once) level))) all)
 
-  run_items : (s : SeqTree) (ts : List Token) (done : List StatementTree) (head : HeadTree) (groups : List GroupTree) (level : LevelTree) → Reads head →
+  run_items : (s : SeqTree) (ts : List Token) (done : List StatementTree) (head : HeadTree) (groups : List GroupTree) (level : LevelTree) →
+      FollowsMachine head →
       AreItems ts s →
       run ts (inside done head groups level) ≡ Some (inside done head groups (with_items s level))
   run_items no_items ts done head groups level reads h = rw h refl
@@ -100,7 +102,8 @@ mutual
       rw h (run-on a b (inside done head groups level) _ (run_item i a done head groups level reads first)
       ∙ run_items more b done head groups (with_item i level) reads rest)
 
-  run_expr : (e : ExprTree) (ts : List Token) (done : List StatementTree) (head : HeadTree) (groups : List GroupTree) → Reads head → MayBar head groups →
+  run_expr : (e : ExprTree) (ts : List Token) (done : List StatementTree) (head : HeadTree) (groups : List GroupTree) → FollowsMachine head →
+      MayBar head groups →
       IsExpr ts e →
       Reaches ts done head groups empty_level e
   run_expr no_alternatives ts done head groups reads bars h = absurd h
@@ -115,7 +118,7 @@ mutual
 
   run_more : (e : ExprTree) (ts : List Token) (done : List StatementTree) (head : HeadTree) (groups : List GroupTree) (sequences : List SeqTree) (i : ItemTree)
       (is : List ItemTree) →
-      Reads head → MayBar head groups → AreMoreAlternatives ts e →
+      FollowsMachine head → MayBar head groups → AreMoreAlternatives ts e →
       Reaches ts done head groups (record { sequences = sequences; items = i ∷ is }) (sequences_back sequences (alternative (items_back (i ∷ is) no_items) e))
   run_more no_alternatives ts done head groups sequences i is reads bars h = (sequences, i, is, rw h refl, refl)
   run_more (alternative no_items more) ts done head groups sequences i is reads bars (bar, a, b, h, first, rest) = absurd first
@@ -135,7 +138,7 @@ mutual
       )
 
 -- one sequence is read, from nothing
-run_one : (e : ExprTree) (ts : List Token) (done : List StatementTree) (head : HeadTree) → Reads head → IsOneSeq ts e →
+run_one : (e : ExprTree) (ts : List Token) (done : List StatementTree) (head : HeadTree) → FollowsMachine head → IsOneSeq ts e →
     (i : ItemTree) × (is : List ItemTree) × (run ts (inside done head [] empty_level) ≡ Some (inside done head [] (record { sequences = []; items = i ∷ is })))
     × (whole (record { sequences = []; items = i ∷ is }) ≡ e)
 run_one no_alternatives ts done head reads h = absurd h
@@ -208,21 +211,21 @@ begin (Name word) place rest done ok = refl
 begin (Prop negated word value) place rest done ok = refl
 begin kind place rest done ok = absurd ok
 
-begin_at : (ts more : List Token) (place : ℕ) (done : List StatementTree) → BeginsWell ts → BeginsAt place (ts ++ more) →
+begin_at : (ts more : List Token) (place : ℕ) (done : List StatementTree) → BeginsWell ts → HasFirstPlace place (ts ++ more) →
     run ts (after done) ≡ run ts (inside done (ruling place false) [] empty_level)
 begin_at ts more place done (k, at, rest, is, ok) begins =
-    let here : at ≡ place = subst (λ us. BeginsAt place (us ++ more)) is begins in
+    let here : at ≡ place = subst (λ us. HasFirstPlace place (us ++ more)) is begins in
     rw is (begin k at rest done ok ∙ ap (λ p. run (token k at ∷ rest) (inside done (ruling p false) [] empty_level)) here)
 
 -- a rule begins, with a caret or without one
 run_begin : (no_chain_in : Bool) (caret a more : List Token) (place : ℕ) (done : List StatementTree) → IsCaret caret no_chain_in → BeginsWell a →
-    BeginsAt place (caret ++ (a ++ more)) →
+    HasFirstPlace place (caret ++ (a ++ more)) →
     run (caret ++ a) (after done) ≡ run a (inside done (ruling place no_chain_in) [] empty_level)
 run_begin true caret a more place done (at, h) well begins =
-    let here : at ≡ place = subst (λ us. BeginsAt place (us ++ (a ++ more))) h begins in
+    let here : at ≡ place = subst (λ us. HasFirstPlace place (us ++ (a ++ more))) h begins in
     rw h (ap (λ p. run a (inside done (ruling p true) [] empty_level)) here)
 run_begin false caret a more place done h well begins =
-    rw h (begin_at a more place done well (subst (λ us. BeginsAt place (us ++ (a ++ more))) h begins))
+    rw h (begin_at a more place done well (subst (λ us. HasFirstPlace place (us ++ (a ++ more))) h begins))
 
 -- a rule ends, with a tag or without one
 run_rule_end : (tag : Option ℕ) (t : List Token) (semi place : ℕ) (no_chain_in : Bool) (done : List StatementTree) (sequences : List SeqTree) (i : ItemTree)
@@ -277,7 +280,7 @@ run_statement (assign word place e) ts done (equals, semi, a, h, is) =
 run_statement (rule place no_chain_in front slash rest tag) ts done (semi, caret, a, t, h, begins, caret_is, is, tag_is) =
     let end = t ++ token Semi semi ∷ [] in
     let start = run_begin no_chain_in caret (a ++ end) [] place done caret_is (begins_more (a ++ end) a end refl (begins_matcher front slash rest a is))
-    (subst (BeginsAt place) (h ∙ ap (λ us. caret ++ us) (sym (append-nil (a ++ end)))) begins) in
+    (subst (HasFirstPlace place) (h ∙ ap (λ us. caret ++ us) (sym (append-nil (a ++ end)))) begins) in
     rw h (start ∙ run_matcher front slash rest tag a t semi place no_chain_in done is tag_is)
 
 -- the run over a file ends between statements, after the file's

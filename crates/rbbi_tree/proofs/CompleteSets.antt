@@ -9,8 +9,8 @@ use Rattle.rbbi_tree.specs.declared.set_level.SetState.TheVariants as state
 use Rattle.rbbi_tree.specs.Trees.{SetSyntax, PartsTree, PartTree, SetItemTree, set_of, no_parts, part, joined, set_character, set_range, set_name, set_property}
 use Rattle.rbbi_tree.specs.Trees.{set_within}
 use Rattle.rbbi_tree.specs.Grammar.{token, IsCaret, Spot, opening, behind, elsewhere, IsOpening, IsJoin, AreCharactersPart, hyphen_at, AreParts, IsOperand}
-use Rattle.rbbi_tree.specs.inner.Machine.Sets.{SetLevelTree, OuterSetTree, SetsTree, settled, join_in, parts_back, outer_set}
-use Rattle.rbbi_tree.specs.inner.Machine.Statements.{Progress, with_sets, set_ended, run}
+use Rattle.rbbi_tree.specs.inner.Sets.{SetLevelTree, OuterSetTree, SetsTree, settled, join_in, parts_back, outer_set}
+use Rattle.rbbi_tree.specs.inner.Statements.{Progress, with_sets, set_ended, run}
 use Rattle.rbbi_tree.proofs.Runs.{run-on}
 
 -- within this set, in these

@@ -7,9 +7,9 @@ use Rattle.rbbi_tree.specs.declared.set_level.SetState.{SetState}
 use Rattle.rbbi_tree.specs.declared.set_level.SetState.TheVariants as state
 use Rattle.rbbi_tree.specs.Trees.{SetSyntax, PartTree, SeqTree, ItemTree, StatementTree, placed, character, set, group}
 use Rattle.rbbi_tree.specs.Grammar.{token}
-use Rattle.rbbi_tree.specs.inner.Machine.Sets.{SetLevelTree, OuterSetTree, SetsTree, set_from, set_resumed}
-use Rattle.rbbi_tree.specs.inner.Machine.Statements.{LevelTree, GroupTree, HeadTree, between, assigning, ruling, resting, ended, Progress, whole, set_ended}
-use Rattle.rbbi_tree.specs.inner.Machine.Statements.{run}
+use Rattle.rbbi_tree.specs.inner.Sets.{SetLevelTree, OuterSetTree, SetsTree, set_from, set_resumed}
+use Rattle.rbbi_tree.specs.inner.Statements.{LevelTree, GroupTree, HeadTree, between, assigning, ruling, resting, ended, Progress, whole, set_ended}
+use Rattle.rbbi_tree.specs.inner.Statements.{run}
 use Rattle.rbbi_tree.proofs.Sound.{Reading}
 
 -- tokens that lead from here to between two statements

@@ -6,10 +6,10 @@ use Rattle.std.proofs.lemmas.Bool.{cases_order}
 use Rattle.std.proofs.lemmas.Option.{get_or_from_slice_get, slice_get_within, slice_get_past}
 use Rattle.rbbi_lex.specs.declared.token.Token.{Token}
 use Rattle.rbbi_tree.specs.Grammar.{IsFile}
-use Rattle.rbbi_tree.specs.inner.Machine.Statements.{HeadTree, between, Progress, after, advance, run}
+use Rattle.rbbi_tree.specs.inner.Statements.{HeadTree, between, Progress, after, advance, run}
 use Rattle.rbbi_tree.specs.Brackets.{IsShallowBefore, open_from}
-use Rattle.rbbi_tree.specs.Refusals.{BeginsFile, IsSyntaxAt, place_or_end, IsRefusedFor}
-use Rattle.rbbi_tree.specs.inner.Machine.SetStates.{IsStuckAt}
+use Rattle.rbbi_tree.specs.Refusals.{BeginsFile, IsSyntaxAt, place_or_end, IsRefusalOf}
+use Rattle.rbbi_tree.specs.inner.SetStates.{IsStuckAt}
 use Rattle.rbbi_tree.specs.declared.error.TreeErr.{TreeErr}
 use Rattle.rbbi_tree.specs.declared.error.TreeErr.TheVariants.{Syntax, TooDeep, Memory}
 use Rattle.rbbi_tree.proofs.Runs.{run-append, run-on}
@@ -40,7 +40,7 @@ stuck_after ts i t p at h stuck =
 -- a refusal where the machine is stuck is right
 pub refused_stuck : (ts : List Token) (end i : ℕ) (t : Token) (p : Progress) (e : TreeErr) → slice_get ts i ≡ Some t → run (take i ts) (after []) ≡ Some p →
     IsShallowBefore ts i →
-    IsStuckAt t.place (advance t p) e → IsRefusedFor ts end e
+    IsStuckAt t.place (advance t p) e → IsRefusalOf ts end e
 refused_stuck ts end i t p (Syntax place) at h shallow (stuck, here) = (
   i,
   inl (slice_get_within ts i t at, begins_file (take i ts) p h, begins_none (take (i + 1) ts) (stuck_after ts i t p at h stuck)),
@@ -60,7 +60,7 @@ run_more ts i t p q at h step =
 -- a refusal at the first bracket that makes 65 open ones is right
 pub refused_deep : (ts : List Token) (end i : ℕ) (t : Token) (q : Progress) → slice_get ts i ≡ Some t → run (take (i + 1) ts) (after []) ≡ Some q →
     IsShallowBefore ts i →
-    open_from 0 (take (i + 1) ts) ≡ 65 → IsRefusedFor ts end (TooDeep t.place)
+    open_from 0 (take (i + 1) ts) ≡ 65 → IsRefusalOf ts end (TooDeep t.place)
 refused_deep ts end i t q at h shallow deep =
     (i, (slice_get_within ts i t at, deep, shallow), ap (λ o. place_or_end o end) (sym at), begins_file (take (i + 1) ts) q h)
 
@@ -70,7 +70,7 @@ head_in (Some p) = Some p.head
 
 -- a refusal at the end is right where a run ends within a statement
 pub refused_within : (ts : List Token) (end : ℕ) (p : Progress) → run ts (after []) ≡ Some p → ¬ (p.head ≡ between) → IsShallowBefore ts (length ts) →
-    IsRefusedFor ts end (Syntax end)
+    IsRefusalOf ts end (Syntax end)
 refused_within ts end p h within shallow = (
   length ts,
   inr (refl, begins_file ts p h, λ statements file. within (let e : Some p.head ≡ Some between = ap head_in (sym h ∙ run_file statements ts [] file) in cc)),

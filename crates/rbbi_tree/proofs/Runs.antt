@@ -1,7 +1,7 @@
 -- Runs of the machine over lists of tokens.
 use Rattle.std.proofs.Common.{◌≡◌, List, [], ◌∷◌, ◌++◌, Option, Some, None, option_and_then, refl, ◌∙◌, ap}
 use Rattle.rbbi_lex.specs.declared.token.Token.{Token}
-use Rattle.rbbi_tree.specs.inner.Machine.Statements.{Progress, advance, run}
+use Rattle.rbbi_tree.specs.inner.Statements.{Progress, advance, run}
 
 -- a run over two lists is a run over the first and then over the second
 pub run-append : (a b : List Token) (p : Progress) → run (a ++ b) p ≡ option_and_then (run b) (run a p)

@@ -12,16 +12,16 @@ use Rattle.rbbi_tree.specs.declared.syntax.Quant.{Quant}
 use Rattle.rbbi_tree.specs.declared.syntax.Quant.TheVariants.{Once, Star, Plus, Quest}
 use Rattle.rbbi_tree.specs.Trees.{SetSyntax, PartTree, ExprTree, SeqTree, ItemTree, AtomTree, StatementTree, no_alternatives, alternative, no_items}
 use Rattle.rbbi_tree.specs.Trees.{item, placed, character, quoted, any, name, property, set, group, nothing, control}
-use Rattle.rbbi_tree.specs.Grammar.{token, BeginsAt, IsCaret, IsQuant, IsTag, IsSet, IsExpr, AreMoreAlternatives, IsSeq, AreItems, IsItem, IsAtom, IsOneSeq}
+use Rattle.rbbi_tree.specs.Grammar.{token, HasFirstPlace, IsCaret, IsQuant, IsTag, IsSet, IsExpr, AreMoreAlternatives, IsSeq, AreItems, IsItem, IsAtom, IsOneSeq}
 use Rattle.rbbi_tree.specs.Grammar.{IsStatement, IsFile}
-use Rattle.rbbi_tree.specs.inner.Machine.Sets.{SetLevelTree, OuterSetTree, SetsTree, join_in, ended_parts, opened, outer_set, set_from, set_resumed}
-use Rattle.rbbi_tree.specs.inner.Machine.Sets.{at_set_token}
-use Rattle.rbbi_tree.specs.inner.Machine.Statements.{LevelTree, GroupTree, HeadTree, between, assigning, ruling, resting, ended, Progress, empty_level, after}
-use Rattle.rbbi_tree.specs.inner.Machine.Statements.{items_back, sequences_back, with_item, with_sequence, whole, begun, atom_read, group_begun, quantified}
-use Rattle.rbbi_tree.specs.inner.Machine.Statements.{at_atom}
-use Rattle.rbbi_tree.specs.inner.Machine.Statements.{at_open, at_set_open, at_quant, at_bar, at_close, at_slash, at_caret, at_control, name_of, name_assigned}
-use Rattle.rbbi_tree.specs.inner.Machine.Statements.{at_equals, statement_of, statement_at, statement_read, statement_ended, at_semi, advance_outside, set_kept}
-use Rattle.rbbi_tree.specs.inner.Machine.Statements.{at_inner_open, set_ended, at_inner_close, advance_inside, advance_by, advance, run}
+use Rattle.rbbi_tree.specs.inner.Sets.{SetLevelTree, OuterSetTree, SetsTree, join_in, ended_parts, new_set_level, outer_set, set_from, set_resumed}
+use Rattle.rbbi_tree.specs.inner.Sets.{at_set_token}
+use Rattle.rbbi_tree.specs.inner.Statements.{LevelTree, GroupTree, HeadTree, between, assigning, ruling, resting, ended, Progress, empty_level, after}
+use Rattle.rbbi_tree.specs.inner.Statements.{items_back, sequences_back, with_item, with_sequence, whole, begun, atom_read, group_begun, quantified}
+use Rattle.rbbi_tree.specs.inner.Statements.{at_atom}
+use Rattle.rbbi_tree.specs.inner.Statements.{at_open, at_set_open, at_quant, at_bar, at_close, at_slash, at_caret, at_control, sole_name, name_assigned}
+use Rattle.rbbi_tree.specs.inner.Statements.{at_equals, statement_of, statement_at, statement_read, statement_ended, at_semi, advance_outside, set_kept}
+use Rattle.rbbi_tree.specs.inner.Statements.{at_inner_open, set_ended, at_inner_close, advance_inside, advance_by, advance, run}
 use Rattle.rbbi_tree.proofs.SoundSets.{IsSetRead, IsOuterRead, IsStillSet, reads_token, ends_set, opens_set, opens_inner, resumes}
 
 -- items, the latest first
@@ -77,8 +77,8 @@ single-same (ended s) groups groups' level level' same h = tt
 abbrev StartsAt : List Token → HeadTree → Type 0
 StartsAt ts between = Unit {0}
 StartsAt ts (assigning word at) = Unit {0}
-StartsAt ts (ruling at no_chain_in) = BeginsAt at ts
-StartsAt ts (resting at no_chain_in front slash) = BeginsAt at ts
+StartsAt ts (ruling at no_chain_in) = HasFirstPlace at ts
+StartsAt ts (resting at no_chain_in front slash) = HasFirstPlace at ts
 StartsAt ts (ended s) = Unit {0}
 
 -- the tokens of the statement so far, outside of the sets that are open
@@ -212,7 +212,7 @@ levels-close g outer close ts sequences i is (a, b, h, around, inner) =
     (levels-add outer a us g.outer (with_item (placed g.place (group (whole level)) Once) g.outer)
     (λ ts l. level-item ts us (placed g.place (group (whole level)) Once) g.outer l closed) around)
 
-begins-push : (place : ℕ) (ts us : List Token) → BeginsAt place ts → BeginsAt place (ts ++ us)
+begins-push : (place : ℕ) (ts us : List Token) → HasFirstPlace place ts → HasFirstPlace place (ts ++ us)
 begins-push place [] us h = absurd h
 begins-push place (t ∷ ts) us h = h
 
@@ -256,8 +256,10 @@ grow (resting at no_chain_in front slash) ts us groups groups' level level' read
 -- where there are items, an expression is being read
 reading-items : (head : HeadTree) (ts : List Token) (groups : List GroupTree) (sequences : List SeqTree) (i : ItemTree) (is : List ItemTree) →
     IsBegun ts head groups (with sequences (i ∷ is)) → Reading head
-reading-items between ts groups sequences i is (none, no_group, fresh) = absurd (let e : i ∷ is ≡ [] = ap (λ level. level.items) fresh in cc)
-reading-items (ended s) ts groups sequences i is (whole, no_group, fresh) = absurd (let e : i ∷ is ≡ [] = ap (λ level. level.items) fresh in cc)
+reading-items between ts groups sequences i is (none, no_group, with_head_alone) = absurd (let e : i ∷ is ≡ [] = ap
+    (λ level. level.items) with_head_alone in cc)
+reading-items (ended s) ts groups sequences i is (whole, no_group, with_head_alone) = absurd (let e : i ∷ is ≡ [] = ap
+    (λ level. level.items) with_head_alone in cc)
 reading-items (assigning word at) ts groups sequences i is h = tt
 reading-items (ruling at no_chain_in) ts groups sequences i is h = tt
 reading-items (resting at no_chain_in front slash) ts groups sequences i is h = tt
@@ -273,16 +275,16 @@ head_begun place (ended s) = ended s
 -- the tokens so far are those of the head that an item begins
 begun-begun : (head : HeadTree) (place : ℕ) (ts : List Token) (groups : List GroupTree) (level : LevelTree) → Reading (head_begun place head) →
     IsBegun ts head groups level → IsBegun ts (head_begun place head) groups level
-begun-begun between place ts groups level reading (none, no_group, fresh) = rw (none, no_group, fresh) ([], [], refl, refl, level-empty)
+begun-begun between place ts groups level reading (none, no_group, with_head_alone) = rw (none, no_group, with_head_alone) ([], [], refl, refl, level-empty)
 begun-begun (assigning word at) place ts groups level reading h = h
 begun-begun (ruling at no_chain_in) place ts groups level reading h = h
 begun-begun (resting at no_chain_in front slash) place ts groups level reading h = h
 begun-begun (ended s) place ts groups level reading h = absurd reading
 
-starts-begun : (head : HeadTree) (place : ℕ) (ts us : List Token) (groups : List GroupTree) (level : LevelTree) → BeginsAt place us →
+starts-begun : (head : HeadTree) (place : ℕ) (ts us : List Token) (groups : List GroupTree) (level : LevelTree) → HasFirstPlace place us →
     IsBegun ts head groups level → StartsAt ts head →
     StartsAt (ts ++ us) (head_begun place head)
-starts-begun between place ts us groups level begins (none, no_group, fresh) h = rw none begins
+starts-begun between place ts us groups level begins (none, no_group, with_head_alone) h = rw none begins
 starts-begun (assigning word at) place ts us groups level begins is h = tt
 starts-begun (ruling at no_chain_in) place ts us groups level begins is h = begins-push at ts us h
 starts-begun (resting at no_chain_in front slash) place ts us groups level begins is h = begins-push at ts us h
@@ -324,7 +326,7 @@ remade ts us a b done head groups level h file is starts = (a, b ++ us, grown ts
 
 -- the tokens of an item, or of its beginning
 step_begun : (place : ℕ) (us ts : List Token) (done : List StatementTree) (head : HeadTree) (groups groups' : List GroupTree) (level level' : LevelTree)
-    (f : Progress → Progress) → BeginsAt place us →
+    (f : Progress → Progress) → HasFirstPlace place us →
     ((b : List Token) → AreLevels b groups level → AreLevels (b ++ us) groups' level') → bottom groups' level' ≡ bottom groups level →
     ((h : HeadTree) → f (made done h groups level None) ≡ made done h groups' level' None) →
     IsRead ts (made done head groups level None) → IsStillRead (ts ++ us) (option_map f (begun place head (made done head groups level None)))
@@ -470,8 +472,8 @@ step_caret : (place : ℕ) (ts : List Token) (done : List StatementTree) (head :
     IsRead ts (made done head groups level None) → IsStillRead (ts ++ token Caret place ∷ []) (at_caret place head (made done head groups level None))
 step_caret place ts done between groups level read =
     let us = token Caret place ∷ [] in
-    let (a, b, h, file, (none, no_group, fresh), starts) = outside ts done between groups level read in
-    let levels : AreLevels [] groups level = rw (no_group, fresh) level-empty in
+    let (a, b, h, file, (none, no_group, with_head_alone), starts) = outside ts done between groups level read in
+    let levels : AreLevels [] groups level = rw (no_group, with_head_alone) level-empty in
     remade ts us a b done (ruling place true) groups level h file (us, [], rw none refl, (place, refl), levels) (rw none refl)
 step_caret place ts done (assigning word at) groups level read = tt
 step_caret place ts done (ruling at no_chain_in) groups level read = tt
@@ -483,8 +485,8 @@ step_control : (word : List ℕ) (place : ℕ) (ts : List Token) (done : List St
     IsStillRead (ts ++ token (Control word) place ∷ []) (at_control word place head (made done head groups level None))
 step_control word place ts done between groups level read =
     let us = token (Control word) place ∷ [] in
-    let (a, b, h, file, (none, no_group, fresh), starts) = outside ts done between groups level read in
-    remade ts us a b done (ended (control word place)) groups level h file (λ semi. (semi, rw none refl), no_group, fresh) tt
+    let (a, b, h, file, (none, no_group, with_head_alone), starts) = outside ts done between groups level read in
+    remade ts us a b done (ended (control word place)) groups level h file (λ semi. (semi, rw none refl), no_group, with_head_alone) tt
 step_control word place ts done (assigning word' at) groups level read = tt
 step_control word place ts done (ruling at no_chain_in) groups level read = tt
 step_control word place ts done (resting at no_chain_in front slash) groups level read = tt
@@ -492,13 +494,13 @@ step_control word place ts done (ended s) groups level read = tt
 
 step_name : (place at : ℕ) (ts : List Token) (done : List StatementTree) (sequences : List SeqTree) (items : List ItemTree) →
     IsRead ts (made done (ruling at false) [] (with sequences items) None) →
-    IsStillRead (ts ++ token Equals place ∷ []) (name_assigned at (name_of sequences items) (made done (ruling at false) [] (with sequences items) None))
+    IsStillRead (ts ++ token Equals place ∷ []) (name_assigned at (sole_name sequences items) (made done (ruling at false) [] (with sequences items) None))
 step_name place at ts done [] (placed on (name word) Once ∷ []) read =
     let us = token Equals place ∷ [] in
     let (a, b, h, file, (caret, c, h', no_caret, (d, e, h'', no_bar, (f, g, h3, none, (k, l, h4, is_name, no_quant)))), starts) =
     outside ts done (ruling at false) [] (with [] (placed on (name word) Once ∷ [])) read in
     let all : b ≡ token (Name word) on ∷ [] = rw (h', no_caret, h'', no_bar, h3, none, h4, is_name, no_quant) refl in
-    let here : on ≡ at = subst (BeginsAt at) all starts in
+    let here : on ≡ at = subst (HasFirstPlace at) all starts in
     remade ts us a b done (assigning word at) [] empty_level h file (place, [], rw (all, here) refl, level-empty) tt
 step_name place at ts done sequences items read = tt
 
@@ -569,12 +571,12 @@ statements-push (s' ∷ f) s ts us (a, b, h, first, rest) one =
 added : (ts us a b : List Token) (done : List StatementTree) (s : StatementTree) (groups : List GroupTree) (level : LevelTree) → ts ≡ a ++ b → IsFile a done →
     IsStatement (b ++ us) s → groups ≡ [] → level ≡ empty_level →
     IsRead (ts ++ us) (made (done ++ s ∷ []) between groups level None)
-added ts us a b done s groups level h file is no_group fresh = (
+added ts us a b done s groups level h file is no_group with_head_alone = (
   a ++ (b ++ us),
   [],
   grown ts us a b h ∙ sym (append-nil (a ++ (b ++ us))),
   statements-push done s a (b ++ us) file is,
-  ([], [], refl, (refl, no_group, fresh), refl, tt),
+  ([], [], refl, (refl, no_group, with_head_alone), refl, tt),
 )
 
 step_end : (semi : ℕ) (ts : List Token) (done : List StatementTree) (head : HeadTree) (groups : List GroupTree) (sequences : List SeqTree)
@@ -598,11 +600,15 @@ step_semi : (semi : ℕ) (ts : List Token) (done : List StatementTree) (head : H
     IsRead ts (made done head groups (with sequences items) None) →
     IsStillRead (ts ++ token Semi semi ∷ []) (at_semi head (made done head groups (with sequences items) None))
 step_semi semi ts done between groups sequences items read =
-    let (a, b, h, file, (none, no_group, fresh), starts) = outside ts done between groups (with sequences items) read in
-    added ts (token Semi semi ∷ []) a b done nothing groups (with sequences items) h file (semi, ap (λ b. b ++ token Semi semi ∷ []) none) no_group fresh
+    let (a, b, h, file, (none, no_group, with_head_alone), starts) = outside ts done between groups (with sequences items) read in
+    added ts (token Semi semi ∷ []) a b done nothing groups (with sequences items) h file (
+      semi,
+      ap
+          (λ b. b ++ token Semi semi ∷ []) none,
+    ) no_group with_head_alone
 step_semi semi ts done (ended s) groups sequences items read =
-    let (a, b, h, file, (is, no_group, fresh), starts) = outside ts done (ended s) groups (with sequences items) read in
-    added ts (token Semi semi ∷ []) a b done s groups (with sequences items) h file (is semi) no_group fresh
+    let (a, b, h, file, (is, no_group, with_head_alone), starts) = outside ts done (ended s) groups (with sequences items) read in
+    added ts (token Semi semi ∷ []) a b done s groups (with sequences items) h file (is semi) no_group with_head_alone
 step_semi semi ts done (assigning word at) groups sequences items read = step_end semi ts done (assigning word at) groups sequences items read
 step_semi semi ts done (ruling at no_chain_in) groups sequences items read = step_end semi ts done (ruling at no_chain_in) groups sequences items read
 step_semi semi ts done (resting at no_chain_in front slash) groups sequences items read =
@@ -671,7 +677,7 @@ step_inner_open : (place : ℕ) (ts : List Token) (done : List StatementTree) (h
 step_inner_open place ts done head groups level s outers None joins read = tt
 step_inner_open place ts done head groups level s outers (Some join) joins (a, b, h, file, (c, d, h', is, (reading, (e, f, h'', around, inner)), starts)) =
     let us = token SetOpen place ∷ [] in
-    remade_within ts us a b c d done head groups level (opened place) (outer_set s join ∷ outers) h file h' is
+    remade_within ts us a b c d done head groups level (new_set_level place) (outer_set s join ∷ outers) h file h' is
     (reading, (d, us, refl, (e, f, h'', around, opens_inner f s join inner joins), opens_set place)) starts
 
 -- a set ends: the outermost is an atom, another an operand

@@ -10,9 +10,9 @@ use Rattle.rbbi_tree.specs.declared.set_level.SetState.{SetState}
 use Rattle.rbbi_tree.specs.declared.set_level.SetState.TheVariants as state
 use Rattle.rbbi_tree.specs.Trees.{SetSyntax, PartsTree, PartTree, SetItemTree, set_of, no_parts, part, joined, set_range, set_name, set_property, set_within}
 use Rattle.rbbi_tree.specs.Grammar.{token, Spot, opening, behind, elsewhere, IsJoin, hyphen_at, AreParts, IsSet, IsOperand}
-use Rattle.rbbi_tree.specs.inner.Machine.Sets.{SetLevelTree, OuterSetTree, settled, join_in, ended_parts, character_at, parts_back, opened, outer_set}
-use Rattle.rbbi_tree.specs.inner.Machine.Sets.{set_resumed}
-use Rattle.rbbi_tree.specs.inner.Machine.Sets.{at_set_caret, at_set_hyphen, at_set_amp, at_set_character, at_set_operand, at_set_token}
+use Rattle.rbbi_tree.specs.inner.Sets.{SetLevelTree, OuterSetTree, settled, join_in, ended_parts, character_at, parts_back, new_set_level, outer_set}
+use Rattle.rbbi_tree.specs.inner.Sets.{set_resumed}
+use Rattle.rbbi_tree.specs.inner.Sets.{at_set_caret, at_set_hyphen, at_set_amp, at_set_character, at_set_operand, at_set_token}
 
 -- the tokens are the rest of a set after this was read last, and add these parts; a character that is no part yet is among them
 abbrev Follows : SetState → List Token → PartsTree → Type 0
@@ -147,12 +147,12 @@ ends_set last close place negated parts all ts leads ends =
     go state.Both h = absurd (cc)
 
 -- a set begins
-pub opens_set : (place : ℕ) → IsSetRead (token SetOpen place ∷ []) (opened place)
+pub opens_set : (place : ℕ) → IsSetRead (token SetOpen place ∷ []) (new_set_level place)
 opens_set place = ((refl, refl, refl), λ us more h. ([], us, refl, refl, refl, h))
 
 -- a set begins in another one
 pub opens_inner : (ts : List Token) (s : SetLevelTree) (join : Join) → IsSetRead ts s → join_in s.state ≡ Some join → IsOuterRead ts (outer_set s join)
-opens_inner ts s join (fresh, leads) joins a at i us more is h =
+opens_inner ts s join (with_head_alone, leads) joins a at i us more is h =
     let (m, follows, same) = before_operand s.state join at i a us s.parts more joins is h in
     subst (λ all. IsSet s.place (ts ++ (a ++ us)) (set_of s.place s.negated all)) same (leads (a ++ us) m follows)
 
@@ -164,7 +164,7 @@ resumes ts us at t o outer is = (tt, λ vs more h. rw (append_assoc ts us vs) (o
 pub reads_operand : (ts a : List Token) (at : ℕ) (i : SetItemTree) (s : SetLevelTree) (join : Join) → IsSetRead ts s → join_in s.state ≡ Some join →
     IsOperand at a i →
     IsSetRead (ts ++ a) (record { place = s.place; negated = s.negated; parts = joined at join i ∷ settled s.state s.parts; state = state.Operand })
-reads_operand ts a at i s join (fresh, leads) joins is = (
+reads_operand ts a at i s join (with_head_alone, leads) joins is = (
   tt,
   leads_on ts a s.place s.negated s.parts (joined at join i ∷ settled s.state s.parts) s.state state.Operand leads
       (λ vs more h. before_operand s.state join at i a vs s.parts more joins is h),
@@ -182,29 +182,29 @@ IsStillSet ts (Some s) = IsSetRead ts s
 reads_character : (last : SetState) (c : ℕ) (bare : Bool) (at place : ℕ) (negated : Bool) (parts : List PartTree) (ts : List Token) →
     IsSetRead ts (made place negated parts last) →
     IsStillSet (ts ++ token (Char c bare) at ∷ []) (at_set_character c at last (made place negated parts last))
-reads_character state.Opened c bare at place negated parts ts (fresh, leads) = (
+reads_character state.Opened c bare at place negated parts ts (with_head_alone, leads) = (
   tt,
   leads_on ts (token (Char c bare) at ∷ []) place negated parts parts state.Opened (state.Character c at) leads
       (λ vs more h. (more, weaken opening more (token (Char c bare) at ∷ vs) (h bare), refl)),
 )
-reads_character state.Begun c bare at place negated parts ts (fresh, leads) = (
+reads_character state.Begun c bare at place negated parts ts (with_head_alone, leads) = (
   tt,
   leads_on ts (token (Char c bare) at ∷ []) place negated parts parts state.Begun (state.Character c at) leads
       (λ vs more h. (more, weaken opening more (token (Char c bare) at ∷ vs) (h bare), refl)),
 )
-reads_character state.Apart c bare at place negated parts ts (fresh, leads) =
+reads_character state.Apart c bare at place negated parts ts (with_head_alone, leads) =
     (tt, leads_on ts (token (Char c bare) at ∷ []) place negated parts parts state.Apart (state.Character c at) leads (λ vs more h. (more, h bare, refl)))
-reads_character state.Operand c bare at place negated parts ts (fresh, leads) = (
+reads_character state.Operand c bare at place negated parts ts (with_head_alone, leads) = (
   tt,
   leads_on ts (token (Char c bare) at ∷ []) place negated parts parts state.Operand (state.Character c at) leads
       (λ vs more h. (more, weaken behind more (token (Char c bare) at ∷ vs) (h bare), refl)),
 )
-reads_character (state.Character d on) c bare at place negated parts ts (fresh, leads) = (
+reads_character (state.Character d on) c bare at place negated parts ts (with_head_alone, leads) = (
   tt,
   leads_on ts (token (Char c bare) at ∷ []) place negated parts (character_at d on ∷ parts) (state.Character d on) (state.Character c at) leads
       (λ vs more h. (part (character_at d on) more, λ bare'. lone d bare' on (token (Char c bare) at ∷ vs) more (h bare), refl)),
 )
-reads_character (state.Ranging d on hyphen) c bare at place negated parts ts (fresh, leads) = (
+reads_character (state.Ranging d on hyphen) c bare at place negated parts ts (with_head_alone, leads) = (
   tt,
   leads_on ts (token (Char c bare) at ∷ []) place negated parts (joined on Add (set_range d c) ∷ parts) (state.Ranging d on hyphen) state.Apart leads
       (λ vs more h. (
@@ -225,21 +225,21 @@ leading hyphen us more h = inr (inl (tt, (hyphen, us, refl, refl, h)))
 -- a hyphen is read
 reads_hyphen : (last : SetState) (at place : ℕ) (negated : Bool) (parts : List PartTree) (ts : List Token) → IsSetRead ts (made place negated parts last) →
     IsStillSet (ts ++ token Hyphen at ∷ []) (at_set_hyphen at last (made place negated parts last))
-reads_hyphen state.Opened at place negated parts ts (fresh, leads) = (
+reads_hyphen state.Opened at place negated parts ts (with_head_alone, leads) = (
   tt,
   leads_on ts (token Hyphen at ∷ []) place negated parts (hyphen_at at ∷ parts) state.Opened state.Apart leads
       (λ vs more h. (part (hyphen_at at) more, leading at vs more h, refl)),
 )
-reads_hyphen state.Begun at place negated parts ts (fresh, leads) = (
+reads_hyphen state.Begun at place negated parts ts (with_head_alone, leads) = (
   tt,
   leads_on ts (token Hyphen at ∷ []) place negated parts (hyphen_at at ∷ parts) state.Begun state.Apart leads
       (λ vs more h. (part (hyphen_at at) more, leading at vs more h, refl)),
 )
-reads_hyphen state.Apart at place negated parts ts (fresh, leads) =
+reads_hyphen state.Apart at place negated parts ts (with_head_alone, leads) =
     (tt, leads_on ts (token Hyphen at ∷ []) place negated parts parts state.Apart (state.Last at) leads (λ vs more h. (more, h, refl)))
-reads_hyphen (state.Character d on) at place negated parts ts (fresh, leads) =
+reads_hyphen (state.Character d on) at place negated parts ts (with_head_alone, leads) =
     (tt, leads_on ts (token Hyphen at ∷ []) place negated parts parts (state.Character d on) (state.Ranging d on at) leads (λ vs more h. (more, h, refl)))
-reads_hyphen state.Operand at place negated parts ts (fresh, leads) =
+reads_hyphen state.Operand at place negated parts ts (with_head_alone, leads) =
     (tt, leads_on ts (token Hyphen at ∷ []) place negated parts parts state.Operand (state.Minus at) leads (λ vs more h. (more, h, refl)))
 reads_hyphen (state.Ranging d on hyphen) at place negated parts ts read = tt
 reads_hyphen state.Both at place negated parts ts read = tt
@@ -249,7 +249,7 @@ reads_hyphen (state.Last hyphen) at place negated parts ts read = tt
 -- an ampersand is read
 reads_amp : (last : SetState) (at place : ℕ) (negated : Bool) (parts : List PartTree) (ts : List Token) → IsSetRead ts (made place negated parts last) →
     IsStillSet (ts ++ token Amp at ∷ []) (at_set_amp last (made place negated parts last))
-reads_amp state.Operand at place negated parts ts (fresh, leads) =
+reads_amp state.Operand at place negated parts ts (with_head_alone, leads) =
     (tt, leads_on ts (token Amp at ∷ []) place negated parts parts state.Operand state.Both leads (λ vs more h. (more, h at, refl)))
 reads_amp state.Opened at place negated parts ts read = tt
 reads_amp state.Begun at place negated parts ts read = tt

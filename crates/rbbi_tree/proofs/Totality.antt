@@ -7,7 +7,7 @@ use Rattle.std.proofs.lemmas.Option.{slice_get_cases}
 use Rattle.rbbi_lex.specs.declared.token.Token.{Token}
 use Rattle.rbbi_tree.specs.Trees.{StatementTree}
 use Rattle.rbbi_tree.specs.Grammar.{IsFile}
-use Rattle.rbbi_tree.specs.inner.Machine.Statements.{HeadTree, between, assigning, ruling, resting, ended, Progress, after, advance, run}
+use Rattle.rbbi_tree.specs.inner.Statements.{HeadTree, between, assigning, ruling, resting, ended, Progress, after, advance, run}
 use Rattle.rbbi_tree.specs.Brackets.{IsDeepAt, IsShallow, IsShallowBefore, open_from}
 use Rattle.rbbi_tree.specs.Refusals.{BeginsFile, IsSyntaxAt, place_or_end, IsFaultOf}
 use Rattle.rbbi_tree.specs.declared.error.TreeErr.{TreeErr}

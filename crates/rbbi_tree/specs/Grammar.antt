@@ -20,9 +20,9 @@ abbrev pub token : TokenKind → ℕ → Token
 token kind place = record { kind = kind; place = place }
 
 -- the first token stands at this place
-abbrev pub BeginsAt : ℕ → List Token → Type 0
-BeginsAt place [] = ⊥
-BeginsAt place (first ∷ rest) = first.place ≡ place
+abbrev pub HasFirstPlace : ℕ → List Token → Type 0
+HasFirstPlace place [] = ⊥
+HasFirstPlace place (first ∷ rest) = first.place ≡ place
 
 -- a caret where there is to be one, and nothing otherwise
 abbrev pub IsCaret : List Token → Bool → Type 0
@@ -184,7 +184,7 @@ IsStatement tokens (assign word place e) =
     (equals semi : ℕ) × (a : List Token) × (tokens ≡ token (Name word) place ∷ token Equals equals ∷ (a ++ token Semi semi ∷ [])) × IsExpr a e
 IsStatement tokens (rule place no_chain_in front slash rest tag) =
     (semi : ℕ) × (caret : List Token) × (a : List Token) × (t : List Token) × (tokens ≡ caret ++ (a ++ (t ++ token Semi semi ∷ [])))
-    × BeginsAt place tokens × IsCaret caret no_chain_in × IsMatcher a front slash rest × IsTag t tag
+    × HasFirstPlace place tokens × IsCaret caret no_chain_in × IsMatcher a front slash rest × IsTag t tag
 
 -- a file: any number of statements
 abbrev pub IsFile : List Token → List StatementTree → Type 0

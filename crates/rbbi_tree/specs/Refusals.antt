@@ -26,12 +26,12 @@ place_or_end None end = end
 -- what a refusal says of the tokens. For a fault of syntax: its place is that of the first token after which no
 -- file can follow, or the end, and no bracket before it is the first that makes 65 open ones. For brackets that
 -- are too deep: its place is that of the first that makes 65 open ones, and some file begins with the tokens up to it
-abbrev pub IsRefusedFor : List Token → ℕ → TreeErr → Type 0
-IsRefusedFor tokens end (Syntax place) =
+abbrev pub IsRefusalOf : List Token → ℕ → TreeErr → Type 0
+IsRefusalOf tokens end (Syntax place) =
     (k : ℕ) × IsSyntaxAt tokens k × (place ≡ place_or_end (slice_get tokens k) end) × ((j : ℕ) → j < k → ¬ IsDeepAt tokens j)
-IsRefusedFor tokens end (TooDeep place) =
+IsRefusalOf tokens end (TooDeep place) =
     (k : ℕ) × IsDeepAt tokens k × (place ≡ place_or_end (slice_get tokens k) end) × BeginsFile (take (k + 1) tokens)
-IsRefusedFor tokens end Memory = Unit {0}
+IsRefusalOf tokens end Memory = Unit {0}
 
 -- the place that a refusal carries
 abbrev pub place_of : TreeErr → Option ℕ
@@ -41,7 +41,7 @@ place_of Memory = None
 
 -- the refusal tells the tokens' fault and its place
 abbrev pub IsFaultOf : List Token → ℕ → TreeErr → Type 0
-IsFaultOf tokens end refusal = IsRefusedFor tokens end refusal × IsSome (place_of refusal)
+IsFaultOf tokens end refusal = IsRefusalOf tokens end refusal × IsSome (place_of refusal)
 
 -- the name of a refusal
 abbrev pub label_of : TreeErr → List ℕ

@@ -1,2 +1,5 @@
--- What only this crate's own code and proofs cite. Nothing that is promised rests on it.
-pub mod Machine
+-- How the parser works: a pushdown machine, and what its states stand for. No public clause rests on it.
+pub mod Sets
+pub mod Statements
+pub mod SetStates
+pub mod States

@@ -4,7 +4,7 @@ ghost use Rattle.rbbi_lex.specs.Places.{PlacesRise};
 ghost use Rattle.rbbi_tree.specs.Grammar.{IsFile};
 ghost use Rattle.rbbi_tree.specs.Values.{statement_trees};
 ghost use Rattle.rbbi_tree.specs.Brackets.{IsShallow, open_after};
-ghost use Rattle.rbbi_tree.specs.Refusals.{IsRefusedFor};
+ghost use Rattle.rbbi_tree.specs.Refusals.{IsRefusalOf};
 ghost use Rattle.rbbi_lex.specs.WellMade as lex;
 ghost use Rattle.rbbi_tree.specs.WellMade.{AreWellMade};
 
@@ -48,11 +48,11 @@ fn count_open(kind: &TokenKind, before: u32) -> u32
 /// that makes 65 open ones. Of the two the one of lesser place comes, at one place `Syntax`.
 pub fn parse(alloc: Global, tokens: &Tokens, end: u32) -> Result<Statements, TreeErr>
     requires places { PlacesRise 0 end tokens.now }
-    requires well_made { lex.AreWellMade tokens.now }
+    requires well_made { lex.AreWellMadeTokens tokens.now }
     ensures parsed { IfOk result (λ statements. IsFile tokens.now (statement_trees statements)) }
     ensures well_made { IfOk result (λ statements. AreWellMade (statement_trees statements)) }
     ensures shallow { IfOk result (λ _. IsShallow tokens.now) }
-    ensures refused { IfErr result (λ refusal. IsRefusedFor tokens.now end refusal) }
+    ensures refused { IfErr result (λ refusal. IsRefusalOf tokens.now end refusal) }
 {
     let mut parser = Parser::new(alloc);
     let mut depth = 0;

@@ -1,16 +1,16 @@
 //! An expression that is being read.
 ghost use Rattle.std.specs.Prelude.{◌≡◌, ◌==◌, OnOk, IfOk, length};
 ghost use Rattle.rbbi_tree.specs.Values.{item_tree, expr_tree};
-ghost use Rattle.rbbi_tree.specs.inner.Machine.Statements.{
+ghost use Rattle.rbbi_tree.specs.inner.Statements.{
   empty_level,
   with_item,
   with_sequence,
   whole,
   quantified,
-  name_of,
+  sole_name,
 };
-ghost use Rattle.rbbi_tree.specs.inner.Machine.SetStates.{Reads};
-ghost use Rattle.rbbi_tree.specs.inner.Machine.States.{level_tree};
+ghost use Rattle.rbbi_tree.specs.inner.SetStates.{FollowsMachine};
+ghost use Rattle.rbbi_tree.specs.inner.States.{level_tree};
 
 use crate::error::TreeErr;
 use crate::lean::push_lean;
@@ -61,7 +61,7 @@ impl Level {
 
     /// Says how often the last item stands, which must not have been said before.
     pub fn quantify(&mut self, place: u32, quant: Quant) -> Result<(), TreeErr>
-        ensures read { Reads place (quantified quant (level_tree self.old).items)
+        ensures read { FollowsMachine place (quantified quant (level_tree self.old).items)
             (λ _. (level_tree self.new).items) result }
         ensures same { OnOk result
             ((level_tree self.new).sequences ≡ (level_tree self.old).sequences) }
@@ -113,7 +113,7 @@ impl Level {
     /// The name that is all of this expression, for an equals sign at this place.
     pub fn into_name(mut self, place: u32) -> Result<Word, TreeErr>
         ensures { let l = level_tree self in
-            Reads place (name_of l.sequences l.items) (λ word. word) result }
+            FollowsMachine place (sole_name l.sequences l.items) (λ word. word) result }
     {
         if !self.sequences.is_empty() {
             return Err(TreeErr::Syntax(place));

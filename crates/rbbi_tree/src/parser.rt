@@ -4,7 +4,7 @@ mod sets;
 
 ghost use Rattle.std.specs.Prelude.{◌≡◌, [], None, OnOk, IfOk, IsTrue};
 ghost use Rattle.rbbi_tree.specs.Values.{atom_tree, statement_trees};
-ghost use Rattle.rbbi_tree.specs.inner.Machine.Statements.{
+ghost use Rattle.rbbi_tree.specs.inner.Statements.{
   after,
   between,
   begun,
@@ -14,8 +14,8 @@ ghost use Rattle.rbbi_tree.specs.inner.Machine.Statements.{
   at_quant,
   quantified,
 };
-ghost use Rattle.rbbi_tree.specs.inner.Machine.SetStates.{Reads};
-ghost use Rattle.rbbi_tree.specs.inner.Machine.States.{progress, ReadsOutside, ReadsInside};
+ghost use Rattle.rbbi_tree.specs.inner.SetStates.{FollowsMachine};
+ghost use Rattle.rbbi_tree.specs.inner.States.{progress, ReadsOutside, ReadsInside};
 
 use crate::copies::{copy_of, copy_of_option};
 use crate::error::TreeErr;
@@ -107,7 +107,7 @@ impl Parser {
     /// statement.
     fn begin(&mut self, place: u32) -> Result<(), TreeErr>
         ensures { let p = progress self.old in
-            Reads place (begun place p.head p) (λ _. progress self.new) result }
+            FollowsMachine place (begun place p.head p) (λ _. progress self.new) result }
     {
         match &self.head {
             Head::Between => {}
@@ -135,7 +135,7 @@ impl Parser {
 
     /// Reads an atom of one token.
     fn read_atom(&mut self, place: u32, atom: Atom) -> Result<(), TreeErr>
-        ensures { Reads place (at_atom place (atom_tree atom) (progress self.old))
+        ensures { FollowsMachine place (at_atom place (atom_tree atom) (progress self.old))
             (λ _. progress self.new) result }
     {
         self.begin(place)?;
@@ -184,7 +184,7 @@ impl Parser {
     /// Reads a sign how often an atom stands. It needs an atom right before it.
     fn read_quant(&mut self, place: u32, quant: Quant) -> Result<(), TreeErr>
         ensures { let p = progress self.old in
-            Reads place (at_quant (quantified quant p.level.items) p)
+            FollowsMachine place (at_quant (quantified quant p.level.items) p)
             (λ _. progress self.new) result }
     {
         self.level.quantify(place, quant)
@@ -321,7 +321,7 @@ impl Parser {
 
     /// Reads a token. Refuses `Syntax` at its place where no file can go on like this.
     pub fn read(&mut self, alloc: Global, token: &Token) -> Result<(), TreeErr>
-        ensures { Reads token.now.place (advance token.now (progress self.old))
+        ensures { FollowsMachine token.now.place (advance token.now (progress self.old))
             (λ _. progress self.new) result }
     {
         match mem::replace(&mut self.sets, None) {

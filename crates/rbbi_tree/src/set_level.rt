@@ -3,8 +3,8 @@ ghost use Rattle.std.specs.Prelude.{◌≡◌, ◌∷◌, List, Some, OnOk, IfOk
 ghost use Rattle.rbbi_tree.specs.Grammar.{hyphen_at};
 ghost use Rattle.rbbi_tree.specs.Trees.{PartTree, joined};
 ghost use Rattle.rbbi_tree.specs.Values.{set_item_tree, set_tree};
-ghost use Rattle.rbbi_tree.specs.inner.Machine.Sets.{
-  opened,
+ghost use Rattle.rbbi_tree.specs.inner.Sets.{
+  new_set_level,
   level_with,
   settled,
   at_set_caret,
@@ -19,11 +19,11 @@ ghost use Rattle.rbbi_tree.specs.inner.Machine.Sets.{
   outer_set,
   set_resumed,
 };
-ghost use Rattle.rbbi_tree.specs.inner.Machine.SetStates.{
+ghost use Rattle.rbbi_tree.specs.inner.SetStates.{
   set_level_tree,
   outer_set_tree,
   IsStuckAt,
-  Reads,
+  FollowsMachine,
   ReadsInSet,
 };
 
@@ -85,7 +85,7 @@ pub struct OuterSet {
 impl SetLevel {
     /// A set right after its bracket.
     pub fn new(alloc: Global, place: u32) -> SetLevel
-        ensures { set_level_tree result ≡ opened place }
+        ensures { set_level_tree result ≡ new_set_level place }
     {
         SetLevel {
             place,
@@ -347,7 +347,8 @@ impl SetLevel {
 
     /// Adds what was read last and is no part yet, where the set may end.
     fn end(&mut self, place: u32) -> Result<(), TreeErr>
-        ensures read { let s = set_level_tree self.old in Reads place (ended_parts s.state s.parts)
+        ensures read { let s = set_level_tree self.old in
+            FollowsMachine place (ended_parts s.state s.parts)
             (λ _. (set_level_tree self.new).parts) result }
         ensures same { OnOk result
             ((self.new.place ≡ self.old.place) × (self.new.negated ≡ self.old.negated)) }

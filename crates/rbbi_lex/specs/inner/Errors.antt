@@ -1,4 +1,4 @@
--- What the errors of the lexer say: what only this crate cites.
+-- The error of the code for a fault.
 use Rattle.std.specs.Prelude.{ℕ, List, codes}
 use Rattle.std.specs.Prelude.{Option, None, Some}
 use Rattle.rbbi_lex.specs.declared.error.LexErr.{LexErr}

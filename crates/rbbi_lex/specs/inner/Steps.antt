@@ -8,8 +8,8 @@ use Rattle.rbbi_lex.specs.declared.case.Case.{Case}
 use Rattle.rbbi_lex.specs.declared.spelled.Spelled.{Spelled}
 use Rattle.rbbi_lex.specs.declared.escape.Escaped.{Escaped}
 use Rattle.rbbi_lex.specs.declared.error.LexErr.{LexErr}
-use Rattle.rbbi_lex.specs.Cases.{state_after}
-use Rattle.rbbi_lex.specs.Spellings.{Spells, TokenAt}
+use Rattle.rbbi_lex.specs.Cases.{state_behind}
+use Rattle.rbbi_lex.specs.Spellings.{SpellsCase, TokenAt}
 use Rattle.rbbi_lex.specs.Quotations.{IsQuoted}
 use Rattle.rbbi_lex.specs.Faults.{SpellsNone, FaultAt}
 use Rattle.rbbi_lex.specs.Errors.{Tells}
@@ -18,7 +18,7 @@ use Rattle.rbbi_lex.specs.Skips.{Skipped, Piece}
 -- what the case spells from the place on, or nothing where it spells no token
 abbrev pub IsSpelling : List ℕ → Case → ℕ → Option Spelled → Type 0
 IsSpelling x case i None = SpellsNone x case i
-IsSpelling x case i (Some spelled) = Spells x case i spelled.end spelled.kind
+IsSpelling x case i (Some spelled) = SpellsCase x case i spelled.end spelled.kind
 
 -- a character and the place behind it that are so related, or nothing where there are none
 abbrev pub IsRestBy : (ℕ → ℕ → Type 0) → Option Escaped → Type 0
@@ -39,8 +39,8 @@ abbrev pub StopsAt : List ℕ → State → ℕ → LexErr → Type 0
 StopsAt x from i e = Tells (λ fault place. Skipped x from i place × FaultAt x from place fault) e
 
 -- from one state and place to another a token is read, or the end or a fault is reached
-abbrev pub IsStep : List ℕ → State → ℕ → Result (Option Token) LexErr → State → ℕ → Type 0
-IsStep x from i (Ok (Some t)) to j =
-    Skipped x from i t.place × TokenAt x from t.place j t.kind × (to ≡ state_after from t.kind)
-IsStep x from i (Ok None) to j = Skipped x from i (length x)
-IsStep x from i (Err e) to j = StopsAt x from i e
+abbrev pub ReadsNext : List ℕ → State → ℕ → Result (Option Token) LexErr → State → ℕ → Type 0
+ReadsNext x from i (Ok (Some t)) to j =
+    Skipped x from i t.place × TokenAt x from t.place j t.kind × (to ≡ state_behind from t.kind)
+ReadsNext x from i (Ok None) to j = Skipped x from i (length x)
+ReadsNext x from i (Err e) to j = StopsAt x from i e

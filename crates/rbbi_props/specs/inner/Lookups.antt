@@ -1,4 +1,4 @@
--- What a property stands for, a set of code points given as a test: what only this crate cites.
+-- A set that a look-up makes, by the test that it stands for.
 use Rattle.std.specs.Prelude.{ℕ, ◌≤◌, ◌↔◌, Bool, ◌&&◌, ◌||◌, List, [], ◌∷◌, map, filter, bytes_eq, codes, Option, Some, None, option_map, if◌then◌else◌, IsTrue}
 use Rattle.std.specs.List.{flat_map}
 use Rattle.std.specs.Str.{chars}

@@ -1,4 +1,4 @@
--- Why a property file is refused: what only this crate cites.
+-- Why the lines of a property file are refused, one by one.
 use Rattle.std.specs.Prelude.{◌≡◌, ℕ, ◌+◌, true, Option, Some, None, List, IsUtf8, codes}
 use Rattle.std.specs.List.{position}
 use Rattle.rbbi_text.specs.Bytes.{IsNotUtf8At, file_lines}

@@ -17,7 +17,7 @@ use Rattle.rbbi_resolve.specs.SetValues.{HasProperty, value_of_property}
 abbrev pub AreClassesOf : List File → List ℕ → model.SetTree → ClassBits → Type 0
 AreClassesOf files bounds tree set = (c : ℕ) → IsFirstOfClass bounds c → HasMember bounds set c ↔ model.InSet (HasProperty files) tree c
 
--- they are those of the value, and there are none where it has none
+-- the classes are those of the value, if it has one, and absent if not
 abbrev pub IsClassValue : List File → List ℕ → Option model.SetTree → Option ClassBits → Type 0
 IsClassValue files bounds None None = Unit {0}
 IsClassValue files bounds None (Some set) = ⊥
@@ -33,11 +33,11 @@ IsKnown files bounds known =
     (rc_value known.set)
 
 -- the classes are those of a division, and the sets of properties are right
-pub record AreClasses (files : List File) (classes : Classes) : Type 0 where
+pub record AreRightClasses (files : List File) (classes : Classes) : Type 0 where
   pub divides : IsDivision (rc_value classes.division)
   pub known : All (IsKnown files (rc_value classes.division).bounds) (values classes.sets)
 
--- the classes are those whose first code point is in the ranges, and where the one is absent, so is the other
+-- the classes are those whose first code point is in the ranges, or both are absent
 abbrev pub AreSame : List ℕ → Option (List Range) → Option ClassBits → Type 0
 AreSame bounds None None = Unit {0}
 AreSame bounds None (Some classes) = ⊥

@@ -6,15 +6,15 @@ use Rattle.rbbi_resolve.specs.declared.counts.Counts as declared
 use Rattle.rbbi_resolve.specs.Files.{RuleMeaning}
 use Rattle.rbbi_resolve.specs.Counts.{leaves_meant}
 
--- the place of the first rule with which the sum of amounts passes the most, where so much stands before
-abbrev pub passing : (RuleMeaning → ℕ) → ℕ → ℕ → List RuleMeaning → Option ℕ
-passing amount most sum [] = None
-passing amount most sum (rule ∷ rules) =
-    if nat_lt most (sum + amount rule) then Some rule.place else passing amount most (sum + amount rule) rules
+-- the place of the first rule with which the sum of amounts exceeds the most, after rules with this sum
+abbrev pub limit_place : (RuleMeaning → ℕ) → ℕ → ℕ → List RuleMeaning → Option ℕ
+limit_place amount most sum [] = None
+limit_place amount most sum (rule ∷ rules) =
+    if nat_lt most (sum + amount rule) then Some rule.place else limit_place amount most (sum + amount rule) rules
 
 -- The count goes on with the rules that are left: what it gives with them is what all rules give.
-pub record IsCount (amount : RuleMeaning → ℕ) (most : ℕ) (count : Count) (left all : List RuleMeaning) : Type 0 where
-  pub place : option_or count.passed (passing amount most count.sum left) ≡ passing amount most 0 all
+pub record IsPartialCount (amount : RuleMeaning → ℕ) (most : ℕ) (count : Count) (left all : List RuleMeaning) : Type 0 where
+  pub place : option_or count.passed (limit_place amount most count.sum left) ≡ limit_place amount most 0 all
   pub sum_of : count.passed ≡ None → count.sum + sum_by amount left ≡ sum_by amount all
 
 -- each rule counts as one
@@ -31,7 +31,7 @@ tall_of rule = if nat_lt 256 rule.height then 1 else 0
 
 -- the counts go on with the rules that are left
 pub record AreCounting (counts : declared.Counts) (left all : List RuleMeaning) : Type 0 where
-  pub rule_count : IsCount one 4096 counts.rules left all
-  pub leaf_count : IsCount leaves_meant 8192 counts.leaves left all
-  pub slash_count : IsCount slash_of 32 counts.slashes left all
-  pub tall_count : IsCount tall_of 0 counts.tall left all
+  pub rule_count : IsPartialCount one 4096 counts.rules left all
+  pub leaf_count : IsPartialCount leaves_meant 8192 counts.leaves left all
+  pub slash_count : IsPartialCount slash_of 32 counts.slashes left all
+  pub tall_count : IsPartialCount tall_of 0 counts.tall left all

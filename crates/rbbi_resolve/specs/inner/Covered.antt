@@ -1,4 +1,4 @@
--- Expressions whose sets hold of each class of code points all or nothing.
+-- Expressions whose sets are unions of classes.
 use Rattle.std.specs.Prelude.{◌≡◌, ℕ, ◌≤◌, ◌↔◌, Bool, IfSome, Option, Some, None, List, [], ◌++◌, slice_get}
 use Rattle.std.specs.List.{All, Contains, AllByRecursion}
 use Rattle.std.specs.HashMap.{values}
@@ -12,7 +12,7 @@ use Rattle.rbbi_resolve.specs.declared.collection.Collection.{Collection}
 use Rattle.rbbi_resolve.specs.declared.properties.Answer.{Answer}
 use Rattle.rbbi_resolve.specs.inner.SetValues.{IsValue}
 use Rattle.rbbi_resolve.specs.SetValues.{HasProperty, value_of_property, value_of_set, value_of_part}
-use Rattle.rbbi_resolve.specs.inner.Questions.{IsAnswer}
+use Rattle.rbbi_resolve.specs.inner.Questions.{IsRightAnswer}
 use Rattle.rbbi_resolve.specs.Parts.{Part, Outside, parts_of_expr}
 
 -- The set has code points alone, and has a code point exactly where it has the one that stands for it.
@@ -24,12 +24,12 @@ pub record Respects (files : List File) (stand : ℕ → ℕ) (tree : model.SetT
 pub record NamesRespect (files : List File) (stand : ℕ → ℕ) (named : List ℕ → Option model.SetTree) : Type 0 where
   pub each : (name : List ℕ) → IfSome (named name) (Respects files stand)
 
--- so does the value of a set, where that of each name does
+-- so does the value of a set, if that of each name does
 abbrev pub SetRespects : List File → (ℕ → ℕ) → SetSyntax → Type 0
 SetRespects files stand s =
     (named : List ℕ → Option model.SetTree) → NamesRespect files stand named → IfSome (value_of_set files named s) (Respects files stand)
 
--- a set or a property that stands as an atom is covered where its value has all or nothing of what stands together
+-- a set or a property that stands as an atom is covered if its value is a union of classes
 abbrev pub IsCovered : List File → (ℕ → ℕ) → Part → Type 0
 IsCovered files stand (Outside place (property negated word value)) = IfSome (value_of_property files negated word value) (Respects files stand)
 IsCovered files stand (Outside place (set s)) = SetRespects files stand s
@@ -39,7 +39,7 @@ IsCovered files stand _ = Unit {0}
 pub record AreCovered (files : List File) (stand : ℕ → ℕ) (parts : List Part) : Type 0 where
   pub each : AllByRecursion (IsCovered files stand) parts
 
--- the parts of an expression that may be absent
+-- the parts of an expression, if there is one
 abbrev pub parts_of_rest : Option ExprTree → List Part
 parts_of_rest None = []
 parts_of_rest (Some rest) = parts_of_expr rest
@@ -68,7 +68,7 @@ pub record HasSame (bases : List (List Range)) (ranges : List Range) : Type 0 wh
   pub rising : AreRising base
   pub same : (c : ℕ) → Has base c ↔ Has ranges c
 
--- the set of the property, where it has one, is among these
+-- the set of the property, if it has one, is among these
 pub record HasBase (files : List File) (bases : List (List Range)) (negated : Bool) (word : List ℕ) (word_of_value : Option (List ℕ)) : Type 0 where
   pub set : Option (List Range)
   pub value_is : IsValue files (value_of_property files negated word word_of_value) set
@@ -76,7 +76,7 @@ pub record HasBase (files : List File) (bases : List (List Range)) (negated : Bo
 
 -- the answer is right, and its set is among these
 pub record IsBasedAnswer (files : List File) (bases : List (List Range)) (answer : Answer) : Type 0 where
-  pub right : IsAnswer files answer
+  pub right : IsRightAnswer files answer
   pub own : IfSome (rc_value answer.set) (Contains bases)
 
 -- what was found for properties is right, and was collected

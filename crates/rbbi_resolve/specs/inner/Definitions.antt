@@ -16,7 +16,7 @@ AreSetOf files bounds None (Some set) = ⊥
 AreSetOf files bounds (Some value) None = ⊥
 AreSetOf files bounds (Some value) (Some set) = IsClassValue files bounds value set
 
--- the faults of the parts are noted where a set was found
+-- the faults of the parts are noted if a set was found
 abbrev pub noted_if_set : Context → Option Fault → List Part → Option (Option ClassBits) → Option Fault
 noted_if_set context least parts None = least
 noted_if_set context least parts (Some set) = noted_parts context least parts

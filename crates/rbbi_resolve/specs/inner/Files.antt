@@ -1,4 +1,4 @@
--- The faults and the active rules of a rule file: what only this crate cites.
+-- The context before each statement.
 use Rattle.std.specs.Prelude.{ℕ, Bool, true, false, not, ◌&&◌, ◌||◌, max, Option, Some, None, option_map, is_some, List, [], ◌∷◌, ◌++◌}
 use Rattle.std.specs.Prelude.{fold, take, codes, bytes_eq, encode_utf8_all, if◌then◌else◌}
 use Rattle.std.specs.Option.{option_map_or}
@@ -10,8 +10,8 @@ use Rattle.rbbi_resolve.specs.Contexts.{Context, variable_of}
 use Rattle.rbbi_resolve.specs.Expressions.{meaning_of_expr, height_of_expr, variable_for}
 use Rattle.rbbi_resolve.specs.Parts.{parts_of_expr}
 use Rattle.rbbi_resolve.specs.Faults.{faults_where, faults_of_parts}
-use Rattle.rbbi_resolve.specs.Files.{start, context_after}
+use Rattle.rbbi_resolve.specs.Files.{initial_context, context_after}
 
 -- what stands before the statement with this number, from 0
 unfoldable pub context_at : List File → List StatementTree → ℕ → Context
-context_at files statements number = fold context_after (start files) (take number statements)
+context_at files statements number = fold context_after (initial_context files) (take number statements)

@@ -11,7 +11,7 @@ use Rattle.rbbi_resolve.specs.Contexts.{Context, value_of_name}
 use Rattle.rbbi_resolve.specs.Meanings.{IsLeafOf}
 use Rattle.rbbi_resolve.specs.RuleLists.{IsLeafSet}
 
--- the set, and nothing in it where it has no value
+-- the set, or the empty set if it has no value
 abbrev pub set_or_nothing : Option model.SetTree → model.SetTree
 set_or_nothing value = unwrap_or value model.Nothing
 

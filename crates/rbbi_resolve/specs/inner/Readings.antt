@@ -10,12 +10,12 @@ use Rattle.rbbi_resolve.specs.declared.counts.Counts as declared
 use Rattle.rbbi_resolve.specs.declared.file.Reading.{Reading}
 use Rattle.rbbi_resolve.specs.declared.classes.Classes.{Classes}
 use Rattle.rbbi_resolve.specs.Faults.{noted}
-use Rattle.rbbi_resolve.specs.inner.ClassValues.{AreClasses}
+use Rattle.rbbi_resolve.specs.inner.ClassValues.{AreRightClasses}
 use Rattle.rbbi_resolve.specs.inner.Covered.{CoversAll}
 use Rattle.rbbi_classes.specs.Divisions.{stand_in}
 use Rattle.rbbi_resolve.specs.inner.Files.{context_at}
 use Rattle.rbbi_resolve.specs.Files.{faults_from, faults_of, rules_from, active_rules}
-use Rattle.rbbi_resolve.specs.inner.Scopes.{Variables, AreVariables}
+use Rattle.rbbi_resolve.specs.inner.Contexts.{Variables, AreVariables}
 use Rattle.rbbi_resolve.specs.inner.Switchings.{AreSwitches}
 use Rattle.rbbi_resolve.specs.inner.Countings.{AreCounting}
 
@@ -23,7 +23,7 @@ use Rattle.rbbi_resolve.specs.inner.Countings.{AreCounting}
 -- counted goes on with the statements that are left.
 pub record IsReadTo (files : List File) (classes : Classes) (ignored : Bool) (statements : List StatementTree) (variables : Variables) (least : Option Fault)
     (switches : Switches) (counts : declared.Counts) (number : ℕ) : Type 0 where
-  pub classified : AreClasses files classes
+  pub classified : AreRightClasses files classes
   pub covered : CoversAll files (stand_in (rc_value classes.division)) statements
   pub defined : AreVariables files (rc_value classes.division).bounds statements variables number
   pub noted_so_far : noted least (faults_from ignored (context_at files statements number) (drop number statements)) ≡ noted None

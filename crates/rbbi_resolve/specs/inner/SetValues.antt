@@ -1,4 +1,4 @@
--- What the set expressions of a rule file are worth: what only this crate cites.
+-- Sets of ranges that are the values of set expressions.
 use Rattle.std.specs.Prelude.{ℕ, ◌↔◌, Bool, true, false, nat_le, IsTrue, Option, Some, None, option_map, is_some, List, encode_utf8_all}
 use Rattle.std.specs.Prelude.{if◌then◌else◌}
 use Rattle.rbbi_model.specs.Words.{IsCodePoint}
@@ -13,7 +13,7 @@ use Rattle.rbbi_tree.specs.declared.syntax.Join.{Join}
 use Rattle.rbbi_tree.specs.declared.syntax.Join.TheVariants.{Add, Both, Minus}
 use Rattle.rbbi_resolve.specs.SetValues.{HasProperty}
 
--- The ranges rise, and have the members of the set; there are none where it has no value.
+-- the ranges rise, and have the members of the set
 pub record HasMembers (files : List File) (tree : model.SetTree) (set : List Range) : Type 0 where
   pub rising : AreRising set
   pub members : (c : ℕ) → Has set c ↔ model.InSet (HasProperty files) tree c

@@ -3,9 +3,9 @@ use Rattle.std.specs.Prelude.{◌≡◌, ℕ, ◌<◌, ◌≤◌, Bool, true}
 use Rattle.rbbi_tree.specs.declared.syntax.Quant.{Quant}
 use Rattle.rbbi_tree.specs.declared.syntax.Quant.TheVariants.{Once, Star, Plus, Quest}
 use Rattle.rbbi_resolve.specs.declared.variables.Summary.{Summary}
-use Rattle.rbbi_resolve.specs.Meanings.{Meaning, leaf_count, spells_empty}
+use Rattle.rbbi_resolve.specs.Meanings.{Meaning, leaves_in, spells_empty}
 
--- The number shown is the exact one, but where that is at the cap or past it, the cap.
+-- the number shown is the lesser one of the exact number and the cap
 pub record IsCapped (cap exact shown : ℕ) : Type 0 where
   pub within : shown ≤ cap
   pub below : shown < cap → exact ≡ shown
@@ -19,9 +19,9 @@ pub record Sums (summary : Summary) (leaf_number height_number : ℕ) (empty : B
 
 -- the summary of this meaning and height
 abbrev pub Summarizes : Summary → Meaning → ℕ → Type 0
-Summarizes summary meaning height = Sums summary (leaf_count meaning) height (spells_empty meaning)
+Summarizes summary meaning height = Sums summary (leaves_in meaning) height (spells_empty meaning)
 
--- whether an atom as often as it stands spells the empty word, by whether the atom does
+-- whether the repetition of an atom spells the empty word, by whether the atom does
 abbrev pub empty_of_quant : Quant → Bool → Bool
 empty_of_quant Once empty = empty
 empty_of_quant Star empty = true

@@ -2,7 +2,7 @@
 use Rattle.std.specs.Prelude.{◌≡◌, ℕ, List, [], ◌∷◌, length, codes}
 use Rattle.rbbi_text.specs.Bytes.{file_lines}
 use Rattle.rbbi_props.specs.Rows as rows
-use Rattle.rbbi_props.specs.Files.{file_of}
+use Rattle.rbbi_props.specs.Files.{named_file}
 use Rattle.rbbi_props.specs.Refusals.{HasRowsAlone, IsBadRow}
 use Rattle.rbbi_tool.specs.declared.words.setting.Property.{Property}
 use Rattle.rbbi_tool.specs.declared.refusal.Subject.TheVariants.{File}

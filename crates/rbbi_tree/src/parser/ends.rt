@@ -2,15 +2,15 @@
 ghost use Rattle.std.specs.Prelude.{◌≡◌, OnOk};
 ghost use Rattle.rbbi_lex.specs.declared.token.TokenKind.TheVariants as TokenKind;
 ghost use Rattle.rbbi_tree.specs.Values.{statement_tree};
-ghost use Rattle.rbbi_tree.specs.inner.Machine.Statements.{
+ghost use Rattle.rbbi_tree.specs.inner.Statements.{
   between,
-  fresh,
+  with_head_alone,
   with_statement,
   at_semi,
   statement_at,
 };
-ghost use Rattle.rbbi_tree.specs.inner.Machine.SetStates.{Reads};
-ghost use Rattle.rbbi_tree.specs.inner.Machine.States.{progress, ReadsOutside};
+ghost use Rattle.rbbi_tree.specs.inner.SetStates.{FollowsMachine};
+ghost use Rattle.rbbi_tree.specs.inner.States.{progress, ReadsOutside};
 
 use super::{Head, Parser};
 use crate::error::TreeErr;
@@ -29,8 +29,9 @@ impl Parser {
         tag: Option<u32>,
     ) -> Result<Statement, TreeErr>
         ensures read { let p = progress self.old in
-            Reads place (statement_at p.level.items p.groups tag p) statement_tree result }
-        ensures fresh { OnOk result (progress self.new ≡ fresh between (progress self.old)) }
+            FollowsMachine place (statement_at p.level.items p.groups tag p) statement_tree result }
+        ensures head_alone { OnOk result
+            (progress self.new ≡ with_head_alone between (progress self.old)) }
     {
         if self.level.lacks_item() || !self.groups.is_empty() {
             return Err(TreeErr::Syntax(place));
@@ -85,7 +86,7 @@ impl Parser {
 
     /// Takes the statement that a semicolon ends.
     fn take_ended(&mut self, alloc: Global, place: u32) -> Result<Statement, TreeErr>
-        ensures read { let p = progress self.old in Reads place (at_semi p.head p)
+        ensures read { let p = progress self.old in FollowsMachine place (at_semi p.head p)
             (λ s. with_statement (statement_tree s) (progress self.new)) result }
         ensures between { OnOk result ((progress self.new).head ≡ between) }
     {

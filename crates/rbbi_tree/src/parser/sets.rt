@@ -1,6 +1,6 @@
 //! What each token within sets makes of what was read before it.
 ghost use Rattle.std.specs.Prelude.{◌≡◌, None};
-ghost use Rattle.rbbi_tree.specs.inner.Machine.States.{ReadsInside};
+ghost use Rattle.rbbi_tree.specs.inner.States.{ReadsInside};
 
 use super::{OpenSets, Parser};
 use crate::error::TreeErr;

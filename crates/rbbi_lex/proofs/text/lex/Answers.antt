@@ -1,7 +1,7 @@
 use Rattle.std.proofs.Common.{◌≡◌, ℕ, List, length, refl, subst, ◌∙◌, arith, vec_len}
 use Rattle.std.proofs.lemmas.Result.{err_from_is_err_and}
 use Rattle.rbbi_lex.specs.Places.{PlacesRise}
-use Rattle.rbbi_lex.specs.Cases.{start}
+use Rattle.rbbi_lex.specs.Cases.{start_state}
 use Rattle.rbbi_lex.specs.Errors.{TellsFault}
 use Rattle.rbbi_lex.proofs.LexingLemmas.{UsesUp-push, StopsAt-tells, step_forward, UsesUp-rise, UsesUp-well_made}
 use Rattle.rbbi_lex.proofs.text.lex.Goals as goal
@@ -39,7 +39,7 @@ loop-lexer-preserved c =
     let next = c.next_token.new.self in
     let t = c.in-Some.token in
     let step = rw c.in-Some.is at c.in_ok-token.ensures.step in
-    let read = UsesUp-push x start 0 c.loop-lexer.tokens lexer.state lexer.place t next.place c.loop-lexer.invariant.read step.0 step.1 in
+    let read = UsesUp-push x start_state 0 c.loop-lexer.tokens lexer.state lexer.place t next.place c.loop-lexer.invariant.read step.0 step.1 in
     let same : next.characters.items ≡ x = rw c.next_token.ensures.characters refl in
     record {
       characters = same ∙ c.loop-lexer.invariant.characters;
@@ -49,10 +49,10 @@ loop-lexer-preserved c =
 pub returns-clause-places : goal.returns-clause-places
 returns-clause-places c =
     let lexer = c.loop-lexer.lexer in
-    let rise = UsesUp-rise lexer.characters.items start 0 0 c.loop-lexer.tokens lexer.state lexer.place (omega arith) c.loop-lexer.invariant.read in
+    let rise = UsesUp-rise lexer.characters.items start_state 0 0 c.loop-lexer.tokens lexer.state lexer.place (omega arith) c.loop-lexer.invariant.read in
     subst (λ (x : List ℕ). PlacesRise 0 (length x) c.loop-lexer.tokens) c.loop-lexer.invariant.characters rise
 
 pub returns-clause-well_made : goal.returns-clause-well_made
 returns-clause-well_made c =
     let lexer = c.loop-lexer.lexer in
-    UsesUp-well_made lexer.characters.items start 0 c.loop-lexer.tokens lexer.state lexer.place c.loop-lexer.invariant.read
+    UsesUp-well_made lexer.characters.items start_state 0 c.loop-lexer.tokens lexer.state lexer.place c.loop-lexer.invariant.read

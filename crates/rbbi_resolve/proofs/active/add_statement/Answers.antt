@@ -10,11 +10,11 @@ use Rattle.rbbi_resolve.specs.Parts.{parts_of_expr}
 use Rattle.rbbi_resolve.specs.Faults.{faults_of_parts}
 use Rattle.rbbi_resolve.specs.inner.Files.{context_at}
 use Rattle.rbbi_resolve.specs.Files.{context_after, after_control, rule_in, faults_of_rest, faults_at_slash}
-use Rattle.rbbi_resolve.specs.inner.Scopes.{context_of}
+use Rattle.rbbi_resolve.specs.inner.Contexts.{context_of}
 use Rattle.rbbi_resolve.specs.inner.Switchings.{AreSwitches}
 use Rattle.rbbi_resolve.specs.declared.switches.Switches.{Switches}
 use Rattle.rbbi_resolve.specs.declared.rules.Rule.{Rule}
-use Rattle.rbbi_resolve.specs.inner.Builders.{IsPart, IsBuilt, GoesOn}
+use Rattle.rbbi_resolve.specs.inner.Builders.{IsPart, IsBuilt, Extends}
 use Rattle.rbbi_resolve.specs.inner.RulesSoFar.{IsRestBuilt, IsRuleBuilt, AreRulesTo}
 use Rattle.rbbi_resolve.proofs.Sound.{first_empty, second_empty}
 use Rattle.rbbi_resolve.proofs.SoundFiles.{faultless_at}
@@ -22,7 +22,7 @@ use Rattle.rbbi_resolve.proofs.Steps.{tree_at, meant}
 use Rattle.rbbi_resolve.proofs.Building.{part_more, goes_nowhere, goes_further}
 use Rattle.rbbi_resolve.proofs.RulesBuilt.{statement_built, rule_fresh}
 use Rattle.rbbi_resolve.proofs.Ending.{switches_kept}
-use Rattle.rbbi_resolve.specs.inner.Scopes.{stand_of}
+use Rattle.rbbi_resolve.specs.inner.Contexts.{stand_of}
 use Rattle.rbbi_resolve.specs.inner.Covered.{AreCovered, parts_of_rest}
 use Rattle.rbbi_resolve.proofs.Covering.{covered_left, covered_right}
 use Rattle.rbbi_resolve.proofs.active.add_statement.Goals as goal
@@ -30,32 +30,32 @@ use Rattle.rbbi_resolve.proofs.active.add_statement.Goals.{After-get, In-Rule}
 
 -- a statement that makes no rule
 adds_none : (c : After-get) (s : StatementTree) (switches : Switches) →
-    slice_get (statement_trees c.args.scope.now.statements.now) c.args.scope.now.limit ≡ Some s →
+    slice_get (statement_trees c.args.context.now.statements.now) c.args.context.now.limit ≡ Some s →
     AreSwitches switches
-    (context_after (context_at c.args.builder.now.properties (statement_trees c.args.scope.now.statements.now) c.args.scope.now.limit) s) →
+    (context_after (context_at c.args.builder.now.properties (statement_trees c.args.context.now.statements.now) c.args.context.now.limit) s) →
     AllZip (IsRuleBuilt c.args.builder.now.properties c.args.builder.now.sets.items)
-    (rule_in (context_at c.args.builder.now.properties (statement_trees c.args.scope.now.statements.now) c.args.scope.now.limit) s) [] →
-    AreRulesTo c.args.builder.now.properties (statement_trees c.args.scope.now.statements.now) c.args.builder.now.sets.items
-    c.args.builder.now.bases.items switches c.args.rules.now.items (c.args.scope.now.limit + 1)
+    (rule_in (context_at c.args.builder.now.properties (statement_trees c.args.context.now.statements.now) c.args.context.now.limit) s) [] →
+    AreRulesTo c.args.builder.now.properties (statement_trees c.args.context.now.statements.now) c.args.builder.now.sets.items
+    c.args.builder.now.bases.items switches c.args.rules.now.items (c.args.context.now.limit + 1)
 adds_none c s switches at switch none =
     let files = c.args.builder.now.properties in
-    let T = statement_trees c.args.scope.now.statements.now in
+    let T = statement_trees c.args.context.now.statements.now in
     let sets = c.args.builder.now.sets.items in
     let bases = c.args.builder.now.bases.items in
-    statement_built files T sets sets bases bases c.args.switches.now switches c.args.rules.now.items c.args.rules.now.items [] c.args.scope.now.limit s
+    statement_built files T sets sets bases bases c.args.switches.now switches c.args.rules.now.items c.args.rules.now.items [] c.args.context.now.limit s
     c.requires.rules at (goes_nowhere files T sets bases c.requires.rules.builder) switch none (sym (append-nil c.args.rules.now.items))
     (λ k low high. absurd (omega arith))
 
 -- the parts of an active rule have no faults
 faultless : (c : In-Rule) →
-    (faults_of_parts (context_at c.args.builder.now.properties (statement_trees c.args.scope.now.statements.now) c.args.scope.now.limit)
+    (faults_of_parts (context_at c.args.builder.now.properties (statement_trees c.args.context.now.statements.now) c.args.context.now.limit)
     (parts_of_expr (expr_tree c.in-Rule.front)) ≡ [])
-    × (faults_of_rest (context_at c.args.builder.now.properties (statement_trees c.args.scope.now.statements.now) c.args.scope.now.limit)
+    × (faults_of_rest (context_at c.args.builder.now.properties (statement_trees c.args.context.now.statements.now) c.args.context.now.limit)
     (rest_tree c.in-Rule.rest) ≡ [])
 faultless c =
     let files = c.args.builder.now.properties in
-    let xs = c.args.scope.now.statements.now in
-    let n = c.args.scope.now.limit in
+    let xs = c.args.context.now.statements.now in
+    let n = c.args.context.now.limit in
     let k = context_at files (statement_trees xs) n in
     let front = expr_tree c.in-Rule.front in
     let rest = rest_tree c.in-Rule.rest in
@@ -69,12 +69,12 @@ faultless c =
 pub returns-in-Nothing-clause-added : goal.returns-in-Nothing-clause-added
 returns-in-Nothing-clause-added c =
     adds_none (goal.at.returns-in-Nothing-clause-added c).After-get nothing c.args.switches.now
-    (tree_at c.args.scope.now.statements.now c.args.scope.now.limit _ (c.get.ensures ∙ ap Some c.in-Nothing.is)) c.requires.rules.switched tt
+    (tree_at c.args.context.now.statements.now c.args.context.now.limit _ (c.get.ensures ∙ ap Some c.in-Nothing.is)) c.requires.rules.switched tt
 
 pub returns-in-Assign-clause-added : goal.returns-in-Assign-clause-added
 returns-in-Assign-clause-added c =
-    let xs = c.args.scope.now.statements.now in
-    let n = c.args.scope.now.limit in
+    let xs = c.args.context.now.statements.now in
+    let n = c.args.context.now.limit in
     let expr = expr_tree c.in-Assign.expr in
     adds_none (goal.at.returns-in-Assign-clause-added c).After-get (assign c.in-Assign.name c.in-Assign.place expr) c.args.switches.now
     (tree_at xs n _ (c.get.ensures ∙ ap Some c.in-Assign.is))
@@ -82,8 +82,8 @@ returns-in-Assign-clause-added c =
 
 pub returns-in-Control-clause-added : goal.returns-in-Control-clause-added
 returns-in-Control-clause-added c =
-    let xs = c.args.scope.now.statements.now in
-    let n = c.args.scope.now.limit in
+    let xs = c.args.context.now.statements.now in
+    let n = c.args.context.now.limit in
     let k = context_at c.args.builder.now.properties (statement_trees xs) n in
     adds_none (goal.at.returns-in-Control-clause-added c).After-get (control c.in-Control.name c.in-Control.place) c.after.result
     (tree_at xs n _ (c.get.ensures ∙ ap Some c.in-Control.is))
@@ -92,8 +92,8 @@ returns-in-Control-clause-added c =
 pub returns-then-not-switches-clause-added : goal.returns-then-not-switches-clause-added
 returns-then-not-switches-clause-added c =
     let files = c.args.builder.now.properties in
-    let xs = c.args.scope.now.statements.now in
-    let n = c.args.scope.now.limit in
+    let xs = c.args.context.now.statements.now in
+    let n = c.args.context.now.limit in
     let front = expr_tree c.in-Rule.front in
     let rest = rest_tree c.in-Rule.rest in
     let k = context_at files (statement_trees xs) n in
@@ -109,15 +109,15 @@ tree-requires-clause-faultless c = (faultless (goal.at.tree-requires-clause-faul
 
 pub tree_of_rest-requires-clause-faultless : goal.tree_of_rest-requires-clause-faultless
 tree_of_rest-requires-clause-faultless c =
-    subst (λ f. faults_of_rest (context_of f c.args.scope.now) (rest_tree c.in-Rule.rest) ≡ []) (sym c.in_ok-front-in-Rule.ensures.same)
+    subst (λ f. faults_of_rest (context_of f c.args.context.now) (rest_tree c.in-Rule.rest) ≡ []) (sym c.in_ok-front-in-Rule.ensures.same)
     (faultless (goal.at.tree_of_rest-requires-clause-faultless c).In-Rule).1
 
 pub returns-in_ok-push-in-Rule-clause-added : goal.returns-in_ok-push-in-Rule-clause-added
 returns-in_ok-push-in-Rule-clause-added c =
     let files = c.args.builder.now.properties in
-    let xs = c.args.scope.now.statements.now in
+    let xs = c.args.context.now.statements.now in
     let T = statement_trees xs in
-    let n = c.args.scope.now.limit in
+    let n = c.args.context.now.limit in
     let sets = c.args.builder.now.sets.items in
     let mid = c.tree.new.self.sets.items in
     let last = c.tree_of_rest.new.builder.sets.items in
@@ -138,9 +138,9 @@ returns-in_ok-push-in-Rule-clause-added c =
       place = c.in-Rule.place;
     } in
     let same = c.in_ok-front-in-Rule.ensures.same in
-    let on = subst (λ f. GoesOn f T mid last c.tree_of_rest.new.builder.bases.items) same c.in_ok-rest-in-Rule.ensures.on in
+    let on = subst (λ f. Extends f T mid last c.tree_of_rest.new.builder.bases.items) same c.in_ok-rest-in-Rule.ensures.on in
     let own : IsBuilt files (length sets) mid 0 0 (meaning_of_expr k front) c.in_ok-front-in-Rule.front = c.in_ok-front-in-Rule.ensures.built in
-    let behind = subst (λ f. IsRestBuilt f (length mid) last (option_map (meaning_of_expr (context_of f c.args.scope.now)) rest) c.in_ok-rest-in-Rule.rest)
+    let behind = subst (λ f. IsRestBuilt f (length mid) last (option_map (meaning_of_expr (context_of f c.args.context.now)) rest) c.in_ok-rest-in-Rule.rest)
     same c.in_ok-rest-in-Rule.ensures.built in
     let part = subst (λ ss. IsPart files ss (meaning_of_expr k front) c.in_ok-front-in-Rule.front) (sym on.is)
     (part_more files mid on.more (meaning_of_expr k front) c.in_ok-front-in-Rule.front own.part) in
@@ -163,22 +163,22 @@ returns-in_ok-push-in-Rule-clause-added c =
 
 -- the expressions of an active rule are covered
 covered : (c : In-Rule) →
-    AreCovered c.args.builder.now.properties (stand_of c.args.scope.now) (parts_of_expr (expr_tree c.in-Rule.front) ++ parts_of_rest
+    AreCovered c.args.builder.now.properties (stand_of c.args.context.now) (parts_of_expr (expr_tree c.in-Rule.front) ++ parts_of_rest
     (rest_tree c.in-Rule.rest))
 covered c =
-    let xs = c.args.scope.now.statements.now in
-    let n = c.args.scope.now.limit in
+    let xs = c.args.context.now.statements.now in
+    let n = c.args.context.now.limit in
     c.requires.ready.covered.each n _ (tree_at xs n _ (c.get.ensures ∙ ap Some c.in-Rule.is))
 
 pub tree-requires-clause-covered : goal.tree-requires-clause-covered
 tree-requires-clause-covered c =
-    covered_left c.args.builder.now.properties (stand_of c.args.scope.now) (parts_of_expr (expr_tree c.in-Rule.front)) (parts_of_rest
+    covered_left c.args.builder.now.properties (stand_of c.args.context.now) (parts_of_expr (expr_tree c.in-Rule.front)) (parts_of_rest
     (rest_tree c.in-Rule.rest))
     (covered (goal.at.tree-requires-clause-covered c).In-Rule)
 
 pub tree_of_rest-requires-clause-covered : goal.tree_of_rest-requires-clause-covered
 tree_of_rest-requires-clause-covered c =
     let rest = parts_of_rest (rest_tree c.in-Rule.rest) in
-    subst (λ f. AreCovered f (stand_of c.args.scope.now) rest) (sym c.in_ok-front-in-Rule.ensures.same)
-    (covered_right c.args.builder.now.properties (stand_of c.args.scope.now) (parts_of_expr (expr_tree c.in-Rule.front)) rest
+    subst (λ f. AreCovered f (stand_of c.args.context.now) rest) (sym c.in_ok-front-in-Rule.ensures.same)
+    (covered_right c.args.builder.now.properties (stand_of c.args.context.now) (parts_of_expr (expr_tree c.in-Rule.front)) rest
     (covered (goal.at.tree_of_rest-requires-clause-covered c).In-Rule))

@@ -5,8 +5,8 @@ use Rattle.rbbi_tree.specs.Values.{statement_trees}
 use Rattle.rbbi_classes.specs.Divisions.{stand_in}
 use Rattle.rbbi_resolve.specs.Files.{active_rules, faults_of}
 use Rattle.rbbi_resolve.specs.inner.Files.{context_at}
-use Rattle.rbbi_resolve.specs.inner.Scopes.{AreVariables}
-use Rattle.rbbi_resolve.specs.inner.ClassValues.{AreClasses}
+use Rattle.rbbi_resolve.specs.inner.Contexts.{AreVariables}
+use Rattle.rbbi_resolve.specs.inner.ClassValues.{AreRightClasses}
 use Rattle.rbbi_resolve.specs.inner.Covered.{CoversAll}
 use Rattle.rbbi_resolve.specs.RuleLists.{RuleList, rules_of}
 use Rattle.rbbi_resolve.specs.Outcomes.{Means}
@@ -31,7 +31,7 @@ rules_with_trees-requires-clause-ready c =
     let now = c.in_ok-builder.builder.properties in
     record {
       end = length r.statements.now;
-      classes = subst (λ f. AreClasses f r.classes) back c.requires.reading.classified;
+      classes = subst (λ f. AreRightClasses f r.classes) back c.requires.reading.classified;
       covered = subst (λ f. CoversAll f (stand_in (rc_value r.classes.division)) T) back c.requires.reading.covered;
       variables = variables;
       low = omega (arith, c.len.ensures);

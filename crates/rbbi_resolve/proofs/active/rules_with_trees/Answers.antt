@@ -11,7 +11,7 @@ use Rattle.rbbi_resolve.proofs.active.rules_with_trees.Goals as goal
 pub loop-number-init : goal.loop-number-init
 loop-number-init c =
     let files = c.args.builder.now.properties in
-    let T = statement_trees c.args.scope.now.statements.now in
+    let T = statement_trees c.args.context.now.statements.now in
     let none = ap length c.requires.empty in (
       refl,
       record {
@@ -26,7 +26,7 @@ loop-number-init c =
 
 pub add_statement-requires-clause-ready : goal.add_statement-requires-clause-ready
 add_statement-requires-clause-ready c =
-    let r = subst (λ f. IsReady f c.args.scope.now) (sym c.loop-number.invariant.0) c.requires.ready in
+    let r = subst (λ f. IsReady f c.args.context.now) (sym c.loop-number.invariant.0) c.requires.ready in
     let low = r.low in
     let test = c.loop-number-test.true in
     record {
@@ -46,15 +46,15 @@ loop-number-preserved c =
     let n = c.add_statement.new in
     let same = c.in_ok-add_statement.ensures.same in (
       same ∙ c.loop-number.invariant.0,
-      subst (λ f. AreRulesTo f (statement_trees c.args.scope.now.statements.now) n.builder.sets.items n.builder.bases.items n.switches n.rules.items
+      subst (λ f. AreRulesTo f (statement_trees c.args.context.now.statements.now) n.builder.sets.items n.builder.bases.items n.switches n.rules.items
           (c.loop-number.number + 1)) (sym same) c.in_ok-add_statement.ensures.added,
     )
 
 pub returns : goal.returns
 returns c =
     let l = c.loop-number in
-    let T = statement_trees c.args.scope.now.statements.now in
-    let long : length T ≡ length c.args.scope.now.statements.now = simp length-map in
+    let T = statement_trees c.args.context.now.statements.now in
+    let long : length T ≡ length c.args.context.now.statements.now = simp length-map in
     let all = c.requires.all in
     let test = c.loop-number-test.false in
     record {

@@ -6,4 +6,4 @@ use Rattle.rbbi_resolve.proofs.active.rules_with_trees.Given as goal
 abbrev pub invariant-loop-number : goal.invariant-loop-number
 invariant-loop-number l =
     (l.builder.properties ≡ l.initial.builder.properties)
-    × AreRulesTo l.builder.properties (statement_trees l.scope.statements.now) l.builder.sets.items l.builder.bases.items l.switches l.rules.items l.number
+    × AreRulesTo l.builder.properties (statement_trees l.context.statements.now) l.builder.sets.items l.builder.bases.items l.switches l.rules.items l.number

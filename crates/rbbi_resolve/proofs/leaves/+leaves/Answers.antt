@@ -6,7 +6,7 @@ use Rattle.rbbi_resolve.specs.Parts.{Outside, parts_of_expr, parts_of_seq, parts
 use Rattle.rbbi_resolve.specs.Faults.{faults_of_parts}
 use Rattle.rbbi_resolve.specs.inner.SetValues.{IsValue}
 use Rattle.rbbi_resolve.specs.inner.ClassValues.{IsClassValue}
-use Rattle.rbbi_resolve.specs.inner.Scopes.{bounds_of, context_of}
+use Rattle.rbbi_resolve.specs.inner.Contexts.{bounds_of, context_of}
 use Rattle.rbbi_resolve.specs.inner.OwnLeaves.{AddsLeaves, leaves_of_expr, leaves_of_seq, leaves_of_item}
 use Rattle.rbbi_resolve.proofs.Counting.{expr_by_items, seq_by_items}
 use Rattle.rbbi_resolve.proofs.ItemTrees.{atom_of_property, atom_of_set, atom_of_group}
@@ -17,7 +17,7 @@ use Rattle.std.proofs.Common.{◌<◌, length, rules}
 use Rattle.std.proofs.Common.{IfSome}
 use Rattle.rbbi_resolve.specs.Contexts.{value_of_name}
 use Rattle.rbbi_resolve.specs.inner.Covered.{AreCovered, Respects}
-use Rattle.rbbi_resolve.specs.inner.Scopes.{IsScope, stand_of}
+use Rattle.rbbi_resolve.specs.inner.Contexts.{IsContext, stand_of}
 use Rattle.rbbi_resolve.proofs.Weights.{size_of_expr, size_of_seq, size_of_item, smaller_seq, smaller_item}
 use Rattle.rbbi_resolve.proofs.Covering.{covered_seq, covered_item, covered_set, covered_group}
 use Rattle.rbbi_resolve.proofs.leaves.+leaves.Goals as goal
@@ -27,14 +27,14 @@ add_leaves-loop-seq-init t c = record { same = refl; adds = λ sound e after x. 
 
 pub add_leaves-loop-seq-preserved : goal.add_leaves-loop-seq-preserved
 add_leaves-loop-seq-preserved t c =
-    adding_expr (λ f. context_of f c.args.scope.now) c.args.properties.now c.args.sets.now.items _ _ c.loop-seq.properties c.loop-seq.sets.items
+    adding_expr (λ f. context_of f c.args.context.now) c.args.properties.now c.args.sets.now.items _ _ c.loop-seq.properties c.loop-seq.sets.items
     c.add_leaves_of_seq.new.sets.items c.add_leaves_of_seq.new.properties c.deref-seq-items.result.now c.loop-seq.seq-index c.seq-item.result
     (omega arith) c.seq-item.is c.loop-seq.invariant
     c.in_ok-add_leaves_of_seq.ensures.added c.in_ok-add_leaves_of_seq.ensures.same
 
 pub add_leaves-returns-clause-added : goal.add_leaves-returns-clause-added
 add_leaves-returns-clause-added t c =
-    let k = context_of c.args.properties.now c.args.scope.now in
+    let k = context_of c.args.properties.now c.args.context.now in
     let tree = expr_by_items c.args.expr.now _ c.deref-seq-items.ensures.value in
     let none : drop c.loop-seq.seq-index c.deref-seq-items.result.now ≡ [] = drop_all c.loop-seq.seq-index c.deref-seq-items.result.now (omega arith) in
     λ sound e.
@@ -48,14 +48,14 @@ add_leaves_of_seq-loop-item-init t c = record { same = refl; adds = λ sound e a
 
 pub add_leaves_of_seq-loop-item-preserved : goal.add_leaves_of_seq-loop-item-preserved
 add_leaves_of_seq-loop-item-preserved t c =
-    adding_seq (λ f. context_of f c.args.scope.now) c.args.properties.now c.args.sets.now.items _ _ c.loop-item.properties c.loop-item.sets.items
+    adding_seq (λ f. context_of f c.args.context.now) c.args.properties.now c.args.sets.now.items _ _ c.loop-item.properties c.loop-item.sets.items
     c.add_leaves_of_item.new.sets.items c.add_leaves_of_item.new.properties c.deref-item-items.result.now c.loop-item.item-index c.item-item.result
     (omega arith) c.item-item.is c.loop-item.invariant
     c.in_ok-add_leaves_of_item.ensures.added c.in_ok-add_leaves_of_item.ensures.same
 
 pub add_leaves_of_seq-returns-clause-added : goal.add_leaves_of_seq-returns-clause-added
 add_leaves_of_seq-returns-clause-added t c =
-    let k = context_of c.args.properties.now c.args.scope.now in
+    let k = context_of c.args.properties.now c.args.context.now in
     let tree = seq_by_items c.args.seq.now _ c.deref-item-items.ensures.value in
     let none : drop c.loop-item.item-index c.deref-item-items.result.now ≡ [] = drop_all c.loop-item.item-index c.deref-item-items.result.now (omega arith) in
     λ sound e.
@@ -67,7 +67,7 @@ add_leaves_of_seq-returns-clause-added t c =
 pub add_leaves_of_item-returns-in_ok-add_value-in-Prop-clause-added : goal.add_leaves_of_item-returns-in_ok-add_value-in-Prop-clause-added
 add_leaves_of_item-returns-in_ok-add_value-in-Prop-clause-added t c =
     let files = c.args.properties.now in
-    let k = context_of files c.args.scope.now in
+    let k = context_of files c.args.context.now in
     let e : item_tree c.args.item.now ≡ placed c.args.item.now.place (property c.in-Prop.negated c.in-Prop.name c.in-Prop.value) c.args.item.now.quant =
     item_tree_out c.args.item.now ∙ ap (λ a. placed c.args.item.now.place a c.args.item.now.quant) (let i =
     c.in-Prop.is in ap atom_tree i ∙ atom_of_property c.in-Prop.negated c.in-Prop.name c.in-Prop.value) in
@@ -81,25 +81,25 @@ add_leaves_of_item-returns-in_ok-add_value-in-Prop-clause-added t c =
 pub add_leaves_of_item-returns-in_ok-add_classes-in-Set-clause-added : goal.add_leaves_of_item-returns-in_ok-add_classes-in-Set-clause-added
 add_leaves_of_item-returns-in_ok-add_classes-in-Set-clause-added t c =
     let files = c.args.properties.now in
-    let k = context_of files c.args.scope.now in
+    let k = context_of files c.args.context.now in
     let e : item_tree c.args.item.now ≡ placed c.args.item.now.place (set (set_tree c.in-Set.set)) c.args.item.now.quant =
     item_tree_out c.args.item.now ∙ ap (λ a. placed c.args.item.now.place a c.args.item.now.quant) (let i =
     c.in-Set.is in ap atom_tree i ∙ atom_of_set c.in-Set.set) in
     λ sound faultless.
     subst (λ i. AddsLeaves files (leaves_of_item k i) c.args.sets.now.items c.add_classes.new.sets.items) (sym e)
     (set_leaf k files c.args.item.now.place (set_tree c.in-Set.set) c.args.item.now.quant c.args.sets.now.items c.add_classes.new.sets.items
-    (λ v. IsClassValue files (bounds_of c.args.scope.now) v c.in_ok-kept-in-Set.kept × IfSome v (Respects files (stand_of c.args.scope.now)))
+    (λ v. IsClassValue files (bounds_of c.args.context.now) v c.in_ok-kept-in-Set.kept × IfSome v (Respects files (stand_of c.args.context.now)))
     (files_stay files _ _) sound
     (subst (λ i. faults_of_parts k (parts_of_item i) ≡ []) e faultless) (
       rw c.in_ok-kept-in-Set.ensures.value c.in_ok-value-in-Set.ensures.value,
-      covered_set files (stand_of c.args.scope.now) c.args.item.now c.in-Set.set c.in-Set.is c.requires.covered (value_of_name k) c.requires.scope.respects,
+      covered_set files (stand_of c.args.context.now) c.args.item.now c.in-Set.set c.in-Set.is c.requires.covered (value_of_name k) c.requires.context.respects,
     )
-    (λ tree is filled. c.in_ok-add_classes-in-Set.ensures files tree c.requires.scope.classes.divides is.0 is.1 filled))
+    (λ tree is filled. c.in_ok-add_classes-in-Set.ensures files tree c.requires.context.classes.divides is.0 is.1 filled))
 
 pub add_leaves_of_item-returns-in_ok-add_leaves-in-Group-clause-added : goal.add_leaves_of_item-returns-in_ok-add_leaves-in-Group-clause-added
 add_leaves_of_item-returns-in_ok-add_leaves-in-Group-clause-added t c =
     let files = c.args.properties.now in
-    let k = context_of files c.args.scope.now in
+    let k = context_of files c.args.context.now in
     let e : item_tree c.args.item.now ≡ placed c.args.item.now.place (group (expr_tree c.in-Group.inner)) c.args.item.now.quant =
     item_tree_out c.args.item.now ∙ ap (λ a. placed c.args.item.now.place a c.args.item.now.quant) (let i =
     c.in-Group.is in ap atom_tree i ∙ atom_of_group c.in-Group.inner) in
@@ -111,7 +111,7 @@ add_leaves_of_item-returns-in_ok-add_leaves-in-Group-clause-added t c =
 
 pub add_leaves-add_leaves_of_seq-requires : goal.add_leaves-add_leaves_of_seq-requires
 add_leaves-add_leaves_of_seq-requires t c =
-    let scope = c.args.scope.now in
+    let context = c.args.context.now in
     let files = c.args.properties.now in
     let l = c.loop-seq in
     let xs = c.deref-seq-items.result.now in
@@ -120,15 +120,15 @@ add_leaves-add_leaves_of_seq-requires t c =
     let part = smaller_seq xs l.seq-index p inside c.seq-item.is in
     let size = ap size_of_expr (expr_by_items c.args.expr.now _ c.deref-seq-items.ensures.value) in
     let smaller : size_of_seq (seq_tree p) < size_of_expr (expr_tree c.args.expr.now) = omega arith in
-    let is_scope : IsScope l.properties scope = subst (λ f. IsScope f scope) (sym l.invariant.same) c.requires.scope in
-    let covered : AreCovered l.properties (stand_of scope) (parts_of_seq (seq_tree p)) =
-    covered_seq files l.properties (stand_of scope) l.invariant.same c.args.expr.now xs l.seq-index p c.requires.covered c.deref-seq-items.ensures.value
+    let is_context : IsContext l.properties context = subst (λ f. IsContext f context) (sym l.invariant.same) c.requires.context in
+    let covered : AreCovered l.properties (stand_of context) (parts_of_seq (seq_tree p)) =
+    covered_seq files l.properties (stand_of context) l.invariant.same c.args.expr.now xs l.seq-index p c.requires.covered c.deref-seq-items.ensures.value
     c.seq-item.is inside in
     search rules
 
 pub add_leaves_of_seq-add_leaves_of_item-requires : goal.add_leaves_of_seq-add_leaves_of_item-requires
 add_leaves_of_seq-add_leaves_of_item-requires t c =
-    let scope = c.args.scope.now in
+    let context = c.args.context.now in
     let files = c.args.properties.now in
     let l = c.loop-item in
     let xs = c.deref-item-items.result.now in
@@ -137,9 +137,9 @@ add_leaves_of_seq-add_leaves_of_item-requires t c =
     let part = smaller_item xs l.item-index p inside c.item-item.is in
     let size = ap size_of_seq (seq_by_items c.args.seq.now _ c.deref-item-items.ensures.value) in
     let smaller : size_of_item (item_tree p) < size_of_seq (seq_tree c.args.seq.now) = omega arith in
-    let is_scope : IsScope l.properties scope = subst (λ f. IsScope f scope) (sym l.invariant.same) c.requires.scope in
-    let covered : AreCovered l.properties (stand_of scope) (parts_of_item (item_tree p)) =
-    covered_item files l.properties (stand_of scope) l.invariant.same c.args.seq.now xs l.item-index p c.requires.covered c.deref-item-items.ensures.value
+    let is_context : IsContext l.properties context = subst (λ f. IsContext f context) (sym l.invariant.same) c.requires.context in
+    let covered : AreCovered l.properties (stand_of context) (parts_of_item (item_tree p)) =
+    covered_item files l.properties (stand_of context) l.invariant.same c.args.seq.now xs l.item-index p c.requires.covered c.deref-item-items.ensures.value
     c.item-item.is inside in
     search rules
 
@@ -150,5 +150,5 @@ add_leaves_of_item-add_leaves-requires t c =
     c.in-Group.is in ap atom_tree i ∙ atom_of_group c.in-Group.inner) in
     let size = ap size_of_item e in
     let smaller : size_of_expr (expr_tree c.in-Group.inner) < size_of_item (item_tree c.args.item.now) = omega arith in
-    let covered = covered_group c.args.properties.now (stand_of c.args.scope.now) c.args.item.now c.in-Group.inner c.in-Group.is c.requires.covered in
+    let covered = covered_group c.args.properties.now (stand_of c.args.context.now) c.args.item.now c.in-Group.inner c.in-Group.is c.requires.covered in
     search rules

@@ -5,13 +5,12 @@ use Rattle.rbbi_tree.specs.declared.syntax.Statement.{Statement}
 use Rattle.rbbi_tree.specs.Values.{statement_trees}
 use Rattle.rbbi_resolve.specs.declared.file.Reading.{Reading}
 use Rattle.rbbi_resolve.specs.Faults.{noted}
-use Rattle.rbbi_resolve.specs.Files.{start, faults_of, active_rules}
-use Rattle.rbbi_resolve.specs.Counts.{counted}
-use Rattle.rbbi_resolve.specs.Refusals.{IsCause, fault_of}
+use Rattle.rbbi_resolve.specs.Files.{initial_context, faults_of, active_rules}
+use Rattle.rbbi_resolve.specs.Counts.{size_fault}
+use Rattle.rbbi_resolve.specs.Refusals.{IsReason, fault_of}
 use Rattle.rbbi_resolve.specs.inner.Readings.{IsReading}
 use Rattle.rbbi_resolve.specs.inner.Countings.{AreCounting}
 use Rattle.rbbi_resolve.proofs.Earliest.{least_noted, none_noted}
-use Rattle.rbbi_resolve.proofs.FaultKinds.{kinds_from, kind_of_one, kind_of_counted}
 use Rattle.rbbi_resolve.proofs.Ending.{least_of_all, counting_all}
 use Rattle.rbbi_resolve.proofs.outcome.resolve.Goals as goal
 
@@ -34,30 +33,15 @@ same_faults : (r : Reading) (files : List File) (ignored : Bool) (statements : L
     (statement_trees statements)
 same_faults r files ignored statements s f i = rw (s, f, i) refl
 
-pub refusal-requires : goal.refusal-requires
-refusal-requires c =
-    let r = c.in_ok-reading.reading in
-    let faults = faults_of r.properties r.dictionary_ignored (statement_trees r.statements.now) in
-    kind_of_one faults c.in-Some.fault (kinds_from r.dictionary_ignored (start r.properties) (statement_trees r.statements.now))
-    (least_noted faults c.in-Some.fault
-    (least_read r _ (ap length (sym c.in_ok-reading.ensures.statements)) c.in_ok-reading.ensures.reading ∙ c.in-Some.is)).one_of
-
 pub returns-in-Some-clause-refused : goal.returns-in-Some-clause-refused
 returns-in-Some-clause-refused c =
     let r = c.in_ok-reading.reading in
     let n = c.in_ok-reading.ensures in
     let faults = faults_of r.properties r.dictionary_ignored (statement_trees r.statements.now) in
-    let count = counted c.args.end (active_rules c.args.props.now (statement_trees c.args.statements.now)) in
-    subst (λ fs. IsCause fs count (fault_of c.refusal.result)) (same_faults r _ _ _ n.statements n.properties n.ignored)
-    (subst (IsCause faults count) (sym c.refusal.ensures)
+    let count = size_fault c.args.end (active_rules c.args.props.now (statement_trees c.args.statements.now)) in
+    subst (λ fs. IsReason fs count (fault_of c.refusal.result)) (same_faults r _ _ _ n.statements n.properties n.ignored)
+    (subst (IsReason faults count) (sym c.refusal.ensures)
     (inl (least_noted faults c.in-Some.fault (least_read r _ (ap length (sym n.statements)) n.reading ∙ c.in-Some.is))))
-
-pub refusal-requires-in-Some-fault : goal.refusal-requires-in-Some-fault
-refusal-requires-in-Some-fault c =
-    let r = c.in_ok-reading.reading in
-    let ms = active_rules r.properties (statement_trees r.statements.now) in
-    kind_of_counted c.args.end ms c.in-Some-fault.fault
-    (sym (c.fault.ensures ms (counting_read r _ (ap length (sym c.in_ok-reading.ensures.statements)) c.in_ok-reading.ensures.reading)) ∙ c.in-Some-fault.is)
 
 pub returns-in-Some-fault-clause-refused : goal.returns-in-Some-fault-clause-refused
 returns-in-Some-fault-clause-refused c =
@@ -67,14 +51,14 @@ returns-in-Some-fault-clause-refused c =
     let faults = faults_of r.properties r.dictionary_ignored T in
     let ms = active_rules r.properties T in
     let none = none_noted faults (least_read r _ (ap length (sym n.statements)) n.reading ∙ c.in_default.is) in
-    let count : counted c.args.end ms ≡ Some c.in-Some-fault.fault =
+    let count : size_fault c.args.end ms ≡ Some c.in-Some-fault.fault =
     sym (c.fault.ensures ms (counting_read r _ (ap length (sym n.statements)) n.reading)) ∙ c.in-Some-fault.is in
     let same_rules : ms ≡ active_rules c.args.props.now (statement_trees c.args.statements.now) =
     ap (λ f. active_rules f T) n.properties ∙ ap (λ s. active_rules c.args.props.now (statement_trees s)) n.statements in
-    subst (λ xs. IsCause (faults_of c.args.props.now c.args.ignore_dictionary (statement_trees c.args.statements.now)) (counted c.args.end xs)
+    subst (λ xs. IsReason (faults_of c.args.props.now c.args.ignore_dictionary (statement_trees c.args.statements.now)) (size_fault c.args.end xs)
     (fault_of c.refusal-in-Some-fault.result)) same_rules
-    (subst (λ fs. IsCause fs (counted c.args.end ms) (fault_of c.refusal-in-Some-fault.result)) (same_faults r _ _ _ n.statements n.properties n.ignored)
-    (subst (IsCause faults (counted c.args.end ms)) (sym c.refusal-in-Some-fault.ensures) (inr (none, count))))
+    (subst (λ fs. IsReason fs (size_fault c.args.end ms) (fault_of c.refusal-in-Some-fault.result)) (same_faults r _ _ _ n.statements n.properties n.ignored)
+    (subst (IsReason faults (size_fault c.args.end ms)) (sym c.refusal-in-Some-fault.ensures) (inr (none, count))))
 
 pub build_rules-requires-clause-faultless : goal.build_rules-requires-clause-faultless
 build_rules-requires-clause-faultless c =

@@ -1,10 +1,11 @@
 use Rattle.std.proofs.Common.{◌≡◌, is_none, option_map, sym, ap, ◌∙◌, arith, rules}
 use Rattle.rbbi_tree.specs.Trees.{joined, set_property, set_within}
 use Rattle.rbbi_tree.specs.Values.{set_tree, set_item_tree}
+use Rattle.rbbi_resolve.specs.declared.fault.FaultKind.TheVariants as kinds
 use Rattle.rbbi_resolve.specs.Parts.{parts_of_part}
 use Rattle.rbbi_resolve.specs.Faults.{noted, faults_where}
 use Rattle.rbbi_resolve.specs.inner.Faults.{noted_parts}
-use Rattle.rbbi_resolve.specs.inner.Scopes.{bounds_of, context_of}
+use Rattle.rbbi_resolve.specs.inner.Contexts.{bounds_of, context_of}
 use Rattle.rbbi_resolve.specs.inner.Worths.{classes_of}
 use Rattle.rbbi_resolve.proofs.ItemTrees.{of_property, of_inner}
 use Rattle.rbbi_resolve.proofs.Kept.{files_stay}
@@ -13,7 +14,7 @@ use Rattle.rbbi_resolve.proofs.SetFolds.{folding_starts, folding_turn, folding_g
 use Rattle.std.proofs.Common.{◌<◌, length, map, subst}
 use Rattle.rbbi_tree.specs.Trees.{parts_of}
 use Rattle.rbbi_tree.specs.Values.{part_tree}
-use Rattle.rbbi_resolve.specs.inner.Scopes.{IsScope}
+use Rattle.rbbi_resolve.specs.inner.Contexts.{IsContext}
 use Rattle.rbbi_resolve.proofs.SetLoops.{set_is}
 use Rattle.rbbi_resolve.proofs.Weights.{size_of_set, size_of_parts, size_of_member, smaller_member}
 use Rattle.rbbi_resolve.proofs.set_value.+sets.Goals as goal
@@ -23,7 +24,7 @@ value_of_set-loop-part-init t c = folding_starts c.args.properties.now _ _ c.arg
 
 pub value_of_set-loop-part-preserved : goal.value_of_set-loop-part-preserved
 value_of_set-loop-part-preserved t c =
-    folding_turn (λ files. context_of files c.args.scope.now) c.args.properties.now (bounds_of c.args.scope.now) c.args.least.now _ c.loop-part.whole
+    folding_turn (λ files. context_of files c.args.context.now) c.args.properties.now (bounds_of c.args.context.now) c.args.least.now _ c.loop-part.whole
     (option_map classes_of c.in_ok-item.item) c.in_ok-whole.whole c.loop-part.least c.value_of_item.new.least c.loop-part.properties
     c.value_of_item.new.properties
     c.deref-part-items.result.now c.loop-part.part-index c.part-item.result (omega arith) c.part-item.is c.loop-part.invariant
@@ -31,24 +32,24 @@ value_of_set-loop-part-preserved t c =
 
 pub value_of_set-returns-clause-value : goal.value_of_set-returns-clause-value
 value_of_set-returns-clause-value t c =
-    (folding_gives c.args.properties.now (bounds_of c.args.scope.now) (context_of c.args.properties.now c.args.scope.now) c.args.least.now c.args.set.now
+    (folding_gives c.args.properties.now (bounds_of c.args.context.now) (context_of c.args.properties.now c.args.context.now) c.args.least.now c.args.set.now
     c.deref-part-items.result.now c.loop-part.part-index c.loop-part.whole c.in_ok-value.value c.loop-part.least c.loop-part.properties
     c.deref-part-items.ensures.value (omega arith) c.loop-part.invariant (rw c.layout.ensures at (c.in_ok-value.ensures c.args.properties.now))).0
 
 pub value_of_set-returns-clause-noted : goal.value_of_set-returns-clause-noted
 value_of_set-returns-clause-noted t c =
-    (folding_gives c.args.properties.now (bounds_of c.args.scope.now) (context_of c.args.properties.now c.args.scope.now) c.args.least.now c.args.set.now
+    (folding_gives c.args.properties.now (bounds_of c.args.context.now) (context_of c.args.properties.now c.args.context.now) c.args.least.now c.args.set.now
     c.deref-part-items.result.now c.loop-part.part-index c.loop-part.whole c.in_ok-value.value c.loop-part.least c.loop-part.properties
     c.deref-part-items.ensures.value (omega arith) c.loop-part.invariant (rw c.layout.ensures at (c.in_ok-value.ensures c.args.properties.now))).1
 
 pub value_of_item-returns-in_ok-found-in-Prop-clause-noted : goal.value_of_item-returns-in_ok-found-in-Prop-clause-noted
 value_of_item-returns-in_ok-found-in-Prop-clause-noted t c =
     let files = c.args.properties.now in
-    let k = context_of files c.args.scope.now in
+    let k = context_of files c.args.context.now in
     let old = c.args.least.now in
     let e : set_item_tree c.args.item.now ≡ set_property c.in-Prop.negated c.in-Prop.name c.in-Prop.value = let i =
     c.in-Prop.is in ap set_item_tree i ∙ of_property c.in-Prop.negated c.in-Prop.name c.in-Prop.value in
-    let n : c.note_where.new.least ≡ noted old (faults_where (is_none c.in_ok-found-in-Prop.found) c.args.place 7) = search rules in
+    let n : c.note_where.new.least ≡ noted old (faults_where (is_none c.in_ok-found-in-Prop.found) c.args.place kinds.UnknownProperty) = search rules in
     λ join.
     n
     ∙ property_noted k files old c.args.place join c.in-Prop.negated c.in-Prop.name c.in-Prop.value (is_none c.in_ok-found-in-Prop.found) (files_stay files _ _)
@@ -57,7 +58,7 @@ value_of_item-returns-in_ok-found-in-Prop-clause-noted t c =
 
 pub value_of_item-returns-in_ok-value-in-Set-clause-noted : goal.value_of_item-returns-in_ok-value-in-Set-clause-noted
 value_of_item-returns-in_ok-value-in-Set-clause-noted t c =
-    let k = context_of c.args.properties.now c.args.scope.now in
+    let k = context_of c.args.properties.now c.args.context.now in
     let old = c.args.least.now in
     let e : set_item_tree c.args.item.now ≡ set_within (set_tree c.in-Set.inner) = let i =
     c.in-Set.is in ap set_item_tree i ∙ of_inner c.in-Set.inner in
@@ -68,7 +69,7 @@ value_of_item-returns-in_ok-value-in-Set-clause-noted t c =
 
 pub value_of_set-value_of_item-requires : goal.value_of_set-value_of_item-requires
 value_of_set-value_of_item-requires t c =
-    let scope = c.args.scope.now in
+    let context = c.args.context.now in
     let files = c.args.properties.now in
     let l = c.loop-part in
     let xs = c.deref-part-items.result.now in
@@ -78,7 +79,7 @@ value_of_set-value_of_item-requires t c =
     let size = ap size_of_set (set_is c.args.set.now) in
     let own = ap (λ ps. size_of_parts (parts_of (map part_tree ps))) c.deref-part-items.ensures.value in
     let smaller : size_of_member (set_item_tree p.item) < size_of_set (set_tree c.args.set.now) = omega arith in
-    let is_scope : IsScope l.properties scope = subst (λ f. IsScope f scope) (sym l.invariant.same) c.requires in
+    let is_context : IsContext l.properties context = subst (λ f. IsContext f context) (sym l.invariant.same) c.requires in
     search rules
 
 pub value_of_item-value_of_set-requires : goal.value_of_item-value_of_set-requires

@@ -1,7 +1,7 @@
 use Rattle.std.proofs.Common.{◌≡◌, ◌+◌, ◌≤◌, ◌∙◌, arith, take, length, IsTrue}
 use Rattle.std.proofs.lemmas.Result.{err_from_is_err_and}
 use Rattle.rbbi_tree.specs.Brackets.{open_after, open_from}
-use Rattle.rbbi_tree.specs.inner.Machine.States.{progress}
+use Rattle.rbbi_tree.specs.inner.States.{progress}
 use Rattle.rbbi_tree.proofs.Places.{refused_stuck, refused_deep, refused_within, run_more, run_whole}
 use Rattle.rbbi_tree.proofs.Depth.{counted_more, opens_one, shallow_more}
 use Rattle.rbbi_tree.proofs.Sound.{run_is_file}

@@ -1,7 +1,7 @@
 use Rattle.std.proofs.Common.{◌≡◌, ◌≤◌, [], Some, take}
-use Rattle.rbbi_tree.specs.inner.Machine.Statements.{after, run}
+use Rattle.rbbi_tree.specs.inner.Statements.{after, run}
 use Rattle.rbbi_tree.specs.Brackets.{open_from, IsShallowBefore}
-use Rattle.rbbi_tree.specs.inner.Machine.States.{progress}
+use Rattle.rbbi_tree.specs.inner.States.{progress}
 use Rattle.rbbi_tree.proofs.file.parse.Given as goal
 
 abbrev pub invariant-loop-i : goal.invariant-loop-i

@@ -1,9 +1,9 @@
 use Rattle.std.proofs.Common.{◌≡◌, ℕ, List, refl, sym, ap, subst, arith}
 use Rattle.rbbi_lex.specs.declared.state.State.{State}
 use Rattle.rbbi_lex.specs.declared.error.LexErr.{LexErr}
-use Rattle.rbbi_lex.specs.Cases.{state_after}
+use Rattle.rbbi_lex.specs.Cases.{state_behind}
 use Rattle.rbbi_lex.specs.Points.{CaseAt}
-use Rattle.rbbi_lex.specs.Spellings.{Spells, TokenAt}
+use Rattle.rbbi_lex.specs.Spellings.{SpellsCase, TokenAt}
 use Rattle.rbbi_lex.specs.Faults.{fault_of, SpellsNone, FaultAt}
 use Rattle.rbbi_lex.specs.Skips.{Skipped}
 use Rattle.rbbi_lex.specs.inner.Steps.{StopsAt}
@@ -16,12 +16,12 @@ invariant_of-self c =
     let self = c.skip.new.self in
     let t = c.in-Some.spelled in
     let spelled =
-    subst (λ (x : List ℕ). Spells x c.case-case.result self.place t.end t.kind) c.as_slice.ensures.value (rw c.in-Some.is at c.in_ok-spelled.ensures) in
+    subst (λ (x : List ℕ). SpellsCase x c.case-case.result self.place t.end t.kind) c.as_slice.ensures.value (rw c.in-Some.is at c.in_ok-spelled.ensures) in
     let at : TokenAt self.characters.items self.state self.place t.end t.kind = (c.case-case.result, c.case-case.ensures, spelled) in
     let forward = TokenAt-forward self.characters.items self.state self.place t.end t.kind at in
     let ends = TokenAt-ends self.characters.items self.state self.place t.end t.kind at in
     let more = state_after-depth self.state t.kind in
-    let depth : c.note.new.self.depth ≡ (state_after self.state t.kind).depth = ap (λ (s : State). s.depth) c.note.ensures in
+    let depth : c.note.new.self.depth ≡ (state_behind self.state t.kind).depth = ap (λ (s : State). s.depth) c.note.ensures in
     record { within = omega arith; few_sets = omega arith; short = omega arith }
 
 pub returns-in-None-clause-step : goal.returns-in-None-clause-step

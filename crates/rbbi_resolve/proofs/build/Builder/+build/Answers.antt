@@ -7,7 +7,7 @@ use Rattle.rbbi_resolve.specs.SetValues.{value_of_set, value_of_property}
 use Rattle.rbbi_resolve.specs.Contexts.{value_of_name}
 use Rattle.rbbi_resolve.specs.Meanings.{Leaf}
 use Rattle.rbbi_resolve.specs.Expressions.{meaning_of_expr, meaning_of_seq, meaning_of_item, meaning_of_atom}
-use Rattle.rbbi_resolve.specs.inner.Scopes.{context_of}
+use Rattle.rbbi_resolve.specs.inner.Contexts.{context_of}
 use Rattle.rbbi_resolve.specs.inner.OwnLeaves.{set_or_nothing, leaves_of_expr, leaves_of_seq, leaves_of_item, leaves_of_atom}
 use Rattle.rbbi_resolve.specs.inner.Builders.{StandFrom, IsBuilt, IsBuilder, IsReady}
 use Rattle.rbbi_resolve.proofs.Counting.{expr_by_items, seq_by_items, exprs_left, seqs_left}
@@ -21,40 +21,40 @@ use Rattle.rbbi_resolve.proofs.build.Builder.+build.Goals as goal
 
 pub definition-tree_of_expr-requires : goal.definition-tree_of_expr-requires
 definition-tree_of_expr-requires t c =
-    let scope = c.args.scope.now in
-    let T = statement_trees scope.statements.now in
+    let context = c.args.context.now in
+    let T = statement_trees context.statements.now in
     let e = expr_tree c.in-Some.expr.now in
     let assigned = c.in-Some.ensures.some in
-    let heavier = weight_more T scope.limit (scope.limit + 1) _ assigned.at refl in
-    let smaller : weight T scope.limit + (size_of_expr e + 1) < weight T (scope.limit + 1) = omega arith in
+    let heavier = weight_more T context.limit (context.limit + 1) _ assigned.at refl in
+    let smaller : weight T context.limit + (size_of_expr e + 1) < weight T (context.limit + 1) = omega arith in
     let back = sym c.in_ok-next-in-Some.ensures.same in
-    let ready : IsReady c.base.new.self.properties scope = subst (λ f. IsReady f scope) back c.requires.ready in
+    let ready : IsReady c.base.new.self.properties context = subst (λ f. IsReady f context) back c.requires.ready in
     let builder : IsBuilder c.base.new.self.properties T c.base.new.self.sets.items c.base.new.self.bases.items =
     subst (λ f. IsBuilder f T c.base.new.self.sets.items c.base.new.self.bases.items) back c.in_ok-next-in-Some.ensures.on.builder in
     let stand : StandFrom c.base.new.self.properties c.base.new.self.sets.items c.in_ok-next-in-Some.next
-    (leaves_of_expr (context_of c.base.new.self.properties scope) e) =
-    subst (λ f. StandFrom f c.base.new.self.sets.items c.in_ok-next-in-Some.next (leaves_of_expr (context_of f scope) e)) back
+    (leaves_of_expr (context_of c.base.new.self.properties context) e) =
+    subst (λ f. StandFrom f c.base.new.self.sets.items c.in_ok-next-in-Some.next (leaves_of_expr (context_of f context) e)) back
     c.in_ok-next-in-Some.ensures.stand in
     search rules
 
 pub definition-returns-in_ok-tree-in-Some-clause-built : goal.definition-returns-in_ok-tree-in-Some-clause-built
 definition-returns-in_ok-tree-in-Some-clause-built t c =
-    let scope = c.args.scope.now in
+    let context = c.args.context.now in
     let files = c.args.self.now.properties in
     let e = expr_tree c.in-Some.expr.now in
     let same = c.in_ok-next-in-Some.ensures.same in
     let built = subst (λ f. IsBuilt f (length c.base.new.self.sets.items) c.tree_of_expr.new.self.sets.items c.in_ok-next-in-Some.next
-    c.tree_of_expr.new.next (meaning_of_expr (context_of f scope) e) c.in_ok-tree-in-Some.tree) same c.in_ok-tree-in-Some.ensures.built in
-    let moved = subst (λ f. c.tree_of_expr.new.next ≡ c.in_ok-next-in-Some.next + length (leaves_of_expr (context_of f scope) e)) same
+    c.tree_of_expr.new.next (meaning_of_expr (context_of f context) e) c.in_ok-tree-in-Some.tree) same c.in_ok-tree-in-Some.ensures.built in
+    let moved = subst (λ f. c.tree_of_expr.new.next ≡ c.in_ok-next-in-Some.next + length (leaves_of_expr (context_of f context) e)) same
     c.in_ok-tree-in-Some.ensures.moved in
     let whole = whole_built files (length c.args.self.now.sets.items) (length c.base.new.self.sets.items) c.tree_of_expr.new.self.sets.items
-    c.in_ok-next-in-Some.next c.tree_of_expr.new.next (meaning_of_expr (context_of files scope) e) c.in_ok-tree-in-Some.tree built
+    c.in_ok-next-in-Some.next c.tree_of_expr.new.next (meaning_of_expr (context_of files context) e) c.in_ok-tree-in-Some.tree built
     (λ k low high. c.in_ok-next-in-Some.ensures.fresh k low high) (λ k low high. let below = c.in_ok-next-in-Some.ensures.all k low high in omega arith) in
     λ expr is.
     let at = c.in-Some.ensures.some.at in
     let other = is.at in
     let eq : expr ≡ e = cc in
-    subst (λ x. IsBuilt files (length c.args.self.now.sets.items) c.tree_of_expr.new.self.sets.items 0 0 (meaning_of_expr (context_of files scope) x)
+    subst (λ x. IsBuilt files (length c.args.self.now.sets.items) c.tree_of_expr.new.self.sets.items 0 0 (meaning_of_expr (context_of files context) x)
     c.in_ok-tree-in-Some.tree) (sym eq) whole
 
 pub definition-returns-in-None-clause-built : goal.definition-returns-in-None-clause-built
@@ -63,7 +63,7 @@ definition-returns-in-None-clause-built t c = λ expr is. absurd (c.in-None.ensu
 pub tree_of_atom-tree_of_word-requires : goal.tree_of_atom-tree_of_word-requires
 tree_of_atom-tree_of_word-requires t c =
     let files = c.args.self.now.properties in
-    let k = context_of files c.args.scope.now in
+    let k = context_of files c.args.context.now in
     let e : atom_tree c.args.atom.now ≡ quoted c.in-Quoted.word = let i = c.in-Quoted.is in ap atom_tree i ∙ atom_of_quoted c.in-Quoted.word in
     let stand = subst (λ a. StandFrom files c.args.self.now.sets.items c.args.next.now (leaves_of_atom k a)) e c.requires.stand in
     let low = stand_low files c.args.self.now.sets.items c.args.next.now (map model.Character c.in-Quoted.word) stand in
@@ -73,20 +73,20 @@ tree_of_atom-tree_of_word-requires t c =
 pub tree_of_atom-definition-requires : goal.tree_of_atom-definition-requires
 tree_of_atom-definition-requires t c =
     let files = c.args.self.now.properties in
-    let scope = c.args.scope.now in
-    let T = statement_trees scope.statements.now in
+    let context = c.args.context.now in
+    let T = statement_trees context.statements.now in
     let v = c.in-Some.variable.now in
-    let n = named files scope c.in-Name.name v c.requires.ready c.in-Some.ensures in
+    let n = named files context c.in-Name.name v c.requires.ready c.in-Some.ensures in
     let below = n.low in
-    let lighter = weight_le T (v.statement + 1) scope.limit (omega arith) in
-    let smaller : weight T (v.statement + 1) < weight T scope.limit + (size_of_atom (atom_tree c.args.atom.now) + 1) = omega arith in
+    let lighter = weight_le T (v.statement + 1) context.limit (omega arith) in
+    let smaller : weight T (v.statement + 1) < weight T context.limit + (size_of_atom (atom_tree c.args.atom.now) + 1) = omega arith in
     let r = c.requires.ready in
     let ready : IsReady files (record {
-      statements = scope.statements;
-      variables = scope.variables;
-      classes = scope.classes;
+      statements = context.statements;
+      variables = context.variables;
+      classes = context.classes;
       limit = v.statement;
-      quoted_only = scope.quoted_only;
+      quoted_only = context.quoted_only;
     }) =
     record {
       end = r.end;
@@ -101,14 +101,14 @@ tree_of_atom-definition-requires t c =
           r.faultless;
     } in
     let builder = c.requires.builder in
-    let inside : v.statement < length scope.statements.now = n.inside in
+    let inside : v.statement < length context.statements.now = n.inside in
     let kept = n.kept in
     search rules
 
 pub tree_of_atom-returns-in-Char-clause-built : goal.tree_of_atom-returns-in-Char-clause-built
 tree_of_atom-returns-in-Char-clause-built t c =
     let files = c.args.self.now.properties in
-    let k = context_of files c.args.scope.now in
+    let k = context_of files c.args.context.now in
     let sets = c.args.self.now.sets.items in
     let e : atom_tree c.args.atom.now ≡ character c.in-Char.c c.in-Char.bare = let i =
     c.in-Char.is in ap atom_tree i ∙ atom_of_character c.in-Char.c c.in-Char.bare in
@@ -120,7 +120,7 @@ tree_of_atom-returns-in-Char-clause-built t c =
 pub tree_of_atom-returns-in-Any-clause-built : goal.tree_of_atom-returns-in-Any-clause-built
 tree_of_atom-returns-in-Any-clause-built t c =
     let files = c.args.self.now.properties in
-    let k = context_of files c.args.scope.now in
+    let k = context_of files c.args.context.now in
     let sets = c.args.self.now.sets.items in
     let e : atom_tree c.args.atom.now ≡ any = let i = c.in-Any.is in ap atom_tree i ∙ atom_of_any in
     let stand = subst (λ a. StandFrom files sets c.args.next.now (leaves_of_atom k a)) e c.requires.stand in
@@ -132,7 +132,7 @@ tree_of_atom-returns-in-Any-clause-built t c =
 pub tree_of_atom-returns-in-Prop-clause-built : goal.tree_of_atom-returns-in-Prop-clause-built
 tree_of_atom-returns-in-Prop-clause-built t c =
     let files = c.args.self.now.properties in
-    let k = context_of files c.args.scope.now in
+    let k = context_of files c.args.context.now in
     let sets = c.args.self.now.sets.items in
     let v = value_of_property k.files c.in-Prop.negated c.in-Prop.name c.in-Prop.value in
     let e : atom_tree c.args.atom.now ≡ property c.in-Prop.negated c.in-Prop.name c.in-Prop.value = let i =
@@ -148,7 +148,7 @@ tree_of_atom-returns-in-Prop-clause-built t c =
 pub tree_of_atom-returns-in-Set-clause-built : goal.tree_of_atom-returns-in-Set-clause-built
 tree_of_atom-returns-in-Set-clause-built t c =
     let files = c.args.self.now.properties in
-    let k = context_of files c.args.scope.now in
+    let k = context_of files c.args.context.now in
     let sets = c.args.self.now.sets.items in
     let s = set_tree c.in-Set.field-0 in
     let v = value_of_set k.files (value_of_name k) s in
@@ -162,7 +162,7 @@ tree_of_atom-returns-in-Set-clause-built t c =
 
 pub tree_of_atom-returns-in_ok-tree-in-Quoted-clause-moved : goal.tree_of_atom-returns-in_ok-tree-in-Quoted-clause-moved
 tree_of_atom-returns-in_ok-tree-in-Quoted-clause-moved t c =
-    let k = context_of c.args.self.now.properties c.args.scope.now in
+    let k = context_of c.args.self.now.properties c.args.context.now in
     let e : atom_tree c.args.atom.now ≡ quoted c.in-Quoted.word = let i = c.in-Quoted.is in ap atom_tree i ∙ atom_of_quoted c.in-Quoted.word in
     let long : length (map model.Character c.in-Quoted.word) ≡ length c.in-Quoted.word = simp length-map in
     c.in_ok-tree-in-Quoted.ensures.moved ∙ ap (λ n. c.args.next.now + n) (sym long) ∙ ap (λ a. c.args.next.now + length (leaves_of_atom k a)) (sym e)
@@ -170,7 +170,7 @@ tree_of_atom-returns-in_ok-tree-in-Quoted-clause-moved t c =
 pub tree_of_atom-returns-in_ok-tree-in-Quoted-clause-built : goal.tree_of_atom-returns-in_ok-tree-in-Quoted-clause-built
 tree_of_atom-returns-in_ok-tree-in-Quoted-clause-built t c =
     let files = c.args.self.now.properties in
-    let k = context_of files c.args.scope.now in
+    let k = context_of files c.args.context.now in
     let sets = c.args.self.now.sets.items in
     let e : atom_tree c.args.atom.now ≡ quoted c.in-Quoted.word = let i = c.in-Quoted.is in ap atom_tree i ∙ atom_of_quoted c.in-Quoted.word in
     let stand = subst (λ a. StandFrom files sets c.args.next.now (leaves_of_atom k a)) e c.requires.stand in
@@ -180,39 +180,39 @@ tree_of_atom-returns-in_ok-tree-in-Quoted-clause-built t c =
 pub tree_of_atom-returns-in_ok-tree-in-Some-clause-built : goal.tree_of_atom-returns-in_ok-tree-in-Some-clause-built
 tree_of_atom-returns-in_ok-tree-in-Some-clause-built t c =
     let files = c.args.self.now.properties in
-    let scope = c.args.scope.now in
-    let n = named files scope c.in-Name.name c.in-Some.variable.now c.requires.ready c.in-Some.ensures in
+    let context = c.args.context.now in
+    let n = named files context c.in-Name.name c.in-Some.variable.now c.requires.ready c.in-Some.ensures in
     let e : atom_tree c.args.atom.now ≡ name c.in-Name.name = let i = c.in-Name.is in ap atom_tree i ∙ atom_of_name c.in-Name.name in
     let built = other_built files (length c.args.self.now.sets.items) c.definition.new.self.sets.items c.args.next.now _ c.in_ok-tree-in-Some.tree
     (c.in_ok-tree-in-Some.ensures.built n.expr n.assigned) in
     subst (λ m. IsBuilt files (length c.args.self.now.sets.items) c.definition.new.self.sets.items c.args.next.now c.args.next.now m
-    c.in_ok-tree-in-Some.tree) (sym (ap (meaning_of_atom (context_of files scope)) e ∙ n.means)) built
+    c.in_ok-tree-in-Some.tree) (sym (ap (meaning_of_atom (context_of files context)) e ∙ n.means)) built
 
 pub tree_of_atom-returns-in-None-clause-built : goal.tree_of_atom-returns-in-None-clause-built
 tree_of_atom-returns-in-None-clause-built t c =
     let files = c.args.self.now.properties in
-    let scope = c.args.scope.now in
+    let context = c.args.context.now in
     let sets = c.args.self.now.sets.items in
-    let never = unnamed files scope c.in-Name.name c.requires.ready c.in-None.ensures in
+    let never = unnamed files context c.in-Name.name c.requires.ready c.in-None.ensures in
     let e : atom_tree c.args.atom.now ≡ name c.in-Name.name = let i = c.in-Name.is in ap atom_tree i ∙ atom_of_name c.in-Name.name in
     subst (λ m. IsBuilt files (length sets) sets c.args.next.now c.args.next.now m c.no_tree.result)
-    (sym (ap (meaning_of_atom (context_of files scope)) e ∙ never))
+    (sym (ap (meaning_of_atom (context_of files context)) e ∙ never))
     (never_built files sets c.args.next.now c.no_tree.result c.no_tree.ensures.tree c.no_tree.ensures.numbers)
 
 pub tree_of_expr-loop-seq-init : goal.tree_of_expr-loop-seq-init
 tree_of_expr-loop-seq-init t c =
     let files = c.args.self.now.properties in
-    let k = context_of files c.args.scope.now in
+    let k = context_of files c.args.context.now in
     let tree = expr_by_items c.args.expr.now _ c.deref-seq-items.ensures.value in
     building_start files _ c.args.self.now.sets.items _ c.args.next.now _ _ _ c.requires.builder c.new-items.ensures.items
     (subst (λ x. StandFrom files c.args.self.now.sets.items c.args.next.now (leaves_of_expr k x)) tree c.requires.stand)
 
 pub tree_of_expr-tree_of_seq-requires : goal.tree_of_expr-tree_of_seq-requires
 tree_of_expr-tree_of_seq-requires t c =
-    let scope = c.args.scope.now in
-    let T = statement_trees scope.statements.now in
+    let context = c.args.context.now in
+    let T = statement_trees context.statements.now in
     let files = c.args.self.now.properties in
-    let k = context_of files scope in
+    let k = context_of files context in
     let l = c.loop-seq in
     let xs = c.deref-seq-items.result.now in
     let p = c.seq-item.result in
@@ -220,38 +220,39 @@ tree_of_expr-tree_of_seq-requires t c =
     let tree = expr_by_items c.args.expr.now _ c.deref-seq-items.ensures.value in
     let part = smaller_seq xs l.seq-index p inside c.seq-item.is in
     let size = ap size_of_expr tree in
-    let smaller : weight T scope.limit + (size_of_seq (seq_tree p) + 1) < weight T scope.limit + (size_of_expr (expr_tree c.args.expr.now) + 1) = omega arith in
+    let smaller : weight T context.limit + (size_of_seq (seq_tree p) + 1) < weight T context.limit + (size_of_expr
+    (expr_tree c.args.expr.now) + 1) = omega arith in
     let back = sym l.invariant.same in
-    let ready : IsReady l.self.properties scope = subst (λ f. IsReady f scope) back c.requires.ready in
+    let ready : IsReady l.self.properties context = subst (λ f. IsReady f context) back c.requires.ready in
     let builder : IsBuilder l.self.properties T l.self.sets.items l.self.bases.items =
     subst (λ f. IsBuilder f T l.self.sets.items l.self.bases.items) back l.invariant.goes.builder in
-    let stand : StandFrom l.self.properties l.self.sets.items l.next (leaves_of_seq (context_of l.self.properties scope) (seq_tree p)) =
-    subst (λ f. StandFrom f l.self.sets.items l.next (leaves_of_seq (context_of f scope) (seq_tree p))) back
+    let stand : StandFrom l.self.properties l.self.sets.items l.next (leaves_of_seq (context_of l.self.properties context) (seq_tree p)) =
+    subst (λ f. StandFrom f l.self.sets.items l.next (leaves_of_seq (context_of f context) (seq_tree p))) back
     (stand_first files l.self.sets.items l.next (leaves_of_seq k (seq_tree p)) (leaves_of_expr k (expr_of (map seq_tree (drop (l.seq-index + 1) xs))))
     (subst (λ x. StandFrom files l.self.sets.items l.next (leaves_of_expr k x)) (exprs_left xs l.seq-index p inside c.seq-item.is) l.invariant.stand)) in
     search rules
 
 pub tree_of_expr-loop-seq-preserved : goal.tree_of_expr-loop-seq-preserved
 tree_of_expr-loop-seq-preserved t c =
-    let scope = c.args.scope.now in
+    let context = c.args.context.now in
     let files = c.args.self.now.properties in
-    let k = context_of files scope in
+    let k = context_of files context in
     let l = c.loop-seq in
     let xs = c.deref-seq-items.result.now in
     let p = c.seq-item.result in
     let ds : drop l.seq-index xs ≡ p ∷ drop (l.seq-index + 1) xs = drop_more xs l.seq-index p (omega arith)
     ∙ ap (λ q. q ∷ drop (l.seq-index + 1) xs) (sym c.seq-item.is) in
-    let here = subst (λ ys. AreBuilding files (statement_trees scope.statements.now) c.args.self.now.sets.items c.args.next.now
+    let here = subst (λ ys. AreBuilding files (statement_trees context.statements.now) c.args.self.now.sets.items c.args.next.now
     (map (meaning_of_seq k) (map seq_tree xs)) (leaves_of_expr k (expr_of (map seq_tree xs))) l.self.properties l.self.sets.items l.self.bases.items
     l.next l.items.items (map (meaning_of_seq k) (map seq_tree ys)) (leaves_of_expr k (expr_of (map seq_tree ys)))) ds l.invariant in
-    building_turn files _ _ _ _ _ _ _ _ _ _ _ _ _ _ _ _ (λ f. meaning_of_seq (context_of f scope) (seq_tree p)) _
-    (λ f. leaves_of_seq (context_of f scope) (seq_tree p)) _ here
+    building_turn files _ _ _ _ _ _ _ _ _ _ _ _ _ _ _ _ (λ f. meaning_of_seq (context_of f context) (seq_tree p)) _
+    (λ f. leaves_of_seq (context_of f context) (seq_tree p)) _ here
     (record { on = c.in_ok-part.ensures.on; moved = c.in_ok-part.ensures.moved; built = c.in_ok-part.ensures.built }) c.in_ok-part.ensures.same
     c.in_ok-push.ensures.items
 
 pub tree_of_expr-returns-clause-moved : goal.tree_of_expr-returns-clause-moved
 tree_of_expr-returns-clause-moved t c =
-    let k = context_of c.args.self.now.properties c.args.scope.now in
+    let k = context_of c.args.self.now.properties c.args.context.now in
     let none = drop_all c.loop-seq.seq-index c.deref-seq-items.result.now (omega arith) in
     omega (
       arith,
@@ -263,7 +264,7 @@ tree_of_expr-returns-clause-moved t c =
 pub tree_of_expr-returns-clause-built : goal.tree_of_expr-returns-clause-built
 tree_of_expr-returns-clause-built t c =
     let files = c.args.self.now.properties in
-    let k = context_of files c.args.scope.now in
+    let k = context_of files c.args.context.now in
     let l = c.loop-seq in
     let xs = c.deref-seq-items.result.now in
     let none = ap (λ ys. map (meaning_of_seq k) (map seq_tree ys)) (drop_all l.seq-index xs (omega arith)) in
@@ -275,7 +276,7 @@ tree_of_expr-returns-clause-built t c =
 pub tree_of_item-returns-clause-built : goal.tree_of_item-returns-clause-built
 tree_of_item-returns-clause-built t c =
     let files = c.args.self.now.properties in
-    let k = context_of files c.args.scope.now in
+    let k = context_of files c.args.context.now in
     let i = c.args.item.now in
     let sets = c.tree_of_atom.new.self.sets.items in
     subst (λ x. IsBuilt files (length c.args.self.now.sets.items) sets c.args.next.now c.tree_of_atom.new.next (meaning_of_item k x) c.in_ok-tree.tree)
@@ -286,17 +287,17 @@ tree_of_item-returns-clause-built t c =
 pub tree_of_seq-loop-item-init : goal.tree_of_seq-loop-item-init
 tree_of_seq-loop-item-init t c =
     let files = c.args.self.now.properties in
-    let k = context_of files c.args.scope.now in
+    let k = context_of files c.args.context.now in
     let tree = seq_by_items c.args.seq.now _ c.deref-item-items.ensures.value in
     building_start files _ c.args.self.now.sets.items _ c.args.next.now _ _ _ c.requires.builder c.new-items.ensures.items
     (subst (λ x. StandFrom files c.args.self.now.sets.items c.args.next.now (leaves_of_seq k x)) tree c.requires.stand)
 
 pub tree_of_seq-tree_of_item-requires : goal.tree_of_seq-tree_of_item-requires
 tree_of_seq-tree_of_item-requires t c =
-    let scope = c.args.scope.now in
-    let T = statement_trees scope.statements.now in
+    let context = c.args.context.now in
+    let T = statement_trees context.statements.now in
     let files = c.args.self.now.properties in
-    let k = context_of files scope in
+    let k = context_of files context in
     let l = c.loop-item in
     let xs = c.deref-item-items.result.now in
     let p = c.item-item.result in
@@ -304,38 +305,39 @@ tree_of_seq-tree_of_item-requires t c =
     let tree = seq_by_items c.args.seq.now _ c.deref-item-items.ensures.value in
     let part = smaller_item xs l.item-index p inside c.item-item.is in
     let size = ap size_of_seq tree in
-    let smaller : weight T scope.limit + (size_of_item (item_tree p) + 1) < weight T scope.limit + (size_of_seq (seq_tree c.args.seq.now) + 1) = omega arith in
+    let smaller : weight T context.limit + (size_of_item (item_tree p) + 1) < weight T context.limit + (size_of_seq
+    (seq_tree c.args.seq.now) + 1) = omega arith in
     let back = sym l.invariant.same in
-    let ready : IsReady l.self.properties scope = subst (λ f. IsReady f scope) back c.requires.ready in
+    let ready : IsReady l.self.properties context = subst (λ f. IsReady f context) back c.requires.ready in
     let builder : IsBuilder l.self.properties T l.self.sets.items l.self.bases.items =
     subst (λ f. IsBuilder f T l.self.sets.items l.self.bases.items) back l.invariant.goes.builder in
-    let stand : StandFrom l.self.properties l.self.sets.items l.next (leaves_of_item (context_of l.self.properties scope) (item_tree p)) =
-    subst (λ f. StandFrom f l.self.sets.items l.next (leaves_of_item (context_of f scope) (item_tree p))) back
+    let stand : StandFrom l.self.properties l.self.sets.items l.next (leaves_of_item (context_of l.self.properties context) (item_tree p)) =
+    subst (λ f. StandFrom f l.self.sets.items l.next (leaves_of_item (context_of f context) (item_tree p))) back
     (stand_first files l.self.sets.items l.next (leaves_of_item k (item_tree p)) (leaves_of_seq k (seq_of (map item_tree (drop (l.item-index + 1) xs))))
     (subst (λ x. StandFrom files l.self.sets.items l.next (leaves_of_seq k x)) (seqs_left xs l.item-index p inside c.item-item.is) l.invariant.stand)) in
     search rules
 
 pub tree_of_seq-loop-item-preserved : goal.tree_of_seq-loop-item-preserved
 tree_of_seq-loop-item-preserved t c =
-    let scope = c.args.scope.now in
+    let context = c.args.context.now in
     let files = c.args.self.now.properties in
-    let k = context_of files scope in
+    let k = context_of files context in
     let l = c.loop-item in
     let xs = c.deref-item-items.result.now in
     let p = c.item-item.result in
     let ds : drop l.item-index xs ≡ p ∷ drop (l.item-index + 1) xs = drop_more xs l.item-index p (omega arith)
     ∙ ap (λ q. q ∷ drop (l.item-index + 1) xs) (sym c.item-item.is) in
-    let here = subst (λ ys. AreBuilding files (statement_trees scope.statements.now) c.args.self.now.sets.items c.args.next.now
+    let here = subst (λ ys. AreBuilding files (statement_trees context.statements.now) c.args.self.now.sets.items c.args.next.now
     (map (meaning_of_item k) (map item_tree xs)) (leaves_of_seq k (seq_of (map item_tree xs))) l.self.properties l.self.sets.items l.self.bases.items
     l.next l.items.items (map (meaning_of_item k) (map item_tree ys)) (leaves_of_seq k (seq_of (map item_tree ys)))) ds l.invariant in
-    building_turn files _ _ _ _ _ _ _ _ _ _ _ _ _ _ _ _ (λ f. meaning_of_item (context_of f scope) (item_tree p)) _
-    (λ f. leaves_of_item (context_of f scope) (item_tree p)) _ here
+    building_turn files _ _ _ _ _ _ _ _ _ _ _ _ _ _ _ _ (λ f. meaning_of_item (context_of f context) (item_tree p)) _
+    (λ f. leaves_of_item (context_of f context) (item_tree p)) _ here
     (record { on = c.in_ok-part.ensures.on; moved = c.in_ok-part.ensures.moved; built = c.in_ok-part.ensures.built }) c.in_ok-part.ensures.same
     c.in_ok-push.ensures.items
 
 pub tree_of_seq-returns-clause-moved : goal.tree_of_seq-returns-clause-moved
 tree_of_seq-returns-clause-moved t c =
-    let k = context_of c.args.self.now.properties c.args.scope.now in
+    let k = context_of c.args.self.now.properties c.args.context.now in
     let none = drop_all c.loop-item.item-index c.deref-item-items.result.now (omega arith) in
     omega (
       arith,
@@ -347,7 +349,7 @@ tree_of_seq-returns-clause-moved t c =
 pub tree_of_seq-returns-clause-built : goal.tree_of_seq-returns-clause-built
 tree_of_seq-returns-clause-built t c =
     let files = c.args.self.now.properties in
-    let k = context_of files c.args.scope.now in
+    let k = context_of files c.args.context.now in
     let l = c.loop-item in
     let xs = c.deref-item-items.result.now in
     let none = ap (λ ys. map (meaning_of_item k) (map item_tree ys)) (drop_all l.item-index xs (omega arith)) in

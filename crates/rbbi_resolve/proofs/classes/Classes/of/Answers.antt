@@ -10,7 +10,7 @@ use Rattle.rbbi_classes.specs.Divisions.{ClassDivision, IsRespected, stand_in}
 use Rattle.rbbi_classes.proofs.FirstCodePoints.{stand-in_is_point}
 use Rattle.rbbi_resolve.specs.inner.ClassValues.{IsKnown}
 use Rattle.rbbi_tree.specs.Values.{statement_tree, statement_trees}
-use Rattle.rbbi_resolve.specs.inner.Questions.{IsAnswer}
+use Rattle.rbbi_resolve.specs.inner.Questions.{IsRightAnswer}
 use Rattle.rbbi_resolve.specs.inner.Covered.{AreRespected, Collects, IsBasedAnswer, parts_of_statement}
 use Rattle.rbbi_resolve.proofs.Collecting.{statements_covered}
 use Rattle.rbbi_resolve.proofs.classes.Classes.of.Goals as goal
@@ -56,7 +56,7 @@ returns-clause-classes c =
     let l = c.loop-number in
     let d : ClassDivision = c.in_ok-division.division in
     let shared : rc_value c.in_ok-shared.shared ≡ d = search rules in
-    let answers = All-weaker (IsBasedAnswer files l.collection.bases.items) (IsAnswer files) (λ answer a. a.right) (values l.collection.answers)
+    let answers = All-weaker (IsBasedAnswer files l.collection.bases.items) (IsRightAnswer files) (λ answer a. a.right) (values l.collection.answers)
     l.invariant.kept.answers in
     let known = subst (λ bounds. All (IsKnown files bounds) (values c.in_ok-sets.sets)) c.layout.ensures.value (c.in_ok-sets.ensures files answers) in
     record {

@@ -7,11 +7,12 @@ use Rattle.std.proofs.lemmas.Map.Text.{hash_map_updates_text}
 use Rattle.std.specs.Rc.{rc_value}
 use Rattle.rbbi_tree.specs.Trees.{assign}
 use Rattle.rbbi_tree.specs.Values.{statement_trees, expr_tree}
+use Rattle.rbbi_resolve.specs.declared.fault.FaultKind.TheVariants as kinds
 use Rattle.rbbi_resolve.specs.Contexts.{variable_of}
 use Rattle.rbbi_resolve.specs.inner.Files.{context_at}
 use Rattle.rbbi_resolve.specs.Faults.{faults_where, faults_of_parts, noted}
 use Rattle.rbbi_resolve.specs.Parts.{parts_of_expr}
-use Rattle.rbbi_resolve.specs.inner.Scopes.{Variables, AreVariables, visible}
+use Rattle.rbbi_resolve.specs.inner.Contexts.{Variables, AreVariables, visible}
 use Rattle.rbbi_resolve.specs.inner.Readings.{IsReadTo}
 use Rattle.rbbi_resolve.proofs.Steps.{step, context_next, stay_variables, join_variable, note_three, with_known, with_new, describes, matches_some, unseen}
 use Rattle.rbbi_resolve.proofs.Ending.{switches_kept}
@@ -61,10 +62,10 @@ read_to c variables are =
     r.switches r.switches
     r.counts r.counts c.requires.reading c.requires.at are
     (note_three r.least c.note_where.new.least c.note_where-2.new.least c.check_definition.new.least
-    (faults_where (bytes_eq (encode_utf8_all word) (codes "dictionary") && not r.dictionary_ignored) c.args.place 3)
-    (faults_where (is_some (variable_of k word)) c.args.place 4) (faults_of_parts k (parts_of_expr expr))
-    (c.note_where.ensures ∙ ap (λ b. noted r.least (faults_where b c.args.place 3)) c.is_refused_dictionary-is_dictionary.ensures)
-    (c.note_where-2.ensures ∙ ap (λ b. noted c.note_where.new.least (faults_where b c.args.place 4)) (assigned c))
+    (faults_where (bytes_eq (encode_utf8_all word) (codes "dictionary") && not r.dictionary_ignored) c.args.place kinds.Dictionary)
+    (faults_where (is_some (variable_of k word)) c.args.place kinds.Redefined) (faults_of_parts k (parts_of_expr expr))
+    (c.note_where.ensures ∙ ap (λ b. noted r.least (faults_where b c.args.place kinds.Dictionary)) c.is_refused_dictionary-is_dictionary.ensures)
+    (c.note_where-2.ensures ∙ ap (λ b. noted c.note_where.new.least (faults_where b c.args.place kinds.Redefined)) (assigned c))
     c.in_ok-kind.ensures.noted)
     (switches_kept r.switches k word expr c.requires.reading.switched)
     (λ left all so_far. so_far))
@@ -118,8 +119,8 @@ returns c =
 pub check_definition-requires-clause-covered : goal.check_definition-requires-clause-covered
 check_definition-requires-clause-covered c = c.requires.reading.covered.each c.args.number _ c.requires.at
 
-pub check_definition-requires-clause-scope : goal.check_definition-requires-clause-scope
-check_definition-requires-clause-scope c =
+pub check_definition-requires-clause-context : goal.check_definition-requires-clause-context
+check_definition-requires-clause-context c =
     let r = c.args.self.now in
     let trees = statement_trees r.statements.now in
     let n = c.args.number in

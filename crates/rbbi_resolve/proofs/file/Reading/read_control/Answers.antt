@@ -2,6 +2,7 @@ use Rattle.std.proofs.Common.{◌≡◌, ◌&&◌, not, encode_utf8_all, refl, a
 use Rattle.std.specs.Rc.{rc_value}
 use Rattle.rbbi_tree.specs.Trees.{control}
 use Rattle.rbbi_tree.specs.Values.{statement_trees}
+use Rattle.rbbi_resolve.specs.declared.fault.FaultKind.TheVariants as kinds
 use Rattle.rbbi_resolve.specs.Files.{after_control, is_supported, is_unsupported}
 use Rattle.rbbi_resolve.specs.inner.Files.{context_at}
 use Rattle.rbbi_resolve.specs.Faults.{faults_where, noted}
@@ -28,9 +29,10 @@ returns c =
           r.switches c.after-self.result r.counts r.counts c.requires.reading c.requires.at
           (stay_variables r.properties (rc_value r.classes.division).bounds trees r.variables n next c.requires.reading.defined)
           (note_two r.least c.note_where.new.least c.note_where-2.new.least
-          (faults_where (not (is_supported text) && not (is_unsupported text)) c.args.place 1) (faults_where (is_unsupported text) c.args.place 2)
-          (c.note_where.ensures ∙ ap (λ b. noted r.least (faults_where b c.args.place 1)) unknown)
-          (c.note_where-2.ensures ∙ ap (λ b. noted c.note_where.new.least (faults_where b c.args.place 2)) unsupported))
+          (faults_where (not (is_supported text) && not (is_unsupported text)) c.args.place kinds.UnknownControl) (faults_where
+          (is_unsupported text) c.args.place kinds.UnsupportedControl)
+          (c.note_where.ensures ∙ ap (λ b. noted r.least (faults_where b c.args.place kinds.UnknownControl)) unknown)
+          (c.note_where-2.ensures ∙ ap (λ b. noted c.note_where.new.least (faults_where b c.args.place kinds.UnsupportedControl)) unsupported))
           (subst (λ t. AreSwitches c.after-self.result (after_control k t)) same (c.after-self.ensures k c.requires.reading.switched))
           (λ left all so_far. so_far);
       statements = refl;

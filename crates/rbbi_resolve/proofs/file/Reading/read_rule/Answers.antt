@@ -81,8 +81,8 @@ check_rule-requires-clause-rest c =
     covered_right r.properties (stand_in (rc_value r.classes.division)) (parts_of_expr (expr_tree c.args.front.now)) (parts_of_rest (rest_tree c.args.rest.now))
     (c.requires.reading.covered.each c.args.number _ c.requires.at)
 
-pub check_rule-requires-clause-scope : goal.check_rule-requires-clause-scope
-check_rule-requires-clause-scope c =
+pub check_rule-requires-clause-context : goal.check_rule-requires-clause-context
+check_rule-requires-clause-context c =
     let r = c.args.self.now in
     let trees = statement_trees r.statements.now in
     let n = c.args.number in

@@ -1,7 +1,7 @@
 use Rattle.std.proofs.Common.{◌≡◌, eqb, subst, sym, ◌∙◌, ap, arith}
 use Rattle.rbbi_resolve.specs.inner.Summaries.{IsCapped}
 use Rattle.rbbi_resolve.specs.Expressions.{height_of_word}
-use Rattle.rbbi_resolve.proofs.Words.{leaf_count-word_of, height-long, height-short, spells_empty-word_of}
+use Rattle.rbbi_resolve.proofs.Words.{leaves_in-word_of, height-long, height-short, spells_empty-word_of}
 use Rattle.rbbi_resolve.proofs.variables.Summary.of_word.Goals as goal
 use Rattle.rbbi_resolve.proofs.variables.Summary.of_word.Goals.{then-len-gt1, else-len-gt1}
 
@@ -9,7 +9,7 @@ pub returns : goal.returns
 returns c =
     let word = c.args.word.now in
     record {
-      leaf_sum = subst (λ n. IsCapped 8193 n c.capped.result) (c.count_of-len.ensures ∙ sym (leaf_count-word_of word)) c.capped.ensures;
+      leaf_sum = subst (λ n. IsCapped 8193 n c.capped.result) (c.count_of-len.ensures ∙ sym (leaves_in-word_of word)) c.capped.ensures;
       height_sum =
           elim c.if-len-gt1.branch [
             | then-len-gt1 w ↦

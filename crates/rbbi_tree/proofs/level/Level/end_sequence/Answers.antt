@@ -1,7 +1,7 @@
 use Rattle.std.proofs.Common.{◌≡◌, [], ◌∷◌, ◌++◌, map, reverse, sym, ◌∙◌, ap, refl}
 use Rattle.std.proofs.lemmas.List.{map-append, reverse-append}
 use Rattle.rbbi_tree.specs.Trees.{seq_of, no_items}
-use Rattle.rbbi_tree.specs.inner.Machine.Statements.{items_back}
+use Rattle.rbbi_tree.specs.inner.Statements.{items_back}
 use Rattle.rbbi_tree.specs.Values.{seq_tree, item_tree}
 use Rattle.rbbi_tree.proofs.Backs.{items_from_reverse}
 use Rattle.rbbi_tree.proofs.Rolls.{seq_tree_roll}

@@ -1,7 +1,7 @@
 use Rattle.std.proofs.Common.{◌≡◌, [], ◌∷◌, ◌++◌, map, reverse, sym, ◌∙◌, ap}
 use Rattle.std.proofs.lemmas.List.{map-append}
 use Rattle.rbbi_tree.specs.Trees.{seq_of, alternative, no_alternatives, expr_of}
-use Rattle.rbbi_tree.specs.inner.Machine.Statements.{sequences_back}
+use Rattle.rbbi_tree.specs.inner.Statements.{sequences_back}
 use Rattle.rbbi_tree.specs.Values.{seq_tree, item_tree}
 use Rattle.rbbi_tree.proofs.Backs.{items_from_reverse, expression_from_reverse}
 use Rattle.rbbi_tree.proofs.Rolls.{seq_tree_roll, expr_tree_roll}

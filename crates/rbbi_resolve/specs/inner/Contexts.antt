@@ -1,4 +1,4 @@
--- What the variables of the code stand for.
+-- The context as the code has it: its variables, and what they stand for.
 use Rattle.std.specs.Prelude.{◌≡◌, ℕ, ◌<◌, ◌≤◌, nat_lt, Option, Some, None, List, slice_get, MatchOption, if◌then◌else◌}
 use Rattle.std.specs.HashMap.{HashMap, get_by_text}
 use Rattle.std.specs.Rc.{rc_value}
@@ -9,11 +9,11 @@ use Rattle.std.specs.declared.hash.BuildHasherDefault.{BuildHasherDefault}
 use Rattle.rbbi_props.specs.Rows.{File}
 use Rattle.rbbi_tree.specs.Trees.{ExprTree, StatementTree, assign}
 use Rattle.rbbi_tree.specs.Values.{statement_trees}
-use Rattle.rbbi_resolve.specs.declared.scope.Scope.{Scope}
+use Rattle.rbbi_resolve.specs.declared.context.Context.{Context}
 use Rattle.rbbi_resolve.specs.declared.variables.Variable.{Variable}
 use Rattle.rbbi_resolve.specs.declared.variables.Kind.{Kind}
 use Rattle.rbbi_resolve.specs.declared.variables.Kind.TheVariants as kind
-use Rattle.rbbi_resolve.specs.inner.ClassValues.{IsClassValue, AreClasses}
+use Rattle.rbbi_resolve.specs.inner.ClassValues.{IsClassValue, AreRightClasses}
 use Rattle.rbbi_resolve.specs.Contexts as contexts
 use Rattle.rbbi_resolve.specs.Contexts.{assigned_to, value_of_name}
 use Rattle.rbbi_resolve.specs.inner.Covered.{NamesRespect}
@@ -40,7 +40,7 @@ Matches files bounds None (Some there) = ⊥
 Matches files bounds (Some here) None = ⊥
 Matches files bounds (Some here) (Some there) = IsKindOf files bounds here.kind there
 
--- the variable, where a statement before the limit assigns it
+-- the variable, if a statement before the limit assigns it
 abbrev pub visible : ℕ → Option Variable → Option Variable
 visible limit None = None
 visible limit (Some variable) = if nat_lt variable.statement limit then Some variable else None
@@ -70,24 +70,24 @@ IsUnassigned files statements end name = (limit : ℕ) → limit ≤ end → ass
 pub record AreVariables (files : List File) (bounds : List ℕ) (statements : List StatementTree) (variables : Variables) (end : ℕ) : Type 0 where
   pub each : (name : List ℕ) → MatchOption (get_by_text variables name) (IsUnassigned files statements end name) (IsDefinedBy files bounds statements end name)
 
--- what stands before the limit of a scope
-abbrev pub context_of : List File → Scope → contexts.Context
-context_of files scope = context_at files (statement_trees scope.statements.now) scope.limit
+-- what stands before the limit of a context
+abbrev pub context_of : List File → Context → contexts.Context
+context_of files context = context_at files (statement_trees context.statements.now) context.limit
 
--- the bounds of the scope's classes
-abbrev pub bounds_of : Scope → List ℕ
-bounds_of scope = (rc_value scope.classes.now.division).bounds
+-- the bounds of the context's classes
+abbrev pub bounds_of : Context → List ℕ
+bounds_of context = (rc_value context.classes.now.division).bounds
 
 -- the code point that stands for those of its class
-abbrev pub stand_of : Scope → ℕ → ℕ
-stand_of scope c = stand_in (rc_value scope.classes.now.division) c
+abbrev pub stand_of : Context → ℕ → ℕ
+stand_of context c = stand_in (rc_value context.classes.now.division) c
 
--- the variables of the scope are those before its limit, their sets have all or nothing of a class, and its classes are right
-pub record IsScope (files : List File) (scope : Scope) : Type 0 where
-  pub respects : NamesRespect files (stand_of scope) (value_of_name (context_of files scope))
-  pub describes : Describes files (bounds_of scope) (statement_trees scope.statements.now) scope.variables.now scope.limit
-  pub classes : AreClasses files scope.classes.now
+-- the variables of the context are those before its limit, their sets have all or nothing of a class, and its classes are right
+pub record IsContext (files : List File) (context : Context) : Type 0 where
+  pub respects : NamesRespect files (stand_of context) (value_of_name (context_of files context))
+  pub describes : Describes files (bounds_of context) (statement_trees context.statements.now) context.variables.now context.limit
+  pub classes : AreRightClasses files context.classes.now
 
--- the scope knows whether only quoted characters may stand outside of sets
-abbrev pub KnowsQuotes : List File → Scope → Type 0
-KnowsQuotes files scope = scope.quoted_only ≡ (context_of files scope).quoted_only
+-- the context knows whether only quoted characters may stand outside of sets
+abbrev pub KnowsQuotes : List File → Context → Type 0
+KnowsQuotes files context = context.quoted_only ≡ (context_of files context).quoted_only

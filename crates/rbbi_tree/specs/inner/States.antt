@@ -2,11 +2,11 @@
 use Rattle.std.specs.Prelude.{ℕ, Some, None, map, reverse, Option, Result}
 use Rattle.rbbi_lex.specs.declared.token.TokenKind.{TokenKind}
 use Rattle.rbbi_tree.specs.Values.{expr_tree, seq_tree, item_tree, statement_tree, statement_trees}
-use Rattle.rbbi_tree.specs.inner.Machine.Sets.{SetsTree}
-use Rattle.rbbi_tree.specs.inner.Machine.Statements.{LevelTree, GroupTree, HeadTree, between, assigning, ruling, resting, ended, Progress, with_sets}
-use Rattle.rbbi_tree.specs.inner.Machine.Statements.{advance_outside}
-use Rattle.rbbi_tree.specs.inner.Machine.Statements.{advance_inside}
-use Rattle.rbbi_tree.specs.inner.Machine.SetStates.{set_level_tree, outer_set_tree, Reads}
+use Rattle.rbbi_tree.specs.inner.Sets.{SetsTree}
+use Rattle.rbbi_tree.specs.inner.Statements.{LevelTree, GroupTree, HeadTree, between, assigning, ruling, resting, ended, Progress, with_sets}
+use Rattle.rbbi_tree.specs.inner.Statements.{advance_outside}
+use Rattle.rbbi_tree.specs.inner.Statements.{advance_inside}
+use Rattle.rbbi_tree.specs.inner.SetStates.{set_level_tree, outer_set_tree, FollowsMachine}
 use Rattle.rbbi_tree.specs.declared.error.TreeErr.{TreeErr}
 use Rattle.rbbi_tree.specs.declared.level.Level.{Level}
 use Rattle.rbbi_tree.specs.declared.parser.OpenGroup.{OpenGroup}
@@ -54,10 +54,10 @@ progress parser =
 
 -- what reading a token of this kind at this place outside of sets answers, and the parser before and after it
 abbrev pub ReadsOutside : TokenKind → ℕ → Parser → Result (Unit {0}) TreeErr → Parser → Type 0
-ReadsOutside kind place before result after = Reads place (advance_outside kind place (progress before)) (λ _. progress after) result
+ReadsOutside kind place before result after = FollowsMachine place (advance_outside kind place (progress before)) (λ _. progress after) result
 
 -- what reading a token of this kind at this place within these sets answers, and the parser before it, which they were
 -- taken out of, and after it
 abbrev pub ReadsInside : TokenKind → ℕ → OpenSets → Parser → Result (Unit {0}) TreeErr → Parser → Type 0
 ReadsInside kind place sets before result after =
-    Reads place (advance_inside kind place (sets_tree sets) (with_sets (Some (sets_tree sets)) (progress before))) (λ _. progress after) result
+    FollowsMachine place (advance_inside kind place (sets_tree sets) (with_sets (Some (sets_tree sets)) (progress before))) (λ _. progress after) result

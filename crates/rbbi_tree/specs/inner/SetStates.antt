@@ -1,7 +1,7 @@
 -- What the state of a set that is being read stands for.
 use Rattle.std.specs.Prelude.{◌≡◌, Some, None, ℕ, map, reverse, Option, Result, MatchResult}
 use Rattle.rbbi_tree.specs.Values.{part_tree}
-use Rattle.rbbi_tree.specs.inner.Machine.Sets.{SetLevelTree, OuterSetTree}
+use Rattle.rbbi_tree.specs.inner.Sets.{SetLevelTree, OuterSetTree}
 use Rattle.rbbi_tree.specs.declared.error.TreeErr.{TreeErr}
 use Rattle.rbbi_tree.specs.declared.error.TreeErr.TheVariants.{Syntax, TooDeep, Memory}
 use Rattle.rbbi_tree.specs.declared.set_level.SetLevel.{SetLevel}
@@ -23,9 +23,9 @@ IsStuckAt at after Memory = Unit {0}
 
 -- what reading something at this place answers, where the machine makes this of it: a value that stands for that, or a
 -- refusal where the machine is stuck
-abbrev pub Reads : {A V : Type 0} → ℕ → Option A → (V → A) → Result V TreeErr → Type 0
-Reads at made tree result = MatchResult result (λ value. made ≡ Some (tree value)) (IsStuckAt at made)
+abbrev pub FollowsMachine : {A V : Type 0} → ℕ → Option A → (V → A) → Result V TreeErr → Type 0
+FollowsMachine at made tree result = MatchResult result (λ value. made ≡ Some (tree value)) (IsStuckAt at made)
 
 -- what reading something in a set answers, where the machine makes it this set, and the set after it
 abbrev pub ReadsInSet : ℕ → Option SetLevelTree → Result (Unit {0}) TreeErr → SetLevel → Type 0
-ReadsInSet at made result after = Reads at made (λ _. set_level_tree after) result
+ReadsInSet at made result after = FollowsMachine at made (λ _. set_level_tree after) result

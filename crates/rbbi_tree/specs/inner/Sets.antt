@@ -31,8 +31,8 @@ pub record SetsTree : Type 0 where
   pub outers : List OuterSetTree
 
 -- a set right after its bracket
-abbrev pub opened : ℕ → SetLevelTree
-opened place = record { place = place; negated = false; parts = []; state = Opened }
+abbrev pub new_set_level : ℕ → SetLevelTree
+new_set_level place = record { place = place; negated = false; parts = []; state = Opened }
 
 -- the set with these parts, after this
 abbrev pub level_with : SetLevelTree → List PartTree → SetState → SetLevelTree

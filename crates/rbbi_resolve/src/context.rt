@@ -1,8 +1,8 @@
-//! What an expression may use.
+//! What stands before a statement.
 ghost use Rattle.std.specs.Prelude.{◌≡◌, encode_utf8_all};
 ghost use Rattle.std.specs.Option.{option_copied};
 ghost use Rattle.std.specs.HashMap.{get_by_text};
-ghost use Rattle.rbbi_resolve.specs.inner.Scopes.{bounds_of, visible};
+ghost use Rattle.rbbi_resolve.specs.inner.Contexts.{bounds_of, visible};
 
 use crate::classes::Classes;
 use crate::variables::{Variable, Variables};
@@ -10,10 +10,10 @@ use rbbi_classes::Layout;
 use rbbi_text::Word;
 use rbbi_tree::Statements;
 
-/// What an expression may use: the variables that are assigned before the statement with the number
-/// `limit`.
+/// What stands before the statement with the number `limit`: the variables that an expression may
+/// use, and the controls.
 #[derive(Clone, Copy)]
-pub(crate) struct Scope<'a> {
+pub(crate) struct Context<'a> {
     pub(crate) statements: &'a Statements,
     pub(crate) variables: &'a Variables,
     pub(crate) classes: &'a Classes,
@@ -22,15 +22,15 @@ pub(crate) struct Scope<'a> {
     pub(crate) quoted_only: bool,
 }
 
-impl<'a> Scope<'a> {
-    /// The first code points of the classes of the file.
+impl<'a> Context<'a> {
+    /// The first code point of each class.
     pub(crate) fn layout(&self) -> &'a Layout
         ensures { result.now ≡ bounds_of self.now }
     {
         self.classes.division.as_ref().layout()
     }
 
-    /// The variable of this name, where a statement before the limit assigns it.
+    /// The variable of this name, if a statement before the limit assigns it.
     pub(crate) fn variable(&self, name: &Word) -> Option<&'a Variable>
         ensures { option_copied result ≡ visible self.now.limit
             (get_by_text self.now.variables.now (encode_utf8_all name.now)) }

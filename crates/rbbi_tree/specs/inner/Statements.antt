@@ -9,8 +9,8 @@ use Rattle.rbbi_tree.specs.declared.syntax.Quant.{Quant}
 use Rattle.rbbi_tree.specs.declared.syntax.Quant.TheVariants as quant
 use Rattle.rbbi_tree.specs.Trees.{SetSyntax, PartTree, ExprTree, SeqTree, ItemTree, AtomTree, StatementTree, no_alternatives, alternative, no_items, item}
 use Rattle.rbbi_tree.specs.Trees.{placed, character, quoted, any, name, property, set, group, nothing, control, assign, rule}
-use Rattle.rbbi_tree.specs.inner.Machine.Sets.{SetLevelTree, OuterSetTree, SetsTree, opened, at_set_token, join_in, ended_parts, set_from, outer_set}
-use Rattle.rbbi_tree.specs.inner.Machine.Sets.{set_resumed}
+use Rattle.rbbi_tree.specs.inner.Sets.{SetLevelTree, OuterSetTree, SetsTree, new_set_level, at_set_token, join_in, ended_parts, set_from, outer_set}
+use Rattle.rbbi_tree.specs.inner.Sets.{set_resumed}
 
 -- an expression so far: the sequences that a bar ended, and the items after the last bar, the latest of each first
 pub record LevelTree : Type 0 where
@@ -75,8 +75,8 @@ abbrev pub with_head : HeadTree → Progress → Progress
 with_head head p = record { statements = p.statements; head = head; groups = p.groups; level = p.level; sets = p.sets }
 
 -- the file so far with another head and an empty level
-abbrev pub fresh : HeadTree → Progress → Progress
-fresh head p = record { statements = p.statements; head = head; groups = p.groups; level = empty_level; sets = p.sets }
+abbrev pub with_head_alone : HeadTree → Progress → Progress
+with_head_alone head p = record { statements = p.statements; head = head; groups = p.groups; level = empty_level; sets = p.sets }
 
 -- the file so far with another level
 abbrev pub with_level : LevelTree → Progress → Progress
@@ -109,7 +109,7 @@ group_begun place p =
 
 -- a set begins at this place
 abbrev pub set_begun : ℕ → Progress → Progress
-set_begun place p = with_sets (Some (record { innermost = opened place; outers = [] })) p
+set_begun place p = with_sets (Some (record { innermost = new_set_level place; outers = [] })) p
 
 -- the innermost group ends
 abbrev pub group_ended : GroupTree → List GroupTree → Progress → Progress
@@ -172,7 +172,7 @@ at_close (i ∷ is) (innermost ∷ groups) p = Some (group_ended innermost group
 abbrev pub at_front_end : ℕ → HeadTree → Progress → Option Progress
 at_front_end slash between p = None
 at_front_end slash (assigning word at) p = None
-at_front_end slash (ruling at no_chain_in) p = Some (fresh (resting at no_chain_in (whole p.level) slash) p)
+at_front_end slash (ruling at no_chain_in) p = Some (with_head_alone (resting at no_chain_in (whole p.level) slash) p)
 at_front_end slash (resting at no_chain_in front slash') p = None
 at_front_end slash (ended s) p = None
 
@@ -200,18 +200,18 @@ at_control word place (resting at no_chain_in front slash) p = None
 at_control word place (ended s) p = None
 
 -- the name that is all of an expression so far, if it is one
-abbrev pub name_of : List SeqTree → List ItemTree → Option (List ℕ)
-name_of [] (placed place (name word) quant.Once ∷ []) = Some word
-name_of sequences items = None
+abbrev pub sole_name : List SeqTree → List ItemTree → Option (List ℕ)
+sole_name [] (placed place (name word) quant.Once ∷ []) = Some word
+sole_name sequences items = None
 
 -- the statement is to assign this name
 abbrev pub name_assigned : ℕ → Option (List ℕ) → Progress → Option Progress
 name_assigned at None p = None
-name_assigned at (Some word) p = Some (fresh (assigning word at) p)
+name_assigned at (Some word) p = Some (with_head_alone (assigning word at) p)
 
 -- what an equals sign does: a name must be all that was read of the statement
 abbrev pub at_equals : HeadTree → List GroupTree → Progress → Option Progress
-at_equals (ruling at false) [] p = name_assigned at (name_of p.level.sequences p.level.items) p
+at_equals (ruling at false) [] p = name_assigned at (sole_name p.level.sequences p.level.items) p
 at_equals head groups p = None
 
 -- the statement that ends with this expression and this tag, if any
@@ -232,12 +232,12 @@ statement_at (i ∷ is) (innermost ∷ groups) tag p = None
 -- the whole statement is read but its semicolon, if it is one
 abbrev pub statement_read : Option StatementTree → Progress → Option Progress
 statement_read None p = None
-statement_read (Some s) p = Some (fresh (ended s) p)
+statement_read (Some s) p = Some (with_head_alone (ended s) p)
 
 -- the whole statement is read, if it is one
 abbrev pub statement_ended : Option StatementTree → Progress → Option Progress
 statement_ended None p = None
-statement_ended (Some s) p = Some (with_statement s (fresh between p))
+statement_ended (Some s) p = Some (with_statement s (with_head_alone between p))
 
 -- what a semicolon does
 abbrev pub at_semi : HeadTree → Progress → Option Progress
@@ -279,7 +279,7 @@ set_kept outers p (Some s) = Some (with_sets (Some (record { innermost = s; oute
 -- what an opening bracket does within a set
 abbrev pub at_inner_open : ℕ → Option Join → SetsTree → Progress → Option Progress
 at_inner_open place None sets p = None
-at_inner_open place (Some j) sets p = Some (with_sets (Some (record { innermost = opened place; outers = outer_set sets.innermost j ∷ sets.outers })) p)
+at_inner_open place (Some j) sets p = Some (with_sets (Some (record { innermost = new_set_level place; outers = outer_set sets.innermost j ∷ sets.outers })) p)
 
 -- a set that began at this place ends
 abbrev pub set_ended : ℕ → SetSyntax → List OuterSetTree → Progress → Progress
