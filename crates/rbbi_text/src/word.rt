@@ -1,7 +1,6 @@
 //! Words: short texts that are kept whole.
 ghost use Rattle.std.specs.Prelude.{◌≡◌, ◌++◌, [], ◌∷◌, IfOk, OnOk, chars, encode_utf8_all};
 ghost use Rattle.std.specs.Prelude.{string_bytes};
-ghost use Rattle.rbbi_model.specs.Words.{IsText};
 
 use std::alloc::{AllocError, Global};
 use std::marker::Model;
@@ -23,8 +22,7 @@ impl Model for Word {
 impl Word {
     /// The word of these characters.
     pub fn new(alloc: Global, text: &str) -> Result<Word, AllocError>
-        ensures characters { IfOk result (λ word. word ≡ chars text.now) }
-        ensures text { IfOk result IsText }
+        ensures { IfOk result (λ word. word ≡ chars text.now) }
     {
         Ok(Word {
             text: String::from_str(alloc, text)?,
