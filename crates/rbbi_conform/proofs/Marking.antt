@@ -1,7 +1,7 @@
 -- Pairs of code points and marks, taken off one by one.
 use Rattle.std.proofs.Common.{◌≡◌, ℕ, ◌+◌, ◌*◌, ◌≤◌, Bool, List, [], ◌∷◌, ◌++◌, length, refl, ap, sym, subst, ◌∙◌, append_assoc, append-nil, length-append}
 use Rattle.std.proofs.Common.{arith}
-use Rattle.rbbi_conform.specs.Grammar.{words_of, IsCodePoint, ArePairs}
+use Rattle.rbbi_conform.specs.Grammar.{words_of, IsHexadecimalOf, ArePairs}
 use Rattle.rbbi_conform.specs.inner.Readings.{IsFirstWord, IsNoPair, IsPairOf, AreMarkedBy, AreUnmarked}
 
 -- So many pairs were read, and these words are left.
@@ -68,7 +68,7 @@ IsMarking-bad words text marks rest point after h first none all those pairs =
     refused [] (m ∷ those) e = e
     refused (d ∷ all) (m ∷ those) (p, s, r, e, is_point, is_mark, pairs) =
         let tail = tail_of point p (words_of after) s r (sym first.words ∙ e) in
-        none d m s r tail.1 (subst (λ w. IsCodePoint w d) tail.0 is_point) is_mark
+        none d m s r tail.1 (subst (λ w. IsHexadecimalOf w d) tail.0 is_point) is_mark
 
 -- no word is left
 pub IsMarking-end : (words text : List ℕ) (marks : List Bool) (rest : List ℕ) → IsMarking words text marks rest → words_of rest ≡ [] →

@@ -1,19 +1,17 @@
--- Bytes are the file of one list of tests at most, or have one fault.
-use Rattle.std.proofs.Common.{◌≡◌, ◌≢◌, ℕ, Bool, true, false, ◌&&◌, List, [], ◌∷◌, get_or, refl, ap, sym, subst, ◌∙◌, inl, inr, arith}
-use Rattle.std.specs.Prelude.{Result, Ok, Err, Some}
+-- A line of a test file is one thing: skipped, or one test, or neither.
+use Rattle.std.proofs.Common.{◌≡◌, ℕ, Bool, true, false, ◌&&◌, List, [], ◌∷◌, get_or, refl, ap, sym, subst, ◌∙◌, arith}
+use Rattle.std.specs.Prelude.{Some}
 use Rattle.std.specs.List.{list_all}
-use Rattle.rbbi_text.specs.Bytes.{file_lines}
 use Rattle.rbbi_text.specs.LineParts.{is_blank, before_comment, is_skipped}
-use Rattle.rbbi_text.proofs.LineValues.{same_values, same_bad_line, good_or_bad}
-use Rattle.rbbi_conform.specs.declared.error.TestErr.{TestErr}
-use Rattle.rbbi_conform.specs.declared.error.TestErr.TheVariants.{NotUtf8, BadLine, Memory}
+use Rattle.rbbi_text.specs.declared.line_values.Line.{Line}
+use Rattle.rbbi_text.specs.declared.line_values.Line.TheVariants.{Skipped, Writes, Bad}
 use Rattle.rbbi_conform.specs.Tests.{Test}
-use Rattle.rbbi_conform.specs.Grammar.{words_of, IsMark, IsCodePoint, ArePairs, WritesTest, IsBad}
-use Rattle.rbbi_conform.specs.Files.{LineWrites, ReadsTests}
+use Rattle.rbbi_conform.specs.Grammar.{words_of, IsMark, IsHexadecimalOf, ArePairs, WritesTest}
+use Rattle.rbbi_conform.specs.Files.{IsTestLine}
 use Rattle.rbbi_conform.proofs.BlankWords.{words_behind}
 
 -- a word is one character at most, and one mark
-same_point : (word : List ℕ) (c d : ℕ) → IsCodePoint word c → IsCodePoint word d → c ≡ d
+same_point : (word : List ℕ) (c d : ℕ) → IsHexadecimalOf word c → IsHexadecimalOf word d → c ≡ d
 same_point word c d is is' = let e : Some c ≡ Some d = sym is.number ∙ is'.number in cc
 
 no_mark_twice : (word : List ℕ) → IsMark word true → IsMark word false → ⊥
@@ -45,7 +43,7 @@ same_pairs words (c ∷ text) (d ∷ text') (m ∷ marks) [] is is' = absurd is'
 same_pairs words (c ∷ text) [] (m ∷ marks) (n ∷ marks') is is' = absurd is'
 same_pairs words (c ∷ text) (d ∷ text') (m ∷ marks) (n ∷ marks') (p, s, r, e, point, sign, more) (p', s', r', e', point', sign', more') =
     let parts = parts_of p p' s s' r r' (sym e ∙ e') in
-    let point_is = same_point p' c d (subst (λ w. IsCodePoint w c) parts.0 point) point' in
+    let point_is = same_point p' c d (subst (λ w. IsHexadecimalOf w c) parts.0 point) point' in
     let mark_is = same_mark s' m n (subst (λ w. IsMark w m) parts.1 sign) sign' in
     let rest = same_pairs r' text text' marks marks' (subst (λ ws. ArePairs ws text marks) parts.2 more) more' in
     (ap (λ x. x ∷ text) point_is ∙ ap (λ t. d ∷ t) rest.0, ap (λ x. x ∷ marks) mark_is ∙ ap (λ l. n ∷ l) rest.1)
@@ -88,35 +86,19 @@ no_first w ws e = cc
 skipped_or_written : (line text : List ℕ) (marks : List Bool) → is_skipped line ≡ true → WritesTest line text marks → ⊥
 skipped_or_written line text marks skipped is = no_first is.sign is.rest (sym is.words ∙ blank_words (before_comment line) skipped)
 
-same_line : (line : List ℕ) (number : ℕ) (these those : List Test) → LineWrites line number these → LineWrites line number those → these ≡ those
-same_line line number these those (inl (skipped, none)) (inl (skipped', none')) = none ∙ sym none'
-same_line line number these those (inl (skipped, none)) (inr (test, writes, numbered, is)) =
-    absurd (skipped_or_written line test.text test.marks skipped writes)
-same_line line number these those (inr (test, writes, numbered, is)) (inl (skipped, none)) =
-    absurd (skipped_or_written line test.text test.marks skipped writes)
-same_line line number these those (inr (test, writes, numbered, is)) (inr (test', writes', numbered', is')) =
-    let same = same_marked line test.text test'.text test.marks test'.marks writes writes' in
-    is ∙ ap (λ t. t ∷ []) (same_test test test' (numbered ∙ sym numbered') same.0 same.1) ∙ sym is'
+same_true : (b : Bool) → b ≡ true → b ≡ false → ⊥
+same_true b is is' = cc
 
--- a bad line is neither skipped nor a test
-bad_or_good : (line : List ℕ) (number : ℕ) (these : List Test) → IsBad line → LineWrites line number these → ⊥
-bad_or_good line number these bad (inl (skipped, none)) = let clash : true ≡ false = sym skipped ∙ bad.not_skipped in cc
-bad_or_good line number these bad (inr (test, writes, numbered, is)) = bad.no_test test.text test.marks writes
-
--- bytes have one answer, but for want of memory
-pub one_tests_lem : (bytes : List ℕ) (one other : Result (List Test) TestErr) → ReadsTests bytes one → ReadsTests bytes other
-    → one ≢ Err Memory → other ≢ Err Memory → one ≡ other
-one_tests_lem bytes (Ok ts) (Ok us) is is' some some' = ap Ok (same_values LineWrites same_line (file_lines bytes) 0 ts us is.1 is'.1)
-one_tests_lem bytes (Ok ts) (Err (NotUtf8 at')) is is' some some' = absurd (is'.not_utf8 is.0)
-one_tests_lem bytes (Ok ts) (Err (BadLine n')) is is' some some' = absurd (good_or_bad LineWrites IsBad bad_or_good (file_lines bytes) ts n' is.1 is'.1)
-one_tests_lem bytes (Ok ts) (Err Memory) is is' some some' = absurd (some' refl)
-one_tests_lem bytes (Err (NotUtf8 at)) (Ok us) is is' some some' = absurd (is.not_utf8 is'.0)
-one_tests_lem bytes (Err (NotUtf8 at)) (Err (NotUtf8 at')) is is' some some' = ap (λ (n : ℕ). Err (NotUtf8 n)) (is.at_is ∙ sym is'.at_is)
-one_tests_lem bytes (Err (NotUtf8 at)) (Err (BadLine n')) is is' some some' = absurd (is.not_utf8 is'.0)
-one_tests_lem bytes (Err (NotUtf8 at)) (Err Memory) is is' some some' = absurd (some' refl)
-one_tests_lem bytes (Err (BadLine n)) (Ok us) is is' some some' = absurd (good_or_bad LineWrites IsBad bad_or_good (file_lines bytes) us n is'.1 is.1)
-one_tests_lem bytes (Err (BadLine n)) (Err (NotUtf8 at')) is is' some some' = absurd (is'.not_utf8 is.0)
-one_tests_lem bytes (Err (BadLine n)) (Err (BadLine n')) is is' some some' =
-    ap (λ (k : ℕ). Err (BadLine k)) (same_bad_line LineWrites IsBad bad_or_good (file_lines bytes) n n' is.1 is'.1)
-one_tests_lem bytes (Err (BadLine n)) (Err Memory) is is' some some' = absurd (some' refl)
-one_tests_lem bytes (Err Memory) other is is' some some' = absurd (some refl)
+-- a line is one thing
+pub same_line : (line : List ℕ) (number : ℕ) (one other : Line Test) → IsTestLine line number one → IsTestLine line number other → one ≡ other
+same_line line number Skipped Skipped is is' = refl
+same_line line number Skipped (Writes test') is is' = absurd (skipped_or_written line test'.text test'.marks is is'.0)
+same_line line number Skipped Bad is is' = absurd (same_true (is_skipped line) is is'.0)
+same_line line number (Writes test) Skipped is is' = absurd (skipped_or_written line test.text test.marks is' is.0)
+same_line line number (Writes test) (Writes test') is is' =
+    let same = same_marked line test.text test'.text test.marks test'.marks is.0 is'.0 in
+    ap Writes (same_test test test' (is.1 ∙ sym is'.1) same.0 same.1)
+same_line line number (Writes test) Bad is is' = absurd (is'.1 test.text test.marks is.0)
+same_line line number Bad Skipped is is' = absurd (same_true (is_skipped line) is' is.0)
+same_line line number Bad (Writes test') is is' = absurd (is.1 test'.text test'.marks is'.0)
+same_line line number Bad Bad is is' = refl

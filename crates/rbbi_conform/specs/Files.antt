@@ -1,29 +1,20 @@
 -- The tests of a file, of its lines.
-use Rattle.std.specs.Prelude.{◌≡◌, ℕ, ◌⊎◌, true, List, [], ◌∷◌, Result, Ok, Err, IsUtf8}
-use Rattle.rbbi_text.specs.Bytes.{IsNotUtf8At, file_lines}
+use Rattle.std.specs.Prelude.{◌≡◌, ℕ, Bool, true, false, List, Result}
 use Rattle.rbbi_text.specs.LineParts.{is_skipped}
-use Rattle.rbbi_text.specs.LineValues.{AreValues, IsFirstBad}
-use Rattle.rbbi_conform.specs.declared.error.TestErr.{TestErr}
-use Rattle.rbbi_conform.specs.declared.error.TestErr.TheVariants.{NotUtf8, BadLine, Memory}
+use Rattle.rbbi_text.specs.LineValues.{ReadsLines}
+use Rattle.rbbi_text.specs.declared.line_values.Line.{Line}
+use Rattle.rbbi_text.specs.declared.line_values.Line.TheVariants.{Skipped, Writes, Bad}
+use Rattle.rbbi_text.specs.declared.error.LinesErr.{LinesErr}
 use Rattle.rbbi_conform.specs.Tests.{Test}
-use Rattle.rbbi_conform.specs.Grammar.{WritesTest, IsBad}
+use Rattle.rbbi_conform.specs.Grammar.{WritesTest}
 
--- the line with this number is skipped, or it writes the one test
-abbrev pub LineWrites : List ℕ → ℕ → List Test → Type 0
-LineWrites line number tests =
-    (is_skipped line ≡ true) × (tests ≡ []) ⊎ ((test : Test) × WritesTest line test.text test.marks × (test.line ≡ number) × (tests ≡ test ∷ []))
+-- what the line with this number is: skipped, or a test, or neither
+abbrev pub IsTestLine : List ℕ → ℕ → Line Test → Type 0
+IsTestLine line number Skipped = is_skipped line ≡ true
+IsTestLine line number (Writes test) = WritesTest line test.text test.marks × (test.line ≡ number)
+IsTestLine line number Bad = (is_skipped line ≡ false) × ((text : List ℕ) (marks : List Bool) → ¬ WritesTest line text marks)
 
--- each line is skipped or writes a test, and these are the tests in order
-abbrev pub LinesWrite : List (List ℕ) → List Test → Type 0
-LinesWrite lines tests = AreValues LineWrites lines 0 tests
-
--- the line with this number, from 1, is the first that is neither skipped nor a test
-abbrev pub IsFirstBadLine : List (List ℕ) → ℕ → Type 0
-IsFirstBadLine lines number = IsFirstBad LineWrites IsBad lines number
-
--- what reading a test file answers
-abbrev pub ReadsTests : List ℕ → Result (List Test) TestErr → Type 0
-ReadsTests bytes (Ok tests) = IsUtf8 bytes × LinesWrite (file_lines bytes) tests
-ReadsTests bytes (Err (NotUtf8 at)) = IsNotUtf8At bytes at
-ReadsTests bytes (Err (BadLine line)) = IsUtf8 bytes × IsFirstBadLine (file_lines bytes) line
-ReadsTests bytes (Err Memory) = Unit {0}
+-- What reading a test file answers: the tests that its lines write, in order, where each line is skipped or writes one. Otherwise the
+-- first byte past the longest front that is UTF-8, or the first line that is neither.
+abbrev pub ReadsTests : List ℕ → Result (List Test) LinesErr → Type 0
+ReadsTests bytes answer = ReadsLines IsTestLine bytes answer

@@ -3,7 +3,7 @@ use Rattle.std.specs.Prelude.{◌≡◌, ℕ, Bool, true, false, not, ◌==◌, 
 use Rattle.std.specs.List.{slice_split}
 use Rattle.rbbi_model.specs.Words.{IsSurrogate}
 use Rattle.rbbi_text.specs.Numbers.{hexadecimal}
-use Rattle.rbbi_text.specs.LineParts.{is_blank, before_comment, is_skipped}
+use Rattle.rbbi_text.specs.LineParts.{is_blank, before_comment}
 
 -- the words between spaces and tabs
 abbrev pub words_of : List ℕ → List (List ℕ)
@@ -15,7 +15,7 @@ IsMark word true = word ≡ 0xC3 ∷ 0xB7 ∷ []
 IsMark word false = word ≡ 0xC3 ∷ 0x97 ∷ []
 
 -- the word is four to six hexadecimal digits of the character
-pub record IsCodePoint (word : List ℕ) (c : ℕ) : Type 0 where
+pub record IsHexadecimalOf (word : List ℕ) (c : ℕ) : Type 0 where
   pub number : hexadecimal 4 6 0x10FFFF word ≡ Some c
   pub character : ¬ IsSurrogate c
 
@@ -25,7 +25,7 @@ ArePairs words [] [] = words ≡ []
 ArePairs words (c ∷ text) [] = ⊥
 ArePairs words [] (mark ∷ marks) = ⊥
 ArePairs words (c ∷ text) (mark ∷ marks) =
-    (point : List ℕ) × (sign : List ℕ) × (rest : List (List ℕ)) × (words ≡ point ∷ sign ∷ rest) × IsCodePoint point c × IsMark sign mark ×
+    (point : List ℕ) × (sign : List ℕ) × (rest : List (List ℕ)) × (words ≡ point ∷ sign ∷ rest) × IsHexadecimalOf point c × IsMark sign mark ×
     ArePairs rest text marks
 
 -- the line is a mark, which isn't compared, and pairs of a code point and a mark
@@ -36,8 +36,3 @@ pub record WritesTest (line text : List ℕ) (marks : List Bool) : Type 0 where
   pub words : words_of (before_comment line) ≡ sign ∷ rest
   pub first : IsMark sign mark
   pub pairs : ArePairs rest text marks
-
--- the line is neither skipped nor a test
-pub record IsBad (line : List ℕ) : Type 0 where
-  pub not_skipped : is_skipped line ≡ false
-  pub no_test : (text : List ℕ) (marks : List Bool) → ¬ WritesTest line text marks

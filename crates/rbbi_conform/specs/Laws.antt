@@ -1,8 +1,8 @@
 -- What holds of the answers of reading a test file, and of verdicts.
 use Rattle.std.specs.Prelude.{◌≡◌, ◌≢◌, ℕ, List, Result, Err}
 use Rattle.rbbi_model.specs.Boundaries.{Boundary}
-use Rattle.rbbi_conform.specs.declared.error.TestErr.{TestErr}
-use Rattle.rbbi_conform.specs.declared.error.TestErr.TheVariants.{Memory}
+use Rattle.rbbi_text.specs.declared.error.LinesErr.{LinesErr}
+use Rattle.rbbi_text.specs.declared.error.LinesErr.TheVariants.{Memory}
 use Rattle.rbbi_conform.specs.declared.verdict.Verdict.{Verdict}
 use Rattle.rbbi_conform.specs.Tests.{Test}
 use Rattle.rbbi_conform.specs.Files.{ReadsTests}
@@ -11,7 +11,7 @@ use Rattle.rbbi_conform.specs.Verdicts.{IsVerdict}
 -- bytes have one answer, but for want of memory: they are the file of one list of tests, or one fault is told
 abbrev pub HaveOneTestList : Type 0
 HaveOneTestList =
-    (bytes : List ℕ) (one other : Result (List Test) TestErr) → ReadsTests bytes one → ReadsTests bytes other
+    (bytes : List ℕ) (one other : Result (List Test) LinesErr) → ReadsTests bytes one → ReadsTests bytes other
     → one ≢ Err Memory → other ≢ Err Memory → one ≡ other
 
 -- a test has one verdict by some boundaries

@@ -4,7 +4,6 @@
 //! [`judge`] tells the first place at which a table and a test differ.
 #![tactic(auto)]
 
-mod error;
 mod laws;
 mod line;
 mod reader;
@@ -13,8 +12,7 @@ mod test;
 mod tests;
 mod verdict;
 
-pub use error::TestErr;
 pub use laws::{one_tests, one_verdict};
-pub use reader::read_tests;
+pub use reader::{TestErr, read_tests};
 pub use test::{Test, Tests};
 pub use verdict::{Verdict, judge};

@@ -3,7 +3,7 @@ ghost use Rattle.std.specs.Prelude.{◌≡◌, ◌≤◌, [], length, IfOk, Matc
 ghost use Rattle.std.specs.List.{position_or_len};
 ghost use Rattle.rbbi_text.specs.LineParts as line_parts;
 ghost use Rattle.rbbi_conform.specs.Grammar.{words_of};
-ghost use Rattle.rbbi_conform.specs.inner.Readings.{IsFirstWord, IsMarkOf, IsCodePointOf, IsNoPair};
+ghost use Rattle.rbbi_conform.specs.inner.Readings.{IsFirstWord, IsMarkOf, IsCharacterOf, IsNoPair};
 ghost use Rattle.rbbi_conform.specs.inner.Readings.{IsPairOf, IsMarkedOf, IsUnmarked, AreMarkedBy};
 ghost use Rattle.rbbi_conform.specs.inner.Readings.{AreUnmarked};
 
@@ -71,7 +71,7 @@ fn mark_of(word: &[u8]) -> Option<bool>
 
 /// The character of a word of four to six hexadecimal digits.
 fn character_of(word: &[u8]) -> Option<char>
-    ensures { IsCodePointOf word.now result }
+    ensures { IsCharacterOf word.now result }
 {
     let number = hexadecimal(word, 4, 6, LAST)?;
     char::from_u32(number)

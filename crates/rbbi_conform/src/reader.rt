@@ -1,16 +1,15 @@
 //! The tests of a file.
-ghost use Rattle.std.specs.Prelude.{◌≡◌, ◌≤◌, length};
-ghost use Rattle.std.specs.Str.Lines.{lines};
+ghost use Rattle.std.specs.Prelude.{◌≤◌, length};
 ghost use Rattle.rbbi_text.specs.Bytes.{most_bytes};
 ghost use Rattle.rbbi_conform.specs.Files.{ReadsTests};
-ghost use Rattle.rbbi_conform.specs.inner.Files.{ReadsLines};
-ghost use Rattle.rbbi_conform.specs.inner.LineReadings.{ReadsLine};
 
-use crate::error::TestErr;
 use crate::line::{Marked, marked_text};
 use crate::test::{Test, Tests};
-use rbbi_text::{PlainText, is_skipped, utf8_text, without_mark};
-use std::alloc::Global;
+use rbbi_text::{Line, LineValue, LinesErr, PlainText, is_skipped, read_lines};
+use std::alloc::{AllocError, Global};
+
+/// Why a test file is refused: `BadLine` has the first line that is neither skipped nor a test.
+pub type TestErr = LinesErr;
 
 /// The tests of a test file.
 ///
@@ -28,41 +27,27 @@ pub fn read_tests(alloc: Global, bytes: &[u8]) -> Result<Tests, TestErr>
     requires { length bytes.now ≤ most_bytes }
     ensures { ReadsTests bytes.now result }
 {
-    match utf8_text(bytes) {
-        Ok(text) => read_lines(alloc, without_mark(text)),
-        Err(at) => Err(TestErr::NotUtf8(at)),
-    }
+    read_lines(alloc, bytes)
 }
 
-/// The tests that the lines of a text write.
-fn read_lines(alloc: Global, text: &str) -> Result<Tests, TestErr>
-    requires { length text.now ≤ most_bytes }
-    ensures { ReadsLines (lines text.now) result }
-{
-    let mut tests = Tests::new(alloc);
-    let mut number = 0;
-    for line in text.lines() {
-        number += 1;
-        read_line(&mut tests, alloc, line.as_bytes(), number)?;
-    }
-    Ok(tests)
-}
+impl LineValue for Test {
+    ghost use Rattle.rbbi_conform.specs.Files.{IsTestLine};
 
-/// Adds the test of a line, which has this number. A line that is skipped adds none.
-fn read_line(tests: &mut Tests, alloc: Global, line: &[u8], number: u32) -> Result<(), TestErr>
-    ensures { ReadsLine line.now number tests.old result tests.new }
-{
-    if is_skipped(line) {
-        return Ok(());
+    ghost IsLine = { IsTestLine };
+
+    fn from_line(alloc: Global, line: &str, number: u32) -> Result<Line<Test>, AllocError> {
+        let line = line.as_bytes();
+        if is_skipped(line) {
+            return Ok(Line::Skipped);
+        }
+        let Some(Marked { text, marks }) = marked_text(alloc, line)? else {
+            return Ok(Line::Bad);
+        };
+        // A character takes six bytes and more of the line, so a line of a test file never has too
+        // many.
+        let Ok(text) = PlainText::new(alloc, &text) else {
+            return Err(AllocError);
+        };
+        Ok(Line::Writes(Test::new(number, text, marks)))
     }
-    let Some(Marked { text, marks }) = marked_text(alloc, line)? else {
-        return Err(TestErr::BadLine(number));
-    };
-    // A character takes six bytes and more of the line, so a line of a test file never has too
-    // many.
-    let Ok(text) = PlainText::new(alloc, &text) else {
-        return Err(TestErr::Memory);
-    };
-    tests.push(Test::new(number, text, marks))?;
-    Ok(())
 }

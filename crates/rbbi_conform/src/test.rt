@@ -1,10 +1,7 @@
 //! A test, and the list of the tests of a file.
-ghost use Rattle.std.specs.Prelude.{◌≡◌, ◌-◌, ◌<◌, ◌≤◌, List, [], ◌∷◌, ◌++◌, length, slice_get};
-ghost use Rattle.std.specs.Prelude.{slice_index_or, false, Some, OnOk, OnErr};
-ghost use Rattle.rbbi_conform.specs.Tests.{Test};
+ghost use Rattle.std.specs.Prelude.{◌≡◌, ◌-◌, ◌≤◌, length, slice_index_or, false};
 
-use rbbi_text::PlainText;
-use std::alloc::{AllocError, Global};
+use rbbi_text::{PlainText, Values};
 use std::marker::Model;
 
 /// A text, and for each place behind one of its characters whether a boundary is marked there.
@@ -66,51 +63,4 @@ impl Test {
 }
 
 /// The tests of a file, in order. Contracts see it as their list.
-#[derive(Debug, Drop)]
-pub struct Tests {
-    items: Vec<Test>,
-}
-
-impl Model for Tests {
-    ghost use Rattle.std.specs.Prelude.{List};
-    ghost use Rattle.rbbi_conform.specs.Tests.{Test};
-
-    ghost Value = { List Test };
-
-    ghost view = { λ tests. tests.items.items };
-}
-
-impl Tests {
-    /// No tests.
-    pub(crate) fn new(alloc: Global) -> Tests
-        ensures { result ≡ [] }
-    {
-        Tests {
-            items: Vec::new(alloc),
-        }
-    }
-
-    /// Adds a test at the end, unless memory runs out.
-    pub(crate) fn push(&mut self, test: Test) -> Result<(), AllocError>
-        ensures ok { OnOk result (self.new ≡ self.old ++ test ∷ []) }
-        ensures err { OnErr result (self.new ≡ self.old) }
-    {
-        self.items.push(test)?;
-        Ok(())
-    }
-
-    /// The number of tests.
-    pub fn len(&self) -> usize
-        ensures { result ≡ length self.now }
-    {
-        self.items.len()
-    }
-
-    /// The test with this number, from 0.
-    pub fn get(&self, i: usize) -> &Test
-        requires { i < length self.now }
-        ensures { slice_get self.now i ≡ Some result.now }
-    {
-        &self.items[i]
-    }
-}
+pub type Tests = Values<Test>;

@@ -6,47 +6,47 @@ use Rattle.rbbi_model.specs.Words.{IsCharacter, IsText}
 use Rattle.rbbi_model.proofs.Texts.{text_append}
 use Rattle.std.specs.List.{AllByRecursion}
 use Rattle.std.specs.Char.{IsScalar}
-use Rattle.rbbi_demo.specs.Generator.{next_state, state_after, drawn, characters, drawn_character, drawn_text}
+use Rattle.rbbi_demo.specs.Generator.{next_state, state_drawn, drawn, characters, drawn_character, drawn_text}
 
 -- before any draw
-pub state_none : (s : ℕ) → state_after s 0 ≡ s
-unfolding state_after
+pub state_none : (s : ℕ) → state_drawn s 0 ≡ s
+unfolding state_drawn
 state_none s = refl
 
 -- a draw more
-pub state_more : (s n : ℕ) → state_after s (n + 1) ≡ next_state (state_after s n)
-unfolding state_after
-state_more s n = ap (state_after s) (add-one n)
+pub state_more : (s n : ℕ) → state_drawn s (n + 1) ≡ next_state (state_drawn s n)
+unfolding state_drawn
+state_more s n = ap (state_drawn s) (add-one n)
 
 -- draws behind draws
-pub state_behind : (s m n : ℕ) → state_after (state_after s m) n ≡ state_after s (m + n)
-unfolding state_after
-state_behind s m zero = ap (state_after s) (sym (add-zero m))
-state_behind s m (suc n) = ap next_state (state_behind s m n) ∙ ap (state_after s) (sym (add-suc m n))
+pub state_behind : (s m n : ℕ) → state_drawn (state_drawn s m) n ≡ state_drawn s (m + n)
+unfolding state_drawn
+state_behind s m zero = ap (state_drawn s) (sym (add-zero m))
+state_behind s m (suc n) = ap next_state (state_behind s m n) ∙ ap (state_drawn s) (sym (add-suc m n))
 
 -- three draws, one by one
-pub third_state : (s : ℕ) → next_state (next_state (next_state s)) ≡ state_after s 3
-unfolding state_after
+pub third_state : (s : ℕ) → next_state (next_state (next_state s)) ≡ state_drawn s 3
+unfolding state_drawn
 third_state s = refl
 
 pub drawn_second : (s : ℕ) → drawn (next_state s) 1 ≡ drawn s 2
-unfolding drawn state_after
+unfolding drawn state_drawn
 drawn_second s = refl
 
-pub drawn_behind : (s m n : ℕ) → drawn (state_after s m) n ≡ drawn s (m + n)
+pub drawn_behind : (s m n : ℕ) → drawn (state_drawn s m) n ≡ drawn s (m + n)
 unfolding drawn
 drawn_behind s m n = ap (λ t. t / 256) (state_behind s m n)
 
-pub character_behind : (s m n : ℕ) → drawn_character (state_after s m) n ≡ drawn_character s (m + n)
+pub character_behind : (s m n : ℕ) → drawn_character (state_drawn s m) n ≡ drawn_character s (m + n)
 unfolding drawn_character
 character_behind s m n = ap (λ d. slice_index characters (d % 8)) (drawn_behind s m n)
 
 pub character_third : (s : ℕ) → drawn_character (next_state (next_state s)) 1 ≡ drawn_character s 3
-unfolding drawn_character drawn state_after
+unfolding drawn_character drawn state_drawn
 character_third s = refl
 
 -- a character more
-pub text_more : (s n : ℕ) (x : List ℕ) (c : ℕ) → x ≡ drawn_text s n ++ c ∷ [] → c ≡ drawn_character (state_after s n) 1 → x ≡ drawn_text s (n + 1)
+pub text_more : (s n : ℕ) (x : List ℕ) (c : ℕ) → x ≡ drawn_text s n ++ c ∷ [] → c ≡ drawn_character (state_drawn s n) 1 → x ≡ drawn_text s (n + 1)
 text_more s n x c is drawn =
     is ∙ ap (λ d. drawn_text s n ++ d ∷ []) (drawn ∙ character_behind s n 1 ∙ ap (drawn_character s) (add-one n)) ∙ ap (drawn_text s) (sym (add-one n))
 

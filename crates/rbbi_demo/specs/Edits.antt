@@ -4,7 +4,7 @@ use Rattle.std.specs.Prelude.{ℕ, zero, suc, ◌+◌, ◌-◌, ◌*◌, ◌%◌
 use Rattle.rbbi_model.specs.Boundaries.{Boundary}
 use Rattle.rbbi_model.specs.Answers.{Reply, Place, Following, Preceding, answer}
 use Rattle.rbbi_model.specs.Scripts.{splice}
-use Rattle.rbbi_demo.specs.Generator.{state_after, drawn, drawn_character, drawn_text}
+use Rattle.rbbi_demo.specs.Generator.{state_drawn, drawn, drawn_character, drawn_text}
 
 -- where the edit behind the state begins
 unfoldable pub edit_place : ℕ → List ℕ → ℕ
@@ -25,7 +25,7 @@ asked_place state x = drawn state 4 % (length (edited_text state x) + 1)
 -- The state before the edit with this number, from 0. The text at first took as many draws as it has characters, which is the
 -- number that the generator begins with.
 unfoldable pub state_before : ℕ → ℕ → ℕ
-state_before count edit = state_after count (count + 4 * edit)
+state_before count edit = state_drawn count (count + 4 * edit)
 
 -- the text after so many edits
 abbrev pub text_after : ℕ → ℕ → List ℕ

@@ -6,13 +6,13 @@ unfoldable pub next_state : ℕ → ℕ
 next_state state = (state * 1103515245 + 12345) % 2 ^ 31
 
 -- the state after so many draws
-unfoldable pub state_after : ℕ → ℕ → ℕ
-state_after state zero = state
-state_after state (suc draws) = next_state (state_after state draws)
+unfoldable pub state_drawn : ℕ → ℕ → ℕ
+state_drawn state zero = state
+state_drawn state (suc draws) = next_state (state_drawn state draws)
 
 -- The number that a draw gives: that of the draw with this number, from 1, behind the state.
 unfoldable pub drawn : ℕ → ℕ → ℕ
-drawn state number = state_after state number / 256
+drawn state number = state_drawn state number / 256
 
 -- the characters that are drawn, by their numbers: `a`, `b`, `c`, `1`, `2`, a space, `.` and U+0308
 abbrev pub characters : List ℕ

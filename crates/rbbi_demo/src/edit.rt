@@ -2,7 +2,7 @@
 ghost use Rattle.std.specs.Prelude.{◌≡◌, ◌<◌, ◌≤◌, ◌+◌, ◌%◌, ◌^◌, length, OnOk};
 ghost use Rattle.rbbi_model.specs.Words.{most_characters};
 ghost use Rattle.rbbi_session.specs.Sessions.{boundaries_of};
-ghost use Rattle.rbbi_demo.specs.Generator.{drawn, next_state, state_after};
+ghost use Rattle.rbbi_demo.specs.Generator.{drawn, next_state, state_drawn};
 ghost use Rattle.rbbi_demo.specs.Edits.{edited_text, places_sum};
 
 use crate::generator::Generator;
@@ -24,7 +24,7 @@ pub(crate) fn edit<L: Ledger>(
     ensures longer { OnOk result
         (length session.new.state.text ≤ length session.old.state.text + 1) }
     ensures table { session.new.table ≡ session.old.table }
-    ensures state { generator.new.state ≡ state_after generator.old.state 3 }
+    ensures state { generator.new.state ≡ state_drawn generator.old.state 3 }
 {
     let length = session.text().len();
     let at = generator.below(length + 1);

@@ -3,6 +3,7 @@ use Rattle.std.specs.Prelude.{ℕ, zero, suc, ◌+◌, ◌-◌, ◌*◌, min, Bo
 use Rattle.std.specs.Prelude.{unwrap_or, if◌then◌else◌, ◌==◌, nat_lt, nat_le}
 use Rattle.std.specs.List.{list_any}
 use Rattle.rbbi_model.specs.Places.{greatest_below}
+use Rattle.rbbi_model.specs.Boundaries.{Boundary}
 use Rattle.rbbi_model.specs.Tables.{Table}
 use Rattle.rbbi_model.specs.Searches.{look_end, fresh, table_boundaries}
 use Rattle.rbbi_model.specs.Runs.{is_anchor}
@@ -69,11 +70,15 @@ abbrev pub preceding_cost : Table → List ℕ → ℕ → ℕ
 preceding_cost table x zero = 0
 preceding_cost table x (suc before) = if nat_lt before (length x) then back_cost table x (suc before) else last_cost table x
 
+-- the cost of going on from each of these boundaries but the text's end
+abbrev pub listing_cost : Table → List ℕ → List Boundary → ℕ
+listing_cost table x boundaries =
+    sum_by (λ boundary. forward_cost table x boundary.at) (filter (λ boundary. nat_lt boundary.at (length x)) boundaries)
+
 -- the cost of all boundaries, and of finding the cursor's again
 abbrev pub breaks_cost : Table → List ℕ → ℕ → ℕ
 breaks_cost table x cursor =
-    sum_by (λ boundary. forward_cost table x boundary.at) (filter (λ boundary. nat_lt boundary.at (length x)) (table_boundaries table x))
-    + (if cursor == 0 then 0 else forward_cost table x (cursor - 1))
+    listing_cost table x (table_boundaries table x) + (if cursor == 0 then 0 else forward_cost table x (cursor - 1))
 
 -- the cost of a question, where the cursor and the place asked count characters
 abbrev pub question_cost : Table → List ℕ → ℕ → Question → ℕ

@@ -3,7 +3,7 @@ use Rattle.std.proofs.Common.{ℕ, List, [], ◌++◌, refl, ap, sym, subst, inl
 use Rattle.std.specs.Prelude.{codes}
 use Rattle.rbbi_model.specs.Scripts.{Ask, Replace, ShowText}
 use Rattle.rbbi_model.specs.Scripts as model
-use Rattle.rbbi_script.specs.Grammar.{WritesNumber, IsField, Spells, Writes, IsInsert, IsDelete, IsReplace}
+use Rattle.rbbi_script.specs.Grammar.{WritesNumber, IsField, WritesCharacters, Writes, IsInsert, IsDelete, IsReplace}
 use Rattle.rbbi_script.specs.inner.Readings.{IsOnlyField}
 use Rattle.rbbi_script.proofs.LineKinds.{kind, asks_no_edit}
 
@@ -49,12 +49,12 @@ replace_no_place fields none =
     replace_only fields (λ at removed inserted h. none at h.others (subst (λ f. IsField f at h.others) (sym (ap (drop 8) h.spelled)) h.place))
 
 -- a text that isn't one
-pub insert_no_text : (fields : List ℕ) (n : ℕ) (text : List ℕ) → IsOnlyField fields n text → ((word : List ℕ) → ¬ Spells text word) →
+pub insert_no_text : (fields : List ℕ) (n : ℕ) (text : List ℕ) → IsOnlyField fields n text → ((word : List ℕ) → ¬ WritesCharacters text word) →
     (command : model.Command) → ¬ Writes (codes "insert " ++ fields) command
 insert_no_text fields n text field none =
     insert_only fields (λ at removed inserted h.
     let same = field.only at h.text (subst (λ f. IsField f at h.text) (sym (ap (drop 7) h.spelled)) h.place) in
-    none inserted (subst (λ t. Spells t inserted) same.1 h.spells))
+    none inserted (subst (λ t. WritesCharacters t inserted) same.1 h.spells))
 
 -- no count
 pub delete_no_count : (fields : List ℕ) (n : ℕ) (digits : List ℕ) → IsOnlyField fields n digits → ((m : ℕ) → ¬ WritesNumber digits m) →
@@ -72,15 +72,15 @@ replace_no_count fields n others field none =
     none removed h.text (subst (λ t. IsField t removed h.text) same.1 h.count))
 
 pub replace_no_text : (fields : List ℕ) (n : ℕ) (others : List ℕ) (m : ℕ) (text : List ℕ) → IsOnlyField fields n others → IsOnlyField others m text →
-    ((word : List ℕ) → ¬ Spells text word) → (command : model.Command) → ¬ Writes (codes "replace " ++ fields) command
+    ((word : List ℕ) → ¬ WritesCharacters text word) → (command : model.Command) → ¬ Writes (codes "replace " ++ fields) command
 replace_no_text fields n others m text field count none =
     replace_only fields (λ at removed inserted h.
     let first = field.only at h.others (subst (λ f. IsField f at h.others) (sym (ap (drop 8) h.spelled)) h.place) in
     let second = count.only removed h.text (subst (λ t. IsField t removed h.text) first.1 h.count) in
-    none inserted (subst (λ t. Spells t inserted) second.1 h.spells))
+    none inserted (subst (λ t. WritesCharacters t inserted) second.1 h.spells))
 
 -- the edits that the lines write
-pub inserts : (fields : List ℕ) (n : ℕ) (text word : List ℕ) → IsField fields n text → Spells text word → Writes (codes "insert " ++ fields) (Replace n 0 word)
+pub inserts : (fields : List ℕ) (n : ℕ) (text word : List ℕ) → IsField fields n text → WritesCharacters text word → Writes (codes "insert " ++ fields) (Replace n 0 word)
 inserts fields n text word place spells =
     inl (record { fields = fields; text = text; spelled = refl; place = place; none_removed = refl; spells = spells })
 

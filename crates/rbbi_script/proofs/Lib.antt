@@ -2,7 +2,6 @@ pub mod Cuts
 pub mod Words
 pub mod LineKinds
 pub mod EditLines
-pub mod Says
 pub mod Performed
 pub mod Listed
 pub mod ListingRuns

@@ -3,7 +3,7 @@ use Rattle.std.proofs.Common.{◌≡◌, ℕ, zero, suc, ◌<◌, List, [], ◌+
 use Rattle.std.specs.Prelude.{nat_eq, codes}
 use Rattle.std.specs.List.{starts_with}
 use Rattle.rbbi_model.specs.Answers.{Question, First, Last, Next, Previous, Following, Preceding, IsBoundary, Current, Status, Statuses, Breaks}
-use Rattle.rbbi_script.specs.Grammar.{IsNumbered, Asks}
+use Rattle.rbbi_script.specs.Grammar.{IsNumbered, WritesQuestion}
 
 -- the number of the word with a space behind it that begins the line, or 0
 abbrev pub kind : List ℕ → ℕ
@@ -23,7 +23,7 @@ word_of (suc (suc zero)) = codes "preceding "
 word_of (suc (suc (suc k))) = codes "is "
 
 -- a line of this kind asks no question but one with its word and a number
-pub asks_none : (line : List ℕ) (k : ℕ) → 0 < k → kind line ≡ k → ((n : ℕ) → ¬ IsNumbered line (word_of k) n) → (question : Question) → ¬ Asks line question
+pub asks_none : (line : List ℕ) (k : ℕ) → 0 < k → kind line ≡ k → ((n : ℕ) → ¬ IsNumbered line (word_of k) n) → (question : Question) → ¬ WritesQuestion line question
 asks_none line k l e none First h = let z = ap kind h in omega arith
 asks_none line k l e none Last h = let z = ap kind h in omega arith
 asks_none line k l e none Next h = let z = ap kind h in omega arith
@@ -37,7 +37,7 @@ asks_none line k l e none Statuses h = let z = ap kind h in omega arith
 asks_none line k l e none Breaks h = let z = ap kind h in omega arith
 
 -- a line of an edit asks nothing
-pub asks_no_edit : (line : List ℕ) (k : ℕ) → 3 < k → kind line ≡ k → (question : Question) → ¬ Asks line question
+pub asks_no_edit : (line : List ℕ) (k : ℕ) → 3 < k → kind line ≡ k → (question : Question) → ¬ WritesQuestion line question
 asks_no_edit line k l e question = asks_none line k (omega arith) e (λ n h. absurd (none n h)) question
   where
     word_is : (j : ℕ) → 3 < j → word_of j ≡ codes "is "

@@ -11,8 +11,8 @@ use Rattle.rbbi_session.specs.Sessions.{Session, boundaries_of, answer_of, place
 use Rattle.rbbi_session.proofs.Places.{statuses_here}
 use Rattle.rbbi_session.proofs.Rises.{rises_before, from_a_place}
 use Rattle.rbbi_session.proofs.Stepping.{HasCome, StandsAt, HasGoneOn, same_boundaries, stands_at, gone_on}
-use Rattle.rbbi_script.specs.Saying.{AppendsFront}
-use Rattle.rbbi_script.proofs.Says.{front_first, front_later}
+use Rattle.rbbi_text.specs.Appending.{AppendsFront}
+use Rattle.rbbi_text.proofs.Appended.{front_first, front_later}
 
 -- the lines of the first boundaries were appended, and the session stands at the next one, if there is one
 pub record AreListed (old now : Session) (place : Option ℕ) (before after : List ℕ) : Type 0 where

@@ -1,50 +1,25 @@
 -- What listing all boundaries reads, and what it asks of the kept runs.
 use Rattle.std.proofs.Common.{◌≡◌, ℕ, suc, zero, ◌+◌, ◌-◌, ◌≤◌, cond, ltb, eqb, List, [], ◌∷◌, ◌++◌, Option, Some, length, sym, refl, ap, ◌∙◌}
-use Rattle.std.proofs.Common.{subst, append-nil, ⊎_elim, arith}
-use Rattle.std.specs.Prelude.{sum_by, filter}
-use Rattle.std.proofs.lemmas.Bool.{cases_Bool, cond-true, cond-false, lt-ltb, ne_eqb}
-use Rattle.std.proofs.lemmas.List.Sums.{sum_by-append}
-use Rattle.std.proofs.lemmas.List.Elements.{filter-append}
+use Rattle.std.proofs.Common.{subst, append-nil, arith}
+use Rattle.std.proofs.lemmas.Bool.{cond-true, cond-false, lt-ltb, ne_eqb}
 use Rattle.rbbi_model.specs.Boundaries.{Boundary}
 use Rattle.rbbi_model.specs.Lines.{boundary_lines}
 use Rattle.rbbi_model.specs.Tables.{Table}
 use Rattle.rbbi_model.specs.Cover.{IsPlaceOf}
 use Rattle.rbbi_model.specs.Answers.{First, Next, IsBoundary, Breaks, Place}
 use Rattle.rbbi_model.specs.Scripts.{Ask}
-use Rattle.rbbi_model.specs.Costs.{forward_cost, last_cost, is_boundary_cost, question_cost}
+use Rattle.rbbi_model.specs.Costs.{forward_cost, listing_cost, last_cost, is_boundary_cost, question_cost}
 use Rattle.rbbi_session.specs.Sessions.{Session, boundaries_of, Answers}
 use Rattle.rbbi_session.specs.Asking.{Asks}
 use Rattle.rbbi_session.proofs.Answering.{none_past, place_within}
-use Rattle.rbbi_script.specs.Reading.{RisesUpTo, IsPaid, AreAskedOf, sent_by_nexts}
-use Rattle.rbbi_script.specs.inner.Reading.{listing_cost}
+use Rattle.rbbi_text.specs.Steps.{RisesUpTo}
+use Rattle.rbbi_script.specs.Reading.{IsPaid, AreAskedOf, sent_by_nexts}
+use Rattle.rbbi_model.proofs.ListingCosts.{listing_parts, listing_one}
 use Rattle.rbbi_session.proofs.Stepping.{come_start}
 use Rattle.rbbi_script.proofs.Listed.{AreListed, IsFurther}
 use Rattle.rbbi_script.proofs.ListingRuns.{asked_of, nexts_more}
 
 module _ (table : Table) (x : List ℕ) where
-  -- the costs of boundaries one after another
-  pub listing_parts : (done rest : List Boundary) → listing_cost table x (done ++ rest) ≡ listing_cost table x done + listing_cost table x rest
-  listing_parts done rest =
-      ap (sum_by (λ (b : Boundary). forward_cost table x b.at)) (filter-append (λ (b : Boundary). ltb b.at (length x)) done rest)
-      ∙ sum_by-append (λ (b : Boundary). forward_cost table x b.at) (filter (λ (b : Boundary). ltb b.at (length x)) done)
-      (filter (λ (b : Boundary). ltb b.at (length x)) rest)
-
-  sum_of_one : (b : Boundary) → sum_by (λ (c : Boundary). forward_cost table x c.at) (b ∷ []) ≡ forward_cost table x b.at
-  sum_of_one b = omega arith
-
-  -- going on from a boundary costs as much as the question for the next one
-  pub listing_one : (b : Boundary) → listing_cost table x (b ∷ []) ≡ question_cost table x b.at Next
-  listing_one b =
-      ⊎_elim
-      (λ within.
-      ap (sum_by (λ (c : Boundary). forward_cost table x c.at)) (cond-true (ltb b.at (length x)) (b ∷ []) [] within)
-      ∙ sum_of_one b
-      ∙ sym (cond-true (ltb b.at (length x)) (forward_cost table x b.at) 0 within))
-      (λ past.
-      ap (sum_by (λ (c : Boundary). forward_cost table x c.at)) (cond-false (ltb b.at (length x)) (b ∷ []) [] past)
-      ∙ sym (cond-false (ltb b.at (length x)) (forward_cost table x b.at) 0 past))
-      (cases_Bool (ltb b.at (length x)))
-
   -- a place within the text that isn't 0 is asked about by going on from the place before it
   asked_again : (c : ℕ) → c ≤ length x → is_boundary_cost table x c ≡ cond (eqb c 0) 0 (forward_cost table x (c - 1))
   asked_again zero within = refl

@@ -6,7 +6,7 @@ use Rattle.std.proofs.lemmas.Str.{encode_same, encode_ascii}
 use Rattle.rbbi_model.specs.Answers.{Question, First, Last, Next, Previous, Following, Preceding, IsBoundary, Current, Status, Statuses, Breaks}
 use Rattle.rbbi_model.specs.Scripts.{Command, Ask, Replace, ShowText}
 use Rattle.rbbi_text.specs.Numbers.{decimal}
-use Rattle.rbbi_script.specs.Grammar.{most_number, WritesNumber, IsField, IsEscape, IsPlain, Spells, IsInsert, IsDelete, IsReplace, Writes}
+use Rattle.rbbi_script.specs.Grammar.{most_number, WritesNumber, IsField, IsEscapeOf, IsUnescaped, WritesCharacters, IsInsert, IsDelete, IsReplace, Writes}
 use Rattle.rbbi_script.specs.Grammar.{IsSkipped}
 use Rattle.rbbi_script.specs.inner.Readings.{IsOnlyEscape, named}
 use Rattle.rbbi_script.proofs.Cuts.{no_brace, no_space, only_field}
@@ -14,7 +14,7 @@ use Rattle.rbbi_script.proofs.Words.{letter, line_feed, carriage_return, tab, ba
 use Rattle.rbbi_script.proofs.LineKinds.{kind}
 
 -- an escape that begins a text is the only one that does
-only_escape : (text spelling rest : List ℕ) (c : ℕ) → IsEscape spelling c → text ≡ spelling ++ rest → IsOnlyEscape text c rest
+only_escape : (text spelling rest : List ℕ) (c : ℕ) → IsEscapeOf spelling c → text ≡ spelling ++ rest → IsOnlyEscape text c rest
 only_escape text s rest c (inl h) e =
     subst (λ d. IsOnlyEscape text d rest) (sym h.1) (letter 110 10 text rest (λ (same : 110 ≡ 117). omega arith) line_feed (at_letter 110 s rest text h.0 e))
 only_escape text s rest c (inr (inl h)) e =
@@ -28,13 +28,13 @@ only_escape text s rest c (inr (inr (inr (inr h)))) e =
     only_number text h.digits rest c (at_number s rest text c h e) (no_brace h.digits c h.number) h.number h.character
 
 -- a backslash begins no plain character
-no_plain : (text spelling after : List ℕ) (c : ℕ) (rest : List ℕ) → IsPlain text c rest → text ≡ 92 ∷ spelling ++ after → ⊥
+no_plain : (text spelling after : List ℕ) (c : ℕ) (rest : List ℕ) → IsUnescaped text c rest → text ≡ 92 ∷ spelling ++ after → ⊥
 no_plain text spelling after c rest plain e =
     let same = encode_same c 92 rest (spelling ++ after) (sym plain.spelled ∙ e ∙ ap (λ x. x ++ (spelling ++ after)) (sym (encode_ascii 92 (omega arith)))) in
     plain.no_backslash same.0
 
 -- the text of an edit writes one word at most
-pub same_word : (text one other : List ℕ) → Spells text one → Spells text other → one ≡ other
+pub same_word : (text one other : List ℕ) → WritesCharacters text one → WritesCharacters text other → one ≡ other
 same_word text [] [] is is' = refl
 same_word text [] (d ∷ other) is (rest', inl p', is') = absurd (empty_is_no_character d rest' (sym is ∙ p'.spelled))
 same_word text [] (d ∷ other) is (rest', inr p', is') = absurd (let e = sym is ∙ p'.spelled in cc)
@@ -42,13 +42,13 @@ same_word text (c ∷ one) [] (rest, inl p, is) is' = absurd (empty_is_no_charac
 same_word text (c ∷ one) [] (rest, inr p, is) is' = absurd (let e = sym is' ∙ p.spelled in cc)
 same_word text (c ∷ one) (d ∷ other) (rest, inl p, is) (rest', inl p', is') =
     let same = encode_same c d rest rest' (sym p.spelled ∙ p'.spelled) in
-    ap (λ x. x ∷ one) same.0 ∙ ap (λ w. d ∷ w) (same_word rest' one other (subst (λ t. Spells t one) same.1 is) is')
+    ap (λ x. x ∷ one) same.0 ∙ ap (λ w. d ∷ w) (same_word rest' one other (subst (λ t. WritesCharacters t one) same.1 is) is')
 same_word text (c ∷ one) (d ∷ other) (rest, inl p, is) (rest', inr p', is') = absurd (no_plain text p'.spelling rest' c rest p p'.spelled)
 same_word text (c ∷ one) (d ∷ other) (rest, inr p, is) (rest', inl p', is') = absurd (no_plain text p.spelling rest d rest' p' p.spelled)
 same_word text (c ∷ one) (d ∷ other) (rest, inr p, is) (rest', inr p', is') =
     let only = only_escape (p.spelling ++ rest) p.spelling rest c p.escape refl in
     let same = only.only p'.spelling d rest' p'.escape (ap (drop 1) (sym p.spelled ∙ p'.spelled)) in
-    ap (λ x. x ∷ one) (sym same.0) ∙ ap (λ w. d ∷ w) (same_word rest' one other (subst (λ t. Spells t one) (sym same.1) is) is')
+    ap (λ x. x ∷ one) (sym same.0) ∙ ap (λ w. d ∷ w) (same_word rest' one other (subst (λ t. WritesCharacters t one) (sym same.1) is) is')
 
 some_number : (m n : ℕ) → Some m ≡ Some n → m ≡ n
 some_number m n e = cc
@@ -67,7 +67,7 @@ same_insert : (line : List ℕ) (at at' removed removed' : ℕ) (inserted insert
     IsInsert line at' removed' inserted' → Replace at removed inserted ≡ Replace at' removed' inserted'
 same_insert line at at' removed removed' inserted inserted' is is' =
     let place = same_field is.fields is'.fields at at' is.text is'.text (ap (drop 7) (sym is.spelled ∙ is'.spelled)) is.place is'.place in
-    let word = same_word is'.text inserted inserted' (subst (λ t. Spells t inserted) place.1 is.spells) is'.spells in
+    let word = same_word is'.text inserted inserted' (subst (λ t. WritesCharacters t inserted) place.1 is.spells) is'.spells in
     ap (λ n. Replace n removed inserted) place.0 ∙ ap (λ n. Replace at' n inserted) (is.none_removed ∙ sym is'.none_removed)
     ∙ ap (λ w. Replace at' removed' w) word
 
@@ -84,7 +84,7 @@ same_replace : (line : List ℕ) (at at' removed removed' : ℕ) (inserted inser
 same_replace line at at' removed removed' inserted inserted' is is' =
     let place = same_field is.fields is'.fields at at' is.others is'.others (ap (drop 8) (sym is.spelled ∙ is'.spelled)) is.place is'.place in
     let count = same_field is.others is'.others removed removed' is.text is'.text place.1 is.count is'.count in
-    let word = same_word is'.text inserted inserted' (subst (λ t. Spells t inserted) count.1 is.spells) is'.spells in
+    let word = same_word is'.text inserted inserted' (subst (λ t. WritesCharacters t inserted) count.1 is.spells) is'.spells in
     ap (λ n. Replace n removed inserted) place.0 ∙ ap (λ n. Replace at' n inserted) count.0 ∙ ap (λ w. Replace at' removed' w) word
 
 -- edits of two kinds aren't written by one line

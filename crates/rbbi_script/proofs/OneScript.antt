@@ -1,18 +1,20 @@
--- Bytes are the script of one list of commands at most, or have one fault.
-use Rattle.std.proofs.Common.{◌≡◌, ◌≢◌, ℕ, List, [], ◌∷◌, refl, ap, sym, ◌∙◌, inl, inr}
-use Rattle.std.specs.Prelude.{Result, Ok, Err}
+-- A line of a script is one thing: skipped, or one command, or neither.
+use Rattle.std.proofs.Common.{◌≡◌, ℕ, ◌+◌, List, [], ◌∷◌, map, refl, ap, sym, subst, ◌∙◌, inl, inr}
+use Rattle.std.specs.Prelude.{Result, Ok, Err, IfOk}
+use Rattle.std.specs.List.{AllByRecursion}
 use Rattle.rbbi_model.specs.Answers as question
 use Rattle.rbbi_model.specs.Scripts as model
+use Rattle.rbbi_model.specs.Scripts.{InsertsText}
 use Rattle.rbbi_text.specs.Bytes.{file_lines}
-use Rattle.rbbi_text.proofs.LineValues.{same_values, same_bad_line, good_or_bad}
+use Rattle.rbbi_text.specs.LineValues.{AreValues}
+use Rattle.rbbi_text.specs.declared.error.LinesErr.{LinesErr}
+use Rattle.rbbi_text.specs.declared.line_values.Line.{Line}
+use Rattle.rbbi_text.specs.declared.line_values.Line.TheVariants as line
 use Rattle.rbbi_script.specs.declared.command.Command.{Command}
 use Rattle.rbbi_script.specs.declared.command.Command.TheVariants.{First, Last, Next, Previous, Current, Status, Statuses, Following, Preceding, Is, Replace}
 use Rattle.rbbi_script.specs.declared.command.Command.TheVariants.{Breaks, Text}
-use Rattle.rbbi_script.specs.declared.error.ScriptErr.{ScriptErr}
-use Rattle.rbbi_script.specs.declared.error.ScriptErr.TheVariants.{NotUtf8, BadLine, Memory}
 use Rattle.rbbi_script.specs.Meaning.{meaning}
-use Rattle.rbbi_script.specs.Grammar.{IsBad}
-use Rattle.rbbi_script.specs.Files.{LineWrites, ReadsScript}
+use Rattle.rbbi_script.specs.Files.{IsScriptLine, ReadsScript}
 use Rattle.rbbi_script.proofs.OneCommand.{same_command, skipped_or_written}
 
 -- the command of this meaning
@@ -49,33 +51,28 @@ meant_is Text = refl
 same_meaning : (one other : Command) → meaning one ≡ meaning other → one ≡ other
 same_meaning one other same = sym (meant_is one) ∙ ap meant same ∙ meant_is other
 
--- a line is skipped or writes one command
-same_line : (line : List ℕ) (number : ℕ) (these those : List Command) → LineWrites line these → LineWrites line those → these ≡ those
-same_line line number these those (inl (skipped, none)) (inl (skipped', none')) = none ∙ sym none'
-same_line line number these those (inl (skipped, none)) (inr (command, writes, is)) = absurd (skipped_or_written line (meaning command) skipped writes)
-same_line line number these those (inr (command, writes, is)) (inl (skipped, none)) = absurd (skipped_or_written line (meaning command) skipped writes)
-same_line line number these those (inr (command, writes, is)) (inr (command', writes', is')) =
-    is ∙ ap (λ c. c ∷ []) (same_meaning command command' (same_command line (meaning command) (meaning command') writes writes')) ∙ sym is'
+-- a line is one thing
+pub same_line : (text : List ℕ) (number : ℕ) (one other : Line Command) → IsScriptLine text number one → IsScriptLine text number other → one ≡ other
+same_line text number line.Skipped line.Skipped is is' = refl
+same_line text number line.Skipped (line.Writes command') is is' = absurd (skipped_or_written text (meaning command') is is'.0)
+same_line text number line.Skipped line.Bad is is' = absurd (is'.0 is)
+same_line text number (line.Writes command) line.Skipped is is' = absurd (skipped_or_written text (meaning command) is' is.0)
+same_line text number (line.Writes command) (line.Writes command') is is' =
+    ap line.Writes (same_meaning command command' (same_command text (meaning command) (meaning command') is.0 is'.0))
+same_line text number (line.Writes command) line.Bad is is' = absurd (is'.1 (meaning command) is.0)
+same_line text number line.Bad line.Skipped is is' = absurd (is.0 is')
+same_line text number line.Bad (line.Writes command') is is' = absurd (is.1 (meaning command') is'.0)
+same_line text number line.Bad line.Bad is is' = refl
 
--- a bad line is neither skipped nor a command
-bad_or_good : (line : List ℕ) (number : ℕ) (these : List Command) → IsBad line → LineWrites line these → ⊥
-bad_or_good line number these bad (inl (skipped, none)) = bad.not_skipped skipped
-bad_or_good line number these bad (inr (command, writes, is)) = bad.no_command (meaning command) writes
+-- what the commands of lines insert is characters
+all_insert : (lines : List (List ℕ)) (before : ℕ) (commands : List Command) → AreValues IsScriptLine lines before commands →
+    AllByRecursion InsertsText (map meaning commands)
+all_insert [] before commands none = subst (λ cs. AllByRecursion InsertsText (map meaning cs)) (sym none) tt
+all_insert (line ∷ lines) before commands (inl (skipped, rest)) = all_insert lines (before + 1) commands rest
+all_insert (line ∷ lines) before commands (inr (command, others, writes, rest, is)) =
+    subst (λ cs. AllByRecursion InsertsText (map meaning cs)) (sym is) (writes.1, all_insert lines (before + 1) others rest)
 
--- bytes have one answer, but for want of memory
-pub one_script_lem : (bytes : List ℕ) (one other : Result (List Command) ScriptErr) → ReadsScript bytes one → ReadsScript bytes other
-    → one ≢ Err Memory → other ≢ Err Memory → one ≡ other
-one_script_lem bytes (Ok cs) (Ok ds) is is' some some' = ap Ok (same_values _ same_line (file_lines bytes) 0 cs ds is.1 is'.1)
-one_script_lem bytes (Ok cs) (Err (NotUtf8 at')) is is' some some' = absurd (is'.not_utf8 is.0)
-one_script_lem bytes (Ok cs) (Err (BadLine n')) is is' some some' = absurd (good_or_bad _ IsBad bad_or_good (file_lines bytes) cs n' is.1 is'.1)
-one_script_lem bytes (Ok cs) (Err Memory) is is' some some' = absurd (some' refl)
-one_script_lem bytes (Err (NotUtf8 at)) (Ok ds) is is' some some' = absurd (is.not_utf8 is'.0)
-one_script_lem bytes (Err (NotUtf8 at)) (Err (NotUtf8 at')) is is' some some' = ap (λ (n : ℕ). Err (NotUtf8 n)) (is.at_is ∙ sym is'.at_is)
-one_script_lem bytes (Err (NotUtf8 at)) (Err (BadLine n')) is is' some some' = absurd (is.not_utf8 is'.0)
-one_script_lem bytes (Err (NotUtf8 at)) (Err Memory) is is' some some' = absurd (some' refl)
-one_script_lem bytes (Err (BadLine n)) (Ok ds) is is' some some' = absurd (good_or_bad _ IsBad bad_or_good (file_lines bytes) ds n is'.1 is.1)
-one_script_lem bytes (Err (BadLine n)) (Err (NotUtf8 at')) is is' some some' = absurd (is'.not_utf8 is.0)
-one_script_lem bytes (Err (BadLine n)) (Err (BadLine n')) is is' some some' =
-    ap (λ (k : ℕ). Err (BadLine k)) (same_bad_line _ IsBad bad_or_good (file_lines bytes) n n' is.1 is'.1)
-one_script_lem bytes (Err (BadLine n)) (Err Memory) is is' some some' = absurd (some' refl)
-one_script_lem bytes (Err Memory) other is is' some some' = absurd (some refl)
+pub read_inserts : (bytes : List ℕ) (answer : Result (List Command) LinesErr) → ReadsScript bytes answer →
+    IfOk answer (λ commands. AllByRecursion InsertsText (map meaning commands))
+read_inserts bytes (Ok commands) reads = all_insert (file_lines bytes) 0 commands reads.1
+read_inserts bytes (Err error) reads = tt

@@ -11,8 +11,8 @@ use Rattle.rbbi_model.specs.Searches.{table_boundaries}
 use Rattle.rbbi_model.specs.Scripts.{Command, State, Turn, edit, turn, replies_by}
 use Rattle.rbbi_model.specs.Lines.{reply_lines, all_reply_lines}
 use Rattle.rbbi_session.specs.Sessions.{Session}
-use Rattle.rbbi_script.specs.Saying.{AppendsFront, Appends}
-use Rattle.rbbi_script.specs.Performing.{turn_of, IsPerformed, IsBrokenOff, Performs, replies_of, state_after, ArePlayed}
+use Rattle.rbbi_text.specs.Appending.{AppendsFront, Appends}
+use Rattle.rbbi_script.specs.Performing.{turn_of, IsPerformed, IsBrokenOff, Performs, replies_of, state_played, ArePlayed}
 
 -- the reply was said, and the session is as after the command
 pub says_turn : {T E : Type 0} (old new : Session) (command : Command) (reply : Reply) (before after : List ℕ) (r : Result T E) →
@@ -40,33 +40,33 @@ same_turn table other state here command e e' = ap (λ t. turn_at t state comman
 
 -- the state after the commands and one more
 after_more : (table : Table) (state : State) (commands : List Command) (command : Command) →
-    state_after table state (commands ++ command ∷ []) ≡ (turn_at table (state_after table state commands) command).state
+    state_played table state (commands ++ command ∷ []) ≡ (turn_at table (state_played table state commands) command).state
 after_more table state [] command = refl
 after_more table state (first ∷ commands) command = after_more table (turn_at table state first).state commands command
 
 -- the replies to the commands and those behind them
 replies_parts : (table : Table) (state : State) (commands others : List Command) →
     replies_by edit (table_boundaries table) state (commands ++ others) ≡ replies_by edit (table_boundaries table) state commands ++ replies_by edit
-    (table_boundaries table) (state_after table state commands) others
+    (table_boundaries table) (state_played table state commands) others
 replies_parts table state [] others = refl
 replies_parts table state (command ∷ commands) others =
     ap (λ rs. (turn_at table state command).reply ∷ rs) (replies_parts table (turn_at table state command).state commands others)
 
 lines_parts : (table : Table) (state : State) (commands others : List Command) → lines_at table state (commands ++ others) ≡ lines_at table state commands ++
-    lines_at table (state_after table state commands) others
+    lines_at table (state_played table state commands) others
 lines_parts table state commands others =
     ap all_reply_lines (replies_parts table state commands others)
     ∙ flat_map-append reply_lines (replies_by edit (table_boundaries table) state commands)
-    (replies_by edit (table_boundaries table) (state_after table state commands) others)
+    (replies_by edit (table_boundaries table) (state_played table state commands) others)
 
 -- one more command was performed
 pub one_more_played : (old : Session) (commands : List Command) (before : List ℕ) (session : Session) (middle : List ℕ) (command : Command) (new : Session)
     (after : List ℕ) →
     ArePlayed old commands before session middle → IsPerformed session command middle new after → ArePlayed old (commands ++ command ∷ []) before new after
 one_more_played old commands before session middle command new after are is =
-    let here : State = state_after old.table old.state commands in
+    let here : State = state_played old.table old.state commands in
     let earlier : List ℕ = lines_at old.table old.state commands in
-    let same : turn_of session command ≡ turn_at old.table (state_after old.table old.state commands) command =
+    let same : turn_of session command ≡ turn_at old.table (state_played old.table old.state commands) command =
     same_turn session.table old.table session.state here command are.table_is are.state_is in
     record {
       appended =
@@ -86,10 +86,10 @@ pub broken_off : (old : Session) (commands : List Command) (before : List ℕ) (
     ArePlayed old commands before session middle → IsBrokenOff session command middle new after →
     AppendsFront before (all_reply_lines (replies_of old (commands ++ command ∷ others))) after
 broken_off old commands before session middle command others new after are is =
-    let here : State = state_after old.table old.state commands in
+    let here : State = state_played old.table old.state commands in
     let earlier : List ℕ = lines_at old.table old.state commands in
     let later : List ℕ = lines_at old.table (turn_at old.table here command).state others in
-    let same : turn_of session command ≡ turn_at old.table (state_after old.table old.state commands) command =
+    let same : turn_of session command ≡ turn_at old.table (state_played old.table old.state commands) command =
     same_turn session.table old.table session.state here command are.table_is are.state_is in
     let front : List ℕ = is.appended.front in
     let back : List ℕ = is.appended.back in

@@ -4,8 +4,9 @@ use Rattle.rbbi_model.specs.Tables.{Table}
 use Rattle.rbbi_model.specs.Scripts.{Command, State}
 use Rattle.rbbi_model.specs.Costs.{command_cost, charge_by, costs_by}
 use Rattle.rbbi_session.specs.Sessions.{Session}
-use Rattle.rbbi_script.specs.Performing.{state_after, IsPerformed, ArePlayed}
-use Rattle.rbbi_script.specs.Reading.{RisesUpTo, IsPaid, TurnsRuns, table_turn, commands_cost}
+use Rattle.rbbi_script.specs.Performing.{state_played, IsPerformed, ArePlayed}
+use Rattle.rbbi_text.specs.Steps.{RisesUpTo}
+use Rattle.rbbi_script.specs.Reading.{IsPaid, TurnsRuns, table_turn, commands_cost}
 use Rattle.rbbi_script.proofs.Performed.{one_more_played}
 use Rattle.rbbi_script.proofs.Recalled.{Recalls, recalls_performed, charged}
 
@@ -21,12 +22,12 @@ last_more before (first ∷ commands) command = last_more (Some first) commands 
 -- the charge for a command after others
 abbrev charge_after : Table → State → List Command → Command → ℕ
 charge_after table state commands command =
-    charge_by (table_turn table) (command_cost table) (state_after table state commands) (last_after None commands) command
+    charge_by (table_turn table) (command_cost table) (state_played table state commands) (last_after None commands) command
 
 -- the costs of commands and of those behind them
 costs_parts : (table : Table) (state : State) (before : Option Command) (commands others : List Command) →
     costs_by (table_turn table) (command_cost table) state before (commands ++ others) ≡ costs_by (table_turn table) (command_cost table) state before commands
-    + costs_by (table_turn table) (command_cost table) (state_after table state commands) (last_after before commands) others
+    + costs_by (table_turn table) (command_cost table) (state_played table state commands) (last_after before commands) others
 costs_parts table state before [] others = omega arith
 costs_parts table state before (command ∷ commands) others =
     omega (arith, costs_parts table (table_turn table state command).state (Some command) commands others)

@@ -10,10 +10,11 @@ use Rattle.rbbi_model.specs.Answers.{Question, Following, Preceding, IsBoundary,
 use Rattle.rbbi_model.specs.Scripts.{Command, Ask}
 use Rattle.rbbi_model.specs.Costs.{command_cost, is_same_question, repeats, is_unkept, charge_by}
 use Rattle.rbbi_session.specs.Sessions.{Session, boundaries_of}
-use Rattle.rbbi_session.specs.Questions.{Sent, Nothing, Past, Back, sent_by, IsShown, Leaves}
+use Rattle.rbbi_session.specs.Questions.{Sent, Nothing, Past, Back, sent_by, IsShown, LeavesRuns}
 use Rattle.rbbi_session.specs.Asking.{Asks}
 use Rattle.rbbi_script.specs.Performing.{turn_of}
-use Rattle.rbbi_script.specs.Reading.{RisesUpTo, IsPaid, AsksRuns, TurnsRuns, table_turn}
+use Rattle.rbbi_text.specs.Steps.{RisesUpTo}
+use Rattle.rbbi_script.specs.Reading.{IsPaid, AsksRuns, TurnsRuns, table_turn}
 
 -- A question that repeats the command is shown by some kept run, unless its answer is one that no run is kept for.
 abbrev pub Recalls : Session → Option Command → Type 0
@@ -51,7 +52,7 @@ back_is_preceding x c o (IsBoundary (suc p)) question same is = absurd (not_back
 back_is_preceding x c o earlier question same is = absurd (false≢true same)
 
 -- what was asked of the runs is shown by one afterwards, or it was the last boundary before a place, which is 0
-shown_now : (table : Table) (x : List ℕ) (sent : Sent) (former now : List Run) → Leaves table x sent former now →
+shown_now : (table : Table) (x : List ℕ) (sent : Sent) (former now : List Run) → LeavesRuns table x sent former now →
     IsShown x now sent ⊎ ((o : ℕ) × (sent ≡ Back o) × (last_before (table_boundaries table x) o ≡ Some 0))
 shown_now table x Nothing former now left = inl tt
 shown_now table x (Past i) former now left =

@@ -13,7 +13,7 @@ use Rattle.std.proofs.lemmas.Bool.Decides.{nat_tests}
 use Rattle.std.proofs.lemmas.List.Sums.{AllPass-from_list_all}
 use Rattle.rbbi_model.specs.Words.{IsSurrogate}
 use Rattle.rbbi_text.specs.Numbers.{hexadecimal}
-use Rattle.rbbi_script.specs.Grammar.{IsNumberEscape, IsEscape, Spells}
+use Rattle.rbbi_script.specs.Grammar.{IsNumberEscape, IsEscapeOf, WritesCharacters}
 use Rattle.rbbi_script.specs.inner.Readings.{HasNone, IsNoEscape, IsNoNumberEscape, IsOnlyEscape, IsOnlyWord}
 use Rattle.rbbi_script.proofs.Cuts.{same_cut, no_brace, hexadecimal_pass}
 
@@ -28,7 +28,7 @@ pub at_number : (s r text : List ℕ) (c : ℕ) (h : IsNumberEscape s c) → tex
 at_number s r text c h f = f ∙ ap (λ x. x ++ r) h.spelled ∙ brace_assoc h.digits r
 
 -- a text begins with one letter, and with `u` where it begins with a number's escape
-only_letter : (b c : ℕ) (rest : List ℕ) → b ≢ 117 → IsEscape (b ∷ []) c → ((d : ℕ) → IsEscape (b ∷ []) d → d ≡ c) → IsOnlyEscape (b ∷ rest) c rest
+only_letter : (b c : ℕ) (rest : List ℕ) → b ≢ 117 → IsEscapeOf (b ∷ []) c → ((d : ℕ) → IsEscapeOf (b ∷ []) d → d ≡ c) → IsOnlyEscape (b ∷ rest) c rest
 only_letter b c rest no_number is only = record {
   spelling = b ∷ [];
   is = is;
@@ -39,12 +39,12 @@ only_letter b c rest no_number is only = record {
     tail_of : (x y : ℕ) (xs ys : List ℕ) → x ∷ xs ≡ y ∷ ys → (x ≡ y) × (xs ≡ ys)
     tail_of x y xs ys e = (cc, cc)
 
-    letter : (x d : ℕ) (other others : List ℕ) → other ≡ x ∷ [] → IsEscape other d → b ∷ rest ≡ other ++ others → (d ≡ c) × (others ≡ rest)
+    letter : (x d : ℕ) (other others : List ℕ) → other ≡ x ∷ [] → IsEscapeOf other d → b ∷ rest ≡ other ++ others → (d ≡ c) × (others ≡ rest)
     letter x d other others spelled escape e =
         let parts = tail_of b x rest others (e ∙ ap (λ s. s ++ others) spelled) in
-        (only d (subst (λ s. IsEscape s d) (spelled ∙ ap (λ y. y ∷ []) (sym parts.0)) escape), sym parts.1)
+        (only d (subst (λ s. IsEscapeOf s d) (spelled ∙ ap (λ y. y ∷ []) (sym parts.0)) escape), sym parts.1)
 
-    each : (other : List ℕ) (d : ℕ) (others : List ℕ) → IsEscape other d → b ∷ rest ≡ other ++ others → (d ≡ c) × (others ≡ rest)
+    each : (other : List ℕ) (d : ℕ) (others : List ℕ) → IsEscapeOf other d → b ∷ rest ≡ other ++ others → (d ≡ c) × (others ≡ rest)
     each other d others (inl n) e = letter 110 d other others n.0 (inl n) e
     each other d others (inr (inl r)) e = letter 114 d other others r.0 (inr (inl r)) e
     each other d others (inr (inr (inl t))) e = letter 116 d other others t.0 (inr (inr (inl t))) e
@@ -60,7 +60,7 @@ letter_is : (b c : ℕ) → b ∷ [] ≡ c ∷ [] → b ≡ c
 letter_is b c e = cc
 
 -- what an escape of one letter stands for
-of_letter : (b d : ℕ) → IsEscape (b ∷ []) d → letter_of b ≡ Some d
+of_letter : (b d : ℕ) → IsEscapeOf (b ∷ []) d → letter_of b ≡ Some d
 of_letter b d (inl n) = ap letter_of (letter_is b 110 n.0) ∙ ap Some (sym n.1)
 of_letter b d (inr (inl r)) = ap letter_of (letter_is b 114 r.0) ∙ ap Some (sym r.1)
 of_letter b d (inr (inr (inl t))) = ap letter_of (letter_is b 116 t.0) ∙ ap Some (sym t.1)
@@ -72,21 +72,21 @@ some_same : (c d : ℕ) → Some c ≡ Some d → c ≡ d
 some_same c d e = cc
 
 -- a letter that begins the text is its only escape
-pub letter : (b c : ℕ) (text rest : List ℕ) → b ≢ 117 → IsEscape (b ∷ []) c → text ≡ b ∷ rest → IsOnlyEscape text c rest
+pub letter : (b c : ℕ) (text rest : List ℕ) → b ≢ 117 → IsEscapeOf (b ∷ []) c → text ≡ b ∷ rest → IsOnlyEscape text c rest
 letter b c text rest no_number is e =
     subst (λ t. IsOnlyEscape t c rest) (sym e)
     (only_letter b c rest no_number is (λ d h. some_same d c (sym (of_letter b d h) ∙ of_letter b c is)))
 
-pub line_feed : IsEscape (codes "n") 10
+pub line_feed : IsEscapeOf (codes "n") 10
 line_feed = inl (refl, refl)
 
-pub carriage_return : IsEscape (codes "r") 13
+pub carriage_return : IsEscapeOf (codes "r") 13
 carriage_return = inr (inl (refl, refl))
 
-pub tab : IsEscape (codes "t") 9
+pub tab : IsEscapeOf (codes "t") 9
 tab = inr (inr (inl (refl, refl)))
 
-pub backslash : IsEscape (codes "\\") 92
+pub backslash : IsEscapeOf (codes "\\") 92
 backslash = inr (inr (inr (inl (refl, refl))))
 
 -- where none of them begins the text, no escape does
@@ -112,7 +112,7 @@ only_number text before after c e none number character = record {
     head : (x : ℕ) (xs ys : List ℕ) → 117 ∷ xs ≡ x ∷ ys → 117 ≡ x
     head x xs ys h = cc
 
-    each : (other : List ℕ) (d : ℕ) (others : List ℕ) → IsEscape other d → text ≡ other ++ others → (d ≡ c) × (others ≡ after)
+    each : (other : List ℕ) (d : ℕ) (others : List ℕ) → IsEscapeOf other d → text ≡ other ++ others → (d ≡ c) × (others ≡ after)
     each other d others (inl h) f = absurd (let k = head 110 _ _ (sym e ∙ at_letter 110 other others text h.0 f) in omega arith)
     each other d others (inr (inl h)) f = absurd (let k = head 114 _ _ (sym e ∙ at_letter 114 other others text h.0 f) in omega arith)
     each other d others (inr (inr (inl h))) f = absurd (let k = head 116 _ _ (sym e ∙ at_letter 116 other others text h.0 f) in omega arith)
@@ -157,7 +157,7 @@ plain_characters (c ∷ cs) h = (
   plain_characters cs (none_right 92 (encode_utf8 c) (encode_utf8_all cs) h),
 )
 
-spells_plain : (cs rest word : List ℕ) → ArePlain cs → Spells rest word → Spells (encode_utf8_all cs ++ rest) (cs ++ word)
+spells_plain : (cs rest word : List ℕ) → ArePlain cs → WritesCharacters rest word → WritesCharacters (encode_utf8_all cs ++ rest) (cs ++ word)
 spells_plain [] rest word plain h = h
 spells_plain (c ∷ cs) rest word plain h = (
   encode_utf8_all cs ++ rest,
@@ -170,13 +170,13 @@ empty_is_no_character c rest e =
     let long = ap length e in let l = length-append (encode_utf8 c) rest in let k = length-encode c in let m = len_utf8_bounds c in omega arith
 
 -- what a text with plain characters in front writes
-plain_spells : (cs rest word : List ℕ) → ArePlain cs → Spells (encode_utf8_all cs ++ rest) word → (more : List ℕ) × (word ≡ cs ++ more) × Spells rest more
+plain_spells : (cs rest word : List ℕ) → ArePlain cs → WritesCharacters (encode_utf8_all cs ++ rest) word → (more : List ℕ) × (word ≡ cs ++ more) × WritesCharacters rest more
 plain_spells [] rest word plain h = (word, refl, h)
 plain_spells (c ∷ cs) rest [] plain h =
     absurd (empty_is_no_character c (encode_utf8_all cs ++ rest) (sym h ∙ append_assoc (encode_utf8 c) (encode_utf8_all cs) rest))
 plain_spells (c ∷ cs) rest (d ∷ word) plain (after, inl p, h) =
     let same = encode_same c d (encode_utf8_all cs ++ rest) after (sym (append_assoc (encode_utf8 c) (encode_utf8_all cs) rest) ∙ p.spelled) in
-    let more = plain_spells cs rest word plain.1 (subst (λ t. Spells t word) (sym same.1) h) in
+    let more = plain_spells cs rest word plain.1 (subst (λ t. WritesCharacters t word) (sym same.1) h) in
     (more.0, ap (λ x. x ∷ word) (sym same.0) ∙ ap (λ w. c ∷ w) more.1, more.2)
 plain_spells (c ∷ cs) rest (d ∷ word) plain (after, inr p, h) =
     let same = encode_same c 92 (encode_utf8_all cs ++ rest) (p.spelling ++ after)
@@ -184,19 +184,19 @@ plain_spells (c ∷ cs) rest (d ∷ word) plain (after, inr p, h) =
     absurd (plain.0 same.0)
 
 -- behind a backslash stands an escape
-escaped_spells : (after word : List ℕ) → Spells (92 ∷ after) word → (c : ℕ) (rest : List ℕ) → IsOnlyEscape after c rest → (more : List ℕ) ×
-    (word ≡ c ∷ more) × Spells rest more
+escaped_spells : (after word : List ℕ) → WritesCharacters (92 ∷ after) word → (c : ℕ) (rest : List ℕ) → IsOnlyEscape after c rest → (more : List ℕ) ×
+    (word ≡ c ∷ more) × WritesCharacters rest more
 escaped_spells after [] h c rest only = absurd (let e : 92 ∷ after ≡ [] = h in cc)
 escaped_spells after (d ∷ word) (others, inl p, h) c rest only =
     absurd (p.no_backslash (sym (encode_same 92 d after others (ap (λ x. x ++ after) (encode_ascii 92 (omega arith)) ∙ p.spelled)).0))
 escaped_spells after (d ∷ word) (others, inr p, h) c rest only =
     let same = only.only p.spelling d others p.escape (tail_is after (p.spelling ++ others) p.spelled) in
-    (word, ap (λ x. x ∷ word) same.0, subst (λ t. Spells t word) same.1 h)
+    (word, ap (λ x. x ∷ word) same.0, subst (λ t. WritesCharacters t word) same.1 h)
   where
     tail_is : (xs ys : List ℕ) → 92 ∷ xs ≡ 92 ∷ ys → xs ≡ ys
     tail_is xs ys e = cc
 
-no_escape_spells : (after word : List ℕ) → Spells (92 ∷ after) word → IsNoEscape after → ⊥
+no_escape_spells : (after word : List ℕ) → WritesCharacters (92 ∷ after) word → IsNoEscape after → ⊥
 no_escape_spells after [] h none = let e : 92 ∷ after ≡ [] = h in cc
 no_escape_spells after (d ∷ word) (others, inl p, h) none =
     p.no_backslash (sym (encode_same 92 d after others (ap (λ x. x ++ after) (encode_ascii 92 (omega arith)) ∙ p.spelled)).0)
@@ -205,8 +205,8 @@ no_escape_spells after (d ∷ word) (others, inr p, h) none =
 
 -- So much of the text writes these characters, and this is left.
 pub record IsWriting (text word rest : List ℕ) : Type 0 where
-  pub forth : (more : List ℕ) → Spells rest more → Spells text (word ++ more)
-  pub back : (whole : List ℕ) → Spells text whole → (more : List ℕ) × (whole ≡ word ++ more) × Spells rest more
+  pub forth : (more : List ℕ) → WritesCharacters rest more → WritesCharacters text (word ++ more)
+  pub back : (whole : List ℕ) → WritesCharacters text whole → (more : List ℕ) × (whole ≡ word ++ more) × WritesCharacters rest more
 
 pub IsWriting-start : (text : List ℕ) → IsWriting text [] text
 IsWriting-start text = record { forth = λ more h. h; back = λ whole h. (whole, refl, h) }
@@ -227,9 +227,9 @@ IsWriting-more text word rest plain after c left h e none utf8 escape =
     λ (more : List ℕ). sym (ap (λ w. w ++ more) refl ∙ append_assoc (word ++ chars plain) (c ∷ []) more ∙ append_assoc word (chars plain) (c ∷ more)) in
     record {
       forth = λ more spells.
-          subst (Spells text) (joined more)
+          subst (WritesCharacters text) (joined more)
           (h.forth (chars plain ++ c ∷ more)
-          (subst (λ t. Spells t (chars plain ++ c ∷ more)) (sym whole)
+          (subst (λ t. WritesCharacters t (chars plain ++ c ∷ more)) (sym whole)
           (spells_plain (chars plain) (92 ∷ after) (c ∷ more) parts.1 (
             left,
             inr (record { spelling = escape.spelling; escape = escape.is; spelled = ap (λ t. 92 ∷ t) escape.parts }),
@@ -237,19 +237,19 @@ IsWriting-more text word rest plain after c left h e none utf8 escape =
           ))));
       back = λ all spells.
           let first = h.back all spells in
-          let second = plain_spells (chars plain) (92 ∷ after) first.0 parts.1 (subst (λ t. Spells t first.0) whole first.2) in
+          let second = plain_spells (chars plain) (92 ∷ after) first.0 parts.1 (subst (λ t. WritesCharacters t first.0) whole first.2) in
           let third = escaped_spells after second.0 second.2 c left escape in
           (third.0, first.1 ∙ ap (λ w. word ++ w) (second.1 ∙ ap (λ w. chars plain ++ w) third.1) ∙ joined third.0, third.2);
     }
 
 -- a backslash that begins no escape
 pub IsWriting-bad : (text word rest plain after : List ℕ) → IsWriting text word rest → rest ≡ plain ++ 92 ∷ after → HasNone 92 plain → IsUtf8 plain →
-    IsNoEscape after → (whole : List ℕ) → ¬ Spells text whole
+    IsNoEscape after → (whole : List ℕ) → ¬ WritesCharacters text whole
 IsWriting-bad text word rest plain after h e none utf8 escape whole spells =
     let parts = utf8_parts plain utf8 none in
     let first = h.back whole spells in
     let second = plain_spells (chars plain) (92 ∷ after) first.0 parts.1
-    (subst (λ t. Spells t first.0) (e ∙ ap (λ p. p ++ 92 ∷ after) (sym parts.0)) first.2) in
+    (subst (λ t. WritesCharacters t first.0) (e ∙ ap (λ p. p ++ 92 ∷ after) (sym parts.0)) first.2) in
     no_escape_spells after second.0 second.2 escape
 
 -- nothing but plain characters is left
@@ -258,15 +258,15 @@ IsWriting-end text word rest h none utf8 =
     let parts = utf8_parts rest utf8 none in
     let whole : rest ≡ encode_utf8_all (chars rest) ++ [] = sym parts.0 ∙ sym (append-nil (encode_utf8_all (chars rest))) in record {
       spells = h.forth (chars rest)
-          (subst (λ t. Spells t (chars rest)) (sym whole)
-          (subst (Spells (encode_utf8_all (chars rest) ++ [])) (append-nil (chars rest)) (spells_plain (chars rest) [] [] parts.1 refl)));
+          (subst (λ t. WritesCharacters t (chars rest)) (sym whole)
+          (subst (WritesCharacters (encode_utf8_all (chars rest) ++ [])) (append-nil (chars rest)) (spells_plain (chars rest) [] [] parts.1 refl)));
       only = λ other spells.
           let first = h.back other spells in
-          let second = plain_spells (chars rest) [] first.0 parts.1 (subst (λ t. Spells t first.0) whole first.2) in
+          let second = plain_spells (chars rest) [] first.0 parts.1 (subst (λ t. WritesCharacters t first.0) whole first.2) in
           first.1 ∙ ap (λ w. word ++ w) (second.1 ∙ nothing second.0 second.2 ∙ append-nil (chars rest));
     }
   where
-    nothing : (more : List ℕ) → Spells [] more → chars rest ++ more ≡ chars rest ++ []
+    nothing : (more : List ℕ) → WritesCharacters [] more → chars rest ++ more ≡ chars rest ++ []
     nothing [] h = refl
     nothing (c ∷ more) (others, inl p, h) = absurd (empty_is_no_character c others p.spelled)
     nothing (c ∷ more) (others, inr p, h) = absurd (let e = p.spelled in cc)
@@ -324,7 +324,7 @@ ascii_digits (d ∷ digits) h = (
     and_true_right true b e = e
     and_true_right false b e = absurd (cc)
 
-ascii_escape : (spelling : List ℕ) (c : ℕ) → IsEscape spelling c → AreAscii spelling
+ascii_escape : (spelling : List ℕ) (c : ℕ) → IsEscapeOf spelling c → AreAscii spelling
 ascii_escape s c (inl h) = subst AreAscii (sym h.0) (lit< tt, tt)
 ascii_escape s c (inr (inl h)) = subst AreAscii (sym h.0) (lit< tt, tt)
 ascii_escape s c (inr (inr (inl h))) = subst AreAscii (sym h.0) (lit< tt, tt)

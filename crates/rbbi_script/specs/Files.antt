@@ -1,28 +1,22 @@
 -- The commands of a script, of its lines.
-use Rattle.std.specs.Prelude.{◌≡◌, ℕ, ◌⊎◌, List, [], ◌∷◌, Result, Ok, Err, IsUtf8}
-use Rattle.rbbi_text.specs.Bytes.{IsNotUtf8At, file_lines}
-use Rattle.rbbi_text.specs.LineValues.{AreValues, IsFirstBad}
+use Rattle.std.specs.Prelude.{ℕ, List, Result}
+use Rattle.rbbi_model.specs.Scripts as model
+use Rattle.rbbi_model.specs.Scripts.{InsertsText}
+use Rattle.rbbi_text.specs.LineValues.{ReadsLines}
+use Rattle.rbbi_text.specs.declared.line_values.Line.{Line}
+use Rattle.rbbi_text.specs.declared.line_values.Line.TheVariants as line
+use Rattle.rbbi_text.specs.declared.error.LinesErr.{LinesErr}
 use Rattle.rbbi_script.specs.declared.command.Command.{Command}
-use Rattle.rbbi_script.specs.declared.error.ScriptErr.{ScriptErr}
-use Rattle.rbbi_script.specs.declared.error.ScriptErr.TheVariants.{NotUtf8, BadLine, Memory}
 use Rattle.rbbi_script.specs.Meaning.{meaning}
-use Rattle.rbbi_script.specs.Grammar.{Writes, IsSkipped, IsBad}
+use Rattle.rbbi_script.specs.Grammar.{Writes, IsSkipped}
 
--- the line is skipped, or it writes the one command
-abbrev pub LineWrites : List ℕ → List Command → Type 0
-LineWrites line commands = IsSkipped line × (commands ≡ []) ⊎ ((command : Command) × Writes line (meaning command) × (commands ≡ command ∷ []))
+-- what a line is: skipped, or a command, which inserts characters if it inserts anything, or neither
+abbrev pub IsScriptLine : List ℕ → ℕ → Line Command → Type 0
+IsScriptLine text number line.Skipped = IsSkipped text
+IsScriptLine text number (line.Writes command) = Writes text (meaning command) × InsertsText (meaning command)
+IsScriptLine text number line.Bad = (¬ IsSkipped text) × ((command : model.Command) → ¬ Writes text command)
 
--- each line is skipped or writes a command, and these are the commands in order
-abbrev pub LinesWrite : List (List ℕ) → List Command → Type 0
-LinesWrite lines commands = AreValues (λ line number. LineWrites line) lines 0 commands
-
--- the line with this number, from 1, is the first that is neither skipped nor a command
-abbrev pub IsFirstBadLine : List (List ℕ) → ℕ → Type 0
-IsFirstBadLine lines number = IsFirstBad (λ line number. LineWrites line) IsBad lines number
-
--- what reading a script answers
-abbrev pub ReadsScript : List ℕ → Result (List Command) ScriptErr → Type 0
-ReadsScript bytes (Ok commands) = IsUtf8 bytes × LinesWrite (file_lines bytes) commands
-ReadsScript bytes (Err (NotUtf8 at)) = IsNotUtf8At bytes at
-ReadsScript bytes (Err (BadLine line)) = IsUtf8 bytes × IsFirstBadLine (file_lines bytes) line
-ReadsScript bytes (Err Memory) = Unit {0}
+-- What reading a script answers: the commands that its lines write, in order, where each line is skipped or writes one. Otherwise the
+-- first byte past the longest front that is UTF-8, or the first line that is neither.
+abbrev pub ReadsScript : List ℕ → Result (List Command) LinesErr → Type 0
+ReadsScript bytes answer = ReadsLines IsScriptLine bytes answer

@@ -27,26 +27,26 @@ pub record IsNumberEscape (spelling : List ℕ) (c : ℕ) : Type 0 where
   pub spelled : spelling ≡ codes "u{" ++ (digits ++ codes "}")
 
 -- what follows a backslash, and the character that both stand for: `n`, `r`, `t`, `\` or `u{H..}`
-abbrev pub IsEscape : List ℕ → ℕ → Type 0
-IsEscape spelling c =
+abbrev pub IsEscapeOf : List ℕ → ℕ → Type 0
+IsEscapeOf spelling c =
     (spelling ≡ codes "n") ×
     (c ≡ 10) ⊎ ((spelling ≡ codes "r") × (c ≡ 13) ⊎ ((spelling ≡ codes "t") × (c ≡ 9) ⊎ ((spelling ≡ codes "\\") × (c ≡ 92) ⊎ IsNumberEscape spelling c)))
 
 -- the text begins with the character itself, which is no backslash
-pub record IsPlain (text : List ℕ) (c : ℕ) (rest : List ℕ) : Type 0 where
+pub record IsUnescaped (text : List ℕ) (c : ℕ) (rest : List ℕ) : Type 0 where
   pub no_backslash : c ≢ 92
   pub spelled : text ≡ encode_utf8 c ++ rest
 
 -- the text begins with a backslash and an escape of the character
 pub record IsEscaped (text : List ℕ) (c : ℕ) (rest : List ℕ) : Type 0 where
   pub spelling : List ℕ
-  pub escape : IsEscape spelling c
+  pub escape : IsEscapeOf spelling c
   pub spelled : text ≡ 92 ∷ spelling ++ rest
 
 -- the text writes these characters, each as itself or as an escape
-abbrev pub Spells : List ℕ → List ℕ → Type 0
-Spells text [] = text ≡ []
-Spells text (c ∷ word) = (rest : List ℕ) × (IsPlain text c rest ⊎ IsEscaped text c rest) × Spells rest word
+abbrev pub WritesCharacters : List ℕ → List ℕ → Type 0
+WritesCharacters text [] = text ≡ []
+WritesCharacters text (c ∷ word) = (rest : List ℕ) × (IsUnescaped text c rest ⊎ IsEscaped text c rest) × WritesCharacters rest word
 
 -- `insert AT TEXT`
 pub record IsInsert (line : List ℕ) (at removed : ℕ) (inserted : List ℕ) : Type 0 where
@@ -55,7 +55,7 @@ pub record IsInsert (line : List ℕ) (at removed : ℕ) (inserted : List ℕ) :
   pub spelled : line ≡ codes "insert " ++ fields
   pub place : IsField fields at text
   pub none_removed : removed ≡ 0
-  pub spells : Spells text inserted
+  pub spells : WritesCharacters text inserted
 
 -- `delete AT REMOVE`
 pub record IsDelete (line : List ℕ) (at removed : ℕ) (inserted : List ℕ) : Type 0 where
@@ -74,7 +74,7 @@ pub record IsReplace (line : List ℕ) (at removed : ℕ) (inserted : List ℕ) 
   pub spelled : line ≡ codes "replace " ++ fields
   pub place : IsField fields at others
   pub count : IsField others removed text
-  pub spells : Spells text inserted
+  pub spells : WritesCharacters text inserted
 
 -- the line is the word and the number
 pub record IsNumbered (line word : List ℕ) (n : ℕ) : Type 0 where
@@ -83,22 +83,22 @@ pub record IsNumbered (line word : List ℕ) (n : ℕ) : Type 0 where
   pub spelled : line ≡ word ++ digits
 
 -- the line asks the question
-abbrev pub Asks : List ℕ → Question → Type 0
-Asks line First = line ≡ codes "first"
-Asks line Last = line ≡ codes "last"
-Asks line Next = line ≡ codes "next"
-Asks line Previous = line ≡ codes "previous"
-Asks line (Following place) = IsNumbered line (codes "following ") place
-Asks line (Preceding place) = IsNumbered line (codes "preceding ") place
-Asks line (IsBoundary place) = IsNumbered line (codes "is ") place
-Asks line Current = line ≡ codes "current"
-Asks line Status = line ≡ codes "status"
-Asks line Statuses = line ≡ codes "statuses"
-Asks line Breaks = line ≡ codes "breaks"
+abbrev pub WritesQuestion : List ℕ → Question → Type 0
+WritesQuestion line First = line ≡ codes "first"
+WritesQuestion line Last = line ≡ codes "last"
+WritesQuestion line Next = line ≡ codes "next"
+WritesQuestion line Previous = line ≡ codes "previous"
+WritesQuestion line (Following place) = IsNumbered line (codes "following ") place
+WritesQuestion line (Preceding place) = IsNumbered line (codes "preceding ") place
+WritesQuestion line (IsBoundary place) = IsNumbered line (codes "is ") place
+WritesQuestion line Current = line ≡ codes "current"
+WritesQuestion line Status = line ≡ codes "status"
+WritesQuestion line Statuses = line ≡ codes "statuses"
+WritesQuestion line Breaks = line ≡ codes "breaks"
 
 -- the line writes the command
 abbrev pub Writes : List ℕ → Command → Type 0
-Writes line (Ask question) = Asks line question
+Writes line (Ask question) = WritesQuestion line question
 Writes line (Replace at removed inserted) =
     IsInsert line at removed inserted ⊎ (IsDelete line at removed inserted ⊎ IsReplace line at removed inserted)
 Writes line ShowText = line ≡ codes "text"
@@ -107,8 +107,3 @@ Writes line ShowText = line ≡ codes "text"
 abbrev pub IsSkipped : List ℕ → Type 0
 IsSkipped [] = Unit {0}
 IsSkipped (byte ∷ line) = byte ≡ 35
-
--- the line is neither skipped nor a command
-pub record IsBad (line : List ℕ) : Type 0 where
-  pub not_skipped : ¬ IsSkipped line
-  pub no_command : (command : Command) → ¬ Writes line command

@@ -1,8 +1,6 @@
 pub mod Meaning
 pub mod Grammar
-pub mod Readings
 pub mod Files
-pub mod Refusals
 pub mod Saying
 pub mod Performing
 pub mod Reading

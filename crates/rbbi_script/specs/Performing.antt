@@ -3,11 +3,10 @@ use Rattle.std.specs.Prelude.{◌≡◌, ◌⊎◌, ℕ, List, [], ◌∷◌, �
 use Rattle.rbbi_model.specs.Tables.{Table}
 use Rattle.rbbi_model.specs.Searches.{table_boundaries}
 use Rattle.rbbi_model.specs.Answers.{Reply}
-use Rattle.rbbi_model.specs.Scripts.{Command, State, Turn, edit, turn, replies_by}
+use Rattle.rbbi_model.specs.Scripts.{Command, Ask, Replace, ShowText, State, Turn, edit, turn, replies_by}
 use Rattle.rbbi_model.specs.Lines.{reply_lines, all_reply_lines}
 use Rattle.rbbi_session.specs.Sessions.{Session, boundaries_of}
-use Rattle.rbbi_script.specs.Readings.{IsEdit}
-use Rattle.rbbi_script.specs.Saying.{AppendsFront}
+use Rattle.rbbi_text.specs.Appending.{AppendsFront}
 
 -- the reply to the command, and the text and the cursor after it
 abbrev pub turn_of : Session → Command → Turn
@@ -18,6 +17,12 @@ pub record IsPerformed (old : Session) (command : Command) (before : List ℕ) (
   pub appended : after ≡ before ++ reply_lines (turn_of old command).reply
   pub state_is : new.state ≡ (turn_of old command).state
   pub table_is : new.table ≡ old.table
+
+-- the command is an edit
+abbrev pub IsEdit : Command → Type 0
+IsEdit (Ask question) = ⊥
+IsEdit (Replace at removed inserted) = Unit {0}
+IsEdit ShowText = ⊥
 
 -- A front of the reply was appended. The session is as after the command or, where an edit was refused, as before it.
 pub record IsBrokenOff (old : Session) (command : Command) (before : List ℕ) (new : Session) (after : List ℕ) : Type 0 where
@@ -35,14 +40,14 @@ abbrev pub replies_of : Session → List Command → List Reply
 replies_of session commands = replies_by edit (table_boundaries session.table) session.state commands
 
 -- the text and the cursor after the commands, by a table
-abbrev pub state_after : Table → State → List Command → State
-state_after table state [] = state
-state_after table state (command ∷ commands) = state_after table (turn (table_boundaries table state.text) state command).state commands
+abbrev pub state_played : Table → State → List Command → State
+state_played table state [] = state
+state_played table state (command ∷ commands) = state_played table (turn (table_boundaries table state.text) state command).state commands
 
 -- all replies were appended, and the session is as after the commands
 pub record ArePlayed (old : Session) (commands : List Command) (before : List ℕ) (new : Session) (after : List ℕ) : Type 0 where
   pub appended : after ≡ before ++ all_reply_lines (replies_of old commands)
-  pub state_is : new.state ≡ state_after old.table old.state commands
+  pub state_is : new.state ≡ state_played old.table old.state commands
   pub table_is : new.table ≡ old.table
 
 -- what performing the commands in order answers and leaves: where memory ran out, a front of the replies was appended

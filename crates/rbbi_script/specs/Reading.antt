@@ -1,20 +1,16 @@
 -- What commands read, and what they leave of the kept runs.
-use Rattle.std.specs.Prelude.{◌≡◌, ◌⊎◌, ℕ, ◌+◌, ◌≤◌, List, [], ◌∷◌, ◌++◌, length, map, filter, sum_by, nat_lt, None, Result, Ok, Err}
+use Rattle.std.specs.Prelude.{◌≡◌, ◌⊎◌, ℕ, ◌≤◌, List, [], ◌∷◌, ◌++◌, length, map, None, Result, Ok, Err}
 use Rattle.rbbi_model.specs.Boundaries.{Boundary}
 use Rattle.rbbi_model.specs.Tables.{Table}
 use Rattle.rbbi_model.specs.Searches.{table_boundaries}
 use Rattle.rbbi_model.specs.Answers.{Question, Next, IsBoundary, Breaks}
 use Rattle.rbbi_model.specs.Scripts.{Command, Ask, Replace, ShowText, Edit, Refused, Accepted, State, Turn, edit, turn}
-use Rattle.rbbi_model.specs.Costs.{forward_cost, command_cost, costs_by}
+use Rattle.rbbi_model.specs.Costs.{command_cost, costs_by}
 use Rattle.rbbi_model.specs.Runs.{Run}
+use Rattle.rbbi_text.specs.Steps.{RisesUpTo}
 use Rattle.rbbi_session.specs.Sessions.{Session, boundaries_of}
-use Rattle.rbbi_session.specs.Questions.{Sent, sent_by, IsShown, Leaves}
-use Rattle.rbbi_session.specs.Asking.{Asks, IsRead}
-
--- steps never fall, and rise by at most so many
-pub record RisesUpTo (most before after : ℕ) : Type 0 where
-  pub more : before ≤ after
-  pub cost : after ≤ before + most
+use Rattle.rbbi_session.specs.Questions.{Sent, sent_by, IsShown, LeavesRuns}
+use Rattle.rbbi_session.specs.Asking.{Asks, IsReadForEdit}
 
 -- the command reads at most its cost, over the text and the cursor before it
 abbrev pub IsPaid : Session → Command → ℕ → ℕ → Type 0
@@ -24,7 +20,7 @@ IsPaid old command before after = RisesUpTo (command_cost old.table old.state co
 pub record IsAskedOf (table : Table) (x : List ℕ) (sent : Sent) (former now : List Run) (before after : ℕ) : Type 0 where
   pub more : before ≤ after
   pub again : IsShown x former sent → after ≡ before
-  pub runs : Leaves table x sent former now
+  pub runs : LeavesRuns table x sent former now
 
 -- these were asked of the kept runs one after another, each of the runs that the one before it left, and nothing else was read or asked
 abbrev pub AreAskedOf : Table → List ℕ → List Sent → List Run → List Run → ℕ → ℕ → Type 0
@@ -62,9 +58,9 @@ IsUnread old new before after = (new ≡ old) × (after ≡ before)
 -- An accepted edit leaves of the runs what it doesn't touch. Nothing is read for a refused one, nor for one that memory doesn't suffice for.
 abbrev pub EditsRuns : {T E : Type 0} → Edit → Session → ℕ → ℕ → List ℕ → Result T E → Session → ℕ → ℕ → Type 0
 EditsRuns (Refused reply) old at removed inserted r new before after = IsUnread old new before after
-EditsRuns (Accepted text length) old at removed inserted (Ok done) new before after = IsRead old at removed inserted new before after
+EditsRuns (Accepted text length) old at removed inserted (Ok done) new before after = IsReadForEdit old at removed inserted new before after
 EditsRuns (Accepted text length) old at removed inserted (Err error) new before after =
-    IsRead old at removed inserted new before after ⊎ IsUnread old new before after
+    IsReadForEdit old at removed inserted new before after ⊎ IsUnread old new before after
 
 -- what the command leaves of the runs, and where it reads nothing
 abbrev pub TurnsRuns : {T E : Type 0} → Session → Command → Result T E → Session → ℕ → ℕ → Type 0

@@ -1,6 +1,3 @@
 -- What only this crate's own code and proofs cite. Nothing that is promised rests on it.
 pub mod Readings
-pub mod Files
-pub mod LineReadings
-pub mod Saying
 pub mod Reading

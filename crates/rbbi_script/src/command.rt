@@ -1,10 +1,5 @@
 //! A command of a script, and the list of a script's commands.
-ghost use Rattle.std.specs.Prelude.{◌≡◌, ◌<◌, List, [], ◌∷◌, ◌++◌, length, slice_get, Some, OnOk};
-ghost use Rattle.std.specs.Prelude.{OnErr};
-
-use rbbi_text::Word;
-use std::alloc::{AllocError, Global};
-use std::marker::Model;
+use rbbi_text::{Values, Word};
 
 /// A command: a question, an edit, or a request for the text. Places and counts are of characters,
 /// places from 0.
@@ -39,51 +34,19 @@ pub enum Command {
 }
 
 /// The commands of a script, in order. Contracts see it as their list.
-#[derive(Debug, Drop)]
-pub struct Commands {
-    items: Vec<Command>,
-}
+pub type Commands = Values<Command>;
 
-impl Model for Commands {
-    ghost use Rattle.std.specs.Prelude.{List};
-    ghost use Rattle.rbbi_script.specs.declared.command.Command.{Command};
+impl Command {
+    ghost use Rattle.rbbi_model.specs.Scripts.{InsertsText};
+    ghost use Rattle.rbbi_script.specs.Meaning.{meaning};
 
-    ghost Value = { List Command };
-
-    ghost view = { λ commands. commands.items.items };
-}
-
-impl Commands {
-    /// No commands.
-    pub(crate) fn new(alloc: Global) -> Commands
-        ensures { result ≡ [] }
+    /// That what the command inserts is characters. It is there for proofs, and does nothing when it
+    /// runs.
+    pub(crate) fn inserts_text(&self)
+        ensures { InsertsText (meaning self.now) }
     {
-        Commands {
-            items: Vec::new(alloc),
+        if let Command::Replace { text, .. } = self {
+            let _characters = text.as_str();
         }
-    }
-
-    /// Adds a command at the end, unless memory runs out.
-    pub(crate) fn push(&mut self, command: Command) -> Result<(), AllocError>
-        ensures ok { OnOk result (self.new ≡ self.old ++ command ∷ []) }
-        ensures err { OnErr result (self.new ≡ self.old) }
-    {
-        self.items.push(command)?;
-        Ok(())
-    }
-
-    /// The number of commands.
-    pub fn len(&self) -> usize
-        ensures { result ≡ length self.now }
-    {
-        self.items.len()
-    }
-
-    /// The command with this number, from 0.
-    pub fn get(&self, i: usize) -> &Command
-        requires { i < length self.now }
-        ensures { slice_get self.now i ≡ Some result.now }
-    {
-        &self.items[i]
     }
 }

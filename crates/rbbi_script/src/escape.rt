@@ -1,7 +1,7 @@
 //! The text of an edit.
 ghost use Rattle.std.specs.Prelude.{IfOk, MatchOption};
 ghost use Rattle.rbbi_script.specs.inner.Readings.{IsNoEscape, IsNoNumberEscape, IsOnlyEscape};
-ghost use Rattle.rbbi_script.specs.inner.Readings.{IsWordOf};
+ghost use Rattle.rbbi_script.specs.inner.Readings.{AreCharactersOf};
 
 use crate::pieces::{after, cut_at};
 use rbbi_text::{Word, hexadecimal, push_character};
@@ -67,7 +67,7 @@ fn numbered(text: &str) -> Option<Escape<'_>>
 /// The characters that the text of an edit writes, each as itself or as an escape; none where a
 /// backslash begins no escape.
 pub(crate) fn word_of(alloc: Global, text: &str) -> Result<Option<Word>, AllocError>
-    ensures { IfOk result (IsWordOf text.now) }
+    ensures { IfOk result (AreCharactersOf text.now) }
 {
     let mut word = String::new(alloc);
     let mut rest = text;

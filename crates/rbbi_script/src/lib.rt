@@ -1,12 +1,11 @@
 //! Scripts of questions and edits, and the lines of their replies.
 //!
-//! [`read_script`] takes the bytes of a script as its commands, or tells the first bad line. `say`,
-//! `say_list` and `say_bound` append the lines of replies. [`perform`] has a session perform a
-//! command and appends its reply, and [`play`] all commands of a script.
+//! [`read_script`] takes the bytes of a script as its commands, or tells the first bad line. [`say`]
+//! appends a reply of one line. [`perform`] has a session perform a command and appends its reply,
+//! and [`play`] all commands of a script.
 #![tactic(auto)]
 
 mod command;
-mod error;
 mod escape;
 mod laws;
 mod line;
@@ -20,8 +19,7 @@ mod saying;
 mod tests;
 
 pub use command::{Command, Commands};
-pub use error::ScriptErr;
 pub use laws::one_script;
 pub use performing::{perform, play};
-pub use reader::read_script;
-pub use saying::{Said, say, say_bound, say_list};
+pub use reader::{ScriptErr, read_script};
+pub use saying::{Said, say};

@@ -2,18 +2,18 @@
 ghost use Rattle.std.specs.Prelude.{◌≡◌, length};
 ghost use Rattle.rbbi_model.specs.Answers.{Breaks, Characters};
 ghost use Rattle.rbbi_model.specs.Scripts.{Ask};
+ghost use Rattle.rbbi_model.specs.Costs.{listing_cost};
 ghost use Rattle.rbbi_model.specs.Lines.{escaped, reply_lines, boundary_lines};
 ghost use Rattle.rbbi_session.specs.Sessions.{boundaries_of, HasTrueRuns};
-ghost use Rattle.rbbi_script.specs.Saying.{Appends};
+ghost use Rattle.rbbi_text.specs.Appending.{Appends};
 ghost use Rattle.rbbi_script.specs.Performing.{Performs};
-ghost use Rattle.rbbi_script.specs.Reading.{RisesUpTo, IsPaid};
-ghost use Rattle.rbbi_script.specs.inner.Reading.{listing_cost};
+ghost use Rattle.rbbi_text.specs.Steps.{RisesUpTo};
+ghost use Rattle.rbbi_script.specs.Reading.{IsPaid};
 ghost use Rattle.rbbi_script.specs.inner.Reading.{AsksNexts};
 ghost use Rattle.rbbi_script.specs.Reading.{ListsRuns};
 
-use crate::saying::{put, say_bound};
 use rbbi_session::Session;
-use rbbi_text::{Chars, EditText, Steps};
+use rbbi_text::{Chars, EditText, Steps, append, append_boundary};
 use std::alloc::AllocError;
 use std::sync::ledger::Ledger;
 
@@ -51,7 +51,7 @@ fn say_each<T: EditText, L: Ledger>(
 {
     let mut place = Some(session.first());
     while let Some(at) = place {
-        say_bound(at, session.status_list(), reply)?;
+        append_boundary(at, session.status_list(), reply)?;
         place = session.next(steps);
     }
     Ok(())
@@ -71,7 +71,7 @@ pub(crate) fn say_text<T: Chars, L: Ledger>(
     for i in 0..text.len() {
         say_character(text.char_at(i, steps), reply)?;
     }
-    put(b"\n", reply)
+    append(b"\n", reply)
 }
 
 /// Appends a character in UTF-8, or the escape of it.
@@ -79,17 +79,17 @@ fn say_character(c: char, reply: &mut Vec<u8>) -> Result<(), AllocError>
     ensures { Appends reply.old.items (escaped c) result reply.new.items }
 {
     if c == '\n' {
-        return put(b"\\n", reply);
+        return append(b"\\n", reply);
     }
     if c == '\r' {
-        return put(b"\\r", reply);
+        return append(b"\\r", reply);
     }
     if c == '\t' {
-        return put(b"\\t", reply);
+        return append(b"\\t", reply);
     }
     if c == '\\' {
-        return put(b"\\\\", reply);
+        return append(b"\\\\", reply);
     }
     let mut bytes = [0; 4];
-    put(c.encode_utf8(&mut bytes).as_bytes(), reply)
+    append(c.encode_utf8(&mut bytes).as_bytes(), reply)
 }

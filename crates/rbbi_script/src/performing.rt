@@ -5,13 +5,14 @@ ghost use Rattle.rbbi_session.specs.Sessions.{place_reply, test_reply, HasTrueRu
 ghost use Rattle.rbbi_script.specs.Meaning.{meaning};
 ghost use Rattle.rbbi_script.specs.Saying.{reply_of};
 ghost use Rattle.rbbi_script.specs.Performing.{Performs, Plays};
-ghost use Rattle.rbbi_script.specs.Reading.{RisesUpTo, IsPaid, TurnsRuns, commands_cost};
+ghost use Rattle.rbbi_text.specs.Steps.{RisesUpTo};
+ghost use Rattle.rbbi_script.specs.Reading.{IsPaid, TurnsRuns, commands_cost};
 
 use crate::command::{Command, Commands};
 use crate::listing::{say_boundaries, say_text};
-use crate::saying::{Said, say, say_list};
+use crate::saying::{Said, say};
 use rbbi_session::Session;
-use rbbi_text::{Chars, EditErr, EditText, Steps, Word};
+use rbbi_text::{Chars, EditErr, EditText, Steps, Word, append_statuses};
 use std::alloc::AllocError;
 use std::sync::ledger::Ledger;
 
@@ -51,7 +52,7 @@ pub fn perform<T: EditText, L: Ledger>(
         Command::Previous => say(place_said(session.previous(steps)), reply),
         Command::Current => say(Said::Place(session.current()), reply),
         Command::Status => say(Said::Number(session.status()), reply),
-        Command::Statuses => say_list(session.status_list(), reply),
+        Command::Statuses => append_statuses(session.status_list(), reply),
         Command::Following(place) => say(place_said(session.following(*place, steps)), reply),
         Command::Preceding(place) => say(place_said(session.preceding(*place, steps)), reply),
         Command::Is(place) => say(test_said(session.is_boundary(*place, steps)), reply),

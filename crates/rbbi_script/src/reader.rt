@@ -1,21 +1,23 @@
 //! The commands of a script.
-ghost use Rattle.std.specs.Prelude.{◌≡◌, ◌≤◌, ◌++◌, length, IsTrue, ◌↔◌, Result, Ok, Err};
-ghost use Rattle.std.specs.Str.Lines.{lines};
+ghost use Rattle.std.specs.Prelude.{◌≤◌, length, map, IfOk, IsTrue, ◌↔◌};
+ghost use Rattle.std.specs.List.{AllByRecursion};
+ghost use Rattle.rbbi_model.specs.Scripts.{InsertsText};
 ghost use Rattle.rbbi_text.specs.Bytes.{most_bytes};
+ghost use Rattle.rbbi_script.specs.Meaning.{meaning};
 ghost use Rattle.rbbi_script.specs.Grammar.{IsSkipped};
 ghost use Rattle.rbbi_script.specs.Files.{ReadsScript};
-ghost use Rattle.rbbi_script.specs.inner.Files.{ReadsLines};
-ghost use Rattle.rbbi_script.specs.inner.LineReadings.{ReadsLine};
 
-use crate::command::Commands;
-use crate::error::ScriptErr;
+use crate::command::{Command, Commands};
 use crate::line::command_of;
-use rbbi_text::{utf8_text, without_mark};
-use std::alloc::Global;
+use rbbi_text::{Line, LineValue, LinesErr, read_lines};
+use std::alloc::{AllocError, Global};
+
+/// Why a script is refused: `BadLine` has the first line that is neither skipped nor a command.
+pub type ScriptErr = LinesErr;
 
 /// The commands of a script.
 ///
-/// The bytes are at most 100,663,296. One U+FEFF at their start isn't part of the script. A line
+/// What the commands insert is characters. The bytes are at most 100,663,296. One U+FEFF at their start isn't part of the script. A line
 /// ends at LF, and one CR before it isn't part of the line. An empty line and one that begins with
 /// `#` are skipped. Every other line is one of these, with exactly one space where one is shown:
 ///
@@ -31,45 +33,28 @@ use std::alloc::Global;
 /// line that is neither skipped nor of these forms, and `Memory`.
 pub fn read_script(alloc: Global, bytes: &[u8]) -> Result<Commands, ScriptErr>
     requires { length bytes.now ≤ most_bytes }
-    ensures { ReadsScript bytes.now result }
+    ensures script { ReadsScript bytes.now result }
+    ensures inserts { IfOk result (λ commands.
+        AllByRecursion InsertsText (map meaning commands)) }
 {
-    match utf8_text(bytes) {
-        Ok(text) => read_lines(alloc, without_mark(text)),
-        Err(at) => Err(ScriptErr::NotUtf8(at)),
-    }
+    read_lines(alloc, bytes)
 }
 
-/// The commands that the lines of a text write.
-fn read_lines(alloc: Global, text: &str) -> Result<Commands, ScriptErr>
-    requires { length text.now ≤ most_bytes }
-    ensures { ReadsLines (lines text.now) result }
-{
-    let mut commands = Commands::new(alloc);
-    let mut number = 0;
-    for line in text.lines() {
-        number += 1;
-        read_line(&mut commands, alloc, line, number)?;
-    }
-    Ok(commands)
-}
+impl LineValue for Command {
+    ghost use Rattle.rbbi_script.specs.Files.{IsScriptLine};
 
-/// Adds the command of a line, which has this number. A line that is skipped adds none.
-fn read_line(
-    commands: &mut Commands,
-    alloc: Global,
-    line: &str,
-    number: u32,
-) -> Result<(), ScriptErr>
-    ensures { ReadsLine line.now number commands.old result commands.new }
-{
-    if is_skipped(line) {
-        return Ok(());
+    ghost IsLine = { IsScriptLine };
+
+    fn from_line(alloc: Global, line: &str, _number: u32) -> Result<Line<Command>, AllocError> {
+        if is_skipped(line) {
+            return Ok(Line::Skipped);
+        }
+        let Some(command) = command_of(alloc, line)? else {
+            return Ok(Line::Bad);
+        };
+        command.inserts_text();
+        Ok(Line::Writes(command))
     }
-    let Some(command) = command_of(alloc, line)? else {
-        return Err(ScriptErr::BadLine(number));
-    };
-    commands.push(command)?;
-    Ok(())
 }
 
 /// Whether a line is empty or begins with `#`.

@@ -14,7 +14,7 @@ use Rattle.rbbi_model.specs.Answers.{statuses_at}
 use Rattle.rbbi_model.specs.Runs.{Entry, boundary_of}
 use Rattle.rbbi_model.proofs.Covering.{table_covers}
 use Rattle.rbbi_cache.specs.Kept.{IsBoundaryOf}
-use Rattle.rbbi_session.specs.Scans.{boundary_at, IsReached}
+use Rattle.rbbi_session.specs.Scans.{boundary_at, IsBoundaryWith}
 use Rattle.rbbi_session.proofs.Places.{statuses_here}
 use Rattle.rbbi_session.proofs.Rises.{rises_before}
 
@@ -23,7 +23,7 @@ first_list [] begins = absurd begins
 first_list (statuses ∷ lists) begins = begins
 
 -- the text's start
-pub reached_start : (table : Table) → IsValidTable table → (x : List ℕ) → IsReached table x 0 0
+pub reached_start : (table : Table) → IsValidTable table → (x : List ℕ) → IsBoundaryWith table x 0 0
 reached_start table valid x =
     let is : boundary_at table 0 0 ≡ start = ap (λ statuses. record { at = 0; statuses = statuses }) (first_list table.lists valid.lists.first) in
     record {
@@ -80,7 +80,7 @@ some_of [] b after each = each.0
 some_of (c ∷ before) b after each = some_of before b after each.1
 
 -- an entry that is a boundary has one of the status lists
-reached_entry : (table : Table) → IsValidTable table → (x : List ℕ) (entry : Entry) → IsBoundaryOf table x entry → IsReached table x entry.at entry.status
+reached_entry : (table : Table) → IsValidTable table → (x : List ℕ) (entry : Entry) → IsBoundaryOf table x entry → IsBoundaryWith table x entry.at entry.status
 reached_entry table valid x entry is =
     let some : 1 ≤ length (statuses_of table entry.status) =
     some_of is.before (boundary_of table entry) is.after (subst (λ bs. AllByRecursion (λ b. 1 ≤ length b.statuses) bs) is.whole (all_some table valid x)) in
@@ -94,14 +94,14 @@ reached_entry table valid x entry is =
     }
 
 pub reached_inside : (table : Table) → IsValidTable table → (x : List ℕ) {inside entry : Entry} → inside ≡ entry → IsBoundaryOf table x entry →
-    IsReached table x inside.at inside.status
-reached_inside table valid x {entry = entry} same is = subst (λ e. IsReached table x e.at e.status) (sym same) (reached_entry table valid x entry is)
+    IsBoundaryWith table x inside.at inside.status
+reached_inside table valid x {entry = entry} same is = subst (λ e. IsBoundaryWith table x e.at e.status) (sym same) (reached_entry table valid x entry is)
 
 place_behind : (done : List Boundary) (here : Boundary) (rest : List Boundary) → IsPlaceOf (done ++ here ∷ rest) here.at
 place_behind [] here rest = inl refl
 place_behind (b ∷ done) here rest = inr (place_behind done here rest)
 
-module _ (table : Table) (x : List ℕ) (at list : ℕ) (reached : IsReached table x at list) where
+module _ (table : Table) (x : List ℕ) (at list : ℕ) (reached : IsBoundaryWith table x at list) where
   before_it : AllByRecursion (λ b. b.at < at) reached.before
   before_it =
       rises_before reached.before (boundary_at table at list) reached.after (subst (λ bs. IsRising (places bs)) reached.whole (table_covers table x).rise)

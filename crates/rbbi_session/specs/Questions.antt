@@ -38,8 +38,8 @@ IsShown x runs (Past i) = (a : ℕ) × SomeRun (λ run. ShowsAfter run i a) runs
 IsShown x runs (Back o) = (a : ℕ) × SomeRun (λ run. ShowsBefore x run o a) runs
 
 -- what is left of the kept runs
-abbrev pub Leaves : Table → List ℕ → Sent → List Run → List Run → Type 0
-Leaves table x Nothing former now = now ≡ former
-Leaves table x (Past i) former now =
+abbrev pub LeavesRuns : Table → List ℕ → Sent → List Run → List Run → Type 0
+LeavesRuns table x Nothing former now = now ≡ former
+LeavesRuns table x (Past i) former now =
     (entry : Entry) × IsFirstAfter table x i entry × Keeps table x (λ run. IsShownAfter run i entry) former now
-Leaves table x (Back o) former now = (entry : Entry) × IsLastBefore table x o entry × KeepsBack table x o entry former now
+LeavesRuns table x (Back o) former now = (entry : Entry) × IsLastBefore table x o entry × KeepsBack table x o entry former now

@@ -54,14 +54,14 @@ abbrev pub test_reply : Bool → Reply
 test_reply is = if is then Yes else No
 
 -- the edit is accepted: the session has the new text, and its cursor is at 0
-pub record IsEdited (old : Session) (at removed : ℕ) (inserted : List ℕ) (new : Session) : Type 0 where
+pub record AcceptsEdit (old : Session) (at removed : ℕ) (inserted : List ℕ) (new : Session) : Type 0 where
   pub accepted : edit old.state.text at removed inserted ≡ Accepted new.state.text (length new.state.text)
   pub start : new.state.cursor ≡ 0
   pub table_is : new.table ≡ old.table
 
 -- what an edit answers and leaves; after a refusal all is as before
-abbrev pub Replaces : {T : Type 0} → Session → ℕ → ℕ → List ℕ → Result T EditErr → Session → Type 0
-Replaces old at removed inserted (Ok done) new = IsEdited old at removed inserted new
-Replaces old at removed inserted (Err refused.Outside) new = (edit old.state.text at removed inserted ≡ Refused Outside) × (new ≡ old)
-Replaces old at removed inserted (Err refused.TooLong) new = (edit old.state.text at removed inserted ≡ Refused TooLong) × (new ≡ old)
-Replaces old at removed inserted (Err refused.Memory) new = new ≡ old
+abbrev pub EditAnswers : {T : Type 0} → Session → ℕ → ℕ → List ℕ → Result T EditErr → Session → Type 0
+EditAnswers old at removed inserted (Ok done) new = AcceptsEdit old at removed inserted new
+EditAnswers old at removed inserted (Err refused.Outside) new = (edit old.state.text at removed inserted ≡ Refused Outside) × (new ≡ old)
+EditAnswers old at removed inserted (Err refused.TooLong) new = (edit old.state.text at removed inserted ≡ Refused TooLong) × (new ≡ old)
+EditAnswers old at removed inserted (Err refused.Memory) new = new ≡ old

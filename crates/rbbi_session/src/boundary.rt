@@ -1,6 +1,6 @@
 //! Boundaries as a session keeps them.
 ghost use Rattle.std.specs.Prelude.{◌≡◌, ℕ, List};
-ghost use Rattle.rbbi_session.specs.Scans.{IsReached};
+ghost use Rattle.rbbi_session.specs.Scans.{IsBoundaryWith};
 
 use rbbi_table::Table;
 
@@ -16,7 +16,7 @@ pub(crate) struct Boundary {
 /// The boundary before the first character, by this table.
 pub(crate) fn start(table: &Table) -> Boundary
     ensures at { result.at ≡ 0 }
-    ensures reached { (x : List ℕ) → IsReached table.now x result.at result.status }
+    ensures reached { (x : List ℕ) → IsBoundaryWith table.now x result.at result.status }
 {
     table.valid();
     Boundary { at: 0, status: 0 }

@@ -5,7 +5,7 @@ ghost use Rattle.rbbi_model.specs.Answers.{Place, Largest, AllOf, first_after, l
 ghost use Rattle.rbbi_model.specs.Answers as question;
 ghost use Rattle.rbbi_model.specs.Costs.{question_cost, forward_cost, preceding_cost};
 ghost use Rattle.rbbi_session.specs.Sessions.{boundaries_of, answer_of, IsOpened, MovesTo};
-ghost use Rattle.rbbi_session.specs.Sessions.{Answers, place_reply, test_reply, Replaces};
+ghost use Rattle.rbbi_session.specs.Sessions.{Answers, place_reply, test_reply, EditAnswers};
 ghost use Rattle.rbbi_session.specs.Sessions.{HasTrueRuns};
 ghost use Rattle.rbbi_session.specs.Questions.{Past, Back};
 ghost use Rattle.rbbi_session.specs.Asking.{IsAsked, Asks, EditReads};
@@ -39,7 +39,7 @@ impl<'a, T: EditText> Model for Session<'a, T> {
 
     ghost Value = { Session };
 
-    ghost use Rattle.rbbi_session.specs.Scans.{IsKept};
+    ghost use Rattle.rbbi_session.specs.Scans.{IsConsistent};
 
     ghost view = { λ session. record {
       table = session.table.now;
@@ -47,7 +47,7 @@ impl<'a, T: EditText> Model for Session<'a, T> {
       runs = session.cache.runs;
     } };
 
-    ghost invariant = { λ session. IsKept session.table.now (T.characters session.text)
+    ghost invariant = { λ session. IsConsistent session.table.now (T.characters session.text)
         session.here.at session.here.status session.cache.runs session.cache.slashes };
 }
 
@@ -216,7 +216,7 @@ impl<'a, T: EditText> Session<'a, T> {
         insert: &str,
         steps: &mut Steps<L>,
     ) -> Result<(), EditErr>
-        ensures edited { Replaces self.old at remove (chars insert.now) result self.new }
+        ensures edited { EditAnswers self.old at remove (chars insert.now) result self.new }
         ensures reads { EditReads self.old at remove (chars insert.now) result self.new
             steps.old steps.new }
         ensures are_true { HasTrueRuns self.new }

@@ -12,7 +12,7 @@ use Rattle.rbbi_model.specs.Spelling.{joined}
 use Rattle.rbbi_model.specs.Scripts.{splice}
 use Rattle.rbbi_model.proofs.Lists.{all_append}
 use Rattle.rbbi_text.specs.Cuts.{starts_from, IsFilled, AreFilled, ArePieces, AreCut}
-use Rattle.rbbi_text.specs.inner.Cuts.{AreSoFar, HaveRoom, IsIn, moved, pieces_with, starts_with_new}
+use Rattle.rbbi_text.specs.inner.Cuts.{AreSoFar, HaveRoom, IsIn, shifted, pieces_with, starts_with_new}
 use Rattle.rbbi_text.specs.inner.Cuts.{edited_piece, AreWholeCut, IsFound, IsMiddle}
 use Rattle.rbbi_text.proofs.Splices.{length-splice, text-splice}
 
@@ -78,12 +78,12 @@ drop-starts (suc k) n [] = refl
 drop-starts (suc k) n (p ∷ ps) =
     drop-starts k (n + length p) ps ∙ ap (λ (m : ℕ). starts_from m (drop k ps)) (omega (arith, length-append p (joined (take k ps))))
 
--- starts that lie behind what was removed are moved as one
-pub moved-starts : (n removed added : ℕ) (ps : List (List ℕ)) → removed ≤ n → moved removed added (starts_from n ps) ≡ starts_from (n - removed + added) ps
-moved-starts n removed added [] behind = refl
-moved-starts n removed added (p ∷ ps) behind =
+-- starts that lie behind what was removed are shifted as one
+pub shifted-starts : (n removed added : ℕ) (ps : List (List ℕ)) → removed ≤ n → shifted removed added (starts_from n ps) ≡ starts_from (n - removed + added) ps
+shifted-starts n removed added [] behind = refl
+shifted-starts n removed added (p ∷ ps) behind =
     ap (λ (l : List ℕ). (n - removed + added) ∷ l)
-    (moved-starts (n + length p) removed added ps (omega (arith, behind)) ∙ ap (λ (m : ℕ). starts_from m ps) (omega (arith, behind)))
+    (shifted-starts (n + length p) removed added ps (omega (arith, behind)) ∙ ap (λ (m : ℕ). starts_from m ps) (omega (arith, behind)))
 
 -- starts don't fall
 pub starts_go_on : (n : ℕ) (ps : List (List ℕ)) (j k : ℕ) → j ≤ k → k < length ps → get_or (starts_from n ps) j 0 ≤ get_or (starts_from n ps) k 0
@@ -256,10 +256,10 @@ edited_starts ps new w at remove first past edit =
     let next : end - remove + length w ≡ start + length (joined new) =
     omega (arith, long, begin, length_parted ps past, edit.behind) in
     let front : take first (starts_from 0 ps) ≡ starts_from 0 (take first ps) = take-starts first 0 ps in
-    let back : moved remove (length w) (drop past (starts_from 0 ps)) ≡ starts_from (start + length (joined new)) (drop past ps) =
-    ap (λ (l : List ℕ). moved remove (length w) l) (drop-starts past 0 ps) ∙ moved-starts end remove (length w) (drop past ps) (omega (arith, edit.behind))
+    let back : shifted remove (length w) (drop past (starts_from 0 ps)) ≡ starts_from (start + length (joined new)) (drop past ps) =
+    ap (λ (l : List ℕ). shifted remove (length w) l) (drop-starts past 0 ps) ∙ shifted-starts end remove (length w) (drop past ps) (omega (arith, edit.behind))
     ∙ ap (λ (n : ℕ). starts_from n (drop past ps)) next in
-    ap (λ (l : List ℕ). l ++ (starts_from start new ++ moved remove (length w) (drop past (starts_from 0 ps)))) front
+    ap (λ (l : List ℕ). l ++ (starts_from start new ++ shifted remove (length w) (drop past (starts_from 0 ps)))) front
     ∙ ap (λ (l : List ℕ). starts_from 0 (take first ps) ++ (starts_from start new ++ l)) back
     ∙ ap (λ (l : List ℕ). starts_from 0 (take first ps) ++ l) (sym (starts-append start new (drop past ps)))
     ∙ ap (λ (n : ℕ). starts_from 0 (take first ps) ++ starts_from n (new ++ drop past ps)) begin
@@ -303,6 +303,9 @@ all_filled_push ps p all filled = all_append IsFilled ps (p ∷ []) all (filled,
 
 pub filled_push : (ps : List (List ℕ)) (p : List ℕ) → AllByRecursion IsFilled ps → length p ≤ 1024 → AreFilled (ps ++ p ∷ [])
 filled_push ps p all small = filled-append ps (p ∷ []) all small
+
+-- what a piece that is put behind others makes of them
+pub ruleset pushed = (cut_more, joined_push, all_filled_push, filled_push)
 
 -- the piece that is full becomes one of the pieces
 pub room_behind : (ps : List (List ℕ)) (last : List ℕ) → AreSoFar ps last → length last ≡ 1024 → length ps < 16383 →
@@ -365,11 +368,11 @@ one_piece ps first q short =
     set_split ps first q short ∙ ap (λ (n : ℕ). take first ps ++ (q ∷ drop n ps)) next
 
 -- and its start, which stays
-pub one_start : (starts : List ℕ) (first removed added : ℕ) (q : List ℕ) → first < length starts → take (first + 1) starts ++ moved removed added
+pub one_start : (starts : List ℕ) (first removed added : ℕ) (q : List ℕ) → first < length starts → take (first + 1) starts ++ shifted removed added
     (drop (first + 1) starts) ≡ starts_with_new starts first (first + 1) (q ∷ []) removed added
 one_start starts first removed added q short =
-    ap (λ (l : List ℕ). l ++ moved removed added (drop (first + 1) starts)) (take_more starts first 0 short)
-    ∙ append_assoc (take first starts) (get_or starts first 0 ∷ []) (moved removed added (drop (first + 1) starts))
+    ap (λ (l : List ℕ). l ++ shifted removed added (drop (first + 1) starts)) (take_more starts first 0 short)
+    ∙ append_assoc (take first starts) (get_or starts first 0 ∷ []) (shifted removed added (drop (first + 1) starts))
 
 -- an edit that stays in a piece is one
 pub piece_edit : (ps : List (List ℕ)) (w : List ℕ) (at remove first from : ℕ) → first < length ps → get_or (starts_from 0 ps) first 0 + from ≡ at →
@@ -567,7 +570,7 @@ pub edit_one : (ps ps' : List (List ℕ)) (starts starts' w : List ℕ) (at remo
     length (joined ps) - remove + length w ≤ most_characters → first < length ps → get_or starts first 0 + from ≡ at →
     from + remove ≤ length (get_or ps first []) → length (get_or ps first []) - remove + length w ≤ 1024 →
     (first + 1 < length ps → 256 ≤ length (get_or ps first []) - remove + length w) → ps' ≡ set ps first (edited_piece ps first from remove w) →
-    starts' ≡ take (first + 1) starts ++ moved remove (length w) (drop (first + 1) starts) → AreWholeCut ps' starts' ×
+    starts' ≡ take (first + 1) starts ++ shifted remove (length w) (drop (first + 1) starts) → AreWholeCut ps' starts' ×
     (joined ps' ≡ splice (joined ps) at remove w)
 edit_one ps ps' starts starts' w at remove first from cut word few short place within full quarter are are' =
     let q : List ℕ = edited_piece ps first from remove w in
@@ -610,15 +613,15 @@ small_joined a starts past added small k from short =
     let within : place < length starts = omega (arith, from, short, length-append a (drop past starts), length-drop past starts) in
     omega (arith, small place (omega arith) within, get_or-append_right a (drop past starts) (length a) k 0 refl from, get_or-drop past starts (k - length a) 0)
 
-pub shift_joined : (a b : List ℕ) (n removed added : ℕ) → length a ≡ n → take n (a ++ b) ++ moved removed added (drop n (a ++ b)) ≡ a ++ moved removed added b
+pub shift_joined : (a b : List ℕ) (n removed added : ℕ) → length a ≡ n → take n (a ++ b) ++ shifted removed added (drop n (a ++ b)) ≡ a ++ shifted removed added b
 shift_joined a b n removed added long =
-    ap (λ (l : List ℕ). l ++ moved removed added (drop n (a ++ b))) (take_at a b n long)
-    ∙ ap (λ (l : List ℕ). a ++ moved removed added l) (drop_at a b n long)
+    ap (λ (l : List ℕ). l ++ shifted removed added (drop n (a ++ b))) (take_at a b n long)
+    ∙ ap (λ (l : List ℕ). a ++ shifted removed added l) (drop_at a b n long)
 
--- a list whose items are moved from a number on
+-- a list whose items are shifted from a number on
 pub shifted_is : (old new : List ℕ) (from removed added : ℕ) → length new ≡ length old → from ≤ length old
     → ((i : ℕ) → i < from → get_or new i 0 ≡ get_or old i 0) → ((i : ℕ) → from ≤ i → i < length old → get_or new i 0 ≡ get_or old i 0 - removed + added)
-    → new ≡ take from old ++ moved removed added (drop from old)
+    → new ≡ take from old ++ shifted removed added (drop from old)
 shifted_is old new from removed added long within before behind =
     let f : ℕ → ℕ = λ n. n - removed + added in
     let front : List ℕ = take from old in
@@ -697,9 +700,9 @@ middle_read {ps} {starts} {first} {at} {start} ps' starts' front w end character
 
 -- starts with new ones, part by part
 pub starts_made : (starts first_starts both all made new_starts : List ℕ) (first past behind removed added : ℕ) → first_starts ≡ take first starts →
-    both ≡ first_starts ++ new_starts → all ≡ both ++ drop past starts → length both ≡ behind → made ≡ take behind all ++ moved removed added
-    (drop behind all) → made ≡ take first starts ++ (new_starts ++ moved removed added (drop past starts))
+    both ≡ first_starts ++ new_starts → all ≡ both ++ drop past starts → length both ≡ behind → made ≡ take behind all ++ shifted removed added
+    (drop behind all) → made ≡ take first starts ++ (new_starts ++ shifted removed added (drop past starts))
 starts_made starts first_starts both all made new_starts first past behind removed added is_first is_both is_all long is_made =
-    let tail : List ℕ = moved removed added (drop past starts) in
-    is_made ∙ ap (λ (l : List ℕ). take behind l ++ moved removed added (drop behind l)) is_all ∙ shift_joined both (drop past starts) behind removed added long
+    let tail : List ℕ = shifted removed added (drop past starts) in
+    is_made ∙ ap (λ (l : List ℕ). take behind l ++ shifted removed added (drop behind l)) is_all ∙ shift_joined both (drop past starts) behind removed added long
     ∙ ap (λ (l : List ℕ). l ++ tail) (is_both ∙ ap (λ (l : List ℕ). l ++ new_starts) is_first) ∙ append_assoc (take first starts) new_starts tail

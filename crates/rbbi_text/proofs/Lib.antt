@@ -4,3 +4,4 @@ pub mod CutLemmas
 pub mod Lines
 pub mod LineValues
 pub mod Pushed
+pub mod Appended

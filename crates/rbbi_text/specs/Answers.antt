@@ -1,5 +1,5 @@
 -- What the calls that make or change a text answer, by cases on the answer.
-use Rattle.std.specs.Prelude.{◌≡◌, ◌<◌, ◌≤◌, ◌+◌, ◌-◌, ℕ, List, length, Result, Ok, Err, IsUtf8, chars}
+use Rattle.std.specs.Prelude.{◌≡◌, ◌<◌, ◌≤◌, ◌+◌, ℕ, List, length, Result, Ok, Err, IsUtf8, chars}
 use Rattle.rbbi_model.specs.Words.{most_characters}
 use Rattle.rbbi_model.specs.Scripts.{splice}
 use Rattle.rbbi_text.specs.Bytes.{IsNotUtf8At}

@@ -1,6 +1,5 @@
 -- A text cut into pieces, and where each piece starts.
-use Rattle.std.specs.Prelude.{◌≡◌, ℕ, ◌+◌, ◌-◌, ◌*◌, ◌≤◌, ◌<◌, List, [], ◌∷◌, ◌++◌, map, length, take, drop, slice_index, slice_index_or}
-use Rattle.std.specs.List.{AllByRecursion, splice}
+use Rattle.std.specs.Prelude.{◌≡◌, ℕ, ◌+◌, ◌≤◌, List, [], ◌∷◌, length}
 use Rattle.rbbi_model.specs.Spelling.{joined}
 use Rattle.rbbi_text.specs.Texts.{IsShortText}
 

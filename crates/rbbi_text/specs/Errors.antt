@@ -6,6 +6,8 @@ use Rattle.rbbi_text.specs.declared.error.RawErr.{RawErr}
 use Rattle.rbbi_text.specs.declared.error.RawErr.TheVariants as raw
 use Rattle.rbbi_text.specs.declared.error.EditErr.{EditErr}
 use Rattle.rbbi_text.specs.declared.error.EditErr.TheVariants as edit
+use Rattle.rbbi_text.specs.declared.error.LinesErr.{LinesErr}
+use Rattle.rbbi_text.specs.declared.error.LinesErr.TheVariants as file
 
 -- the name of the variant
 abbrev pub text_err_label : TextErr → List ℕ
@@ -29,3 +31,15 @@ abbrev pub edit_err_label : EditErr → List ℕ
 edit_err_label edit.Outside = codes "Outside"
 edit_err_label edit.TooLong = codes "TooLong"
 edit_err_label edit.Memory = codes "Memory"
+
+-- the name of the variant
+abbrev pub lines_err_label : LinesErr → List ℕ
+lines_err_label (file.NotUtf8 at) = codes "NotUtf8"
+lines_err_label (file.BadLine line) = codes "BadLine"
+lines_err_label file.Memory = codes "Memory"
+
+-- the byte or the line that the variant carries
+abbrev pub lines_err_place : LinesErr → Option ℕ
+lines_err_place (file.NotUtf8 at) = Some at
+lines_err_place (file.BadLine line) = Some line
+lines_err_place file.Memory = None

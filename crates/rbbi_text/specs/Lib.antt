@@ -5,5 +5,7 @@ pub mod LineParts
 pub mod LineValues
 pub mod Answers
 pub mod Errors
+pub mod Steps
+pub mod Appending
 pub mod Cuts
 pub mod inner

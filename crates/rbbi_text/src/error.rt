@@ -1,10 +1,11 @@
 //! The refusals of the calls that make or change a text.
 ghost use Rattle.std.specs.Prelude.{◌≡◌, None};
 ghost use Rattle.rbbi_text.specs.Errors.{text_err_label, raw_err_label, raw_err_place};
-ghost use Rattle.rbbi_text.specs.Errors.{edit_err_label};
+ghost use Rattle.rbbi_text.specs.Errors.{edit_err_label, lines_err_label, lines_err_place};
 ghost use Rattle.rbbi_text.specs.declared.error.TextErr.TheVariants as text;
 ghost use Rattle.rbbi_text.specs.declared.error.RawErr.TheVariants as raw;
 ghost use Rattle.rbbi_text.specs.declared.error.EditErr.TheVariants as edit;
+ghost use Rattle.rbbi_text.specs.declared.error.LinesErr.TheVariants as file;
 
 use std::alloc::AllocError;
 use thiserror::Error;
@@ -49,6 +50,21 @@ pub enum EditErr {
     Memory,
 }
 
+/// Why a file of lines is not taken.
+#[derive(Debug, Drop, Error)]
+pub enum LinesErr {
+    /// The bytes are not UTF-8. The number is that of the first byte past the longest valid front,
+    /// from 0.
+    #[error("the bytes from {0} on are not UTF-8")]
+    NotUtf8(u32),
+    /// This line, counted from 1, is the first that is neither skipped nor of a stated form.
+    #[error("line {0} is of no stated form")]
+    BadLine(u32),
+    /// There is not enough memory.
+    #[error("out of memory")]
+    Memory,
+}
+
 impl From<AllocError> for TextErr {
     ghost from_gives = { λ _ e. e ≡ text.Memory };
 
@@ -70,6 +86,14 @@ impl From<AllocError> for EditErr {
 
     fn from(_error: AllocError) -> EditErr {
         EditErr::Memory
+    }
+}
+
+impl From<AllocError> for LinesErr {
+    ghost from_gives = { λ _ e. e ≡ file.Memory };
+
+    fn from(_error: AllocError) -> LinesErr {
+        LinesErr::Memory
     }
 }
 
@@ -133,5 +157,29 @@ impl EditErr {
         ensures { result ≡ None }
     {
         None
+    }
+}
+
+impl LinesErr {
+    /// The name of the variant.
+    pub fn label(&self) -> &str
+        ensures { result.now ≡ lines_err_label self.now }
+    {
+        match self {
+            LinesErr::NotUtf8(_) => "NotUtf8",
+            LinesErr::BadLine(_) => "BadLine",
+            LinesErr::Memory => "Memory",
+        }
+    }
+
+    /// The byte (from 0) or the line (from 1) that the refusal carries.
+    pub fn place(&self) -> Option<u32>
+        ensures { result ≡ lines_err_place self.now }
+    {
+        match self {
+            LinesErr::NotUtf8(at) => Some(*at),
+            LinesErr::BadLine(line) => Some(*line),
+            LinesErr::Memory => None,
+        }
     }
 }

@@ -4,10 +4,12 @@
 //! [`Chars::char_at`] alone and bytes from [`Raw::bytes`] alone, and both count what they give.
 #![tactic(auto)]
 
+mod appending;
 mod bytes;
 mod chars;
 mod error;
 mod line_parts;
+mod line_values;
 mod numbers;
 mod piece;
 mod pieces;
@@ -19,10 +21,12 @@ mod steps;
 mod tests;
 mod word;
 
+pub use appending::{append, append_boundary, append_number, append_statuses};
 pub use bytes::{MOST_BYTES, count_characters, utf8_text, without_mark};
 pub use chars::{Chars, EditText};
-pub use error::{EditErr, RawErr, TextErr};
+pub use error::{EditErr, LinesErr, RawErr, TextErr};
 pub use line_parts::{before_byte, is_blank, is_skipped, place_or_len, trim_start};
+pub use line_values::{Line, LineValue, Values, read_lines};
 pub use numbers::{decimal, hexadecimal, number_of_characters};
 pub use pieces::Pieces;
 pub use plain::PlainText;

@@ -117,7 +117,7 @@ fn next_size(rest: usize) -> usize
 }
 
 /// The characters cut into pieces: full ones, but for the last two, which share what is left.
-#[tactic(auto, using(crate::proofs::CutLemmas::cut_more, crate::proofs::CutLemmas::joined_push, crate::proofs::CutLemmas::all_filled_push, crate::proofs::CutLemmas::filled_push))]
+#[tactic(auto, using(crate::proofs::CutLemmas::pushed))]
 pub(crate) fn cut(alloc: Global, characters: &[char]) -> Result<Vec<Piece>, AllocError>
     ensures same { IfOk result (λ pieces. joined pieces.items ≡ characters.now) }
     ensures some { IfOk result (λ pieces. 1 ≤ length pieces.items) }

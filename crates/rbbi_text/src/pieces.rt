@@ -7,7 +7,7 @@ ghost use Rattle.rbbi_model.specs.Spelling.{joined};
 ghost use Rattle.rbbi_model.specs.Scripts.{splice};
 ghost use Rattle.rbbi_text.specs.Bytes.{most_bytes};
 ghost use Rattle.rbbi_text.specs.Cuts.{ArePieces};
-ghost use Rattle.rbbi_text.specs.inner.Cuts.{AreWholeCut, IsMiddle, moved, pieces_with};
+ghost use Rattle.rbbi_text.specs.inner.Cuts.{AreWholeCut, IsMiddle, shifted, pieces_with};
 ghost use Rattle.rbbi_text.specs.inner.Cuts.{starts_with_new, edited_piece};
 ghost use Rattle.rbbi_text.specs.Answers.{TakesText, ReadsText};
 
@@ -136,7 +136,7 @@ fn edit_piece(
     ensures pieces { OnOk result (pieces.new.items ≡ slice_set pieces.old.items first
         (edited_piece pieces.old.items first from remove (chars insert.now))) }
     ensures starts { OnOk result (starts.new.items ≡ take (first + 1) starts.old.items
-        ++ moved remove added (drop (first + 1) starts.old.items)) }
+        ++ shifted remove added (drop (first + 1) starts.old.items)) }
     ensures err { OnErr result (pieces.new.items ≡ pieces.old.items) }
     ensures err_starts { OnErr result (starts.new.items ≡ starts.old.items) }
 {

@@ -3,7 +3,7 @@ ghost use Rattle.std.specs.Prelude.{◌≡◌, ◌-◌, ◌+◌, ◌/◌, ◌^�
 ghost use Rattle.std.specs.Prelude.{min, slice_index, IfOk, OnOk};
 ghost use Rattle.rbbi_model.specs.Spelling.{joined};
 ghost use Rattle.rbbi_text.specs.Cuts.{starts_from};
-ghost use Rattle.rbbi_text.specs.inner.Cuts.{moved, IsIn, IsFound, AreWholeCut};
+ghost use Rattle.rbbi_text.specs.inner.Cuts.{shifted, IsIn, IsFound, AreWholeCut};
 
 use crate::piece::{FULL, Piece};
 use std::alloc::AllocError;
@@ -61,7 +61,7 @@ fn shift_slice(starts: &mut [u32], from: usize, removed: u32, added: u32)
         → removed ≤ slice_index starts.old k }
     requires small { (k : ℕ) → from ≤ k → k < length starts.old
         → slice_index starts.old k + added < 2 ^ 32 }
-    ensures { starts.new ≡ take from starts.old ++ moved removed added (drop from starts.old) }
+    ensures { starts.new ≡ take from starts.old ++ shifted removed added (drop from starts.old) }
 {
     for k in from..starts.len() {
         starts[k] = starts[k] - removed + added;
@@ -76,7 +76,7 @@ pub(crate) fn shift(starts: &mut Vec<u32>, from: usize, removed: u32, added: u32
     requires small { (k : ℕ) → from ≤ k → k < length starts.old.items
         → slice_index starts.old.items k + added < 2 ^ 32 }
     ensures { starts.new.items
-        ≡ take from starts.old.items ++ moved removed added (drop from starts.old.items) }
+        ≡ take from starts.old.items ++ shifted removed added (drop from starts.old.items) }
 {
     shift_slice(starts, from, removed, added);
 }

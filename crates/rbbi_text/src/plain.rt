@@ -15,7 +15,7 @@ ghost use Rattle.rbbi_model.specs.Words.{most_characters};
 ghost use Rattle.rbbi_text.specs.Bytes.{most_bytes};
 ghost use Rattle.rbbi_text.specs.Texts.{IsShortText};
 ghost use Rattle.rbbi_text.specs.Answers.{TakesText, ReadsText};
-ghost use Rattle.rbbi_text.specs.inner.Answers.{Allows};
+ghost use Rattle.rbbi_text.specs.inner.Answers.{TellsAdded};
 
 use crate::{Chars, EditErr, EditText, Raw, RawErr, Steps, TextErr};
 use std::alloc::{AllocError, Global};
@@ -116,7 +116,7 @@ impl Chars for PlainText {
 /// `remove` from the place `at`, or why it may not be.
 pub(crate) fn added(len: usize, at: u32, remove: u32, insert: &str) -> Result<u32, EditErr>
     requires { len ≤ most_characters }
-    ensures { Allows len at remove (length (chars insert.now)) result }
+    ensures { TellsAdded len at remove (length (chars insert.now)) result }
 {
     if at as usize + remove as usize > len {
         return Err(EditErr::Outside);

@@ -6,7 +6,7 @@ use Rattle.std.proofs.lemmas.List.Sums.{sum_by-append, sum_by-cons, sum_by_more,
 use Rattle.rbbi_model.specs.Tables.{Table}
 use Rattle.rbbi_model.specs.Scripts as model
 use Rattle.rbbi_model.specs.Costs.{script_cost, breaks_cost}
-use Rattle.rbbi_script.specs.Reading.{RisesUpTo}
+use Rattle.rbbi_text.specs.Steps.{RisesUpTo}
 use Rattle.rbbi_tool.specs.declared.words.command.Command.{Command}
 use Rattle.rbbi_tool.specs.declared.words.command.Command.TheVariants.{Check, Compile, Breaks, Run, Conform, Demo}
 use Rattle.rbbi_tool.specs.declared.words.setting.Property.{Property}

@@ -13,10 +13,8 @@ use Rattle.rbbi_tool.specs.Words.{Request}
 use Rattle.rbbi_tool.specs.Texts.{text_stage}
 use Rattle.rbbi_tool.specs.Properties.{properties_stage}
 use Rattle.rbbi_tool.specs.Rules.{IsTold, rules_stage}
-use Rattle.rbbi_script.specs.declared.error.ScriptErr.{ScriptErr}
-use Rattle.rbbi_script.specs.declared.error.ScriptErr.TheVariants as script
-use Rattle.rbbi_conform.specs.declared.error.TestErr.{TestErr}
-use Rattle.rbbi_conform.specs.declared.error.TestErr.TheVariants as tests
+use Rattle.rbbi_text.specs.declared.error.LinesErr.{LinesErr}
+use Rattle.rbbi_text.specs.declared.error.LinesErr.TheVariants as lines
 use Rattle.rbbi_tool.specs.Scripts.{script_fault, tests_fault}
 use Rattle.rbbi_tool.specs.Basis.{limits_stage, compiled_stage, compiled_text_stage, basis_stage}
 use Rattle.rbbi_tool.specs.Program.{command_stage}
@@ -88,15 +86,15 @@ text_fault name bytes r (inl (at, wrong, is)) = is_fault _ _ _ r is
 text_fault name bytes r (inr (x, passed, is)) = is_fault _ _ _ r is.1
 
 -- scripts and test files
-script_fault_is : (name : List ℕ) (e : ScriptErr) (r : Refusal) → e ≢ script.Memory → r ≡ script_fault name e → IsFault r
-script_fault_is name (script.NotUtf8 at) r some is = is_fault _ _ _ r is
-script_fault_is name (script.BadLine line) r some is = is_fault _ _ _ r is
-script_fault_is name script.Memory r some is = absurd (some refl)
+script_fault_is : (name : List ℕ) (e : LinesErr) (r : Refusal) → e ≢ lines.Memory → r ≡ script_fault name e → IsFault r
+script_fault_is name (lines.NotUtf8 at) r some is = is_fault _ _ _ r is
+script_fault_is name (lines.BadLine line) r some is = is_fault _ _ _ r is
+script_fault_is name lines.Memory r some is = absurd (some refl)
 
-tests_fault_is : (name : List ℕ) (e : TestErr) (r : Refusal) → e ≢ tests.Memory → r ≡ tests_fault name e → IsFault r
-tests_fault_is name (tests.NotUtf8 at) r some is = is_fault _ _ _ r is
-tests_fault_is name (tests.BadLine line) r some is = is_fault _ _ _ r is
-tests_fault_is name tests.Memory r some is = absurd (some refl)
+tests_fault_is : (name : List ℕ) (e : LinesErr) (r : Refusal) → e ≢ lines.Memory → r ≡ tests_fault name e → IsFault r
+tests_fault_is name (lines.NotUtf8 at) r some is = is_fault _ _ _ r is
+tests_fault_is name (lines.BadLine line) r some is = is_fault _ _ _ r is
+tests_fault_is name lines.Memory r some is = absurd (some refl)
 
 -- commands
 pub command_fault : (command : Command) (request : Request) (handed files : List (List ℕ)) (r : Refusal)

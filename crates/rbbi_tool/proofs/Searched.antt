@@ -15,9 +15,9 @@ use Rattle.rbbi_model.specs.Searches.{look_end, fresh, next_boundary, table_boun
 use Rattle.rbbi_model.specs.Runs.{IsAnchor, is_anchor, low, from_place}
 use Rattle.rbbi_model.specs.Costs.{characters_read, searches_cost, forward_cost, question_cost, breaks_cost}
 use Rattle.rbbi_model.proofs.Found.{greatest_lies}
-use Rattle.rbbi_script.specs.Reading.{RisesUpTo}
-use Rattle.rbbi_script.specs.inner.Reading.{listing_cost}
-use Rattle.rbbi_script.proofs.ListingCosts.{listing_parts, listing_one}
+use Rattle.rbbi_text.specs.Steps.{RisesUpTo}
+use Rattle.rbbi_model.specs.Costs.{listing_cost}
+use Rattle.rbbi_model.proofs.ListingCosts.{listing_parts, listing_one}
 use Rattle.rbbi_tool.proofs.Listing.{following, by_place, follows}
 
 -- the laws of anchors

@@ -2,13 +2,11 @@
 use Rattle.std.specs.Prelude.{◌≡◌, ◌≢◌, ℕ, List, map, Ok, Err, codes}
 use Rattle.rbbi_model.specs.Scripts.{Command}
 use Rattle.rbbi_script.specs.declared.command.Command as code
-use Rattle.rbbi_script.specs.declared.error.ScriptErr.{ScriptErr}
-use Rattle.rbbi_script.specs.declared.error.ScriptErr.TheVariants as script
+use Rattle.rbbi_text.specs.declared.error.LinesErr.{LinesErr}
+use Rattle.rbbi_text.specs.declared.error.LinesErr.TheVariants as lines
 use Rattle.rbbi_script.specs.Meaning.{meaning}
 use Rattle.rbbi_script.specs.Files.{ReadsScript}
 use Rattle.rbbi_conform.specs.Tests.{Test}
-use Rattle.rbbi_conform.specs.declared.error.TestErr.{TestErr}
-use Rattle.rbbi_conform.specs.declared.error.TestErr.TheVariants as tests
 use Rattle.rbbi_conform.specs.Files.{ReadsTests}
 use Rattle.rbbi_tool.specs.declared.refusal.Subject.TheVariants.{File}
 use Rattle.rbbi_tool.specs.declared.refusal.Place.TheVariants.{Byte, Row}
@@ -17,16 +15,16 @@ use Rattle.rbbi_tool.specs.declared.refusal.Refusal.TheVariants.{Fault, Memory}
 use Rattle.rbbi_tool.specs.Stages.{Stage}
 
 -- what a fault of the script of this name tells
-abbrev pub script_fault : List ℕ → ScriptErr → Refusal
-script_fault name (script.NotUtf8 at) = Fault (File name) (codes "NotUtf8") (Byte at)
-script_fault name (script.BadLine line) = Fault (File name) (codes "BadLine") (Row line)
-script_fault name script.Memory = Memory
+abbrev pub script_fault : List ℕ → LinesErr → Refusal
+script_fault name (lines.NotUtf8 at) = Fault (File name) (codes "NotUtf8") (Byte at)
+script_fault name (lines.BadLine line) = Fault (File name) (codes "BadLine") (Row line)
+script_fault name lines.Memory = Memory
 
 -- the bytes are no script, and the first fault is told
 pub record TellsScriptFault (name bytes : List ℕ) (refusal : Refusal) : Type 0 where
-  pub error : ScriptErr
+  pub error : LinesErr
   pub refused : ReadsScript bytes (Err error)
-  pub not_memory : error ≢ script.Memory
+  pub not_memory : error ≢ lines.Memory
   pub is : refusal ≡ script_fault name error
 
 -- the bytes are a script, which means these commands
@@ -40,16 +38,16 @@ abbrev pub script_stage : List ℕ → List ℕ → Stage (List Command)
 script_stage name bytes = record { passes = MeanCommands bytes; refuses = TellsScriptFault name bytes }
 
 -- what a fault of the test file of this name tells
-abbrev pub tests_fault : List ℕ → TestErr → Refusal
-tests_fault name (tests.NotUtf8 at) = Fault (File name) (codes "NotUtf8") (Byte at)
-tests_fault name (tests.BadLine line) = Fault (File name) (codes "BadLine") (Row line)
-tests_fault name tests.Memory = Memory
+abbrev pub tests_fault : List ℕ → LinesErr → Refusal
+tests_fault name (lines.NotUtf8 at) = Fault (File name) (codes "NotUtf8") (Byte at)
+tests_fault name (lines.BadLine line) = Fault (File name) (codes "BadLine") (Row line)
+tests_fault name lines.Memory = Memory
 
 -- the bytes are no test file, and the first fault is told
 pub record TellsTestsFault (name bytes : List ℕ) (refusal : Refusal) : Type 0 where
-  pub error : TestErr
+  pub error : LinesErr
   pub refused : ReadsTests bytes (Err error)
-  pub not_memory : error ≢ tests.Memory
+  pub not_memory : error ≢ lines.Memory
   pub is : refusal ≡ tests_fault name error
 
 -- the tests of a test file of this name

@@ -4,7 +4,7 @@ use Rattle.rbbi_model.specs.Tables.{Table}
 use Rattle.rbbi_model.specs.Scripts as model
 use Rattle.rbbi_model.specs.Costs.{script_cost, breaks_cost}
 use Rattle.rbbi_io.specs.Counts.{EachStays}
-use Rattle.rbbi_script.specs.Reading.{RisesUpTo}
+use Rattle.rbbi_text.specs.Steps.{RisesUpTo}
 use Rattle.rbbi_tool.specs.declared.words.command.Command.{Command}
 use Rattle.rbbi_tool.specs.declared.words.command.Command.TheVariants.{Breaks, Run}
 use Rattle.rbbi_tool.specs.declared.files.Role.{Role}

@@ -5,7 +5,7 @@ ghost use Rattle.rbbi_text.specs.Bytes.{most_bytes};
 ghost use Rattle.rbbi_model.specs.Rules.{AreLawful};
 ghost use Rattle.rbbi_model.specs.Compiled.{AreClasses, IsCompiled};
 ghost use Rattle.rbbi_resolve.specs.RuleLists.{rules_of};
-ghost use Rattle.rbbi_script.specs.Reading.{RisesUpTo};
+ghost use Rattle.rbbi_text.specs.Steps.{RisesUpTo};
 ghost use Rattle.rbbi_tool.specs.inner.Stages.{Meets, Serves};
 ghost use Rattle.rbbi_tool.specs.inner.Properties.{AreHanded};
 ghost use Rattle.rbbi_tool.specs.Basis as spec;

@@ -8,7 +8,7 @@ ghost use Rattle.rbbi_tree.specs.Values.{statement_trees};
 ghost use Rattle.rbbi_tree.specs.WellMade.{AreWellMade};
 ghost use Rattle.rbbi_model.specs.Rules.{AreLawful};
 ghost use Rattle.rbbi_resolve.specs.RuleLists.{rules_of};
-ghost use Rattle.rbbi_script.specs.Reading.{RisesUpTo};
+ghost use Rattle.rbbi_text.specs.Steps.{RisesUpTo};
 ghost use Rattle.rbbi_tool.specs.inner.Properties.{AreHanded};
 ghost use Rattle.rbbi_tool.specs.inner.Stages.{Meets};
 ghost use Rattle.rbbi_tool.specs.Rules as spec;

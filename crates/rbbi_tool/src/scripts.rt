@@ -1,26 +1,28 @@
 //! From the bytes of a script to its commands, and from those of a test file to its tests.
-ghost use Rattle.std.specs.Prelude.{◌≡◌, ◌≢◌, ◌+◌, ◌≤◌, ◌⊎◌, length, map};
+ghost use Rattle.std.specs.Prelude.{◌≡◌, ◌≢◌, ◌+◌, ◌≤◌, ◌⊎◌, length, map, IfOk};
+ghost use Rattle.std.specs.List.{AllByRecursion};
+ghost use Rattle.rbbi_model.specs.Scripts.{InsertsText};
 ghost use Rattle.rbbi_text.specs.Bytes.{most_bytes};
 ghost use Rattle.rbbi_script.specs.Meaning.{meaning};
 ghost use Rattle.rbbi_tool.specs.inner.Stages.{Meets};
 ghost use Rattle.rbbi_tool.specs.Scripts as spec;
 
 use crate::refusal::{Place, Refusal, file_fault};
-use rbbi_conform::{TestErr, Tests, read_tests};
-use rbbi_script::{Commands, ScriptErr, read_script};
-use rbbi_text::{Raw, Steps};
+use rbbi_conform::{Tests, read_tests};
+use rbbi_script::{Commands, read_script};
+use rbbi_text::{LinesErr, Raw, Steps};
 use std::alloc::Global;
 use std::sync::ledger::Ledger;
 
 /// What a fault of the script of this name tells, or want of memory.
-fn script_refusal(alloc: Global, name: &str, error: ScriptErr) -> Refusal
+fn script_refusal(alloc: Global, name: &str, error: LinesErr) -> Refusal
     ensures { (result ≡ Refusal.Memory)
-        ⊎ ((error ≢ ScriptErr.Memory) × (result ≡ spec.script_fault name.now error)) }
+        ⊎ ((error ≢ LinesErr.Memory) × (result ≡ spec.script_fault name.now error)) }
 {
     match error {
-        ScriptErr::NotUtf8(at) => file_fault(alloc, name, "NotUtf8", Place::Byte(at)),
-        ScriptErr::BadLine(line) => file_fault(alloc, name, "BadLine", Place::Row(line)),
-        ScriptErr::Memory => Refusal::Memory,
+        LinesErr::NotUtf8(at) => file_fault(alloc, name, "NotUtf8", Place::Byte(at)),
+        LinesErr::BadLine(line) => file_fault(alloc, name, "BadLine", Place::Row(line)),
+        LinesErr::Memory => Refusal::Memory,
     }
 }
 
@@ -34,6 +36,8 @@ pub(crate) fn commands_of<L: Ledger>(
     requires { length bytes.now ≤ most_bytes }
     ensures exact { Meets (λ commands. map meaning commands)
         (spec.script_stage name.now bytes.now) result }
+    ensures inserts { IfOk result (λ commands.
+        AllByRecursion InsertsText (map meaning commands)) }
     ensures steps { steps.new ≡ steps.old + length bytes.now }
 {
     match read_script(alloc, bytes.bytes(steps)) {
@@ -43,14 +47,14 @@ pub(crate) fn commands_of<L: Ledger>(
 }
 
 /// What a fault of the test file of this name tells, or want of memory.
-fn tests_refusal(alloc: Global, name: &str, error: TestErr) -> Refusal
+fn tests_refusal(alloc: Global, name: &str, error: LinesErr) -> Refusal
     ensures { (result ≡ Refusal.Memory)
-        ⊎ ((error ≢ TestErr.Memory) × (result ≡ spec.tests_fault name.now error)) }
+        ⊎ ((error ≢ LinesErr.Memory) × (result ≡ spec.tests_fault name.now error)) }
 {
     match error {
-        TestErr::NotUtf8(at) => file_fault(alloc, name, "NotUtf8", Place::Byte(at)),
-        TestErr::BadLine(line) => file_fault(alloc, name, "BadLine", Place::Row(line)),
-        TestErr::Memory => Refusal::Memory,
+        LinesErr::NotUtf8(at) => file_fault(alloc, name, "NotUtf8", Place::Byte(at)),
+        LinesErr::BadLine(line) => file_fault(alloc, name, "BadLine", Place::Row(line)),
+        LinesErr::Memory => Refusal::Memory,
     }
 }
 

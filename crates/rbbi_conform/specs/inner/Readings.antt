@@ -1,6 +1,6 @@
 -- What the calls that read parts of a line answer. Each pair of a code point and a mark takes six bytes or more.
 use Rattle.std.specs.Prelude.{◌≡◌, ℕ, ◌+◌, ◌*◌, ◌≤◌, Bool, List, ◌∷◌, length, Option, Some, None}
-use Rattle.rbbi_conform.specs.Grammar.{words_of, IsMark, IsCodePoint, ArePairs, WritesTest}
+use Rattle.rbbi_conform.specs.Grammar.{words_of, IsMark, IsHexadecimalOf, ArePairs, WritesTest}
 
 -- the first word of the text, and what follows it
 pub record IsFirstWord (text word rest : List ℕ) : Type 0 where
@@ -14,19 +14,19 @@ IsMarkOf word None = (mark : Bool) → ¬ IsMark word mark
 IsMarkOf word (Some mark) = IsMark word mark
 
 -- the character that the word is, if it is one
-abbrev pub IsCodePointOf : List ℕ → Option ℕ → Type 0
-IsCodePointOf word None = (c : ℕ) → ¬ IsCodePoint word c
-IsCodePointOf word (Some c) = IsCodePoint word c × (4 ≤ length word)
+abbrev pub IsCharacterOf : List ℕ → Option ℕ → Type 0
+IsCharacterOf word None = (c : ℕ) → ¬ IsHexadecimalOf word c
+IsCharacterOf word (Some c) = IsHexadecimalOf word c × (4 ≤ length word)
 
 -- no code point and mark begin the words
 abbrev pub IsNoPair : List ℕ → List (List ℕ) → Type 0
-IsNoPair point words = (c : ℕ) (mark : Bool) (sign : List ℕ) (rest : List (List ℕ)) → words ≡ sign ∷ rest → IsCodePoint point c → IsMark sign mark → ⊥
+IsNoPair point words = (c : ℕ) (mark : Bool) (sign : List ℕ) (rest : List (List ℕ)) → words ≡ sign ∷ rest → IsHexadecimalOf point c → IsMark sign mark → ⊥
 
 -- the code point and the mark that begin the words, and what follows them
 pub record IsPairOf (point after : List ℕ) (c : ℕ) (mark : Bool) (rest : List ℕ) : Type 0 where
   pub sign : List ℕ
   pub words : words_of after ≡ sign ∷ words_of rest
-  pub is_point : IsCodePoint point c
+  pub is_point : IsHexadecimalOf point c
   pub is_mark : IsMark sign mark
   pub parts : 6 + length rest ≤ length point + length after
 

@@ -1,4 +1,4 @@
--- The verdict on a test: what only this crate cites.
+-- What is known of the marks of a test between one boundary and the next.
 use Rattle.std.specs.Prelude.{◌≡◌, ◌≢◌, ℕ, ◌-◌, ◌<◌, ◌≤◌, List, length, slice_index_or, false, ◌==◌}
 use Rattle.rbbi_model.specs.Boundaries.{Boundary}
 use Rattle.rbbi_model.specs.Answers.{is_place_of}

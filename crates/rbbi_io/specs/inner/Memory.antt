@@ -1,13 +1,5 @@
--- Files and sinks in memory: what only this crate cites.
-use Rattle.std.specs.Prelude.{◌≡◌, ◌≢◌, ◌<◌, ◌≤◌, ◌⊎◌, ◌++◌, ℕ, Bool, true, false, List, [], ◌∷◌, length, Option, Some, None, Result, Ok, Err, bytes_eq}
-use Rattle.std.specs.Prelude.{if◌then◌else◌, ◌&&◌, unwrap_or, count_by, Contains, slice_index_or}
-use Rattle.rbbi_io.specs.Counts.{capped, one_more}
-use Rattle.rbbi_io.specs.declared.mem_files.CallKind.{CallKind}
-use Rattle.rbbi_io.specs.declared.mem_files.CallKind.TheVariants.{Read, Write}
-use Rattle.rbbi_io.specs.declared.error.ReadErr.{ReadErr}
-use Rattle.rbbi_io.specs.declared.error.ReadErr.TheVariants as read
-use Rattle.rbbi_io.specs.declared.error.WriteErr.{WriteErr}
-use Rattle.rbbi_io.specs.declared.error.WriteErr.TheVariants as write
+-- Which of the files in memory is the first of a name.
+use Rattle.std.specs.Prelude.{◌≡◌, ◌≢◌, ◌<◌, ℕ, List, [], length, slice_index_or}
 
 -- the number of the first file of this name
 pub record IsIndexOf (files : List (List ℕ × List ℕ)) (name : List ℕ) (place : ℕ) : Type 0 where

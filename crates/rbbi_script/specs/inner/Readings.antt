@@ -1,12 +1,12 @@
--- What the calls that read parts of a line answer: what only this crate cites.
+-- What the calls that read parts of a line answer.
 use Rattle.std.specs.Prelude.{◌≡◌, ◌≢◌, ℕ, ◌<◌, List, ◌∷◌, ◌++◌, length, get_or, Option, Some, None, bytes_eq, codes, if◌then◌else◌}
 use Rattle.rbbi_model.specs.Scripts.{Ask, Replace, ShowText}
 use Rattle.rbbi_model.specs.Scripts as model
 use Rattle.rbbi_model.specs.Answers as question
 use Rattle.rbbi_script.specs.declared.command.Command.{Command}
 use Rattle.rbbi_script.specs.Meaning.{meaning}
-use Rattle.rbbi_script.specs.Grammar.{IsField, IsEscape, IsNumberEscape, Spells, Writes}
-use Rattle.rbbi_script.specs.Readings.{IsEdit}
+use Rattle.rbbi_script.specs.Grammar.{IsField, IsEscapeOf, IsNumberEscape, WritesCharacters, Writes}
+use Rattle.rbbi_script.specs.Performing.{IsEdit}
 
 -- the byte doesn't stand in the text
 abbrev pub HasNone : ℕ → List ℕ → Type 0
@@ -24,7 +24,7 @@ pub record IsOnlyField (text : List ℕ) (n : ℕ) (rest : List ℕ) : Type 0 wh
 
 -- no escape begins the text
 abbrev pub IsNoEscape : List ℕ → Type 0
-IsNoEscape text = (spelling : List ℕ) (c : ℕ) (rest : List ℕ) → IsEscape spelling c → text ≢ spelling ++ rest
+IsNoEscape text = (spelling : List ℕ) (c : ℕ) (rest : List ℕ) → IsEscapeOf spelling c → text ≢ spelling ++ rest
 
 -- no escape with a number begins the text
 abbrev pub IsNoNumberEscape : List ℕ → Type 0
@@ -33,19 +33,19 @@ IsNoNumberEscape text = (spelling : List ℕ) (c : ℕ) (rest : List ℕ) → Is
 -- this escape begins the text, and no other
 pub record IsOnlyEscape (text : List ℕ) (c : ℕ) (rest : List ℕ) : Type 0 where
   pub spelling : List ℕ
-  pub is : IsEscape spelling c
+  pub is : IsEscapeOf spelling c
   pub parts : text ≡ spelling ++ rest
-  pub only : (other : List ℕ) (d : ℕ) (others : List ℕ) → IsEscape other d → text ≡ other ++ others → (d ≡ c) × (others ≡ rest)
+  pub only : (other : List ℕ) (d : ℕ) (others : List ℕ) → IsEscapeOf other d → text ≡ other ++ others → (d ≡ c) × (others ≡ rest)
 
 -- the text writes these characters, and no others
 pub record IsOnlyWord (text word : List ℕ) : Type 0 where
-  pub spells : Spells text word
-  pub only : (other : List ℕ) → Spells text other → other ≡ word
+  pub spells : WritesCharacters text word
+  pub only : (other : List ℕ) → WritesCharacters text other → other ≡ word
 
 -- the characters that the text writes, if it writes any
-abbrev pub IsWordOf : List ℕ → Option (List ℕ) → Type 0
-IsWordOf text None = (word : List ℕ) → ¬ Spells text word
-IsWordOf text (Some word) = IsOnlyWord text word
+abbrev pub AreCharactersOf : List ℕ → Option (List ℕ) → Type 0
+AreCharactersOf text None = (word : List ℕ) → ¬ WritesCharacters text word
+AreCharactersOf text (Some word) = IsOnlyWord text word
 
 -- the command that a word alone writes
 abbrev pub named : List ℕ → Option model.Command

@@ -1,8 +1,7 @@
--- A text cut into pieces, and where each piece starts: what only this crate cites.
-use Rattle.std.specs.Prelude.{◌≡◌, ℕ, ◌+◌, ◌-◌, ◌*◌, ◌≤◌, ◌<◌, List, [], ◌∷◌, ◌++◌, map, length, take, drop, slice_index, slice_index_or}
+-- Pieces while they are made, the piece in which a place is found, and what an edit leaves of the pieces that it touches.
+use Rattle.std.specs.Prelude.{◌≡◌, ℕ, ◌+◌, ◌-◌, ◌*◌, ◌≤◌, ◌<◌, List, [], ◌++◌, map, length, take, drop, slice_index, slice_index_or}
 use Rattle.std.specs.List.{AllByRecursion, splice}
 use Rattle.rbbi_model.specs.Spelling.{joined}
-use Rattle.rbbi_text.specs.Texts.{IsShortText}
 use Rattle.rbbi_text.specs.Cuts.{starts_from, IsFilled, AreCut}
 
 -- the pieces make a text, and these are their starts
@@ -38,8 +37,8 @@ pub record IsFound (pieces : List (List ℕ)) (starts : List ℕ) (piece place :
   pub inside : place < length (joined pieces) → place < slice_index starts piece + length (slice_index_or pieces piece [])
 
 -- places behind an edit: less those of the characters that were removed, and more by those that were added
-abbrev pub moved : ℕ → ℕ → List ℕ → List ℕ
-moved removed added starts = map (λ start. start - removed + added) starts
+abbrev pub shifted : ℕ → ℕ → List ℕ → List ℕ
+shifted removed added starts = map (λ start. start - removed + added) starts
 
 -- the pieces with others in place of those from the first to the one past the last
 abbrev pub pieces_with : List (List ℕ) → ℕ → ℕ → List (List ℕ) → List (List ℕ)
@@ -48,7 +47,7 @@ pieces_with pieces first past new = take first pieces ++ (new ++ drop past piece
 -- where they start
 abbrev pub starts_with_new : List ℕ → ℕ → ℕ → List (List ℕ) → ℕ → ℕ → List ℕ
 starts_with_new starts first past new removed added =
-    take first starts ++ (starts_from (slice_index starts first) new ++ moved removed added (drop past starts))
+    take first starts ++ (starts_from (slice_index starts first) new ++ shifted removed added (drop past starts))
 
 -- the piece with this number, with a word in place of so many characters from a place
 abbrev pub edited_piece : List (List ℕ) → ℕ → ℕ → ℕ → List ℕ → List ℕ

@@ -4,7 +4,7 @@ ghost use Rattle.rbbi_text.specs.Bytes.{most_bytes};
 ghost use Rattle.rbbi_model.specs.Lines.{boundary_lines};
 ghost use Rattle.rbbi_model.specs.Searches.{table_boundaries};
 ghost use Rattle.rbbi_model.specs.Costs.{breaks_cost};
-ghost use Rattle.rbbi_script.specs.Reading.{RisesUpTo};
+ghost use Rattle.rbbi_text.specs.Steps.{RisesUpTo};
 ghost use Rattle.rbbi_tool.specs.inner.Stages.{Meets};
 ghost use Rattle.rbbi_tool.specs.inner.Properties.{AreHanded};
 ghost use Rattle.rbbi_tool.specs.Texts.{text_stage};
@@ -17,9 +17,8 @@ use crate::basis::basis;
 use crate::refusal::Refusal;
 use crate::texts::text_of;
 use crate::words::Options;
-use rbbi_script::say_bound;
 use rbbi_table::{Marks, Table};
-use rbbi_text::{Chars, PlainText, Raw, Steps};
+use rbbi_text::{Chars, PlainText, Raw, Steps, append_boundary};
 use std::alloc::{AllocError, Global};
 use std::sync::ledger::Ledger;
 
@@ -40,11 +39,11 @@ fn lines_of<L: Ledger>(
     table.valid();
     let mut marks = Marks::new(alloc, table)?;
     let mut lines = Vec::new(alloc);
-    say_bound(0, &[0], &mut lines)?;
+    append_boundary(0, &[0], &mut lines)?;
     let mut at = 0;
     while at < text.len() {
         let found = table.next(text, at, &mut marks, steps);
-        say_bound(found.at, table.status_list(found.status), &mut lines)?;
+        append_boundary(found.at, table.status_list(found.status), &mut lines)?;
         at = found.at;
     }
     Ok(lines)

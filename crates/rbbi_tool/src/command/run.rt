@@ -2,11 +2,10 @@
 ghost use Rattle.std.specs.Prelude.{◌≡◌, ◌+◌, ◌≤◌, ◌⊎◌, length, map, sum_by, IfOk};
 ghost use Rattle.rbbi_text.specs.Bytes.{most_bytes};
 ghost use Rattle.rbbi_model.specs.Lines.{all_reply_lines};
-ghost use Rattle.std.specs.List.{AllByRecursion};
-ghost use Rattle.rbbi_model.specs.Scripts.{table_replies, InsertsText};
+ghost use Rattle.rbbi_model.specs.Scripts.{table_replies};
 ghost use Rattle.rbbi_model.specs.Costs.{script_cost};
 ghost use Rattle.rbbi_script.specs.Meaning.{meaning};
-ghost use Rattle.rbbi_script.specs.Reading.{RisesUpTo};
+ghost use Rattle.rbbi_text.specs.Steps.{RisesUpTo};
 ghost use Rattle.rbbi_tool.specs.inner.Stages.{Meets};
 ghost use Rattle.rbbi_tool.specs.inner.Properties.{AreHanded};
 ghost use Rattle.rbbi_tool.specs.Texts.{text_stage};
@@ -21,30 +20,12 @@ use crate::refusal::Refusal;
 use crate::scripts::commands_of;
 use crate::texts::pieces_of;
 use crate::words::Options;
-use rbbi_script::{Command, Commands, play};
+use rbbi_script::{Commands, play};
 use rbbi_session::Session;
 use rbbi_table::Table;
 use rbbi_text::{Pieces, Raw, Steps};
 use std::alloc::{AllocError, Global};
 use std::sync::ledger::Ledger;
-
-/// That what a command puts into a text is characters: it is there for proofs, and changes nothing.
-fn insert_text(command: &Command)
-    ensures { InsertsText (meaning command.now) }
-{
-    if let Command::Replace { text, .. } = command {
-        let _characters = text.as_str();
-    }
-}
-
-/// That what commands put into a text is characters: it is there for proofs, and changes nothing.
-fn insert_texts(commands: &Commands)
-    ensures { AllByRecursion InsertsText (map meaning commands.now) }
-{
-    for i in 0..commands.len() {
-        insert_text(commands.get(i));
-    }
-}
 
 /// The lines of the replies to the commands of a script, over a text, by a table.
 fn replies_of<L: Ledger>(
@@ -93,7 +74,6 @@ pub(crate) fn run<L: Ledger>(
     let table = basis(alloc, options, handed, source, steps)?;
     let text = pieces_of(alloc, name, text)?;
     let commands = commands_of(alloc, script_name, script, steps)?;
-    insert_texts(&commands);
     rbbi_model::same_marks_give_the_boundaries();
     rbbi_model::table_replies_are_those_of_the_rules();
     let replies = replies_of(alloc, &table, text, &commands, steps)?;

@@ -1,5 +1,5 @@
 use Rattle.std.proofs.Common.{◌≡◌, ◌/◌, ℕ, length, ap, ◌∙◌, arith}
-use Rattle.rbbi_demo.specs.Generator.{drawn_text, state_after}
+use Rattle.rbbi_demo.specs.Generator.{drawn_text, state_drawn}
 use Rattle.rbbi_demo.proofs.Demonstrating.{after_none, after_more, summed_up}
 use Rattle.rbbi_demo.proofs.demonstration.demo.Goals as goal
 
@@ -9,7 +9,7 @@ loop-made-init g c =
     let opened = c.in_ok-session.ensures in
     after_none c.args.table.now count c.in_ok-session.session c.drawn.new.generator.state opened.table_is
     (ap (λ s. s.text) opened.state_is ∙ c.in_ok-text.ensures.text ∙ ap (λ s. drawn_text s count) c.new-generator.ensures)
-    (c.in_ok-text.ensures.state ∙ ap (λ s. state_after s count) c.new-generator.ensures)
+    (c.in_ok-text.ensures.state ∙ ap (λ s. state_drawn s count) c.new-generator.ensures)
 
 pub loop-made-preserved : goal.loop-made-preserved
 loop-made-preserved g c =

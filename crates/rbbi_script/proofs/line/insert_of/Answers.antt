@@ -1,5 +1,5 @@
 use Rattle.std.proofs.Common.{subst}
-use Rattle.rbbi_script.specs.inner.Readings.{IsWordOf}
+use Rattle.rbbi_script.specs.inner.Readings.{AreCharactersOf}
 use Rattle.rbbi_script.proofs.EditLines.{insert_no_place, insert_no_text}
 use Rattle.rbbi_script.proofs.line.insert_of.Goals as goal
 
@@ -9,4 +9,4 @@ returns-in_default c = insert_no_place c.args.fields.now c.in_default.ensures
 pub returns-in_default-2 : goal.returns-in_default-2
 returns-in_default-2 c =
     insert_no_text c.args.fields.now c.in-Some.at.number c.in-Some.at.rest.now c.in-Some.ensures
-    (subst (IsWordOf c.in-Some.at.rest.now) c.in_default-2.is c.in_ok-text.ensures)
+    (subst (AreCharactersOf c.in-Some.at.rest.now) c.in_default-2.is c.in_ok-text.ensures)

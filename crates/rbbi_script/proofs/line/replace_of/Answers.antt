@@ -1,5 +1,5 @@
 use Rattle.std.proofs.Common.{subst}
-use Rattle.rbbi_script.specs.inner.Readings.{IsWordOf}
+use Rattle.rbbi_script.specs.inner.Readings.{AreCharactersOf}
 use Rattle.rbbi_script.proofs.EditLines.{replace_no_place, replace_no_count, replace_no_text}
 use Rattle.rbbi_script.proofs.line.replace_of.Goals as goal
 
@@ -14,4 +14,4 @@ pub returns-in_default-2 : goal.returns-in_default-2
 returns-in_default-2 c =
     replace_no_text c.args.fields.now c.in-Some.at.number c.in-Some.at.rest.now c.in-Some-first_field.remove.number c.in-Some-first_field.remove.rest.now
     c.in-Some.ensures c.in-Some-first_field.ensures
-    (subst (IsWordOf c.in-Some-first_field.remove.rest.now) c.in_default-2.is c.in_ok-text.ensures)
+    (subst (AreCharactersOf c.in-Some-first_field.remove.rest.now) c.in_default-2.is c.in_ok-text.ensures)

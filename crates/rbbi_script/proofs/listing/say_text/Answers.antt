@@ -3,8 +3,8 @@ use Rattle.std.specs.List.{flat_map}
 use Rattle.std.proofs.lemmas.List.{take_all}
 use Rattle.std.proofs.lemmas.Result.{err_from_is_err_and}
 use Rattle.rbbi_model.specs.Lines.{escaped}
-use Rattle.rbbi_script.specs.Saying.{AppendsFront}
-use Rattle.rbbi_script.proofs.Says.{front_first, front_later, appends_then, flat_parts}
+use Rattle.rbbi_text.specs.Appending.{AppendsFront}
+use Rattle.rbbi_text.proofs.Appended.{front_first, front_later, appends_then, flat_parts}
 use Rattle.rbbi_script.proofs.listing.say_text.Goals as goal
 
 pub returns-in_err-say_character-clause-replies : goal.returns-in_err-say_character-clause-replies
@@ -26,7 +26,7 @@ returns-in_err-say_character-clause-replies g c =
 pub returns-clause-replies : goal.returns-clause-replies
 returns-clause-replies g c =
     let x : List ℕ = g.T.Chars.characters c.args.text.now in
-    appends_then c.args.reply.now.items (flat_map escaped x) (10 ∷ []) _ c.loop-i.reply.items _ c.put.result
+    appends_then c.args.reply.now.items (flat_map escaped x) (10 ∷ []) _ c.loop-i.reply.items _ c.append.result
     (c.loop-i.invariant.said ∙ ap (λ l. c.args.reply.now.items ++ flat_map escaped l)
     (take_all c.loop-i.i x (omega (arith, c.loop-i-test.false, c.len-i-end.ensures.exact))))
-    refl c.put.ensures
+    refl c.append.ensures

@@ -4,9 +4,10 @@ use Rattle.rbbi_model.specs.Lines.{all_reply_lines}
 use Rattle.rbbi_session.specs.Sessions.{Session}
 use Rattle.rbbi_script.specs.declared.command.Command.{Command}
 use Rattle.rbbi_script.specs.Meaning.{meaning}
-use Rattle.rbbi_script.specs.Saying.{AppendsFront}
+use Rattle.rbbi_text.specs.Appending.{AppendsFront}
 use Rattle.rbbi_script.specs.Performing.{replies_of}
-use Rattle.rbbi_script.specs.Reading.{RisesUpTo, commands_cost}
+use Rattle.rbbi_text.specs.Steps.{RisesUpTo}
+use Rattle.rbbi_script.specs.Reading.{commands_cost}
 use Rattle.rbbi_script.proofs.Performed.{broken_off, mapped_parts, mapped_more}
 use Rattle.rbbi_script.proofs.Played.{ArePaid, one_more_paid, all_paid}
 use Rattle.rbbi_script.proofs.performing.play.Goals as goal

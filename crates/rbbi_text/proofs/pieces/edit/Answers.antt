@@ -1,7 +1,7 @@
 use Rattle.std.proofs.Common.{◌≡◌, ℕ, ◌+◌, ◌-◌, ◌<◌, ◌≤◌, List, [], ◌++◌, length, get_or, take, drop, ap, ◌∙◌, chars, arith, length-take}
 use Rattle.rbbi_model.specs.Words.{most_characters}
 use Rattle.rbbi_model.specs.Spelling.{joined}
-use Rattle.rbbi_text.specs.inner.Cuts.{moved, starts_with_new}
+use Rattle.rbbi_text.specs.inner.Cuts.{shifted, starts_with_new}
 use Rattle.rbbi_text.proofs.Characters.{IsText-chars}
 use Rattle.rbbi_text.proofs.CutLemmas.{is_read, middle_read, behind_start, small_start, found_end, middle_short, edit_one, edit_many}
 use Rattle.rbbi_text.proofs.pieces.edit.Goals as goal
@@ -49,7 +49,7 @@ returns-then-fits c =
     (omega (arith, size, c.if-fits.ensures.0)) (omega (arith, size, c.if-fits.ensures.1, c.requires.added))
     (λ more. omega (arith, size, c.if-fits.ensures.2 (omega (arith, more, c.len.ensures, c.args.pieces.now.ok.0)), c.requires.added))
     c.in_ok-edit_piece.ensures.pieces
-    (c.in_ok-edit_piece.ensures.starts ∙ ap (λ (n : ℕ). take (first + 1) starts ++ moved c.args.remove n (drop (first + 1) starts)) c.requires.added) in
+    (c.in_ok-edit_piece.ensures.starts ∙ ap (λ (n : ℕ). take (first + 1) starts ++ shifted c.args.remove n (drop (first + 1) starts)) c.requires.added) in
     record { cut = made.0; text = made.1; err = tt; err_starts = tt }
 
 pub starts_with-requires-clause-few : goal.starts_with-requires-clause-few

@@ -1,6 +1,6 @@
 use Rattle.std.proofs.Common.{length, take}
 use Rattle.std.specs.Prelude.{sum_by}
-use Rattle.rbbi_script.specs.Reading.{RisesUpTo}
+use Rattle.rbbi_text.specs.Steps.{RisesUpTo}
 use Rattle.rbbi_tool.proofs.Handing.{AreHandedTo}
 use Rattle.rbbi_tool.proofs.properties.properties_of.Given as goal
 

@@ -6,7 +6,7 @@ use Rattle.rbbi_tool.proofs.scripts.commands_of.Goals as goal
 pub returns-in-Ok-clause-exact : goal.returns-in-Ok-clause-exact
 returns-in-Ok-clause-exact g c = record {
   written = c.in-Ok.commands;
-  read = subst (λ b. ReadsScript b (Ok c.in-Ok.commands)) c.bytes.ensures.bytes c.in-Ok.ensures;
+  read = subst (λ b. ReadsScript b (Ok c.in-Ok.commands)) c.bytes.ensures.bytes c.in-Ok.ensures.script;
   mean = refl;
 }
 
@@ -15,7 +15,7 @@ returns-in-Err-clause-exact g c =
     ⊎_elim inl
     (λ (some, is). inr (record {
       error = c.in-Err.error;
-      refused = subst (λ b. ReadsScript b (Err c.in-Err.error)) c.bytes.ensures.bytes c.in-Err.ensures;
+      refused = subst (λ b. ReadsScript b (Err c.in-Err.error)) c.bytes.ensures.bytes c.in-Err.ensures.script;
       not_memory = some;
       is = is;
     })) c.script_refusal.ensures

@@ -10,8 +10,8 @@ use Rattle.rbbi_tool.proofs.command.breaks.lines_of.Goals as goal
 
 pub loop-at-init : goal.loop-at-init
 loop-at-init g c = record {
-  listed = listed_start c.args.table.now c.args.text.now c.say_bound.new.reply.items
-      (c.in_ok-say_bound.ensures ∙ ap (λ l. l ++ boundary_line start) c.new-lines.ensures.items);
+  listed = listed_start c.args.table.now c.args.text.now c.append_boundary.new.out.items
+      (c.in_ok-append_boundary.ensures ∙ ap (λ l. l ++ boundary_line start) c.new-lines.ensures.items);
   fit = c.in_ok-marks.ensures;
   read = searched_none c.args.table.now c.args.text.now c.args.steps.now;
 }
@@ -31,9 +31,9 @@ loop-at-preserved g c =
       statuses = (c.status_list.ensures ∙ ap (statuses_of table) c.next-found.ensures.status) i;
     } in
     record {
-      listed = listed_more table x c.loop-at.lines.items c.say_bound-in-loop-at.new.reply.items c.loop-at.at c.next-found.result.at c.loop-at.invariant.listed
+      listed = listed_more table x c.loop-at.lines.items c.append_boundary-in-loop-at.new.out.items c.loop-at.at c.next-found.result.at c.loop-at.invariant.listed
           inside (c.next_boundary_is_past_the_start.ensures table x c.loop-at.at inside) c.next-found.ensures.at
-          (c.in_ok-say_bound-2.ensures ∙ ap (λ b. c.loop-at.lines.items ++ boundary_line b) found);
+          (c.in_ok-append_boundary-2.ensures ∙ ap (λ b. c.loop-at.lines.items ++ boundary_line b) found);
       fit = c.next-found.ensures.fit ∙ c.loop-at.invariant.fit;
       read = searched_more table x c.loop-at.at c.next-found.result.at c.args.steps.now c.loop-at.steps c.next-found.new.steps c.valid.ensures
           c.anchors_are_stored.ensures c.anchors_lead_to_the_boundaries.ensures c.loop-at.invariant.read inside
@@ -48,8 +48,8 @@ returns-clause-lines g c =
 pub returns-clause-steps : goal.returns-clause-steps
 returns-clause-steps g c = all_searched c.args.table.now c.args.text.now c.loop-at.at c.args.steps.now c.loop-at.steps c.loop-at.invariant.read
 
-pub returns-in_err-say_bound-2-clause-steps : goal.returns-in_err-say_bound-2-clause-steps
-returns-in_err-say_bound-2-clause-steps g c =
+pub returns-in_err-append_boundary-2-clause-steps : goal.returns-in_err-append_boundary-2-clause-steps
+returns-in_err-append_boundary-2-clause-steps g c =
     let table = c.args.table.now in
     let x = c.args.text.now in
     let inside : c.loop-at.at < length x = omega (arith, c.loop-at-test.true, c.len.ensures.exact) in

@@ -37,7 +37,7 @@ returns-clause-exact g c =
           (
             table_replies table x commands,
             replies_given basis.0 table x commands c.table_replies_are_those_of_the_rules.ensures
-                (gives_them c.same_marks_give_the_boundaries.ensures basis.0 table basis.2) c.in_ok-text.ensures.text c.insert_texts.ensures,
+                (gives_them c.same_marks_give_the_boundaries.ensures basis.0 table basis.2) c.in_ok-text.ensures.text c.in_ok-commands.ensures.inserts,
             c.printed.ensures ∙ ap printed c.in_ok-replies.ensures.lines,
           ),
         ),

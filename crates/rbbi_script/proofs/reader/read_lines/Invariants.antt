@@ -1,7 +1,0 @@
-use Rattle.std.proofs.Common.{◌≡◌, length, take}
-use Rattle.std.specs.Str.Lines.{lines}
-use Rattle.rbbi_script.specs.Files.{LinesWrite}
-use Rattle.rbbi_script.proofs.reader.read_lines.Given as goal
-
-abbrev pub invariant-loop-line : goal.invariant-loop-line
-invariant-loop-line l = (l.number ≡ length l.yielded) × LinesWrite (take l.number (lines l.text)) l.commands
