@@ -1,4 +1,4 @@
--- What only this crate's own code and proofs cite. Nothing that is promised rests on it.
+-- Rows of positions, automata of sets of positions, partitions of their rows, and least tables, as code and proofs here see them.
 pub mod Automata
 pub mod PositionRows
 pub mod PositionAutomata

@@ -80,7 +80,8 @@ impl NumberedRows {
     fn find(&self, row: &[u64], bucket: usize) -> Option<usize>
         requires value { bucket ≡ bucket_of row.now }
         requires within { bucket < 32768 }
-        ensures found { IfSome result (λ i. (i < length self.now) × (listed_row self.now i ≡ row.now)) }
+        ensures found { IfSome result (λ i.
+            (i < length self.now) × (listed_row self.now i ≡ row.now)) }
         ensures absent { IsNone result → IsUnlisted self.now row.now }
     {
         let mut at = self.newest[bucket] as usize;
