@@ -110,7 +110,8 @@ fn parts_of(alloc: Global, bytes: &[u8]) -> Result<Parts, AllocError>
 /// The table that the bytes of a table file spell.
 ///
 /// Refuses `BadMagic` if the first eight bytes aren't those of a table file; otherwise `Short` if
-/// the file ends before its parts do; otherwise `Trailing` if bytes follow; otherwise `Part` with the first part that isn't valid. Lengths are checked before memory is taken.
+/// the file ends before its parts do; otherwise `Trailing` if bytes follow; otherwise `Part` with
+/// the first part that isn't valid. Lengths are checked before memory is taken.
 pub fn read_table(alloc: Global, bytes: &[u8]) -> Result<Table, FileErr>
     requires { length bytes.now ≤ most_bytes }
     ensures exact { ReadsTable bytes.now result }

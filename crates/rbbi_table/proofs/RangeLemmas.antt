@@ -41,7 +41,8 @@ held before (range ∷ next ∷ ranges) (suc k) c apart short begins ends =
     ∙ held range.category (next ∷ ranges) k c apart.2 (omega (arith, short)) begins (λ more. ends (omega (arith, more)))
 
 -- the category of a code point is that of the range that holds it
-pub category_held : (ranges : List CategoryRange) (k c : ℕ) → AreApart ranges → HoldsCodePoint ranges k c → category_of ranges c ≡ (get_or ranges k no_range).category
+pub category_held : (ranges : List CategoryRange) (k c : ℕ) → AreApart ranges → HoldsCodePoint ranges k c →
+    category_of ranges c ≡ (get_or ranges k no_range).category
 category_held ranges k c apart holds =
     let one : k + 1 ≡ suc k = omega arith in
     held 0 ranges k c apart holds.within holds.begins (λ more. subst (λ m. c < start_of ranges m) one (holds.ends (omega (arith, more))))

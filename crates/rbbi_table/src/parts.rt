@@ -29,8 +29,8 @@ impl Model for RangeRow {
 /// `rbbi_model`.
 #[derive(Clone, Copy, Debug, PartialEq, Eq)]
 pub struct RowHead {
-    /// 0 if no rule ends, 1 if some rule ends and no look-ahead rule, and `k + 2` if look-ahead rule
-    /// `k` is completed.
+    /// 0 if no rule ends, 1 if some rule ends and no look-ahead rule, and `k + 2` if look-ahead
+    /// rule `k` is completed.
     pub accept: u16,
     /// Bit `k` is set if the front of look-ahead rule `k` ends.
     pub fronts: u32,

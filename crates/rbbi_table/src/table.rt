@@ -48,8 +48,8 @@ impl Model for Table {
 impl Table {
     /// The table of these parts.
     ///
-    /// Refuses `BadRanges`, `BadLists`, `BadRows`, `BadFronts` or `BadSafe` if that part is the first
-    /// that isn't valid. The checks of fronts and safe pairs go over rows and categories,
+    /// Refuses `BadRanges`, `BadLists`, `BadRows`, `BadFronts` or `BadSafe` if that part is the
+    /// first that isn't valid. The checks of fronts and safe pairs go over rows and categories,
     /// never over ways through the table.
     pub fn from_parts(alloc: Global, parts: &Parts) -> Result<Table, TableErr>
         requires { HasFittingParts (table_of parts.now) }
@@ -194,8 +194,8 @@ impl Table {
         self.blocks.category(c)
     }
 
-    /// Whether the pair of categories is safe: after both, it no longer matters in which row a search
-    /// was.
+    /// Whether the pair of categories is safe: after both, it no longer matters in which row a
+    /// search was.
     pub fn is_safe(&self, c1: u16, c2: u16) -> bool
         requires first { c1 < self.now.categories }
         requires second { c2 < self.now.categories }
