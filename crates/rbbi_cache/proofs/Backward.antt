@@ -11,8 +11,8 @@ use Rattle.rbbi_model.specs.Searches.{next_boundary, follow_by, fresh}
 use Rattle.rbbi_model.specs.Runs.{Entry, Run, IsAnchor, low, boundary_of}
 use Rattle.rbbi_model.specs.Costs.{settles}
 use Rattle.rbbi_model.proofs.Lists.{all_append, all_right, all_through}
-use Rattle.rbbi_cache.specs.inner.Scans.{HasGoneOn, GoesOn}
-use Rattle.rbbi_cache.specs.inner.Ready.{IsReady, IsReadyBack, HasNoneBefore}
+use Rattle.rbbi_cache.specs.inner.Scans.{HasGoneOn, ContinuesScan}
+use Rattle.rbbi_cache.specs.inner.Ready.{IsReadyAfter, IsReadyBefore, HasNoneBefore}
 use Rattle.rbbi_cache.proofs.Reached.{rest_after}
 use Rattle.rbbi_cache.proofs.RunFacts as facts
 use Rattle.rbbi_cache.proofs.Scanned.{fresh_is, run_ends}
@@ -60,7 +60,7 @@ zero_settles table x i q is = or_left (eqb q 0) (list_any (λ (member : Boundary
 module _ (table : Table) (valid : IsValidTable table) (x : List ℕ) (i p : ℕ) (some : 0 < i) (short : i ≤ length x) (near : (p ≡ 0) ⊎ (p + 2 ≤ i)) (anchor :
     IsAnchor table x p)
     (run : Run) (begun : run ≡ record { anchor = p; entries = []; leads = true }) (here : Entry) (after : Run) (before now : ℕ)
-    (gone_on : GoesOn table x run.anchor (i - 1) (record { at = p; status = 0; reach = 0 }) run here after before now) (past : i - 1 < here.at) where
+    (gone_on : ContinuesScan table x run.anchor (i - 1) (record { at = p; status = 0; reach = 0 }) run here after before now) (past : i - 1 < here.at) where
   pub up_to : p ≤ i - 1
   up_to = ⊎_elim (λ zero. omega arith) (λ far. omega arith) near
 
@@ -87,7 +87,7 @@ module _ (table : Table) (valid : IsValidTable table) (x : List ℕ) (i p : ℕ)
     low_is = let within = low_near in omega arith;
   }
 
-  ready : (kept : List Run) → IsReady table x (i - 1) kept here after
+  ready : (kept : List Run) → IsReadyAfter table x (i - 1) kept here after
   ready kept = anchor_ready table valid x (i - 1) p run begun up_to (omega arith) here after before now gone_on past anchored kept
 
   -- with one entry or none, nothing was found before the place
@@ -154,9 +154,9 @@ module _ (table : Table) (valid : IsValidTable table) (x : List ℕ) (i p : ℕ)
         ) in
         ap (λ n. get_or entries n d) long ∙ ap (λ l. get_or l (length parts.0) d) (same ∙ whole) ∙ get_or-append_seam parts.0 parts.1.0 (gone.scan.here ∷ []) d
 
-    pub ready_back : (kept : List Run) (e : Entry) → e ≡ parts.1.0 → IsReadyBack table x i kept e after
+    pub ready_back : (kept : List Run) (e : Entry) → e ≡ parts.1.0 → IsReadyBefore table x i kept e after
     ready_back kept e same =
-        subst (λ f. IsReadyBack table x i kept f after) (sym same)
+        subst (λ f. IsReadyBefore table x i kept f after) (sym same)
         (record {
           is_true = (ready kept).is_true;
           shows = (

@@ -9,9 +9,9 @@ use Rattle.rbbi_model.specs.Costs.{anchor_below, searches_cost}
 use Rattle.rbbi_model.proofs.Lists.{all_right}
 use Rattle.rbbi_cache.specs.inner.Pushed.{pushed}
 use Rattle.rbbi_cache.specs.inner.Lists.{GoesOnFrom}
-use Rattle.rbbi_cache.specs.inner.Scans.{Reached, Scan, IsScan, HasBegun, HasGoneOn, GoesOn}
+use Rattle.rbbi_cache.specs.inner.Scans.{Reached, Scan, IsScan, HasBegun, HasGoneOn, ContinuesScan}
 use Rattle.rbbi_cache.specs.Kept.{IsExtendedBy}
-use Rattle.rbbi_cache.specs.inner.Ready.{IsReady, GoesOnAs}
+use Rattle.rbbi_cache.specs.inner.Ready.{IsReadyAfter, GoesOnAs}
 use Rattle.rbbi_cache.proofs.Scanned.{scan_from_anchor, scan_from_entry}
 use Rattle.std.specs.List.{AllByRecursion}
 use Rattle.rbbi_cache.proofs.Nearer.{searched_path, nearer_cost}
@@ -39,14 +39,15 @@ module _ (table : Table) (valid : IsValidTable table) (x : List ℕ) (i : ℕ) w
     pub begins_at_anchor : HasBegun table x run.anchor i (record { at = p; status = 0; reach = 0 }) run
     begins_at_anchor = record { scan = at_anchor; is = subst (λ a. IsScan table x a i at_anchor run) (sym (ap (λ r. r.anchor) begun)) starts; here_is = refl }
 
-    module _ (here : Entry) (after : Run) (before now : ℕ) (gone : GoesOn table x run.anchor i (record { at = p; status = 0; reach = 0 }) run here after before
+    module _ (here : Entry) (after : Run) (before now : ℕ)
+        (gone : ContinuesScan table x run.anchor i (record { at = p; status = 0; reach = 0 }) run here after before
         now) (past : i < here.at) where
       pub gone_from_anchor : HasGoneOn table x p i at_anchor here after before now
       gone_from_anchor =
           subst (λ a. HasGoneOn table x a i at_anchor here after before now) (ap (λ r. r.anchor) begun)
           (gone at_anchor (subst (λ a. IsScan table x a i at_anchor run) (sym (ap (λ r. r.anchor) begun)) starts) refl)
 
-      pub anchor_ready : IsAnchorBelow table x i p → (kept : List Run) → IsReady table x i kept here after
+      pub anchor_ready : IsAnchorBelow table x i p → (kept : List Run) → IsReadyAfter table x i kept here after
       anchor_ready anchor kept = ready_from_anchor table valid x i p anchor at_anchor refl here after before now gone_from_anchor past kept
 
       pub anchor_cost : now ≤ before + searches_cost table x p i
@@ -87,7 +88,7 @@ module _ (table : Table) (valid : IsValidTable table) (x : List ℕ) (i : ℕ) (
         x i former is_true from goes).below,
   )
 
-  module _ (here : Entry) (after : Run) (before now : ℕ) (gone : GoesOn table x run.anchor i from run here after before now) (past : i < here.at) where
+  module _ (here : Entry) (after : Run) (before now : ℕ) (gone : ContinuesScan table x run.anchor i from run here after before now) (past : i < here.at) where
     gone_there : HasGoneOn table x former.anchor i from_entry here after before now
     gone_there =
         subst (λ a. HasGoneOn table x a i from_entry here after before now) (ap (λ r. r.anchor) begun)
@@ -140,7 +141,7 @@ module _ (table : Table) (valid : IsValidTable table) (x : List ℕ) (i : ℕ) (
               (found_is leads),
         ) in (
           subst (IsExtendedBy former) (sym same) (is_extended table valid x i former is_true from goes from_entry refl here after before now gone_there past),
-          λ kept among. subst (IsReady table x i kept here) (sym same) (ready_extended table valid x i former is_true from goes from_entry refl here after
+          λ kept among. subst (IsReadyAfter table x i kept here) (sym same) (ready_extended table valid x i former is_true from goes from_entry refl here after
               before now gone_there past few kept among),
         )
 
@@ -148,6 +149,6 @@ module _ (table : Table) (valid : IsValidTable table) (x : List ℕ) (i : ℕ) (
     pub beside_as : (run' spare : Run) → run' ≡ former → spare ≡ record after { leads = false } → GoesOnAs table x i former here false run' spare
     beside_as run' spare same is = (
       same,
-      λ kept among. subst (IsReady table x i kept here) (sym is) (ready_beside table valid x i former is_true from goes from_entry refl here after
+      λ kept among. subst (IsReadyAfter table x i kept here) (sym is) (ready_beside table valid x i former is_true from goes from_entry refl here after
           before now gone_there past kept among),
     )

@@ -10,12 +10,12 @@ use Rattle.rbbi_model.specs.Runs.{Entry, Run, low, boundary_of}
 use Rattle.rbbi_model.specs.Costs.{characters_read}
 use Rattle.rbbi_model.proofs.Found.{found_lies}
 use Rattle.rbbi_cache.specs.inner.Pushed.{pushed}
-use Rattle.rbbi_cache.specs.inner.Scans.{Scan, IsScan, IsNextEntry, HasGoneOn, GoesOn}
+use Rattle.rbbi_cache.specs.inner.Scans.{Scan, IsScan, IsNextEntry, HasGoneOn, ContinuesScan}
 use Rattle.rbbi_cache.proofs.Scanning.{found_next, skipped_next}
 
 -- One search more was made from an entry, whose place and reach are given, and it found the next one.
 module _ (table : Table) (x : List ℕ) (p i : ℕ) (from : Entry) (first : Run) (here : Entry) (run : Run) (before now : ℕ)
-    (gone : GoesOn table x p i from first here run before now) (short : i < length x)
+    (gone : ContinuesScan table x p i from first here run before now) (short : i < length x)
     (at reach : ℕ) (at_is : at ≡ here.at) (reach_is : reach ≡ here.reach) (up_to : at ≤ i)
     (next : Entry) (look : ℕ) (next_at : next.at ≡ (found table x at).at) (next_status : next.status ≡ (found table x at).list)
     (look_is : look ≡ look_end table x at) (next_reach : next.reach ≡ max reach look)
@@ -72,13 +72,13 @@ module _ (table : Table) (x : List ℕ) (p i : ℕ) (from : Entry) (first : Run)
           read = omega (arith, read_is, so.read, sum_by_push (λ (b : Boundary). characters_read table x b.at) so.searched (boundary_of table here));
         }
 
-  pub goes_found : low p ≤ next.at → GoesOn table x p i from first next (pushed run next) before now'
+  pub goes_found : low p ≤ next.at → ContinuesScan table x p i from first next (pushed run next) before now'
   goes_found high start is here_start =
       let so = gone start is here_start in
       one_more start is here_start so.scan.skipped (so.scan.found ++ next ∷ []) (pushed run next)
       (found_next table x p i so.scan run so.is (up_to_here start is here_start) (short_here start is here_start) next (next_here start is here_start) high)
 
-  pub goes_skipped : next.at < low p → GoesOn table x p i from first next run before now'
+  pub goes_skipped : next.at < low p → ContinuesScan table x p i from first next run before now'
   goes_skipped near start is here_start =
       let so = gone start is here_start in
       one_more start is here_start (so.scan.skipped ++ boundary_of table next ∷ []) so.scan.found run

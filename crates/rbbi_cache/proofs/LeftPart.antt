@@ -15,7 +15,7 @@ use Rattle.rbbi_model.specs.Searches.{look_end, next_boundary, follow_by, fresh}
 use Rattle.rbbi_model.specs.Runs.{Entry, Run, category_at, IsAnchor, low, boundary_of, farthest_look, ReachesRise, LeadsTruly, IsTrueRun}
 use Rattle.rbbi_model.proofs.SearchesAlike.{finds_alike}
 use Rattle.rbbi_model.proofs.Lists.{all_append, all_left, all_right, all_through}
-use Rattle.rbbi_cache.specs.Edits.{IsEdited, left_part}
+use Rattle.rbbi_cache.specs.Edits.{IsSpliced, left_part}
 use Rattle.rbbi_cache.proofs.Lists.{filter_none}
 use Rattle.rbbi_cache.specs.inner.Scans.{Reached}
 use Rattle.rbbi_cache.proofs.Reached.{first_member, farthest_is, rest_after}
@@ -99,7 +99,7 @@ stay : (bs : List Boundary) → map (λ (b : Boundary). let c : Boundary = recor
 stay [] = refl
 stay (b ∷ bs) = ap (λ l. b ∷ l) (stay bs)
 
-module _ (table : Table) (valid : IsValidTable table) (x y : List ℕ) (at removed inserted : ℕ) (edited : IsEdited x y at removed inserted) (run : Run)
+module _ (table : Table) (valid : IsValidTable table) (x y : List ℕ) (at removed inserted : ℕ) (edited : IsSpliced x y at removed inserted) (run : Run)
     (is_true : IsTrueRun table x run) where
   here : (b : Boundary) → b.at < length x → look_end table x b.at ≤ at → IsCarried table x y (λ q. q) b
   here b short look =

@@ -14,7 +14,7 @@ use Rattle.rbbi_model.specs.Runs.{Entry, Run, category_at, low, boundary_of, far
 use Rattle.rbbi_model.proofs.Found.{found_lies}
 use Rattle.rbbi_model.proofs.SearchesAlike.{finds_alike}
 use Rattle.rbbi_model.proofs.Lists.{all_append, all_left, all_through}
-use Rattle.rbbi_cache.specs.Edits.{IsEdited, moved_entry}
+use Rattle.rbbi_cache.specs.Edits.{IsSpliced, moved_entry}
 use Rattle.rbbi_cache.proofs.Lists.{all_map, everywhere}
 use Rattle.rbbi_cache.specs.inner.Scans.{Reached}
 use Rattle.rbbi_cache.proofs.Reached.{first_member, farthest_is, rest_after, reached_start}
@@ -43,7 +43,7 @@ rises_moved removed inserted [] rise = tt
 rises_moved removed inserted (e ∷ []) rise = tt
 rises_moved removed inserted (e ∷ f ∷ entries) rise = (omega (arith, rise.0), rises_moved removed inserted (f ∷ entries) rise.1)
 
-module _ (table : Table) (valid : IsValidTable table) (x y : List ℕ) (at removed inserted : ℕ) (edited : IsEdited x y at removed inserted) where
+module _ (table : Table) (valid : IsValidTable table) (x y : List ℕ) (at removed inserted : ℕ) (edited : IsSpliced x y at removed inserted) where
   -- the categories behind the edit are the same
   pub same_category : (p : ℕ) → at + removed ≤ p → category_at table y (p + inserted - removed) ≡ category_at table x p
   same_category p from =

@@ -12,7 +12,7 @@ use Rattle.rbbi_model.specs.ValidTables.{IsValidTable}
 use Rattle.rbbi_model.specs.Runs.{Run, category_at, boundary_of, IsTrueRun}
 use Rattle.rbbi_model.proofs.Lists.{all_take}
 use Rattle.rbbi_cache.specs.Kept.{AreTrueRuns, most_runs}
-use Rattle.rbbi_cache.specs.Edits.{IsEdited, begins_pair, IsFirstPair, HasNoPair, left_part, moved_run, goes_whole, IsRightPart, Whole, Behind}
+use Rattle.rbbi_cache.specs.Edits.{IsSpliced, begins_pair, IsFirstPair, HasNoPair, left_part, moved_run, goes_whole, IsRightPart, Whole, Behind}
 use Rattle.rbbi_cache.specs.Edits.{Nothing, has_entries, AreParts, AreKeptAfter}
 use Rattle.rbbi_cache.specs.inner.Parts.{IsPlaced, IsMovable, is_found_at, moves_whole, part_behind, right_part, all_parts}
 use Rattle.rbbi_cache.proofs.Reached.{first_member}
@@ -49,7 +49,7 @@ movable table valid x run is_true small =
           ));
     }
 
-module _ (table : Table) (valid : IsValidTable table) (x y : List ℕ) (at removed inserted : ℕ) (edited : IsEdited x y at removed inserted) where
+module _ (table : Table) (valid : IsValidTable table) (x y : List ℕ) (at removed inserted : ℕ) (edited : IsSpliced x y at removed inserted) where
   -- a pair behind the edit begins in both texts
   begins_same : (p q : ℕ) → at + removed ≤ p → p + inserted - removed ≡ q → begins_pair table x p ≡ begins_pair table y q
   begins_same p q behind is =

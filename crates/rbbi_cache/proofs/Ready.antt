@@ -19,7 +19,7 @@ use Rattle.rbbi_cache.specs.Kept.{HasLeastReaches, EndFormerRun, IsExtendedBy}
 use Rattle.rbbi_cache.specs.inner.Lists.{GoesOnFrom}
 use Rattle.rbbi_cache.specs.Shown.{IsShownAfter}
 use Rattle.rbbi_cache.specs.inner.Scans.{Scan, IsScan, HasGoneOn}
-use Rattle.rbbi_cache.specs.inner.Ready.{IsReady, IsAmong}
+use Rattle.rbbi_cache.specs.inner.Ready.{IsReadyAfter, IsAmong}
 use Rattle.rbbi_cache.proofs.Reached.{cost_is}
 use Rattle.rbbi_cache.proofs.RightPart.{entries_rise}
 use Rattle.rbbi_cache.proofs.RunFacts as facts
@@ -94,7 +94,7 @@ module _ (table : Table) (valid : IsValidTable table) (x : List ℕ) (i : ℕ) w
   -- A run made from an anchor.
   pub ready_from_anchor : (p : ℕ) → IsAnchorBelow table x i p → (start : Scan) → start.known ≡ [] → (here : Entry) (run : Run) (before now : ℕ) →
       HasGoneOn table x p i start here run before now → i < here.at →
-      (kept : List Run) → IsReady table x i kept here run
+      (kept : List Run) → IsReadyAfter table x i kept here run
   ready_from_anchor p anchor start unknown here run before now gone past kept =
       let is = gone.is in
       let past' : i < gone.scan.here.at = omega (arith, ap (λ e. e.at) gone.here_is) in
@@ -155,7 +155,7 @@ module _ (table : Table) (valid : IsValidTable table) (x : List ℕ) (i : ℕ) w
 
     -- the kept run, extended
     pub ready_extended : length (former.entries ++ gone.scan.found) ≤ 256 → (kept : List Run) → IsAmong kept former →
-        IsReady table x i kept here (record { anchor = former.anchor; entries = former.entries ++ gone.scan.found; leads = former.leads })
+        IsReadyAfter table x i kept here (record { anchor = former.anchor; entries = former.entries ++ gone.scan.found; leads = former.leads })
     ready_extended few kept among =
         let ends = found_ends in
         let new_up_to : AllByRecursion (λ e. e.at ≤ i) (from ∷ ends.0) =
@@ -179,7 +179,7 @@ module _ (table : Table) (valid : IsValidTable table) (x : List ℕ) (i : ℕ) w
 
     -- another run
     pub ready_beside : (kept : List Run) → IsAmong kept former →
-        IsReady table x i kept here (record { anchor = run.anchor; entries = run.entries; leads = false })
+        IsReadyAfter table x i kept here (record { anchor = run.anchor; entries = run.entries; leads = false })
     ready_beside kept among =
         let is = gone.is in
         let some = some_entry former.anchor gone.scan run is past_here anchored.low_is in

@@ -19,7 +19,7 @@ use Rattle.rbbi_model.proofs.Rising.{rising_tail}
 use Rattle.rbbi_model.proofs.Anchors.{safe_here}
 use Rattle.rbbi_model.proofs.Shown.{rising_left, places_of_entries}
 use Rattle.rbbi_model.proofs.Lists.{all_append, all_left, all_right, all_through}
-use Rattle.rbbi_cache.specs.Edits.{IsEdited, begins_pair, moved_entry, moved_run, run_behind, goes_whole, IsRightPart, Whole, Behind, Nothing}
+use Rattle.rbbi_cache.specs.Edits.{IsSpliced, begins_pair, moved_entry, moved_run, run_behind, goes_whole, IsRightPart, Whole, Behind, Nothing}
 use Rattle.rbbi_cache.proofs.Lists.{filter_all, filter_none, filter_same, everywhere}
 use Rattle.rbbi_cache.proofs.Reached.{done_before, rises_after, rising_right}
 use Rattle.rbbi_cache.proofs.RunFacts.{rises_past, reaches_right}
@@ -185,7 +185,7 @@ module _ (table : Table) (valid : IsValidTable table) (x : List ℕ) (p : ℕ) w
   pair_begins room safe = and_from (leb (p + 2) (length x)) (is_safe table (category_at table x p) (category_at table x (p + 1)))
       (le-leb (p + 2) (length x) room) ((safe_here table valid x p).1 safe)
 
-module _ (table : Table) (valid : IsValidTable table) (x y : List ℕ) (at removed inserted : ℕ) (edited : IsEdited x y at removed inserted) (run : Run)
+module _ (table : Table) (valid : IsValidTable table) (x y : List ℕ) (at removed inserted : ℕ) (edited : IsSpliced x y at removed inserted) (run : Run)
     (is_true : IsTrueRun table x run) where
   -- what is kept behind a pair is the last entries, moved
   kept_behind : (q q' : ℕ) → at + removed ≤ q' → q' + inserted - removed ≡ q → removed ≤ q' → (entries : List Entry) →

@@ -9,7 +9,7 @@ use Rattle.rbbi_model.specs.Tables.{Table, stops}
 use Rattle.rbbi_model.specs.Searches.{row_at, search_end, look_end}
 use Rattle.rbbi_model.specs.ReadAlike.{ReadsAlike}
 use Rattle.rbbi_model.proofs.Found.{end_lies, look_lies}
-use Rattle.rbbi_cache.specs.Edits.{IsEdited}
+use Rattle.rbbi_cache.specs.Edits.{IsSpliced}
 
 -- a search ends where it looks to, or at the text's end before it
 pub end_by_look : (table : Table) (x : List ℕ) (s : ℕ) → s < length x → search_end table x s ≤ look_end table x s
@@ -20,7 +20,7 @@ end_by_look table x s short =
     (λ fails. omega (arith, lies.1, cond-false (stops table (row_at table x s (search_end table x s))) (search_end table x s) (length x + 1) fails))
     (cases_Bool (stops table (row_at table x s (search_end table x s))))
 
-module _ (x y : List ℕ) (at removed inserted : ℕ) (edited : IsEdited x y at removed inserted) where
+module _ (x y : List ℕ) (at removed inserted : ℕ) (edited : IsSpliced x y at removed inserted) where
   long : length (take at x) ≡ at
   long = let within = edited.within in omega (arith, length-take at x)
 

@@ -5,10 +5,11 @@ use Rattle.rbbi_model.specs.Tables.{Table}
 use Rattle.rbbi_model.specs.SafePairs.{is_safe}
 use Rattle.rbbi_model.specs.Scripts.{splice}
 use Rattle.rbbi_model.specs.Runs.{Entry, Run, category_at}
-use Rattle.rbbi_cache.specs.Kept.{most_runs}
+use Rattle.rbbi_model.specs.Words.{most_characters}
+use Rattle.rbbi_cache.specs.Kept.{most_runs, AreTrueRuns}
 
 -- y is x with so many characters from `at` on replaced by so many others
-pub record IsEdited (x y : List ℕ) (at removed inserted : ℕ) : Type 0 where
+pub record IsSpliced (x y : List ℕ) (at removed inserted : ℕ) : Type 0 where
   pub within : at + removed ≤ length x
   pub characters : List ℕ
   pub many : length characters ≡ inserted
@@ -94,3 +95,15 @@ pub record AreKeptAfter (table : Table) (x y : List ℕ) (at removed inserted : 
   pub parts : List Run
   pub are_parts : AreParts table x y at removed inserted former parts
   pub now_are : now ≡ take most_runs (filter has_entries parts)
+
+-- The runs were true of a text that became y by the edit.
+pub record WereTrue (table : Table) (y : List ℕ) (at removed inserted : ℕ) (runs : List Run) : Type 0 where
+  pub text : List ℕ
+  pub edited : IsSpliced text y at removed inserted
+  pub small : length text ≤ most_characters
+  pub are_true : AreTrueRuns table text runs
+
+-- What is kept after the edit, whatever text it was of which the runs were true.
+abbrev pub AreKeptAfterAny : Table → List ℕ → ℕ → ℕ → ℕ → List Run → List Run → Type 0
+AreKeptAfterAny table y at removed inserted former now =
+    (x : List ℕ) → IsSpliced x y at removed inserted → AreTrueRuns table x former → AreKeptAfter table x y at removed inserted former now

@@ -1,5 +1,4 @@
 pub mod Kept
 pub mod Edits
-pub mod Parts
 pub mod Shown
 pub mod inner

@@ -1,6 +1,5 @@
 -- Entries that a run shows.
-use Rattle.std.specs.Prelude.{◌≡◌, ℕ, ◌<◌, ◌≤◌, List, length, take, drop}
-use Rattle.std.specs.List.{AllByRecursion}
+use Rattle.std.specs.Prelude.{◌≡◌, ℕ, List}
 use Rattle.rbbi_model.specs.Runs.{Entry, Run, ShowsAfter, ShowsBefore}
 
 -- the run shows the entry to be the first boundary past i

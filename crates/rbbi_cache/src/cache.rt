@@ -1,4 +1,4 @@
-//! The boundaries that are kept between questions.
+//! The cache, and the questions that it answers.
 ghost use Rattle.std.specs.Prelude.{◌≡◌, ℕ, ◌+◌, ◌<◌, ◌≤◌, [], length, MatchOption, IfOk};
 ghost use Rattle.rbbi_model.specs.Words.{most_characters};
 ghost use Rattle.rbbi_model.specs.Costs.{anchor_below, searches_cost, forward_cost, back_cost};
@@ -11,10 +11,10 @@ ghost use Rattle.rbbi_cache.specs.inner.Lists.{HasAt, GoesOnFrom};
 ghost use Rattle.rbbi_cache.specs.inner.Ready.{KeepsTrue};
 
 use crate::anchors::anchor_before;
-use crate::back::search_back;
 use crate::run_list::RunList;
 use crate::runs::{Shown, find_after, find_before, find_nearest};
 use crate::search::search;
+use crate::search_back::search_back;
 use crate::{Entry, Run};
 use rbbi_table::{Marks, Table};
 use rbbi_text::{Chars, Steps};
@@ -36,7 +36,7 @@ pub struct Cache {
     pub(crate) runs: RunList,
     /// Room for what an edit leaves of the runs.
     pub(crate) next: RunList,
-    /// The run that a question makes, before it is kept.
+    /// The run that a search fills, before it is kept.
     pub(crate) spare: Run,
     /// Scratch space of searches.
     pub(crate) marks: Marks,
@@ -74,9 +74,9 @@ impl Cache {
     /// The first boundary of the text past `i`, in characters from 0, or None where `i` is its
     /// length or more.
     ///
-    /// Where a kept run shows the answer, no character is read. Otherwise it searches from the
-    /// nearest place before `i` that serves, the last entry of a kept run or an anchor, and keeps
-    /// what it finds in the first run. It takes no memory.
+    /// If a kept run shows the answer, no character is read. Otherwise it searches from the
+    /// greatest anchor below `i`, or goes on from the last entry of a kept run that lies between
+    /// that anchor and `i`, and keeps what it finds in the first run. It takes no memory.
     pub fn after<T: Chars, L: Ledger>(
         &mut self,
         table: &Table,
@@ -114,7 +114,7 @@ impl Cache {
 
     /// The last boundary of the text before `i`, in characters from 0, or None where `i` is 0.
     ///
-    /// Where a kept run shows the answer, no character is read. Otherwise it searches from anchors
+    /// If a kept run shows the answer, no character is read. Otherwise it searches from anchors
     /// that lie farther and farther back, and keeps what it finds in the first run, unless the
     /// answer is 0. It takes no memory.
     pub fn before<T: Chars, L: Ledger>(
@@ -156,8 +156,8 @@ impl Cache {
         Some(self.find_back(table, text, i, steps))
     }
 
-    /// Searches for the first boundary past `i`, from the nearest place that serves, and keeps what
-    /// it finds.
+    /// Searches for the first boundary past `i`, from the greatest anchor below `i` or from the
+    /// last entry of a kept run, and keeps what it finds.
     fn find_past<T: Chars, L: Ledger>(
         &mut self,
         table: &Table,
@@ -186,7 +186,7 @@ impl Cache {
         self.find_on(table, text, i, known, steps)
     }
 
-    /// Searches from the greatest anchor before `i`.
+    /// Searches from the greatest anchor below `i`, and keeps what it finds.
     fn find_from<T: Chars, L: Ledger>(
         &mut self,
         table: &Table,
@@ -214,7 +214,8 @@ impl Cache {
         entry
     }
 
-    /// Searches on from the last entry of a kept run, with no anchor between that and `i`.
+    /// Goes on from the last entry of a kept run, with no anchor between that and `i`, and keeps
+    /// what it finds.
     fn find_on<T: Chars, L: Ledger>(
         &mut self,
         table: &Table,

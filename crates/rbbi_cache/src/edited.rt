@@ -5,7 +5,7 @@ ghost use Rattle.rbbi_model.specs.Costs.{edit_cost};
 ghost use Rattle.rbbi_cache.specs.Kept.{AreTrueRuns, most_runs};
 ghost use Rattle.rbbi_cache.specs.Edits.{left_part, has_entries};
 ghost use Rattle.rbbi_cache.specs.inner.Parts.{IsMovable, right_part};
-ghost use Rattle.rbbi_cache.specs.Parts.{WereTrue, AreKeptAfterAny};
+ghost use Rattle.rbbi_cache.specs.Edits.{WereTrue, AreKeptAfterAny};
 
 use crate::anchors::first_pair;
 use crate::parts::{Edit, copy_left, copy_right};
@@ -57,8 +57,8 @@ fn add_right(run: &Run, edit: Edit, pair: Option<u32>, next: &mut [Run], count: 
     if part.len() == 0 { count } else { count + 1 }
 }
 
-/// Makes of the kept runs those that are true after an edit, and answers how many there are. It is
-/// given the text after the edit, and reads at most 1,025 characters of it.
+/// Fills the slots with the parts that an edit leaves of the kept runs, and answers how many there
+/// are. It is given the text after the edit, and reads at most 1,025 characters of it.
 pub(crate) fn keep_edited<T: Chars, L: Ledger>(
     table: &Table,
     text: &T,
@@ -89,7 +89,7 @@ pub(crate) fn keep_edited<T: Chars, L: Ledger>(
 }
 
 impl RunList {
-    /// Makes this list what an edit leaves of kept runs.
+    /// Makes this list the parts that an edit leaves of the kept runs.
     fn fill_edited<T: Chars, L: Ledger>(
         &mut self,
         table: &Table,

@@ -1,8 +1,7 @@
-//! What boundaries are kept in between questions: runs that were found from one anchor.
+//! A cache of boundaries, which answers questions on one text and outlives its edits.
 #![tactic(auto)]
 
 mod anchors;
-mod back;
 mod cache;
 mod edited;
 mod entry;
@@ -13,6 +12,7 @@ mod run_list;
 mod runs;
 mod scan;
 mod search;
+mod search_back;
 mod shown;
 
 pub use cache::Cache;

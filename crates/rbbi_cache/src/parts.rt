@@ -45,7 +45,8 @@ fn restart(run: &mut Run, anchor: u32, leads: bool)
     }
 }
 
-/// Adds the entries, moved by an edit before them, but those that come to lie before a place.
+/// Adds the entries, moved by an edit before them, and leaves out those that then lie before a
+/// place.
 fn append_moved(run: &mut Run, entries: &[Entry], edit: Edit, first: u32)
     requires can_move { AllByRecursion (CanMove edit.removed) entries.now }
     requires small { edit.inserted ≤ most_characters }
@@ -68,8 +69,8 @@ fn append_moved(run: &mut Run, entries: &[Entry], edit: Edit, first: u32)
     }
 }
 
-/// Makes a run the left part of a kept one: what was found by searches that looked at nothing from
-/// the edit on.
+/// Copies the left part of a kept run: the entries that were found by searches that read nothing
+/// from the edit on.
 pub(crate) fn copy_left(run: &Run, edit: Edit, part: &mut Run)
     requires { IsMovable run.now }
     ensures { part.new ≡ left_part edit.at run.now }
@@ -79,7 +80,7 @@ pub(crate) fn copy_left(run: &Run, edit: Edit, part: &mut Run)
     part.append(&run.entries()[..left]);
 }
 
-/// Makes a run the whole of a kept one that lies behind the edit, moved.
+/// Copies the whole of a kept run that lies behind the edit, moved.
 fn copy_moved(run: &Run, edit: Edit, part: &mut Run)
     requires movable { IsMovable run.now }
     requires behind { edit.at + edit.removed ≤ run.now.anchor }
@@ -98,7 +99,7 @@ fn copy_moved(run: &Run, edit: Edit, part: &mut Run)
     append_moved(part, &run.entries()[left..], edit, first);
 }
 
-/// Makes a run of what lies behind a safe pair of the new text.
+/// Copies the entries that lie behind a safe pair of the new text, moved.
 fn copy_behind(run: &Run, edit: Edit, pair: u32, part: &mut Run)
     requires movable { IsMovable run.now }
     requires within { edit.at + edit.removed ≤ most_characters }
@@ -111,8 +112,8 @@ fn copy_behind(run: &Run, edit: Edit, pair: u32, part: &mut Run)
     append_moved(part, &run.entries()[before..], edit, pair + 2);
 }
 
-/// Whether a run goes whole. A safe pair begins at each anchor but 0; whether one begins there is
-/// told by the first one that was found.
+/// Whether a run is moved whole. A safe pair begins at each anchor but 0; whether one begins at 0
+/// is told by the first one that was found.
 fn goes_whole(run: &Run, edit: Edit, pair: Option<u32>) -> bool
     requires within { edit.at + edit.removed ≤ most_characters }
     requires small { edit.at + edit.inserted ≤ most_characters }
@@ -130,8 +131,7 @@ fn goes_whole(run: &Run, edit: Edit, pair: Option<u32>) -> bool
     }
 }
 
-/// Makes a run the right part of a kept one, by the first safe pair of the new text behind the
-/// edit.
+/// Copies the right part of a kept run, by the first safe pair of the new text behind the edit.
 pub(crate) fn copy_right(run: &Run, edit: Edit, pair: Option<u32>, part: &mut Run)
     requires movable { IsMovable run.now }
     requires within { edit.at + edit.removed ≤ most_characters }

@@ -69,8 +69,8 @@ impl RunList {
         to_front(&mut self.slots, k);
     }
 
-    /// Puts a new run before the others, in place of one that it extends. Where it extends none of
-    /// 16, the last one goes. What comes back in the new run's place isn't said.
+    /// Puts a new run before the others, in place of one that it extends. If it extends none of 16,
+    /// the last one goes. The new run's slot is left with another run, whose content isn't said.
     pub(crate) fn add(&mut self, run: &mut Run)
         requires { IsRising (map (λ entry. entry.at) run.old.entries) }
         ensures { IsPutFirst run.old self.old self.new }
@@ -94,8 +94,8 @@ impl RunList {
         self.move_to_front(k);
     }
 
-    /// Searches on from the last entry of the run with this number. What is found is added to the
-    /// run or makes a run of its own.
+    /// Goes on from the last entry of the run with this number. What is found is added to the run
+    /// or makes a run of its own.
     pub(crate) fn go_on<T: Chars, L: Ledger>(
         &mut self,
         k: usize,

@@ -1,4 +1,4 @@
-//! The list of kept runs, the most recently used first.
+//! Look-ups in the list of kept runs, and changes of its order.
 ghost use Rattle.std.specs.Prelude.{◌≡◌, ◌≢◌, ℕ, ◌+◌, ◌-◌, ◌<◌, ◌≤◌, ◌∷◌, ◌++◌, [], length, take};
 ghost use Rattle.std.specs.Prelude.{drop, min, MatchOption, List, ⊤};
 ghost use Rattle.std.specs.List.{AllByRecursion};
@@ -21,7 +21,7 @@ pub(crate) struct Shown {
     pub(crate) entry: Entry,
 }
 
-/// The first run that shows the first boundary past `i`.
+/// The first run that shows the first boundary past `i`, with that boundary.
 pub(crate) fn find_after(runs: &[Run], i: u32) -> Option<Shown>
     requires ordered { AllByRecursion (IsOrdered most_characters) runs.now }
     requires small { i < most_characters }
@@ -36,7 +36,8 @@ pub(crate) fn find_after(runs: &[Run], i: u32) -> Option<Shown>
     None
 }
 
-/// The first run that shows the last boundary before `i`, in a text of this length.
+/// The first run that shows the last boundary before `i` in a text of this length, with that
+/// boundary.
 pub(crate) fn find_before(runs: &[Run], len: u32, i: u32) -> Option<Shown>
     requires ordered { AllByRecursion (IsOrdered len) runs.now }
     requires some { 0 < i }
@@ -52,7 +53,8 @@ pub(crate) fn find_before(runs: &[Run], len: u32, i: u32) -> Option<Shown>
     None
 }
 
-/// The run that has come nearest to `i`: its last entry isn't past it. From there it can go on.
+/// A run whose last entry isn't past `i`, from which searches can go on. Of several it takes the
+/// one whose last entry is greatest, so that the least is read; no caller rests on which it is.
 pub(crate) fn find_nearest(runs: &[Run], i: u32) -> Option<Shown>
     ensures { MatchOption result ⊤ (λ shown. HasAt runs.now shown.run (GoesOnFrom i shown.entry)) }
 {

@@ -2,7 +2,7 @@
 ghost use Rattle.std.specs.Prelude.{◌≡◌, ◌<◌, ◌≤◌, length};
 ghost use Rattle.rbbi_model.specs.Words.{most_characters};
 ghost use Rattle.rbbi_model.specs.Runs.{low};
-ghost use Rattle.rbbi_cache.specs.inner.Scans.{HasBegun, GoesOn};
+ghost use Rattle.rbbi_cache.specs.inner.Scans.{HasBegun, ContinuesScan};
 
 use crate::{Entry, Run};
 use rbbi_table::{Marks, Table};
@@ -33,7 +33,7 @@ pub(crate) fn scan<T: Chars, L: Ledger>(
     requires anchor { run.old.anchor ≤ i }
     requires small { i < most_characters }
     requires begun { HasBegun table.now (T.characters text.now) run.old.anchor i from run.old }
-    ensures gone_on { GoesOn table.now (T.characters text.now) run.old.anchor i
+    ensures gone_on { ContinuesScan table.now (T.characters text.now) run.old.anchor i
         from run.old result run.new steps.old steps.new }
     ensures past { i < result.at }
     ensures fit { marks.new ≡ marks.old }

@@ -4,7 +4,7 @@ ghost use Rattle.rbbi_model.specs.Words.{most_characters};
 ghost use Rattle.rbbi_model.specs.Runs as model;
 ghost use Rattle.rbbi_model.specs.Costs.{anchor_below, searches_cost};
 ghost use Rattle.rbbi_cache.specs.inner.Lists.{GoesOnFrom};
-ghost use Rattle.rbbi_cache.specs.inner.Ready.{IsReady, GoesOnAs};
+ghost use Rattle.rbbi_cache.specs.inner.Ready.{IsReadyAfter, GoesOnAs};
 
 use crate::scan::scan;
 use crate::{Entry, Run};
@@ -15,7 +15,8 @@ use std::sync::ledger::Ledger;
 /// The most entries of a run and a copy of the one from which others were found.
 const MOST_WITH_COPY: usize = 257;
 
-/// Searches from the greatest anchor before `i`, and makes a run of what is found.
+/// Searches from the greatest anchor below `i` up to the first boundary past `i`, which it answers,
+/// and makes a run of what is found.
 pub(crate) fn search<T: Chars, L: Ledger>(
     table: &Table,
     text: &T,
@@ -30,7 +31,7 @@ pub(crate) fn search<T: Chars, L: Ledger>(
     requires small { i < most_characters }
     requires anchor { anchor ≡ anchor_below table.now (T.characters text.now) i }
     ensures ready { (kept : List model.Run) →
-        IsReady table.now (T.characters text.now) i kept result run.new }
+        IsReadyAfter table.now (T.characters text.now) i kept result run.new }
     ensures more { steps.old ≤ steps.new }
     ensures cost { steps.new
         ≤ steps.old + searches_cost table.now (T.characters text.now) anchor i }
@@ -46,9 +47,9 @@ pub(crate) fn search<T: Chars, L: Ledger>(
     scan(table, text, run, from, i, marks, steps)
 }
 
-/// Searches on from the last entry of a true run, where no anchor lies between that and `i`. What
-/// is found is added to the run, where it has room for all, and then the answer is true; otherwise
-/// it makes a run of its own, which begins with a copy of that entry.
+/// Goes on from the last entry of a true run, if no anchor lies between that and `i`. What is found
+/// is added to the run if it has room for all, and then the answer is true; otherwise it makes a
+/// run of its own, which begins with a copy of that entry.
 pub(crate) fn go_on<T: Chars, L: Ledger>(
     table: &Table,
     text: &T,

@@ -101,15 +101,14 @@ abbrev pub TakesFailedRead : List (List ℕ) → Option (List ℕ → List ℕ) 
 TakesFailedRead words contents before now taken taken' =
     (line : List ℕ) × TellsFailedRead words contents before now line × Takes taken taken' line
 
--- Both tell a table that is compiled from the same rules, and write its file under the same name. Of such a table the numbers of
--- the rows but the first two are free.
+-- both tell a table that is compiled from the same rules, perhaps not the same one, and write its file under the same name
 pub record TellOneTable (one other : Outcome) : Type 0 where
   pub rules : List Rule
   pub name : List ℕ
   pub is : TellsTable rules name one
   pub is_other : TellsTable rules name other
 
--- no two outcomes differ, but for the row numbers of a table that is compiled
+-- two outcomes are the same, or both tell a table that is compiled from the same rules
 abbrev pub HasOneOutcome : List (List ℕ) → (List ℕ → List ℕ) → Type 0
 HasOneOutcome words held =
     (one other : Outcome) → IsOutcome words held one → IsOutcome words held other → (one ≡ other) ⊎ TellOneTable one other

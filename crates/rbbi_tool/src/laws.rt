@@ -4,7 +4,7 @@ ghost use Rattle.std.specs.Prelude.{ℕ, List};
 ghost use Rattle.rbbi_tool.specs.Causes.{HasOneOutcome};
 
 /// To words over files that tell what they hold there is one outcome: one status, one text, and one
-/// file. Of a table that is compiled the row numbers are free, and so are its bytes and its line.
+/// file. Only `compile` may tell any table that is compiled from the rules that the file means.
 pub fn outcomes_are_unique()
     ensures { (words : List (List ℕ)) (held : List ℕ → List ℕ) → HasOneOutcome words held }
 {

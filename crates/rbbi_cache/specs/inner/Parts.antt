@@ -1,12 +1,10 @@
--- The parts that an edit leaves of a run, told by the first safe pair behind the edit: what only this crate cites.
+-- The parts that an edit leaves of a run, as functions of the first safe pair behind the edit.
 use Rattle.std.specs.Prelude.{◌≡◌, ℕ, ◌+◌, ◌≤◌, ◌⊎◌, Bool, false, not, ◌&&◌, ◌||◌, List, [], ◌∷◌, length, Option, Some, None, if◌then◌else◌, ◌==◌, nat_le}
 use Rattle.std.specs.List.{AllByRecursion}
 use Rattle.rbbi_model.specs.Words.{most_characters}
-use Rattle.rbbi_model.specs.Tables.{Table}
 use Rattle.rbbi_model.specs.Runs.{Entry, Run, ReachesRise}
-use Rattle.rbbi_cache.specs.Kept.{AreTrueRuns}
 use Rattle.rbbi_cache.specs.inner.Lists.{IsOrdered}
-use Rattle.rbbi_cache.specs.Edits.{IsEdited, AreKeptAfter, left_part, moved_run, run_behind}
+use Rattle.rbbi_cache.specs.Edits.{left_part, moved_run, run_behind}
 
 -- the entry lies so far behind the start that it can be moved
 abbrev pub CanMove : ℕ → Entry → Type 0

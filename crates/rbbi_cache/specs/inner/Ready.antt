@@ -8,7 +8,7 @@ use Rattle.rbbi_cache.specs.Kept.{HasLeastReaches, IsExtendedBy, Keeps, AreTrueR
 use Rattle.rbbi_cache.specs.Shown.{IsShownAfter, IsShownBefore}
 
 -- The run is true, shows the entry to be the first boundary past i, and its new entries have the least reaches.
-pub record IsReady (table : Table) (x : List ℕ) (i : ℕ) (former : List Run) (entry : Entry) (run : Run) : Type 0 where
+pub record IsReadyAfter (table : Table) (x : List ℕ) (i : ℕ) (former : List Run) (entry : Entry) (run : Run) : Type 0 where
   pub is_true : IsTrueRun table x run
   pub shows : IsShownAfter run i entry
   pub reaches : HasLeastReaches table x former run
@@ -22,16 +22,16 @@ pub record IsAmong (runs : List Run) (run : Run) : Type 0 where
 -- The kept run was extended and is ready, or it is as before and another one is ready.
 abbrev pub GoesOnAs : Table → List ℕ → ℕ → Run → Entry → Bool → Run → Run → Type 0
 GoesOnAs table x i former entry true run spare =
-    IsExtendedBy former run × ((kept : List Run) → IsAmong kept former → IsReady table x i kept entry run)
+    IsExtendedBy former run × ((kept : List Run) → IsAmong kept former → IsReadyAfter table x i kept entry run)
 GoesOnAs table x i former entry false run spare =
-    (run ≡ former) × ((kept : List Run) → IsAmong kept former → IsReady table x i kept entry spare)
+    (run ≡ former) × ((kept : List Run) → IsAmong kept former → IsReadyAfter table x i kept entry spare)
 
 -- What is kept is true, and its first run shows the answer.
 abbrev pub KeepsTrue : Table → List ℕ → (Run → Type 0) → List Run → List Run → Type 0
 KeepsTrue table x Shows former now = Keeps table x Shows former now × AreTrueRuns table x now
 
 -- The run is true, shows the entry to be the last boundary before i, and its new entries have the least reaches.
-pub record IsReadyBack (table : Table) (x : List ℕ) (i : ℕ) (former : List Run) (entry : Entry) (run : Run) : Type 0 where
+pub record IsReadyBefore (table : Table) (x : List ℕ) (i : ℕ) (former : List Run) (entry : Entry) (run : Run) : Type 0 where
   pub is_true : IsTrueRun table x run
   pub shows : IsShownBefore x run i entry
   pub reaches : HasLeastReaches table x former run

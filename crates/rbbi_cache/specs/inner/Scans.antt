@@ -75,6 +75,6 @@ pub record HasGoneOn (table : Table) (x : List ℕ) (p i : ℕ) (start : Scan) (
   pub read : now ≡ before + sum_by (λ b. characters_read table x b.at) searched
 
 -- From each way in which it may have begun the scan went on.
-abbrev pub GoesOn : Table → List ℕ → ℕ → ℕ → Entry → Run → Entry → Run → ℕ → ℕ → Type 0
-GoesOn table x p i from first here run before now =
+abbrev pub ContinuesScan : Table → List ℕ → ℕ → ℕ → Entry → Run → Entry → Run → ℕ → ℕ → Type 0
+ContinuesScan table x p i from first here run before now =
     (start : Scan) → IsScan table x p i start first → start.here ≡ from → HasGoneOn table x p i start here run before now

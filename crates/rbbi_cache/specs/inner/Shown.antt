@@ -1,7 +1,7 @@
--- Entries that a run shows: what only this crate cites.
-use Rattle.std.specs.Prelude.{◌≡◌, ℕ, ◌<◌, ◌≤◌, List, length, take, drop}
+-- Where the entries of a run pass a place.
+use Rattle.std.specs.Prelude.{ℕ, ◌<◌, ◌≤◌, List, length, take, drop}
 use Rattle.std.specs.List.{AllByRecursion}
-use Rattle.rbbi_model.specs.Runs.{Entry, Run, ShowsAfter, ShowsBefore}
+use Rattle.rbbi_model.specs.Runs.{Entry}
 
 -- so many of the entries aren't past the place, and the others are
 pub record AreUpTo (entries : List Entry) (i count : ℕ) : Type 0 where

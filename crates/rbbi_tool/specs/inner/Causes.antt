@@ -1,4 +1,4 @@
--- What a run of the program answers and writes, and why: what only this crate cites.
+-- What a run comes to before anything is written, and what is told of it.
 use Rattle.std.specs.Prelude.{◌≡◌, ◌≢◌, ◌⊎◌, ◌≤◌, ℕ, List, [], take, slice_get, Option, Some, None, IfSome, Result, Ok, Err}
 use Rattle.rbbi_model.specs.Lines.{usage_line, unread_line}
 use Rattle.rbbi_model.specs.Rules.{Rule}

@@ -1,4 +1,4 @@
--- What is written of an outcome: its file first, and then what goes out: what only this crate cites.
+-- What writing the file of an outcome leaves, told of the file alone.
 use Rattle.std.specs.Prelude.{◌≡◌, ◌⊎◌, ℕ, List, Option, Some, None, Result}
 use Rattle.rbbi_io.specs.declared.error.WriteErr.{WriteErr}
 use Rattle.rbbi_io.specs.Counts.{Rose, EachStays, OthersStay}

@@ -1,4 +1,4 @@
--- From the bytes of property files to their rows: what only this crate cites.
+-- What there must be of property files before they are read.
 use Rattle.std.specs.Prelude.{◌≡◌, ℕ, List, [], ◌∷◌, length, codes}
 use Rattle.rbbi_text.specs.Bytes.{file_lines}
 use Rattle.rbbi_props.specs.Rows as rows

@@ -1,4 +1,4 @@
--- What reading the files of a list, in order, answers and leaves: what only this crate cites.
+-- What one read, and reading the files of a list, answers to the calls around it.
 use Rattle.std.specs.Prelude.{◌≡◌, ◌≢◌, ◌<◌, ◌≤◌, ◌+◌, ℕ, List, [], ◌∷◌, map, length, Option, Some, slice_get, IfSome}
 use Rattle.std.specs.List.{AllByRecursion}
 use Rattle.rbbi_text.specs.Bytes.{most_bytes}

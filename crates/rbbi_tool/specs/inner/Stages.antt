@@ -1,4 +1,4 @@
--- A stage of a run passes with a value, or refuses. Of several stages in a row the first that refuses decides: what only this crate cites.
+-- What a function answers that runs a stage; and stages that come to one thing alone.
 use Rattle.std.specs.Prelude.{◌≡◌, ◌⊎◌, Result, Ok, Err}
 use Rattle.rbbi_tool.specs.declared.refusal.Refusal.{Refusal}
 use Rattle.rbbi_tool.specs.declared.refusal.Refusal.TheVariants.{Memory}

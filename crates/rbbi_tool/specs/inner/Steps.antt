@@ -1,4 +1,4 @@
--- How much a run of the program reads: characters of its text, and bytes of its other files: what only this crate cites.
+-- How much a run reads of its files, in the order of the words.
 use Rattle.std.specs.Prelude.{◌≡◌, ◌⊎◌, ℕ, ◌+◌, List, Option, IfSome, length, sum_by, take, drop}
 use Rattle.rbbi_model.specs.Tables.{Table}
 use Rattle.rbbi_model.specs.Scripts as model

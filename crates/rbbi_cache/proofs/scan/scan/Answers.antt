@@ -1,13 +1,13 @@
 use Rattle.std.proofs.Common.{sym, ap, ◌∙◌, subst, arith}
 use Rattle.rbbi_model.specs.Runs.{Entry, low}
-use Rattle.rbbi_cache.specs.inner.Scans.{GoesOn}
+use Rattle.rbbi_cache.specs.inner.Scans.{ContinuesScan}
 use Rattle.rbbi_cache.proofs.Goes.{goes_found, goes_skipped, pushed_anchor, falls}
 use Rattle.rbbi_cache.proofs.scan.scan.Goals as goal
 
 pub loop-here-preserved-then-here-least : goal.loop-here-preserved-then-here-least
 loop-here-preserved-then-here-least g c =
     let next : Entry = record { at = c.next-found.result.at; status = c.next-found.result.status; reach = c.max.result } in (
-      subst (λ r. GoesOn c.args.table.now (g.T.Chars.characters c.args.text.now) c.args.run.now.anchor c.args.i c.args.from c.args.run.now next r
+      subst (λ r. ContinuesScan c.args.table.now (g.T.Chars.characters c.args.text.now) c.args.run.now.anchor c.args.i c.args.from c.args.run.now next r
           c.args.steps.now c.next-found.new.steps) (sym c.push.ensures)
           (goes_found c.args.table.now (g.T.Chars.characters c.args.text.now) c.args.run.now.anchor c.args.i c.args.from c.args.run.now c.loop-here.here
           c.loop-here.run c.args.steps.now c.loop-here.steps c.loop-here.invariant.0 c.requires.within c.here.inside.at c.here.inside.reach

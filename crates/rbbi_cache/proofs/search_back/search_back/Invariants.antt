@@ -1,6 +1,6 @@
 use Rattle.std.proofs.Common.{◌≡◌, ◌-◌, ◌≤◌}
 use Rattle.rbbi_cache.proofs.TriedBack.{Tried}
-use Rattle.rbbi_cache.proofs.back.search_back.Given as goal
+use Rattle.rbbi_cache.proofs.search_back.search_back.Given as goal
 
 abbrev pub invariant-tries : goal.invariant-tries
 invariant-tries g l = record {

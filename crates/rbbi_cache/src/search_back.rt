@@ -6,7 +6,7 @@ ghost use Rattle.rbbi_model.specs.Runs as model;
 ghost use Rattle.rbbi_model.specs.Runs.{IsAnchor};
 ghost use Rattle.rbbi_model.specs.Costs.{settles, searches_cost, back_cost};
 ghost use Rattle.rbbi_cache.specs.Kept.{IsLastBefore};
-ghost use Rattle.rbbi_cache.specs.inner.Ready.{HasNoneBefore, IsReadyBack};
+ghost use Rattle.rbbi_cache.specs.inner.Ready.{HasNoneBefore, IsReadyBefore};
 
 use crate::anchors::anchor_before;
 use crate::scan::scan;
@@ -15,9 +15,9 @@ use rbbi_table::{Marks, Table};
 use rbbi_text::{Chars, Steps};
 use std::sync::ledger::Ledger;
 
-/// Searches for the last boundary before `i`, which lies within the text, or None where it is the
-/// start. The first try begins at the nearest anchor at least three characters back, each further
-/// one at least twice as far back as the one before. The run is left so that it shows the answer.
+/// Searches for the last boundary before `i`, which lies within the text, or None if it is the
+/// start. The first try begins at the greatest anchor at least three characters back, each further
+/// one at least twice as far back as the one before. The run is then one that shows the answer.
 pub(crate) fn search_back<T: Chars, L: Ledger>(
     table: &Table,
     text: &T,
@@ -34,7 +34,7 @@ pub(crate) fn search_back<T: Chars, L: Ledger>(
         (IsLastBefore table.now (T.characters text.now) i
         (record { at = 0; status = 0; reach = 0 }))
         (λ entry. (kept : List model.Run) →
-        IsReadyBack table.now (T.characters text.now) i kept entry run.new) }
+        IsReadyBefore table.now (T.characters text.now) i kept entry run.new) }
     ensures more { steps.old ≤ steps.new }
     ensures cost { steps.new ≤ steps.old + back_cost table.now (T.characters text.now) i }
     ensures fit { marks.new ≡ marks.old }
@@ -52,8 +52,8 @@ pub(crate) fn search_back<T: Chars, L: Ledger>(
     }
 }
 
-/// Searches from an anchor before `i` for the last boundary before `i` that isn't too near to the
-/// anchor, and makes a run of what is found.
+/// Searches from an anchor before `i` for the last boundary before `i` that lies two characters
+/// past the anchor or more, and makes a run of what is found.
 fn search_from<T: Chars, L: Ledger>(
     table: &Table,
     text: &T,
@@ -73,7 +73,7 @@ fn search_from<T: Chars, L: Ledger>(
         (HasNoneBefore table.now (T.characters text.now) anchor i)
         (λ entry. (settles table.now (T.characters text.now) i anchor ≡ true)
         × ((kept : List model.Run) →
-        IsReadyBack table.now (T.characters text.now) i kept entry run.new)) }
+        IsReadyBefore table.now (T.characters text.now) i kept entry run.new)) }
     ensures more { steps.old ≤ steps.new }
     ensures cost { steps.new
         ≤ steps.old + searches_cost table.now (T.characters text.now) anchor (i - 1) }

@@ -4,7 +4,7 @@ use Rattle.rbbi_model.specs.Costs.{anchor_below}
 use Rattle.rbbi_cache.specs.inner.Ready.{HasNoneBefore}
 use Rattle.rbbi_cache.proofs.Backward.{none_settles, zero_settles}
 use Rattle.rbbi_cache.proofs.TriedBack.{Tried, tried_first, tried_next, tried_last, start_is_last}
-use Rattle.rbbi_cache.proofs.back.search_back.Goals as goal
+use Rattle.rbbi_cache.proofs.search_back.search_back.Goals as goal
 
 -- the anchor of a walk that goes back as far as it may
 walked : (table : Table) (x : List ℕ) (high place q : ℕ) → high ≡ place → q ≡ max 0 (anchor_below table x high) → anchor_below table x place ≡ q

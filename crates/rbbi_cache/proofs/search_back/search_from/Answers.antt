@@ -1,7 +1,7 @@
 use Rattle.std.proofs.Common.{◌-◌, ◌≤◌, ⊎_elim, length, ap, ◌∙◌, arith}
 use Rattle.rbbi_cache.proofs.Backward.{none_before, settled, ready_back, stands}
 use Rattle.rbbi_cache.proofs.Begins.{begins_at_anchor, anchor_more, anchor_cost}
-use Rattle.rbbi_cache.proofs.back.search_from.Goals as goal
+use Rattle.rbbi_cache.proofs.search_back.search_from.Goals as goal
 
 pub scan-requires-clause-begun : goal.scan-requires-clause-begun
 scan-requires-clause-begun g c =
