@@ -12,9 +12,6 @@ use Rattle.rbbi_model.proofs.Bits.{has_bit_is}
 pub set_from_one : (n k : ℕ) → bit_at n k ≡ 1 → has_bit n k ≡ true
 set_from_one n k one = has_bit_is n k ∙ ap (λ m. eqb m 1) one
 
-pub one_from_set : (n k : ℕ) → has_bit n k ≡ true → bit_at n k ≡ 1
-one_from_set n k set = eqb-true (bit_at n k) 1 (sym (has_bit_is n k) ∙ set)
-
 pub no_bit : (k : ℕ) → has_bit 0 k ≡ false
 no_bit k = has_bit_is 0 k ∙ ap (λ n. eqb n 1) (bit_at-zero k)
 

@@ -26,16 +26,6 @@ count_of-cons x xs n = sum_by-cons (λ other. one_if other n) x xs
 pub count_of-set : (xs : List ℕ) (i y n : ℕ) → i < length xs → count_of (set xs i y) n + one_if (get_or xs i 0) n ≡ count_of xs n + one_if y n
 count_of-set xs i y n within = sum_by-set (λ other. one_if other n) xs i y 0 within
 
--- a list of zeros
-pub zero_at : (n i : ℕ) → get_or {A = ℕ} (replicate n 0) i 0 ≡ 0
-zero_at zero i = refl
-zero_at (suc n) zero = refl
-zero_at (suc n) (suc i) = zero_at n i
-
-pub all_zero : (n : ℕ) → count_of (replicate n 0) 0 ≡ n
-all_zero zero = refl
-all_zero (suc n) = omega (arith, count_of-cons 0 (replicate n 0) 0, one_if_same 0 0 refl, all_zero n)
-
 -- what is there is counted
 pub counted : (xs : List ℕ) (i n : ℕ) → i < length xs → get_or xs i 0 ≡ n → 1 ≤ count_of xs n
 counted [] i n within e = absurd (omega (arith, within))

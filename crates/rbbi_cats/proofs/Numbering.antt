@@ -19,21 +19,6 @@ pub record NumberedSoFar (classes numbers : List ℕ) (greatest count k : ℕ) :
   pub small : (c : ℕ) → get_or numbers c 0 ≤ greatest
   pub left : count_of numbers 0 + greatest ≡ count
 
-pub none_numbered : (classes numbers : List ℕ) (count : ℕ) → length numbers ≡ count → numbers ≡ replicate count 0 → NumberedSoFar classes numbers 0 count 0
-none_numbered classes numbers count many e = record {
-  many = many;
-  zero_is = at 0;
-  some = λ i below. absurd (omega (arith, below));
-  apart = λ c d below below' some. absurd (some (at c));
-  earlier = λ i number below. absurd (omega (arith, below));
-  used = λ number some few. absurd (omega (arith, some, few));
-  small = λ c. omega (arith, at c);
-  left = omega (arith, ap (λ l. count_of l 0) e, all_zero count);
-}
-  where
-    at : (c : ℕ) → get_or numbers c 0 ≡ 0
-    at c = ap (λ l. get_or l c 0) e ∙ zero_at count c
-
 -- there is room for one more number
 pub number_room : (classes numbers : List ℕ) (greatest count k : ℕ) → 1 ≤ count → NumberedSoFar classes numbers greatest count k → greatest < count
 number_room classes numbers greatest count k some h = omega (arith, h.left, counted numbers 0 0 (omega (arith, h.many)) h.zero_is)

@@ -61,17 +61,6 @@ pub record RangesSoFar (cuts classes numbers : List ℕ) (ranges : List Category
   pub starts : AllByRecursion (IsRangeOf cuts numbers) ranges
   pub below : (c : ℕ) → (0 < k → get_or cuts (k - 1) 0 ≤ c) → AllByRecursion (λ (range : CategoryRange). range.start ≤ c) ranges
 
-pub no_ranges : (cuts classes numbers : List ℕ) → RangesSoFar cuts classes numbers [] 0
-no_ranges cuts classes numbers = record {
-  category = λ i c below. absurd (omega (arith, below));
-  none = λ e. refl;
-  last = λ some. absurd (omega (arith, some));
-  from_zero = λ some. absurd (omega (arith, some));
-  apart = tt;
-  starts = tt;
-  below = λ c bound. tt;
-}
-
 pub range_kept : (cuts classes numbers : List ℕ) (ranges : List CategoryRange) (k : ℕ) → IsStrictlyIncreasing cuts → 0 < k → k < length cuts →
     number_of classes numbers (k - 1) ≡ number_of classes numbers k → RangesSoFar cuts classes numbers ranges k →
     RangesSoFar cuts classes numbers ranges (k + 1)
@@ -163,15 +152,3 @@ range_made cuts classes numbers ranges k new rising zero_first inside start_is c
 
     new_is : IsRangeOf cuts numbers new
     new_is = ((k, inside, get_or_default cuts k new.start 0 inside ∙ sym start_is), (get_or classes k 0, category_is))
-
-pub all_ranges : (cuts classes numbers : List ℕ) (ranges : List CategoryRange) (k : ℕ) → 1 ≤ length cuts → k ≡ length cuts →
-    RangesSoFar cuts classes numbers ranges k → AreRangesOf cuts classes numbers ranges
-all_ranges cuts classes numbers ranges k some e h =
-    let l = h.last (omega arith) in
-    record {
-      category = λ i c below from before. h.category i c (omega (arith, below, e)) from (λ less. before (omega (arith, less, e)));
-      some = omega (arith, ap length l.is, length-append l.front (l.last ∷ []));
-      from_zero = h.from_zero (omega arith);
-      apart = h.apart;
-      starts = h.starts;
-    }

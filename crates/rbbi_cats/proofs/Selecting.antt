@@ -111,14 +111,6 @@ has_more ranges k c d below =
     let e : suc k ≡ k + 1 = omega arith in
     subst (λ (n : ℕ). Has (take n ranges) c ↔ (Has (take k ranges) c ⊎ InRange (get_or ranges k d) c)) e (has_suc ranges k c d below)
 
-pub none_selected : (cuts : List ℕ) (ranges : List Range) → Selected cuts ranges [] 0
-none_selected cuts ranges = record {
-  rising = λ i j less below. absurd (omega (arith, below));
-  within = λ j below. absurd (omega (arith, below));
-  exactly = λ i below. (λ (j, none, e). absurd (omega (arith, none)), λ h. absurd h);
-  before = λ j r d below. absurd (omega (arith, below));
-}
-
 -- the numbers before which alone a fact holds
 pub record IsPoint (P : ℕ → Type 0) (Q : ℕ → Type 0) (cuts : List ℕ) (point : ℕ) : Type 0 where
   pub within : point ≤ length cuts
@@ -189,14 +181,6 @@ one_selected cuts ranges base members k from to range below is apart low high h 
           | inl (i, inside', e) ↦ omega (arith, h.before i r d inside' (omega (arith, late)) rest, ap (λ n. get_or cuts n 0) e)
           | inr (from', to') ↦ omega (arith, high.sooner (get_or members j 0) to', apart r d (omega (arith, late)) rest)
         ]
-
-pub all_selected : (cuts : List ℕ) (ranges : List Range) (members : List ℕ) (k : ℕ) → k ≡ length ranges → take k ranges ≡ ranges →
-    Selected cuts ranges members k → AreMembers cuts ranges members
-all_selected cuts ranges members k e all h = record {
-  rising = h.rising;
-  within = h.within;
-  exactly = λ i inside. subst (λ (rs : List Range). Selects members i ↔ Has rs (get_or cuts i 0)) all (h.exactly i inside);
-}
 
 -- a list that rises is in order
 pub cuts_rise : (cuts : List ℕ) → IsStrictlyIncreasing cuts → IsNonDecreasingBy (λ (x : ℕ). x) cuts

@@ -64,37 +64,11 @@ some_take (set ∷ sets) zero c h = absurd h
 some_take (set ∷ sets) (suc k) c (inl h) = inl h
 some_take (set ∷ sets) (suc k) c (inr h) = inr (some_take sets k c h)
 
-pub none_told : (sets : List (List Range)) (cuts classes : List ℕ) → length classes ≡ length cuts → classes ≡ replicate (length cuts) 0 →
-    AreClassesOfSets (take 0 sets) cuts classes
-none_told sets cuts classes many e = record {
-  many = many;
-  alike = λ i j inside inside'. (λ s. tt, λ t. at i inside ∙ sym (at j inside'));
-  none = λ i inside. (λ s h. h, λ n. at i inside);
-}
-  where
-    at : (i : ℕ) → i < length cuts → get_or classes i 0 ≡ 0
-    at i inside = ap (λ l. get_or l i 0) e ∙ zero_at (length cuts) i
-
-pub one_class : (n : ℕ) (classes sizes : List ℕ) → classes ≡ replicate n 0 → sizes ≡ n ∷ [] → AreStretchClasses classes sizes
-one_class n classes sizes e d = subst (λ (s : List ℕ). AreStretchClasses classes s) (sym d) (subst (λ (c : List ℕ). AreStretchClasses c (n ∷ [])) (sym e) (record {
-  some = omega arith;
-  within = λ i inside. omega (arith, zero_at n i);
-  sized = sized;
-  used = λ class some few. absurd (omega (arith, some, few));
-}))
-  where
-    sized : (class : ℕ) → class < length (n ∷ []) → get_or (n ∷ []) class 0 ≡ count_of (replicate n 0) class
-    sized zero below = sym (all_zero n)
-    sized (suc class) below = absurd (omega (arith, below))
-
-pub stretches_of : (cuts classes members : List ℕ) (set : List Range) → length classes ≡ length cuts → AreMembers cuts set members →
-    AreStretches classes members
-stretches_of cuts classes members set many h = record { rising = h.rising; within = λ j below. omega (arith, h.within j below, many) }
-
 pub told_more : (sets : List (List Range)) (cuts before after members : List ℕ) (k : ℕ) (set : List Range) → slice_get sets k ≡ Some set →
     AreMembers cuts set members → Refines before after members →
     AreClassesOfSets (take k sets) cuts before → AreClassesOfSets (take (k + 1) sets) cuts after
-told_more sets cuts before after members k set at m r h = subst (λ (s : List (List Range)). AreClassesOfSets s cuts after) (sym (take_next sets k set at)) (record {
+told_more sets cuts before after members k set at m r h = subst (λ (s : List (List Range)). AreClassesOfSets s cuts after) (sym (take_next sets k set at))
+        (record {
   many = r.many ∙ h.many;
   alike = λ i j inside inside'. (alike_there i j inside inside', alike_back i j inside inside');
   none = λ i inside. (none_there i inside, none_back i inside);
@@ -144,7 +118,8 @@ record Representatives (sets : List (List Range)) (cuts classes : List ℕ) (cou
   classed : AllByRecursion (λ c. (i : ℕ) × (i < length cuts) × (get_or cuts i 0 ≡ c) × (get_or classes i 0 ≤ count)) starts
   apart : AllPairs (λ c d. ¬ NoneTells sets c d) starts
 
-representatives : (sets : List (List Range)) (cuts classes sizes : List ℕ) (k count : ℕ) → AreStretchClasses classes sizes → AreClassesOfSets (take k sets) cuts classes →
+representatives : (sets : List (List Range)) (cuts classes sizes : List ℕ) (k count : ℕ) → AreStretchClasses classes sizes →
+        AreClassesOfSets (take k sets) cuts classes →
     count < length sizes → Representatives sets cuts classes count
 representatives sets cuts classes sizes k zero p t below = record {
   starts = [];
@@ -194,7 +169,8 @@ representatives sets cuts classes sizes k (suc count) p t below =
       new_apart i here class_is starts h,
     )
 
-pub too_many_told : (sets : List (List Range)) (cuts classes sizes : List ℕ) (k count : ℕ) → AreStretchClasses classes sizes → AreClassesOfSets (take k sets) cuts classes →
+pub too_many_told : (sets : List (List Range)) (cuts classes sizes : List ℕ) (k count : ℕ) → AreStretchClasses classes sizes →
+        AreClassesOfSets (take k sets) cuts classes →
     count < length sizes → HasTold sets cuts count
 too_many_told sets cuts classes sizes k count p t below =
     let h = representatives sets cuts classes sizes k count p t below in

@@ -15,7 +15,8 @@ use Rattle.rbbi_classes.proofs.RangesWhere.{ranges_where-has}
 Decides-character : (division : ClassDivision) (set : ClassBits) (c : ℕ) →
     Decides (is_character_of division set c) (¬ IsSurrogate c × HasMember division.bounds set (stand_in division c))
 Decides-character division set c =
-    Decides-and _ _ (Decides-not _ (Decides-is_between 0xD800 0xDFFF c)) (Decides-and _ _ (leb-true (stand_in division c) 0x10FFFF, le-leb (stand_in division c) 0x10FFFF) (Decides-eqb _ 1))
+    Decides-and _ _ (Decides-not _ (Decides-is_between 0xD800 0xDFFF c))
+    (Decides-and _ _ (leb-true (stand_in division c) 0x10FFFF, le-leb (stand_in division c) 0x10FFFF) (Decides-eqb _ 1))
 
 -- the ranges of those that pass have the characters of the classes
 pub has-characters : (division : ClassDivision) (set : ClassBits) (c : ℕ) →

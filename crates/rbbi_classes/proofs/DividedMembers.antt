@@ -37,7 +37,8 @@ pub record AreLeft (steps : List Step) (i start class : ℕ) : Type 0 where
   pub point : start ≤ 0x10FFFF
   pub numbers : (c : ℕ) → start ≤ c → number_at steps c ≡ number_from class (drop i steps) c
 
-module _ (steps : List Step) (i start class : ℕ) (h : AreLeft steps i start class) (step d : Step) (inside : i < length steps) (is : step ≡ get_or steps i d) where
+module _ (steps : List Step) (i start class : ℕ) (h : AreLeft steps i start class) (step d : Step) (inside : i < length steps)
+    (is : step ≡ get_or steps i d) where
   split : drop i steps ≡ step ∷ drop (i + 1) steps
   split = drop_more steps i d inside ∙ ap (λ s. s ∷ drop (i + 1) steps) (sym is)
 

@@ -12,7 +12,8 @@ use Rattle.rbbi_sets.proofs.Coverage.{has-append}
 use Rattle.rbbi_classes.proofs.Stepping.{AreStepsTo, steps-weaker, steps-push, number-kept, number-pushed}
 
 -- a number that came before may follow
-order-push : (next : ℕ) (steps : List Step) (step : Step) → HasRestrictedGrowthFrom next steps → 1 ≤ next → step.number ≤ 1 → HasRestrictedGrowthFrom next (steps ++ step ∷ [])
+order-push : (next : ℕ) (steps : List Step) (step : Step) → HasRestrictedGrowthFrom next steps → 1 ≤ next → step.number ≤ 1 →
+    HasRestrictedGrowthFrom next (steps ++ step ∷ [])
 order-push next [] step h l m = (omega arith, tt)
 order-push next (first ∷ steps) step h l m =
     (h.0, order-push (cond (leb next first.number) (first.number + 1) next) steps step h.1 (more (leb next first.number)) m) where

@@ -294,13 +294,15 @@ module _ (left right old new : List Step) (of_left of_right to_left to_right : W
         | inl before ↦
             let e = ap length before.1 in
             subst (λ n. HasRestrictedGrowthTo 1 new n) (sym e) (elim pushed [
-              | inl some ↦ subst (λ (xs : List Step). HasRestrictedGrowthTo 1 xs (length pairs)) (sym some.1) (order-old 1 old (length pairs) step h.order before.0)
+              | inl some ↦ subst (λ (xs : List Step). HasRestrictedGrowthTo 1 xs (length pairs)) (sym some.1)
+                  (order-old 1 old (length pairs) step h.order before.0)
               | inr none ↦ subst (λ (xs : List Step). HasRestrictedGrowthTo 1 xs (length pairs)) (sym none.1) h.order
             ])
         | inr after ↦
             let e : length named ≡ length pairs + 1 = omega (arith, ap length after.1, length-append pairs (pair ∷ [])) in
             subst (λ n. HasRestrictedGrowthTo 1 new n) (sym e) (elim pushed [
-              | inl some ↦ subst (λ (xs : List Step). HasRestrictedGrowthTo 1 xs (length pairs + 1)) (sym some.1) (order-new 1 old (length pairs) step h.order after.0)
+              | inl some ↦ subst (λ (xs : List Step). HasRestrictedGrowthTo 1 xs (length pairs + 1)) (sym some.1)
+                  (order-new 1 old (length pairs) step h.order after.0)
               | inr none ↦ absurd (omega (arith, none.0, after.0))
             ])
       ]

@@ -11,9 +11,9 @@ use crate::{Layout, SharedClasses};
 use std::alloc::{AllocError, Global};
 use std::marker::Model;
 
-/// A set of classes as a row of bits, one bit for each class of a `Layout`. An operation on two sets
-/// takes a step for 64 classes. Contracts see the set as its words (`ClassBits`), and by `HasMember`
-/// whether it has the class that begins at a code point.
+/// A set of classes as a row of bits, one bit for each class of a `Layout`. An operation on two
+/// sets takes a step for 64 classes. Contracts see the set as its words (`ClassBits`), and by
+/// `HasMember` whether it has the class that begins at a code point.
 #[derive(Debug, Drop)]
 pub struct ClassSet {
     /// How many words, all 0, stand before those of `words`.

@@ -56,8 +56,8 @@ impl Model for Division {
 }
 
 impl Division {
-    /// The partition by some sets and by the set of surrogates: the classes of code points that none
-    /// of these sets tells apart, numbered by their least code points.
+    /// The partition by some sets and by the set of surrogates: the classes of code points that
+    /// none of these sets tells apart, numbered by their least code points.
     pub fn new(alloc: Global, sets: &[CodeSet]) -> Result<Division, AllocError>
         ensures respected { IfOk result (λ division. (set : List Range) → Contains sets.now set
             → IsRespected division set) }

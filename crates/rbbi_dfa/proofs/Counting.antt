@@ -46,7 +46,8 @@ module _ (rules : List Rule) (lawful : AreLawful rules) (ranges : List CategoryR
 
   module _ (sets : List (List ℕ)) (automaton : Table) (is : IsDeterminized rows sets automaton) where
     -- the number of the word's set
-    numbered : (w : List ℕ) → IsWord w × ((p : ℕ) × InLeafSet rules w p) → (n : ℕ) × ((n < length sets) × IsSetOf rules lawful ranges rows of w (listed_row sets n))
+    numbered : (w : List ℕ) → IsWord w × ((p : ℕ) × InLeafSet rules w p) → (n : ℕ) × ((n < length sets) ×
+        IsSetOf rules lawful ranges rows of w (listed_row sets n))
     numbered w (word, (p, leaf)) =
         by_row (row_along automaton 1 (map (category_of ranges) w))
         (row_of_word rules lawful ranges rows of sets automaton is w (λ none. nothing_reads rules p (subst (λ l. ReadBy rules l p) none leaf.1)) word)

@@ -61,7 +61,8 @@ module _ (used : List Bool) (sorted : List (List ℕ)) (count : ℕ) (numbers : 
     list_here statuses = get_or_push lists statuses [] (length lists) refl
 
     -- each list so far comes before that of the next place
-    before_next : AreOrderedLists sorted → count < length sorted → (i : ℕ) → i < length lists → IsBefore (slice_index_or lists i []) (slice_index_or sorted count [])
+    before_next : AreOrderedLists sorted → count < length sorted → (i : ℕ) → i < length lists →
+        IsBefore (slice_index_or lists i []) (slice_index_or sorted count [])
     before_next rising within i l =
         let found = h.only i l in
         let same : slice_index_or lists i [] ≡ slice_index_or sorted found.0 [] =

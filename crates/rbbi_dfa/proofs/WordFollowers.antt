@@ -15,7 +15,8 @@ pub adds_none : (follow : List (List ℕ)) (i word : ℕ) (row : List ℕ) → A
 adds_none follow i word row p = (λ holds. inl holds, ⊎_elim (λ old. old) (λ new. absurd (omega (arith, new.1))))
 
 -- a bit that is set
-pub adds_with : (follow : List (List ℕ)) (i word bit : ℕ) (old row next followers : List ℕ) → AddsFollowers follow i word bit old row → has_bit word bit ≡ true →
+pub adds_with : (follow : List (List ℕ)) (i word bit : ℕ) (old row next followers : List ℕ) → AddsFollowers follow i word bit old row →
+    has_bit word bit ≡ true →
     listed_row follow (64 * i + bit) ≡ followers →
     ((p : ℕ) → Holds next p ↔ (Holds row p ⊎ Holds followers p)) → AddsFollowers follow i word (bit + 1) old next
 adds_with follow i word bit old row next followers before one is united p = (

@@ -14,7 +14,8 @@ use Rattle.rbbi_model.proofs.Lists.{all_append, all_by_index}
 use Rattle.rbbi_dfa.proofs.Grouping.{stop_along}
 use Rattle.rbbi_dfa.proofs.Lists.{picked}
 
-pub word_IsWay : (table : Table) (ranges : List CategoryRange) → HaveCategoriesBelow table.categories ranges → (w : List ℕ) → IsWay table (map (category_of ranges) w)
+pub word_IsWay : (table : Table) (ranges : List CategoryRange) → HaveCategoriesBelow table.categories ranges → (w : List ℕ) →
+    IsWay table (map (category_of ranges) w)
 word_IsWay table ranges within [] = tt
 word_IsWay table ranges within (c ∷ w) = (within c, word_IsWay table ranges within w)
 
@@ -47,7 +48,8 @@ module _ (rules : List Rule) (table : Table) (ranges : List CategoryRange) (has 
   marks_after [] h = has.start
   marks_after (c ∷ w) h = has.each (c ∷ w) h (λ e. cc)
 
-  pub row_of-append : (these those : List ℕ) → row_of table ranges (these ++ those) ≡ row_along table (row_of table ranges these) (map (category_of ranges) those)
+  pub row_of-append : (these those : List ℕ) → row_of table ranges (these ++ those) ≡ row_along table (row_of table ranges these)
+      (map (category_of ranges) those)
   row_of-append these those =
       ap (λ way. row_along table 1 way) (map-append (category_of ranges) these those)
       ∙ row_along_append table 1 (map (category_of ranges) these) (map (category_of ranges) those)

@@ -244,7 +244,8 @@ module _ (rules : List Rule) (lawful : AreLawful rules) (ranges : List CategoryR
     pub some : w ≢ []
     pub set_of : IsSetOf w set
 
-  read_used : (category p : ℕ) → category < rows.categories → Holds (listed_row rows.reads category) p → (c : ℕ) × IsCodePoint c × (category_of ranges c ≡ category)
+  read_used : (category p : ℕ) → category < rows.categories → Holds (listed_row rows.reads category) p → (c : ℕ) × IsCodePoint c ×
+      (category_of ranges c ≡ category)
   read_used category p within reads =
       ⊎_elim
       (λ none. absurd (of.unread p (subst (λ k. Holds (listed_row rows.reads k) p) none reads)))

@@ -113,7 +113,8 @@ module _ (sets : List (List ℕ)) (newest older : List ℕ) (indexed : IsIndexed
             let value : get_or older' i 0 ≡ get_or newest bucket 0 = ap (λ k. get_or older' k 0) at ∙ older_here in
             let some' : 0 < get_or newest bucket 0 = omega (arith, some, value) in
             let short' : get_or newest bucket 0 - 1 < n = omega (arith, some', within) in
-            ap (λ k. bucket_of (listed_row new (k - 1))) value ∙ ap bucket_of (old_at (get_or newest bucket 0 - 1) short') ∙ indexed.newest_of bucket small some'
+            ap (λ k. bucket_of (listed_row new (k - 1))) value ∙ ap bucket_of (old_at (get_or newest bucket 0 - 1) short')
+            ∙ indexed.newest_of bucket small some'
             ∙ is ∙ sym (ap bucket_of new_at) ∙ ap (λ k. bucket_of (listed_row new k)) (sym at))
             (λ other.
             let short' : i < n = omega (arith, short, long, other) in
@@ -127,7 +128,8 @@ module _ (sets : List (List ℕ)) (newest older : List ℕ) (indexed : IsIndexed
             ⊎_elim
             (λ at.
             let before : earlier < n = omega (arith, less, at) in
-            let here : bucket_of (listed_row sets earlier) ≡ bucket = ap bucket_of (sym (old_at earlier before)) ∙ same ∙ ap (λ k. bucket_of (listed_row new k)) at
+            let here : bucket_of (listed_row sets earlier) ≡ bucket = ap bucket_of (sym (old_at earlier before)) ∙ same
+            ∙ ap (λ k. bucket_of (listed_row new k)) at
             ∙ ap bucket_of new_at ∙ sym is in
             omega (arith, indexed.newest_most earlier before, ap (λ b. get_or newest b 0) here, ap (λ k. get_or older' k 0) at, older_here))
             (λ other.

@@ -19,10 +19,6 @@ one_ends first position [] e = cc
 one_ends first position (x ∷ []) e = absurd (cc)
 one_ends first position (x ∷ y ∷ others) e = absurd (cc)
 
-no_ends : (position : ℕ) (others : List ℕ) → others ++ position ∷ [] ≡ [] → ⊥
-no_ends position [] e = cc
-no_ends position (x ∷ others) e = cc
-
 no_neighbours : (position next : ℕ) (before after : List ℕ) → before ++ position ∷ next ∷ after ≡ [] → ⊥
 no_neighbours position next [] after e = cc
 no_neighbours position next (x ∷ before) after e = cc

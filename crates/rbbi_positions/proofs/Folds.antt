@@ -54,11 +54,6 @@ pub tree_of_all : (sets : List (List Range)) (tree : Tree) (parts : Trees-F Tree
 tree_of_all sets tree parts n is past = ap (tree_of sets) is ∙ tree_of_sequence sets parts
     ∙ ap (λ ts. spelling.sequence_of (map (tree_of sets) ts)) (sym (take_all n parts.items.items past))
 
-pub tree_of_choice : (sets : List (List Range)) (parts : Trees-F Tree (Unit {0})) →
-    tree_of sets (Alt parts) ≡ spelling.choice_of (map (tree_of sets) parts.items.items)
-tree_of_choice sets parts = ap (tree_of sets) (sym (rolls-Alt parts))
-    ∙ fold-roll-Tree spelling.Tree (List spelling.Tree) (tree_step sets) trees_step (Tree-F.Alt parts) ∙ ap spelling.choice_of (trees_of_out sets parts)
-
 -- what follows in a repeat is what does in the part, with the next round behind it
 pub goes_repeat : (quant : Quant) (part : spelling.Tree) (first position next : ℕ) (behind : Bool) →
     goes (repeated quant part) first position next behind ≡ goes part first position next (behind_of quant part first next behind)

@@ -10,7 +10,8 @@ use Rattle.rbbi_resolve.specs.declared.fault.Fault.{Fault}
 use Rattle.rbbi_resolve.specs.declared.counts.Count.{Count}
 use Rattle.rbbi_resolve.specs.declared.counts.Counts as declared
 use Rattle.rbbi_resolve.specs.Files.{RuleMeaning}
-use Rattle.rbbi_resolve.specs.Counts.{leaves_meant, size_fault, placed_fault, no_rules_at, too_many_rules_at, too_many_leaves_at, too_many_slashes_at, too_tall_at}
+use Rattle.rbbi_resolve.specs.Counts.{leaves_meant, size_fault, placed_fault, no_rules_at, too_many_rules_at, too_many_leaves_at, too_many_slashes_at}
+use Rattle.rbbi_resolve.specs.Counts.{too_tall_at}
 use Rattle.rbbi_resolve.specs.inner.Countings.{limit_place, IsPartialCount, AreCounting, one, slash_of, tall_of}
 use Rattle.rbbi_resolve.specs.inner.Summaries.{IsCapped}
 

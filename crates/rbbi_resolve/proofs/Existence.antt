@@ -18,7 +18,8 @@ use Rattle.rbbi_resolve.specs.Contexts.{Context}
 use Rattle.rbbi_resolve.specs.Expressions.{meaning_of_expr}
 use Rattle.rbbi_resolve.specs.Parts.{parts_of_expr}
 use Rattle.rbbi_resolve.specs.Faults.{faults_of_parts, noted}
-use Rattle.rbbi_resolve.specs.Files.{RuleMeaning, initial_context, context_after, faults_of_rest, faults_at_slash, faults_of_statement, faults_from, faults_of, rule_in}
+use Rattle.rbbi_resolve.specs.Files.{RuleMeaning, initial_context, context_after, faults_of_rest, faults_at_slash, faults_of_statement, faults_from}
+use Rattle.rbbi_resolve.specs.Files.{faults_of, rule_in}
 use Rattle.rbbi_resolve.specs.Files.{rules_from, active_rules}
 use Rattle.rbbi_resolve.specs.Counts.{size_fault}
 use Rattle.rbbi_resolve.specs.Refusals.{IsReportedFault}

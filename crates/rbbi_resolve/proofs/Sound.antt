@@ -16,7 +16,8 @@ use Rattle.rbbi_tree.specs.declared.syntax.Quant.TheVariants as quant
 use Rattle.rbbi_resolve.specs.declared.fault.Fault.{Fault}
 use Rattle.rbbi_resolve.specs.declared.fault.FaultKind.{FaultKind}
 use Rattle.rbbi_resolve.specs.declared.fault.FaultKind.TheVariants as kinds
-use Rattle.rbbi_resolve.specs.SetValues.{property_test, join_of, joined_to, signed, value_of_property, value_of_range, value_of_set, value_of_parts, value_of_part}
+use Rattle.rbbi_resolve.specs.SetValues.{property_test, join_of, joined_to, signed, value_of_property, value_of_range, value_of_set, value_of_parts}
+use Rattle.rbbi_resolve.specs.SetValues.{value_of_part}
 use Rattle.rbbi_resolve.specs.SetValues.{value_of_item}
 use Rattle.rbbi_resolve.specs.Meanings.{Meaning}
 use Rattle.rbbi_resolve.specs.Contexts.{Variable, Set, Expression, Context, variable_of, value_of_name, value_of_variable}

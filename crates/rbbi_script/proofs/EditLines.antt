@@ -80,7 +80,8 @@ replace_no_text fields n others m text field count none =
     none inserted (subst (λ t. WritesCharacters t inserted) second.1 h.spells))
 
 -- the edits that the lines write
-pub inserts : (fields : List ℕ) (n : ℕ) (text word : List ℕ) → IsField fields n text → WritesCharacters text word → Writes (codes "insert " ++ fields) (Replace n 0 word)
+pub inserts : (fields : List ℕ) (n : ℕ) (text word : List ℕ) → IsField fields n text → WritesCharacters text word →
+    Writes (codes "insert " ++ fields) (Replace n 0 word)
 inserts fields n text word place spells =
     inl (record { fields = fields; text = text; spelled = refl; place = place; none_removed = refl; spells = spells })
 

@@ -23,7 +23,8 @@ word_of (suc (suc zero)) = codes "preceding "
 word_of (suc (suc (suc k))) = codes "is "
 
 -- a line of this kind asks no question but one with its word and a number
-pub asks_none : (line : List ℕ) (k : ℕ) → 0 < k → kind line ≡ k → ((n : ℕ) → ¬ IsNumbered line (word_of k) n) → (question : Question) → ¬ WritesQuestion line question
+pub asks_none : (line : List ℕ) (k : ℕ) → 0 < k → kind line ≡ k → ((n : ℕ) → ¬ IsNumbered line (word_of k) n) → (question : Question) →
+    ¬ WritesQuestion line question
 asks_none line k l e none First h = let z = ap kind h in omega arith
 asks_none line k l e none Last h = let z = ap kind h in omega arith
 asks_none line k l e none Next h = let z = ap kind h in omega arith

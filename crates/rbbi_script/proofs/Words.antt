@@ -170,7 +170,8 @@ empty_is_no_character c rest e =
     let long = ap length e in let l = length-append (encode_utf8 c) rest in let k = length-encode c in let m = len_utf8_bounds c in omega arith
 
 -- what a text with plain characters in front writes
-plain_spells : (cs rest word : List ℕ) → ArePlain cs → WritesCharacters (encode_utf8_all cs ++ rest) word → (more : List ℕ) × (word ≡ cs ++ more) × WritesCharacters rest more
+plain_spells : (cs rest word : List ℕ) → ArePlain cs → WritesCharacters (encode_utf8_all cs ++ rest) word → (more : List ℕ) × (word ≡ cs ++ more) ×
+    WritesCharacters rest more
 plain_spells [] rest word plain h = (word, refl, h)
 plain_spells (c ∷ cs) rest [] plain h =
     absurd (empty_is_no_character c (encode_utf8_all cs ++ rest) (sym h ∙ append_assoc (encode_utf8 c) (encode_utf8_all cs) rest))

@@ -40,8 +40,8 @@ impl Command {
     ghost use Rattle.rbbi_model.specs.Scripts.{InsertsText};
     ghost use Rattle.rbbi_script.specs.Meaning.{meaning};
 
-    /// That what the command inserts is characters. It is there for proofs, and does nothing when it
-    /// runs.
+    /// That what the command inserts is characters. It is there for proofs, and does nothing when
+    /// it runs.
     pub(crate) fn inserts_text(&self)
         ensures { InsertsText (meaning self.now) }
     {

@@ -1,8 +1,8 @@
 //! Scripts of questions and edits, and the lines of their replies.
 //!
-//! [`read_script`] takes the bytes of a script as its commands, or tells the first bad line. [`say`]
-//! appends a reply of one line. [`perform`] has a session perform a command and appends its reply,
-//! and [`play`] all commands of a script.
+//! [`read_script`] takes the bytes of a script as its commands, or tells the first bad line.
+//! [`say`] appends a reply of one line. [`perform`] has a session perform a command and appends its
+//! reply, and [`play`] all commands of a script.
 #![tactic(auto)]
 
 mod command;

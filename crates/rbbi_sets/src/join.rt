@@ -16,7 +16,8 @@ pub(crate) fn join_last(ranges: &mut Vec<CodeRange>, low: u32, high: u32) -> Res
     requires code_points { high ≤ 0x10FFFF }
     requires rising { AreRising ranges.old.items }
     requires begin { BeginUpTo ranges.old.items low }
-    ensures joins { OnOk result (Joins ranges.old.items ranges.new.items (is_between low high) low) }
+    ensures joins { OnOk result
+        (Joins ranges.old.items ranges.new.items (is_between low high) low) }
     ensures refused { OnErr result (ranges.new.items ≡ ranges.old.items) }
 {
     let count = ranges.len();

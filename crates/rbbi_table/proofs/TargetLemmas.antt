@@ -22,17 +22,6 @@ none_below table category targets none = record {
   only = λ i short. absurd (omega (arith, short, ap length none));
 }
 
-pub skip_closed : (table : Table) (category : ℕ) (targets : List ℕ) (row : ℕ) → AreTargetsBelow table category targets row → 2 ≤ accept_of table row →
-    AreTargetsBelow table category targets (row + 1)
-skip_closed table category targets row below closed = record {
-  all = λ r short opened.
-      ⊎_elim
-      (λ same. absurd (omega (arith, opened.1, closed, ap (λ n. accept_of table n) same)))
-      (λ other. below.all r (omega arith) opened)
-      (cases_eq r row);
-  only = below.only;
-}
-
 pub add_open : (table : Table) (category : ℕ) (old new : List ℕ) (row : ℕ) → AreTargetsBelow table category old row → row < length table.rows →
     IsOpen table row → AddsTarget old (step table row category) new → AreTargetsBelow table category new (row + 1)
 add_open table category old new row below within opened adds = record {
@@ -53,13 +42,6 @@ add_open table category old new row below within opened adds = record {
       (adds.only i short);
 }
 
-pub none_gathered : (seen : List Bool) (targets : List ℕ) → ((i : ℕ) → i < length seen → get_or seen i false ≡ false) → targets ≡ [] →
-    count_by (λ is. is) seen ≡ 0 → IsGathered seen targets
-none_gathered seen targets unseen none nothing = record {
-  each = λ target short is. absurd (false≢true (sym (unseen target short) ∙ is));
-  count = ap length none ∙ sym nothing;
-}
-
 pub gathers_one : (seen : List Bool) (targets : List ℕ) (target : ℕ) → target < length seen → IsGathered seen targets → get_or seen target false ≡ false →
     IsGathered (set seen target true) (targets ++ target ∷ [])
 gathers_one seen targets target short gathered isnt = record {
@@ -76,14 +58,3 @@ gathers_one seen targets target short gathered isnt = record {
       let more = sum_by-set weight seen target true false short in
       omega (arith, more, gathered.count, length_push targets target, isnt_zero);
 }
-
-pub count_none : (n : ℕ) → count_by (λ is. is) (replicate n false) ≡ 0
-count_none zero = refl
-count_none (suc n) = omega (arith, count_none n)
-
--- nothing is gathered at the start
-pub gathers_none : (n : ℕ) (seen : List Bool) (targets : List ℕ) → seen ≡ replicate n false → targets ≡ [] → IsGathered seen targets
-gathers_none n seen targets unseen none =
-    subst (λ (l : List Bool). IsGathered l targets) (sym unseen)
-    (none_gathered (replicate n false) targets (λ i short. get_or-replicate n i false false (omega (arith, short, length-replicate n false))) none
-    (count_none n))

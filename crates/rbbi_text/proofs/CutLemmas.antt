@@ -613,7 +613,8 @@ small_joined a starts past added small k from short =
     let within : place < length starts = omega (arith, from, short, length-append a (drop past starts), length-drop past starts) in
     omega (arith, small place (omega arith) within, get_or-append_right a (drop past starts) (length a) k 0 refl from, get_or-drop past starts (k - length a) 0)
 
-pub shift_joined : (a b : List ℕ) (n removed added : ℕ) → length a ≡ n → take n (a ++ b) ++ shifted removed added (drop n (a ++ b)) ≡ a ++ shifted removed added b
+pub shift_joined : (a b : List ℕ) (n removed added : ℕ) → length a ≡ n →
+    take n (a ++ b) ++ shifted removed added (drop n (a ++ b)) ≡ a ++ shifted removed added b
 shift_joined a b n removed added long =
     ap (λ (l : List ℕ). l ++ shifted removed added (drop n (a ++ b))) (take_at a b n long)
     ∙ ap (λ (l : List ℕ). a ++ shifted removed added l) (drop_at a b n long)
@@ -704,5 +705,6 @@ pub starts_made : (starts first_starts both all made new_starts : List ℕ) (fir
     (drop behind all) → made ≡ take first starts ++ (new_starts ++ shifted removed added (drop past starts))
 starts_made starts first_starts both all made new_starts first past behind removed added is_first is_both is_all long is_made =
     let tail : List ℕ = shifted removed added (drop past starts) in
-    is_made ∙ ap (λ (l : List ℕ). take behind l ++ shifted removed added (drop behind l)) is_all ∙ shift_joined both (drop past starts) behind removed added long
+    is_made ∙ ap (λ (l : List ℕ). take behind l ++ shifted removed added (drop behind l)) is_all
+    ∙ shift_joined both (drop past starts) behind removed added long
     ∙ ap (λ (l : List ℕ). l ++ tail) (is_both ∙ ap (λ (l : List ℕ). l ++ new_starts) is_first) ∙ append_assoc (take first starts) new_starts tail

@@ -5,7 +5,8 @@ ghost use Rattle.rbbi_io.specs.Counts.{Rose, GoesOn, EachGoesOn, EachStays};
 ghost use Rattle.rbbi_io.specs.Answers.{WhereTold};
 ghost use Rattle.rbbi_io.specs.Sinks.{Takes, TakesFront};
 ghost use Rattle.rbbi_tool.specs.Delivery as spec;
-ghost use Rattle.rbbi_tool.specs.inner.Delivery.{EachHoldsOrIsFile, FileFailed, LeavesFile, OthersUncounted};
+ghost use Rattle.rbbi_tool.specs.inner.Delivery.{EachHoldsOrIsFile, FileFailed, LeavesFile};
+ghost use Rattle.rbbi_tool.specs.inner.Delivery.{OthersUncounted};
 
 use crate::command::{Output, Written};
 use rbbi_io::{Files, Sink, WriteErr, put_all};

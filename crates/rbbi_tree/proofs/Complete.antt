@@ -8,7 +8,8 @@ use Rattle.rbbi_tree.specs.declared.syntax.Quant.{Quant}
 use Rattle.rbbi_tree.specs.declared.syntax.Quant.TheVariants.{Once, Star, Plus, Quest}
 use Rattle.rbbi_tree.specs.Trees.{set_of, ExprTree, SeqTree, ItemTree, AtomTree, StatementTree, no_alternatives, alternative, no_items, item, placed}
 use Rattle.rbbi_tree.specs.Trees.{character, quoted, any, name, property, set, group, nothing, control, assign, rule}
-use Rattle.rbbi_tree.specs.Grammar.{token, HasFirstPlace, IsCaret, IsQuant, IsTag, IsExpr, AreMoreAlternatives, IsSeq, AreItems, IsItem, IsAtom, IsOneSeq, IsMatcher}
+use Rattle.rbbi_tree.specs.Grammar.{token, HasFirstPlace, IsCaret, IsQuant, IsTag, IsExpr, AreMoreAlternatives, IsSeq, AreItems, IsItem, IsAtom}
+use Rattle.rbbi_tree.specs.Grammar.{IsOneSeq, IsMatcher}
 use Rattle.rbbi_tree.specs.Grammar.{IsStatement, IsFile}
 use Rattle.rbbi_tree.specs.inner.Statements.{LevelTree, GroupTree, HeadTree, assigning, ruling, resting, Progress, empty_level, after, items_back}
 use Rattle.rbbi_tree.specs.inner.Statements.{sequences_back, with_item, with_sequence, whole, begun, atom_read, group_begun, set_begun, at_bar, run}

@@ -221,7 +221,8 @@ fn is_rest(
     are(alloc, division, &rest, want)
 }
 
-/// Whether each operation gives what the case says, and those that may be turned give it turned too.
+/// Whether each operation gives what the case says, and those that may be turned give it turned
+/// too.
 fn is_case(alloc: Global, division: &Division, case: &Case) -> Result<bool, AllocError> {
     let left = classes_of(alloc, division.layout(), case.left)?;
     let right = classes_of(alloc, division.layout(), case.right)?;

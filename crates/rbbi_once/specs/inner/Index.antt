@@ -18,4 +18,5 @@ pub record IsIndexed (sets : List (List ℕ)) (newest older : List ℕ) : Type 0
   pub newest_most : (i : ℕ) → i < length sets → i < slice_index newest (bucket_of (listed_row sets i))
   pub older_within : (i : ℕ) → i < length sets → slice_index older i ≤ i
   pub older_of : (i : ℕ) → i < length sets → 0 < slice_index older i → bucket_of (listed_row sets (slice_index older i - 1)) ≡ bucket_of (listed_row sets i)
-  pub older_most : (earlier i : ℕ) → earlier < i → i < length sets → bucket_of (listed_row sets earlier) ≡ bucket_of (listed_row sets i) → earlier < slice_index older i
+  pub older_most : (earlier i : ℕ) → earlier < i → i < length sets → bucket_of (listed_row sets earlier) ≡ bucket_of (listed_row sets i) →
+      earlier < slice_index older i

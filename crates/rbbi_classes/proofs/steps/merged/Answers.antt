@@ -23,7 +23,8 @@ smaller c =
     let left = c.walked-of_left.ensures in
     let right = c.walked-of_right.ensures in
     merging-smaller c.args.left.now c.args.right.now c.merge.steps.items c.merge.of_left c.merge.of_right c.walked-of_left.result c.walked-of_right.result
-    c.merge.pairs.items.items c.merge.number c.next_start-start.result c.merge.invariant.merging starts.left starts.right starts.one left.met left.not_met right.met
+    c.merge.pairs.items.items c.merge.number c.next_start-start.result c.merge.invariant.merging starts.left starts.right starts.one left.met left.not_met
+    right.met
     right.not_met
 
 -- the pair has its number, whether a step is added or not
@@ -38,7 +39,8 @@ turn c new last pushed =
     let left = c.walked-of_left.ensures in
     let right = c.walked-of_right.ensures in
     merging-turn c.args.left.now c.args.right.now c.merge.steps.items c.merge.of_left c.merge.of_right c.walked-of_left.result c.walked-of_right.result
-    c.merge.pairs.items.items c.merge.number c.next_start-start.result c.merge.invariant.merging starts.left starts.right starts.one left.met left.not_met right.met
+    c.merge.pairs.items.items c.merge.number c.next_start-start.result c.merge.invariant.merging starts.left starts.right starts.one left.met left.not_met
+    right.met
     right.not_met new c.number_of.new.self.items.items c.in_ok-next.next last c.in_ok-next.ensures.number c.in_ok-next.ensures.items pushed
 
 pub merge-smaller-then-next-number : goal.merge-smaller-then-next-number

@@ -43,7 +43,8 @@ loop-bit-preserved c =
           let short : position < length c.rows.inside.follow.items = omega (arith, w.if-position-len.true, c.len.ensures, c.rows.inside.follow.ok.0) in
           let is = ap (λ l. listed_row l position) (sym same) ∙ found_row c.rows.inside.follow.items position w.index.result.now short w.index.ensures in
           subst (AddsFollowers follow i word (bit + 1) old) (sym w.next-is)
-          (adds_with follow i word bit old c.loop-bit.next w.add_to.new.set w.index.result.now here (sym w.is_set.ensures ∙ w.if-is_set.true) is w.add_to.ensures)
+          (adds_with follow i word bit old c.loop-bit.next w.add_to.new.set w.index.result.now here (sym w.is_set.ensures ∙ w.if-is_set.true) is
+          w.add_to.ensures)
       | else-position-len w ↦
           subst (AddsFollowers follow i word (bit + 1) old) (sym w.next-is)
           (elim w.else-position-len.branch [

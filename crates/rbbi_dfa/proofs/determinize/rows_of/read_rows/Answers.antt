@@ -11,5 +11,6 @@ loop-category-preserved c =
     let pushed = ap items_of c.in_ok-push.ensures.items ∙ map_push (λ (v : Vec ℕ Global). v.items) c.loop-category.rows.items c.in_ok-words.words in
     let copied = c.in_ok-words.ensures.items_if_clones_equal (λ x y e. e) in
     subst (AreRowsIn c.args.positions.now.words (c.loop-category.category + 1) (readers_in c.args.positions.now)) (sym pushed)
-    (rows_more c.args.positions.now.words (readers_in c.args.positions.now) (items_of c.loop-category.rows.items) c.in_ok-words.words.items c.loop-category.category
+    (rows_more c.args.positions.now.words (readers_in c.args.positions.now) (items_of c.loop-category.rows.items) c.in_ok-words.words.items
+    c.loop-category.category
     c.loop-category.invariant (ap length copied ∙ c.readers.ensures.wide) (copied ∙ c.readers.ensures.row))

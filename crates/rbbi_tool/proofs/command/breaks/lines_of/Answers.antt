@@ -31,7 +31,8 @@ loop-at-preserved g c =
       statuses = (c.status_list.ensures ∙ ap (statuses_of table) c.next-found.ensures.status) i;
     } in
     record {
-      listed = listed_more table x c.loop-at.lines.items c.append_boundary-in-loop-at.new.out.items c.loop-at.at c.next-found.result.at c.loop-at.invariant.listed
+      listed = listed_more table x c.loop-at.lines.items c.append_boundary-in-loop-at.new.out.items c.loop-at.at c.next-found.result.at
+          c.loop-at.invariant.listed
           inside (c.next_boundary_is_past_the_start.ensures table x c.loop-at.at inside) c.next-found.ensures.at
           (c.in_ok-append_boundary-2.ensures ∙ ap (λ b. c.loop-at.lines.items ++ boundary_line b) found);
       fit = c.next-found.ensures.fit ∙ c.loop-at.invariant.fit;
