@@ -2,7 +2,6 @@
 use Rattle.std.proofs.Common.{◌≡◌, inl, inr, ⊎_elim, ℕ, Bool, true, false, ltb, eqb, ◌||◌, ◌&&◌, List, [], Option, Some}
 use Rattle.std.proofs.Common.{None}
 use Rattle.std.proofs.Common.{length, refl, sym, ap, ◌∙◌, subst, arith}
-use Rattle.std.specs.Prelude.{if◌then◌else◌, ◌==◌}
 use Rattle.std.proofs.lemmas.Bool.{cases_lt, lt-ltb, eq-eqb, false≢true}
 use Rattle.rbbi_model.specs.Rules.{Rule}
 use Rattle.rbbi_model.proofs.Lists.{all_at}
@@ -96,7 +95,7 @@ error_for None = error.Memory
 error_for (Some fault) = error_of fault.kind fault.place
 
 told : (e : ResolveErr) → e ≡ error_for (fault_of e)
-unfolding error_of, error_for
+unfolding error_of error_for
 told (error.UnknownControl place) = refl
 told (error.UnsupportedControl place) = refl
 told (error.Dictionary place) = refl
