@@ -31,6 +31,7 @@ use Rattle.rbbi_dfa.specs.declared.error.BuildErr.{BuildErr}
 use Rattle.rbbi_dfa.specs.declared.error.BuildErr.TheVariants as build
 use Rattle.rbbi_dfa.specs.Refusals as builder
 use Rattle.rbbi_dfa.specs.Builds.{BuildsTable, IsWithinLimits}
+use Rattle.rbbi_dfa.specs.SameCounts.{CompiledTablesHaveSameCounts}
 use Rattle.rbbi_file.specs.declared.error.FileErr.{FileErr}
 use Rattle.rbbi_file.specs.declared.error.FileErr.TheVariants as file
 use Rattle.rbbi_file.specs.Errors as reader
@@ -97,6 +98,7 @@ pub record Laws : Type 0 where
       → IsSummary (AreBoundaries rules) count other → one ≡ other
   pub tests : HaveOneTestList
   pub verdicts : (boundaries : List Boundary) (test : Test) → HasOneVerdict boundaries test
+  pub counts : CompiledTablesHaveSameCounts
 
 -- outcomes are the same, or both tell a table of the same rules
 abbrev AreAlike : Outcome → Outcome → Type 0
@@ -377,6 +379,19 @@ module _ (laws : Laws) where
     apart = λ o r is is'. is';
   }
 
+  -- all tables of rules are told alike
+  told_alike : (rules : List Rule) (name : List ℕ) (one other : Outcome) → TellsTable rules name one → TellsTable rules name other → AreAlike one other
+  told_alike rules name one other is is' =
+      let counts = laws.counts is.table is'.table rules is.lawful is.compiled is'.compiled in
+      inr (record {
+        rules = rules;
+        name = name;
+        is = is;
+        is_other = is';
+        same_status = ap (λ (o : Outcome). o.status) is.is ∙ sym (ap (λ (o : Outcome). o.status) is'.is);
+        same_line = ap (λ (o : Outcome). o.bytes) is.is ∙ counts.line ∙ sym (ap (λ (o : Outcome). o.bytes) is'.is);
+      })
+
   -- what a command answers is settled
   command_settled : (command : Command) (request : Request) (handed files : List (List ℕ))
       → IsSettled Outcome AreAlike (command_stage command request handed files)
@@ -412,7 +427,7 @@ module _ (laws : Laws) where
       (λ rules. record { passes = TellsTable rules (nth request.operands 1); refuses = λ _. ⊥ }) AreAlike
       (compiled_determined request.properties request.ignored handed (nth files 0))
       (λ rules mean. record {
-        value = λ o p is is'. inr (record { rules = rules; name = nth request.operands 1; is = is; is_other = is' });
+        value = told_alike rules (nth request.operands 1);
         refusal = λ r s is is'. absurd is;
         apart = λ o r is is'. is';
       })

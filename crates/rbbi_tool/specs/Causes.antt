@@ -101,12 +101,15 @@ abbrev pub TakesFailedRead : List (List ℕ) → Option (List ℕ → List ℕ) 
 TakesFailedRead words contents before now taken taken' =
     (line : List ℕ) × TellsFailedRead words contents before now line × Takes taken taken' line
 
--- both tell a table that is compiled from the same rules, perhaps not the same one, and write its file under the same name
+-- Both tell a table that is compiled from the same rules, perhaps not the same one. Their status and their line are the same, and each
+-- writes its table under the same name.
 pub record TellOneTable (one other : Outcome) : Type 0 where
   pub rules : List Rule
   pub name : List ℕ
   pub is : TellsTable rules name one
   pub is_other : TellsTable rules name other
+  pub same_status : one.status ≡ other.status
+  pub same_line : one.bytes ≡ other.bytes
 
 -- two outcomes are the same, or both tell a table that is compiled from the same rules
 abbrev pub HasOneOutcome : List (List ℕ) → (List ℕ → List ℕ) → Type 0

@@ -1,6 +1,6 @@
 -- What `compile` answers.
 use Rattle.std.specs.Prelude.{◌≡◌, ℕ, Bool, List, Some}
-use Rattle.rbbi_model.specs.Rules.{Rule}
+use Rattle.rbbi_model.specs.Rules.{Rule, AreLawful}
 use Rattle.rbbi_model.specs.Lines.{compile_line}
 use Rattle.rbbi_model.specs.Tables.{Table}
 use Rattle.rbbi_model.specs.Compiled.{IsCompiled}
@@ -10,9 +10,10 @@ use Rattle.rbbi_tool.specs.Stages.{Stage, followed_by}
 use Rattle.rbbi_tool.specs.Refusals.{Outcome}
 use Rattle.rbbi_tool.specs.Basis.{compiled_stage}
 
--- A table is compiled from the rules: its file is written under the name, and its numbers are told. The numbers of its rows but
--- the first two are free.
+-- A table is compiled from the rules, which are lawful: its file is written under the name, and its numbers are told. The numbers of
+-- its rows but the first two are free.
 pub record TellsTable (rules : List Rule) (name : List ℕ) (outcome : Outcome) : Type 0 where
+  pub lawful : AreLawful rules
   pub table : Table
   pub compiled : IsCompiled table rules
   pub is : outcome ≡ record { status = 0; bytes = compile_line table; file = Some (record { name = name; bytes = spelling table }) }

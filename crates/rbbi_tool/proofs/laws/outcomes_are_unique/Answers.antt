@@ -19,4 +19,5 @@ returns c =
       summaries = c.summaries_are_unique.ensures;
       tests = c.one_tests.ensures;
       verdicts = c.one_verdict.ensures;
+      counts = c.compiled_tables_have_same_counts.ensures;
     })

@@ -27,6 +27,7 @@ returns g c =
       rules,
       (rules, c.in_ok-rules.ensures.exact, (tt, c.in_ok-table.ensures.exact, refl)),
       record {
+        lawful = c.in_ok-rules.ensures.lawful;
         table = c.in_ok-table.table;
         compiled = c.in_ok-table.ensures.compiled;
         is = same_told _ _ _ _ _ _ c.in_ok-line.ensures c.in_ok-name.ensures c.in_ok-bytes.ensures.spelled;
