@@ -15,7 +15,7 @@ use Rattle.rbbi_tool.specs.Properties.{properties_stage}
 use Rattle.rbbi_tool.specs.Rules.{IsTold, rules_stage}
 use Rattle.rbbi_text.specs.declared.error.LinesErr.{LinesErr}
 use Rattle.rbbi_text.specs.declared.error.LinesErr.TheVariants as lines
-use Rattle.rbbi_tool.specs.Scripts.{script_fault, tests_fault}
+use Rattle.rbbi_tool.specs.Scripts.{lines_fault}
 use Rattle.rbbi_tool.specs.Basis.{limits_stage, compiled_stage, compiled_text_stage, basis_stage}
 use Rattle.rbbi_tool.specs.Program.{command_stage}
 
@@ -86,15 +86,10 @@ text_fault name bytes r (inl (at, wrong, is)) = is_fault _ _ _ r is
 text_fault name bytes r (inr (x, passed, is)) = is_fault _ _ _ r is.1
 
 -- scripts and test files
-script_fault_is : (name : List ℕ) (e : LinesErr) (r : Refusal) → e ≢ lines.Memory → r ≡ script_fault name e → IsFault r
-script_fault_is name (lines.NotUtf8 at) r some is = is_fault _ _ _ r is
-script_fault_is name (lines.BadLine line) r some is = is_fault _ _ _ r is
-script_fault_is name lines.Memory r some is = absurd (some refl)
-
-tests_fault_is : (name : List ℕ) (e : LinesErr) (r : Refusal) → e ≢ lines.Memory → r ≡ tests_fault name e → IsFault r
-tests_fault_is name (lines.NotUtf8 at) r some is = is_fault _ _ _ r is
-tests_fault_is name (lines.BadLine line) r some is = is_fault _ _ _ r is
-tests_fault_is name lines.Memory r some is = absurd (some refl)
+lines_fault_is : (name : List ℕ) (e : LinesErr) (r : Refusal) → e ≢ lines.Memory → r ≡ lines_fault name e → IsFault r
+lines_fault_is name (lines.NotUtf8 at) r some is = is_fault _ _ _ r is
+lines_fault_is name (lines.BadLine line) r some is = is_fault _ _ _ r is
+lines_fault_is name lines.Memory r some is = absurd (some refl)
 
 -- commands
 pub command_fault : (command : Command) (request : Request) (handed files : List (List ℕ)) (r : Refusal)
@@ -108,10 +103,10 @@ command_fault Breaks request handed files r (inr (basis, passed, inl is)) = text
 command_fault Breaks request handed files r (inr (basis, passed, inr (x, taken, never))) = absurd never
 command_fault Run request handed files r (inl is) = basis_fault request.properties request.ignored request.by_table handed _ r is
 command_fault Run request handed files r (inr (basis, passed, inl is)) = text_fault _ _ r is
-command_fault Run request handed files r (inr (basis, passed, inr (x, taken, inl is))) = script_fault_is _ is.error r is.not_memory is.is
+command_fault Run request handed files r (inr (basis, passed, inr (x, taken, inl is))) = lines_fault_is _ is.error r is.not_memory is.is
 command_fault Run request handed files r (inr (basis, passed, inr (x, taken, inr (commands, read, never)))) = absurd never
 command_fault Conform request handed files r (inl is) = basis_fault request.properties request.ignored request.by_table handed _ r is
-command_fault Conform request handed files r (inr (basis, passed, inl is)) = tests_fault_is _ is.error r is.not_memory is.is
+command_fault Conform request handed files r (inr (basis, passed, inl is)) = lines_fault_is _ is.error r is.not_memory is.is
 command_fault Conform request handed files r (inr (basis, passed, inr (tests, read, never))) = absurd never
 command_fault Demo request handed files r (inl never) = absurd never
 command_fault Demo request handed files r (inr (count, written, inl is)) = compiled_text_fault _ r is

@@ -11,7 +11,7 @@ use Rattle.rbbi_conform.specs.Verdicts.{IsVerdict}
 use Rattle.rbbi_conform.specs.Laws.{HaveOneTestList, HasOneVerdict}
 use Rattle.rbbi_tool.specs.inner.Stages.{IsDetermined}
 use Rattle.rbbi_tool.specs.Basis.{Basis, AreBoundariesBy}
-use Rattle.rbbi_tool.specs.Scripts.{script_fault, script_stage, tests_fault, tests_stage}
+use Rattle.rbbi_tool.specs.Scripts.{lines_fault, script_stage, tests_stage}
 use Rattle.rbbi_tool.specs.Command.Conform.{AreVerdictsBy}
 
 -- answers that are the same have the same value or the same error, and are of one kind
@@ -33,7 +33,7 @@ script_determined law name bytes = record {
       is.mean ∙ ap (map meaning) (value_of is.written is'.written same) ∙ sym is'.mean;
   refusal = λ r s is is'.
       let same = law bytes (Err is.error) (Err is'.error) is.refused is'.refused (λ e. is.not_memory (error_of _ _ e)) (λ e. is'.not_memory (error_of _ _ e)) in
-      is.is ∙ ap (script_fault name) (error_of is.error is'.error same) ∙ sym is'.is;
+      is.is ∙ ap (lines_fault name) (error_of is.error is'.error same) ∙ sym is'.is;
   apart = λ cs r is is'.
       no_error is.written is'.error
       (law bytes (Ok is.written) (Err is'.error) is.read is'.refused (λ e. no_error _ _ e) (λ e. is'.not_memory (error_of _ _ e)));
@@ -45,7 +45,7 @@ tests_determined law name bytes = record {
   value = λ ts us is is'. value_of ts us (law bytes (Ok ts) (Ok us) is is' (λ e. no_error _ _ e) (λ e. no_error _ _ e));
   refusal = λ r s is is'.
       let same = law bytes (Err is.error) (Err is'.error) is.refused is'.refused (λ e. is.not_memory (error_of _ _ e)) (λ e. is'.not_memory (error_of _ _ e)) in
-      is.is ∙ ap (tests_fault name) (error_of is.error is'.error same) ∙ sym is'.is;
+      is.is ∙ ap (lines_fault name) (error_of is.error is'.error same) ∙ sym is'.is;
   apart = λ ts r is is'.
       no_error ts is'.error (law bytes (Ok ts) (Err is'.error) is is'.refused (λ e. no_error _ _ e) (λ e. is'.not_memory (error_of _ _ e)));
 }

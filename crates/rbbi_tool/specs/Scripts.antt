@@ -14,18 +14,18 @@ use Rattle.rbbi_tool.specs.declared.refusal.Refusal.{Refusal}
 use Rattle.rbbi_tool.specs.declared.refusal.Refusal.TheVariants.{Fault, Memory}
 use Rattle.rbbi_tool.specs.Stages.{Stage}
 
--- what a fault of the script of this name tells
-abbrev pub script_fault : List ℕ → LinesErr → Refusal
-script_fault name (lines.NotUtf8 at) = Fault (File name) (codes "NotUtf8") (Byte at)
-script_fault name (lines.BadLine line) = Fault (File name) (codes "BadLine") (Row line)
-script_fault name lines.Memory = Memory
+-- what a fault of the script or the test file of this name tells
+abbrev pub lines_fault : List ℕ → LinesErr → Refusal
+lines_fault name (lines.NotUtf8 at) = Fault (File name) (codes "NotUtf8") (Byte at)
+lines_fault name (lines.BadLine line) = Fault (File name) (codes "BadLine") (Row line)
+lines_fault name lines.Memory = Memory
 
--- the bytes are no script, and the first fault is told
-pub record TellsScriptFault (name bytes : List ℕ) (refusal : Refusal) : Type 0 where
+-- the bytes are refused, and the first fault is told
+pub record TellsLinesFault (IsRefused : LinesErr → Type 0) (name : List ℕ) (refusal : Refusal) : Type 0 where
   pub error : LinesErr
-  pub refused : ReadsScript bytes (Err error)
+  pub refused : IsRefused error
   pub not_memory : error ≢ lines.Memory
-  pub is : refusal ≡ script_fault name error
+  pub is : refusal ≡ lines_fault name error
 
 -- the bytes are a script, which means these commands
 pub record MeanCommands (bytes : List ℕ) (commands : List Command) : Type 0 where
@@ -35,21 +35,11 @@ pub record MeanCommands (bytes : List ℕ) (commands : List Command) : Type 0 wh
 
 -- the commands of a script of this name
 abbrev pub script_stage : List ℕ → List ℕ → Stage (List Command)
-script_stage name bytes = record { passes = MeanCommands bytes; refuses = TellsScriptFault name bytes }
-
--- what a fault of the test file of this name tells
-abbrev pub tests_fault : List ℕ → LinesErr → Refusal
-tests_fault name (lines.NotUtf8 at) = Fault (File name) (codes "NotUtf8") (Byte at)
-tests_fault name (lines.BadLine line) = Fault (File name) (codes "BadLine") (Row line)
-tests_fault name lines.Memory = Memory
-
--- the bytes are no test file, and the first fault is told
-pub record TellsTestsFault (name bytes : List ℕ) (refusal : Refusal) : Type 0 where
-  pub error : LinesErr
-  pub refused : ReadsTests bytes (Err error)
-  pub not_memory : error ≢ lines.Memory
-  pub is : refusal ≡ tests_fault name error
+script_stage name bytes = record { passes = MeanCommands bytes; refuses = TellsLinesFault (λ error. ReadsScript bytes (Err error)) name }
 
 -- the tests of a test file of this name
 abbrev pub tests_stage : List ℕ → List ℕ → Stage (List Test)
-tests_stage name bytes = record { passes = λ tests. ReadsTests bytes (Ok tests); refuses = TellsTestsFault name bytes }
+tests_stage name bytes = record {
+  passes = λ tests. ReadsTests bytes (Ok tests);
+  refuses = TellsLinesFault (λ error. ReadsTests bytes (Err error)) name;
+}

@@ -14,10 +14,10 @@ use rbbi_text::{LinesErr, Raw, Steps};
 use std::alloc::Global;
 use std::sync::ledger::Ledger;
 
-/// What a fault of the script of this name tells, or want of memory.
-fn script_refusal(alloc: Global, name: &str, error: LinesErr) -> Refusal
+/// What a fault of the script or the test file of this name tells, or want of memory.
+fn lines_refusal(alloc: Global, name: &str, error: LinesErr) -> Refusal
     ensures { (result ≡ Refusal.Memory)
-        ⊎ ((error ≢ LinesErr.Memory) × (result ≡ spec.script_fault name.now error)) }
+        ⊎ ((error ≢ LinesErr.Memory) × (result ≡ spec.lines_fault name.now error)) }
 {
     match error {
         LinesErr::NotUtf8(at) => file_fault(alloc, name, "NotUtf8", Place::Byte(at)),
@@ -42,19 +42,7 @@ pub(crate) fn commands_of<L: Ledger>(
 {
     match read_script(alloc, bytes.bytes(steps)) {
         Ok(commands) => Ok(commands),
-        Err(error) => Err(script_refusal(alloc, name, error)),
-    }
-}
-
-/// What a fault of the test file of this name tells, or want of memory.
-fn tests_refusal(alloc: Global, name: &str, error: LinesErr) -> Refusal
-    ensures { (result ≡ Refusal.Memory)
-        ⊎ ((error ≢ LinesErr.Memory) × (result ≡ spec.tests_fault name.now error)) }
-{
-    match error {
-        LinesErr::NotUtf8(at) => file_fault(alloc, name, "NotUtf8", Place::Byte(at)),
-        LinesErr::BadLine(line) => file_fault(alloc, name, "BadLine", Place::Row(line)),
-        LinesErr::Memory => Refusal::Memory,
+        Err(error) => Err(lines_refusal(alloc, name, error)),
     }
 }
 
@@ -70,6 +58,6 @@ pub(crate) fn tests_of<L: Ledger>(
 {
     match read_tests(alloc, bytes.bytes(steps)) {
         Ok(tests) => Ok(tests),
-        Err(error) => Err(tests_refusal(alloc, name, error)),
+        Err(error) => Err(lines_refusal(alloc, name, error)),
     }
 }

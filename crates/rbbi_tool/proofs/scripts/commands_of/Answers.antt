@@ -18,4 +18,4 @@ returns-in-Err-clause-exact g c =
       refused = subst (λ b. ReadsScript b (Err c.in-Err.error)) c.bytes.ensures.bytes c.in-Err.ensures.script;
       not_memory = some;
       is = is;
-    })) c.script_refusal.ensures
+    })) c.lines_refusal.ensures

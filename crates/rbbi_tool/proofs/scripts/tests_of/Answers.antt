@@ -11,4 +11,4 @@ returns-in-Err g c =
       refused = subst (λ b. ReadsTests b (Err c.in-Err.error)) c.bytes.ensures.bytes c.in-Err.ensures;
       not_memory = some;
       is = is;
-    })) c.tests_refusal.ensures
+    })) c.lines_refusal.ensures
