@@ -68,11 +68,11 @@ pub told_more : (sets : List (List Range)) (cuts before after members : List ℕ
     AreMembers cuts set members → Refines before after members →
     AreClassesOfSets (take k sets) cuts before → AreClassesOfSets (take (k + 1) sets) cuts after
 told_more sets cuts before after members k set at m r h = subst (λ (s : List (List Range)). AreClassesOfSets s cuts after) (sym (take_next sets k set at))
-        (record {
-  many = r.many ∙ h.many;
-  alike = λ i j inside inside'. (alike_there i j inside inside', alike_back i j inside inside');
-  none = λ i inside. (none_there i inside, none_back i inside);
-})
+    (record {
+      many = r.many ∙ h.many;
+      alike = λ i j inside inside'. (alike_there i j inside inside', alike_back i j inside inside');
+      none = λ i inside. (none_there i inside, none_back i inside);
+    })
   where
     within : (i : ℕ) → i < length cuts → i < length before
     within i inside = omega (arith, inside, h.many)
@@ -119,7 +119,7 @@ record Representatives (sets : List (List Range)) (cuts classes : List ℕ) (cou
   apart : AllPairs (λ c d. ¬ NoneTells sets c d) starts
 
 representatives : (sets : List (List Range)) (cuts classes sizes : List ℕ) (k count : ℕ) → AreStretchClasses classes sizes →
-        AreClassesOfSets (take k sets) cuts classes →
+    AreClassesOfSets (take k sets) cuts classes →
     count < length sizes → Representatives sets cuts classes count
 representatives sets cuts classes sizes k zero p t below = record {
   starts = [];
@@ -170,7 +170,7 @@ representatives sets cuts classes sizes k (suc count) p t below =
     )
 
 pub too_many_told : (sets : List (List Range)) (cuts classes sizes : List ℕ) (k count : ℕ) → AreStretchClasses classes sizes →
-        AreClassesOfSets (take k sets) cuts classes →
+    AreClassesOfSets (take k sets) cuts classes →
     count < length sizes → HasTold sets cuts count
 too_many_told sets cuts classes sizes k count p t below =
     let h = representatives sets cuts classes sizes k count p t below in
