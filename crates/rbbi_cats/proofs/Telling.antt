@@ -1,18 +1,17 @@
 -- What one more set tells apart.
 use Rattle.std.proofs.Common.{◌≡◌, ℕ, zero, suc, ◌+◌, ◌≤◌, ◌<◌, ◌⊎◌, ◌↔◌, Some, List, [], ◌∷◌, ◌++◌, length, get_or, take, refl, ap, sym, ◌∙◌, subst, inl, inr}
 use Rattle.std.proofs.Common.{arith}
-use Rattle.std.specs.Prelude.{replicate, slice_get, Contains, AllPairs}
+use Rattle.std.specs.Prelude.{slice_get, Contains, AllPairs}
 use Rattle.std.specs.List.{AllByRecursion}
 use Rattle.std.proofs.lemmas.List.{get_or_default}
 use Rattle.std.proofs.lemmas.List.Kept.{AllPairs-cons}
 use Rattle.std.proofs.lemmas.List.Elements.{All-from_recursion}
 use Rattle.std.proofs.lemmas.Bool.{cases_lt}
 use Rattle.rbbi_model.specs.Ranges.{Range, Has}
-use Rattle.rbbi_cats.specs.inner.Partitions.{AreStretchClasses, AreStretches, Refines}
+use Rattle.rbbi_cats.specs.inner.Partitions.{AreStretchClasses, Refines}
 use Rattle.rbbi_cats.specs.inner.Cuts.{AreMembers}
 use Rattle.rbbi_cats.specs.inner.SetClasses.{SomeHas, NoneTells, AreClassesOfSets, HasTold}
 use Rattle.rbbi_cats.proofs.Nexts.{take_next}
-use Rattle.rbbi_cats.proofs.Counts.{count_of, all_zero, zero_at}
 
 -- whether a set holds a code point
 pub has_cases : (set : List Range) (c : ℕ) → Has set c ⊎ (¬ Has set c)
