@@ -157,7 +157,7 @@ pub record Classed (sets : List (List Range)) (categories : ℕ) (ranges : List 
 
 module _ (sets : List (List Range)) (cuts classes sizes numbers : List ℕ) (ranges : List CategoryRange) (greatest : ℕ) (cut : AreCuts sets cuts)
     (small : (i : ℕ) → i < length cuts → get_or cuts i 0 ≤ last_code_point) (partition : AreStretchClasses classes sizes)
-            (tells : AreClassesOfSets sets cuts classes)
+    (tells : AreClassesOfSets sets cuts classes)
     (long : length numbers ≡ length sizes) (numbered : AreNumbers classes numbers greatest) (are : AreRangesOf cuts classes numbers ranges) where
   number_at : ℕ → ℕ
   number_at i = get_or numbers (get_or classes i 0) 0

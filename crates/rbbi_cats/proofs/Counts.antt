@@ -1,6 +1,6 @@
 -- How many members of a list equal a number, and what a write makes of it.
 use Rattle.std.proofs.Common.{◌≡◌, ◌≢◌, ℕ, zero, suc, ◌+◌, ◌≤◌, ◌<◌, cond, ◌⊎◌, List, [], ◌∷◌, length, get_or, set, eqb, refl, ap, ◌∙◌, inl, inr, arith, eq-eqb}
-use Rattle.std.specs.Prelude.{count_by, replicate}
+use Rattle.std.specs.Prelude.{count_by}
 use Rattle.std.proofs.lemmas.List.Sums.{sum_by-cons, sum_by-set}
 use Rattle.std.proofs.lemmas.Bool.{cases_eq}
 use Rattle.std.proofs.lemmas.List.{get_or_default}

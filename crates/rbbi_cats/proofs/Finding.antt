@@ -108,7 +108,7 @@ module _ {list : RuleList} {sets : List (List Range)} {cuts : List ℕ} (form : 
   has_classes {count = count} told = too_many list cuts form small count (subst (λ (s : List (List Range)). HasTold s cuts count) same told)
 
   pub partitioned : {classes sizes numbers : List ℕ} {greatest : ℕ} {ranges : List CategoryRange} → AreStretchClasses classes sizes →
-          AreClassesOfSets sets cuts classes →
+      AreClassesOfSets sets cuts classes →
       AreNumbers classes numbers greatest → AreRangesOf cuts classes numbers ranges → length numbers ≡ length sizes → length sizes ≤ 255 →
       AreClasses (rules_of list) (greatest + 1) ranges × AreValidRanges (greatest + 1) ranges
   partitioned {classes = classes} partition tells numbered are long few =

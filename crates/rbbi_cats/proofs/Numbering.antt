@@ -1,11 +1,10 @@
 -- The classes get their numbers, stretch by stretch.
 use Rattle.std.proofs.Common.{◌≡◌, ◌≢◌, ℕ, ◌+◌, ◌≤◌, ◌<◌, ◌⊎◌, List, length, get_or, set, ap, sym, ◌∙◌, inl, inr, arith, get_or-set_same}
 use Rattle.std.proofs.Common.{get_or-set_other}
-use Rattle.std.specs.Prelude.{replicate}
 use Rattle.std.proofs.Math.ListN.{length-set}
 use Rattle.std.proofs.lemmas.Bool.{cases_eq, cases_lt}
 use Rattle.rbbi_cats.specs.inner.Numbers.{AreNumbers}
-use Rattle.rbbi_cats.proofs.Counts.{one_if_same, one_if_other, count_of, count_of-set, counted, all_zero, zero_at}
+use Rattle.rbbi_cats.proofs.Counts.{one_if_same, one_if_other, count_of, count_of-set, counted}
 
 -- the classes of the first so many stretches have their numbers
 pub record NumberedSoFar (classes numbers : List ℕ) (greatest count k : ℕ) : Type 0 where

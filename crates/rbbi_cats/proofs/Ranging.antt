@@ -1,6 +1,5 @@
 -- The ranges of categories, stretch by stretch.
 use Rattle.std.proofs.Common.{◌≡◌, ◌≢◌, ℕ, ◌+◌, ◌-◌, ◌≤◌, ◌<◌, ◌⊎◌, leb, cond, List, [], ◌∷◌, ◌++◌, length, get_or, refl, ap, sym, ◌∙◌, subst, inl, inr, arith}
-use Rattle.std.proofs.Common.{length-append}
 use Rattle.std.specs.Prelude.{Contains}
 use Rattle.std.specs.List.{AllByRecursion}
 use Rattle.std.specs.List.Sorted.{IsStrictlyIncreasing}
@@ -10,7 +9,6 @@ use Rattle.rbbi_model.specs.Tables.{CategoryRange, category_from, category_of}
 use Rattle.rbbi_model.specs.ValidTables.{StartsAtZero, AreApart}
 use Rattle.rbbi_model.proofs.Lists.{all_append}
 use Rattle.rbbi_cats.proofs.Classing.{rises}
-use Rattle.rbbi_cats.specs.inner.Numbers.{AreRangesOf}
 
 -- a further range doesn't count before its start
 category_before : (ranges : List CategoryRange) (b c : ℕ) (last : CategoryRange) → c < last.start →

@@ -11,7 +11,6 @@ use Rattle.rbbi_sets.proofs.Rise.{rising-range, rising-apart}
 use Rattle.rbbi_model.specs.Ranges.{Range, InRange, Has}
 use Rattle.rbbi_sets.specs.Rising.{AreRising}
 use Rattle.rbbi_cats.specs.inner.Partitions.{Selects}
-use Rattle.rbbi_cats.specs.inner.Cuts.{AreMembers}
 
 -- the members by the first so many ranges, all before the further ranges
 pub record Selected (cuts : List ℕ) (ranges : List Range) (members : List ℕ) (k : ℕ) : Type 0 where

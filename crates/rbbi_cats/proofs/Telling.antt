@@ -1,18 +1,17 @@
 -- What one more set tells apart.
 use Rattle.std.proofs.Common.{◌≡◌, ℕ, zero, suc, ◌+◌, ◌≤◌, ◌<◌, ◌⊎◌, ◌↔◌, Some, List, [], ◌∷◌, ◌++◌, length, get_or, take, refl, ap, sym, ◌∙◌, subst, inl, inr}
 use Rattle.std.proofs.Common.{arith}
-use Rattle.std.specs.Prelude.{replicate, slice_get, Contains, AllPairs}
+use Rattle.std.specs.Prelude.{slice_get, Contains, AllPairs}
 use Rattle.std.specs.List.{AllByRecursion}
 use Rattle.std.proofs.lemmas.List.{get_or_default}
 use Rattle.std.proofs.lemmas.List.Kept.{AllPairs-cons}
 use Rattle.std.proofs.lemmas.List.Elements.{All-from_recursion}
 use Rattle.std.proofs.lemmas.Bool.{cases_lt}
 use Rattle.rbbi_model.specs.Ranges.{Range, Has}
-use Rattle.rbbi_cats.specs.inner.Partitions.{AreStretchClasses, AreStretches, Refines}
+use Rattle.rbbi_cats.specs.inner.Partitions.{AreStretchClasses, Refines}
 use Rattle.rbbi_cats.specs.inner.Cuts.{AreMembers}
 use Rattle.rbbi_cats.specs.inner.SetClasses.{SomeHas, NoneTells, AreClassesOfSets, HasTold}
 use Rattle.rbbi_cats.proofs.Nexts.{take_next}
-use Rattle.rbbi_cats.proofs.Counts.{count_of, all_zero, zero_at}
 
 -- whether a set holds a code point
 pub has_cases : (set : List Range) (c : ℕ) → Has set c ⊎ (¬ Has set c)
@@ -68,11 +67,11 @@ pub told_more : (sets : List (List Range)) (cuts before after members : List ℕ
     AreMembers cuts set members → Refines before after members →
     AreClassesOfSets (take k sets) cuts before → AreClassesOfSets (take (k + 1) sets) cuts after
 told_more sets cuts before after members k set at m r h = subst (λ (s : List (List Range)). AreClassesOfSets s cuts after) (sym (take_next sets k set at))
-        (record {
-  many = r.many ∙ h.many;
-  alike = λ i j inside inside'. (alike_there i j inside inside', alike_back i j inside inside');
-  none = λ i inside. (none_there i inside, none_back i inside);
-})
+    (record {
+      many = r.many ∙ h.many;
+      alike = λ i j inside inside'. (alike_there i j inside inside', alike_back i j inside inside');
+      none = λ i inside. (none_there i inside, none_back i inside);
+    })
   where
     within : (i : ℕ) → i < length cuts → i < length before
     within i inside = omega (arith, inside, h.many)
@@ -119,7 +118,7 @@ record Representatives (sets : List (List Range)) (cuts classes : List ℕ) (cou
   apart : AllPairs (λ c d. ¬ NoneTells sets c d) starts
 
 representatives : (sets : List (List Range)) (cuts classes sizes : List ℕ) (k count : ℕ) → AreStretchClasses classes sizes →
-        AreClassesOfSets (take k sets) cuts classes →
+    AreClassesOfSets (take k sets) cuts classes →
     count < length sizes → Representatives sets cuts classes count
 representatives sets cuts classes sizes k zero p t below = record {
   starts = [];
@@ -170,7 +169,7 @@ representatives sets cuts classes sizes k (suc count) p t below =
     )
 
 pub too_many_told : (sets : List (List Range)) (cuts classes sizes : List ℕ) (k count : ℕ) → AreStretchClasses classes sizes →
-        AreClassesOfSets (take k sets) cuts classes →
+    AreClassesOfSets (take k sets) cuts classes →
     count < length sizes → HasTold sets cuts count
 too_many_told sets cuts classes sizes k count p t below =
     let h = representatives sets cuts classes sizes k count p t below in

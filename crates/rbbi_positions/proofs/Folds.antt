@@ -12,7 +12,7 @@ use Rattle.rbbi_tree.specs.declared.syntax.Quant.{Quant}
 use Rattle.rbbi_tree.specs.declared.syntax.Quant.TheVariants.{Once, Star, Plus, Quest}
 use Rattle.rbbi_resolve.specs.declared.rules.Tree.{Tree}
 use Rattle.rbbi_resolve.specs.declared.rules.Tree.TheOpen.{Tree-F, Trees-F}
-use Rattle.rbbi_resolve.specs.declared.rules.Tree.TheVariants.{Leaf, Seq, Alt, Rep, rolls-Leaf, rolls-Seq, rolls-Alt, rolls-Rep}
+use Rattle.rbbi_resolve.specs.declared.rules.Tree.TheVariants.{Leaf, Seq, Rep, rolls-Leaf, rolls-Seq, rolls-Rep}
 use Rattle.rbbi_resolve.specs.declared.rules.Tree.TheFolds.{fold-roll-Tree}
 use Rattle.rbbi_resolve.specs.RuleTrees.{repeated, set_at, tree_step, trees_step, tree_of, trees_of_out}
 

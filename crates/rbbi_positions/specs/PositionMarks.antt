@@ -1,5 +1,5 @@
 -- What contracts see of positions, and what its marks mean.
-use Rattle.std.specs.Prelude.{◌≡◌, ℕ, ◌+◌, ◌*◌, ◌/◌, ◌^◌, ◌<◌, ◌≤◌, Bool, ◌↔◌, Option, Some, List, length, take, slice_index, slice_range, slice_get}
+use Rattle.std.specs.Prelude.{◌≡◌, ℕ, ◌+◌, ◌*◌, ◌/◌, ◌^◌, ◌<◌, Bool, ◌↔◌, Option, Some, List, length, take, slice_index, slice_range, slice_get}
 use Rattle.std.specs.Prelude.{sum_by}
 use Rattle.std.specs.Option.{option_map}
 use Rattle.rbbi_model.specs.Words.{IsCodePoint}

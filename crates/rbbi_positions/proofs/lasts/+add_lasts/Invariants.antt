@@ -14,7 +14,7 @@ invariant-loop-part l = record {
       l.start + leaf_count (choice_of (map (tree_of sets) (drop l.part-index l.part-items))) ≡ l.first + leaf_count (tree_of sets l.tree);
   bits : (sets : List (List Range)) (position : ℕ) →
       (row_bit l.row position || ends (choice_of (map (tree_of sets) (drop l.part-index l.part-items))) l.start position) ≡
-              (row_bit l.fn.row position || ends (tree_of sets l.tree) l.first position);
+      (row_bit l.fn.row position || ends (tree_of sets l.tree) l.first position);
 }
 
 abbrev pub invariant-loop-i : goal.invariant-loop-i
@@ -24,5 +24,5 @@ invariant-loop-i l = record {
   fits : (sets : List (List Range)) → leaf_count (sequence_of (map (tree_of sets) (take l.i l.parts.items.items))) ≤ leaf_count (tree_of sets l.tree);
   bits : (sets : List (List Range)) (position : ℕ) →
       (row_bit l.row position || ends (sequence_of (map (tree_of sets) (take l.i l.parts.items.items))) l.first position) ≡
-              (row_bit l.fn.row position || ends (tree_of sets l.tree) l.first position);
+      (row_bit l.fn.row position || ends (tree_of sets l.tree) l.first position);
 }

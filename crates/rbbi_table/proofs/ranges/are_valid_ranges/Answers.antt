@@ -39,7 +39,7 @@ loop-range-preserved c =
           subst (λ (r : CategoryRange). GoOn c.args.categories r (drop (i + 1) (drop 1 ranges))) (sym item.1) go.1,
       λ go.
           let goes = subst (λ (r : CategoryRange). IsValidBehind c.args.categories c.loop-range.previous r) item.1
-                  (c.goes_on.ensures.0 c.if-not-goes_on.false) in
+          (c.goes_on.ensures.0 c.if-not-goes_on.false) in
           let rest = subst (λ (r : CategoryRange). GoOn c.args.categories r (drop (i + 1) (drop 1 ranges))) item.1 go in
           c.loop-range.invariant.1 (subst (λ (l : List CategoryRange). GoOn c.args.categories c.loop-range.previous l) (sym more) (goes, rest)),
     )
