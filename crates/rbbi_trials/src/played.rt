@@ -1,5 +1,5 @@
 //! Scripts played over texts.
-ghost use Rattle.std.specs.Prelude.{◌≡◌, ◌<◌};
+ghost use Rattle.std.specs.Prelude.{◌≡◌, ◌<◌, ◌≤◌, length};
 
 use crate::tables::{WORDS, table_of};
 use rbbi_script::{Commands, play, read_script};
@@ -11,7 +11,7 @@ use std::sync::ledger::{Blank, Ledger};
 use std::test::Fail;
 
 /// The replies to commands over a text.
-fn replies<L: Ledger>(
+fn played<L: Ledger>(
     rt: &HostRuntime,
     table: &Table,
     text: PlainText,
@@ -28,6 +28,17 @@ fn replies<L: Ledger>(
     let mut lines = Vec::new(alloc);
     play(&mut session, commands, &mut lines, &mut steps)?;
     Ok(lines)
+}
+
+/// The replies to a script over a text, by rules.
+fn replies(rt: &HostRuntime, rules: &str, text: &str, script: &str) -> Result<Vec<u8>, Fail>
+    requires { length script.now ≤ 1000 }
+{
+    let alloc = rt.alloc();
+    let table = table_of(alloc, rules)?;
+    let commands = read_script(alloc, script.as_bytes())?;
+    let text = PlainText::new(alloc, text)?;
+    played::<Brand>(rt, &table, text, &commands, Blank::new(1))
 }
 
 /// Rules, a text, a script and its replies.
@@ -70,10 +81,7 @@ const ROWS: &[(&str, &str, &str, &str)] = &[
 fn scripts_over_texts(rt: HostRuntime) -> Result<(), Fail> {
     for (rules, text, script, wanted) in ROWS {
         assert!(rt; script.len() <= 1000);
-        let table = table_of(&rt, rt.alloc(), rules)?;
-        let text = PlainText::new(rt.alloc(), text)?;
-        let commands = read_script(rt.alloc(), script.as_bytes())?;
-        let lines = replies::<Brand>(&rt, &table, text, &commands, Blank::new(1))?;
+        let lines = replies(&rt, rules, text, script)?;
         assert_eq!(rt; lines.as_slice(), wanted.as_bytes(), "of {script:?}");
     }
     Ok(())

@@ -5,7 +5,7 @@ ghost use Rattle.std.specs.Prelude.{◌≡◌, ◌<◌};
 use crate::counted::Counted;
 use crate::draws::Draws;
 use crate::questions::Question;
-use crate::rescans::Rescans;
+use crate::rescans::{Rescans, Wanted};
 use crate::tables::{WORDS, table_of};
 use rbbi_session::Session;
 use rbbi_table::Table;
@@ -85,50 +85,77 @@ fn is_kept(question: Question, reply: Option<u32>) -> bool {
     }
 }
 
+/// Whether a question, asked again, is answered the same and reads nothing.
+fn is_answered_again<L: Ledger>(
+    session: &mut Session<'_, Counted<Pieces>>,
+    question: Question,
+    reply: Option<u32>,
+    steps: &mut Steps<L>,
+) -> bool {
+    let again = ask(session, question, steps);
+    again == reply && session.text().reads() == 0
+}
+
+/// Whether the cursor and the statuses there are as they must be.
+fn is_there(table: &Table, session: &Session<'_, Counted<Pieces>>, wanted: Wanted) -> bool {
+    session.current() == wanted.answer.cursor
+        && wanted.status < table.lists()
+        && session.status_list() == table.status_list(wanted.status)
+}
+
 /// Asks a question twice where its answer is kept, and tells whether all is as it must be.
 fn is_answered<L: Ledger>(
-    alloc: Global,
     table: &Table,
     session: &mut Session<'_, Counted<Pieces>>,
-    rescans: &mut Rescans<'_>,
+    wanted: Wanted,
     question: Question,
     steps: &mut Steps<L>,
-) -> Result<bool, Fail> {
-    let wanted = rescans.ask(alloc, question, steps)?;
+) -> bool {
     let reply = ask(session, question, steps);
     let reads = session.text().reads();
     if reply != wanted.answer.reply || u64::from(reads) > wanted.cost {
-        return Ok(false);
+        return false;
     }
-    if is_kept(question, reply) {
-        let again = ask(session, question, steps);
-        if again != reply || session.text().reads() != 0 {
-            return Ok(false);
-        }
+    if is_kept(question, reply) && !is_answered_again(session, question, reply, steps) {
+        return false;
     }
-    Ok(
-        session.current() == wanted.answer.cursor
-            && wanted.status < table.lists()
-            && session.status_list() == table.status_list(wanted.status),
-    )
+    is_there(table, session, wanted)
 }
 
-/// Edits at a place within the text, at its end or past it, and tells whether all is as it must be.
-fn is_edited<L: Ledger>(
+/// An edit: so many characters are taken away from a place on, and a string stands there then.
+#[derive(Drop)]
+struct Edit {
+    at: u32,
+    remove: u32,
+    insert: String,
+}
+
+/// An edit at a place within a text of this length, at its end or past it.
+fn drawn_edit(
     alloc: Global,
     alphabet: &[char],
     draws: &mut Draws,
+    len: u32,
+) -> Result<Edit, AllocError> {
+    let most = if draws.below(8) == 0 { 60 } else { 4 };
+    let at = draws.below(len.saturating_add(3));
+    let remove = draws.below(most);
+    let many = draws.below(most);
+    let insert = draws.text(alloc, alphabet, many)?;
+    Ok(Edit { at, remove, insert })
+}
+
+/// Edits, and tells whether all is as it must be.
+fn is_edited<L: Ledger>(
+    alloc: Global,
     session: &mut Session<'_, Counted<Pieces>>,
     rescans: &mut Rescans<'_>,
+    edit: &Edit,
     steps: &mut Steps<L>,
-) -> Result<bool, Fail> {
-    let most = if draws.below(8) == 0 { 60 } else { 4 };
-    let at = draws.below(session.text().len().saturating_add(3));
-    let remove = draws.below(most);
-    let len = draws.below(most);
-    let insert = draws.text(alloc, alphabet, len)?;
-    let wanted = rescans.replace(alloc, at, remove, insert.as_str())?;
-    let taken = session.replace(at, remove, insert.as_str(), steps).is_ok();
+) -> Result<bool, AllocError> {
+    let insert = edit.insert.as_str();
+    let wanted = rescans.replace(alloc, edit.at, edit.remove, insert)?;
+    let taken = session.replace(edit.at, edit.remove, insert, steps).is_ok();
     Ok(
         taken == wanted
             && session.text().reads() <= EDIT_COST
@@ -136,8 +163,47 @@ fn is_edited<L: Ledger>(
     )
 }
 
-/// The number of the first command of a random script, from 0, that isn't done as it must be.
+/// Does a drawn command, and tells whether all is as it must be.
+fn is_done<L: Ledger>(
+    alloc: Global,
+    table: &Table,
+    alphabet: &[char],
+    draws: &mut Draws,
+    session: &mut Session<'_, Counted<Pieces>>,
+    rescans: &mut Rescans<'_>,
+    steps: &mut Steps<L>,
+) -> Result<bool, Fail> {
+    let is_edit = draws.below(5) == 0;
+    let len = session.text().len();
+    if is_edit {
+        let edit = drawn_edit(alloc, alphabet, draws, len)?;
+        return Ok(is_edited(alloc, session, rescans, &edit, steps)?);
+    }
+    let question = drawn_question(draws, len);
+    let wanted = rescans.ask(alloc, question, steps)?;
+    Ok(is_answered(table, session, wanted, question, steps))
+}
+
+/// The number of the first command, from 0, that isn't done as it must be.
 fn first_wrong<L: Ledger>(
+    alloc: Global,
+    table: &Table,
+    alphabet: &[char],
+    draws: &mut Draws,
+    session: &mut Session<'_, Counted<Pieces>>,
+    rescans: &mut Rescans<'_>,
+    steps: &mut Steps<L>,
+) -> Result<Option<u32>, Fail> {
+    for number in 0..COMMANDS {
+        if !is_done(alloc, table, alphabet, draws, session, rescans, steps)? {
+            return Ok(Some(number));
+        }
+    }
+    Ok(None)
+}
+
+/// The number of the first command of a random script, from 0, that isn't done as it must be.
+fn first_wrong_of_script<L: Ledger>(
     rt: &HostRuntime,
     table: &Table,
     alphabet: &[char],
@@ -155,29 +221,29 @@ fn first_wrong<L: Ledger>(
     let text = Counted::new(Pieces::new(alloc, letters.as_str())?);
     let mut session = Session::open(alloc, table, text)?;
     let mut rescans = Rescans::open(table, letters);
-    for number in 0..COMMANDS {
-        let is_right = if draws.below(5) == 0 {
-            is_edited(
-                alloc,
-                alphabet,
-                &mut draws,
-                &mut session,
-                &mut rescans,
-                &mut steps,
-            )?
-        } else {
-            let question = drawn_question(&mut draws, session.text().len());
-            is_answered(
-                alloc,
-                table,
-                &mut session,
-                &mut rescans,
-                question,
-                &mut steps,
-            )?
-        };
-        if !is_right {
-            return Ok(Some(number));
+    first_wrong(
+        alloc,
+        table,
+        alphabet,
+        &mut draws,
+        &mut session,
+        &mut rescans,
+        &mut steps,
+    )
+}
+
+/// The seed of the first script of a rule file and the number of its first command, from 0, that
+/// isn't done as it must be.
+fn first_wrong_of_scripts(
+    rt: &HostRuntime,
+    rules: &str,
+    alphabet: &[char],
+) -> Result<Option<(u64, u32)>, Fail> {
+    let table = table_of(rt.alloc(), rules)?;
+    for seed in 0..SCRIPTS {
+        let wrong = first_wrong_of_script::<Brand>(rt, &table, alphabet, seed, Blank::new(1))?;
+        if let Some(number) = wrong {
+            return Ok(Some((seed, number)));
         }
     }
     Ok(None)
@@ -186,11 +252,8 @@ fn first_wrong<L: Ledger>(
 #[test]
 fn scripts_by_rescans(rt: HostRuntime) -> Result<(), Fail> {
     for (rules, alphabet) in RULES {
-        let table = table_of(&rt, rt.alloc(), rules)?;
-        for seed in 0..SCRIPTS {
-            let wrong = first_wrong::<Brand>(&rt, &table, alphabet, seed, Blank::new(1))?;
-            assert_eq!(rt; wrong, None, "seed {seed} of {rules:?}");
-        }
+        let wrong = first_wrong_of_scripts(&rt, rules, alphabet)?;
+        assert_eq!(rt; wrong, None, "seed and command of {rules:?}");
     }
     Ok(())
 }

@@ -10,10 +10,9 @@ use rbbi_positions::positions;
 use rbbi_props::PropTable;
 use rbbi_resolve::{Rules, resolve};
 use rbbi_table::Table;
-use rbbi_text::count_characters;
+use rbbi_text::{EditErr, count_characters};
 use rbbi_tree::parse;
 use std::alloc::Global;
-use std::process::Abort;
 use std::test::Fail;
 
 /// The rules of words: letters with one apostrophe between, tagged 200, and digits with one point
@@ -36,8 +35,10 @@ fn rules_of(alloc: Global, text: &str) -> Result<Rules, Fail>
 }
 
 /// The table of the rules of a text.
-pub(crate) fn table_of(rt: &impl Abort, alloc: Global, text: &str) -> Result<Table, Fail> {
-    assert!(rt; text.len() <= 100_000);
+pub(crate) fn table_of(alloc: Global, text: &str) -> Result<Table, Fail> {
+    if text.len() > 100_000 {
+        return Err(Fail::from(EditErr::TooLong));
+    }
     let rules = rules_of(alloc, text)?;
     let cats = partition(alloc, &rules)?;
     let marks = positions(alloc, &rules, &cats)?;

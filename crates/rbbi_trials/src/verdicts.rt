@@ -2,9 +2,10 @@
 ghost use Rattle.std.specs.Prelude.{◌≡◌, ◌<◌, ◌≤◌, length};
 
 use crate::tables::table_of;
-use rbbi_conform::{Verdict, judge, read_tests};
+use rbbi_conform::{Tests, Verdict, judge, read_tests};
 use rbbi_table::{Marks, Table};
 use rbbi_text::Steps;
+use std::alloc::Global;
 use std::marker::Brand;
 use std::sync::ledger::{Blank, Ledger};
 use std::test::Fail;
@@ -26,12 +27,22 @@ fn shown_verdicts<L: Ledger>(
     requires small { length file.now ≤ 1000 }
 {
     let alloc = rt.alloc();
-    let mut steps = Steps::<L>::new(rt, blank);
-    let mut marks = Marks::new(alloc, table)?;
     let tests = read_tests(alloc, file)?;
+    let mut steps = Steps::<L>::new(rt, blank);
+    shown_of(alloc, table, &tests, &mut steps)
+}
+
+/// The same of tests that are read.
+fn shown_of<L: Ledger>(
+    alloc: Global,
+    table: &Table,
+    tests: &Tests,
+    steps: &mut Steps<L>,
+) -> Result<String, Fail> {
+    let mut marks = Marks::new(alloc, table)?;
     let mut shown = String::new(alloc);
     for i in 0..tests.len() {
-        match judge(table, tests.get(i), &mut marks, &mut steps) {
+        match judge(table, tests.get(i), &mut marks, steps) {
             Verdict::Same => shown.push('=')?,
             Verdict::Differs(place) => shown.push_str(&format!(in alloc; "{place}")?)?,
         }
@@ -44,7 +55,7 @@ fn verdicts_by_a_table(rt: HostRuntime) -> Result<(), Fail> {
     let file = "÷ 000D × 000A ÷ 0061 × 0308 ÷\n÷ 000D × 000A ÷ 0061 ÷ 0308 ÷\n\
          ÷ 0061 × 0062 ÷\n÷ 0061 ÷ 0062 ×\n÷ 000D ÷ 000A ÷\n×\n";
     assert!(rt; file.len() <= 1000);
-    let table = table_of(&rt, rt.alloc(), GRAPHEMES)?;
+    let table = table_of(rt.alloc(), GRAPHEMES)?;
     let shown = shown_verdicts::<Brand>(&rt, &table, file.as_bytes(), Blank::new(1))?;
     assert_eq!(rt; shown.as_str(), "=3121=");
     Ok(())

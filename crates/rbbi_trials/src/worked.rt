@@ -100,7 +100,7 @@ fn is_done<L: Ledger>(
 
 /// Does what the rows say, one after the other, and tells the number of the first, from 0, that
 /// isn't done as it must be.
-fn first_wrong<L: Ledger>(
+fn first_wrong_row<L: Ledger>(
     rt: &HostRuntime,
     table: &Table,
     text: PlainText,
@@ -121,13 +121,35 @@ fn first_wrong<L: Ledger>(
     Ok(None)
 }
 
+/// The table of rules, and a text that is a word so many times.
+pub(crate) fn table_and_text(
+    alloc: Global,
+    rules: &str,
+    repeats: (&str, u32),
+) -> Result<(Table, PlainText), Fail> {
+    let table = table_of(alloc, rules)?;
+    let letters = repeated(alloc, repeats.0, repeats.1)?;
+    let text = PlainText::new(alloc, letters.as_str())?;
+    Ok((table, text))
+}
+
+/// The number of the first row, from 0, that isn't done as it must be, by rules and over a text
+/// that is a word so many times.
+fn first_wrong(
+    rt: &HostRuntime,
+    rules: &str,
+    repeats: (&str, u32),
+    rows: &[Row],
+) -> Result<Option<usize>, Fail> {
+    let (table, text) = table_and_text(rt.alloc(), rules, repeats)?;
+    first_wrong_row::<Brand>(rt, &table, text, rows, Blank::new(1))
+}
+
 #[test]
 fn kept_runs_and_edits(rt: HostRuntime) -> Result<(), Fail> {
-    let words = repeated(rt.alloc(), "words ", 2000)?;
-    let table = table_of(&rt, rt.alloc(), "[a-z]+; ' '+;")?;
     for rows in OVER_WORDS {
-        let text = PlainText::new(rt.alloc(), words.as_str())?;
-        let wrong = first_wrong::<Brand>(&rt, &table, text, rows, Blank::new(1))?;
+        let words = ("words ", 2000);
+        let wrong = first_wrong(&rt, "[a-z]+; ' '+;", words, rows)?;
         assert_eq!(rt; wrong, None);
     }
     Ok(())
@@ -135,9 +157,8 @@ fn kept_runs_and_edits(rt: HostRuntime) -> Result<(), Fail> {
 
 #[test]
 fn runs_to_the_end(rt: HostRuntime) -> Result<(), Fail> {
-    let table = table_of(&rt, rt.alloc(), "a; a+b;")?;
-    let text = PlainText::new(rt.alloc(), "aaaa")?;
-    let wrong = first_wrong::<Brand>(&rt, &table, text, OVER_LETTERS, Blank::new(1))?;
+    let letters = ("aaaa", 1);
+    let wrong = first_wrong(&rt, "a; a+b;", letters, OVER_LETTERS)?;
     assert_eq!(rt; wrong, None);
     Ok(())
 }
@@ -154,12 +175,38 @@ fn letters_of<T: Chars, L: Ledger>(text: &T, steps: &mut Steps<L>) -> u32 {
     count
 }
 
+/// Whether an insertion at the end of a text that is as long as a text may be is refused as too
+/// long.
+fn is_refused<T: EditText + Drop, L: Ledger>(
+    session: &mut Session<'_, T>,
+    steps: &mut Steps<L>,
+) -> bool {
+    match session.replace(16_777_216, 0, "a", steps) {
+        Err(EditErr::TooLong) => true,
+        _ => false,
+    }
+}
+
 /// Edits of a text that is as long as a text may be: whether an insertion at its end is refused as
 /// too long, the length and the letters `a` among 4,096 then, and whether a letter in place of one
 /// is taken.
+fn edits_of_full<T: EditText + Drop, L: Ledger>(
+    alloc: Global,
+    table: &Table,
+    text: T,
+    steps: &mut Steps<L>,
+) -> Result<(bool, u32, u32, bool), AllocError> {
+    let mut session = Session::open(alloc, table, text)?;
+    let refused = is_refused(&mut session, steps);
+    let len = session.text().len();
+    let letters = letters_of(session.text(), steps);
+    let taken = session.replace(0, 1, "b", steps).is_ok();
+    Ok((refused, len, letters, taken))
+}
+
+/// The same by the rule `a;`.
 fn edited_full<T: EditText + Drop, L: Ledger>(
     rt: &HostRuntime,
-    table: &Table,
     text: T,
     blank: Blank,
 ) -> Result<(bool, u32, u32, bool), Fail>
@@ -167,16 +214,9 @@ fn edited_full<T: EditText + Drop, L: Ledger>(
     requires parts { blank.parts ≡ L.parts }
     requires some { 0 < blank.parts }
 {
+    let table = table_of(rt.alloc(), "a;")?;
     let mut steps = Steps::<L>::new(rt, blank);
-    let mut session = Session::open(rt.alloc(), table, text)?;
-    let refused = match session.replace(16_777_216, 0, "a", &mut steps) {
-        Err(EditErr::TooLong) => true,
-        _ => false,
-    };
-    let len = session.text().len();
-    let letters = letters_of(session.text(), &mut steps);
-    let taken = session.replace(0, 1, "b", &mut steps).is_ok();
-    Ok((refused, len, letters, taken))
+    Ok(edits_of_full(rt.alloc(), &table, text, &mut steps)?)
 }
 
 /// As many letters `a` as a text may have.
@@ -187,22 +227,18 @@ fn longest(alloc: Global) -> Result<String, AllocError> {
 
 #[test]
 fn longest_text(rt: HostRuntime) -> Result<(), Fail> {
-    let alloc = rt.alloc();
-    let table = table_of(&rt, alloc, "a;")?;
-    let letters = longest(alloc)?;
-    let text = Pieces::new(alloc, letters.as_str())?;
-    let edited = edited_full::<Pieces, Brand>(&rt, &table, text, Blank::new(1))?;
+    let letters = longest(rt.alloc())?;
+    let text = Pieces::new(rt.alloc(), letters.as_str())?;
+    let edited = edited_full::<Pieces, Brand>(&rt, text, Blank::new(1))?;
     assert_eq!(rt; edited, (true, 16_777_216, 4096, true));
     Ok(())
 }
 
 #[test]
 fn longest_plain_text(rt: HostRuntime) -> Result<(), Fail> {
-    let alloc = rt.alloc();
-    let table = table_of(&rt, alloc, "a;")?;
-    let letters = longest(alloc)?;
-    let text = PlainText::new(alloc, letters.as_str())?;
-    let edited = edited_full::<PlainText, Brand>(&rt, &table, text, Blank::new(1))?;
+    let letters = longest(rt.alloc())?;
+    let text = PlainText::new(rt.alloc(), letters.as_str())?;
+    let edited = edited_full::<PlainText, Brand>(&rt, text, Blank::new(1))?;
     assert_eq!(rt; edited, (true, 16_777_216, 4096, true));
     Ok(())
 }
@@ -210,7 +246,7 @@ fn longest_plain_text(rt: HostRuntime) -> Result<(), Fail> {
 /// The last code point, by the table of a rule that names it.
 #[test]
 fn last_code_point(rt: HostRuntime) -> Result<(), Fail> {
-    let table = table_of(&rt, rt.alloc(), "\\U0010FFFF;")?;
+    let table = table_of(rt.alloc(), "\\U0010FFFF;")?;
     for (c, category) in [('\u{10FFFF}', 1), ('\u{10FFFE}', 0), ('\0', 0)] {
         assert_eq!(rt; table.category(c), category, "of {c:?}");
     }

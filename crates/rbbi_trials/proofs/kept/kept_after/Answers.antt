@@ -10,5 +10,5 @@ edited-requires g c =
       text = c.args.text;
       edited = record { within = replaced.0; characters = chars []; many = ap length chars-nil; spliced = replaced.2 };
       small = omega (arith, c.text.invariant.1, ap length c.text.view_is);
-      are_true = c.after-next.ensures.are_true;
+      are_true = c.ask_past.ensures.are_true;
     }
