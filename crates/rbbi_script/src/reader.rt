@@ -19,7 +19,8 @@ pub type ScriptErr = LinesErr;
 ///
 /// What the commands insert is characters. The bytes are at most 100,663,296. One U+FEFF at their
 /// start isn't part of the script. A line ends at LF, and one CR before it isn't part of the line.
-/// An empty line and one that begins with `#` are skipped. Every other line is one of these, with exactly one space where one is shown:
+/// An empty line and one that begins with `#` are skipped. Every other line is one of these, with
+/// exactly one space where one is shown:
 ///
 /// - `first`, `last`, `next`, `previous`, `current`, `status`, `statuses`, `breaks`, `text`;
 /// - `following N`, `preceding N`, `is N`;

@@ -4,8 +4,8 @@ ghost use Rattle.std.specs.Prelude.{ℕ, List};
 ghost use Rattle.rbbi_tool.specs.Causes.{HasOneOutcome};
 
 /// To words over files that tell what they hold there is one outcome: one status, one text, and one
-/// file. Of `compile` the status, the line and the name of the file are one, and the file is that of
-/// some table compiled from the rules.
+/// file. Of `compile` the status, the line and the name of the file are one, and the file is that
+/// of some table compiled from the rules.
 pub fn outcomes_are_unique()
     ensures { (words : List (List ℕ)) (held : List ℕ → List ℕ) → HasOneOutcome words held }
 {

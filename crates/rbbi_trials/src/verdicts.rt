@@ -32,7 +32,7 @@ fn shown_verdicts<L: Ledger>(
     shown_of(alloc, table, &tests, &mut steps)
 }
 
-/// The same of tests that are read.
+/// What is told of the tests of a file that was read.
 fn shown_of<L: Ledger>(
     alloc: Global,
     table: &Table,
