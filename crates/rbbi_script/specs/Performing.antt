@@ -50,7 +50,20 @@ pub record ArePlayed (old : Session) (commands : List Command) (before : List �
   pub state_is : new.state ≡ state_played old.table old.state commands
   pub table_is : new.table ≡ old.table
 
--- what performing the commands in order answers and leaves: where memory ran out, a front of the replies was appended
+-- Some first commands were performed, and the one behind them was broken off; the session stands as that one left it.
+pub record AreCutShort (old : Session) (commands : List Command) (before : List ℕ) (new : Session) (after : List ℕ) : Type 0 where
+  pub first : List Command
+  pub command : Command
+  pub rest : List Command
+  pub whole : commands ≡ first ++ command ∷ rest
+  pub between : Session
+  pub middle : List ℕ
+  pub played : ArePlayed old first before between middle
+  pub broken : IsBrokenOff between command middle new after
+
+-- What performing the commands in order answers and leaves. Where memory ran out, a front of all replies was appended, and it and the
+-- session are as at the command that was broken off.
 abbrev pub Plays : {T E : Type 0} → Session → List Command → List ℕ → Result T E → Session → List ℕ → Type 0
 Plays old commands before (Ok done) new after = ArePlayed old commands before new after
-Plays old commands before (Err error) new after = AppendsFront before (all_reply_lines (replies_of old commands)) after × (new.table ≡ old.table)
+Plays old commands before (Err error) new after =
+    AppendsFront before (all_reply_lines (replies_of old commands)) after × AreCutShort old commands before new after

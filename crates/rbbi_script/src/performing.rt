@@ -62,8 +62,10 @@ pub fn perform<T: EditText, L: Ledger>(
     }
 }
 
-/// Performs all commands in order, and appends the lines of their replies. After the refusal a
-/// front of the lines was appended.
+/// Performs all commands in order, and appends the lines of their replies.
+///
+/// After the refusal some first commands were performed, and the next one as `perform` leaves it:
+/// their lines and a front of its reply were appended, and the session is as it left it.
 ///
 /// Refused or not, at most the sum of the commands' costs is read. A question that repeats the one
 /// directly before it costs nothing, unless it is a `preceding` answered 0. The session's runs are

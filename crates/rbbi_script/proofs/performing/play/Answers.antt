@@ -1,4 +1,4 @@
-use Rattle.std.proofs.Common.{ℕ, suc, ◌<◌, List, length, map, take, drop, ◌∙◌, subst, arith}
+use Rattle.std.proofs.Common.{ℕ, suc, ◌<◌, List, length, map, take, drop, sym, subst, arith}
 use Rattle.std.proofs.lemmas.Result.{err_from_is_err_and}
 use Rattle.rbbi_model.specs.Lines.{all_reply_lines}
 use Rattle.rbbi_session.specs.Sessions.{Session}
@@ -25,7 +25,16 @@ returns-in_err-perform-clause-replies g c =
           (broken_off old (map meaning (take i commands)) c.args.replies.now.items c.loop-i.session c.loop-i.replies.items (meaning c.get.result.now)
           (map meaning (drop (suc i) commands)) c.perform.new.session c.perform.new.reply.items
           c.loop-i.invariant.played c.in_err-perform.ensures.replies),
-      c.in_err-perform.ensures.replies.table_is ∙ c.loop-i.invariant.played.table_is,
+      record {
+        first = map meaning (take i commands);
+        command = meaning c.get.result.now;
+        rest = map meaning (drop (suc i) commands);
+        whole = sym (mapped_parts meaning commands i c.get.result.now within c.get.ensures);
+        between = c.loop-i.session;
+        middle = c.loop-i.replies.items;
+        played = c.loop-i.invariant.played;
+        broken = c.in_err-perform.ensures.replies;
+      },
     )
 
 pub returns-in_err-perform-clause-cost : goal.returns-in_err-perform-clause-cost
