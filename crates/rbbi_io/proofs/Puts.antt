@@ -1,7 +1,10 @@
 -- What a sink took, over several puts.
-use Rattle.std.proofs.Common.{◌≡◌, ◌+◌, ◌-◌, ◌++◌, ℕ, List, length, take, drop, ap, sym, ◌∙◌, append_assoc, take-add, Option, Some, None, refl}
+use Rattle.std.proofs.Common.{◌≡◌, ◌+◌, ◌-◌, ◌++◌, ℕ, List, length, take, drop, ap, sym, ◌∙◌, append_assoc, take-add, Option, Some, None, Result, Ok, refl, subst}
 use Rattle.std.specs.Prelude.{option_map}
 use Rattle.std.proofs.lemmas.List.{take_rest}
+use Rattle.rbbi_io.specs.declared.error.WriteErr.{WriteErr}
+use Rattle.rbbi_io.specs.Puts as puts
+use Rattle.rbbi_io.specs.Puts.{ArePut}
 use Rattle.rbbi_io.specs.Sinks.{Takes}
 
 option_map-append : (taken : Option (List ℕ)) (xs ys : List ℕ) → option_map (λ t. t ++ ys) (option_map (λ t. t ++ xs) taken) ≡ option_map
@@ -21,3 +24,9 @@ Takes-more before between now bytes at n first second =
     Takes-both before between now (take at bytes) (take n (take (length bytes - at) (drop at bytes))) first second
     ∙ ap (λ rest. option_map (λ t. t ++ (take at bytes ++ take n rest)) before) (take_rest bytes at)
     ∙ ap (λ front. option_map (λ t. t ++ front) before) (sym (take-add at n bytes))
+
+-- one put more, of the rest of the bytes
+pub ArePut-more : {S : Type 0} (gives : S → List ℕ → Result ℕ WriteErr → S → Type 0) (bytes : List ℕ) (before between now : S) (at n : ℕ) →
+    ArePut gives bytes before at between → gives between (take (length bytes - at) (drop at bytes)) (Ok n) now → ArePut gives bytes before (at + n) now
+ArePut-more gives bytes before between now at n earlier put =
+    puts.OneMore at n between now earlier (subst (λ rest. gives between rest (Ok n) now) (take_rest bytes at) put)

@@ -1,6 +1,6 @@
 -- Files and sinks in memory.
 use Rattle.std.specs.Prelude.{◌≡◌, ◌≢◌, ◌<◌, ◌≤◌, ◌⊎◌, ◌++◌, ℕ, Bool, true, false, List, [], ◌∷◌, length, Option, Some, None, Result, Ok, Err, bytes_eq}
-use Rattle.std.specs.Prelude.{if◌then◌else◌, ◌&&◌, unwrap_or, count_by, Contains, slice_index_or}
+use Rattle.std.specs.Prelude.{if◌then◌else◌, ◌&&◌, unwrap_or, count_by, Contains, slice_index_or, min, take}
 use Rattle.rbbi_io.specs.Counts.{capped, one_more}
 use Rattle.rbbi_io.specs.declared.mem_files.CallKind.{CallKind}
 use Rattle.rbbi_io.specs.declared.mem_files.CallKind.TheVariants.{Read, Write}
@@ -16,12 +16,23 @@ pub record FilesInMemory : Type 0 where
   pub failing : List ℕ
   pub failed : List (List ℕ × CallKind)
 
--- a sink in memory: the bytes it took, how many calls there were, which are to fail, and how many failed
+-- a sink in memory: the bytes it took, how many calls there were, which are to fail, how many failed, and how many bytes a put takes at most
 pub record SinkInMemory : Type 0 where
   pub bytes : List ℕ
   pub calls : ℕ
   pub failing : List ℕ
   pub faults : ℕ
+  pub most : ℕ
+
+-- files in memory that never fail: each name with its bytes, and how many calls there were
+pub record CalmFilesInMemory : Type 0 where
+  pub files : List (List ℕ × List ℕ)
+  pub calls : ℕ
+
+-- a sink in memory that never fails: the bytes it took, and how many calls there were
+pub record CalmSinkInMemory : Type 0 where
+  pub bytes : List ℕ
+  pub calls : ℕ
 
 -- the bytes of the first file of this name
 abbrev pub file_of : List (List ℕ × List ℕ) → List ℕ → Option (List ℕ)
@@ -96,7 +107,7 @@ WritesMemory old name bytes (Err write.Memory) new = new ≡ called old
 -- what a put into a sink in memory answers and leaves
 abbrev pub PutsMemory : SinkInMemory → List ℕ → Result ℕ WriteErr → SinkInMemory → Type 0
 PutsMemory old piece (Ok n) new =
-    ¬ IsToFail old.failing old.calls × (n ≡ length piece) × (new ≡ record old { bytes = old.bytes ++ piece; calls = one_more old.calls })
+    ¬ IsToFail old.failing old.calls × (n ≡ min (length piece) old.most) × (new ≡ record old { bytes = old.bytes ++ take n piece; calls = one_more old.calls })
 PutsMemory old piece (Err write.Failed) new =
     IsToFail old.failing old.calls × (new ≡ record old { calls = one_more old.calls; faults = one_more old.faults })
 PutsMemory old piece (Err write.Memory) new = new ≡ record old { calls = one_more old.calls }

@@ -4,17 +4,24 @@
 //! A refusal for a fault is tied to a count, so that no code above can invent one.
 #![tactic(auto)]
 
+mod calm_files;
+mod calm_sink;
 mod command_line;
+mod draft;
 mod error;
 mod files;
 mod mem_files;
 mod mem_sink;
+mod named_files;
+mod real_draft;
 mod real_files;
 mod real_sink;
 mod sink;
 #[cfg(test)]
 mod tests;
 
+pub use calm_files::CalmFiles;
+pub use calm_sink::CalmSink;
 pub use command_line::words;
 pub use error::{ReadErr, WriteErr};
 pub use files::Files;
@@ -22,4 +29,4 @@ pub use mem_files::{CallKind, MemFiles};
 pub use mem_sink::MemSink;
 pub use real_files::{RealFiles, read_at_most};
 pub use real_sink::RealSink;
-pub use sink::{Sink, put_all};
+pub use sink::{Sink, put_all, put_when_full};

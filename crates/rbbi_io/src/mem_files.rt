@@ -1,13 +1,13 @@
 //! Files in memory, with calls that fail when they are told to.
 ghost use Rattle.std.specs.Prelude.{◌≡◌, ◌≤◌, ◌↔◌, ◌++◌, [], ◌∷◌, length, IsTrue, OnOk, OnErr};
-ghost use Rattle.std.specs.Prelude.{IsErrOf, MatchOption, option_copied};
+ghost use Rattle.std.specs.Prelude.{IsErrOf, option_copied};
 ghost use Rattle.rbbi_io.specs.Counts.{Rose, OthersStay};
 ghost use Rattle.rbbi_io.specs.Answers.{LeavesWritten};
 ghost use Rattle.rbbi_io.specs.Memory.{reads_failed, writes_failed, held_by, file_of, with_file};
 ghost use Rattle.rbbi_io.specs.Memory.{called, IsToFail, ReadsMemory};
-ghost use Rattle.rbbi_io.specs.inner.Memory.{IsAbsent, IsIndexOf};
 ghost use Rattle.rbbi_io.specs.Memory.{WritesMemory};
 
+use crate::named_files::{MemFile, find, store};
 use crate::{Files, ReadErr, WriteErr};
 use rbbi_text::Raw;
 use std::alloc::{AllocError, Global};
@@ -18,44 +18,6 @@ use std::marker::Model;
 pub enum CallKind {
     Read,
     Write,
-}
-
-/// One file in memory. Contracts see its name and its bytes.
-#[derive(Debug, Drop)]
-struct MemFile {
-    name: String,
-    bytes: Vec<u8>,
-}
-
-impl Model for MemFile {
-    ghost use Rattle.std.specs.Prelude.{List, ℕ, string_bytes};
-
-    ghost Value = { List ℕ × List ℕ };
-
-    ghost view = { λ file. (string_bytes file.name, file.bytes.items) };
-}
-
-impl MemFile {
-    /// The name.
-    fn name(&self) -> &str
-        ensures { result.now ≡ self.now.0 }
-    {
-        self.name.as_str()
-    }
-
-    /// The bytes.
-    fn bytes(&self) -> &[u8]
-        ensures { result.now ≡ self.now.1 }
-    {
-        self.bytes.as_slice()
-    }
-
-    /// Holds these bytes in place of its own.
-    fn replace(&mut self, bytes: Vec<u8>)
-        ensures { self.new ≡ (self.old.0, bytes.items) }
-    {
-        self.bytes = bytes;
-    }
 }
 
 /// A call that failed. Contracts see the name and the kind.
@@ -99,38 +61,6 @@ impl Model for MemFiles {
       failing = memory.failing.items;
       failed = memory.failed.items;
     } };
-}
-
-/// The number of the first file of this name.
-fn place_of(files: &[MemFile], name: &str) -> Option<usize>
-    ensures { MatchOption result (IsAbsent files.now name.now) (IsIndexOf files.now name.now) }
-{
-    for (i, file) in files.iter().enumerate() {
-        if file.name() == name {
-            return Some(i);
-        }
-    }
-    None
-}
-
-/// Puts these bytes under the name: in place of the first file of this name, or else at the end.
-fn store(
-    alloc: Global,
-    files: &mut Vec<MemFile>,
-    name: &str,
-    bytes: Vec<u8>,
-) -> Result<(), AllocError>
-    ensures ok { OnOk result (files.new.items ≡ with_file files.old.items name.now bytes.items) }
-    ensures err { OnErr result (files.new.items ≡ files.old.items) }
-{
-    match place_of(files.as_slice(), name) {
-        Some(place) => files[place].replace(bytes),
-        None => {
-            let name = String::from_str(alloc, name)?;
-            files.push(MemFile { name, bytes })?;
-        }
-    }
-    Ok(())
 }
 
 impl MemFiles {
@@ -178,8 +108,7 @@ impl MemFiles {
     pub fn get(&self, name: &str) -> Option<&[u8]>
         ensures { option_copied result ≡ file_of self.now.files name.now }
     {
-        let place = place_of(self.files.as_slice(), name)?;
-        Some(self.files[place].bytes())
+        find(self.files.as_slice(), name)
     }
 
     /// Counts a call, and tells whether it is to fail.

@@ -8,7 +8,8 @@ use crate::{Sink, WriteErr};
 use std::alloc::{AllocError, Global};
 use std::marker::Model;
 
-/// A sink in memory. It tells what it took, and takes each piece whole.
+/// A sink in memory. It tells what it took, and takes each piece whole, or as much of it as
+/// `at_most` allows.
 ///
 /// Puts are counted from 1. A put whose number was given to `fail_at` fails and takes nothing.
 #[derive(Debug, Drop)]
@@ -17,9 +18,11 @@ pub struct MemSink {
     calls: u64,
     failing: Vec<u64>,
     faults: u64,
+    most: usize,
 }
 
 impl Model for MemSink {
+    ghost use Rattle.std.specs.Prelude.{◌≤◌};
     ghost use Rattle.rbbi_io.specs.Memory.{SinkInMemory};
 
     ghost Value = { SinkInMemory };
@@ -29,19 +32,24 @@ impl Model for MemSink {
       calls = sink.calls;
       failing = sink.failing.items;
       faults = sink.faults;
+      most = sink.most;
     } };
+
+    ghost invariant = { λ sink. 1 ≤ sink.most };
 }
 
 impl MemSink {
     /// A sink that took nothing, with no call that is to fail.
     pub fn new(alloc: Global) -> MemSink
-        ensures { result ≡ record { bytes = []; calls = 0; failing = []; faults = 0 } }
+        ensures { result ≡ record
+            { bytes = []; calls = 0; failing = []; faults = 0; most = usize.MAX } }
     {
         MemSink {
             bytes: Vec::new(alloc),
             calls: 0,
             failing: Vec::new(alloc),
             faults: 0,
+            most: usize::MAX,
         }
     }
 
@@ -68,6 +76,14 @@ impl MemSink {
         self.failing.push(n)?;
         Ok(())
     }
+
+    /// Lets each put take at most this many bytes from now on.
+    pub fn at_most(&mut self, n: usize)
+        requires { 1 ≤ n }
+        ensures { self.new ≡ record self.old { most = n } }
+    {
+        self.most = n;
+    }
 }
 
 impl Sink for MemSink {
@@ -79,17 +95,22 @@ impl Sink for MemSink {
 
     ghost faults = { λ sink. capped sink.faults };
 
+    ghost put_gives = { PutsMemory };
+
     ghost faults_fit = { λ sink. Prim.omega arith };
 
     fn put(&mut self, piece: &[u8]) -> Result<usize, WriteErr>
         ensures exact { PutsMemory self.old piece.now result self.new }
+        ensures some { IfOk result (λ n. 0 < length piece.now → 0 < n) }
+        ensures within { IfOk result (λ n. n ≤ length piece.now) }
     {
         self.calls = self.calls.saturating_add(1);
         if self.failing.contains(&self.calls) {
             self.faults = self.faults.saturating_add(1);
             return Err(WriteErr::Failed);
         }
-        self.bytes.extend_from_slice(piece)?;
-        Ok(piece.len())
+        let count = piece.len().min(self.most);
+        self.bytes.extend_from_slice(&piece[..count])?;
+        Ok(count)
     }
 }

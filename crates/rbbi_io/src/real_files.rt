@@ -1,16 +1,17 @@
 //! The files of the system: an edge over std's files, where it is trusted that they are opened.
-ghost use Rattle.std.specs.Prelude.{◌≡◌, ◌≢◌, ◌<◌, ◌≤◌, ◌+◌, length, take, IfOk, IfSome, OnOk};
+ghost use Rattle.std.specs.Prelude.{◌≡◌, ◌≢◌, ◌<◌, ◌≤◌, ◌+◌, length, take, IfOk, IfSome};
 ghost use Rattle.std.specs.Prelude.{IfErr, MatchResult};
-ghost use Rattle.std.specs.Io.KnownBytes.{Appends, Consumes, IsAtEnd, Keeps};
+ghost use Rattle.std.specs.Io.KnownBytes.{Consumes, IsAtEnd, Keeps};
 ghost use Rattle.rbbi_io.specs.Answers.{AnswersRead};
 ghost use Rattle.rbbi_io.specs.Readers.{TakesAtMost};
 
+use crate::real_draft::write_file;
 use crate::{Files, ReadErr, WriteErr};
 use rbbi_text::Raw;
 use std::alloc::{AllocError, Global};
 use std::fs::File;
 use std::io;
-use std::io::{ErrorKind, Read, Write};
+use std::io::{ErrorKind, Read};
 use std::marker::Model;
 
 /// How many bytes are asked for at once, at most.
@@ -132,27 +133,7 @@ fn refused_read(fault: &io::Error) -> ReadErr
     }
 }
 
-/// Writes these bytes into a file that is open. Whatever goes wrong is a fault, since the file may
-/// then hold anything.
-pub(crate) fn write_to<W: Write>(file: &mut W, bytes: &[u8]) -> Result<(), WriteErr>
-    ensures { OnOk result (Appends (W.contents file.old) (W.contents file.new) bytes.now) }
-{
-    match file.write_all(bytes) {
-        Ok(()) => Ok(()),
-        Err(_) => Err(WriteErr::Failed),
-    }
-}
-
-/// Makes the file of this name hold these bytes.
-fn write_file<R: std::rt::Files>(rt: &R, name: &str, bytes: &[u8]) -> Result<(), WriteErr> {
-    match File::create(rt, name) {
-        Ok(mut file) => write_to(&mut file, bytes),
-        Err(fault) if fault.kind() == ErrorKind::OutOfMemory => Err(WriteErr::Memory),
-        Err(_) => Err(WriteErr::Failed),
-    }
-}
-
-impl<'a, R: std::rt::Files> Files for RealFiles<'a, R> {
+impl<'a, R: std::rt::Files + Alloc> Files for RealFiles<'a, R> {
     ghost use Rattle.std.specs.Prelude.{None};
     ghost use Rattle.rbbi_io.specs.Counts.{capped};
     ghost use Rattle.std.proofs.Common.{arith};

@@ -1,8 +1,10 @@
 //! Where output goes.
 ghost use Rattle.std.specs.Prelude.{◌≡◌, ◌<◌, ◌≤◌, ℕ, List, Option, length, take, IfOk, OnOk};
-ghost use Rattle.std.specs.Prelude.{OnErr, IsErrOf, MatchResult};
+ghost use Rattle.std.specs.Prelude.{Result, OnErr, IsErrOf, MatchResult};
 ghost use Rattle.rbbi_io.specs.Counts.{greatest_count, Rose, GoesOn};
-ghost use Rattle.rbbi_io.specs.Sinks.{Takes, TakesFront};
+ghost use Rattle.rbbi_io.specs.Sinks.{Takes, TakesFront, IsBuffered};
+ghost use Rattle.rbbi_io.specs.Puts.{EndsAtRefusal};
+ghost use Rattle.rbbi_io.specs.declared.error.WriteErr.{WriteErr};
 
 use crate::WriteErr;
 
@@ -18,6 +20,9 @@ pub trait Sink {
     /// How many puts failed.
     ghost faults: { Self → ℕ };
 
+    /// What a put of a piece answers and leaves, where the sink says more of it than is said below.
+    ghost put_gives: { Self → List ℕ → Result ℕ WriteErr → Self → Type 0 } = { λ _ _ _ _. Unit {0} };
+
     /// Takes a front of the piece, of at least one byte where there is one, and answers its length.
     ///
     /// Refuses `Failed` only where the count of faults rose. After a refusal nothing was taken.
@@ -30,7 +35,8 @@ pub trait Sink {
 
         ensures faults { GoesOn (faults self.old) (faults self.new) }
         ensures failed { IsErrOf result WriteErr.Failed →
-            Rose (faults self.old) (faults self.new) };
+            Rose (faults self.old) (faults self.new) }
+        ensures gives { put_gives self.old piece.now result self.new };
 
     /// The count of faults is not past the greatest number.
     ghost faults_fit: { (sink : Self) → faults sink ≤ greatest_count };
@@ -39,17 +45,47 @@ pub trait Sink {
 /// Puts all bytes, in one or more pieces.
 ///
 /// Refuses `Failed` only where the sink's count of faults rose. After a refusal a front of the
-/// bytes was taken.
+/// bytes was taken; the put that was refused is the last one.
 pub fn put_all<K: Sink>(out: &mut K, bytes: &[u8]) -> Result<(), WriteErr>
     ensures ok { OnOk result (Takes (K.taken out.old) (K.taken out.new) bytes.now) }
     ensures err { OnErr result (TakesFront (K.taken out.old) (K.taken out.new) bytes.now) }
 
     ensures faults { GoesOn (K.faults out.old) (K.faults out.new) }
     ensures failed { IsErrOf result WriteErr.Failed → Rose (K.faults out.old) (K.faults out.new) }
+    ensures puts { EndsAtRefusal K.put_gives bytes.now out.old result out.new }
 {
     let mut at = 0;
     while at < bytes.len() {
         at += out.put(&bytes[at..])?;
     }
+    Ok(())
+}
+
+/// As many bytes as this go out at once; fewer wait for more.
+const FULL: usize = 65_536;
+
+/// Puts the bytes that were made and wait, once there are 65,536 or more, and then none wait.
+///
+/// Refuses `Failed` only where the sink's count of faults rose. After a refusal a front of the
+/// bytes was taken, and all are still there; the put that was refused is the last one.
+pub fn put_when_full<K: Sink>(out: &mut K, made: &mut Vec<u8>) -> Result<(), WriteErr>
+    ensures few { length made.old.items < 65536
+        → (out.new ≡ out.old) × (made.new.items ≡ made.old.items) }
+    ensures ok { OnOk result (IsBuffered (K.taken out.old) (K.taken out.new)
+        made.old.items made.new.items) }
+    ensures left { OnOk result (length made.new.items < 65536) }
+    ensures err { OnErr result (TakesFront (K.taken out.old) (K.taken out.new) made.old.items) }
+    ensures kept { OnErr result (made.new.items ≡ made.old.items) }
+
+    ensures faults { GoesOn (K.faults out.old) (K.faults out.new) }
+    ensures failed { IsErrOf result WriteErr.Failed → Rose (K.faults out.old) (K.faults out.new) }
+    ensures puts { 65536 ≤ length made.old.items
+        → EndsAtRefusal K.put_gives made.old.items out.old result out.new }
+{
+    if made.len() < FULL {
+        return Ok(());
+    }
+    put_all(out, made)?;
+    made.clear();
     Ok(())
 }

@@ -1,9 +1,11 @@
 //! Each public call once, calls that fail in mid-stream, and the system's files and writers.
 ghost use Rattle.std.specs.Prelude.{◌≡◌, ◌<◌};
 
-use crate::real_files::write_to;
+use crate::draft::{Draft, replace};
+use crate::real_draft::write_to;
 use crate::{
-    Files, MemFiles, MemSink, ReadErr, RealFiles, RealSink, Sink, WriteErr, put_all, read_at_most,
+    CalmFiles, CalmSink, Files, MemFiles, MemSink, ReadErr, RealFiles, RealSink, Sink, WriteErr,
+    put_all, put_when_full, read_at_most,
 };
 use rbbi_text::{Raw, Steps};
 use std::alloc::{AllocError, Global};
@@ -64,6 +66,55 @@ fn calls_that_fail(rt: HostRuntime) -> Result<(), Fail> {
     assert_eq!(rt; files.get("a"), Some(b"one".as_slice()));
     assert_eq!(rt; files.get("b"), Some(b"two".as_slice()));
     assert_eq!(rt; files.calls(), 5);
+    Ok(())
+}
+
+#[test]
+fn calls_that_never_fail(rt: HostRuntime) -> Result<(), Fail> {
+    let alloc = rt.alloc();
+    let mut files = CalmFiles::new(alloc);
+    files.add("a", b"one")?;
+    files.write("b", b"two")?;
+    for (name, bytes) in [("a", b"one".as_slice()), ("b", b"two"), ("c", b"")] {
+        let raw = files.read(alloc, name, bytes.len() as u64)?;
+        assert_eq!(rt; bytes_of(&rt, &raw)?.as_slice(), bytes, "of {name}");
+    }
+    assert!(rt; matches!(files.read(alloc, "a", 2), Err(ReadErr::TooLong)));
+    assert_eq!(rt; files.get("b"), Some(b"two".as_slice()));
+    assert_eq!(rt; files.get("c"), None);
+    assert_eq!(rt; files.calls(), 5);
+    let mut sink = CalmSink::new(alloc);
+    put_all(&mut sink, b"ab")?;
+    put_all(&mut sink, b"cd")?;
+    assert_eq!(rt; sink.taken(), b"abcd".as_slice());
+    assert_eq!(rt; sink.calls(), 2);
+    Ok(())
+}
+
+/// What waits goes out once it is 65,536 bytes, and nothing is put behind a put that is refused.
+#[test]
+fn output_in_pieces(rt: HostRuntime) -> Result<(), Fail> {
+    let mut sink = MemSink::new(rt.alloc());
+    sink.fail_at(4)?;
+    let mut made = Vec::new(rt.alloc());
+    // how many bytes more are made, how many a put takes, and how many puts and bytes there were
+    for (more, most, calls, taken) in [
+        (65_535, 70_000, 0, 0),
+        (1, 70_000, 1, 65_536),
+        (65_535, 70_000, 1, 65_536),
+        (2, 65_000, 3, 131_073),
+    ] {
+        sink.at_most(most);
+        for _ in 0..more {
+            made.push(b'x')?;
+        }
+        put_when_full(&mut sink, &mut made)?;
+        assert_eq!(rt; sink.calls(), calls);
+        assert_eq!(rt; sink.taken().len(), taken);
+    }
+    made.resize(70_000, b'x')?;
+    assert!(rt; matches!(put_when_full(&mut sink, &mut made), Err(WriteErr::Failed)));
+    assert_eq!(rt; sink.calls(), 4);
     Ok(())
 }
 
@@ -214,6 +265,98 @@ fn open_files(rt: HostRuntime) -> Result<(), Fail> {
     Ok(())
 }
 
+/// A draft in memory. Its calls are counted from 1, and those from `fails` up to `works` fail.
+#[derive(Drop)]
+struct ToldDraft {
+    drafted: Vec<u8>,
+    held: Vec<u8>,
+    is_synced: bool,
+    is_there: bool,
+    calls: u64,
+    fails: u64,
+    works: u64,
+}
+
+impl ToldDraft {
+    /// Counts a call, and tells whether it fails.
+    fn call(&mut self) -> io::Result<()>
+        ensures drafted { self.new.drafted ≡ self.old.drafted }
+        ensures held { self.new.held ≡ self.old.held }
+    {
+        self.calls = self.calls.saturating_add(1);
+        if self.fails <= self.calls && self.calls < self.works {
+            return Err(io::Error::from(ErrorKind::Other));
+        }
+        Ok(())
+    }
+}
+
+impl Draft for ToldDraft {
+    ghost use Rattle.std.specs.Prelude.{Some, IsTrue};
+
+    ghost drafted = { λ draft. Some draft.drafted.items };
+
+    ghost held = { λ draft. Some draft.held.items };
+
+    ghost is_synced = { λ draft. IsTrue draft.is_synced };
+
+    fn write(&mut self, bytes: &[u8]) -> io::Result<()> {
+        self.call()?;
+        self.is_synced = false;
+        self.drafted.extend_from_slice(bytes)?;
+        Ok(())
+    }
+
+    fn sync(&mut self) -> io::Result<()> {
+        self.call()?;
+        self.is_synced = true;
+        Ok(())
+    }
+
+    fn rename(&mut self) -> io::Result<()> {
+        self.call()?;
+        self.held = self.drafted.clone()?;
+        self.is_there = false;
+        Ok(())
+    }
+
+    fn remove(&mut self) {
+        if self.call().is_ok() {
+            self.is_there = false;
+        }
+    }
+}
+
+/// Whatever step fails, alone or with all behind it, as where a run is killed, the old bytes stay.
+#[test]
+fn drafts_that_fail(rt: HostRuntime) -> Result<(), Fail> {
+    let never = u64::MAX;
+    for (fails, works, held, is_there) in [
+        (never, never, "new", false),
+        (1, 2, "old", false),
+        (2, 3, "old", false),
+        (3, 4, "old", false),
+        (1, never, "old", true),
+        (2, never, "old", true),
+        (3, never, "old", true),
+    ] {
+        let mut draft = ToldDraft {
+            drafted: Vec::new(rt.alloc()),
+            held: b"old".to_vec(rt.alloc())?,
+            is_synced: false,
+            is_there: true,
+            calls: 0,
+            fails,
+            works,
+        };
+        let outcome = replace(&mut draft, b"new");
+        assert_eq!(rt; outcome.is_ok(), fails == never);
+        assert_eq!(rt; draft.held.as_slice(), held.as_bytes());
+        assert_eq!(rt; draft.is_there, is_there);
+    }
+    Ok(())
+}
+
 #[test]
 fn files_of_the_system(rt: HostRuntime) -> Result<(), Fail> {
     let alloc = rt.alloc();
@@ -228,6 +371,7 @@ fn files_of_the_system(rt: HostRuntime) -> Result<(), Fail> {
     assert!(rt; matches!(files.read(alloc, name, 599_999), Err(ReadErr::TooLong)));
     assert!(rt; matches!(files.read(alloc, "no/such/file", 9), Err(ReadErr::Failed)));
     assert!(rt; matches!(files.write("no/such/file", b"a"), Err(WriteErr::Failed)));
+    assert!(rt; !std::fs::exists(&rt, "rbbi_io_real_files.tmp.rbbi-0")?);
     std::fs::remove_file(&rt, name)?;
     Ok(())
 }

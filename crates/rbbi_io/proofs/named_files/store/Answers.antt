@@ -1,7 +1,7 @@
 use Rattle.std.proofs.Common.{List, ℕ, [], ◌∷◌, ◌++◌, ◌∙◌, ap, sym, subst}
 use Rattle.rbbi_io.specs.inner.Memory.{IsIndexOf, IsAbsent}
 use Rattle.rbbi_io.proofs.NamedFiles.{set-place, with_file-absent}
-use Rattle.rbbi_io.proofs.mem_files.store.Goals as goal
+use Rattle.rbbi_io.proofs.named_files.store.Goals as goal
 
 -- in the place of an older file
 pub returns-in-Some-clause-ok : goal.returns-in-Some-clause-ok

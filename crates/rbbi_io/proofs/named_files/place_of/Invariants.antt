@@ -1,5 +1,5 @@
 use Rattle.std.proofs.Common.{◌≢◌, ℕ, ◌<◌, [], get_or}
-use Rattle.rbbi_io.proofs.mem_files.place_of.Given as goal
+use Rattle.rbbi_io.proofs.named_files.place_of.Given as goal
 
 -- no file so far has the name
 abbrev pub invariant-loop-i : goal.invariant-loop-i
