@@ -26,9 +26,23 @@ fn run<L: Ledger>(rt: &HostRuntime, words: &Vec<String>, blank: Blank) -> u8
     rbbi(rt.alloc(), words, &mut files, &mut out, &mut steps)
 }
 
+/// Tells on the standard error why a run ended without a line of its own. Nothing where that fails
+/// too.
+fn tell_silent_end(rt: &HostRuntime, status: u8) {
+    let _ = match status {
+        7 => eprintln!(rt; "rbbi: the output or the table file could not be written"),
+        8 => eprintln!(rt; "rbbi: memory ran out"),
+        _ => Ok(()),
+    };
+}
+
 fn main(rt: HostRuntime) -> ExitCode {
     let status = match words(&rt) {
-        Ok(words) => run::<Brand>(&rt, &words, Blank::new(1)),
+        Ok(words) => {
+            let status = run::<Brand>(&rt, &words, Blank::new(1));
+            tell_silent_end(&rt, status);
+            status
+        }
         Err(fault) if fault.kind() == ErrorKind::OutOfMemory => 8,
         Err(_) => 9,
     };
