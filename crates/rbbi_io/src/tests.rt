@@ -104,6 +104,7 @@ fn output_in_pieces(rt: HostRuntime) -> Result<(), Fail> {
         (65_535, 70_000, 1, 65_536),
         (2, 65_000, 3, 131_073),
     ] {
+        assert!(rt; most >= 1);
         sink.at_most(most);
         for _ in 0..more {
             made.push(b'x')?;
