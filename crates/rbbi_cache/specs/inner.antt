@@ -6,3 +6,4 @@ pub mod Scans
 pub mod Shown
 pub mod Lists
 pub mod Ready
+pub mod Fixed

@@ -106,7 +106,7 @@ impl RunList {
         ensures more { steps.old ≤ steps.new }
         ensures read { steps.new ≤ steps.old + 1025 }
     {
-        self.count = keep_edited(table, text, edit, former, &mut self.slots, steps);
+        self.count = keep_edited(table, text, edit, former, self.slots.as_mut_slice(), steps);
     }
 }
 

@@ -6,6 +6,7 @@ mod cache;
 mod edited;
 mod entry;
 mod extended;
+mod fixed;
 mod parts;
 mod run;
 mod run_list;

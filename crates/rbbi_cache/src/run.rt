@@ -5,6 +5,7 @@ ghost use Rattle.rbbi_model.specs.Runs as model;
 ghost use Rattle.rbbi_cache.specs.inner.Pushed.{pushed};
 
 use crate::Entry;
+use crate::fixed::Fixed;
 use std::alloc::{AllocError, Global};
 use std::marker::Model;
 
@@ -21,7 +22,7 @@ pub struct Run {
     anchor: u32,
     leads: bool,
     len: usize,
-    slots: Vec<Entry>,
+    slots: Fixed<Entry>,
 }
 
 impl Model for Run {
@@ -32,11 +33,11 @@ impl Model for Run {
 
     ghost view = { λ run. record {
       anchor = run.anchor;
-      entries = take run.len run.slots.items;
+      entries = take run.len run.slots.items.items;
       leads = run.leads;
     } };
 
-    ghost invariant = { λ run. (run.len ≤ 256) × (length run.slots.items ≡ 256) };
+    ghost invariant = { λ run. (run.len ≤ 256) × (length run.slots.items.items ≡ 256) };
 }
 
 impl Run {
@@ -49,7 +50,7 @@ impl Run {
             status: 0,
             reach: 0,
         };
-        let slots = vec![in alloc; blank; MOST_ENTRIES]?;
+        let slots = Fixed::new(vec![in alloc; blank; MOST_ENTRIES]?);
         Ok(Run {
             anchor: 0,
             leads: false,
@@ -69,7 +70,7 @@ impl Run {
     pub fn entries(&self) -> &[Entry]
         ensures { result.now ≡ self.now.entries }
     {
-        &self.slots[..self.len]
+        &self.slots.as_slice()[..self.len]
     }
 
     /// Begins anew at an anchor, with no entries.
@@ -86,12 +87,13 @@ impl Run {
         ensures { self.new ≡ pushed self.old entry }
     {
         if self.len == MOST_ENTRIES {
-            self.slots.copy_within(KEPT_ENTRIES.., 0);
+            self.slots.as_mut_slice().copy_within(KEPT_ENTRIES.., 0);
             self.len = MOST_ENTRIES - KEPT_ENTRIES;
             self.leads = false;
         }
-        self.slots[self.len] = entry;
-        self.len += 1;
+        let len = self.len;
+        *self.slots.item_mut(len) = entry;
+        self.len = len + 1;
     }
 
     /// Whether it leads: nothing found from its anchor lies between the low place and the first
@@ -123,7 +125,7 @@ impl Run {
         ensures { self.new ≡ record self.old { entries = self.old.entries ++ entries.now } }
     {
         let len = self.len;
-        self.slots[len..len + entries.len()].copy_from_slice(entries);
+        self.slots.as_mut_slice()[len..len + entries.len()].copy_from_slice(entries);
         self.len += entries.len();
     }
 }

@@ -10,6 +10,7 @@ ghost use Rattle.rbbi_cache.specs.inner.Lists.{HasAt, GoesOnFrom};
 ghost use Rattle.rbbi_cache.specs.inner.Ready.{GoesOnAt};
 
 use crate::extended::find_extended;
+use crate::fixed::Fixed;
 use crate::runs::{MOST_RUNS, put_first, to_front};
 use crate::search::go_on;
 use crate::{Entry, Run};
@@ -24,7 +25,7 @@ use std::sync::ledger::Ledger;
 #[derive(Debug, Drop)]
 pub(crate) struct RunList {
     /// Room for 16 runs, of which the first ones are the list.
-    pub(crate) slots: Vec<Run>,
+    pub(crate) slots: Fixed<Run>,
     pub(crate) count: usize,
 }
 
@@ -34,9 +35,9 @@ impl Model for RunList {
 
     ghost Value = { List Run };
 
-    ghost view = { λ list. take list.count list.slots.items };
+    ghost view = { λ list. take list.count list.slots.items.items };
 
-    ghost invariant = { λ list. (list.count ≤ 16) × (length list.slots.items ≡ 16) };
+    ghost invariant = { λ list. (list.count ≤ 16) × (length list.slots.items.items ≡ 16) };
 }
 
 impl RunList {
@@ -48,7 +49,10 @@ impl RunList {
         for _ in 0..MOST_RUNS {
             slots.push(Run::empty(alloc)?)?;
         }
-        Ok(RunList { slots, count: 0 })
+        Ok(RunList {
+            slots: Fixed::new(slots),
+            count: 0,
+        })
     }
 
     /// The runs.
@@ -56,7 +60,7 @@ impl RunList {
         ensures runs { result.now ≡ self.now }
         ensures few { length result.now ≤ 16 }
     {
-        &self.slots[..self.count]
+        &self.slots.as_slice()[..self.count]
     }
 
     /// Moves a run to the front. The runs before it go back by one.
@@ -66,7 +70,7 @@ impl RunList {
             self.old ≡ before ++ run ∷ after → length before ≡ k →
             self.new ≡ run ∷ (before ++ after) }
     {
-        to_front(&mut self.slots, k);
+        to_front(self.slots.as_mut_slice(), k);
     }
 
     /// Puts a new run before the others, in place of one that it extends. If it extends none of 16,
@@ -79,7 +83,7 @@ impl RunList {
             self.replace(k, run);
             return;
         }
-        self.count = put_first(&mut self.slots, self.count, run);
+        self.count = put_first(self.slots.as_mut_slice(), self.count, run);
     }
 
     /// Puts a new run before the others, in place of the one with this number.
@@ -89,7 +93,7 @@ impl RunList {
             self.old ≡ before ++ former ∷ after → length before ≡ k →
             self.new ≡ run.old ∷ (before ++ after) }
     {
-        let slot = &mut self.slots[k];
+        let slot = self.slots.item_mut(k);
         mem::swap(slot, run);
         self.move_to_front(k);
     }
@@ -122,7 +126,7 @@ impl RunList {
             (anchor_below table.now (T.characters text.now) i) i }
         ensures fit { marks.new ≡ marks.old }
     {
-        let run = &mut self.slots[k];
+        let run = self.slots.item_mut(k);
         go_on(table, text, i, run, from, spare, marks, steps)
     }
 }

@@ -18,13 +18,13 @@ returns c =
     let few : length c.args.self.now ≤ 16 = omega (
       arith,
       ap length c.self.view_is,
-      length-take c.self.inside.count c.self.inside.slots.items,
+      length-take c.self.inside.count c.self.inside.slots.items.items,
       c.self.invariant.0,
     ) in
     put_before c.args.run.now c.args.self.now _ few (subst (NoneIsExtended c.args.run.now) c.as_slice.ensures.runs c.in_default.ensures)
-    (ap (take c.put_first-self-inside.result) (refilled c.put_first-self-inside.new.runs c.self.inside.slots.items c.self.inside.slots.len (omega (
+    (ap (take c.put_first-self-inside.result) (refilled c.put_first-self-inside.new.runs c.self.inside.slots.items.items c.self.inside.slots.items.len (omega (
       arith,
-      c.self.inside.slots.ok.0,
+      c.self.inside.slots.items.ok.0,
     )) (omega (arith, c.put_first-self-inside.ensures.len)))
-    ∙ added_is c.self.inside.slots.items c.self.inside.count c.self.invariant.1 c.self.invariant.0 c.args.self.now c.put_first-self-inside.new.runs
-    c.args.run.now c.put_first-self-inside.result c.self.view_is (c.put_first-self-inside.ensures.runs ∙ ap of c.deref_mut.ensures.value))
+    ∙ added_is c.self.inside.slots.items.items c.self.inside.count c.self.invariant.1 c.self.invariant.0 c.args.self.now c.put_first-self-inside.new.runs
+    c.args.run.now c.put_first-self-inside.result c.self.view_is (c.put_first-self-inside.ensures.runs ∙ ap of c.as_mut_slice.ensures.value))
