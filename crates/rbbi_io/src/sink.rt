@@ -1,6 +1,6 @@
 //! Where output goes.
 ghost use Rattle.std.specs.Prelude.{◌≡◌, ◌<◌, ◌≤◌, ℕ, List, Option, length, take, IfOk, OnOk};
-ghost use Rattle.std.specs.Prelude.{Result, OnErr, IsErrOf, MatchResult};
+ghost use Rattle.std.specs.Prelude.{Result, OnErr, IsErrOf, MatchResult, ⊤};
 ghost use Rattle.rbbi_io.specs.Counts.{greatest_count, Rose, GoesOn};
 ghost use Rattle.rbbi_io.specs.Sinks.{Takes, TakesFront, IsBuffered};
 ghost use Rattle.rbbi_io.specs.Puts.{EndsAtRefusal};
@@ -21,7 +21,7 @@ pub trait Sink {
     ghost faults: { Self → ℕ };
 
     /// What a put of a piece answers and leaves, where the sink says more of it than is said below.
-    ghost put_gives: { Self → List ℕ → Result ℕ WriteErr → Self → Type 0 } = { λ _ _ _ _. Unit {0} };
+    ghost put_gives: { Self → List ℕ → Result ℕ WriteErr → Self → Type 0 } = { λ _ _ _ _. ⊤ };
 
     /// Takes a front of the piece, of at least one byte where there is one, and answers its length.
     ///
