@@ -19,7 +19,11 @@ use std::marker::Brand;
 use std::sync::ledger::{Blank, Ledger};
 
 /// All bytes of a file, or nothing where it can't be read.
-fn read<R: std::rt::Files>(alloc: Global, files: &mut RealFiles<'_, R>, name: &str) -> Option<Raw>
+fn read<R: std::rt::Files + Alloc>(
+    alloc: Global,
+    files: &mut RealFiles<'_, R>,
+    name: &str,
+) -> Option<Raw>
     ensures { IfSome result (λ bytes. length bytes ≤ most_bytes) }
 {
     match files.read(alloc, name, MOST_BYTES as u64) {
