@@ -1,7 +1,7 @@
 //! The sets of properties, each looked up once.
 ghost use Rattle.std.specs.Prelude.{◌≡◌, List, IfOk, IfSome, OnOk, IsTrue};
 ghost use Rattle.std.specs.Rc.{rc_value};
-ghost use Rattle.rbbi_props.specs.inner.Lookups.{IsSetOf};
+ghost use Rattle.rbbi_props.specs.Lookups.{IsSetOf};
 ghost use Rattle.rbbi_resolve.specs.inner.SetValues.{IsValue};
 ghost use Rattle.rbbi_resolve.specs.SetValues.{value_of_property, property_test};
 ghost use Rattle.rbbi_resolve.specs.inner.Questions.{IsRightAnswer};
