@@ -1,16 +1,19 @@
 -- Bits of a word, as tests and as numbers.
-use Rattle.std.proofs.Common.{◌≡◌, ◌≢◌, ℕ, zero, suc, ◌^◌, ◌<◌, true, false, ◌||◌, ◌&&◌, eqb, min, max, refl, sym, ap, ◌∙◌, arith}
-use Rattle.std.specs.Int.{bit_at, w64}
+use Rattle.std.proofs.Common.{◌≡◌, ◌≢◌, ℕ, zero, suc, ◌-◌, ◌^◌, ◌<◌, true, false, not, ◌||◌, ◌&&◌, eqb, min, max, refl, sym, ap, ◌∙◌, arith}
+use Rattle.std.specs.Int.{bit_at, bit_not, w64}
 use Rattle.std.specs.Prelude.{bit_and}
 use Rattle.std.specs.Int.RustNames.{bit_or}
 use Rattle.std.proofs.lemmas.Bool.{eqb-true}
-use Rattle.std.proofs.lemmas.Nat.Bits.{bit_at-lt, bit_at_or, bit_at_and, bit_at-zero, bit_at-trailing_zeros, same_from_bits_below}
+use Rattle.std.proofs.lemmas.Nat.Bits.{bit_at-lt, bit_at_or, bit_at_and, bit_at_not, bit_at-zero, bit_at-trailing_zeros, same_from_bits_below}
 use Rattle.rbbi_model.specs.Places.{has_bit}
 use Rattle.rbbi_model.proofs.Bits.{has_bit_is}
 
 -- a bit is set where it is the number 1
 pub set_from_one : (n k : ℕ) → bit_at n k ≡ 1 → has_bit n k ≡ true
 set_from_one n k one = has_bit_is n k ∙ ap (λ m. eqb m 1) one
+
+pub one_from_set : (n k : ℕ) → has_bit n k ≡ true → bit_at n k ≡ 1
+one_from_set n k set = eqb-true (bit_at n k) 1 (sym (has_bit_is n k) ∙ set)
 
 pub no_bit : (k : ℕ) → has_bit 0 k ≡ false
 no_bit k = has_bit_is 0 k ∙ ap (λ n. eqb n 1) (bit_at-zero k)
@@ -63,3 +66,12 @@ same_words n m small small' same =
     by_test k zero (suc (suc b)) h g e = absurd (omega (arith, g))
     by_test k (suc zero) (suc (suc b)) h g e = absurd (omega (arith, g))
     by_test k (suc (suc a)) b h g e = absurd (omega (arith, h))
+
+pub has_bit_not : (n k : ℕ) → n < 2 ^ 64 → k < 64 → has_bit (bit_not w64 n) k ≡ not (has_bit n k)
+has_bit_not n k small short =
+    has_bit_is (bit_not w64 n) k ∙ ap (λ m. eqb m 1) (bit_at_not w64 n k small short) ∙ other (bit_at n k) (bit_at-lt n k) ∙ ap not (sym (has_bit_is n k))
+  where
+    other : (b : ℕ) → b < 2 → eqb (1 - b) 1 ≡ not (eqb b 1)
+    other zero h = refl
+    other (suc zero) h = refl
+    other (suc (suc b)) h = absurd (omega (arith, h))

@@ -1,7 +1,7 @@
 -- The members of the characters of classes.
 use Rattle.std.proofs.Common.{ℕ, ◌↔◌, Decides}
 use Rattle.std.proofs.lemmas.Bool.{leb-true, le-leb}
-use Rattle.std.proofs.lemmas.Bool.Decides.{Decides-and, Decides-not, Decides-eqb}
+use Rattle.std.proofs.lemmas.Bool.Decides.{Decides-and, Decides-not}
 use Rattle.rbbi_model.specs.Words.{IsSurrogate}
 use Rattle.rbbi_model.specs.Ranges.{Has}
 use Rattle.rbbi_classes.specs.Classes.{ClassBits, HasMember}
@@ -16,7 +16,7 @@ Decides-character : (division : ClassDivision) (set : ClassBits) (c : ℕ) →
     Decides (is_character_of division set c) (¬ IsSurrogate c × HasMember division.bounds set (stand_in division c))
 Decides-character division set c =
     Decides-and _ _ (Decides-not _ (Decides-is_between 0xD800 0xDFFF c))
-    (Decides-and _ _ (leb-true (stand_in division c) 0x10FFFF, le-leb (stand_in division c) 0x10FFFF) (Decides-eqb _ 1))
+    (Decides-and _ _ (leb-true (stand_in division c) 0x10FFFF, le-leb (stand_in division c) 0x10FFFF) (λ t. t, λ t. t))
 
 -- the ranges of those that pass have the characters of the classes
 pub has-characters : (division : ClassDivision) (set : ClassBits) (c : ℕ) →

@@ -6,8 +6,9 @@ use Rattle.std.specs.Prelude.{bit_and}
 use Rattle.std.proofs.lemmas.Bool.{cases_lt, cases_eq}
 use Rattle.std.proofs.lemmas.List.{get_or-set_same, get_or-set_other, get_or-replicate, length-replicate, get_or_default}
 use Rattle.std.proofs.lemmas.Nat.Bits.{bit_at_and, bit_at-lt, ones_shl, ones_shr, bit_at_ones, bit_at_ones_above, bit_at_mask_inside, bit_at_mask_below}
-use Rattle.rbbi_classes.specs.Classes.{HasClass}
-use Rattle.rbbi_classes.proofs.ClassWords.{bits_of, word_at-before, word_at-from, word_at-past, no_word}
+use Rattle.rbbi_classes.specs.Classes.{HasClass, word_at}
+use Rattle.rbbi_classes.proofs.ClassWords.{bits_of, word_at-before, word_at-from, word_at-past, not-in_zero}
+use Rattle.rbbi_bits.proofs.WordBits.{set_from_one, one_from_set}
 
 -- what the mask leaves of a word of a row
 masked : (row : List ℕ) (i mask j t : ℕ) → i < length row →
@@ -112,30 +113,30 @@ module _ (first last : ℕ) (ordered : first ≤ last) where
       let second = masked cut end high_mask j t (omega (arith, long)) in
       let first_word = masked ones 0 low j t (omega (arith, length-replicate (end + 1) (2 ^ 64 - 1))) in (
         λ has.
-            let both = second.0 (sym read ∙ has) in
+            let both = second.0 (sym read ∙ one_from_set (word_at (bits_of from words) (k / 64)) t has) in
             let both' = first_word.0 both.0 in
             let above : j ≡ 0 → first % 64 ≤ t = λ here. bit_low (first % 64) t (omega arith) (both'.1 here) small in
             let below : j ≡ end → t ≤ last % 64 = λ here. bit_high (last % 64) t (omega arith) (both.1 here) in
             (le-by_word first k later above, le-by_last first last k short (omega (arith, ordered)) later below),
-        λ within. read ∙ second.1 (
+        λ within. set_from_one (word_at (bits_of from words) (k / 64)) t (read ∙ second.1 (
           first_word.1 (
             all_ones (end + 1) j t short small,
             λ here. low_bit (first % 64) t (omega arith) (let e : first % 64 ≤ t = omega (arith, here, within.0) in e) small,
           ),
           λ here. high_bit (last % 64) t (omega arith) (let e : t ≤ last % 64 = omega (arith, here, within.1) in e),
-        ),
+        )),
       )
 
   pub has_span : (k : ℕ) → HasClass (bits_of from words) k ↔ ((first ≤ k) × (k ≤ last))
   has_span k =
       ⊎_elim
       (λ sooner. (
-        λ has. absurd (no_word (bits_of from words) k (word_at-before (bits_of from words) (k / 64) sooner) has),
+        λ has. absurd (not-in_zero (bits_of from words) k (word_at-before (bits_of from words) (k / 64) sooner) has),
         λ within. absurd (omega (arith, sooner, within.0)),
       ))
       (λ later. ⊎_elim (has_in k later)
       (λ past. (
-        λ has. absurd (no_word (bits_of from words) k (word_at-past (bits_of from words) (k / 64) (omega (arith, past, later, long_words))) has),
+        λ has. absurd (not-in_zero (bits_of from words) k (word_at-past (bits_of from words) (k / 64) (omega (arith, past, later, long_words))) has),
         λ within. absurd (omega (arith, past, later, within.1)),
       ))
       (cases_lt (k / 64 - from) (end + 1)))

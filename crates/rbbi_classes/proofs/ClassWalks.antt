@@ -1,17 +1,16 @@
 -- What holds while one goes over the classes of a set.
 use Rattle.std.proofs.Common.{◌≡◌, ℕ, ◌+◌, ◌*◌, ◌/◌, ◌%◌, ◌<◌, ◌≤◌, List, [], ◌∷◌, ◌++◌, ◌↔◌, ◌⊎◌, length, get_or, take, ap, sym, ◌∙◌, subst, inl, inr}
-use Rattle.std.proofs.Common.{arith}
-use Rattle.std.specs.Int.{bit_at}
-use Rattle.std.proofs.lemmas.Bool.{cases_lt}
-use Rattle.std.proofs.lemmas.Nat.Bits.{bit_at-zero}
+use Rattle.std.proofs.Common.{true, false, arith}
+use Rattle.std.proofs.lemmas.Bool.{cases_lt, false≢true}
+use Rattle.rbbi_model.specs.Places.{has_bit}
 use Rattle.rbbi_model.specs.Words.{IsSurrogate}
 use Rattle.std.proofs.lemmas.List.{take_more}
 use Rattle.rbbi_model.specs.Ranges.{Range, InRange, Has}
-use Rattle.rbbi_classes.specs.Classes.{class_of, ClassBits, word_at, HasClass, HasMember, AreBounds, IsFirstOfClass}
+use Rattle.rbbi_classes.specs.Classes.{class_of, ClassBits, word_at, class_bit, HasClass, HasMember, AreBounds, IsFirstOfClass}
 use Rattle.rbbi_classes.specs.inner.ClassRanges.{AreSurrogates}
 use Rattle.rbbi_classes.specs.Divisions.{first_of}
 use Rattle.rbbi_sets.proofs.Coverage.{has-append}
-use Rattle.rbbi_classes.proofs.ClassWords.{no_word, word_at-before}
+use Rattle.rbbi_classes.proofs.ClassWords.{not-in_zero, word_at-before}
 use Rattle.rbbi_classes.proofs.FirstCodePoints.{first-is_first, first-is_point, class-of_first, first-of_class}
 
 -- the set has no member of the classes from one to before another
@@ -20,32 +19,28 @@ HasNone bounds set from to = (c : ℕ) → HasMember bounds set c → from ≤ c
 
 -- a class by its word and its bit there
 module _ (set : ClassBits) (i bit word : ℕ) (small : bit < 64) (is : word ≡ word_at set i) where
-  there : bit_at word bit ≡ bit_at (word_at set ((64 * i + bit) / 64)) ((64 * i + bit) % 64)
+  there : has_bit word bit ≡ class_bit set (64 * i + bit)
   there =
       let number : (64 * i + bit) / 64 ≡ i = omega (arith, small) in
       let place : (64 * i + bit) % 64 ≡ bit = omega (arith, small) in
-      ap (λ n. bit_at n bit) is ∙ sym (ap (λ n. bit_at (word_at set n) ((64 * i + bit) % 64)) number ∙ ap (λ n. bit_at (word_at set i) n) place)
+      ap (λ n. has_bit n bit) is ∙ sym (ap (λ n. has_bit (word_at set n) ((64 * i + bit) % 64)) number ∙ ap (λ n. has_bit (word_at set i) n) place)
 
-  pub class-of-bit : bit_at word bit ≡ 1 → HasClass set (64 * i + bit)
+  pub class-of-bit : has_bit word bit ≡ true → HasClass set (64 * i + bit)
   class-of-bit one = sym there ∙ one
 
-  pub no-class-of-bit : (bounds : List ℕ) → ¬ (bit_at word bit ≡ 1) → HasNone bounds set (64 * i + bit) (64 * i + (bit + 1))
+  pub no-class-of-bit : (bounds : List ℕ) → has_bit word bit ≡ false → HasNone bounds set (64 * i + bit) (64 * i + (bit + 1))
   no-class-of-bit bounds none c member from to =
       let same : class_of bounds c ≡ 64 * i + bit = omega arith in
-      none (there ∙ subst (λ k. HasClass set k) same member.1)
+      false≢true (sym none ∙ there ∙ subst (λ k. HasClass set k) same member.1)
 
 -- a set has no class in front of its words
 pub none-before : (bounds : List ℕ) (set : ClassBits) → HasNone bounds set 0 (64 * set.from)
 none-before bounds set c member from to =
-    no_word set (class_of bounds c) (word_at-before set (class_of bounds c / 64) (omega (arith, to))) member.1
+    not-in_zero set (class_of bounds c) (word_at-before set (class_of bounds c / 64) (omega (arith, to))) member.1
 
 -- a word that is 0 has no class
 pub zero-has-none : (bounds : List ℕ) (set : ClassBits) (i c : ℕ) → word_at set i ≡ 0 → class_of bounds c / 64 ≡ i → HasMember bounds set c → ⊥
-zero-has-none bounds set i c zero word member =
-    let one : bit_at (word_at set (class_of bounds c / 64)) (class_of bounds c % 64) ≡ 1 = member.1 in
-    let none : word_at set (class_of bounds c / 64) ≡ 0 = ap (λ n. word_at set n) word ∙ zero in
-    let bit = ap (λ n. bit_at n (class_of bounds c % 64)) none ∙ bit_at-zero (class_of bounds c % 64) in
-    omega (arith, one, bit)
+zero-has-none bounds set i c zero word member = not-in_zero set (class_of bounds c) (ap (λ n. word_at set n) word ∙ zero) member.1
 
 pub no-class-of-zero : (bounds : List ℕ) (set : ClassBits) (i : ℕ) → word_at set i ≡ 0 → HasNone bounds set (64 * i) (64 * (i + 1))
 no-class-of-zero bounds set i zero c member from to = zero-has-none bounds set i c zero (omega arith) member

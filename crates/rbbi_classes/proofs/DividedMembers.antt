@@ -1,9 +1,9 @@
 -- The code points of classes of a division, and what holds while one goes over its steps.
 use Rattle.std.proofs.Common.{◌≡◌, ℕ, ◌+◌, ◌/◌, ◌%◌, ◌<◌, ◌≤◌, Bool, true, List, ◌∷◌, ◌↔◌, length, get_or, drop, ap, sym, ◌∙◌, subst, arith, cond}
-use Rattle.std.specs.Int.{bit_at}
+use Rattle.rbbi_model.specs.Places.{has_bit}
 use Rattle.std.proofs.lemmas.Bool.{le-leb, lt-leb}
 use Rattle.std.proofs.lemmas.List.{drop_more, drop_all}
-use Rattle.rbbi_classes.specs.Classes.{ClassBits, HasClass, word_at}
+use Rattle.rbbi_classes.specs.Classes.{ClassBits, HasClass, class_bit, word_at}
 use Rattle.rbbi_classes.specs.Steps.{number_from, number_at, AreStepsFrom}
 use Rattle.rbbi_classes.specs.Divisions.{ClassDivision, IsDivision, HasDivided}
 use Rattle.rbbi_classes.specs.declared.steps.Step.{Step}
@@ -18,11 +18,11 @@ divided-by_number division h set c = (
 )
 
 -- the bit of a class in its word tells whether a set has it
-pub class-by_bit : (set : ClassBits) (class word : ℕ) (bit : Bool) → word ≡ word_at set (class / 64) → (bit ≡ true) ↔ (bit_at word (class % 64) ≡ 1) →
+pub class-by_bit : (set : ClassBits) (class word : ℕ) (bit : Bool) → word ≡ word_at set (class / 64) → bit ≡ has_bit word (class % 64) →
     (bit ≡ true) ↔ HasClass set class
 class-by_bit set class word bit is tells =
-    let read = ap (λ n. bit_at n (class % 64)) is in
-    (λ t. sym read ∙ tells.0 t, λ has. tells.1 (read ∙ has))
+    let same : bit ≡ class_bit set class = tells ∙ ap (λ n. has_bit n (class % 64)) is in
+    (λ t. sym same ∙ t, λ has. same ∙ has)
 
 -- the number of a code point from the first step on, and before it
 number-past : (before : ℕ) (step : Step) (steps : List Step) (c : ℕ) → step.start ≤ c → number_from before (step ∷ steps) c ≡ number_from step.number steps c

@@ -4,8 +4,6 @@ pub mod DividedMembers
 pub mod ClassWalks
 pub mod ClassWords
 pub mod ClassRows
-pub mod ClassMembers
-pub mod ClassRoom
 pub mod ClassSpans
 pub mod ClassChunks
 pub mod RangesWhere

@@ -8,7 +8,7 @@ use Rattle.std.proofs.lemmas.Option.{slice_get_within}
 use Rattle.std.proofs.Math.ListN.{length-append}
 use Rattle.rbbi_classes.specs.Steps.{number_at, AreStepsFrom, AreSteps}
 use Rattle.rbbi_classes.specs.inner.Steps.{HasRestrictedGrowthFrom, IsStepAt}
-use Rattle.rbbi_classes.specs.inner.Numbering.{IsNamed, AreNumbered}
+use Rattle.rbbi_classes.specs.inner.Numbering.{IsNamed, AreIndexed}
 use Rattle.rbbi_classes.specs.declared.steps.Step.{Step}
 use Rattle.rbbi_classes.specs.declared.steps.Walk.{Walk}
 use Rattle.rbbi_classes.specs.declared.pairs.Pair.{Pair}
@@ -222,7 +222,7 @@ merging-all left right steps of_left of_right pairs number h l r c d same =
 
 -- and code points that have one number by both have one number
 pub merging-joint : (left right steps : List Step) (of_left of_right : Walk) (pairs : Pairs) (number : ℕ) →
-    IsMerging left right steps of_left of_right pairs.items.items number → AreNumbered pairs → length left ≤ of_left.passed →
+    IsMerging left right steps of_left of_right pairs.items.items number → AreIndexed pairs → length left ≤ of_left.passed →
     length right ≤ of_right.passed → (c d : ℕ) → number_at left c ≡ number_at left d → number_at right c ≡ number_at right d →
     number_at steps c ≡ number_at steps d
 merging-joint left right steps of_left of_right pairs number h numbered l r c d e f =

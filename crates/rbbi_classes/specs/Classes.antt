@@ -1,7 +1,7 @@
 -- Sets of classes, by the code points at which these begin.
-use Rattle.std.specs.Prelude.{◌≡◌, ℕ, ◌+◌, ◌-◌, ◌/◌, ◌%◌, ◌<◌, ◌≤◌, ◌⊎◌, nat_lt, nat_le, List, [], ◌∷◌, slice_index, if◌then◌else◌}
+use Rattle.std.specs.Prelude.{◌≡◌, ℕ, ◌+◌, ◌-◌, ◌/◌, ◌%◌, ◌<◌, ◌≤◌, ◌⊎◌, nat_lt, nat_le, Bool, List, [], ◌∷◌, slice_index, if◌then◌else◌, IsTrue}
 use Rattle.std.specs.List.{Contains}
-use Rattle.std.specs.Int.{bit_at}
+use Rattle.rbbi_model.specs.Places.{has_bit}
 
 -- How many bounds are up to a code point. So where a class begins at each bound, and the first one at 0, this is the number of the last
 -- class that begins up to the code point, and of that which begins at it.
@@ -31,9 +31,12 @@ pub record ClassBits : Type 0 where
 abbrev pub word_at : ClassBits → ℕ → ℕ
 word_at set i = if nat_lt i set.from then 0 else slice_index set.words (i - set.from)
 
--- the set has the class with this number
+-- whether the set has the class with this number
+abbrev pub class_bit : ClassBits → ℕ → Bool
+class_bit set k = has_bit (word_at set (k / 64)) (k % 64)
+
 abbrev pub HasClass : ClassBits → ℕ → Type 0
-HasClass set k = bit_at (word_at set (k / 64)) (k % 64) ≡ 1
+HasClass set k = IsTrue (class_bit set k)
 
 -- the set has the last class that begins up to the code point, and so that which begins at it
 abbrev pub HasMember : List ℕ → ClassBits → ℕ → Type 0

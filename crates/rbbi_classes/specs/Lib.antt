@@ -1,4 +1,5 @@
 pub mod Classes
+pub mod ClassWords
 pub mod Steps
 pub mod Divisions
 pub mod RangesWhere

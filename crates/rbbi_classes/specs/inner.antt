@@ -1,5 +1,6 @@
 -- What only this crate's own code and proofs cite. Nothing that is promised rests on it.
-pub mod Classes
+pub mod Operations
+pub mod WordRows
 pub mod Steps
 pub mod Numbering
 pub mod ClassRanges

@@ -6,7 +6,7 @@ ghost use Rattle.rbbi_model.specs.Ranges.{Has};
 ghost use Rattle.rbbi_sets.specs.Rising.{AreRising};
 ghost use Rattle.rbbi_classes.specs.Divisions.{HasDivided};
 
-use crate::{Division, SharedClasses};
+use crate::{ClassSet, Division};
 use rbbi_sets::CodeSet;
 use std::alloc::{AllocError, Global};
 use std::marker::Model;
@@ -29,7 +29,7 @@ enum Held {
     /// The set by itself, without surrogates.
     Ranges(CodeSet),
     /// A set by classes, which may have surrogates.
-    Classes(Rc<Division>, SharedClasses),
+    Classes(Rc<Division>, ClassSet),
 }
 
 impl Model for CharacterSet {
@@ -60,7 +60,7 @@ impl CharacterSet {
     /// no memory but for itself.
     pub fn of_classes(
         division: &Rc<Division>,
-        classes: &SharedClasses,
+        classes: &ClassSet,
     ) -> Result<CharacterSet, AllocError>
         ensures members { IfOk result (λ characters. (c : ℕ) → Has characters c
             ↔ (HasDivided (rc_value division.now) classes.now c × ¬ IsSurrogate c)) }

@@ -1,12 +1,12 @@
 //! The classes of sets of code points, and whether some hold a character.
 ghost use Rattle.std.specs.Prelude.{◌≡◌, ◌≤◌, ◌<◌, ◌↔◌, ◌+◌, ◌*◌, ℕ, IfOk, IsTrue, length, false};
-ghost use Rattle.std.specs.Int.{bit_at};
 ghost use Rattle.rbbi_model.specs.Words.{IsSurrogate};
 ghost use Rattle.rbbi_model.specs.Ranges.{Has};
 ghost use Rattle.rbbi_classes.specs.Classes.{class_of, IsFirstOfClass, HasMember};
 ghost use Rattle.rbbi_classes.specs.inner.ClassRanges.{AreSurrogates};
 
 use crate::{ClassSet, Layout};
+use rbbi_bits::is_set;
 use rbbi_sets::CodeSet;
 use std::alloc::{AllocError, Global};
 
@@ -35,7 +35,7 @@ impl ClassSet {
         let mut classes = ClassSet::empty(alloc);
         for range in set.ranges() {
             let more = ClassSet::range(alloc, layout, range.low, range.high)?;
-            classes.add(alloc, &more)?;
+            classes = classes.union(alloc, more)?;
         }
         Ok(classes)
     }
@@ -46,10 +46,8 @@ impl ClassSet {
         ensures { IsTrue result ↔ ((c : ℕ) × IsFirstOfClass layout.now c
             × HasMember layout.now self.now c × ¬ IsSurrogate c) }
     {
-        let words = self.words();
-        let from = self.from();
-        for i in from..word_count(self, layout) {
-            if words[i - from] != 0 && word_holds_character(layout, self, i) {
+        for i in self.from()..word_count(self, layout) {
+            if self.word(i) != 0 && word_holds_character(layout, self, i) {
                 return true;
             }
         }
@@ -65,14 +63,6 @@ fn word_count(set: &ClassSet, layout: &Layout) -> usize
         → class_of layout.now c < 64 * result }
 {
     set.end().min(layout.last_class() / 64 + 1)
-}
-
-/// Whether the bit of the word is set.
-pub(crate) fn is_set(word: u64, bit: usize) -> bool
-    requires { bit < 64 }
-    ensures { IsTrue result ↔ (bit_at word bit ≡ 1) }
-{
-    (word >> bit) & 1 == 1
 }
 
 /// Whether one word has a class whose first code point is a character.

@@ -1,64 +1,64 @@
 //! Sets of classes as rows of bits.
 ghost use Rattle.std.specs.Prelude.{◌≡◌, ◌+◌, ◌^◌, ◌<◌, ◌≤◌, ◌↔◌, ◌⊎◌, ℕ, List, length};
-ghost use Rattle.std.specs.Prelude.{IfOk, OnOk};
-ghost use Rattle.std.specs.Result.{OnErr};
-ghost use Rattle.rbbi_classes.specs.Classes.{HasMember, HasClass, word_at};
+ghost use Rattle.std.specs.Prelude.{IfOk, slice_index};
+ghost use Rattle.std.specs.List.{flat_map};
+ghost use Rattle.std.specs.Rc.{rc_slice_items};
+ghost use Rattle.rbbi_classes.specs.Classes.{HasMember, HasClass, class_bit, word_at};
 
+use crate::Layout;
+use crate::chunks::{rest_of, rest_of_chunk, words_in, zeros};
 use crate::layout::ClassSpan;
-use crate::word_chunks::{join_chunks, meet_chunks, remove_chunks};
-use crate::word_rows::{clear, flip, flipped, join_words, meet_words, remove_words};
-use crate::{Layout, SharedClasses};
+use crate::operation::Operation;
+use crate::word_row::WordRow;
 use std::alloc::{AllocError, Global};
 use std::marker::Model;
+use std::rc::RcSlice;
 
 /// A set of classes as a row of bits, one bit for each class of a `Layout`. An operation on two
 /// sets takes a step for 64 classes. Contracts see the set as its words (`ClassBits`), and by
 /// `HasMember` whether it has the class that begins at a code point.
+///
+/// The words are the set's own, or stand in chunks that it shares with other sets: a set that a
+/// `ClassShelf` keeps has chunks, and one that an operation makes has words of its own. The other
+/// operand is read piece by piece, in whichever form it is.
 #[derive(Debug, Drop)]
 pub struct ClassSet {
-    /// How many words, all 0, stand before those of `words`.
+    /// How many words, all 0, stand before those that are kept.
     from: usize,
     /// The classes as bits, 64 to a word, the least bit first.
-    words: Vec<u64>,
+    words: Words,
+}
+
+/// How the words of a set are kept.
+#[derive(Debug, Drop)]
+enum Words {
+    /// In a row of the set's own.
+    Own(Vec<u64>),
+    /// In chunks, one after another, each of which many sets may share.
+    Shared(RcSlice<RcSlice<u64>>),
 }
 
 impl Model for ClassSet {
     ghost use Rattle.std.specs.Prelude.{◌≤◌, ◌+◌, ◌^◌, length};
     ghost use Rattle.rbbi_classes.specs.Classes.{ClassBits};
+    ghost use Rattle.rbbi_classes.specs.ClassWords.{words_kept};
 
     ghost Value = { ClassBits };
 
-    ghost view = { λ set. record { from = set.from; words = set.words.items } };
+    ghost view = { λ set. record { from = set.from; words = words_kept set.words } };
 
-    ghost invariant = { λ set. set.from + length set.words.items ≤ 2 ^ 58 };
+    ghost invariant = { λ set. set.from + length (words_kept set.words) ≤ 2 ^ 58 };
 }
 
 impl ClassSet {
+    ghost use Rattle.rbbi_classes.specs.inner.WordRows.{bits};
+
     /// The empty set.
     pub fn empty(alloc: Global) -> ClassSet
         ensures { (bounds : List ℕ) (c : ℕ) → ¬ HasMember bounds result c }
     {
-        ClassSet {
-            from: 0,
-            words: Vec::new(alloc),
-        }
-    }
-
-    /// The word with this number, counted with those that are left out.
-    pub(crate) fn word(&self, i: usize) -> u64
-        ensures { result ≡ word_at self.now i }
-    {
-        if i < self.from || i - self.from >= self.words.len() {
-            return 0;
-        }
-        self.words[i - self.from]
-    }
-
-    /// The number of a word from which on all are 0.
-    pub(crate) fn end(&self) -> usize
-        ensures { result ≡ self.now.from + length self.now.words }
-    {
-        self.from + self.words.len()
+        let words = Words::Own(Vec::new(alloc));
+        ClassSet { from: 0, words }
     }
 
     /// The set of some classes.
@@ -72,189 +72,29 @@ impl ClassSet {
         let mut words = vec![in alloc; u64::MAX; last + 1]?;
         words[0] &= u64::MAX << (span.first % 64);
         words[last] &= u64::MAX >> (63 - span.last % 64);
+        Ok(ClassSet::of_row(WordRow { from, words }))
+    }
+
+    /// The set with these words.
+    pub(crate) fn of_row(row: WordRow) -> ClassSet
+        requires { row.from + length row.words.items ≤ 2 ^ 58 }
+        ensures { result ≡ bits row }
+    {
+        let words = Words::Own(row.words);
+        ClassSet {
+            from: row.from,
+            words,
+        }
+    }
+
+    /// The set with the words of one chunk after another, of which the first has this number.
+    pub(crate) fn of_chunks(from: usize, chunks: Vec<RcSlice<u64>>) -> Result<ClassSet, AllocError>
+        requires { from + length (flat_map rc_slice_items chunks.items) ≤ 2 ^ 58 }
+        ensures { IfOk result (λ set.
+            set ≡ record { from = from; words = flat_map rc_slice_items chunks.items }) }
+    {
+        let words = Words::Shared(RcSlice::from_vec(chunks)?);
         Ok(ClassSet { from, words })
-    }
-
-    /// Makes the set its union with the other. If it is refused, the set is as it was.
-    pub fn add(&mut self, alloc: Global, other: &ClassSet) -> Result<(), AllocError>
-        ensures members { OnOk result ((bounds : List ℕ) (c : ℕ) → HasMember bounds self.new c
-            ↔ (HasMember bounds self.old c ⊎ HasMember bounds other.now c)) }
-        ensures refused { OnErr result (self.new ≡ self.old) }
-    {
-        let first = other.from;
-        if other.words.is_empty() {
-            return Ok(());
-        }
-        self.make_room(alloc, first, first + other.words.len())?;
-        let row = self.words.as_mut_slice();
-        join_words(row, self.from, other.words.as_slice(), first);
-        Ok(())
-    }
-
-    /// Makes the set its union with the other. If it is refused, the set is as it was.
-    pub fn add_shared(&mut self, alloc: Global, other: &SharedClasses) -> Result<(), AllocError>
-        ensures members { OnOk result ((bounds : List ℕ) (c : ℕ) → HasMember bounds self.new c
-            ↔ (HasMember bounds self.old c ⊎ HasMember bounds other.now c)) }
-        ensures refused { OnErr result (self.new ≡ self.old) }
-    {
-        let first = other.from();
-        let count = other.word_count();
-        if count == 0 {
-            return Ok(());
-        }
-        self.make_room(alloc, first, first + count)?;
-        let row = self.words.as_mut_slice();
-        join_chunks(row, self.from, other.chunks(), first);
-        Ok(())
-    }
-
-    /// The union. It reuses the longer row.
-    pub fn union(self, alloc: Global, other: ClassSet) -> Result<ClassSet, AllocError>
-        ensures { IfOk result (λ set. (bounds : List ℕ) (c : ℕ) → HasMember bounds set c
-            ↔ (HasMember bounds self c ⊎ HasMember bounds other c)) }
-    {
-        if self.words.len() < other.words.len() {
-            let mut whole = other;
-            whole.add(alloc, &self)?;
-            return Ok(whole);
-        }
-        let mut whole = self;
-        whole.add(alloc, &other)?;
-        Ok(whole)
-    }
-
-    /// The union. It reuses this row, or a copy of the other if that is longer.
-    pub fn union_shared(self, alloc: Global, other: &SharedClasses) -> Result<ClassSet, AllocError>
-        ensures { IfOk result (λ set. (bounds : List ℕ) (c : ℕ) → HasMember bounds set c
-            ↔ (HasMember bounds self c ⊎ HasMember bounds other.now c)) }
-    {
-        if self.words.len() < other.word_count() {
-            let mut whole = other.to_classes(alloc)?;
-            whole.add(alloc, &self)?;
-            return Ok(whole);
-        }
-        let mut whole = self;
-        whole.add_shared(alloc, other)?;
-        Ok(whole)
-    }
-
-    /// Makes room in the row for the words from `first` up to, but not including, `last`. The set
-    /// stays the same.
-    fn make_room(&mut self, alloc: Global, first: usize, last: usize) -> Result<(), AllocError>
-        requires ordered { first ≤ last }
-        requires few { last ≤ 2 ^ 58 }
-        ensures words { OnOk result ((i : ℕ) → word_at self.new i ≡ word_at self.old i) }
-        ensures from { OnOk result (self.new.from ≤ first) }
-        ensures end { OnOk result (last ≤ self.new.from + length self.new.words) }
-        ensures refused { OnErr result (self.new ≡ self.old) }
-    {
-        let end = self.from + self.words.len();
-        if self.from <= first && last <= end {
-            return Ok(());
-        }
-        self.grow(alloc, first, last)
-    }
-
-    /// Copies the row into one that also has the words from `first` up to, but not including,
-    /// `last`. The set stays the same.
-    fn grow(&mut self, alloc: Global, first: usize, last: usize) -> Result<(), AllocError>
-        requires ordered { first ≤ last }
-        requires few { last ≤ 2 ^ 58 }
-        ensures words { OnOk result ((i : ℕ) → word_at self.new i ≡ word_at self.old i) }
-        ensures from { OnOk result (self.new.from ≤ first) }
-        ensures end { OnOk result (last ≤ self.new.from + length self.new.words) }
-        ensures refused { OnErr result (self.new ≡ self.old) }
-    {
-        let start = if self.words.is_empty() {
-            first
-        } else {
-            self.from
-        };
-        let from = start.min(first);
-        let end = (start + self.words.len()).max(last);
-        let mut words = Vec::with_capacity(alloc, end - from)?;
-        words.resize(start - from, 0)?;
-        words.extend_from_slice(&self.words)?;
-        words.resize(end - from, 0)?;
-        self.from = from;
-        self.words = words;
-        Ok(())
-    }
-
-    /// Makes the set its intersection with the other.
-    pub fn meet(&mut self, other: &ClassSet)
-        ensures { (bounds : List ℕ) (c : ℕ) → HasMember bounds self.new c
-            ↔ (HasMember bounds self.old c × HasMember bounds other.now c) }
-    {
-        let first = other.from;
-        self.keep_words(first, first + other.words.len());
-        let row = self.words.as_mut_slice();
-        meet_words(row, self.from, other.words.as_slice(), first);
-    }
-
-    /// Makes the set its intersection with the other.
-    pub fn meet_shared(&mut self, other: &SharedClasses)
-        ensures { (bounds : List ℕ) (c : ℕ) → HasMember bounds self.new c
-            ↔ (HasMember bounds self.old c × HasMember bounds other.now c) }
-    {
-        let first = other.from();
-        self.keep_words(first, first + other.word_count());
-        let row = self.words.as_mut_slice();
-        meet_chunks(row, self.from, other.chunks(), first);
-    }
-
-    /// Keeps the words from `first` to before `last`, and makes the others 0.
-    fn keep_words(&mut self, first: usize, last: usize)
-        ensures inside { (i : ℕ) → first ≤ i → i < last
-            → word_at self.new i ≡ word_at self.old i }
-        ensures outside { (i : ℕ) → (i < first) ⊎ (last ≤ i) → word_at self.new i ≡ 0 }
-    {
-        self.words.truncate(last.saturating_sub(self.from));
-        let row = self.words.as_mut_slice();
-        clear(row, first.saturating_sub(self.from));
-    }
-
-    /// Makes the set its difference from the other.
-    pub fn remove(&mut self, other: &ClassSet)
-        ensures { (bounds : List ℕ) (c : ℕ) → HasMember bounds self.new c
-            ↔ (HasMember bounds self.old c × ¬ HasMember bounds other.now c) }
-    {
-        let row = self.words.as_mut_slice();
-        remove_words(row, self.from, other.words.as_slice(), other.from);
-    }
-
-    /// Makes the set its difference from the other.
-    pub fn remove_shared(&mut self, other: &SharedClasses)
-        ensures { (bounds : List ℕ) (c : ℕ) → HasMember bounds self.new c
-            ↔ (HasMember bounds self.old c × ¬ HasMember bounds other.now c) }
-    {
-        let row = self.words.as_mut_slice();
-        remove_chunks(row, self.from, other.chunks(), other.from());
-    }
-
-    /// Makes the set its complement. If it is refused, the set is as it was.
-    pub fn negate(&mut self, alloc: Global, layout: &Layout) -> Result<(), AllocError>
-        ensures members { OnOk result ((c : ℕ) → HasMember layout.now self.new c
-            ↔ ((c ≤ 0x10FFFF) × ¬ HasMember layout.now self.old c)) }
-        ensures refused { OnErr result (self.new ≡ self.old) }
-    {
-        let end = layout.last_class() / 64 + 1;
-        if self.from == 0 && end <= self.words.len() {
-            flip(self.words.as_mut_slice());
-            return Ok(());
-        }
-        let words = flipped(alloc, self.words.as_slice(), self.from, end)?;
-        self.from = 0;
-        self.words = words;
-        Ok(())
-    }
-
-    /// The words of the row.
-    pub(crate) fn words(&self) -> &[u64]
-        ensures value { result.now ≡ self.now.words }
-        ensures few { self.now.from + length self.now.words ≤ 2 ^ 58 }
-    {
-        self.words.as_slice()
     }
 
     /// How many words, all 0, are left out in front.
@@ -264,21 +104,162 @@ impl ClassSet {
         self.from
     }
 
-    /// The set with these words, in front of which some that are 0 are left out.
-    pub(crate) fn of_words(from: usize, words: Vec<u64>) -> ClassSet
-        requires { from + length words.items ≤ 2 ^ 58 }
-        ensures { result ≡ record { from = from; words = words.items } }
+    /// The number of a word from which on all are 0.
+    pub(crate) fn end(&self) -> usize
+        ensures value { result ≡ self.now.from + length self.now.words }
+        ensures few { result ≤ 2 ^ 58 }
     {
-        ClassSet { from, words }
+        let count = match &self.words {
+            Words::Own(words) => words.len(),
+            Words::Shared(chunks) => words_in(chunks.as_slice()),
+        };
+        self.from + count
+    }
+
+    /// Some words from that with this number on, counted with those that are left out: as many as
+    /// stand in one piece.
+    pub(crate) fn piece_at(&self, i: usize) -> &[u64]
+        ensures some { 0 < length result.now }
+        ensures words { (k : ℕ) → k < length result.now
+            → slice_index result.now k ≡ word_at self.now (i + k) }
+    {
+        if i < self.from {
+            return zeros(self.from - i);
+        }
+        let place = i - self.from;
+        match &self.words {
+            Words::Own(words) => rest_of(words.as_slice(), place),
+            Words::Shared(chunks) => rest_of_chunk(chunks.as_slice(), place),
+        }
+    }
+
+    /// The word with this number, counted with those that are left out.
+    pub(crate) fn word(&self, i: usize) -> u64
+        ensures { result ≡ word_at self.now i }
+    {
+        self.piece_at(i)[0]
+    }
+
+    /// The union. It reuses the longer row.
+    pub fn union(self, alloc: Global, other: ClassSet) -> Result<ClassSet, AllocError>
+        ensures { IfOk result (λ set. (bounds : List ℕ) (c : ℕ) → HasMember bounds set c
+            ↔ (HasMember bounds self c ⊎ HasMember bounds other c)) }
+    {
+        if self.end() - self.from < other.end() - other.from {
+            other.join(alloc, &self)
+        } else {
+            self.join(alloc, &other)
+        }
+    }
+
+    /// The union with a set. It reuses this row.
+    fn join(self, alloc: Global, other: &ClassSet) -> Result<ClassSet, AllocError>
+        ensures { IfOk result (λ set. (bounds : List ℕ) (c : ℕ) → HasMember bounds set c
+            ↔ (HasMember bounds self c ⊎ HasMember bounds other.now c)) }
+    {
+        let first = other.from;
+        let last = other.end();
+        if first == last {
+            return Ok(self);
+        }
+        let mut row = self.into_row(alloc, first, last)?;
+        row.combine(Operation::Union, other, first, last);
+        Ok(ClassSet::of_row(row))
+    }
+
+    /// The intersection.
+    pub fn meet(self, alloc: Global, other: &ClassSet) -> Result<ClassSet, AllocError>
+        ensures { IfOk result (λ set. (bounds : List ℕ) (c : ℕ) → HasMember bounds set c
+            ↔ (HasMember bounds self c × HasMember bounds other.now c)) }
+    {
+        let first = self.from;
+        let last = self.end();
+        let mut row = self.into_row(alloc, first, last)?;
+        row.combine(Operation::Intersection, other, first, last);
+        Ok(ClassSet::of_row(row))
+    }
+
+    /// The difference: what is in this set and not in the other.
+    pub fn remove(self, alloc: Global, other: &ClassSet) -> Result<ClassSet, AllocError>
+        ensures { IfOk result (λ set. (bounds : List ℕ) (c : ℕ) → HasMember bounds set c
+            ↔ (HasMember bounds self c × ¬ HasMember bounds other.now c)) }
+    {
+        let first = self.from;
+        let last = self.end();
+        let mut row = self.into_row(alloc, first, last)?;
+        row.combine(
+            Operation::Difference,
+            other,
+            first.max(other.from),
+            last.min(other.end()),
+        );
+        Ok(ClassSet::of_row(row))
+    }
+
+    /// The complement under a layout.
+    pub fn negate(&self, alloc: Global, layout: &Layout) -> Result<ClassSet, AllocError>
+        ensures { IfOk result (λ set. (c : ℕ) → HasMember layout.now set c
+            ↔ ((c ≤ 0x10FFFF) × ¬ HasMember layout.now self.now c)) }
+    {
+        let all = ClassSpan {
+            first: 0,
+            last: layout.last_class(),
+        };
+        ClassSet::of_span(alloc, all)?.remove(alloc, self)
+    }
+
+    /// The words in a row that also has those from the number `first` to before `last`: in this
+    /// one, if it is the set's own and has them.
+    fn into_row(self, alloc: Global, first: usize, last: usize) -> Result<WordRow, AllocError>
+        requires ordered { first ≤ last }
+        requires few { last ≤ 2 ^ 58 }
+        ensures bits { IfOk result (λ row. (k : ℕ) → class_bit (bits row) k ≡ class_bit self k) }
+        ensures from { IfOk result (λ row. row.from ≤ first) }
+        ensures end { IfOk result (λ row. last ≤ row.from + length row.words.items) }
+        ensures few { IfOk result (λ row. row.from + length row.words.items ≤ 2 ^ 58) }
+    {
+        let end = self.end();
+        let ClassSet { from, words } = self;
+        match words {
+            Words::Own(words) => {
+                let row = WordRow { from, words };
+                if from <= first && last <= end {
+                    return Ok(row);
+                }
+                ClassSet::of_row(row).copy(alloc, first.min(from), last.max(end))
+            }
+            Words::Shared(chunks) => {
+                let words = Words::Shared(chunks);
+                ClassSet { from, words }.copy(alloc, first.min(from), last.max(end))
+            }
+        }
+    }
+
+    /// The words in a new row that has those from the number `first` to before `last`.
+    fn copy(&self, alloc: Global, first: usize, last: usize) -> Result<WordRow, AllocError>
+        requires from { first ≤ self.now.from }
+        requires end { self.now.from + length self.now.words ≤ last }
+        ensures bits { IfOk result (λ row. (k : ℕ) →
+            class_bit (bits row) k ≡ class_bit self.now k) }
+        ensures from { IfOk result (λ row. row.from ≡ first) }
+        ensures end { IfOk result (λ row. row.from + length row.words.items ≡ last) }
+    {
+        let words = vec![in alloc; 0; last - first]?;
+        let mut row = WordRow { from: first, words };
+        row.combine(Operation::Union, self, self.from, self.end());
+        Ok(row)
     }
 }
 
 impl Clone for ClassSet {
     ghost is_clone = { λ set copy. copy ≡ set };
 
-    /// A copy.
+    /// A copy. One of a set in chunks has the same chunks.
     fn clone(&self) -> Result<ClassSet, AllocError> {
-        let words = self.words.clone()?;
+        let words = match &self.words {
+            Words::Own(words) => Words::Own(words.clone()?),
+            Words::Shared(chunks) => Words::Shared(chunks.clone()?),
+        };
         Ok(ClassSet {
             from: self.from,
             words,

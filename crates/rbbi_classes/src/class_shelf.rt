@@ -2,7 +2,8 @@
 ghost use Rattle.std.specs.Prelude.{◌≡◌, ◌↔◌, ◌<◌, ◌≤◌, ◌+◌, ◌^◌, IfOk, IsTrue, length};
 ghost use Rattle.std.specs.Rc.{rc_slice_items};
 
-use crate::{ClassSet, SharedClasses};
+use crate::ClassSet;
+use rbbi_once::mixed;
 use std::alloc::{AllocError, Global};
 use std::collections::HashMap;
 use std::rc::RcSlice;
@@ -33,20 +34,20 @@ impl ClassShelf {
     }
 
     /// The same set in chunks of the shelf. New chunks are added to the shelf.
-    pub fn keep(&mut self, alloc: Global, set: &ClassSet) -> Result<SharedClasses, AllocError>
+    pub fn keep(&mut self, alloc: Global, set: &ClassSet) -> Result<ClassSet, AllocError>
         ensures { IfOk result (λ kept. kept ≡ set.now) }
     {
         let from = set.from();
-        let words = set.words();
-        let mut chunks = Vec::with_capacity(alloc, words.len() / CHUNK + 2)?;
-        let mut start = 0;
-        'cuts: while start < words.len() {
-            let end = end_of_chunk(from, words, start);
-            let chunk = self.chunk(alloc, &words[start..end])?;
-            chunks.push(chunk)?;
-            start = end;
+        let end = set.end();
+        let mut chunks = Vec::with_capacity(alloc, (end - from) / CHUNK + 2)?;
+        let mut place = from;
+        'cuts: while place < end {
+            let piece = set.piece_at(place);
+            let count = (CHUNK - place % CHUNK).min(end - place).min(piece.len());
+            chunks.push(self.chunk(alloc, &piece[..count])?)?;
+            place += count;
         }
-        SharedClasses::of_chunks(from, chunks)
+        ClassSet::of_chunks(from, chunks)
     }
 
     /// The chunk of these words.
@@ -55,7 +56,7 @@ impl ClassShelf {
     {
         let hash = hash_of(words);
         if let Some(chunk) = self.chunks.get(&hash) {
-            if are_same(chunk.as_slice(), words) {
+            if chunk.as_slice() == words {
                 let copy = chunk.clone()?;
                 return Ok(copy);
             }
@@ -64,33 +65,6 @@ impl ClassShelf {
         self.chunks.insert(hash, chunk.clone()?)?;
         Ok(chunk)
     }
-}
-
-/// The place of the word with which the next chunk begins, or the end of the words, of which the
-/// first one has the number `from`.
-fn end_of_chunk(from: usize, words: &[u64], start: usize) -> usize
-    requires inside { start < length words.now }
-    requires few { from + length words.now ≤ 2 ^ 58 }
-    ensures later { start < result }
-    ensures within { result ≤ length words.now }
-{
-    let end = start + (CHUNK - (from + start) % CHUNK);
-    end.min(words.len())
-}
-
-/// Whether the words are the same.
-fn are_same(left: &[u64], right: &[u64]) -> bool
-    ensures { IsTrue result ↔ (left.now ≡ right.now) }
-{
-    if left.len() != right.len() {
-        return false;
-    }
-    // All words are read, also past a difference, so that many are compared in one step.
-    let mut same = true;
-    for i in 0..left.len() {
-        same &= left[i] == right[i];
-    }
-    same
 }
 
 /// A hash of the words. Those of each four are taken into four numbers, of which none waits for
@@ -111,12 +85,4 @@ fn hash_of(words: &[u64]) -> u64 {
         first = mixed(first, words[i]);
     }
     mixed(mixed(mixed(first, second), third), fourth)
-}
-
-/// A hash with one word more: a product by 2 to the power of 64 over the golden ratio, whose upper
-/// bits, on which all bits of the word tell, come to be the lower ones.
-fn mixed(hash: u64, word: u64) -> u64 {
-    (hash ^ word)
-        .wrapping_mul(0x9E37_79B9_7F4A_7C15)
-        .rotate_left(32)
 }

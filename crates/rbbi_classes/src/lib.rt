@@ -2,23 +2,22 @@
 #![tactic(auto)]
 
 mod character_set;
+mod chunks;
 mod class_members;
 mod class_set;
 mod class_shelf;
 mod division;
 mod layout;
 mod membership;
+mod operation;
 mod pairs;
-mod shared_classes;
 mod steps;
 #[cfg(test)]
 mod tests;
-mod word_chunks;
-mod word_rows;
+mod word_row;
 
 pub use character_set::CharacterSet;
 pub use class_set::ClassSet;
 pub use class_shelf::ClassShelf;
 pub use division::Division;
 pub use layout::Layout;
-pub use shared_classes::SharedClasses;

@@ -5,8 +5,8 @@ ghost use Rattle.rbbi_model.specs.Ranges.{Has};
 ghost use Rattle.rbbi_sets.specs.Rising.{AreRising};
 ghost use Rattle.rbbi_classes.specs.Divisions.{HasDivided};
 
-use crate::class_members::is_set;
-use crate::{ClassSet, Division, SharedClasses};
+use crate::{ClassSet, Division};
+use rbbi_bits::is_set;
 use rbbi_sets::CodeSet;
 use std::alloc::{AllocError, Global};
 
@@ -15,7 +15,7 @@ const LAST: u32 = 0x10_FFFF;
 
 impl Division {
     /// Whether the class of the code point is in the set.
-    pub fn has(&self, set: &SharedClasses, c: u32) -> bool
+    pub fn has(&self, set: &ClassSet, c: u32) -> bool
         ensures { IsTrue result ↔ HasDivided self.now set.now c }
     {
         // By its layout it is known what form the division has.
@@ -50,19 +50,14 @@ impl Division {
 
     /// The characters whose classes are in the set. No class has both characters and surrogates
     /// (0xD800 to 0xDFFF), so the classes of surrogates are left out.
-    pub(crate) fn characters(
-        &self,
-        alloc: Global,
-        set: &SharedClasses,
-    ) -> Result<CodeSet, AllocError>
+    pub(crate) fn characters(&self, alloc: Global, set: &ClassSet) -> Result<CodeSet, AllocError>
         ensures members { IfOk result (λ found. (c : ℕ) →
             Has found c ↔ (HasDivided self.now set.now c × ¬ IsSurrogate c)) }
         ensures form { IfOk result (λ found. AreRising found) }
     {
         let layout = self.layout();
         let surrogates = ClassSet::range(alloc, layout, 0xD800, 0xDFFF)?;
-        let mut rest = set.to_classes(alloc)?;
-        rest.remove(&surrogates);
+        let rest = set.clone()?.remove(alloc, &surrogates)?;
         let found = self.members(alloc, &rest)?;
         Ok(found)
     }

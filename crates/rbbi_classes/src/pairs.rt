@@ -1,6 +1,6 @@
 //! Pairs of numbers, numbered in the order in which they come.
 ghost use Rattle.std.specs.Prelude.{◌≡◌, ◌<◌, ◌^◌, ◌∷◌, [], Some, IfOk, length, slice_get};
-ghost use Rattle.rbbi_classes.specs.inner.Numbering.{AreNumbered, IsNamed, key};
+ghost use Rattle.rbbi_classes.specs.inner.Numbering.{AreIndexed, IsNamed, key};
 
 use std::alloc::{AllocError, Global};
 use std::collections::HashMap;
@@ -26,7 +26,7 @@ impl Pairs {
     pub(crate) fn new(alloc: Global) -> Result<Pairs, AllocError>
         ensures items { IfOk result (λ pairs.
             pairs.items.items ≡ (record { left = 0; right = 0 }) ∷ []) }
-        ensures numbered { IfOk result AreNumbered }
+        ensures numbered { IfOk result AreIndexed }
     {
         let mut pairs = Pairs {
             items: Vec::new(alloc),
@@ -39,12 +39,12 @@ impl Pairs {
     /// The number of a pair: the one that it has, or the next one.
     pub(crate) fn number_of(&mut self, pair: Pair) -> Result<u32, AllocError>
         requires few { length self.old.items.items < 2 ^ 32 }
-        requires numbered { AreNumbered self.old }
+        requires numbered { AreIndexed self.old }
         ensures number { IfOk result (λ number.
             slice_get self.new.items.items number ≡ Some pair) }
         ensures items { IfOk result (λ number.
             IsNamed self.old.items.items self.new.items.items pair number) }
-        ensures numbered { IfOk result (λ number. AreNumbered self.new) }
+        ensures numbered { IfOk result (λ number. AreIndexed self.new) }
     {
         let key = key_of(pair);
         if let Some(number) = self.numbers.get(&key) {

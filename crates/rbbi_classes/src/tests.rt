@@ -20,6 +20,8 @@ struct Case {
     union: Pairs,
     intersect: Pairs,
     minus: Pairs,
+    /// What is in the second set and not in the first.
+    other_minus: Pairs,
 }
 
 const LAST: u32 = 0x10_FFFF;

@@ -4,7 +4,7 @@
 mod hash;
 mod numbered;
 
-pub use hash::{hash_of, mixed};
+pub use hash::mixed;
 pub use numbered::NumberedRows;
 
 #[cfg(test)]

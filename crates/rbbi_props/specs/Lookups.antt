@@ -44,3 +44,10 @@ lookup files name (Some value) =
     if is_well_formed name && is_well_formed value
     then of_ranges (ranges_with files (loose name) (loose value)) (is_category_or_script (loose name)) value
     else None
+
+-- the set is found exactly where there is a test, and its members are the code points that pass
+abbrev pub IsSetOf : Option (List Range) → Option (ℕ → Bool) → Type 0
+IsSetOf None None = Unit {0}
+IsSetOf None (Some test) = ⊥
+IsSetOf (Some set) None = ⊥
+IsSetOf (Some set) (Some test) = AreRising set × ((c : ℕ) → c ≤ 0x10FFFF → Has set c ↔ IsTrue (test c))

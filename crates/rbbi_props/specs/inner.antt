@@ -1,4 +1,3 @@
--- How the code goes about look-ups, runs and lines. No public clause rests on it.
-pub mod Lookups
+-- How the code goes about runs and lines. No public clause rests on it.
 pub mod Refusals
 pub mod RunStarts

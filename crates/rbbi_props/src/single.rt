@@ -6,7 +6,7 @@ ghost use Rattle.unicode.specs.Sets.{in_set};
 ghost use Rattle.rbbi_model.specs.Ranges.{Has};
 ghost use Rattle.rbbi_sets.specs.Rising.{AreRising};
 ghost use Rattle.rbbi_props.specs.Lookups as spec;
-ghost use Rattle.rbbi_props.specs.inner.Lookups.{IsSetOf};
+ghost use Rattle.rbbi_props.specs.Lookups.{IsSetOf};
 
 use crate::loose::is_well_formed;
 use crate::runs::set_of_runs;

@@ -9,7 +9,7 @@ ghost use Rattle.rbbi_props.specs.Rows.{Row, File};
 ghost use Rattle.rbbi_props.specs.Files.{named_file};
 ghost use Rattle.rbbi_props.specs.Refusals.{HasRowsAlone, IsCause};
 ghost use Rattle.rbbi_props.specs.Lookups as spec;
-ghost use Rattle.rbbi_props.specs.inner.Lookups.{IsSetOf};
+ghost use Rattle.rbbi_props.specs.Lookups.{IsSetOf};
 
 use crate::error::PropErr;
 use crate::file::{PropFile, read_file};

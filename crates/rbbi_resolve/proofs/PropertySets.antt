@@ -3,7 +3,7 @@ use Rattle.std.proofs.Common.{◌≡◌, ℕ, ◌+◌, ◌≤◌, Bool, false, L
 use Rattle.rbbi_model.specs.Ranges.{Range, Has}
 use Rattle.rbbi_sets.specs.Rising.{AreRisingFrom}
 use Rattle.rbbi_props.specs.Rows.{File}
-use Rattle.rbbi_props.specs.inner.Lookups.{IsSetOf}
+use Rattle.rbbi_props.specs.Lookups.{IsSetOf}
 use Rattle.rbbi_resolve.specs.SetValues.{property_test, value_of_property}
 use Rattle.rbbi_resolve.specs.inner.SetValues.{IsValue}
 

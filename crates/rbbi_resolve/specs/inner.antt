@@ -16,6 +16,5 @@ pub mod Builders
 pub mod RulesSoFar
 pub mod Questions
 pub mod ClassValues
-pub mod Worths
 pub mod Covered
 pub mod LiteralRuns

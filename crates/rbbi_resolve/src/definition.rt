@@ -19,9 +19,9 @@ use crate::check::{check_expr, check_property, check_set};
 use crate::context::Context;
 use crate::fault::Fault;
 use crate::properties::Properties;
-use crate::set_value::value_of_property;
+use crate::set_value::{copy_of, value_of_property};
 use crate::variables::Kind;
-use rbbi_classes::SharedClasses;
+use rbbi_classes::ClassSet;
 use rbbi_tree::{Atom, Expr, Item, Quant};
 use std::alloc::{AllocError, Global};
 
@@ -60,7 +60,7 @@ fn check_lone(
     properties: &mut Properties,
     least: &mut Option<Fault>,
     expr: &Expr,
-) -> Result<Option<Option<SharedClasses>>, AllocError>
+) -> Result<Option<Option<ClassSet>>, AllocError>
     requires context { IsContext properties.old context.now }
     requires covered { AreCovered properties.old (stand_of context.now)
         (parts_of_expr (expr_tree expr.now)) }
@@ -85,7 +85,7 @@ fn check_lone_atom(
     least: &mut Option<Fault>,
     place: u32,
     atom: &Atom,
-) -> Result<Option<Option<SharedClasses>>, AllocError>
+) -> Result<Option<Option<ClassSet>>, AllocError>
     requires context { IsContext properties.old context.now }
     requires covered { AreCovered properties.old (stand_of context.now)
         (parts_of_item (placed place (atom_tree atom.now) Once)) }
@@ -120,16 +120,6 @@ fn check_lone_atom(
             None => Ok(None),
         },
         Atom::Char { .. } | Atom::Quoted(_) | Atom::Any | Atom::Group(_) => Ok(None),
-    }
-}
-
-/// A copy of a set, if there is one.
-fn copy_of(set: &Option<SharedClasses>) -> Result<Option<SharedClasses>, AllocError>
-    ensures { IfOk result (λ copy. copy ≡ set.now) }
-{
-    match set {
-        Some(set) => Ok(Some(set.clone()?)),
-        None => Ok(None),
     }
 }
 

@@ -21,7 +21,7 @@ use crate::context::Context;
 use crate::fault::Fault;
 use crate::properties::Properties;
 use crate::set_value::value_of_set;
-use rbbi_classes::{CharacterSet, Division, SharedClasses};
+use rbbi_classes::{CharacterSet, ClassSet, Division};
 use rbbi_sets::CodeSet;
 use rbbi_text::Word;
 use rbbi_tree::{Atom, Expr, Item, Seq};
@@ -197,7 +197,7 @@ pub(crate) fn add_value(
 pub(crate) fn add_classes(
     sets: &mut Vec<CharacterSet>,
     division: &Rc<Division>,
-    value: &Option<SharedClasses>,
+    value: &Option<ClassSet>,
 ) -> Result<(), AllocError>
     ensures { OnOk result ((files : List File) (tree : model.SetTree) →
         IsDivision (rc_value division.now)

@@ -16,7 +16,7 @@ use crate::definition::lone_item;
 use crate::leaves::{add_classes, add_leaves};
 use crate::properties::Properties;
 use crate::variables::Kind;
-use rbbi_classes::{CharacterSet, SharedClasses};
+use rbbi_classes::{CharacterSet, ClassSet};
 use rbbi_tree::{Atom, Expr};
 use std::alloc::{AllocError, Global};
 
@@ -56,7 +56,7 @@ pub(crate) fn add_own_leaves(
 }
 
 /// The kept value of an expression that is a set or a property alone.
-fn kept_value<'a>(kind: &'a Kind, expr: &Expr) -> Option<&'a Option<SharedClasses>>
+fn kept_value<'a>(kind: &'a Kind, expr: &Expr) -> Option<&'a Option<ClassSet>>
     ensures kept { IfSome result (λ value. kind.now ≡ Kind.Set value.now) }
     ensures lone { IfSome result (λ value. IsLoneSet (expr_tree expr.now)) }
 {

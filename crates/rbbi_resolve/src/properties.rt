@@ -1,7 +1,7 @@
 //! The sets of properties, each looked up once.
 ghost use Rattle.std.specs.Prelude.{◌≡◌, List, IfOk, IfSome, OnOk, IsTrue};
 ghost use Rattle.std.specs.Rc.{rc_value};
-ghost use Rattle.rbbi_props.specs.inner.Lookups.{IsSetOf};
+ghost use Rattle.rbbi_props.specs.Lookups.{IsSetOf};
 ghost use Rattle.rbbi_resolve.specs.inner.SetValues.{IsValue};
 ghost use Rattle.rbbi_resolve.specs.SetValues.{value_of_property, property_test};
 ghost use Rattle.rbbi_resolve.specs.inner.Questions.{IsRightAnswer};
@@ -11,7 +11,7 @@ ghost use Rattle.std.specs.List.{All};
 
 use crate::question::{Question, key_of, text_of};
 use indexmap::IndexMap;
-use rbbi_classes::{ClassSet, ClassShelf, SharedClasses};
+use rbbi_classes::{ClassSet, ClassShelf};
 use rbbi_props::PropTable;
 use rbbi_sets::CodeSet;
 use rbbi_text::Word;
@@ -123,7 +123,7 @@ impl<'a> Properties<'a> {
         &mut self,
         alloc: Global,
         set: &Option<ClassSet>,
-    ) -> Result<Option<SharedClasses>, AllocError>
+    ) -> Result<Option<ClassSet>, AllocError>
         ensures value { IfOk result (λ kept. kept ≡ set.now) }
         ensures same { self.new ≡ self.old }
     {

@@ -9,7 +9,6 @@ ghost use Rattle.rbbi_tree.specs.declared.syntax.Join as trees;
 ghost use Rattle.rbbi_resolve.specs.SetValues.{joined_to, signed, value_of_set, value_of_item};
 ghost use Rattle.rbbi_resolve.specs.SetValues.{value_of_range, value_of_property};
 ghost use Rattle.rbbi_resolve.specs.inner.ClassValues.{IsClassValue};
-ghost use Rattle.rbbi_resolve.specs.inner.Worths.{classes_of};
 ghost use Rattle.rbbi_resolve.specs.Contexts.{value_of_name};
 ghost use Rattle.rbbi_resolve.specs.Parts.{Within, parts_of_set, parts_of_part};
 ghost use Rattle.rbbi_resolve.specs.declared.fault.FaultKind.TheVariants as kinds;
@@ -23,17 +22,10 @@ use crate::fault::{Fault, FaultKind, note, note_where};
 use crate::properties::Properties;
 use crate::question::key_of;
 use crate::variables::Kind;
-use rbbi_classes::{ClassSet, Layout, SharedClasses};
+use rbbi_classes::{ClassSet, Layout};
 use rbbi_text::Word;
 use rbbi_tree::{Join, SetExpr, SetItem};
 use std::alloc::{AllocError, Global};
-
-/// The value of an item of a set: a set of its own, or the one that a variable keeps.
-#[derive(Debug, Drop)]
-enum Worth<'a> {
-    Own(ClassSet),
-    Kept(&'a SharedClasses),
-}
 
 /// The value of a set; None if a part of it has none. Notes the faults of its parts.
 #[cycle(sets)]
@@ -64,18 +56,18 @@ pub(crate) fn value_of_set(
 
 /// The value of an item of a set, if it has one. Notes its faults.
 #[cycle(sets)]
-fn value_of_item<'a>(
+fn value_of_item(
     alloc: Global,
-    context: &Context<'a>,
+    context: &Context,
     properties: &mut Properties,
     least: &mut Option<Fault>,
     place: u32,
     item: &SetItem,
-) -> Result<Option<Worth<'a>>, AllocError>
+) -> Result<Option<ClassSet>, AllocError>
     requires { IsContext properties.old context.now }
     ensures value { IfOk result (λ value. IsClassValue properties.old (bounds_of context.now)
         (value_of_item properties.old (value_of_name (context_of properties.old context.now))
-        (set_item_tree item.now)) (option_map classes_of value)) }
+        (set_item_tree item.now)) value) }
     ensures noted { OnOk result ((join : trees.Join) → least.new ≡ noted_parts
         (context_of properties.old context.now) least.old
         (parts_of_part (joined place join (set_item_tree item.now)))) }
@@ -85,13 +77,13 @@ fn value_of_item<'a>(
         SetItem::Char(c) => {
             let code = *c as u32;
             let value = ClassSet::range(alloc, context.layout(), code, code)?;
-            Ok(Some(Worth::Own(value)))
+            Ok(Some(value))
         }
         SetItem::Range(first, last) => {
             let value = value_of_range(alloc, context.layout(), least, place, *first, *last)?;
-            Ok(own(value))
+            Ok(value)
         }
-        SetItem::Name(name) => { Ok(value_of_variable(context, least, place, name)) }
+        SetItem::Name(name) => value_of_variable(context, least, place, name),
         SetItem::Prop {
             negated,
             name,
@@ -99,22 +91,12 @@ fn value_of_item<'a>(
         } => {
             let found = value_of_property(alloc, context, properties, *negated, name, value)?;
             note_where(least, found.is_none(), place, FaultKind::UnknownProperty);
-            Ok(own(found))
+            Ok(found)
         }
         SetItem::Set(inner) => {
             let value = value_of_set(alloc, context, properties, least, inner)?;
-            Ok(own(value))
+            Ok(value)
         }
-    }
-}
-
-/// The set as one of its own, if there is one.
-fn own<'a>(value: Option<ClassSet>) -> Option<Worth<'a>>
-    ensures { option_map classes_of result ≡ value }
-{
-    match value {
-        Some(set) => Some(Worth::Own(set)),
-        None => None,
     }
 }
 
@@ -143,41 +125,41 @@ fn value_of_range(
 }
 
 /// The value of a name in a set; notes a fault if it has none.
-fn value_of_variable<'a>(
-    context: &Context<'a>,
+fn value_of_variable(
+    context: &Context,
     least: &mut Option<Fault>,
     place: u32,
     name: &Word,
-) -> Option<Worth<'a>>
-    ensures value { (files : List File) → IsContext files context.now
+) -> Result<Option<ClassSet>, AllocError>
+    ensures value { IfOk result (λ value. (files : List File) → IsContext files context.now
         → IsClassValue files (bounds_of context.now)
-        (value_of_name (context_of files context.now) name.now) (option_map classes_of result) }
-    ensures noted { (files : List File) → IsContext files context.now
+        (value_of_name (context_of files context.now) name.now) value) }
+    ensures noted { OnOk result ((files : List File) → IsContext files context.now
         → least.new ≡ noted_parts (context_of files context.now) least.old
-        (Within place (set_name name.now) ∷ []) }
+        (Within place (set_name name.now) ∷ [])) }
 {
     match context.variable(name) {
         Some(variable) => match &variable.kind {
-            Kind::Set(value) => kept(value),
+            Kind::Set(value) => copy_of(value),
             Kind::Expression(_) => {
                 note(least, place, FaultKind::NotASet);
-                None
+                Ok(None)
             }
         },
         None => {
             note(least, place, FaultKind::Undefined);
-            None
+            Ok(None)
         }
     }
 }
 
-/// The set that a variable keeps, if there is one.
-fn kept(value: &Option<SharedClasses>) -> Option<Worth<'_>>
-    ensures { option_map classes_of result ≡ value.now }
+/// The set that a variable keeps, if there is one, with the same chunks.
+pub(crate) fn copy_of(set: &Option<ClassSet>) -> Result<Option<ClassSet>, AllocError>
+    ensures { IfOk result (λ copy. copy ≡ set.now) }
 {
-    match value {
-        Some(set) => Some(Worth::Kept(set)),
-        None => None,
+    match set {
+        Some(set) => Ok(Some(set.clone()?)),
+        None => Ok(None),
     }
 }
 
@@ -214,31 +196,22 @@ fn join(
     alloc: Global,
     left: Option<ClassSet>,
     join: Join,
-    item: Option<Worth>,
+    item: Option<ClassSet>,
 ) -> Result<Option<ClassSet>, AllocError>
     ensures { IfOk result (λ whole. (files : List File) (bounds : List ℕ)
         (left_tree item_tree : Option model.SetTree) → IsClassValue files bounds left_tree left
-        → IsClassValue files bounds item_tree (option_map classes_of item.entry)
+        → IsClassValue files bounds item_tree item
         → IsClassValue files bounds (joined_to join item_tree left_tree) whole) }
 {
-    let Some(left) = left else {
+    let (Some(left), Some(item)) = (left, item) else {
         return Ok(None);
     };
-    match item {
-        Some(Worth::Own(item)) => {
-            let whole = join_own(alloc, left, join, item)?;
-            Ok(Some(whole))
-        }
-        Some(Worth::Kept(item)) => {
-            let whole = join_kept(alloc, left, join, item)?;
-            Ok(Some(whole))
-        }
-        None => Ok(None),
-    }
+    let whole = join_sets(alloc, left, join, item)?;
+    Ok(Some(whole))
 }
 
 /// `left join item`.
-fn join_own(
+fn join_sets(
     alloc: Global,
     left: ClassSet,
     join: Join,
@@ -250,50 +223,18 @@ fn join_own(
         → IsClassValue files bounds item_tree (Some item)
         → IsClassValue files bounds (joined_to join item_tree left_tree) (Some whole)) }
 {
-    let mut whole = left;
     match join {
         Join::Add => {
-            let either = whole.union(alloc, item)?;
+            let either = left.union(alloc, item)?;
             Ok(either)
         }
         Join::Both => {
-            whole.meet(&item);
-            Ok(whole)
+            let both = left.meet(alloc, &item)?;
+            Ok(both)
         }
         Join::Minus => {
-            whole.remove(&item);
-            Ok(whole)
-        }
-    }
-}
-
-/// `left join item`, for the set of a variable, which is copied only if the result shares its
-/// chunks.
-fn join_kept(
-    alloc: Global,
-    left: ClassSet,
-    join: Join,
-    item: &SharedClasses,
-) -> Result<ClassSet, AllocError>
-    ensures { IfOk result (λ whole. (files : List File) (bounds : List ℕ)
-        (left_tree item_tree : Option model.SetTree)
-        → IsClassValue files bounds left_tree (Some left)
-        → IsClassValue files bounds item_tree (Some item.now)
-        → IsClassValue files bounds (joined_to join item_tree left_tree) (Some whole)) }
-{
-    let mut whole = left;
-    match join {
-        Join::Add => {
-            let either = whole.union_shared(alloc, item)?;
-            Ok(either)
-        }
-        Join::Both => {
-            whole.meet_shared(item);
-            Ok(whole)
-        }
-        Join::Minus => {
-            whole.remove_shared(item);
-            Ok(whole)
+            let rest = left.remove(alloc, &item)?;
+            Ok(rest)
         }
     }
 }
@@ -309,11 +250,12 @@ fn with_sign(
         → IsClassValue files layout.now tree set
         → IsClassValue files layout.now (option_map (signed negated) tree) whole) }
 {
-    let Some(mut whole) = set else {
+    let Some(whole) = set else {
         return Ok(None);
     };
     if negated {
-        whole.negate(alloc, layout)?;
+        let others = whole.negate(alloc, layout)?;
+        return Ok(Some(others));
     }
     Ok(Some(whole))
 }

@@ -2,7 +2,7 @@
 ghost use Rattle.std.specs.Prelude.{◌≡◌, ◌≤◌};
 
 use indexmap::IndexMap;
-use rbbi_classes::SharedClasses;
+use rbbi_classes::ClassSet;
 
 /// The cap of leaf counts: one more than rules may have.
 pub(crate) const MANY_LEAVES: u32 = 8193;
@@ -25,7 +25,7 @@ pub(crate) struct Summary {
 #[derive(Debug, Drop)]
 pub(crate) enum Kind {
     /// A set; None if it has no value, since a variable or a part in it is faulty.
-    Set(Option<SharedClasses>),
+    Set(Option<ClassSet>),
     /// An expression that is no set.
     Expression(Summary),
 }

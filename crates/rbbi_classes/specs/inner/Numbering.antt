@@ -13,7 +13,7 @@ abbrev pub key : Pair → ℕ
 key pair = pair.left * 0x100000000 + pair.right
 
 -- the map has the place of each pair at its key, and no other keys
-pub record AreNumbered (pairs : Pairs) : Type 0 where
+pub record AreIndexed (pairs : Pairs) : Type 0 where
   pub found : (n : ℕ) (pair : Pair) → slice_get pairs.items.items n ≡ Some pair → hash.get nat_eq pairs.numbers (key pair) ≡ Some n
   pub named : (k n : ℕ) → hash.get nat_eq pairs.numbers k ≡ Some n →
       (pair : Pair) × (slice_get pairs.items.items n ≡ Some pair) × (key pair ≡ k) × (pair.right < 0x100000000)

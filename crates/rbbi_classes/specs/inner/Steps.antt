@@ -1,25 +1,25 @@
--- Step functions: in which order their numbers come, and which sets they tell apart.
+-- Step functions: the order in which their values first come, and the partition by sets that they are.
 use Rattle.std.specs.Prelude.{◌≡◌, ◌↔◌, ℕ, ◌+◌, ◌<◌, ◌≤◌, nat_le, List, [], ◌∷◌, length, slice_index_or, if◌then◌else◌}
 use Rattle.std.specs.List.{Contains}
 use Rattle.rbbi_model.specs.Ranges.{Range, Has}
 use Rattle.rbbi_classes.specs.declared.steps.Step.{Step}
 use Rattle.rbbi_classes.specs.Steps.{number_at}
 
--- a number that comes for the first time is the least one that hasn't come; those less than `next` have
+-- each value that comes for the first time is the least one that hasn't come; those less than `next` have
 abbrev pub HasRestrictedGrowthFrom : ℕ → List Step → Type 0
 HasRestrictedGrowthFrom next [] = Unit {0}
 HasRestrictedGrowthFrom next (step ∷ steps) = (step.number ≤ next) × HasRestrictedGrowthFrom (if nat_le next step.number then step.number + 1 else next) steps
 
--- numbers come for the first time in their order, 0 before the first step
+-- values first come in their order, 0 before the first step (restricted growth)
 abbrev pub HasRestrictedGrowth : List Step → Type 0
 HasRestrictedGrowth steps = HasRestrictedGrowthFrom 1 steps
 
--- code points of one number are in the same of these sets
+-- the step function refines the partition by these sets: where it has one value, code points are in the same sets
 abbrev pub Separate : List Step → List (List Range) → Type 0
 Separate steps sets =
     (c d : ℕ) → c ≤ 0x10FFFF → d ≤ 0x10FFFF → number_at steps c ≡ number_at steps d → (set : List Range) → Contains sets set → Has set c → Has set d
 
--- code points that are in the same of these sets have one number
+-- the partition by these sets refines the step function: where code points are in the same sets, it has one value
 abbrev pub DontSeparateMore : List Step → List (List Range) → Type 0
 DontSeparateMore steps sets =
     (c d : ℕ) → c ≤ 0x10FFFF → d ≤ 0x10FFFF → ((set : List Range) → Contains sets set → Has set c ↔ Has set d) → number_at steps c ≡ number_at steps d

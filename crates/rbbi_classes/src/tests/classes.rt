@@ -1,6 +1,6 @@
 //! Sets of classes, from ranges and back.
 use super::{Case, LAST, Pairs, is_list, set_of};
-use crate::{ClassSet, ClassShelf, Division, Layout, SharedClasses};
+use crate::{ClassSet, ClassShelf, Division, Layout};
 use std::alloc::{AllocError, Global};
 use std::test::Fail;
 
@@ -137,21 +137,20 @@ fn sets_of_a_division(rt: HostRuntime) -> Result<(), Fail> {
 
 /// The letters that are no hexadecimal digits.
 fn other_letters(alloc: Global, layout: &Layout) -> Result<ClassSet, AllocError> {
-    let mut letters = classes_of(alloc, layout, SETS[1])?;
+    let letters = classes_of(alloc, layout, SETS[1])?;
     let digits = classes_of(alloc, layout, SETS[2])?;
-    letters.remove(&digits);
-    Ok(letters)
+    letters.remove(alloc, &digits)
 }
 
 #[test]
 fn sets_made_of_others(rt: HostRuntime) -> Result<(), Fail> {
     let division = division_by(rt.alloc(), &SETS)?;
-    let mut letters = other_letters(rt.alloc(), division.layout())?;
+    let letters = other_letters(rt.alloc(), division.layout())?;
     let want: Pairs = &[(0x47, 0x5A), (0x67, 0x7A)];
     assert!(rt; are(rt.alloc(), &division, &letters, want)?);
-    letters.negate(rt.alloc(), division.layout())?;
+    let others = letters.negate(rt.alloc(), division.layout())?;
     let want: Pairs = &[(0, 0x46), (0x5B, 0x66), (0x7B, LAST)];
-    assert!(rt; are(rt.alloc(), &division, &letters, want)?);
+    assert!(rt; are(rt.alloc(), &division, &others, want)?);
     Ok(())
 }
 
@@ -182,68 +181,64 @@ fn members_of_shared_classes(rt: HostRuntime) -> Result<(), Fail> {
     Ok(())
 }
 
-/// Whether what is in either set is this.
-fn is_union(
+/// Whether union, intersection and difference of two sets are what the case says.
+fn is_case(
     alloc: Global,
     division: &Division,
     left: &ClassSet,
     right: &ClassSet,
-    want: &[(u32, u32)],
+    case: &Case,
 ) -> Result<bool, AllocError> {
-    let mut union = left.clone()?;
-    union.add(alloc, right)?;
-    are(alloc, division, &union, want)
+    let union = left.clone()?.union(alloc, right.clone()?)?;
+    let both = left.clone()?.meet(alloc, right)?;
+    let rest = left.clone()?.remove(alloc, right)?;
+    Ok(
+        are(alloc, division, &union, case.union)?
+            && are(alloc, division, &both, case.intersect)?
+            && are(alloc, division, &rest, case.minus)?,
+    )
 }
 
-/// Whether what is in both sets is this.
-fn is_meet(
+/// The same with each of the sets in a row of its own and in chunks, and the other way round with
+/// what is left of the second set.
+fn is_case_in_all_forms(
     alloc: Global,
     division: &Division,
-    left: &ClassSet,
-    right: &ClassSet,
-    want: &[(u32, u32)],
+    case: &Case,
 ) -> Result<bool, AllocError> {
-    let mut both = left.clone()?;
-    both.meet(right);
-    are(alloc, division, &both, want)
-}
-
-/// Whether what is in the first set alone is this.
-fn is_rest(
-    alloc: Global,
-    division: &Division,
-    left: &ClassSet,
-    right: &ClassSet,
-    want: &[(u32, u32)],
-) -> Result<bool, AllocError> {
-    let mut rest = left.clone()?;
-    rest.remove(right);
-    are(alloc, division, &rest, want)
-}
-
-/// Whether each operation gives what the case says, and those that may be turned give it turned
-/// too.
-fn is_case(alloc: Global, division: &Division, case: &Case) -> Result<bool, AllocError> {
     let left = classes_of(alloc, division.layout(), case.left)?;
     let right = classes_of(alloc, division.layout(), case.right)?;
+    let mut shelf = ClassShelf::new(alloc);
+    let kept_left = shelf.keep(alloc, &left)?;
+    let kept_right = shelf.keep(alloc, &right)?;
+    let other_way = Case {
+        left: case.right,
+        right: case.left,
+        union: case.union,
+        intersect: case.intersect,
+        minus: case.other_minus,
+        other_minus: case.minus,
+    };
     Ok(
-        is_union(alloc, division, &left, &right, case.union)?
-            && is_union(alloc, division, &right, &left, case.union)?
-            && is_meet(alloc, division, &left, &right, case.intersect)?
-            && is_meet(alloc, division, &right, &left, case.intersect)?
-            && is_rest(alloc, division, &left, &right, case.minus)?,
+        is_case(alloc, division, &left, &right, case)?
+            && is_case(alloc, division, &left, &kept_right, case)?
+            && is_case(alloc, division, &kept_left, &right, case)?
+            && is_case(alloc, division, &right, &left, &other_way)?
+            && is_case(alloc, division, &right, &kept_left, &other_way)?
+            && is_case(alloc, division, &kept_right, &kept_left, &other_way)?,
     )
 }
 
 #[test]
 fn operations(rt: HostRuntime) -> Result<(), Fail> {
-    let cases: [Case; 8] = [
+    let cases: [Case; 9] = [
         Case {
             left: &[],
             right: &[(1999, LAST)],
             union: &[(1999, LAST)],
             intersect: &[],
             minus: &[],
+            other_minus: &[(1999, LAST)],
         },
         Case {
             left: &[(1999, 1999)],
@@ -251,6 +246,7 @@ fn operations(rt: HostRuntime) -> Result<(), Fail> {
             union: &[(1999, LAST)],
             intersect: &[],
             minus: &[(1999, 1999)],
+            other_minus: &[(2000, LAST)],
         },
         // Words of 64 classes that both have, with words between that are 0.
         Case {
@@ -259,6 +255,7 @@ fn operations(rt: HostRuntime) -> Result<(), Fail> {
             union: &[(64, 130), (1000, 1100)],
             intersect: &[(70, 70), (1005, 1010)],
             minus: &[(1000, 1004)],
+            other_minus: &[(64, 69), (71, 130), (1011, 1100)],
         },
         // The words of the one lie between those of the other.
         Case {
@@ -267,6 +264,7 @@ fn operations(rt: HostRuntime) -> Result<(), Fail> {
             union: &[(0, 63), (640, 703), (1280, 1343)],
             intersect: &[],
             minus: &[(640, 703)],
+            other_minus: &[(0, 63), (1280, 1343)],
         },
         Case {
             left: &[(0, 1999)],
@@ -274,6 +272,7 @@ fn operations(rt: HostRuntime) -> Result<(), Fail> {
             union: &[(0, 1999)],
             intersect: &[(500, 600)],
             minus: &[(0, 499), (601, 1999)],
+            other_minus: &[],
         },
         // All words of the one come before those of the other.
         Case {
@@ -282,6 +281,7 @@ fn operations(rt: HostRuntime) -> Result<(), Fail> {
             union: &[(3, 4), (1500, 1501)],
             intersect: &[],
             minus: &[(1500, 1501)],
+            other_minus: &[(3, 4)],
         },
         // Classes at the ends of words.
         Case {
@@ -290,6 +290,7 @@ fn operations(rt: HostRuntime) -> Result<(), Fail> {
             union: &[(0, 0), (63, 64), (127, 128)],
             intersect: &[(64, 64), (128, 128)],
             minus: &[(0, 0)],
+            other_minus: &[(63, 63), (127, 127)],
         },
         Case {
             left: &[(100, 299), (900, 999)],
@@ -297,95 +298,50 @@ fn operations(rt: HostRuntime) -> Result<(), Fail> {
             union: &[(100, 999)],
             intersect: &[(200, 299), (900, 949)],
             minus: &[(100, 199), (950, 999)],
+            other_minus: &[(300, 899)],
+        },
+        // The words 1 to 148, in chunks that end before the words 64 and 128, and others before
+        // them, across the ends of chunks, and past the last one.
+        Case {
+            left: &[
+                (0, 63),
+                (4000, 4200),
+                (8191, 8191),
+                (9000, 9001),
+                (9999, LAST),
+            ],
+            right: &[(100, 110), (4090, 4100), (8190, 8195), (9001, 9500)],
+            union: &[
+                (0, 63),
+                (100, 110),
+                (4000, 4200),
+                (8190, 8195),
+                (9000, 9500),
+                (9999, LAST),
+            ],
+            intersect: &[(4090, 4100), (8191, 8191), (9001, 9001)],
+            minus: &[
+                (0, 63),
+                (4000, 4089),
+                (4101, 4200),
+                (9000, 9000),
+                (9999, LAST),
+            ],
+            other_minus: &[(100, 110), (8190, 8190), (8192, 8195), (9002, 9500)],
         },
     ];
-    let division = fine_division(rt.alloc(), 2000)?;
+    let division = fine_division(rt.alloc(), 10_000)?;
     for case in &cases {
         let first = if case.left.is_empty() {
             0
         } else {
             case.left[0].0
         };
-        assert!(rt; is_case(rt.alloc(), &division, case)?, "{first}");
+        assert!(rt;
+            is_case_in_all_forms(rt.alloc(), &division, case)?,
+            "{first}"
+        );
     }
-    Ok(())
-}
-
-/// The words 1 to 148, in chunks that end before the words 64 and 128.
-const CHUNKS: Pairs = &[(100, 110), (4090, 4100), (8190, 8195), (9001, 9500)];
-
-/// The same ranges, with some before, across the ends of chunks, and past the last chunk.
-const ACROSS: Pairs = &[
-    (0, 63),
-    (4000, 4200),
-    (8191, 8191),
-    (9000, 9001),
-    (9999, LAST),
-];
-
-/// A set in chunks.
-fn kept_classes(alloc: Global, layout: &Layout) -> Result<SharedClasses, AllocError> {
-    let classes = classes_of(alloc, layout, CHUNKS)?;
-    ClassShelf::new(alloc).keep(alloc, &classes)
-}
-
-#[test]
-fn union_with_shared_classes(rt: HostRuntime) -> Result<(), Fail> {
-    let division = fine_division(rt.alloc(), 10_000)?;
-    let kept = kept_classes(rt.alloc(), division.layout())?;
-    let mut union = classes_of(rt.alloc(), division.layout(), ACROSS)?;
-    union.add_shared(rt.alloc(), &kept)?;
-    let want: Pairs = &[
-        (0, 63),
-        (100, 110),
-        (4000, 4200),
-        (8190, 8195),
-        (9000, 9500),
-        (9999, LAST),
-    ];
-    assert!(rt; are(rt.alloc(), &division, &union, want)?);
-    Ok(())
-}
-
-#[test]
-fn meet_with_shared_classes(rt: HostRuntime) -> Result<(), Fail> {
-    let division = fine_division(rt.alloc(), 10_000)?;
-    let kept = kept_classes(rt.alloc(), division.layout())?;
-    let mut both = classes_of(rt.alloc(), division.layout(), ACROSS)?;
-    both.meet_shared(&kept);
-    let want: Pairs = &[(4090, 4100), (8191, 8191), (9001, 9001)];
-    assert!(rt; are(rt.alloc(), &division, &both, want)?);
-    Ok(())
-}
-
-#[test]
-fn rest_without_shared_classes(rt: HostRuntime) -> Result<(), Fail> {
-    let division = fine_division(rt.alloc(), 10_000)?;
-    let kept = kept_classes(rt.alloc(), division.layout())?;
-    let mut rest = classes_of(rt.alloc(), division.layout(), ACROSS)?;
-    rest.remove_shared(&kept);
-    let want: Pairs = &[
-        (0, 63),
-        (4000, 4089),
-        (4101, 4200),
-        (9000, 9000),
-        (9999, LAST),
-    ];
-    assert!(rt; are(rt.alloc(), &division, &rest, want)?);
-    Ok(())
-}
-
-#[test]
-fn fewer_words_than_shared_classes(rt: HostRuntime) -> Result<(), Fail> {
-    let division = fine_division(rt.alloc(), 10_000)?;
-    let kept = kept_classes(rt.alloc(), division.layout())?;
-    let mut one = classes_of(rt.alloc(), division.layout(), &[(4095, 4096)])?;
-    one.meet_shared(&kept);
-    assert!(rt; are(rt.alloc(), &division, &one, &[(4095, 4096)])?);
-    one.remove_shared(&kept);
-    assert!(rt; are(rt.alloc(), &division, &one, &[])?);
-    one.add_shared(rt.alloc(), &kept)?;
-    assert!(rt; are(rt.alloc(), &division, &one, CHUNKS)?);
     Ok(())
 }
 
@@ -396,11 +352,10 @@ fn is_complement(
     of: &[(u32, u32)],
     want: &[(u32, u32)],
 ) -> Result<bool, AllocError> {
-    let mut classes = classes_of(alloc, division.layout(), of)?;
-    classes.negate(alloc, division.layout())?;
-    let is_wanted = are(alloc, division, &classes, want)?;
-    classes.negate(alloc, division.layout())?;
-    Ok(is_wanted && are(alloc, division, &classes, of)?)
+    let classes = classes_of(alloc, division.layout(), of)?;
+    let others = classes.negate(alloc, division.layout())?;
+    let again = others.negate(alloc, division.layout())?;
+    Ok(are(alloc, division, &others, want)? && are(alloc, division, &again, of)?)
 }
 
 #[test]
@@ -427,10 +382,12 @@ fn characters_in(
     of: &[(u32, u32)],
 ) -> Result<(bool, bool), AllocError> {
     let layout = division.layout();
-    let mut classes = classes_of(alloc, layout, of)?;
-    let some = classes.holds_character(layout);
-    classes.negate(alloc, layout)?;
-    Ok((some, classes.holds_character(layout)))
+    let classes = classes_of(alloc, layout, of)?;
+    let others = classes.negate(alloc, layout)?;
+    Ok((
+        classes.holds_character(layout),
+        others.holds_character(layout),
+    ))
 }
 
 #[test]

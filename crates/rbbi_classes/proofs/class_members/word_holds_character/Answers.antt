@@ -1,6 +1,5 @@
 -- A class that a character begins ends the walk, and another one that the set has is begun by a surrogate.
 use Rattle.std.proofs.Common.{◌<◌, ◌+◌, ◌*◌, ◌⊎◌, sym, ◌∙◌, inl, inr, arith}
-use Rattle.std.proofs.lemmas.Bool.{false≢true}
 use Rattle.rbbi_classes.proofs.ClassBounds.{class-within}
 use Rattle.rbbi_classes.proofs.ClassWalks.{class-of-bit, no-class-of-bit, surrogates-skip, surrogates-join, surrogates-class, character-of-class}
 use Rattle.rbbi_classes.proofs.class_members.word_holds_character.Goals as goal
@@ -20,8 +19,7 @@ loop-bit-preserved c =
           (omega arith) (omega arith))
       | else-is_set w ↦
           surrogates-skip bounds set first (first + bit) (first + (bit + 1)) c.loop-bit.invariant
-          (no-class-of-bit set c.args.i bit c.word-word.result small c.word-word.ensures bounds
-          (λ one. false≢true (sym w.if-is_set.false ∙ c.is_set.ensures.1 one)))
+          (no-class-of-bit set c.args.i bit c.word-word.result small c.word-word.ensures bounds (sym c.is_set.ensures ∙ w.if-is_set.false))
     ]
 
 pub returns-then-c-lt55296-clause-some : goal.returns-then-c-lt55296-clause-some
@@ -30,7 +28,7 @@ returns-then-c-lt55296-clause-some c = λ t.
     let set = c.args.set.now in
     let bit = c.loop-bit.bit in
     let class = 64 * c.args.i + bit in
-    let has = class-of-bit set c.args.i bit c.word-word.result (omega arith) c.word-word.ensures (c.is_set.ensures.0 c.if-is_set.true) in
+    let has = class-of-bit set c.args.i bit c.word-word.result (omega arith) c.word-word.ensures (sym c.is_set.ensures ∙ c.if-is_set.true) in
     let some : (c.first_of-c.result < 0xD800) ⊎ (0xDFFF < c.first_of-c.result) =
     elim c.then-c-lt55296.either [ inl before ↦ inl before | inr behind ↦ inr behind.1 ] in
     character-of-class bounds c.first_of-c.ensures.form set class c.first_of-c.result c.first_of-c.ensures.value (omega arith) has some

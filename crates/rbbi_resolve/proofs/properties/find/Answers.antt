@@ -1,5 +1,5 @@
 use Rattle.std.proofs.Common.{refl, subst}
-use Rattle.rbbi_props.specs.inner.Lookups.{IsSetOf}
+use Rattle.rbbi_props.specs.Lookups.{IsSetOf}
 use Rattle.rbbi_resolve.specs.SetValues.{property_test}
 use Rattle.rbbi_resolve.proofs.PropertySets.{value_of_found}
 use Rattle.rbbi_resolve.proofs.properties.find.Goals as goal

@@ -1,4 +1,4 @@
-use Rattle.std.proofs.Common.{◌≡◌, is_none, option_map, sym, ap, ◌∙◌, arith, rules}
+use Rattle.std.proofs.Common.{◌≡◌, is_none, sym, ap, ◌∙◌, arith, rules}
 use Rattle.rbbi_tree.specs.Trees.{joined, set_property, set_within}
 use Rattle.rbbi_tree.specs.Values.{set_tree, set_item_tree}
 use Rattle.rbbi_resolve.specs.declared.fault.FaultKind.TheVariants as kinds
@@ -6,7 +6,6 @@ use Rattle.rbbi_resolve.specs.Parts.{parts_of_part}
 use Rattle.rbbi_resolve.specs.Faults.{noted, faults_where}
 use Rattle.rbbi_resolve.specs.inner.Faults.{noted_parts}
 use Rattle.rbbi_resolve.specs.inner.Contexts.{bounds_of, context_of}
-use Rattle.rbbi_resolve.specs.inner.Worths.{classes_of}
 use Rattle.rbbi_resolve.proofs.ItemTrees.{of_property, of_inner}
 use Rattle.rbbi_resolve.proofs.Kept.{files_stay}
 use Rattle.rbbi_resolve.proofs.Named.{within_noted, known_classes, property_noted}
@@ -25,7 +24,7 @@ value_of_set-loop-part-init t c = folding_starts c.args.properties.now _ _ c.arg
 pub value_of_set-loop-part-preserved : goal.value_of_set-loop-part-preserved
 value_of_set-loop-part-preserved t c =
     folding_turn (λ files. context_of files c.args.context.now) c.args.properties.now (bounds_of c.args.context.now) c.args.least.now _ c.loop-part.whole
-    (option_map classes_of c.in_ok-item.item) c.in_ok-whole.whole c.loop-part.least c.value_of_item.new.least c.loop-part.properties
+    c.in_ok-item.item c.in_ok-whole.whole c.loop-part.least c.value_of_item.new.least c.loop-part.properties
     c.value_of_item.new.properties
     c.deref-part-items.result.now c.loop-part.part-index c.part-item.result (omega arith) c.part-item.is c.loop-part.invariant
     (record { value = c.in_ok-item.ensures.value; noted = c.in_ok-item.ensures.noted; same = c.in_ok-item.ensures.same }) c.in_ok-whole.ensures

@@ -12,5 +12,5 @@ loop-range-preserved c =
     let i = c.loop-range.range-index in
     let within : Range → Type 0 = λ r. (code : ℕ) → IsFirstOfClass bounds code → HasMember bounds c.in_ok-more.more code ↔ InRange r code in
     let more = subst within c.range.view_is c.in_ok-more.ensures in
-    classes-more bounds c.loop-range.classes c.in_ok-more.more c.add.new.self ranges i c.range-item.result (omega arith) c.range-item.is
-    c.loop-range.invariant more (c.in_ok-add.ensures.members bounds)
+    classes-more bounds c.loop-range.classes c.in_ok-more.more c.in_ok-classes.classes ranges i c.range-item.result (omega arith) c.range-item.is
+    c.loop-range.invariant more (c.in_ok-classes.ensures bounds)

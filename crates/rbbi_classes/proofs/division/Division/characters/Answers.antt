@@ -17,8 +17,8 @@ returns-clause-members c =
     λ code.
     let at : ℕ = stand_in division code in
     let own = c.in_ok-found.ensures.members code in
-    let rest = c.remove.ensures division.bounds at in
-    let same : c.in_ok-rest.rest ≡ c.args.set.now = c.in_ok-rest.ensures in
+    let rest = c.in_ok-rest.ensures division.bounds at in
+    let same : c.in_ok-clone.field-0 ≡ c.args.set.now = c.in_ok-clone.ensures.cases in
     let Has_it : ClassBits → Type 0 = λ set. HasMember division.bounds set at in (
       λ h.
           let had = own.0 h in
