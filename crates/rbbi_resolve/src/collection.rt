@@ -51,6 +51,7 @@ impl Collection {
         ensures keeps { OnOk result ((base : List Range) → Contains self.old.bases.items base
             → Contains self.new.bases.items base) }
         ensures added { OnOk result (HasSingle self.new.bases.items c) }
+        ensures singled { OnOk result (AreSingled self.new.bases.items self.new.characters.items) }
         ensures kept { OnOk result ((files : List File) → IsCollection files self.old
             → IsCollection files self.new) }
     {

@@ -97,9 +97,18 @@ fn add_leaves_of_item(
     ensures same { properties.new ≡ properties.old }
 {
     match &item.atom {
-        Atom::Char { c, .. } => add_character(alloc, context, properties, rows, *c),
-        Atom::Quoted(word) => add_word(alloc, context, properties, rows, word),
-        Atom::Any => add_any(alloc, context, properties, rows),
+        Atom::Char { c, .. } => {
+            add_character(alloc, context, properties, rows, *c)?;
+            Ok(())
+        }
+        Atom::Quoted(word) => {
+            add_word(alloc, context, properties, rows, word)?;
+            Ok(())
+        }
+        Atom::Any => {
+            add_any(alloc, context, properties, rows)?;
+            Ok(())
+        }
         Atom::Name(_) => Ok(()),
         Atom::Prop {
             negated,
