@@ -2,7 +2,7 @@
 use Rattle.std.proofs.Common.{◌≡◌, ℕ, ◌+◌, ◌<◌, ◌≤◌, ⊎_elim, inl, inr, Bool, false, true, not, Option, Some, List, [], ◌∷◌, ◌++◌, map, length}
 use Rattle.std.proofs.Common.{drop, get_or, sym, refl, ap, ◌∙◌, subst, arith, ◌↔◌}
 use Rattle.std.specs.List.{AllZip}
-use Rattle.std.proofs.lemmas.List.{append_assoc, append-nil}
+use Rattle.std.proofs.lemmas.List.{append_assoc, append-nil, map-append}
 use Rattle.std.proofs.Math.Utf8.{scalar, scalar_cases}
 use Rattle.rbbi_model.specs.Words.{IsSurrogate, IsCharacter}
 use Rattle.rbbi_model.specs.Ranges.{Range, Has}
@@ -18,9 +18,11 @@ use Rattle.rbbi_tree.specs.declared.syntax.Seq.{Seq}
 use Rattle.rbbi_tree.specs.declared.syntax.Item.{Item}
 use Rattle.rbbi_classes.specs.Classes.{ClassBits}
 use Rattle.rbbi_classes.specs.Divisions.{ClassDivision, IsDivision, HasDivided, stand_in}
-use Rattle.rbbi_classes.proofs.FirstCodePoints.{stand-in_is_first}
+use Rattle.rbbi_classes.specs.CharacterSets.{is_character_of, characters_of}
+use Rattle.rbbi_classes.proofs.CharacterMembers.{has-characters}
+use Rattle.rbbi_classes.proofs.FirstCodePoints.{stand-in_is_first, stand-in_is_point}
+use Rattle.rbbi_classes.proofs.RangesWhere.{ranges_where-rises}
 use Rattle.rbbi_resolve.specs.inner.Covered.{Respects}
-use Rattle.rbbi_resolve.specs.inner.SetValues.{HasMembers}
 use Rattle.rbbi_resolve.specs.SetValues.{HasProperty, value_of_property, value_of_set}
 use Rattle.rbbi_resolve.specs.inner.ClassValues.{AreClassesOf}
 use Rattle.rbbi_resolve.specs.Emptiness.{holds_character}
@@ -29,27 +31,10 @@ use Rattle.rbbi_resolve.specs.Parts.{Part, Outside, parts_of_expr, parts_of_seq,
 use Rattle.rbbi_resolve.specs.Faults.{faults_of_parts, is_empty_value}
 use Rattle.rbbi_resolve.specs.inner.Soundness.{AreSound}
 use Rattle.rbbi_resolve.specs.inner.OwnLeaves.{IsSetOfLeaf, AddsLeaves, set_or_nothing, leaves_of_expr, leaves_of_seq, leaves_of_item}
-use Rattle.rbbi_resolve.proofs.PropertySets.{members_are_code_points}
-use Rattle.rbbi_resolve.proofs.Characters.{character_of, held_character}
+use Rattle.rbbi_resolve.proofs.Characters.{held_character, character_held, in_set_takes}
+use Rattle.rbbi_resolve.proofs.Covering.{nothing_respects, signed_respects}
 use Rattle.rbbi_resolve.proofs.Counting.{exprs_left, seqs_left}
 use Rattle.rbbi_resolve.proofs.Sound.{faultless_first, faultless_second, faultless_part, known_there, set_there}
-
--- the characters of a set that holds one are those of a leaf
-pub of_members : (files : List File) (tree : model.SetTree) (whole set : List Range) → HasMembers files tree whole → AreRising set →
-    ((c : ℕ) → (Has set c → Has whole c × ¬ IsSurrogate c) × (Has whole c × ¬ IsSurrogate c → Has set c)) →
-    ((c : ℕ) × Has whole c × ¬ IsSurrogate c) → IsSetOfLeaf files tree set
-of_members files tree whole set is rising same w =
-    record {
-      of_leaf = record {
-        rising = rising;
-        members = λ c. (λ h. ((is.members c).0 ((same c).0 h).0, ((same c).0 h).1), λ b. (same c).1 ((is.members c).1 b.0, b.1));
-      };
-      form = record {
-        rising = rising;
-        some = (w.0, (same w.0).1 (w.1, w.2));
-        characters = λ c h. (members_are_code_points 0 set rising c h, ((same c).0 h).1);
-      };
-    }
 
 -- one more
 pub one_leaf : (files : List File) (tree : model.SetTree) (set : List Range) (before after : List (List Range)) → after ≡ before ++ set ∷ [] →
@@ -85,25 +70,10 @@ is_character c e =
     (λ (h : (57344 ≤ c) × (c < 1114112)). (omega (arith, h.1), λ s. omega (arith, s.1, h.0)))
     (scalar_cases c e)
 
--- a character's set
-pub of_character : (files : List File) (c : ℕ) → c ≤ 0x10FFFF → HasMembers files (model.Character c) (record { low = c; high = c } ∷ [])
-of_character files c low =
-    record {
-      rising = (omega arith, omega arith, low, tt);
-      members = λ d. (λ h. elim h [ inl r ↦ let a = r.0 in let b = r.1 in omega arith | inr n ↦ absurd n ], λ e. inl (omega arith, omega arith));
-    }
-
-pub in_character : (c : ℕ) → Has (record { low = c; high = c } ∷ []) c
-in_character c = inl (omega arith, omega arith)
-
 -- a value that isn't empty holds a character
 holds : (files : List File) (tree : model.SetTree) → is_empty_value files (Some tree) ≡ false → holds_character files tree ≡ true
 holds files tree e =
     elim (holds_character files tree) as (λ b. not b ≡ false → b ≡ true) [ true ↦ λ n. refl | false ↦ λ n. absurd cc ] e
-
-pub filled_value : (files : List File) (tree : model.SetTree) (set : List Range) → HasMembers files tree set → is_empty_value files (Some tree) ≡ false →
-    (c : ℕ) × Has set c × ¬ IsSurrogate c
-filled_value files tree set is e = character_of files tree set is (holds files tree e)
 
 -- the characters of classes that hold one are those of a leaf, where its set has all or nothing of each
 pub of_classes : (files : List File) (division : ClassDivision) (tree : model.SetTree) (classes : ClassBits) (set : List Range) → IsDivision division →
@@ -131,6 +101,31 @@ of_classes files division tree classes set divides is respects e rising same =
     dividing c h =
         let low = respects.low c h in
         (low, (is (stand_in division c) (stand-in_is_first division divides c low)).1 ((respects.same c low).0 h))
+
+-- one more row, of such classes
+pub row_added : (files : List File) (division : ClassDivision) (tree : model.SetTree) (classes : ClassBits) (before after : List ClassBits) →
+    after ≡ before ++ classes ∷ [] → IsDivision division → AreClassesOf files division.bounds tree classes → Respects files (stand_in division) tree →
+    is_empty_value files (Some tree) ≡ false →
+    AddsLeaves files (tree ∷ []) (map (characters_of division) before) (map (characters_of division) after)
+row_added files division tree classes before after is divides own respects filled =
+    one_leaf files tree (characters_of division classes) _ _
+    (ap (map (characters_of division)) is ∙ map-append (characters_of division) before (classes ∷ []))
+    (of_classes files division tree classes (characters_of division classes) divides own respects filled
+    (ranges_where-rises (is_character_of division classes)) (has-characters division classes))
+
+-- a character and all code points aren't empty
+pub character_filled : (files : List File) (c : ℕ) → IsCharacter c → is_empty_value files (Some (model.Character c)) ≡ false
+character_filled files c is = ap not (character_held files (model.Character c) c is.0 is.1 (in_set_takes files (model.Character c) c refl))
+
+pub any_filled : (files : List File) → is_empty_value files (Some (model.Others model.Nothing)) ≡ false
+any_filled files =
+    ap not (character_held files (model.Others model.Nothing) 97 (omega arith) (λ s. omega (arith, s.0))
+    (in_set_takes files (model.Others model.Nothing) 97 (omega arith, λ n. n)))
+
+-- all code points
+pub any_respects : (files : List File) (division : ClassDivision) → IsDivision division → Respects files (stand_in division) (model.Others model.Nothing)
+any_respects files division divides =
+    signed_respects files (stand_in division) (stand-in_is_point division divides) true (Some model.Nothing) (nothing_respects files (stand_in division))
 
 -- what is left of an expression or a sequence
 pub record IsAdding (files : List File) (k : Context) (start : List (List Range)) (whole : List model.SetTree) (all : List Part) (now : List File)

@@ -1,13 +1,16 @@
 -- Sets that are collected, one part after another.
-use Rattle.std.proofs.Common.{Some, slice_get, inl, inr}
+use Rattle.std.proofs.Common.{Some, slice_get, inl, inr, Bool, true, false, ◌||◌, eqb, ◌⊎◌, ◌↔◌}
 use Rattle.std.proofs.lemmas.Bool.{cases_lt}
 use Rattle.std.proofs.Common.{◌≡◌, ℕ, ◌+◌, ◌<◌, ◌≤◌, List, [], ◌∷◌, ◌++◌, map, length, drop, get_or, refl, sym, ap, ◌∙◌, subst, arith}
-use Rattle.std.specs.List.{Contains, All}
+use Rattle.std.specs.List.{Contains, All, AllByRecursion}
 use Rattle.std.specs.Rc.{rc_value}
 use Rattle.std.proofs.Common.{Option, None, IfSome}
-use Rattle.rbbi_model.specs.Ranges.{Range}
+use Rattle.rbbi_bits.specs.BitRows.{row_bit}
+use Rattle.rbbi_model.specs.Ranges.{Range, Has}
+use Rattle.rbbi_sets.specs.Rising.{AreRising}
 use Rattle.std.proofs.lemmas.List.{drop_all}
-use Rattle.std.proofs.lemmas.List.Elements.{All-weaker}
+use Rattle.std.proofs.lemmas.Bool.Decides.{nat_tests}
+use Rattle.std.proofs.lemmas.List.Elements.{All-weaker, Contains-append_right}
 use Rattle.rbbi_props.specs.Rows.{File}
 use Rattle.rbbi_tree.specs.Trees.{StatementTree, SetItemTree, expr_of, seq_of, joined}
 use Rattle.rbbi_tree.specs.Values.{statement_tree, statement_trees, expr_tree, seq_tree, item_tree, part_tree, set_item_tree, part_tree_out}
@@ -22,7 +25,8 @@ use Rattle.rbbi_tree.specs.declared.syntax.Atom.TheViews.{out-Expr, out-Seq}
 use Rattle.rbbi_resolve.specs.declared.collection.Collection.{Collection}
 use Rattle.rbbi_resolve.specs.Parts.{Part, parts_of_expr, parts_of_seq, parts_of_item}
 use Rattle.rbbi_resolve.specs.declared.properties.Answer.{Answer}
-use Rattle.rbbi_resolve.specs.inner.Covered.{IsCovered, AreCovered, AreRespected, IsBasedAnswer, IsCollection, Collects, parts_of_statement}
+use Rattle.rbbi_resolve.specs.inner.Covered.{IsCovered, AreCovered, AreRespected, IsBasedAnswer, IsCollection, Collects, HasSingle, AreSingled}
+use Rattle.rbbi_resolve.specs.inner.Covered.{parts_of_statement}
 use Rattle.rbbi_resolve.proofs.Counting.{expr_by_items, seq_by_items, exprs_left, seqs_left}
 use Rattle.rbbi_resolve.proofs.Covering.{covered_append, fewer_respected}
 use Rattle.rbbi_resolve.proofs.Steps.{tree_at}
@@ -37,6 +41,47 @@ answers_kept files bases bases' answers keeps are =
     own_kept : (set : Option (List Range)) → IfSome set (Contains bases) → IfSome set (Contains bases')
     own_kept None own = tt
     own_kept (Some set) own = keeps set own
+
+-- single characters stay where more sets are collected
+pub single_kept : (bases bases' : List (List Range)) → ((base : List Range) → Contains bases base → Contains bases' base) → (c : ℕ) →
+    HasSingle bases c → HasSingle bases' c
+single_kept bases bases' keeps c is = record { base = is.base; own = keeps is.base is.own; rising = is.rising; same = is.same }
+
+pub singled_kept : (bases bases' : List (List Range)) (row : List ℕ) → ((base : List Range) → Contains bases base → Contains bases' base) →
+    AreSingled bases row → AreSingled bases' row
+singled_kept bases bases' row keeps are = record { long = are.long; each = λ c h. single_kept bases bases' keeps c (are.each c h) }
+
+pub word_kept : (bases bases' : List (List Range)) → ((base : List Range) → Contains bases base → Contains bases' base) → (word : List ℕ) →
+    AllByRecursion (HasSingle bases) word → AllByRecursion (HasSingle bases') word
+word_kept bases bases' keeps [] are = tt
+word_kept bases bases' keeps (c ∷ word) are = (single_kept bases bases' keeps c are.0, word_kept bases bases' keeps word are.1)
+
+-- a single character that is added
+pub single_pushed : (bases : List (List Range)) (own : List Range) (c : ℕ) → own ≡ record { low = c; high = c } ∷ [] → c ≤ 0x10FFFF →
+    HasSingle (bases ++ own ∷ []) c
+single_pushed bases own c is low =
+    record {
+      base = own;
+      own = Contains-append_right bases (own ∷ []) own (0, omega arith, refl);
+      rising = subst AreRising (sym is) (omega arith, omega arith, low, tt);
+      same = λ d. subst (λ r. Has r d ↔ Has (record { low = c; high = c } ∷ []) d) (sym is) (λ h. h, λ h. h);
+    }
+
+either_true : (a b : Bool) → (a || b) ≡ true → (a ≡ true) ⊎ (b ≡ true)
+either_true true b e = inl refl
+either_true false b e = inr e
+
+pub singled_more : (bases bases' : List (List Range)) (row row' : List ℕ) (c : ℕ) → AreSingled bases row →
+    ((base : List Range) → Contains bases base → Contains bases' base) → HasSingle bases' c → length row' ≡ length row →
+    ((other : ℕ) → row_bit row' other ≡ (row_bit row other || eqb other c)) → AreSingled bases' row'
+singled_more bases bases' row row' c are keeps own long bits =
+    record {
+      long = long ∙ are.long;
+      each = λ d h. elim (either_true (row_bit row d) (eqb d c) (sym (bits d) ∙ h)) [
+        | inl before ↦ single_kept bases bases' keeps d (are.each d before)
+        | inr now ↦ let same : d ≡ c = grind (arith, nat_tests) in subst (HasSingle bases') (sym same) own
+      ];
+    }
 
 -- nothing is added for no parts
 pub collects_none : (files : List File) (now : Collection) → IsCollection files now → Collects files now now []

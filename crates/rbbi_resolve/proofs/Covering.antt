@@ -17,8 +17,8 @@ use Rattle.rbbi_tree.specs.declared.syntax.Join.TheVariants.{Add, Both, Minus}
 use Rattle.rbbi_tree.specs.declared.syntax.Expr.{Expr}
 use Rattle.rbbi_tree.specs.declared.syntax.Seq.{Seq}
 use Rattle.rbbi_tree.specs.declared.syntax.Item.{Item}
-use Rattle.rbbi_tree.specs.declared.syntax.SetExpr.{SetExpr}
 use Rattle.rbbi_tree.specs.declared.syntax.Atom as atoms
+use Rattle.rbbi_tree.specs.declared.syntax.Atom.{Atom}
 use Rattle.rbbi_tree.specs.declared.syntax.Atom.TheViews.{out-Expr, out-Seq, out-Item}
 use Rattle.rbbi_resolve.specs.SetValues.{HasProperty, joined_to, signed}
 use Rattle.rbbi_resolve.specs.inner.SetValues.{IsValue}
@@ -27,7 +27,7 @@ use Rattle.rbbi_resolve.specs.Parts.{parts_of_part, parts_in_item}
 use Rattle.rbbi_resolve.specs.inner.Covered.{Respects, SetRespects, IsCovered, AreCovered, AreRespected}
 use Rattle.rbbi_resolve.specs.inner.LiteralRuns.{FollowsRun}
 use Rattle.rbbi_resolve.proofs.Counting.{expr_by_items, seq_by_items, exprs_left, seqs_left}
-use Rattle.rbbi_resolve.proofs.ItemTrees.{atom_of_group, atom_of_set}
+use Rattle.rbbi_resolve.proofs.ItemTrees.{atom_of_group}
 
 module _ (files : List File) (stand : ℕ → ℕ) where
   -- of two lists of parts
@@ -71,12 +71,12 @@ module _ (files : List File) (stand : ℕ → ℕ) where
   pub covered_alone : (place : ℕ) (a : AtomTree) → AreCovered files stand (parts_of_item (placed place a Once)) → IsCovered files stand (Outside place a)
   covered_alone place a are = (covered_right (parts_in_atom a) (Outside place a ∷ []) are).each.0
 
-  -- the set that a covered item is
-  pub covered_set : (i : Item) (s : SetExpr) → (out-Item i).atom ≡ atoms.Set s → AreCovered files stand (parts_of_item (item_tree i)) →
-      SetRespects files stand (set_tree s)
-  covered_set i s is are =
-      covered_alone (out-Item i).place (set (set_tree s))
-      (subst (λ a. AreCovered files stand (parts_of_item (placed (out-Item i).place a Once))) (ap atom_tree is ∙ atom_of_set s) (covered_atom i are))
+  -- the atom that a covered item is
+  pub covered_is : (i : Item) (a : Atom) (tree : AtomTree) → (out-Item i).atom ≡ a → atom_tree a ≡ tree → AreCovered files stand (parts_of_item (item_tree i)) →
+      IsCovered files stand (Outside (out-Item i).place tree)
+  covered_is i a tree is same are =
+      covered_alone (out-Item i).place tree
+      (subst (λ x. AreCovered files stand (parts_of_item (placed (out-Item i).place x Once))) (ap atom_tree is ∙ same) (covered_atom i are))
 
 module _ (files now : List File) (stand : ℕ → ℕ) (same : now ≡ files) where
   -- a sequence of a covered expression

@@ -2,7 +2,7 @@
 use Rattle.std.proofs.Common.{◌≡◌, ℕ, ◌+◌, ◌<◌, ◌≤◌, List, [], ◌∷◌, ◌++◌, map, length, drop, get_or, refl, sym, ap, ◌∙◌, subst}
 use Rattle.std.proofs.Common.{Option, Some, None, IfSome, if◌then◌else◌, ◌↔◌, inl, inr, ⊎_elim, arith}
 use Rattle.std.proofs.lemmas.Bool.{cases_lt, le-leb, lt-leb}
-use Rattle.std.specs.List.{Contains, All}
+use Rattle.std.specs.List.{Contains, All, AllByRecursion}
 use Rattle.std.proofs.lemmas.List.{drop_all}
 use Rattle.std.proofs.lemmas.List.Elements.{All-push}
 use Rattle.rbbi_model.specs.Ranges.{Range}
@@ -18,7 +18,7 @@ use Rattle.rbbi_tree.specs.declared.syntax.SetPart.{SetPart}
 use Rattle.rbbi_tree.specs.declared.syntax.SetItem.TheViews.{out-SetExpr}
 use Rattle.rbbi_resolve.specs.declared.collection.Collection.{Collection}
 use Rattle.rbbi_resolve.specs.SetValues.{HasProperty, joined_to, value_of_set, value_of_part, value_of_item, value_of_range}
-use Rattle.rbbi_resolve.specs.inner.Covered.{Respects, NamesRespect, AreRespected, HasSame, IsCollection, CollectsSet, CollectsPart}
+use Rattle.rbbi_resolve.specs.inner.Covered.{Respects, NamesRespect, AreRespected, HasSame, HasSingle, IsCollection, CollectsSet, CollectsPart}
 use Rattle.rbbi_resolve.specs.inner.LiteralRuns.{IsLiteral, FollowsRun, IsRunning}
 use Rattle.rbbi_resolve.proofs.PropertySets.{members_are_code_points}
 use Rattle.rbbi_resolve.proofs.SetLoops.{parts_in, parts_left, set_is}
@@ -150,6 +150,12 @@ pub character_respects : (files : List File) (stand : ℕ → ℕ) (ch : ℕ) (b
     (ch ≤ ch → HasSame bases (record { low = ch; high = ch } ∷ [])) → Respects files stand (model.Character ch)
 character_respects files stand ch bases are own =
     spanned files stand (model.Character ch) ch ch bases are (own (omega arith)) (λ c. (λ is. (omega arith, omega arith), λ both. omega arith))
+
+pub word_respects : (files : List File) (stand : ℕ → ℕ) (bases : List (List Range)) → AreRespected stand bases → (word : List ℕ) →
+    AllByRecursion (HasSingle bases) word → AllByRecursion (λ c. Respects files stand (model.Character c)) word
+word_respects files stand bases are [] own = tt
+word_respects files stand bases are (c ∷ word) own =
+    (character_respects files stand c bases are (λ order. own.0), word_respects files stand bases are word own.1)
 
 pub range_respects : (files : List File) (stand : ℕ → ℕ) (first last : ℕ) (bases : List (List Range)) → AreRespected stand bases →
     (first ≤ last → HasSame bases (record { low = first; high = last } ∷ [])) → IfSome (value_of_range first last) (Respects files stand)

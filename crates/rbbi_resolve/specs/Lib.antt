@@ -1,5 +1,6 @@
 pub mod RuleTrees
 pub mod RuleLists
+pub mod SetRows
 pub mod SetValues
 pub mod Meanings
 pub mod Contexts

@@ -7,7 +7,7 @@ ghost use Rattle.rbbi_tree.specs.WellMade.{AreWellMade};
 ghost use Rattle.rbbi_resolve.specs.Expressions.{meaning_of_expr};
 ghost use Rattle.rbbi_resolve.specs.Files.{faults_of, faults_of_rest, active_rules};
 ghost use Rattle.rbbi_resolve.specs.Counts.{size_fault};
-ghost use Rattle.rbbi_resolve.specs.inner.Contexts.{stand_of, context_of};
+ghost use Rattle.rbbi_resolve.specs.inner.Contexts.{context_of, sets_of, stand_of};
 ghost use Rattle.rbbi_resolve.specs.inner.Covered.{AreCovered, parts_of_rest};
 ghost use Rattle.rbbi_resolve.specs.inner.Builders.{IsBuilder, IsReady, Extends};
 ghost use Rattle.rbbi_resolve.specs.inner.RulesSoFar.{IsRestBuilt, AreRulesTo, AreAllRules};
@@ -16,10 +16,11 @@ ghost use Rattle.rbbi_resolve.specs.inner.Readings.{IsReading};
 ghost use Rattle.rbbi_resolve.specs.Outcomes.{Means};
 
 use crate::build::Builder;
+use crate::classes::Classes;
 use crate::context::Context;
 use crate::file::Reading;
 use crate::properties::Properties;
-use crate::rules::{Rule, Rules, Tree};
+use crate::rules::{Rule, Rules, SetList, Tree};
 use crate::switches::Switches;
 use rbbi_tree::{Expr, Statement, Statements};
 use std::alloc::{AllocError, Global};
@@ -33,16 +34,18 @@ fn tree_of_rest(
 ) -> Result<Option<Tree>, AllocError>
     requires ready { IsReady builder.old.properties context.now }
     requires builder { IsBuilder builder.old.properties (statement_trees context.now.statements.now)
-        builder.old.sets.items builder.old.bases.items }
+        (sets_of context.now builder.old.rows.items) builder.old.bases.items }
     requires faultless { faults_of_rest (context_of builder.old.properties context.now)
         (rest_tree rest.now) ≡ [] }
     requires covered { AreCovered builder.old.properties (stand_of context.now)
         (parts_of_rest (rest_tree rest.now)) }
     ensures on { OnOk result (Extends builder.old.properties
         (statement_trees context.now.statements.now)
-        builder.old.sets.items builder.new.sets.items builder.new.bases.items) }
+        (sets_of context.now builder.old.rows.items) (sets_of context.now builder.new.rows.items)
+        builder.new.bases.items) }
     ensures built { IfOk result (IsRestBuilt builder.old.properties
-        (length builder.old.sets.items) builder.new.sets.items
+        (length (sets_of context.now builder.old.rows.items))
+        (sets_of context.now builder.new.rows.items)
         (option_map (meaning_of_expr (context_of builder.old.properties context.now))
         (rest_tree rest.now))) }
     ensures same { builder.new.properties ≡ builder.old.properties }
@@ -66,12 +69,13 @@ fn add_statement(
 ) -> Result<(), AllocError>
     requires ready { IsReady builder.old.properties context.now }
     requires rules { AreRulesTo builder.old.properties
-        (statement_trees context.now.statements.now) builder.old.sets.items
+        (statement_trees context.now.statements.now) (sets_of context.now builder.old.rows.items)
         builder.old.bases.items switches.old rules.old.items context.now.limit }
     requires inside { context.now.limit < length context.now.statements.now }
     ensures added { OnOk result (AreRulesTo builder.old.properties
         (statement_trees context.now.statements.now)
-        builder.new.sets.items builder.new.bases.items switches.new rules.new.items
+        (sets_of context.now builder.new.rows.items)
+        builder.new.bases.items switches.new rules.new.items
         (context.now.limit + 1)) }
     ensures same { builder.new.properties ≡ builder.old.properties }
 {
@@ -116,12 +120,12 @@ fn rules_with_trees(
 ) -> Result<Vec<Rule>, AllocError>
     requires ready { IsReady builder.old.properties context.now }
     requires builder { IsBuilder builder.old.properties (statement_trees context.now.statements.now)
-        builder.old.sets.items builder.old.bases.items }
-    requires empty { builder.old.sets.items ≡ [] }
+        (sets_of context.now builder.old.rows.items) builder.old.bases.items }
+    requires empty { (sets_of context.now builder.old.rows.items) ≡ [] }
     requires all { context.now.limit ≡ length context.now.statements.now }
     ensures built { IfOk result (λ rules. AreAllRules builder.old.properties
         (statement_trees context.now.statements.now)
-        builder.new.sets.items rules.items) }
+        (sets_of context.now builder.new.rows.items) rules.items) }
 {
     let mut switches = Switches::new();
     let mut rules = Vec::new(alloc);
@@ -168,7 +172,9 @@ pub(crate) fn build_rules(alloc: Global, reading: Reading) -> Result<Rules, Allo
     };
     let mut builder = new_builder(alloc, statements, properties)?;
     let rules = rules_with_trees(alloc, &context, &mut builder)?;
-    let Builder { sets, .. } = builder;
+    let Builder { rows, .. } = builder;
+    let Classes { division, .. } = classes;
+    let sets = SetList::of_rows(alloc, division, rows)?;
     Ok(Rules::new(rules, sets, counts.leaves.sum, counts.slashes.sum))
 }
 
@@ -179,9 +185,8 @@ fn new_builder<'a>(
     properties: Properties<'a>,
 ) -> Result<Builder<'a>, AllocError>
     ensures builder { IfOk result (λ builder. IsBuilder properties.entry
-        (statement_trees statements.now)
-        builder.sets.items builder.bases.items) }
-    ensures empty { IfOk result (λ builder. builder.sets.items ≡ []) }
+        (statement_trees statements.now) [] builder.bases.items) }
+    ensures empty { IfOk result (λ builder. builder.rows.items ≡ []) }
     ensures same { IfOk result (λ builder. builder.properties ≡ properties.entry) }
 {
     let mut bases = Vec::new(alloc);
@@ -190,7 +195,7 @@ fn new_builder<'a>(
     }
     Ok(Builder {
         properties,
-        sets: Vec::new(alloc),
+        rows: Vec::new(alloc),
         bases,
     })
 }

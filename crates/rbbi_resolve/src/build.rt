@@ -11,7 +11,8 @@ ghost use Rattle.rbbi_resolve.specs.Expressions.{word_of, meaning_of_expr, meani
 ghost use Rattle.rbbi_resolve.specs.Expressions.{meaning_of_item, meaning_of_atom, variable_for};
 ghost use Rattle.rbbi_resolve.specs.Parts.{parts_of_expr};
 ghost use Rattle.rbbi_resolve.specs.Faults.{faults_of_parts};
-ghost use Rattle.rbbi_resolve.specs.inner.Contexts.{IsKindOf, bounds_of, context_of, stand_of};
+ghost use Rattle.rbbi_resolve.specs.inner.Contexts.{IsKindOf, bounds_of, context_of, sets_of};
+ghost use Rattle.rbbi_resolve.specs.inner.Contexts.{stand_of};
 ghost use Rattle.rbbi_resolve.specs.inner.Covered.{AreCovered};
 ghost use Rattle.rbbi_resolve.specs.inner.OwnLeaves.{leaves_of_expr, leaves_of_seq, leaves_of_item};
 ghost use Rattle.rbbi_resolve.specs.inner.OwnLeaves.{leaves_of_atom};
@@ -25,7 +26,7 @@ use crate::properties::Properties;
 use crate::rules::Tree;
 use crate::tree::{in_choice, in_sequence, next_leaf, no_tree, repeated_tree};
 use crate::variables::Kind;
-use rbbi_classes::CharacterSet;
+use rbbi_classes::ClassSet;
 use rbbi_text::Word;
 use rbbi_tree::{Atom, Expr, Item, Seq, Statement, Statements};
 use std::alloc::{AllocError, Global};
@@ -40,7 +41,8 @@ const MOST_SETS: usize = 4_294_967_295;
 #[derive(Drop)]
 pub(crate) struct Builder<'a> {
     pub(crate) properties: Properties<'a>,
-    pub(crate) sets: Vec<CharacterSet>,
+    /// Of each set its classes.
+    pub(crate) rows: Vec<ClassSet>,
     /// For each statement the number of the first set of its own leaves, if it assigns a variable
     /// that was used.
     pub(crate) bases: Vec<Option<usize>>,
@@ -57,16 +59,18 @@ impl<'a> Builder<'a> {
         requires ready { IsReady self.old.properties context.now }
         requires builder { IsBuilder self.old.properties
             (statement_trees context.now.statements.now)
-            self.old.sets.items self.old.bases.items }
+            (sets_of context.now self.old.rows.items) self.old.bases.items }
         requires faultless { faults_of_parts (context_of self.old.properties context.now)
             (parts_of_expr (expr_tree expr.now)) ≡ [] }
         requires covered { AreCovered self.old.properties (stand_of context.now)
             (parts_of_expr (expr_tree expr.now)) }
         ensures on { OnOk result (Extends self.old.properties
             (statement_trees context.now.statements.now)
-            self.old.sets.items self.new.sets.items self.new.bases.items) }
+            (sets_of context.now self.old.rows.items) (sets_of context.now self.new.rows.items)
+            self.new.bases.items) }
         ensures built { IfOk result (IsBuilt self.old.properties
-            (length self.old.sets.items) self.new.sets.items 0 0
+            (length (sets_of context.now self.old.rows.items))
+            (sets_of context.now self.new.rows.items) 0 0
             (meaning_of_expr (context_of self.old.properties context.now) (expr_tree expr.now))) }
         ensures same { self.new.properties ≡ self.old.properties }
     {
@@ -87,7 +91,7 @@ impl<'a> Builder<'a> {
         requires ready { IsReady self.old.properties context.now }
         requires builder { IsBuilder self.old.properties
             (statement_trees context.now.statements.now)
-            self.old.sets.items self.old.bases.items }
+            (sets_of context.now self.old.rows.items) self.old.bases.items }
         requires faultless { faults_of_parts (context_of self.old.properties context.now)
             (parts_of_expr (expr_tree expr.now)) ≡ [] }
         requires covered { AreCovered self.old.properties (stand_of context.now)
@@ -97,20 +101,23 @@ impl<'a> Builder<'a> {
             (variable_for (context_of self.old.properties context.now) (expr_tree expr.now))) }
         ensures on { OnOk result (Extends self.old.properties
             (statement_trees context.now.statements.now)
-            self.old.sets.items self.new.sets.items self.new.bases.items) }
-        ensures stand { IfOk result (λ base. StandFrom self.old.properties self.new.sets.items base
+            (sets_of context.now self.old.rows.items) (sets_of context.now self.new.rows.items)
+            self.new.bases.items) }
+        ensures stand { IfOk result (λ base. StandFrom self.old.properties
+            (sets_of context.now self.new.rows.items) base
             (leaves_of_expr (context_of self.old.properties context.now) (expr_tree expr.now))) }
-        ensures fresh { IfOk result (λ base. base ≡ length self.old.sets.items) }
-        ensures all { IfOk result (λ base. length self.new.sets.items ≡ base
+        ensures fresh { IfOk result (λ base. base ≡ length
+            (sets_of context.now self.old.rows.items)) }
+        ensures all { IfOk result (λ base. length (sets_of context.now self.new.rows.items) ≡ base
             + length (leaves_of_expr (context_of self.old.properties context.now)
             (expr_tree expr.now))) }
         ensures bases { self.new.bases ≡ self.old.bases }
         ensures same { self.new.properties ≡ self.old.properties }
     {
-        let base = self.sets.len();
+        let base = self.rows.len();
         let properties = &mut self.properties;
-        add_own_leaves(alloc, context, properties, &mut self.sets, kept, expr)?;
-        if self.sets.len() > MOST_SETS {
+        add_own_leaves(alloc, context, properties, &mut self.rows, kept, expr)?;
+        if self.rows.len() > MOST_SETS {
             return Err(AllocError);
         }
         Ok(base)
@@ -127,7 +134,7 @@ impl<'a> Builder<'a> {
         requires ready { IsReady self.old.properties context.now }
         requires builder { IsBuilder self.old.properties
             (statement_trees context.now.statements.now)
-            self.old.sets.items self.old.bases.items }
+            (sets_of context.now self.old.rows.items) self.old.bases.items }
         requires assigned { IsAssigned (statement_trees context.now.statements.now)
             context.now.limit
             (expr_tree expr.now) }
@@ -135,13 +142,17 @@ impl<'a> Builder<'a> {
             (variable_for (context_of self.old.properties context.now) (expr_tree expr.now)) }
         ensures on { OnOk result (Extends self.old.properties
             (statement_trees context.now.statements.now)
-            self.old.sets.items self.new.sets.items self.new.bases.items) }
-        ensures stand { IfOk result (λ base. StandFrom self.old.properties self.new.sets.items base
+            (sets_of context.now self.old.rows.items) (sets_of context.now self.new.rows.items)
+            self.new.bases.items) }
+        ensures stand { IfOk result (λ base. StandFrom self.old.properties
+            (sets_of context.now self.new.rows.items) base
             (leaves_of_expr (context_of self.old.properties context.now) (expr_tree expr.now))) }
-        ensures fresh { IfOk result (λ base. (number : ℕ) → length self.old.sets.items ≤ number
-            → number < length self.new.sets.items → base ≤ number) }
-        ensures all { IfOk result (λ base. (number : ℕ) → length self.old.sets.items ≤ number
-            → number < length self.new.sets.items → number < base
+        ensures fresh { IfOk result (λ base. (number : ℕ) → length
+            (sets_of context.now self.old.rows.items) ≤ number
+            → number < length (sets_of context.now self.new.rows.items) → base ≤ number) }
+        ensures all { IfOk result (λ base. (number : ℕ) → length
+            (sets_of context.now self.old.rows.items) ≤ number
+            → number < length (sets_of context.now self.new.rows.items) → number < base
             + length (leaves_of_expr (context_of self.old.properties context.now)
             (expr_tree expr.now))) }
         ensures same { self.new.properties ≡ self.old.properties }
@@ -168,7 +179,7 @@ impl<'a> Builder<'a> {
         requires ready { IsReady self.old.properties context.now }
         requires builder { IsBuilder self.old.properties
             (statement_trees context.now.statements.now)
-            self.old.sets.items self.old.bases.items }
+            (sets_of context.now self.old.rows.items) self.old.bases.items }
         requires inside { context.now.limit < length context.now.statements.now }
         requires kept { (expr : ExprTree)
             → IsAssigned (statement_trees context.now.statements.now) context.now.limit expr
@@ -176,10 +187,12 @@ impl<'a> Builder<'a> {
             (variable_for (context_of self.old.properties context.now) expr) }
         ensures on { OnOk result (Extends self.old.properties
             (statement_trees context.now.statements.now)
-            self.old.sets.items self.new.sets.items self.new.bases.items) }
+            (sets_of context.now self.old.rows.items) (sets_of context.now self.new.rows.items)
+            self.new.bases.items) }
         ensures built { IfOk result (λ tree. (expr : ExprTree)
             → IsAssigned (statement_trees context.now.statements.now) context.now.limit expr
-            → IsBuilt self.old.properties (length self.old.sets.items) self.new.sets.items 0 0
+            → IsBuilt self.old.properties (length (sets_of context.now self.old.rows.items))
+            (sets_of context.now self.new.rows.items) 0 0
             (meaning_of_expr (context_of self.old.properties context.now) expr) tree) }
         ensures same { self.new.properties ≡ self.old.properties }
     {
@@ -205,17 +218,20 @@ impl<'a> Builder<'a> {
         requires ready { IsReady self.old.properties context.now }
         requires builder { IsBuilder self.old.properties
             (statement_trees context.now.statements.now)
-            self.old.sets.items self.old.bases.items }
-        requires stand { StandFrom self.old.properties self.old.sets.items next.old
+            (sets_of context.now self.old.rows.items) self.old.bases.items }
+        requires stand { StandFrom self.old.properties (sets_of context.now self.old.rows.items)
+            next.old
             (leaves_of_expr (context_of self.old.properties context.now) (expr_tree expr.now)) }
         ensures on { OnOk result (Extends self.old.properties
             (statement_trees context.now.statements.now)
-            self.old.sets.items self.new.sets.items self.new.bases.items) }
+            (sets_of context.now self.old.rows.items) (sets_of context.now self.new.rows.items)
+            self.new.bases.items) }
         ensures moved { OnOk result (next.new ≡ next.old
             + length (leaves_of_expr (context_of self.old.properties context.now)
             (expr_tree expr.now))) }
         ensures built { IfOk result (IsBuilt self.old.properties
-            (length self.old.sets.items) self.new.sets.items
+            (length (sets_of context.now self.old.rows.items))
+            (sets_of context.now self.new.rows.items)
             next.old next.new (meaning_of_expr (context_of self.old.properties context.now)
             (expr_tree expr.now))) }
         ensures same { self.new.properties ≡ self.old.properties }
@@ -240,17 +256,20 @@ impl<'a> Builder<'a> {
         requires ready { IsReady self.old.properties context.now }
         requires builder { IsBuilder self.old.properties
             (statement_trees context.now.statements.now)
-            self.old.sets.items self.old.bases.items }
-        requires stand { StandFrom self.old.properties self.old.sets.items next.old
+            (sets_of context.now self.old.rows.items) self.old.bases.items }
+        requires stand { StandFrom self.old.properties (sets_of context.now self.old.rows.items)
+            next.old
             (leaves_of_seq (context_of self.old.properties context.now) (seq_tree seq.now)) }
         ensures on { OnOk result (Extends self.old.properties
             (statement_trees context.now.statements.now)
-            self.old.sets.items self.new.sets.items self.new.bases.items) }
+            (sets_of context.now self.old.rows.items) (sets_of context.now self.new.rows.items)
+            self.new.bases.items) }
         ensures moved { OnOk result (next.new ≡ next.old
             + length (leaves_of_seq (context_of self.old.properties context.now)
             (seq_tree seq.now))) }
         ensures built { IfOk result (IsBuilt self.old.properties
-            (length self.old.sets.items) self.new.sets.items
+            (length (sets_of context.now self.old.rows.items))
+            (sets_of context.now self.new.rows.items)
             next.old next.new (meaning_of_seq (context_of self.old.properties context.now)
             (seq_tree seq.now))) }
         ensures same { self.new.properties ≡ self.old.properties }
@@ -275,17 +294,20 @@ impl<'a> Builder<'a> {
         requires ready { IsReady self.old.properties context.now }
         requires builder { IsBuilder self.old.properties
             (statement_trees context.now.statements.now)
-            self.old.sets.items self.old.bases.items }
-        requires stand { StandFrom self.old.properties self.old.sets.items next.old
+            (sets_of context.now self.old.rows.items) self.old.bases.items }
+        requires stand { StandFrom self.old.properties (sets_of context.now self.old.rows.items)
+            next.old
             (leaves_of_item (context_of self.old.properties context.now) (item_tree item.now)) }
         ensures on { OnOk result (Extends self.old.properties
             (statement_trees context.now.statements.now)
-            self.old.sets.items self.new.sets.items self.new.bases.items) }
+            (sets_of context.now self.old.rows.items) (sets_of context.now self.new.rows.items)
+            self.new.bases.items) }
         ensures moved { OnOk result (next.new ≡ next.old
             + length (leaves_of_item (context_of self.old.properties context.now)
             (item_tree item.now))) }
         ensures built { IfOk result (IsBuilt self.old.properties
-            (length self.old.sets.items) self.new.sets.items
+            (length (sets_of context.now self.old.rows.items))
+            (sets_of context.now self.new.rows.items)
             next.old next.new (meaning_of_item (context_of self.old.properties context.now)
             (item_tree item.now))) }
         ensures same { self.new.properties ≡ self.old.properties }
@@ -307,17 +329,20 @@ impl<'a> Builder<'a> {
         requires ready { IsReady self.old.properties context.now }
         requires builder { IsBuilder self.old.properties
             (statement_trees context.now.statements.now)
-            self.old.sets.items self.old.bases.items }
-        requires stand { StandFrom self.old.properties self.old.sets.items next.old
+            (sets_of context.now self.old.rows.items) self.old.bases.items }
+        requires stand { StandFrom self.old.properties (sets_of context.now self.old.rows.items)
+            next.old
             (leaves_of_atom (context_of self.old.properties context.now) (atom_tree atom.now)) }
         ensures on { OnOk result (Extends self.old.properties
             (statement_trees context.now.statements.now)
-            self.old.sets.items self.new.sets.items self.new.bases.items) }
+            (sets_of context.now self.old.rows.items) (sets_of context.now self.new.rows.items)
+            self.new.bases.items) }
         ensures moved { OnOk result (next.new ≡ next.old
             + length (leaves_of_atom (context_of self.old.properties context.now)
             (atom_tree atom.now))) }
         ensures built { IfOk result (IsBuilt self.old.properties
-            (length self.old.sets.items) self.new.sets.items
+            (length (sets_of context.now self.old.rows.items))
+            (sets_of context.now self.new.rows.items)
             next.old next.new (meaning_of_atom (context_of self.old.properties context.now)
             (atom_tree atom.now))) }
         ensures same { self.new.properties ≡ self.old.properties }

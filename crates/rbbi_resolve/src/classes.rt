@@ -54,11 +54,11 @@ impl Classes {
             (statement_trees statements.now)) }
         ensures same { properties.new ≡ properties.old }
     {
-        let mut collection = Collection::new(alloc);
+        let mut collection = Collection::new(alloc)?;
         for number in 0..statements.len() {
             collect_statement(alloc, properties, &mut collection, statements.get(number))?;
         }
-        let Collection { bases, answers } = collection;
+        let Collection { bases, answers, .. } = collection;
         let division = Division::new(alloc, &bases)?;
         let sets = by_classes(alloc, division.layout(), &answers)?;
         let shared = Rc::new(alloc, division)?;

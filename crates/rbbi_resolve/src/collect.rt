@@ -96,8 +96,14 @@ fn collect_item(
     ensures same { properties.new ≡ properties.old }
 {
     match &item.atom {
-        Atom::Char { .. } => Ok(()),
-        Atom::Quoted(_) => Ok(()),
+        Atom::Char { c, .. } => {
+            collection.add_character(alloc, *c)?;
+            Ok(())
+        }
+        Atom::Quoted(word) => {
+            collection.add_word(alloc, word)?;
+            Ok(())
+        }
         Atom::Any => Ok(()),
         Atom::Name(_) => Ok(()),
         Atom::Prop {

@@ -1,39 +1,82 @@
 //! What a walk over the statements of a rule file collects.
-ghost use Rattle.std.specs.Prelude.{◌≡◌, ◌≤◌, ◌∷◌, [], List, IsTrue, IfSome, OnOk};
+ghost use Rattle.std.specs.Prelude.{◌≡◌, ◌≤◌, ◌∷◌, [], List, IsTrue, IfOk, IfSome};
+ghost use Rattle.std.specs.Prelude.{OnOk};
 ghost use Rattle.std.specs.HashMap.{values};
-ghost use Rattle.std.specs.List.{All, Contains};
+ghost use Rattle.std.specs.List.{All, AllByRecursion, Contains};
 ghost use Rattle.std.specs.Rc.{rc_value};
 ghost use Rattle.rbbi_model.specs.Ranges.{Range};
 ghost use Rattle.rbbi_props.specs.Rows.{File};
 ghost use Rattle.rbbi_sets.specs.Rising.{IsRange};
-ghost use Rattle.rbbi_resolve.specs.inner.Covered.{HasBase, HasSame, IsBasedAnswer, IsCollection};
+ghost use Rattle.rbbi_resolve.specs.inner.Covered.{HasBase, HasSame, HasSingle, IsBasedAnswer};
+ghost use Rattle.rbbi_resolve.specs.inner.Covered.{AreSingled, IsCollection};
 
 use crate::properties::{Answer, Properties, answer_of};
 use crate::question::key_of;
 use indexmap::IndexMap;
+use rbbi_bits::{has, insert};
 use rbbi_sets::{CodeRange, CodeSet};
 use rbbi_text::Word;
 use std::alloc::{AllocError, Global};
 
+/// The words of a row of bits for all code points.
+const CHARACTER_WORDS: usize = 0x11_0000 / 64;
+
 /// What a walk over statements collected.
 #[derive(Drop)]
 pub(crate) struct Collection {
-    /// The sets of which all sets of the file are made: those of properties, and those of the
-    /// characters and ranges that follow one another in a set.
+    /// The sets of which all sets of the file are made: those of properties, those of characters
+    /// and ranges that follow one another in a set, and those of single characters.
     pub(crate) bases: Vec<CodeSet>,
+    /// The characters whose sets are among `bases`, as a row of bits.
+    pub(crate) characters: Vec<u64>,
     /// What was found for each property, by the keys of `Properties`.
     pub(crate) answers: IndexMap<String, Answer>,
 }
 
 impl Collection {
     /// Nothing.
-    pub(crate) fn new(alloc: Global) -> Collection
-        ensures { (files : List File) → IsCollection files result }
+    pub(crate) fn new(alloc: Global) -> Result<Collection, AllocError>
+        ensures { IfOk result (λ nothing. (files : List File) → IsCollection files nothing) }
     {
-        Collection {
+        Ok(Collection {
             bases: Vec::new(alloc),
+            characters: vec![in alloc; 0; CHARACTER_WORDS]?,
             answers: IndexMap::new(alloc),
+        })
+    }
+
+    /// Adds the set of a character, unless it is there.
+    pub(crate) fn add_character(&mut self, alloc: Global, c: char) -> Result<(), AllocError>
+        requires { AreSingled self.old.bases.items self.old.characters.items }
+        ensures keeps { OnOk result ((base : List Range) → Contains self.old.bases.items base
+            → Contains self.new.bases.items base) }
+        ensures added { OnOk result (HasSingle self.new.bases.items c) }
+        ensures singled { OnOk result (AreSingled self.new.bases.items self.new.characters.items) }
+        ensures kept { OnOk result ((files : List File) → IsCollection files self.old
+            → IsCollection files self.new) }
+    {
+        let place = c as usize;
+        if has(&self.characters, place) {
+            return Ok(());
         }
+        self.bases.push(CodeSet::range(alloc, c as u32, c as u32)?)?;
+        insert(&mut self.characters, place);
+        Ok(())
+    }
+
+    /// Adds the sets of the characters of a word.
+    pub(crate) fn add_word(&mut self, alloc: Global, word: &Word) -> Result<(), AllocError>
+        requires { AreSingled self.old.bases.items self.old.characters.items }
+        ensures keeps { OnOk result ((base : List Range) → Contains self.old.bases.items base
+            → Contains self.new.bases.items base) }
+        ensures added { OnOk result (AllByRecursion (HasSingle self.new.bases.items) word.now) }
+        ensures kept { OnOk result ((files : List File) → IsCollection files self.old
+            → IsCollection files self.new) }
+    {
+        for c in word.as_str().chars() {
+            self.add_character(alloc, c)?;
+        }
+        Ok(())
     }
 
     /// Adds the set of these ranges.
@@ -106,6 +149,7 @@ impl Collection {
             → Contains self.new.bases.items base) }
         ensures own { OnOk result (IfSome set.now (Contains self.new.bases.items)) }
         ensures answers { self.new.answers ≡ self.old.answers }
+        ensures characters { self.new.characters ≡ self.old.characters }
     {
         if let Some(set) = set {
             self.bases.push(set.clone()?)?;

@@ -1,18 +1,16 @@
 //! The sets of the leaves of expressions.
 ghost use Rattle.std.specs.Prelude.{◌≡◌, ℕ, OnOk, List, [], ◌∷◌, Some, map, false};
-ghost use Rattle.std.specs.Rc.{rc_value};
-ghost use Rattle.rbbi_model.specs.Words.{IsSurrogate};
-ghost use Rattle.rbbi_model.specs.Ranges.{Has};
+ghost use Rattle.std.specs.List.{AllByRecursion};
 ghost use Rattle.rbbi_model.specs.SetTrees as model;
 ghost use Rattle.rbbi_props.specs.Rows.{File};
 ghost use Rattle.rbbi_tree.specs.Values.{expr_tree, seq_tree, item_tree};
-ghost use Rattle.rbbi_resolve.specs.inner.SetValues.{IsValue, HasMembers};
 ghost use Rattle.rbbi_resolve.specs.inner.ClassValues.{IsClassValue};
 ghost use Rattle.rbbi_resolve.specs.Parts.{parts_of_expr, parts_of_seq, parts_of_item};
 ghost use Rattle.rbbi_resolve.specs.Faults.{faults_of_parts, is_empty_value};
-ghost use Rattle.rbbi_resolve.specs.inner.Contexts.{IsContext, context_of, stand_of};
+ghost use Rattle.rbbi_resolve.specs.inner.Contexts.{IsContext, context_of, sets_of, stand_of};
 ghost use Rattle.rbbi_resolve.specs.inner.Covered.{AreCovered, Respects};
-ghost use Rattle.rbbi_classes.specs.Divisions.{IsDivision, stand_in};
+ghost use Rattle.rbbi_classes.specs.CharacterSets.{characters_of};
+ghost use Rattle.rbbi_classes.specs.Divisions.{ClassDivision, IsDivision, stand_in};
 ghost use Rattle.rbbi_resolve.specs.inner.Soundness.{AreSound};
 ghost use Rattle.rbbi_resolve.specs.inner.OwnLeaves.{AddsLeaves, leaves_of_expr, leaves_of_seq};
 ghost use Rattle.rbbi_resolve.specs.inner.OwnLeaves.{leaves_of_item};
@@ -20,13 +18,11 @@ ghost use Rattle.rbbi_resolve.specs.inner.OwnLeaves.{leaves_of_item};
 use crate::context::Context;
 use crate::fault::Fault;
 use crate::properties::Properties;
-use crate::set_value::value_of_set;
-use rbbi_classes::{CharacterSet, ClassSet, Division};
-use rbbi_sets::CodeSet;
+use crate::set_value::{value_of_property, value_of_set};
+use rbbi_classes::ClassSet;
 use rbbi_text::Word;
 use rbbi_tree::{Atom, Expr, Item, Seq};
 use std::alloc::{AllocError, Global};
-use std::rc::Rc;
 
 /// Adds the sets of the leaves of an expression without faults, except those of its variables.
 #[cycle(leaves)]
@@ -34,7 +30,7 @@ pub(crate) fn add_leaves(
     alloc: Global,
     context: &Context,
     properties: &mut Properties,
-    sets: &mut Vec<CharacterSet>,
+    rows: &mut Vec<ClassSet>,
     expr: &Expr,
 ) -> Result<(), AllocError>
     requires context { IsContext properties.old context.now }
@@ -44,12 +40,12 @@ pub(crate) fn add_leaves(
         → faults_of_parts (context_of properties.old context.now)
         (parts_of_expr (expr_tree expr.now)) ≡ []
         → AddsLeaves properties.old
-        (leaves_of_expr (context_of properties.old context.now) (expr_tree expr.now)) sets.old.items
-        sets.new.items) }
+        (leaves_of_expr (context_of properties.old context.now) (expr_tree expr.now))
+        (sets_of context.now rows.old.items) (sets_of context.now rows.new.items)) }
     ensures same { properties.new ≡ properties.old }
 {
     for seq in &expr.items {
-        add_leaves_of_seq(alloc, context, properties, sets, seq)?;
+        add_leaves_of_seq(alloc, context, properties, rows, seq)?;
     }
     Ok(())
 }
@@ -60,7 +56,7 @@ fn add_leaves_of_seq(
     alloc: Global,
     context: &Context,
     properties: &mut Properties,
-    sets: &mut Vec<CharacterSet>,
+    rows: &mut Vec<ClassSet>,
     seq: &Seq,
 ) -> Result<(), AllocError>
     requires context { IsContext properties.old context.now }
@@ -70,12 +66,12 @@ fn add_leaves_of_seq(
         → faults_of_parts (context_of properties.old context.now)
         (parts_of_seq (seq_tree seq.now)) ≡ []
         → AddsLeaves properties.old
-        (leaves_of_seq (context_of properties.old context.now) (seq_tree seq.now)) sets.old.items
-        sets.new.items) }
+        (leaves_of_seq (context_of properties.old context.now) (seq_tree seq.now))
+        (sets_of context.now rows.old.items) (sets_of context.now rows.new.items)) }
     ensures same { properties.new ≡ properties.old }
 {
     for item in &seq.items {
-        add_leaves_of_item(alloc, context, properties, sets, item)?;
+        add_leaves_of_item(alloc, context, properties, rows, item)?;
     }
     Ok(())
 }
@@ -86,7 +82,7 @@ fn add_leaves_of_item(
     alloc: Global,
     context: &Context,
     properties: &mut Properties,
-    sets: &mut Vec<CharacterSet>,
+    rows: &mut Vec<ClassSet>,
     item: &Item,
 ) -> Result<(), AllocError>
     requires context { IsContext properties.old context.now }
@@ -96,120 +92,120 @@ fn add_leaves_of_item(
         → faults_of_parts (context_of properties.old context.now)
         (parts_of_item (item_tree item.now)) ≡ []
         → AddsLeaves properties.old
-        (leaves_of_item (context_of properties.old context.now) (item_tree item.now)) sets.old.items
-        sets.new.items) }
+        (leaves_of_item (context_of properties.old context.now) (item_tree item.now))
+        (sets_of context.now rows.old.items) (sets_of context.now rows.new.items)) }
     ensures same { properties.new ≡ properties.old }
 {
     match &item.atom {
-        Atom::Char { c, .. } => add_character(alloc, sets, *c),
-        Atom::Quoted(word) => add_word(alloc, sets, word),
-        Atom::Any => add_any(alloc, sets),
+        Atom::Char { c, .. } => {
+            add_character(alloc, context, properties, rows, *c)?;
+            Ok(())
+        }
+        Atom::Quoted(word) => {
+            add_word(alloc, context, properties, rows, word)?;
+            Ok(())
+        }
+        Atom::Any => {
+            add_any(alloc, context, properties, rows)?;
+            Ok(())
+        }
         Atom::Name(_) => Ok(()),
         Atom::Prop {
             negated,
             name,
             value,
         } => {
-            let set = properties.set_of(alloc, *negated, name, value)?;
-            add_value(alloc, sets, set.as_ref())?;
+            let set = value_of_property(alloc, context, properties, *negated, name, value)?;
+            let kept = properties.keep(alloc, &set)?;
+            add_row(rows, &kept)?;
             Ok(())
         }
         Atom::Set(set) => {
             let mut least: Option<Fault> = None;
             let value = value_of_set(alloc, context, properties, &mut least, set)?;
             let kept = properties.keep(alloc, &value)?;
-            add_classes(sets, &context.classes.division, &kept)?;
+            add_row(rows, &kept)?;
             Ok(())
         }
         Atom::Group(inner) => {
-            add_leaves(alloc, context, properties, sets, inner)?;
+            add_leaves(alloc, context, properties, rows, inner)?;
             Ok(())
         }
     }
 }
 
-/// Adds the characters of a set that has some.
-fn add_set(alloc: Global, sets: &mut Vec<CharacterSet>, set: &CodeSet) -> Result<(), AllocError>
-    ensures { OnOk result ((files : List File) (tree : model.SetTree) →
-        HasMembers files tree set.now
-        → ((c : ℕ) × Has set.now c × ¬ IsSurrogate c) →
-        AddsLeaves files (tree ∷ []) sets.old.items sets.new.items) }
-{
-    let characters = CharacterSet::of_set(alloc, set)?;
-    sets.push(characters)?;
-    Ok(())
-}
-
 /// Adds the set of a character.
-fn add_character(alloc: Global, sets: &mut Vec<CharacterSet>, c: char) -> Result<(), AllocError>
-    ensures { OnOk result ((files : List File)
-        → AddsLeaves files (model.Character c ∷ []) sets.old.items sets.new.items) }
+fn add_character(
+    alloc: Global,
+    context: &Context,
+    properties: &mut Properties,
+    rows: &mut Vec<ClassSet>,
+    c: char,
+) -> Result<(), AllocError>
+    requires { IsContext properties.old context.now }
+    ensures added { OnOk result (Respects properties.old (stand_of context.now) (model.Character c)
+        → AddsLeaves properties.old (model.Character c ∷ [])
+        (sets_of context.now rows.old.items) (sets_of context.now rows.new.items)) }
+    ensures same { properties.new ≡ properties.old }
 {
     let code = c as u32;
-    let set = CodeSet::range(alloc, code, code)?;
-    add_set(alloc, sets, &set)?;
+    let value = Some(ClassSet::range(alloc, context.layout(), code, code)?);
+    let kept = properties.keep(alloc, &value)?;
+    add_row(rows, &kept)?;
     Ok(())
 }
 
 /// Adds the sets of the characters of a word.
-fn add_word(alloc: Global, sets: &mut Vec<CharacterSet>, word: &Word) -> Result<(), AllocError>
-    ensures { OnOk result ((files : List File)
-        → AddsLeaves files (map model.Character word.now) sets.old.items sets.new.items) }
+fn add_word(
+    alloc: Global,
+    context: &Context,
+    properties: &mut Properties,
+    rows: &mut Vec<ClassSet>,
+    word: &Word,
+) -> Result<(), AllocError>
+    requires { IsContext properties.old context.now }
+    ensures added { OnOk result (AllByRecursion
+        (λ c. Respects properties.old (stand_of context.now) (model.Character c)) word.now
+        → AddsLeaves properties.old (map model.Character word.now)
+        (sets_of context.now rows.old.items) (sets_of context.now rows.new.items)) }
+    ensures same { properties.new ≡ properties.old }
 {
     for c in word.as_str().chars() {
-        add_character(alloc, sets, c)?;
+        add_character(alloc, context, properties, rows, c)?;
     }
     Ok(())
 }
 
 /// Adds the set of all characters.
-fn add_any(alloc: Global, sets: &mut Vec<CharacterSet>) -> Result<(), AllocError>
-    ensures { OnOk result ((files : List File)
-        → AddsLeaves files (model.Others model.Nothing ∷ []) sets.old.items sets.new.items) }
+fn add_any(
+    alloc: Global,
+    context: &Context,
+    properties: &mut Properties,
+    rows: &mut Vec<ClassSet>,
+) -> Result<(), AllocError>
+    requires { IsContext properties.old context.now }
+    ensures added { OnOk result (AddsLeaves properties.old (model.Others model.Nothing ∷ [])
+        (sets_of context.now rows.old.items) (sets_of context.now rows.new.items)) }
+    ensures same { properties.new ≡ properties.old }
 {
-    let nothing = CodeSet::empty(alloc);
-    let all = nothing.complement(alloc)?;
-    add_set(alloc, sets, &all)?;
+    let none = ClassSet::empty(alloc);
+    let all = none.negate(alloc, context.layout())?;
+    let kept = properties.keep(alloc, &Some(all))?;
+    add_row(rows, &kept)?;
     Ok(())
 }
 
-/// Adds the characters of the value of a set, which has some.
-pub(crate) fn add_value(
-    alloc: Global,
-    sets: &mut Vec<CharacterSet>,
-    value: &Option<CodeSet>,
-) -> Result<(), AllocError>
-    ensures { OnOk result ((files : List File) (tree : model.SetTree) →
-        IsValue files (Some tree) value.now
-        → is_empty_value files (Some tree) ≡ false →
-        AddsLeaves files (tree ∷ []) sets.old.items sets.new.items) }
-{
-    match value {
-        Some(set) => {
-            add_set(alloc, sets, set)?;
-            Ok(())
-        }
-        None => Ok(()),
-    }
-}
-
-/// Adds the characters of the value of a set by classes, which has some. The chunks stay shared.
-pub(crate) fn add_classes(
-    sets: &mut Vec<CharacterSet>,
-    division: &Rc<Division>,
-    value: &Option<ClassSet>,
-) -> Result<(), AllocError>
-    ensures { OnOk result ((files : List File) (tree : model.SetTree) →
-        IsDivision (rc_value division.now)
-        → IsClassValue files (rc_value division.now).bounds (Some tree) value.now
-        → Respects files (stand_in (rc_value division.now)) tree
-        → is_empty_value files (Some tree) ≡ false →
-        AddsLeaves files (tree ∷ []) sets.old.items sets.new.items) }
+/// Adds the value of a set by classes, which has characters. The chunks stay shared.
+pub(crate) fn add_row(rows: &mut Vec<ClassSet>, value: &Option<ClassSet>) -> Result<(), AllocError>
+    ensures { OnOk result ((files : List File) (division : ClassDivision) (tree : model.SetTree) →
+        IsDivision division → IsClassValue files division.bounds (Some tree) value.now
+        → Respects files (stand_in division) tree → is_empty_value files (Some tree) ≡ false →
+        AddsLeaves files (tree ∷ []) (map (characters_of division) rows.old.items)
+        (map (characters_of division) rows.new.items)) }
 {
     match value {
         Some(classes) => {
-            let characters = CharacterSet::of_classes(division, classes)?;
-            sets.push(characters)?;
+            rows.push(classes.clone()?)?;
             Ok(())
         }
         None => Ok(()),

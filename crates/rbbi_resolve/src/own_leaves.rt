@@ -5,7 +5,7 @@ ghost use Rattle.rbbi_resolve.specs.Expressions.{variable_for};
 ghost use Rattle.rbbi_resolve.specs.Parts.{parts_of_expr};
 ghost use Rattle.rbbi_resolve.specs.Faults.{faults_of_parts};
 ghost use Rattle.rbbi_resolve.specs.inner.Contexts.{IsContext, IsKindOf, bounds_of, context_of};
-ghost use Rattle.rbbi_resolve.specs.inner.Contexts.{stand_of};
+ghost use Rattle.rbbi_resolve.specs.inner.Contexts.{sets_of, stand_of};
 ghost use Rattle.rbbi_resolve.specs.inner.Covered.{AreCovered};
 ghost use Rattle.rbbi_resolve.specs.inner.Soundness.{AreSound};
 ghost use Rattle.rbbi_resolve.specs.inner.OwnLeaves.{AddsLeaves, leaves_of_expr};
@@ -13,10 +13,10 @@ ghost use Rattle.rbbi_resolve.specs.inner.LoneSets.{IsLoneSet};
 
 use crate::context::Context;
 use crate::definition::lone_item;
-use crate::leaves::{add_classes, add_leaves};
+use crate::leaves::{add_leaves, add_row};
 use crate::properties::Properties;
 use crate::variables::Kind;
-use rbbi_classes::{CharacterSet, ClassSet};
+use rbbi_classes::ClassSet;
 use rbbi_tree::{Atom, Expr};
 use std::alloc::{AllocError, Global};
 
@@ -28,7 +28,7 @@ pub(crate) fn add_own_leaves(
     alloc: Global,
     context: &Context,
     properties: &mut Properties,
-    sets: &mut Vec<CharacterSet>,
+    rows: &mut Vec<ClassSet>,
     kept: Option<&Kind>,
     expr: &Expr,
 ) -> Result<(), AllocError>
@@ -41,17 +41,17 @@ pub(crate) fn add_own_leaves(
         → faults_of_parts (context_of properties.old context.now)
         (parts_of_expr (expr_tree expr.now)) ≡ []
         → AddsLeaves properties.old
-        (leaves_of_expr (context_of properties.old context.now) (expr_tree expr.now)) sets.old.items
-        sets.new.items) }
+        (leaves_of_expr (context_of properties.old context.now) (expr_tree expr.now))
+        (sets_of context.now rows.old.items) (sets_of context.now rows.new.items)) }
     ensures same { properties.new ≡ properties.old }
 {
     if let Some(kind) = kept {
         if let Some(value) = kept_value(kind, expr) {
-            add_classes(sets, &context.classes.division, value)?;
+            add_row(rows, value)?;
             return Ok(());
         }
     }
-    add_leaves(alloc, context, properties, sets, expr)?;
+    add_leaves(alloc, context, properties, rows, expr)?;
     Ok(())
 }
 

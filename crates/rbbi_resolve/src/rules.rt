@@ -1,11 +1,17 @@
 //! The active rules of a rule file, with their variables replaced.
-ghost use Rattle.std.specs.Prelude.{◌≡◌, ◌<◌, length, slice_get, sum_by};
+ghost use Rattle.std.specs.Prelude.{◌≡◌, ◌<◌, IfOk, length, map, slice_get, sum_by};
+ghost use Rattle.std.specs.Rc.{rc_value};
+ghost use Rattle.rbbi_classes.specs.CharacterSets.{characters_of};
+ghost use Rattle.rbbi_classes.specs.Divisions.{IsDivision};
 ghost use Rattle.rbbi_model.specs.Rules.{leaves_of, look_aheads};
 ghost use Rattle.rbbi_resolve.specs.RuleLists.{rules_of, AreWellFormed, AreCounted};
+ghost use Rattle.rbbi_resolve.specs.SetRows.{AreByClasses};
 
-use rbbi_classes::CharacterSet;
+use rbbi_classes::{CharacterSet, ClassSet, Division};
 use rbbi_tree::Quant;
+use std::alloc::{AllocError, Global};
 use std::marker::Model;
+use std::rc::Rc;
 
 /// What a rule matches, with its variables replaced.
 #[derive(Debug, Drop)]
@@ -46,6 +52,10 @@ pub struct Rule {
 /// The sets of the leaves of rules. Contracts see it as the list of their lists of ranges.
 #[derive(Debug, Drop)]
 pub struct SetList {
+    /// The partition of the code points of which each set has some classes.
+    division: Rc<Division>,
+    /// Of each set its classes.
+    rows: Vec<ClassSet>,
     items: Vec<CharacterSet>,
 }
 
@@ -55,10 +65,45 @@ impl Model for SetList {
 
     ghost Value = { List (List Range) };
 
+    ghost use Rattle.std.specs.Rc.{rc_value};
+    ghost use Rattle.rbbi_resolve.specs.SetRows.{AreByClasses};
+
     ghost view = { λ sets. sets.items.items };
+
+    ghost invariant = { λ sets. AreByClasses (rc_value sets.division) sets.rows.items
+        sets.items.items };
 }
 
 impl SetList {
+    /// The sets with these classes of a partition.
+    pub(crate) fn of_rows(
+        alloc: Global,
+        division: Rc<Division>,
+        rows: Vec<ClassSet>,
+    ) -> Result<SetList, AllocError>
+        requires { IsDivision (rc_value division) }
+        ensures { IfOk result (λ sets. sets ≡ map (characters_of (rc_value division)) rows.items) }
+    {
+        let mut items = Vec::new(alloc);
+        for row in &rows {
+            items.push(CharacterSet::of_classes(&division, row)?)?;
+        }
+        Ok(SetList {
+            division,
+            rows,
+            items,
+        })
+    }
+
+    /// The partition of the code points of which each set has some classes, and of each set the
+    /// row of these classes, in the order of the sets. A row may have classes of surrogates, which
+    /// the set lacks.
+    pub fn by_classes(&self) -> (&Division, &[ClassSet])
+        ensures { AreByClasses result.0.now result.1.now self.now }
+    {
+        (self.division.as_ref(), self.rows.as_slice())
+    }
+
     /// The number of sets.
     pub fn len(&self) -> usize
         ensures { result ≡ length self.now }
@@ -104,13 +149,13 @@ impl Model for Rules {
 
 impl Rules {
     /// These rules with these sets, and so many leaves and rules with a rest.
-    pub(crate) fn new(rules: Vec<Rule>, sets: Vec<CharacterSet>, leaves: u32, slashes: u32) -> Rules
-        requires { AreCounted (record { rules = rules.items; sets = sets.items }) leaves slashes }
-        ensures { result ≡ record { rules = rules.items; sets = sets.items } }
+    pub(crate) fn new(rules: Vec<Rule>, sets: SetList, leaves: u32, slashes: u32) -> Rules
+        requires { AreCounted (record { rules = rules.items; sets = sets }) leaves slashes }
+        ensures { result ≡ record { rules = rules.items; sets = sets } }
     {
         Rules {
             rules,
-            sets: SetList { items: sets },
+            sets,
             leaves,
             slashes,
         }

@@ -1,4 +1,4 @@
-//! Sets of characters, by ranges and by classes.
+//! Sets of characters by classes.
 use super::{Pairs, is_list, set_of};
 use crate::{CharacterSet, ClassSet, ClassShelf, Division};
 use rbbi_sets::CodeSet;
@@ -34,9 +34,7 @@ fn characters_of_sets(rt: HostRuntime) -> Result<(), Fail> {
     ];
     for (of, want) in &cases {
         let set = set_of(rt.alloc(), of)?;
-        let own = CharacterSet::of_set(rt.alloc(), &set)?;
         let shared = characters_of(rt.alloc(), &set, 0)?;
-        assert!(rt; is_list(&own.to_set(rt.alloc())?, want));
         assert!(rt; is_list(&shared.to_set(rt.alloc())?, want));
         for c in [
             0, 0x40, 0x41, 0x5A, 0x5B, 0x61, 0xD700, 0xD7FF, 0xD800, 0xDFFF, 0xE000, 0xE001,
@@ -46,7 +44,6 @@ fn characters_of_sets(rt: HostRuntime) -> Result<(), Fail> {
             for pair in *want {
                 is_member = is_member || (pair.0 <= c && c <= pair.1);
             }
-            assert_eq!(rt; own.has(c), is_member, "at {c}");
             assert_eq!(rt; shared.has(c), is_member, "at {c}");
         }
     }

@@ -1,5 +1,5 @@
 -- The context as the code has it: its variables, and what they stand for.
-use Rattle.std.specs.Prelude.{◌≡◌, ℕ, ◌<◌, ◌≤◌, nat_lt, Option, Some, None, List, slice_get, MatchOption, if◌then◌else◌}
+use Rattle.std.specs.Prelude.{◌≡◌, ℕ, ◌<◌, ◌≤◌, nat_lt, Option, Some, None, List, map, slice_get, MatchOption, if◌then◌else◌}
 use Rattle.std.specs.HashMap.{HashMap, get_by_text}
 use Rattle.std.specs.Rc.{rc_value}
 use Rattle.std.specs.declared.string.String.{String}
@@ -17,6 +17,9 @@ use Rattle.rbbi_resolve.specs.inner.ClassValues.{IsClassValue, AreRightClasses}
 use Rattle.rbbi_resolve.specs.Contexts as contexts
 use Rattle.rbbi_resolve.specs.Contexts.{assigned_to, value_of_name}
 use Rattle.rbbi_resolve.specs.inner.Covered.{NamesRespect}
+use Rattle.rbbi_model.specs.Ranges.{Range}
+use Rattle.rbbi_classes.specs.Classes.{ClassBits}
+use Rattle.rbbi_classes.specs.CharacterSets.{characters_of}
 use Rattle.rbbi_classes.specs.Divisions.{stand_in}
 use Rattle.rbbi_resolve.specs.Expressions.{variable_for}
 use Rattle.rbbi_resolve.specs.inner.Files.{context_at}
@@ -81,6 +84,10 @@ bounds_of context = (rc_value context.classes.now.division).bounds
 -- the code point that stands for those of its class
 abbrev pub stand_of : Context → ℕ → ℕ
 stand_of context c = stand_in (rc_value context.classes.now.division) c
+
+-- the sets of these rows of the context's classes
+abbrev pub sets_of : Context → List ClassBits → List (List Range)
+sets_of context rows = map (characters_of (rc_value context.classes.now.division)) rows
 
 -- the variables of the context are those before its limit, their sets have all or nothing of a class, and its classes are right
 pub record IsContext (files : List File) (context : Context) : Type 0 where

@@ -1,13 +1,14 @@
 -- Expressions whose sets are unions of classes.
-use Rattle.std.specs.Prelude.{◌≡◌, ℕ, ◌≤◌, ◌↔◌, Bool, IfSome, Option, Some, None, List, [], ◌++◌, slice_get}
+use Rattle.std.specs.Prelude.{◌≡◌, ℕ, ◌≤◌, ◌↔◌, Bool, IfSome, Option, Some, None, List, [], ◌∷◌, ◌++◌, length, slice_get}
 use Rattle.std.specs.List.{All, Contains, AllByRecursion}
 use Rattle.std.specs.HashMap.{values}
 use Rattle.std.specs.Rc.{rc_value}
+use Rattle.rbbi_bits.specs.BitRows.{Holds}
 use Rattle.rbbi_model.specs.Ranges.{Range, Has}
 use Rattle.rbbi_model.specs.SetTrees as model
 use Rattle.rbbi_sets.specs.Rising.{AreRising}
 use Rattle.rbbi_props.specs.Rows.{File}
-use Rattle.rbbi_tree.specs.Trees.{SetSyntax, PartTree, ExprTree, StatementTree, nothing, control, assign, rule, property, set}
+use Rattle.rbbi_tree.specs.Trees.{SetSyntax, PartTree, ExprTree, StatementTree, nothing, control, assign, rule, character, quoted, property, set}
 use Rattle.rbbi_resolve.specs.declared.collection.Collection.{Collection}
 use Rattle.rbbi_resolve.specs.declared.properties.Answer.{Answer}
 use Rattle.rbbi_resolve.specs.inner.SetValues.{IsValue}
@@ -29,8 +30,11 @@ abbrev pub SetRespects : List File → (ℕ → ℕ) → SetSyntax → Type 0
 SetRespects files stand s =
     (named : List ℕ → Option model.SetTree) → NamesRespect files stand named → IfSome (value_of_set files named s) (Respects files stand)
 
--- a set or a property that stands as an atom is covered if its value is a union of classes
+-- A character, a set or a property that stands as an atom is covered if its value is a union of classes. So is a quoted sequence whose
+-- characters are.
 abbrev pub IsCovered : List File → (ℕ → ℕ) → Part → Type 0
+IsCovered files stand (Outside place (character c bare)) = Respects files stand (model.Character c)
+IsCovered files stand (Outside place (quoted word)) = AllByRecursion (λ c. Respects files stand (model.Character c)) word
 IsCovered files stand (Outside place (property negated word value)) = IfSome (value_of_property files negated word value) (Respects files stand)
 IsCovered files stand (Outside place (set s)) = SetRespects files stand s
 IsCovered files stand _ = Unit {0}
@@ -79,9 +83,19 @@ pub record IsBasedAnswer (files : List File) (bases : List (List Range)) (answer
   pub right : IsRightAnswer files answer
   pub own : IfSome (rc_value answer.set) (Contains bases)
 
--- what was found for properties is right, and was collected
+-- one of these has this code point alone
+abbrev pub HasSingle : List (List Range) → ℕ → Type 0
+HasSingle bases c = HasSame bases (record { low = c; high = c } ∷ [])
+
+-- for each character of the row, which has room for all code points, one of these has it alone
+pub record AreSingled (bases : List (List Range)) (row : List ℕ) : Type 0 where
+  pub long : length row ≡ 17408
+  pub each : (c : ℕ) → Holds row c → HasSingle bases c
+
+-- what was found for properties is right, and was collected, and so were the sets of characters
 pub record IsCollection (files : List File) (collection : Collection) : Type 0 where
   pub answers : All (IsBasedAnswer files collection.bases.items) (values collection.answers)
+  pub singled : AreSingled collection.bases.items collection.characters.items
 
 -- sets were collected, by which parts are covered
 pub record Collects (files : List File) (before after : Collection) (parts : List Part) : Type 0 where

@@ -10,7 +10,7 @@ use Rattle.rbbi_resolve.specs.Parts.{parts_of_expr}
 use Rattle.rbbi_resolve.specs.Faults.{faults_of_parts}
 use Rattle.rbbi_resolve.specs.inner.Files.{context_at}
 use Rattle.rbbi_resolve.specs.Files.{context_after, after_control, rule_in, faults_of_rest, faults_at_slash}
-use Rattle.rbbi_resolve.specs.inner.Contexts.{context_of}
+use Rattle.rbbi_resolve.specs.inner.Contexts.{sets_of, context_of}
 use Rattle.rbbi_resolve.specs.inner.Switchings.{AreSwitches}
 use Rattle.rbbi_resolve.specs.declared.switches.Switches.{Switches}
 use Rattle.rbbi_resolve.specs.declared.rules.Rule.{Rule}
@@ -33,14 +33,14 @@ adds_none : (c : After-get) (s : StatementTree) (switches : Switches) →
     slice_get (statement_trees c.args.context.now.statements.now) c.args.context.now.limit ≡ Some s →
     AreSwitches switches
     (context_after (context_at c.args.builder.now.properties (statement_trees c.args.context.now.statements.now) c.args.context.now.limit) s) →
-    AllZip (IsRuleBuilt c.args.builder.now.properties c.args.builder.now.sets.items)
+    AllZip (IsRuleBuilt c.args.builder.now.properties (sets_of c.args.context.now c.args.builder.now.rows.items))
     (rule_in (context_at c.args.builder.now.properties (statement_trees c.args.context.now.statements.now) c.args.context.now.limit) s) [] →
-    AreRulesTo c.args.builder.now.properties (statement_trees c.args.context.now.statements.now) c.args.builder.now.sets.items
+    AreRulesTo c.args.builder.now.properties (statement_trees c.args.context.now.statements.now) (sets_of c.args.context.now c.args.builder.now.rows.items)
     c.args.builder.now.bases.items switches c.args.rules.now.items (c.args.context.now.limit + 1)
 adds_none c s switches at switch none =
     let files = c.args.builder.now.properties in
     let T = statement_trees c.args.context.now.statements.now in
-    let sets = c.args.builder.now.sets.items in
+    let sets = (sets_of c.args.context.now c.args.builder.now.rows.items) in
     let bases = c.args.builder.now.bases.items in
     statement_built files T sets sets bases bases c.args.switches.now switches c.args.rules.now.items c.args.rules.now.items [] c.args.context.now.limit s
     c.requires.rules at (goes_nowhere files T sets bases c.requires.rules.builder) switch none (sym (append-nil c.args.rules.now.items))
@@ -102,7 +102,7 @@ returns-then-not-switches-clause-added c =
     adds_none (goal.at.returns-then-not-switches-clause-added c).After-get
     (rule c.in-Rule.place c.in-Rule.no_chain_in front c.in-Rule.slash rest c.in-Rule.tag) c.args.switches.now
     (tree_at xs n _ (c.get.ensures ∙ ap Some c.in-Rule.is)) c.requires.rules.switched
-    (subst (λ b. AllZip (IsRuleBuilt files c.args.builder.now.sets.items) (if b then means ∷ [] else []) []) (sym inactive) tt)
+    (subst (λ b. AllZip (IsRuleBuilt files (sets_of c.args.context.now c.args.builder.now.rows.items)) (if b then means ∷ [] else []) []) (sym inactive) tt)
 
 pub tree-requires-clause-faultless : goal.tree-requires-clause-faultless
 tree-requires-clause-faultless c = (faultless (goal.at.tree-requires-clause-faultless c).In-Rule).0
@@ -118,9 +118,9 @@ returns-in_ok-push-in-Rule-clause-added c =
     let xs = c.args.context.now.statements.now in
     let T = statement_trees xs in
     let n = c.args.context.now.limit in
-    let sets = c.args.builder.now.sets.items in
-    let mid = c.tree.new.self.sets.items in
-    let last = c.tree_of_rest.new.builder.sets.items in
+    let sets = (sets_of c.args.context.now c.args.builder.now.rows.items) in
+    let mid = (sets_of c.args.context.now c.tree.new.self.rows.items) in
+    let last = (sets_of c.args.context.now c.tree_of_rest.new.builder.rows.items) in
     let r = c.requires.rules in
     let front = expr_tree c.in-Rule.front in
     let rest = rest_tree c.in-Rule.rest in

@@ -1,8 +1,6 @@
-use Rattle.std.proofs.Common.{◌≡◌, None, [], ◌∷◌, length, slice_get, sym, ap, ◌∙◌, subst, arith}
-use Rattle.std.specs.List.{AllByRecursion}
+use Rattle.std.proofs.Common.{◌≡◌, None, [], ◌∷◌, length, slice_get, sym, ap, ◌∙◌, arith}
 use Rattle.std.proofs.lemmas.List.{length-map, length-append}
 use Rattle.rbbi_tree.specs.Values.{statement_trees}
-use Rattle.rbbi_resolve.specs.RuleLists.{IsLeafSet}
 use Rattle.rbbi_resolve.proofs.Ending.{no_base}
 use Rattle.rbbi_resolve.proofs.active.new_builder.Goals as goal
 
@@ -20,12 +18,11 @@ loop-preserved c =
 
 pub returns-clause-builder : goal.returns-clause-builder
 returns-clause-builder c =
-    let none = ap length c.new.ensures.items in
     let long : length (statement_trees c.args.statements.now) ≡ length c.args.statements.now = simp length-map in
     let before = c.loop.invariant.0 in
     record {
       few = omega arith;
-      formed = subst (AllByRecursion IsLeafSet) (sym c.new.ensures.items) tt;
+      formed = tt;
       long = omega (arith, c.len-end.ensures);
       based = λ number base expr at is. absurd (c.loop.invariant.1 number base at);
     }

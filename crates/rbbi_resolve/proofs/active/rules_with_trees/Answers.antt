@@ -7,6 +7,7 @@ use Rattle.rbbi_resolve.specs.inner.RulesSoFar.{IsRuleBuilt, AreRulesTo, AreAllR
 use Rattle.rbbi_resolve.proofs.RulesBuilt.{all_built}
 use Rattle.rbbi_resolve.proofs.Ending.{rules_at_start, switches_at_start}
 use Rattle.rbbi_resolve.proofs.active.rules_with_trees.Goals as goal
+use Rattle.rbbi_resolve.specs.inner.Contexts.{sets_of}
 
 pub loop-number-init : goal.loop-number-init
 loop-number-init c =
@@ -19,7 +20,7 @@ loop-number-init c =
         switched = switches_at_start files T c.new-switches.result (c.new-switches.ensures files);
         done = [];
         every = rules_at_start files T;
-        each = subst (λ rs. AllZip (IsRuleBuilt files c.args.builder.now.sets.items) [] rs) (sym c.new-rules.ensures.items) tt;
+        each = subst (λ rs. AllZip (IsRuleBuilt files (sets_of c.args.context.now c.args.builder.now.rows.items)) [] rs) (sym c.new-rules.ensures.items) tt;
         used = λ n low. absurd (omega arith);
       },
     )
@@ -46,7 +47,8 @@ loop-number-preserved c =
     let n = c.add_statement.new in
     let same = c.in_ok-add_statement.ensures.same in (
       same ∙ c.loop-number.invariant.0,
-      subst (λ f. AreRulesTo f (statement_trees c.args.context.now.statements.now) n.builder.sets.items n.builder.bases.items n.switches n.rules.items
+      subst (λ f. AreRulesTo f (statement_trees c.args.context.now.statements.now) (sets_of c.args.context.now n.builder.rows.items) n.builder.bases.items
+      n.switches n.rules.items
           (c.loop-number.number + 1)) (sym same) c.in_ok-add_statement.ensures.added,
     )
 
@@ -58,6 +60,7 @@ returns c =
     let all = c.requires.all in
     let test = c.loop-number-test.false in
     record {
-      built = subst (λ f. AreAllRules f T l.builder.sets.items l.rules.items) l.invariant.0
-          (all_built l.builder.properties T l.builder.sets.items l.builder.bases.items l.switches l.rules.items l.number (omega arith) l.invariant.1);
+      built = subst (λ f. AreAllRules f T (sets_of c.args.context.now l.builder.rows.items) l.rules.items) l.invariant.0
+          (all_built l.builder.properties T (sets_of c.args.context.now l.builder.rows.items) l.builder.bases.items l.switches l.rules.items l.number
+          (omega arith) l.invariant.1);
     }

@@ -1,7 +1,7 @@
 use Rattle.std.proofs.Common.{arith}
 use Rattle.rbbi_resolve.proofs.Collecting.{atom_collected, collecting_starts, seqs_turn, seqs_end, items_turn, items_end}
 use Rattle.std.proofs.Common.{◌≡◌, [], sym, ap, ◌∙◌, subst}
-use Rattle.rbbi_tree.specs.Trees.{AtomTree, placed, property, set, group}
+use Rattle.rbbi_tree.specs.Trees.{AtomTree, placed, character, quoted, property, set, group}
 use Rattle.rbbi_tree.specs.declared.syntax.Item.{Item}
 use Rattle.rbbi_tree.specs.declared.syntax.Atom.{Atom}
 use Rattle.rbbi_tree.specs.declared.syntax.Atom.TheViews.{out-Item}
@@ -9,8 +9,9 @@ use Rattle.rbbi_tree.specs.Values.{item_tree, atom_tree, set_tree, expr_tree, it
 use Rattle.rbbi_resolve.specs.SetValues.{value_of_property}
 use Rattle.rbbi_resolve.specs.Parts.{Outside, parts_of_item, parts_of_set, parts_of_expr}
 use Rattle.rbbi_resolve.specs.inner.Covered.{Collects}
-use Rattle.rbbi_resolve.proofs.ItemTrees.{atom_of_property, atom_of_set, atom_of_group}
+use Rattle.rbbi_resolve.proofs.ItemTrees.{atom_of_character, atom_of_quoted, atom_of_property, atom_of_set, atom_of_group}
 use Rattle.rbbi_resolve.proofs.Covering.{based_respects, set_covered}
+use Rattle.rbbi_resolve.proofs.SetRuns.{character_respects, word_respects}
 use Rattle.rbbi_resolve.proofs.collect.+collect.Goals as goal
 
 pub collect_expr-loop-seq-init : goal.collect_expr-loop-seq-init
@@ -45,6 +46,30 @@ collect_seq-returns-clause-collected t c =
 item_is : (i : Item) (a : Atom) (tree : AtomTree) → (out-Item i).atom ≡ a → atom_tree a ≡ tree →
     item_tree i ≡ placed (out-Item i).place tree (out-Item i).quant
 item_is i a tree is same = item_tree_out i ∙ ap (λ x. placed (out-Item i).place x (out-Item i).quant) (ap atom_tree is ∙ same)
+
+pub collect_item-returns-in_ok-add_character-in-Char-clause-collected : goal.collect_item-returns-in_ok-add_character-in-Char-clause-collected
+collect_item-returns-in_ok-add_character-in-Char-clause-collected t c =
+    let files = c.args.properties.now in
+    let now = c.args.collection.now in
+    let after = c.add_character.new.self in
+    let i = c.args.item.now in
+    let r = c.in-Char in
+    let done = c.in_ok-add_character-in-Char.ensures in
+    subst (λ x. Collects files now after (parts_of_item x)) (sym (item_is i _ (character r.c r.bare) r.is (atom_of_character r.c r.bare)))
+    (atom_collected files now after [] (Outside i.place (character r.c r.bare)) done.keeps (done.kept files c.requires)
+    (λ stand are. (record { each = tt }, character_respects files stand r.c after.bases.items are (λ order. done.added))))
+
+pub collect_item-returns-in_ok-add_word-in-Quoted-clause-collected : goal.collect_item-returns-in_ok-add_word-in-Quoted-clause-collected
+collect_item-returns-in_ok-add_word-in-Quoted-clause-collected t c =
+    let files = c.args.properties.now in
+    let now = c.args.collection.now in
+    let after = c.add_word.new.self in
+    let i = c.args.item.now in
+    let r = c.in-Quoted in
+    let done = c.in_ok-add_word-in-Quoted.ensures in
+    subst (λ x. Collects files now after (parts_of_item x)) (sym (item_is i _ (quoted r.word) r.is (atom_of_quoted r.word)))
+    (atom_collected files now after [] (Outside i.place (quoted r.word)) done.keeps (done.kept files c.requires)
+    (λ stand are. (record { each = tt }, word_respects files stand after.bases.items are r.word done.added)))
 
 pub collect_item-returns-in_ok-add_property-in-Prop-clause-collected : goal.collect_item-returns-in_ok-add_property-in-Prop-clause-collected
 collect_item-returns-in_ok-add_property-in-Prop-clause-collected t c =

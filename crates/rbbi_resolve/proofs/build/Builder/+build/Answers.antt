@@ -7,7 +7,7 @@ use Rattle.rbbi_resolve.specs.SetValues.{value_of_set, value_of_property}
 use Rattle.rbbi_resolve.specs.Contexts.{value_of_name}
 use Rattle.rbbi_resolve.specs.Meanings.{Leaf}
 use Rattle.rbbi_resolve.specs.Expressions.{meaning_of_expr, meaning_of_seq, meaning_of_item, meaning_of_atom}
-use Rattle.rbbi_resolve.specs.inner.Contexts.{context_of}
+use Rattle.rbbi_resolve.specs.inner.Contexts.{sets_of, context_of}
 use Rattle.rbbi_resolve.specs.inner.OwnLeaves.{set_or_nothing, leaves_of_expr, leaves_of_seq, leaves_of_item, leaves_of_atom}
 use Rattle.rbbi_resolve.specs.inner.Builders.{StandFrom, IsBuilt, IsBuilder, IsReady}
 use Rattle.rbbi_resolve.proofs.Counting.{expr_by_items, seq_by_items, exprs_left, seqs_left}
@@ -29,11 +29,12 @@ definition-tree_of_expr-requires t c =
     let smaller : weight T context.limit + (size_of_expr e + 1) < weight T (context.limit + 1) = omega arith in
     let back = sym c.in_ok-next-in-Some.ensures.same in
     let ready : IsReady c.base.new.self.properties context = subst (λ f. IsReady f context) back c.requires.ready in
-    let builder : IsBuilder c.base.new.self.properties T c.base.new.self.sets.items c.base.new.self.bases.items =
-    subst (λ f. IsBuilder f T c.base.new.self.sets.items c.base.new.self.bases.items) back c.in_ok-next-in-Some.ensures.on.builder in
-    let stand : StandFrom c.base.new.self.properties c.base.new.self.sets.items c.in_ok-next-in-Some.next
+    let builder : IsBuilder c.base.new.self.properties T (sets_of c.args.context.now c.base.new.self.rows.items) c.base.new.self.bases.items =
+    subst (λ f. IsBuilder f T (sets_of c.args.context.now c.base.new.self.rows.items) c.base.new.self.bases.items) back c.in_ok-next-in-Some.ensures.on.builder
+    in
+    let stand : StandFrom c.base.new.self.properties (sets_of c.args.context.now c.base.new.self.rows.items) c.in_ok-next-in-Some.next
     (leaves_of_expr (context_of c.base.new.self.properties context) e) =
-    subst (λ f. StandFrom f c.base.new.self.sets.items c.in_ok-next-in-Some.next (leaves_of_expr (context_of f context) e)) back
+    subst (λ f. StandFrom f (sets_of c.args.context.now c.base.new.self.rows.items) c.in_ok-next-in-Some.next (leaves_of_expr (context_of f context) e)) back
     c.in_ok-next-in-Some.ensures.stand in
     search rules
 
@@ -43,18 +44,21 @@ definition-returns-in_ok-tree-in-Some-clause-built t c =
     let files = c.args.self.now.properties in
     let e = expr_tree c.in-Some.expr.now in
     let same = c.in_ok-next-in-Some.ensures.same in
-    let built = subst (λ f. IsBuilt f (length c.base.new.self.sets.items) c.tree_of_expr.new.self.sets.items c.in_ok-next-in-Some.next
+    let built = subst (λ f. IsBuilt f (length (sets_of c.args.context.now c.base.new.self.rows.items))
+    (sets_of c.args.context.now c.tree_of_expr.new.self.rows.items) c.in_ok-next-in-Some.next
     c.tree_of_expr.new.next (meaning_of_expr (context_of f context) e) c.in_ok-tree-in-Some.tree) same c.in_ok-tree-in-Some.ensures.built in
     let moved = subst (λ f. c.tree_of_expr.new.next ≡ c.in_ok-next-in-Some.next + length (leaves_of_expr (context_of f context) e)) same
     c.in_ok-tree-in-Some.ensures.moved in
-    let whole = whole_built files (length c.args.self.now.sets.items) (length c.base.new.self.sets.items) c.tree_of_expr.new.self.sets.items
+    let whole = whole_built files (length (sets_of c.args.context.now c.args.self.now.rows.items))
+    (length (sets_of c.args.context.now c.base.new.self.rows.items)) (sets_of c.args.context.now c.tree_of_expr.new.self.rows.items)
     c.in_ok-next-in-Some.next c.tree_of_expr.new.next (meaning_of_expr (context_of files context) e) c.in_ok-tree-in-Some.tree built
     (λ k low high. c.in_ok-next-in-Some.ensures.fresh k low high) (λ k low high. let below = c.in_ok-next-in-Some.ensures.all k low high in omega arith) in
     λ expr is.
     let at = c.in-Some.ensures.some.at in
     let other = is.at in
     let eq : expr ≡ e = cc in
-    subst (λ x. IsBuilt files (length c.args.self.now.sets.items) c.tree_of_expr.new.self.sets.items 0 0 (meaning_of_expr (context_of files context) x)
+    subst (λ x. IsBuilt files (length (sets_of c.args.context.now c.args.self.now.rows.items)) (sets_of c.args.context.now c.tree_of_expr.new.self.rows.items)
+    0 0 (meaning_of_expr (context_of files context) x)
     c.in_ok-tree-in-Some.tree) (sym eq) whole
 
 pub definition-returns-in-None-clause-built : goal.definition-returns-in-None-clause-built
@@ -65,8 +69,8 @@ tree_of_atom-tree_of_word-requires t c =
     let files = c.args.self.now.properties in
     let k = context_of files c.args.context.now in
     let e : atom_tree c.args.atom.now ≡ quoted c.in-Quoted.word = let i = c.in-Quoted.is in ap atom_tree i ∙ atom_of_quoted c.in-Quoted.word in
-    let stand = subst (λ a. StandFrom files c.args.self.now.sets.items c.args.next.now (leaves_of_atom k a)) e c.requires.stand in
-    let low = stand_low files c.args.self.now.sets.items c.args.next.now (map model.Character c.in-Quoted.word) stand in
+    let stand = subst (λ a. StandFrom files (sets_of c.args.context.now c.args.self.now.rows.items) c.args.next.now (leaves_of_atom k a)) e c.requires.stand in
+    let low = stand_low files (sets_of c.args.context.now c.args.self.now.rows.items) c.args.next.now (map model.Character c.in-Quoted.word) stand in
     let long : length (map model.Character c.in-Quoted.word) ≡ length c.in-Quoted.word = simp length-map in
     omega (arith, c.requires.builder.few)
 
@@ -109,7 +113,7 @@ pub tree_of_atom-returns-in-Char-clause-built : goal.tree_of_atom-returns-in-Cha
 tree_of_atom-returns-in-Char-clause-built t c =
     let files = c.args.self.now.properties in
     let k = context_of files c.args.context.now in
-    let sets = c.args.self.now.sets.items in
+    let sets = (sets_of c.args.context.now c.args.self.now.rows.items) in
     let e : atom_tree c.args.atom.now ≡ character c.in-Char.c c.in-Char.bare = let i =
     c.in-Char.is in ap atom_tree i ∙ atom_of_character c.in-Char.c c.in-Char.bare in
     let stand = subst (λ a. StandFrom files sets c.args.next.now (leaves_of_atom k a)) e c.requires.stand in
@@ -121,7 +125,7 @@ pub tree_of_atom-returns-in-Any-clause-built : goal.tree_of_atom-returns-in-Any-
 tree_of_atom-returns-in-Any-clause-built t c =
     let files = c.args.self.now.properties in
     let k = context_of files c.args.context.now in
-    let sets = c.args.self.now.sets.items in
+    let sets = (sets_of c.args.context.now c.args.self.now.rows.items) in
     let e : atom_tree c.args.atom.now ≡ any = let i = c.in-Any.is in ap atom_tree i ∙ atom_of_any in
     let stand = subst (λ a. StandFrom files sets c.args.next.now (leaves_of_atom k a)) e c.requires.stand in
     let r = c.next_leaf-in-Any.result in
@@ -133,7 +137,7 @@ pub tree_of_atom-returns-in-Prop-clause-built : goal.tree_of_atom-returns-in-Pro
 tree_of_atom-returns-in-Prop-clause-built t c =
     let files = c.args.self.now.properties in
     let k = context_of files c.args.context.now in
-    let sets = c.args.self.now.sets.items in
+    let sets = (sets_of c.args.context.now c.args.self.now.rows.items) in
     let v = value_of_property k.files c.in-Prop.negated c.in-Prop.name c.in-Prop.value in
     let e : atom_tree c.args.atom.now ≡ property c.in-Prop.negated c.in-Prop.name c.in-Prop.value = let i =
     c.in-Prop.is in ap atom_tree i ∙ atom_of_property c.in-Prop.negated c.in-Prop.name c.in-Prop.value in
@@ -149,7 +153,7 @@ pub tree_of_atom-returns-in-Set-clause-built : goal.tree_of_atom-returns-in-Set-
 tree_of_atom-returns-in-Set-clause-built t c =
     let files = c.args.self.now.properties in
     let k = context_of files c.args.context.now in
-    let sets = c.args.self.now.sets.items in
+    let sets = (sets_of c.args.context.now c.args.self.now.rows.items) in
     let s = set_tree c.in-Set.field-0 in
     let v = value_of_set k.files (value_of_name k) s in
     let e : atom_tree c.args.atom.now ≡ set s = let i = c.in-Set.is in ap atom_tree i ∙ atom_of_set c.in-Set.field-0 in
@@ -171,7 +175,7 @@ pub tree_of_atom-returns-in_ok-tree-in-Quoted-clause-built : goal.tree_of_atom-r
 tree_of_atom-returns-in_ok-tree-in-Quoted-clause-built t c =
     let files = c.args.self.now.properties in
     let k = context_of files c.args.context.now in
-    let sets = c.args.self.now.sets.items in
+    let sets = (sets_of c.args.context.now c.args.self.now.rows.items) in
     let e : atom_tree c.args.atom.now ≡ quoted c.in-Quoted.word = let i = c.in-Quoted.is in ap atom_tree i ∙ atom_of_quoted c.in-Quoted.word in
     let stand = subst (λ a. StandFrom files sets c.args.next.now (leaves_of_atom k a)) e c.requires.stand in
     subst (λ a. IsBuilt files (length sets) sets c.args.next.now c.tree_of_word.new.next (meaning_of_atom k a) c.in_ok-tree-in-Quoted.tree) (sym e)
@@ -183,16 +187,18 @@ tree_of_atom-returns-in_ok-tree-in-Some-clause-built t c =
     let context = c.args.context.now in
     let n = named files context c.in-Name.name c.in-Some.variable.now c.requires.ready c.in-Some.ensures in
     let e : atom_tree c.args.atom.now ≡ name c.in-Name.name = let i = c.in-Name.is in ap atom_tree i ∙ atom_of_name c.in-Name.name in
-    let built = other_built files (length c.args.self.now.sets.items) c.definition.new.self.sets.items c.args.next.now _ c.in_ok-tree-in-Some.tree
+    let built = other_built files (length (sets_of c.args.context.now c.args.self.now.rows.items))
+    (sets_of c.args.context.now c.definition.new.self.rows.items) c.args.next.now _ c.in_ok-tree-in-Some.tree
     (c.in_ok-tree-in-Some.ensures.built n.expr n.assigned) in
-    subst (λ m. IsBuilt files (length c.args.self.now.sets.items) c.definition.new.self.sets.items c.args.next.now c.args.next.now m
+    subst (λ m. IsBuilt files (length (sets_of c.args.context.now c.args.self.now.rows.items)) (sets_of c.args.context.now c.definition.new.self.rows.items)
+    c.args.next.now c.args.next.now m
     c.in_ok-tree-in-Some.tree) (sym (ap (meaning_of_atom (context_of files context)) e ∙ n.means)) built
 
 pub tree_of_atom-returns-in-None-clause-built : goal.tree_of_atom-returns-in-None-clause-built
 tree_of_atom-returns-in-None-clause-built t c =
     let files = c.args.self.now.properties in
     let context = c.args.context.now in
-    let sets = c.args.self.now.sets.items in
+    let sets = (sets_of c.args.context.now c.args.self.now.rows.items) in
     let never = unnamed files context c.in-Name.name c.requires.ready c.in-None.ensures in
     let e : atom_tree c.args.atom.now ≡ name c.in-Name.name = let i = c.in-Name.is in ap atom_tree i ∙ atom_of_name c.in-Name.name in
     subst (λ m. IsBuilt files (length sets) sets c.args.next.now c.args.next.now m c.no_tree.result)
@@ -204,8 +210,8 @@ tree_of_expr-loop-seq-init t c =
     let files = c.args.self.now.properties in
     let k = context_of files c.args.context.now in
     let tree = expr_by_items c.args.expr.now _ c.deref-seq-items.ensures.value in
-    building_start files _ c.args.self.now.sets.items _ c.args.next.now _ _ _ c.requires.builder c.new-items.ensures.items
-    (subst (λ x. StandFrom files c.args.self.now.sets.items c.args.next.now (leaves_of_expr k x)) tree c.requires.stand)
+    building_start files _ (sets_of c.args.context.now c.args.self.now.rows.items) _ c.args.next.now _ _ _ c.requires.builder c.new-items.ensures.items
+    (subst (λ x. StandFrom files (sets_of c.args.context.now c.args.self.now.rows.items) c.args.next.now (leaves_of_expr k x)) tree c.requires.stand)
 
 pub tree_of_expr-tree_of_seq-requires : goal.tree_of_expr-tree_of_seq-requires
 tree_of_expr-tree_of_seq-requires t c =
@@ -224,12 +230,15 @@ tree_of_expr-tree_of_seq-requires t c =
     (expr_tree c.args.expr.now) + 1) = omega arith in
     let back = sym l.invariant.same in
     let ready : IsReady l.self.properties context = subst (λ f. IsReady f context) back c.requires.ready in
-    let builder : IsBuilder l.self.properties T l.self.sets.items l.self.bases.items =
-    subst (λ f. IsBuilder f T l.self.sets.items l.self.bases.items) back l.invariant.goes.builder in
-    let stand : StandFrom l.self.properties l.self.sets.items l.next (leaves_of_seq (context_of l.self.properties context) (seq_tree p)) =
-    subst (λ f. StandFrom f l.self.sets.items l.next (leaves_of_seq (context_of f context) (seq_tree p))) back
-    (stand_first files l.self.sets.items l.next (leaves_of_seq k (seq_tree p)) (leaves_of_expr k (expr_of (map seq_tree (drop (l.seq-index + 1) xs))))
-    (subst (λ x. StandFrom files l.self.sets.items l.next (leaves_of_expr k x)) (exprs_left xs l.seq-index p inside c.seq-item.is) l.invariant.stand)) in
+    let builder : IsBuilder l.self.properties T (sets_of c.args.context.now l.self.rows.items) l.self.bases.items =
+    subst (λ f. IsBuilder f T (sets_of c.args.context.now l.self.rows.items) l.self.bases.items) back l.invariant.goes.builder in
+    let stand : StandFrom l.self.properties (sets_of c.args.context.now l.self.rows.items) l.next
+    (leaves_of_seq (context_of l.self.properties context) (seq_tree p)) =
+    subst (λ f. StandFrom f (sets_of c.args.context.now l.self.rows.items) l.next (leaves_of_seq (context_of f context) (seq_tree p))) back
+    (stand_first files (sets_of c.args.context.now l.self.rows.items) l.next (leaves_of_seq k (seq_tree p))
+    (leaves_of_expr k (expr_of (map seq_tree (drop (l.seq-index + 1) xs))))
+    (subst (λ x. StandFrom files (sets_of c.args.context.now l.self.rows.items) l.next (leaves_of_expr k x)) (exprs_left xs l.seq-index p inside c.seq-item.is)
+    l.invariant.stand)) in
     search rules
 
 pub tree_of_expr-loop-seq-preserved : goal.tree_of_expr-loop-seq-preserved
@@ -242,8 +251,9 @@ tree_of_expr-loop-seq-preserved t c =
     let p = c.seq-item.result in
     let ds : drop l.seq-index xs ≡ p ∷ drop (l.seq-index + 1) xs = drop_more xs l.seq-index p (omega arith)
     ∙ ap (λ q. q ∷ drop (l.seq-index + 1) xs) (sym c.seq-item.is) in
-    let here = subst (λ ys. AreBuilding files (statement_trees context.statements.now) c.args.self.now.sets.items c.args.next.now
-    (map (meaning_of_seq k) (map seq_tree xs)) (leaves_of_expr k (expr_of (map seq_tree xs))) l.self.properties l.self.sets.items l.self.bases.items
+    let here = subst (λ ys. AreBuilding files (statement_trees context.statements.now) (sets_of c.args.context.now c.args.self.now.rows.items) c.args.next.now
+    (map (meaning_of_seq k) (map seq_tree xs)) (leaves_of_expr k (expr_of (map seq_tree xs))) l.self.properties (sets_of c.args.context.now l.self.rows.items)
+    l.self.bases.items
     l.next l.items.items (map (meaning_of_seq k) (map seq_tree ys)) (leaves_of_expr k (expr_of (map seq_tree ys)))) ds l.invariant in
     building_turn files _ _ _ _ _ _ _ _ _ _ _ _ _ _ _ _ (λ f. meaning_of_seq (context_of f context) (seq_tree p)) _
     (λ f. leaves_of_seq (context_of f context) (seq_tree p)) _ here
@@ -269,8 +279,10 @@ tree_of_expr-returns-clause-built t c =
     let xs = c.deref-seq-items.result.now in
     let none = ap (λ ys. map (meaning_of_seq k) (map seq_tree ys)) (drop_all l.seq-index xs (omega arith)) in
     let eq = sym (expr_means k (map seq_tree xs)) ∙ ap (meaning_of_expr k) (sym (expr_by_items c.args.expr.now _ c.deref-seq-items.ensures.value)) in
-    subst (λ m. IsBuilt files (length c.args.self.now.sets.items) l.self.sets.items c.args.next.now l.next m c.in_choice.result) eq
-    (choice_built files (length c.args.self.now.sets.items) l.self.sets.items c.args.next.now l.next _ l.items.items c.in_choice.result
+    subst (λ m. IsBuilt files (length (sets_of c.args.context.now c.args.self.now.rows.items)) (sets_of c.args.context.now l.self.rows.items) c.args.next.now
+    l.next m c.in_choice.result) eq
+    (choice_built files (length (sets_of c.args.context.now c.args.self.now.rows.items)) (sets_of c.args.context.now l.self.rows.items) c.args.next.now l.next
+    _ l.items.items c.in_choice.result
     (building_end files _ _ _ _ _ _ _ _ _ _ _ _ l.invariant none) c.in_choice.ensures.tree c.in_choice.ensures.numbers)
 
 pub tree_of_item-returns-clause-built : goal.tree_of_item-returns-clause-built
@@ -278,10 +290,12 @@ tree_of_item-returns-clause-built t c =
     let files = c.args.self.now.properties in
     let k = context_of files c.args.context.now in
     let i = c.args.item.now in
-    let sets = c.tree_of_atom.new.self.sets.items in
-    subst (λ x. IsBuilt files (length c.args.self.now.sets.items) sets c.args.next.now c.tree_of_atom.new.next (meaning_of_item k x) c.in_ok-tree.tree)
+    let sets = (sets_of c.args.context.now c.tree_of_atom.new.self.rows.items) in
+    subst (λ x. IsBuilt files (length (sets_of c.args.context.now c.args.self.now.rows.items)) sets c.args.next.now c.tree_of_atom.new.next
+    (meaning_of_item k x) c.in_ok-tree.tree)
     (sym (item_tree_out i))
-    (repeated_built files i.quant (length c.args.self.now.sets.items) sets c.args.next.now c.tree_of_atom.new.next (meaning_of_atom k (atom_tree i.atom))
+    (repeated_built files i.quant (length (sets_of c.args.context.now c.args.self.now.rows.items)) sets c.args.next.now c.tree_of_atom.new.next
+    (meaning_of_atom k (atom_tree i.atom))
     c.in_ok-part.part c.in_ok-tree.tree c.in_ok-part.ensures.built c.in_ok-tree.ensures.tree c.in_ok-tree.ensures.numbers)
 
 pub tree_of_seq-loop-item-init : goal.tree_of_seq-loop-item-init
@@ -289,8 +303,8 @@ tree_of_seq-loop-item-init t c =
     let files = c.args.self.now.properties in
     let k = context_of files c.args.context.now in
     let tree = seq_by_items c.args.seq.now _ c.deref-item-items.ensures.value in
-    building_start files _ c.args.self.now.sets.items _ c.args.next.now _ _ _ c.requires.builder c.new-items.ensures.items
-    (subst (λ x. StandFrom files c.args.self.now.sets.items c.args.next.now (leaves_of_seq k x)) tree c.requires.stand)
+    building_start files _ (sets_of c.args.context.now c.args.self.now.rows.items) _ c.args.next.now _ _ _ c.requires.builder c.new-items.ensures.items
+    (subst (λ x. StandFrom files (sets_of c.args.context.now c.args.self.now.rows.items) c.args.next.now (leaves_of_seq k x)) tree c.requires.stand)
 
 pub tree_of_seq-tree_of_item-requires : goal.tree_of_seq-tree_of_item-requires
 tree_of_seq-tree_of_item-requires t c =
@@ -309,12 +323,15 @@ tree_of_seq-tree_of_item-requires t c =
     (seq_tree c.args.seq.now) + 1) = omega arith in
     let back = sym l.invariant.same in
     let ready : IsReady l.self.properties context = subst (λ f. IsReady f context) back c.requires.ready in
-    let builder : IsBuilder l.self.properties T l.self.sets.items l.self.bases.items =
-    subst (λ f. IsBuilder f T l.self.sets.items l.self.bases.items) back l.invariant.goes.builder in
-    let stand : StandFrom l.self.properties l.self.sets.items l.next (leaves_of_item (context_of l.self.properties context) (item_tree p)) =
-    subst (λ f. StandFrom f l.self.sets.items l.next (leaves_of_item (context_of f context) (item_tree p))) back
-    (stand_first files l.self.sets.items l.next (leaves_of_item k (item_tree p)) (leaves_of_seq k (seq_of (map item_tree (drop (l.item-index + 1) xs))))
-    (subst (λ x. StandFrom files l.self.sets.items l.next (leaves_of_seq k x)) (seqs_left xs l.item-index p inside c.item-item.is) l.invariant.stand)) in
+    let builder : IsBuilder l.self.properties T (sets_of c.args.context.now l.self.rows.items) l.self.bases.items =
+    subst (λ f. IsBuilder f T (sets_of c.args.context.now l.self.rows.items) l.self.bases.items) back l.invariant.goes.builder in
+    let stand : StandFrom l.self.properties (sets_of c.args.context.now l.self.rows.items) l.next
+    (leaves_of_item (context_of l.self.properties context) (item_tree p)) =
+    subst (λ f. StandFrom f (sets_of c.args.context.now l.self.rows.items) l.next (leaves_of_item (context_of f context) (item_tree p))) back
+    (stand_first files (sets_of c.args.context.now l.self.rows.items) l.next (leaves_of_item k (item_tree p))
+    (leaves_of_seq k (seq_of (map item_tree (drop (l.item-index + 1) xs))))
+    (subst (λ x. StandFrom files (sets_of c.args.context.now l.self.rows.items) l.next (leaves_of_seq k x)) (seqs_left xs l.item-index p inside c.item-item.is)
+    l.invariant.stand)) in
     search rules
 
 pub tree_of_seq-loop-item-preserved : goal.tree_of_seq-loop-item-preserved
@@ -327,8 +344,9 @@ tree_of_seq-loop-item-preserved t c =
     let p = c.item-item.result in
     let ds : drop l.item-index xs ≡ p ∷ drop (l.item-index + 1) xs = drop_more xs l.item-index p (omega arith)
     ∙ ap (λ q. q ∷ drop (l.item-index + 1) xs) (sym c.item-item.is) in
-    let here = subst (λ ys. AreBuilding files (statement_trees context.statements.now) c.args.self.now.sets.items c.args.next.now
-    (map (meaning_of_item k) (map item_tree xs)) (leaves_of_seq k (seq_of (map item_tree xs))) l.self.properties l.self.sets.items l.self.bases.items
+    let here = subst (λ ys. AreBuilding files (statement_trees context.statements.now) (sets_of c.args.context.now c.args.self.now.rows.items) c.args.next.now
+    (map (meaning_of_item k) (map item_tree xs)) (leaves_of_seq k (seq_of (map item_tree xs))) l.self.properties (sets_of c.args.context.now l.self.rows.items)
+    l.self.bases.items
     l.next l.items.items (map (meaning_of_item k) (map item_tree ys)) (leaves_of_seq k (seq_of (map item_tree ys)))) ds l.invariant in
     building_turn files _ _ _ _ _ _ _ _ _ _ _ _ _ _ _ _ (λ f. meaning_of_item (context_of f context) (item_tree p)) _
     (λ f. leaves_of_item (context_of f context) (item_tree p)) _ here
@@ -354,6 +372,8 @@ tree_of_seq-returns-clause-built t c =
     let xs = c.deref-item-items.result.now in
     let none = ap (λ ys. map (meaning_of_item k) (map item_tree ys)) (drop_all l.item-index xs (omega arith)) in
     let eq = sym (seq_means k (map item_tree xs)) ∙ ap (meaning_of_seq k) (sym (seq_by_items c.args.seq.now _ c.deref-item-items.ensures.value)) in
-    subst (λ m. IsBuilt files (length c.args.self.now.sets.items) l.self.sets.items c.args.next.now l.next m c.in_sequence.result) eq
-    (sequence_built files (length c.args.self.now.sets.items) l.self.sets.items c.args.next.now l.next _ l.items.items c.in_sequence.result
+    subst (λ m. IsBuilt files (length (sets_of c.args.context.now c.args.self.now.rows.items)) (sets_of c.args.context.now l.self.rows.items) c.args.next.now
+    l.next m c.in_sequence.result) eq
+    (sequence_built files (length (sets_of c.args.context.now c.args.self.now.rows.items)) (sets_of c.args.context.now l.self.rows.items) c.args.next.now
+    l.next _ l.items.items c.in_sequence.result
     (building_end files _ _ _ _ _ _ _ _ _ _ _ _ l.invariant none) c.in_sequence.ensures.tree c.in_sequence.ensures.numbers)

@@ -17,7 +17,7 @@ use Rattle.rbbi_resolve.proofs.classes.Classes.of.Goals as goal
 
 pub loop-number-init : goal.loop-number-init
 loop-number-init c =
-    record { same = refl; kept = c.new-collection.ensures c.args.properties.now; covers = λ stand are number s low. absurd (omega arith) }
+    record { same = refl; kept = c.in_ok-collection.ensures c.args.properties.now; covers = λ stand are number s low. absurd (omega arith) }
 
 pub loop-number-preserved : goal.loop-number-preserved
 loop-number-preserved c =

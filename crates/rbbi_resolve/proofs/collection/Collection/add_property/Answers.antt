@@ -5,9 +5,9 @@ use Rattle.std.specs.List.{All}
 use Rattle.std.specs.Map.{values_of}
 use Rattle.std.specs.Rc.{rc_value}
 use Rattle.std.proofs.lemmas.List.Elements.{recursion_from_All, All-from_recursion}
-use Rattle.rbbi_resolve.specs.inner.Covered.{IsBasedAnswer}
+use Rattle.rbbi_resolve.specs.inner.Covered.{AreSingled, IsBasedAnswer}
 use Rattle.rbbi_resolve.proofs.Answered.{values_insert}
-use Rattle.rbbi_resolve.proofs.Collecting.{answers_kept}
+use Rattle.rbbi_resolve.proofs.Collecting.{answers_kept, singled_kept}
 use Rattle.rbbi_resolve.proofs.collection.Collection.add_property.Goals as goal
 
 pub returns-clause-based : goal.returns-clause-based
@@ -33,4 +33,7 @@ returns-clause-kept c =
             right = c.in_ok-answer.ensures.right files c.in_ok-set.ensures.value;
             own = subst (λ s. IfSome s (Contains bases)) (sym c.in_ok-answer.ensures.set) own;
           })));
+      singled =
+          subst (λ row. AreSingled bases row.items) (sym c.add_set.ensures.characters)
+          (singled_kept c.args.self.now.bases.items bases c.args.self.now.characters.items c.in_ok-add_set.ensures.keeps c.requires.singled);
     }
