@@ -67,8 +67,11 @@ built c =
 -- they are what the file means
 means : (c : In_ok-rules) →
     Means c.args.reading.properties c.args.reading.dictionary_ignored (statement_trees c.args.reading.statements.now)
-    (rules_of (record { rules = c.in_ok-rules.rules.items; sets = (map (characters_of (rc_value c.args.reading.classes.division))
-    c.rules_with_trees.new.builder.rows.items) }))
+    (rules_of (record {
+      rules = c.in_ok-rules.rules.items;
+      sets = (map (characters_of (rc_value c.args.reading.classes.division))
+          c.rules_with_trees.new.builder.rows.items);
+    }))
 means c =
     let files = c.args.reading.properties in
     let ms = active_rules files (statement_trees c.args.reading.statements.now) in
@@ -76,7 +79,7 @@ means c =
       faultless = c.requires.faultless;
       within = λ end. within_anywhere c.requires.few.0 end ms c.requires.few.1;
       rules_in_order = rules_stand files (map (characters_of (rc_value c.args.reading.classes.division)) c.rules_with_trees.new.builder.rows.items) ms
-      c.in_ok-rules.rules.items (built c).each;
+          c.in_ok-rules.rules.items (built c).each;
     }
 
 pub new-requires : goal.new-requires

@@ -48,7 +48,7 @@ loop-number-preserved c =
     let same = c.in_ok-add_statement.ensures.same in (
       same ∙ c.loop-number.invariant.0,
       subst (λ f. AreRulesTo f (statement_trees c.args.context.now.statements.now) (sets_of c.args.context.now n.builder.rows.items) n.builder.bases.items
-      n.switches n.rules.items
+          n.switches n.rules.items
           (c.loop-number.number + 1)) (sym same) c.in_ok-add_statement.ensures.added,
     )
 
