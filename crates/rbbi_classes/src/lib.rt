@@ -22,3 +22,4 @@ pub use class_shelf::ClassShelf;
 pub use division::Division;
 pub use layout::Layout;
 pub use shared_classes::SharedClasses;
+pub use steps::Step;
