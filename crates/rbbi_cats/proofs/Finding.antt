@@ -1,50 +1,96 @@
 -- The categories of the rules.
-use Rattle.std.proofs.Common.{◌≡◌, ℕ, suc, ◌+◌, ◌-◌, ◌≤◌, ◌<◌, Bool, true, false, ◌||◌, eqb, List, [], ◌∷◌, length, get_or, subst, inl, inr, arith}
-use Rattle.std.specs.Prelude.{map, AllPairs, Contains}
+use Rattle.std.proofs.Common.{◌≡◌, ℕ, zero, suc, ◌+◌, ◌-◌, ◌≤◌, ◌<◌, Bool, true, false, ◌||◌, eqb, List, [], ◌∷◌, length, get_or, ap, sym, ◌∙◌, subst, inl, inr}
+use Rattle.std.proofs.Common.{arith}
+use Rattle.std.specs.Prelude.{map, AllPairs}
 use Rattle.std.specs.List.{AllByRecursion, IsDistinct, list_any}
 use Rattle.std.proofs.lemmas.List.Elements.{recursion_from_All}
 use Rattle.std.proofs.lemmas.Map.Steps.{length-le_from_distinct_below}
-use Rattle.std.proofs.lemmas.Bool.{cases_eq, ne_eqb}
-use Rattle.std.proofs.lemmas.List.{get_or_default, length-map}
-use Rattle.rbbi_model.specs.Words.{IsCodePoint, last_code_point}
-use Rattle.rbbi_model.specs.Ranges.{Range}
+use Rattle.std.proofs.lemmas.Bool.{cases_eq, cases_lt, ne_eqb}
+use Rattle.std.proofs.lemmas.List.{get_or_past, length-map}
+use Rattle.rbbi_model.specs.Words.{IsCodePoint}
 use Rattle.rbbi_model.specs.Rules.{Rule}
 use Rattle.rbbi_model.specs.Tables.{CategoryRange, category_of}
 use Rattle.rbbi_model.specs.ValidTables.{AreValidRanges}
 use Rattle.rbbi_model.specs.Compiled.{AreAlike, AreClasses}
-use Rattle.rbbi_resolve.specs.RuleLists.{RuleList, rules_of, AreWellFormed, IsLeafSet}
-use Rattle.rbbi_sets.specs.Rising.{AreRising}
+use Rattle.rbbi_resolve.specs.RuleLists.{RuleList, rules_of, AreWellFormed}
+use Rattle.rbbi_classes.specs.Classes.{AreBounds}
+use Rattle.rbbi_classes.specs.Divisions.{ClassDivision, IsDivision, first_of}
+use Rattle.rbbi_classes.specs.Steps.{number_at}
+use Rattle.rbbi_classes.proofs.ClassBounds.{bounds-range, bounds-rise}
+use Rattle.rbbi_classes.proofs.FirstCodePoints.{first-is_point}
 use Rattle.rbbi_cats.specs.CategoryLists.{HasClasses, IsReadCodePoint}
-use Rattle.rbbi_cats.specs.inner.Cuts.{AreCuts}
-use Rattle.rbbi_cats.specs.inner.Numbers.{AreNumbers, AreRangesOf}
-use Rattle.rbbi_cats.specs.inner.Partitions.{AreStretchClasses}
-use Rattle.rbbi_cats.specs.inner.SetClasses.{SomeHas, HasTold, AreClassesOfSets}
-use Rattle.rbbi_cats.proofs.Classing.{Classed, classed, valid, cuts_small}
+use Rattle.rbbi_cats.specs.inner.Categories.{IsHeld, AreCategories, HasTold}
+use Rattle.rbbi_cats.specs.inner.Ranges.{AreRangesOf}
+use Rattle.rbbi_cats.specs.inner.Refinements.{AreNumbered}
 use Rattle.rbbi_cats.proofs.LeafSets.{read_is, alike_is}
 
-classes_are : (list : RuleList) (categories : ℕ) (ranges : List CategoryRange) → AreWellFormed list → Classed list.sets categories ranges →
-    AreClasses (rules_of list) categories ranges
-classes_are list categories ranges w h = record {
-  none = λ c code. (λ e read. (h.none c code).0 e ((read_is list c w).0 read), λ n. (h.none c code).1 (λ some. n ((read_is list c w).1 some)));
-  alike = λ c d code code'. (λ e. (alike_is list c d w).1 ((h.alike c d code code').0 e), λ a. (h.alike c d code code').1 ((alike_is list c d w).0 a));
-  used = h.used;
-  numbered = h.numbered;
+-- the first code points of classes rise
+firsts_rise : (bounds : List ℕ) → AreBounds bounds → (j k : ℕ) → j < k → k ≤ length bounds → first_of bounds j < first_of bounds k
+firsts_rise bounds h j zero less inside = absurd (omega (arith, less))
+firsts_rise bounds h zero (suc k) less inside = (bounds-range 0 bounds h k (omega (arith, inside))).0
+firsts_rise bounds h (suc j) (suc k) less inside = bounds-rise 0 bounds h j k (omega (arith, less)) (omega (arith, inside))
+
+-- code points that the sets tell apart are told apart by the rules' leaves
+pub has_classes : (list : RuleList) (count : ℕ) → AreWellFormed list → HasTold list.sets count → HasClasses (rules_of list) count
+has_classes list count w h = record {
+  codes = h.codes;
+  many = h.many;
+  each = each h.codes h.each;
+  apart = λ i j d less inside alike. h.apart i j d less inside ((alike_is list (get_or h.codes i d) (get_or h.codes j d) w).0 alike);
 }
+  where
+    each : (codes : List ℕ) → AllByRecursion (λ c. (c ≤ 0x10FFFF) × IsHeld list.sets c) codes → AllByRecursion (IsReadCodePoint (rules_of list)) codes
+    each [] h = tt
+    each (c ∷ codes) ((small, held), h) = ((small, (read_is list c w).1 held), each codes h)
 
-module _ (list : RuleList) (cuts : List ℕ) (w : AreWellFormed list) (small : (i : ℕ) → i < length cuts → IsCodePoint (get_or cuts i 0)) where
-  each_told : (starts : List ℕ) → AllByRecursion (λ c. SomeHas list.sets c × Contains cuts c) starts → AllByRecursion (IsReadCodePoint (rules_of list)) starts
-  each_told [] h = tt
-  each_told (c ∷ starts) ((some, contained), h) = ((omega (arith, code contained), (read_is list c w).1 some), each_told starts h)
-    where
-      code : Contains cuts c → c ≤ 0x10FFFF
-      code (k, below, e) = omega (arith, small k below, get_or_default cuts k 0 c below, e)
+-- What the categories of classes and their ranges say of the rules.
+module _ {list : RuleList} {division : ClassDivision} {categories : List ℕ} {ranges : List CategoryRange} {count : ℕ} (w : AreWellFormed list)
+    (form : IsDivision division) (many : length categories ≡ length division.bounds + 1) (told : AreCategories division.steps list.sets categories)
+    (numbered : AreNumbered categories count) (are : AreRangesOf division.steps categories ranges) where
+  -- the category of the first code point of a class
+  of_first : (k : ℕ) → k < length categories → category_of ranges (first_of division.bounds k) ≡ get_or categories k 0
+  of_first k below = are.category (first_of division.bounds k) ∙ ap (λ n. get_or categories n 0) (form.first k (omega (arith, below, many)))
 
-  too_many : (count : ℕ) → HasTold list.sets cuts count → HasClasses (rules_of list) count
-  too_many count h = record {
-    codes = h.starts;
-    many = h.many;
-    each = each_told h.starts h.each;
-    apart = λ i j d less inside alike. h.apart i j d less inside ((alike_is list (get_or h.starts i d) (get_or h.starts j d) w).0 alike);
+  pub are_classes : AreClasses (rules_of list) count ranges
+  are_classes = record {
+    none = λ c code. (
+      λ e read. (told.some c code).1 ((read_is list c w).0 read) (sym (are.category c) ∙ e),
+      λ none. elim (cases_eq (category_of ranges c) 0) [
+        | inl zero' ↦ zero'
+        | inr other ↦ absurd (none ((read_is list c w).1 ((told.some c code).0 (λ e. other (are.category c ∙ e)))))
+      ],
+    );
+    alike = λ c d code code'. (
+      λ e. (alike_is list c d w).1 ((told.alike c d code code').0 (sym (are.category c) ∙ e ∙ are.category d)),
+      λ alike. are.category c ∙ (told.alike c d code code').1 ((alike_is list c d w).0 alike) ∙ sym (are.category d),
+    );
+    used = λ category one less.
+        let (k, below, e) = numbered.used category one less in
+        (first_of division.bounds k, first-is_point division.bounds form.bounds k (omega (arith, below, many)), of_first k below ∙ e);
+    numbered = λ category later d one less code e.
+        let k = number_at division.steps d in
+        let inside = form.within d code in
+        let (j, sooner, is) = numbered.earlier k category (omega (arith, inside, many)) one (omega (arith, less, sym (are.category d) ∙ e)) in (
+          first_of division.bounds j,
+          omega (arith, firsts_rise division.bounds form.bounds j k sooner inside, form.least d code),
+          of_first j (omega (arith, sooner, inside, many)) ∙ is,
+        );
+  }
+
+  pub small : (k : ℕ) → get_or categories k 0 < count
+  small k = elim (cases_lt k (length categories)) [
+    | inl inside ↦ numbered.within k inside
+    | inr past ↦ omega (arith, get_or_past categories k 0 past, numbered.some)
+  ]
+
+  pub are_valid : count ≤ 255 → AreValidRanges count ranges
+  are_valid few = record {
+    some_categories = numbered.some;
+    few_categories = few;
+    some_ranges = are.some;
+    from_zero = are.from_zero;
+    apart = are.apart;
+    within = are.within count small;
   }
 
 -- no more classes than there are categories beside category 0
@@ -91,28 +137,3 @@ module _ (rules : List Rule) (categories : ℕ) (ranges : List CategoryRange) (h
     where
       some_positive : (codes : List ℕ) → length codes ≡ count → 1 ≤ categories
       some_positive codes e = omega (arith, within 0 (omega arith))
-
-all_rising : (sets : List (List Range)) → AllByRecursion IsLeafSet sets → AllByRecursion AreRising sets
-all_rising [] h = tt
-all_rising (set ∷ sets) (leaf, h) = (leaf.rising, all_rising sets h)
-
--- What cuts and classes of the sets of these rules say of them. The calls give their facts of the sets as a list of the same sets.
-module _ {list : RuleList} {sets : List (List Range)} {cuts : List ℕ} (form : AreWellFormed list) (same : sets ≡ list.sets) (found : AreCuts sets cuts) where
-  cut : AreCuts list.sets cuts
-  cut = subst (λ (s : List (List Range)). AreCuts s cuts) same found
-
-  small : (i : ℕ) → i < length cuts → get_or cuts i 0 ≤ last_code_point
-  small = cuts_small list.sets cuts cut (all_rising list.sets form.sets)
-
-  pub has_classes : {count : ℕ} → HasTold sets cuts count → HasClasses (rules_of list) count
-  has_classes {count = count} told = too_many list cuts form small count (subst (λ (s : List (List Range)). HasTold s cuts count) same told)
-
-  pub partitioned : {classes sizes numbers : List ℕ} {greatest : ℕ} {ranges : List CategoryRange} → AreStretchClasses classes sizes →
-      AreClassesOfSets sets cuts classes →
-      AreNumbers classes numbers greatest → AreRangesOf cuts classes numbers ranges → length numbers ≡ length sizes → length sizes ≤ 255 →
-      AreClasses (rules_of list) (greatest + 1) ranges × AreValidRanges (greatest + 1) ranges
-  partitioned {classes = classes} partition tells numbered are long few =
-      let told = subst (λ (s : List (List Range)). AreClassesOfSets s cuts classes) same tells in (
-        classes_are list _ _ form (classed list.sets cuts classes _ _ _ _ cut small partition told long numbered are),
-        valid list.sets cuts classes _ _ _ _ cut small partition told long numbered are few,
-      )

@@ -1,5 +1,5 @@
 -- The sets of the leaves of rules are those that the leaves' numbers name.
-use Rattle.std.proofs.Common.{◌≡◌, ℕ, zero, suc, ◌<◌, ◌↔◌, Option, None, Some, List, [], ◌∷◌, ◌++◌, length, get_or, refl, ap, sym, ◌∙◌, subst, inl, inr, arith}
+use Rattle.std.proofs.Common.{◌≡◌, ℕ, zero, suc, ◌<◌, ◌↔◌, Option, None, Some, List, [], ◌∷◌, ◌++◌, length, get_or, refl, ap, sym, ◌∙◌, subst, arith}
 use Rattle.std.specs.Prelude.{map, flat_map, Contains}
 use Rattle.std.specs.List.{AllByRecursion, Any}
 use Rattle.std.specs.Option.{option_map, option_map_or}
@@ -20,7 +20,8 @@ use Rattle.rbbi_resolve.specs.declared.rules.Tree.TheFolds.{ind-Tree, fold-roll-
 use Rattle.rbbi_resolve.specs.RuleTrees.{set_at, repeated, tree_step, trees_step, tree_of, trees_of, numbers_step, numbers_of_parts_step, numbers_of}
 use Rattle.rbbi_resolve.specs.RuleTrees.{numbers_of_parts}
 use Rattle.rbbi_resolve.specs.RuleLists.{RuleList, rule_of, rules_of, numbers_of_rule, leaf_numbers, AreWellFormed}
-use Rattle.rbbi_cats.specs.inner.SetClasses.{SomeHas, NoneTells}
+use Rattle.rbbi_sets.specs.Partitions.{AreTogether}
+use Rattle.rbbi_cats.specs.inner.Categories.{IsHeld}
 
 sets-sequence : (parts : List spelling.Tree) → sets_of (spelling.sequence_of parts) ≡ flat_map sets_of parts
 sets-sequence [] = refl
@@ -105,24 +106,16 @@ module _ (sets : List (List Range)) where
 pub all_sets_are : (list : RuleList) → all_sets (rules_of list) ≡ map (set_at list.sets) (leaf_numbers list)
 all_sets_are list = named_rules list.sets list.rules
 
-some_at : (sets : List (List Range)) (c : ℕ) → SomeHas sets c → (n : ℕ) × (n < length sets) × Has (set_at sets n) c
-some_at [] c h = absurd h
-some_at (set ∷ sets) c (inl h) = (0, omega arith, h)
-some_at (set ∷ sets) c (inr h) = (let (n, below, has) = some_at sets c h in (suc n, omega (arith, below), has))
+-- the set with a number is one of the list, and each one of the list has a number
+contains_at : (sets : List (List Range)) (n : ℕ) → n < length sets → Contains sets (set_at sets n)
+contains_at [] n below = absurd (omega (arith, below))
+contains_at (set ∷ sets) zero below = (0, omega arith, refl)
+contains_at (set ∷ sets) (suc n) below = (let (k, inside, e) = contains_at sets n (omega (arith, below)) in (suc k, omega (arith, inside), e))
 
-some_from : (sets : List (List Range)) (c n : ℕ) → n < length sets → Has (set_at sets n) c → SomeHas sets c
-some_from [] c n below h = absurd (omega (arith, below))
-some_from (set ∷ sets) c zero below h = inl h
-some_from (set ∷ sets) c (suc n) below h = inr (some_from sets c n (omega (arith, below)) h)
-
-none_at : (sets : List (List Range)) (c d n : ℕ) → n < length sets → NoneTells sets c d → Has (set_at sets n) c ↔ Has (set_at sets n) d
-none_at [] c d n below h = absurd (omega (arith, below))
-none_at (set ∷ sets) c d zero below h = h.0
-none_at (set ∷ sets) c d (suc n) below h = none_at sets c d n (omega (arith, below)) h.1
-
-none_from : (sets all : List (List Range)) (c d : ℕ) → ((n : ℕ) → n < length sets → Has (set_at sets n) c ↔ Has (set_at sets n) d) → NoneTells sets c d
-none_from [] all c d h = tt
-none_from (set ∷ sets) all c d h = (h 0 (omega arith), none_from sets all c d (λ n below. h (suc n) (omega (arith, below))))
+at_number : (sets : List (List Range)) (set : List Range) (n : ℕ) → n < length sets → get_or sets n set ≡ set → set_at sets n ≡ set
+at_number [] set n below e = absurd (omega (arith, below))
+at_number (first ∷ sets) set zero below e = e
+at_number (first ∷ sets) set (suc n) below e = at_number sets set n (omega (arith, below)) e
 
 -- a fact of each numbered set
 all_named : (P : List Range → Type 0) (f : ℕ → List Range) (ns : List ℕ) → ((n : ℕ) → Contains ns n → P (f n)) → AllByRecursion P (map f ns)
@@ -152,32 +145,28 @@ number_within list [] n h (k, below, e) = absurd (omega (arith, below))
 number_within list (m ∷ ns) n h (zero, below, e) = omega (arith, h.0, e)
 number_within list (m ∷ ns) n h (suc k, below, e) = number_within list ns n h.1 (k, omega (arith, below), e)
 
-pub read_is : (list : RuleList) (c : ℕ) → AreWellFormed list → IsRead (rules_of list) c ↔ SomeHas list.sets c
-read_is list c w = (there, back)
-  where
-    there : IsRead (rules_of list) c → SomeHas list.sets c
-    there h =
-        let (k, x, below, e, has) = subst (Any (λ set. Has set c)) (all_sets_are list) h in
-        let (n, contained, p) = named_any (λ set. Has set c) (set_at list.sets) (leaf_numbers list) k x below e has in
-        some_from list.sets c n (number_within list (leaf_numbers list) n w.numbered contained) p
+pub read_is : (list : RuleList) (c : ℕ) → AreWellFormed list → IsRead (rules_of list) c ↔ IsHeld list.sets c
+read_is list c w = (
+  λ h.
+      let (k, x, below, e, has) = subst (Any (λ set. Has set c)) (all_sets_are list) h in
+      let (n, contained, p) = named_any (λ set. Has set c) (set_at list.sets) (leaf_numbers list) k x below e has in
+      let (m, inside, is) = contains_at list.sets n (number_within list (leaf_numbers list) n w.numbered contained) in
+      (m, set_at list.sets n, inside, is, p),
+  λ (n, set, below, is, has).
+      let (k, inside, e) = w.used n below in
+      let own = subst (λ (x : List Range). Has x c) (sym (at_number list.sets set n below is)) has in
+      subst (Any (λ set. Has set c)) (sym (all_sets_are list)) (any_named (λ set. Has set c) (set_at list.sets) (leaf_numbers list) n k inside e own),
+)
 
-    back : SomeHas list.sets c → IsRead (rules_of list) c
-    back h =
-        let (n, below, has) = some_at list.sets c h in
-        let (k, inside, e) = w.used n below in
-        subst (Any (λ set. Has set c)) (sym (all_sets_are list)) (any_named (λ set. Has set c) (set_at list.sets) (leaf_numbers list) n k inside e has)
-
-pub alike_is : (list : RuleList) (c d : ℕ) → AreWellFormed list → AreAlike (rules_of list) c d ↔ NoneTells list.sets c d
-alike_is list c d w = (there, back)
-  where
-    there : AreAlike (rules_of list) c d → NoneTells list.sets c d
-    there h =
-        let named' = subst (AllByRecursion (λ set. Has set c ↔ Has set d)) (all_sets_are list) h in
-        none_from list.sets list.sets c d (λ n below. let (k, inside, e) = w.used n below in
-        named_each (λ set. Has set c ↔ Has set d) (set_at list.sets) (leaf_numbers list) n k inside e named')
-
-    back : NoneTells list.sets c d → AreAlike (rules_of list) c d
-    back h =
-        subst (AllByRecursion (λ set. Has set c ↔ Has set d)) (sym (all_sets_are list))
-        (all_named (λ set. Has set c ↔ Has set d) (set_at list.sets) (leaf_numbers list)
-        (λ n contained. none_at list.sets c d n (number_within list (leaf_numbers list) n w.numbered contained) h))
+pub alike_is : (list : RuleList) (c d : ℕ) → AreWellFormed list → AreAlike (rules_of list) c d ↔ AreTogether list.sets c d
+alike_is list c d w = (
+  λ h set (n, below, is).
+      let (k, inside, e) = w.used n below in
+      let named' = subst (AllByRecursion (λ set. Has set c ↔ Has set d)) (all_sets_are list) h in
+      subst (λ (x : List Range). Has x c ↔ Has x d) (at_number list.sets set n below is)
+      (named_each (λ set. Has set c ↔ Has set d) (set_at list.sets) (leaf_numbers list) n k inside e named'),
+  λ h.
+      subst (AllByRecursion (λ set. Has set c ↔ Has set d)) (sym (all_sets_are list))
+      (all_named (λ set. Has set c ↔ Has set d) (set_at list.sets) (leaf_numbers list)
+      (λ n contained. h (set_at list.sets n) (contains_at list.sets n (number_within list (leaf_numbers list) n w.numbered contained)))),
+)

@@ -1,14 +1,15 @@
--- The ranges of categories, stretch by stretch.
-use Rattle.std.proofs.Common.{◌≡◌, ◌≢◌, ℕ, ◌+◌, ◌-◌, ◌≤◌, ◌<◌, ◌⊎◌, leb, cond, List, [], ◌∷◌, ◌++◌, length, get_or, refl, ap, sym, ◌∙◌, subst, inl, inr, arith}
-use Rattle.std.specs.Prelude.{Contains}
+-- The ranges of categories, step by step.
+use Rattle.std.proofs.Common.{◌≡◌, ◌≢◌, ℕ, ◌+◌, ◌≤◌, ◌<◌, leb, cond, List, [], ◌∷◌, ◌++◌, length, get_or, drop, refl, ap, sym, ◌∙◌, inl, inr, arith}
 use Rattle.std.specs.List.{AllByRecursion}
-use Rattle.std.specs.List.Sorted.{IsStrictlyIncreasing}
-use Rattle.std.proofs.lemmas.Bool.{cases_eq, cases_lt, le-leb, lt-leb}
-use Rattle.std.proofs.lemmas.List.{get_or_default}
+use Rattle.std.proofs.lemmas.Bool.{cases_lt, le-leb, lt-leb}
 use Rattle.rbbi_model.specs.Tables.{CategoryRange, category_from, category_of}
-use Rattle.rbbi_model.specs.ValidTables.{StartsAtZero, AreApart}
+use Rattle.rbbi_model.specs.ValidTables.{StartsAtZero, AreApart, IsWithin}
 use Rattle.rbbi_model.proofs.Lists.{all_append}
-use Rattle.rbbi_cats.proofs.Classing.{rises}
+use Rattle.rbbi_classes.specs.Steps.{number_from, number_at, AreSteps, AreStepsFrom}
+use Rattle.rbbi_classes.specs.declared.steps.Step.{Step}
+use Rattle.rbbi_classes.proofs.Stepping.{number-before}
+use Rattle.rbbi_classes.proofs.DividedMembers.{AreLeft, left-next, left-same, left-more, left-none}
+use Rattle.rbbi_cats.specs.inner.Ranges.{AreRangesOf}
 
 -- a further range doesn't count before its start
 category_before : (ranges : List CategoryRange) (b c : ℕ) (last : CategoryRange) → c < last.start →
@@ -34,119 +35,120 @@ zero_push : (front : List CategoryRange) (last new : CategoryRange) → StartsAt
 zero_push [] last new h = h
 zero_push (range ∷ front) last new h = h
 
--- the last of some ranges
-pub record EndsWith (ranges : List CategoryRange) (category bound : ℕ) : Type 0 where
-  pub front : List CategoryRange
-  pub last : CategoryRange
-  pub is : ranges ≡ front ++ last ∷ []
-  pub category_is : last.category ≡ category
-  pub start : last.start ≤ bound
+up_to : (ranges : List CategoryRange) (low high : ℕ) → low ≤ high → AllByRecursion (λ (range : CategoryRange). range.start ≤ low) ranges →
+    AllByRecursion (λ (range : CategoryRange). range.start ≤ high) ranges
+up_to [] low high less h = tt
+up_to (range ∷ ranges) low high less h = (omega (arith, h.0, less), up_to ranges low high less h.1)
 
--- the number of a stretch's class
-abbrev pub number_of : List ℕ → List ℕ → ℕ → ℕ
-number_of classes numbers i = get_or numbers (get_or classes i 0) 0
+-- a step's code point has its number
+left-here : (steps : List Step) (i start class : ℕ) → AreLeft steps i start class → number_at steps start ≡ class
+left-here steps i start class h = h.numbers start (omega arith) ∙ first (drop i steps) h.form
+  where
+    first : (rest : List Step) → AreStepsFrom (start + 1) rest → number_from class rest start ≡ class
+    first [] form = refl
+    first (step ∷ rest) form = number-before class step rest start (omega (arith, form.0))
 
-abbrev pub IsRangeOf : List ℕ → List ℕ → CategoryRange → Type 0
-IsRangeOf cuts numbers range = Contains cuts range.start × ((c : ℕ) × (range.category ≡ get_or numbers c 0))
+-- the ranges, and the last of them, that the first so many steps make, of which the last begins at this start and has this class
+pub record RangesSoFar (steps : List Step) (categories : List ℕ) (ranges : List CategoryRange) (last : CategoryRange) (i : ℕ) : Type 0 where
+  pub start : ℕ
+  pub class : ℕ
+  pub left : AreLeft steps i start class
+  pub before : (c : ℕ) → c < start → category_of (ranges ++ last ∷ []) c ≡ get_or categories (number_at steps c) 0
+  pub behind : (c : ℕ) → start ≤ c → category_of (ranges ++ last ∷ []) c ≡ get_or categories class 0
+  pub last_is : last.category ≡ get_or categories class 0
+  pub last_from : last.start ≤ start
+  pub starts : AllByRecursion (λ (range : CategoryRange). range.start ≤ start) ranges
+  pub from_zero : StartsAtZero (ranges ++ last ∷ [])
+  pub apart : AreApart (ranges ++ last ∷ [])
+  pub within : (count : ℕ) → ((class : ℕ) → get_or categories class 0 < count) → AllByRecursion (IsWithin count) ranges
 
--- the ranges of the first so many stretches
-pub record RangesSoFar (cuts classes numbers : List ℕ) (ranges : List CategoryRange) (k : ℕ) : Type 0 where
-  pub category : (i c : ℕ) → i < k → get_or cuts i 0 ≤ c → (i + 1 < k → c < get_or cuts (i + 1) 0) → category_of ranges c ≡ number_of classes numbers i
-  pub none : k ≡ 0 → ranges ≡ []
-  pub last : 0 < k → EndsWith ranges (number_of classes numbers (k - 1)) (get_or cuts (k - 1) 0)
-  pub from_zero : 0 < k → StartsAtZero ranges
-  pub apart : AreApart ranges
-  pub starts : AllByRecursion (IsRangeOf cuts numbers) ranges
-  pub below : (c : ℕ) → (0 < k → get_or cuts (k - 1) 0 ≤ c) → AllByRecursion (λ (range : CategoryRange). range.start ≤ c) ranges
+pub first_range : (steps : List Step) (categories : List ℕ) (last : CategoryRange) → AreSteps steps → last.start ≡ 0 → last.category ≡ get_or categories 0 0 →
+    RangesSoFar steps categories [] last 0
+first_range steps categories last form zero' is = record {
+  start = 0;
+  class = 0;
+  left = record { form = form; point = omega arith; numbers = λ c from. refl };
+  before = λ c less. absurd (omega (arith, less));
+  behind = λ c from. ap (λ t. cond t last.category 0) (le-leb last.start c (omega (arith, zero'))) ∙ is;
+  last_is = is;
+  last_from = omega (arith, zero');
+  starts = tt;
+  from_zero = zero';
+  apart = tt;
+  within = λ count small. tt;
+}
 
-pub range_kept : (cuts classes numbers : List ℕ) (ranges : List CategoryRange) (k : ℕ) → IsStrictlyIncreasing cuts → 0 < k → k < length cuts →
-    number_of classes numbers (k - 1) ≡ number_of classes numbers k → RangesSoFar cuts classes numbers ranges k →
-    RangesSoFar cuts classes numbers ranges (k + 1)
-range_kept cuts classes numbers ranges k rising some inside same h = record {
-  category = λ i c below from before. elim (cases_lt i k) [
-    | inl sooner ↦ h.category i c sooner from (λ less. before (omega (arith, less)))
-    | inr now ↦
-        let e : i ≡ k = omega arith in
-        h.category (k - 1) c (omega arith) (omega (arith, from, ap (λ n. get_or cuts n 0) e, rises cuts rising (k - 1) k (omega arith) inside))
-        (λ less. absurd (omega (arith, less)))
-        ∙ same ∙ ap (number_of classes numbers) (sym e)
+module _ (steps : List Step) (categories : List ℕ) (ranges : List CategoryRange) (last : CategoryRange) (i : ℕ) (step d : Step) (inside : i < length steps)
+    (is : step ≡ get_or steps i d) (h : RangesSoFar steps categories ranges last i) where
+  later : h.start < step.start
+  later = (left-next steps i h.start h.class h.left step d inside is).0
+
+  -- up to the step
+  so_far : (c : ℕ) → c < step.start → category_of (ranges ++ last ∷ []) c ≡ get_or categories (number_at steps c) 0
+  so_far c less = elim (cases_lt c h.start) [
+    | inl early ↦ h.before c early
+    | inr from ↦ h.behind c from ∙ ap (λ n. get_or categories n 0) (sym (left-same steps i h.start h.class h.left step d inside is c from less))
+  ]
+
+  pub class_within : ((c : ℕ) → c ≤ 0x10FFFF → number_at steps c < length categories) → step.number < length categories
+  class_within all =
+      let more = left-more steps i h.start h.class h.left step d inside is in
+      omega (arith, all step.start more.point, left-here steps (i + 1) step.start step.number more)
+
+  pub range_kept : get_or categories step.number 0 ≡ last.category → RangesSoFar steps categories ranges last (i + 1)
+  range_kept same = record {
+    start = step.start;
+    class = step.number;
+    left = left-more steps i h.start h.class h.left step d inside is;
+    before = so_far;
+    behind = λ c from. h.behind c (omega (arith, from, later)) ∙ sym h.last_is ∙ sym same;
+    last_is = sym same;
+    last_from = omega (arith, h.last_from, later);
+    starts = up_to ranges h.start step.start (omega (arith, later)) h.starts;
+    from_zero = h.from_zero;
+    apart = h.apart;
+    within = h.within;
+  }
+
+  pub range_made : (new : CategoryRange) → new.start ≡ step.start → new.category ≡ get_or categories step.number 0 → new.category ≢ last.category →
+      RangesSoFar steps categories (ranges ++ last ∷ []) new (i + 1)
+  range_made new from is_category other = record {
+    start = step.start;
+    class = step.number;
+    left = more;
+    before = λ c less. category_before (ranges ++ last ∷ []) 0 c new (omega (arith, less, from)) ∙ so_far c less;
+    behind = λ c past. category_behind (ranges ++ last ∷ []) 0 c new (omega (arith, past, from)) (up_to (ranges ++ last ∷ []) step.start c past all_starts)
+        ∙ is_category;
+    last_is = is_category;
+    last_from = omega (arith, from);
+    starts = all_starts;
+    from_zero = zero_push ranges last new h.from_zero;
+    apart = apart_push ranges last new h.apart (omega (arith, h.last_from, later, from)) (λ e. other (sym e));
+    within = λ count small. all_append (IsWithin count) ranges (last ∷ []) (h.within count small)
+        ((omega (arith, h.last_from, h.left.point), omega (arith, h.last_is, small h.class)), tt);
+  }
+    where
+      more : AreLeft steps (i + 1) step.start step.number
+      more = left-more steps i h.start h.class h.left step d inside is
+
+      all_starts : AllByRecursion (λ (range : CategoryRange). range.start ≤ step.start) (ranges ++ last ∷ [])
+      all_starts = all_append (λ (range : CategoryRange). range.start ≤ step.start) ranges (last ∷ [])
+          (up_to ranges h.start step.start (omega (arith, later)) h.starts) (omega (arith, h.last_from, later), tt)
+
+pub all_ranges : (steps : List Step) (categories : List ℕ) (ranges : List CategoryRange) (last : CategoryRange) (i : ℕ) → length steps ≤ i →
+    RangesSoFar steps categories ranges last i → AreRangesOf steps categories (ranges ++ last ∷ [])
+all_ranges steps categories ranges last i past h = record {
+  category = λ c. elim (cases_lt c h.start) [
+    | inl early ↦ h.before c early
+    | inr from ↦ h.behind c from ∙ ap (λ n. get_or categories n 0) (sym (left-none steps i h.start h.class h.left past c from))
   ];
-  none = λ e. absurd (omega (arith, e));
-  last = λ s. last_is (h.last some);
-  from_zero = λ s. h.from_zero some;
+  some = some ranges;
+  from_zero = h.from_zero;
   apart = h.apart;
-  starts = h.starts;
-  below = λ c bound. h.below c (λ s. omega (arith, bound (omega arith), ap (λ n. get_or cuts n 0) back, rises cuts rising (k - 1) k (omega arith) inside));
+  within = λ count small. all_append (IsWithin count) ranges (last ∷ []) (h.within count small)
+      ((omega (arith, h.last_from, h.left.point), omega (arith, h.last_is, small h.class)), tt);
 }
   where
-    back : k + 1 - 1 ≡ k
-    back = omega arith
-
-    last_is : EndsWith ranges (number_of classes numbers (k - 1)) (get_or cuts (k - 1) 0) →
-        EndsWith ranges (number_of classes numbers (k + 1 - 1)) (get_or cuts (k + 1 - 1) 0)
-    last_is l = record {
-      front = l.front;
-      last = l.last;
-      is = l.is;
-      category_is = l.category_is ∙ same ∙ ap (number_of classes numbers) (sym back);
-      start = omega (arith, l.start, ap (λ n. get_or cuts n 0) back, rises cuts rising (k - 1) k (omega arith) inside);
-    }
-
-pub range_made : (cuts classes numbers : List ℕ) (ranges : List CategoryRange) (k : ℕ) (new : CategoryRange) → IsStrictlyIncreasing cuts → get_or cuts 0 0 ≡ 0 →
-    k < length cuts →
-    new.start ≡ get_or cuts k 0 → new.category ≡ number_of classes numbers k → (k ≡ 0) ⊎
-    ((0 < k) × (number_of classes numbers (k - 1) ≢ number_of classes numbers k)) →
-    RangesSoFar cuts classes numbers ranges k → RangesSoFar cuts classes numbers (ranges ++ new ∷ []) (k + 1)
-range_made cuts classes numbers ranges k new rising zero_first inside start_is category_is when h = record {
-  category = λ i c below from before. elim (cases_lt i k) [
-    | inl sooner ↦
-        let less : c < get_or cuts (i + 1) 0 = before (omega (arith, sooner)) in
-        category_before ranges 0 c new (omega (arith, less, start_is, up_to (i + 1) (omega (arith, sooner)))) ∙ h.category i c sooner from (λ l. less)
-    | inr now ↦
-        let e : i ≡ k = omega arith in
-        category_behind ranges 0 c new (omega (arith, start_is, from, ap (λ n. get_or cuts n 0) e))
-        (h.below c (λ s. omega (arith, from, ap (λ n. get_or cuts n 0) e, rises cuts rising (k - 1) k (omega arith) inside)))
-        ∙ category_is ∙ ap (number_of classes numbers) (sym e)
-  ];
-  none = λ e. absurd (omega (arith, e));
-  last = λ s. record {
-    front = ranges;
-    last = new;
-    is = refl;
-    category_is = category_is ∙ ap (number_of classes numbers) (sym back);
-    start = omega (arith, start_is, ap (λ n. get_or cuts n 0) back);
-  };
-  from_zero = λ s. elim when [
-    | inl e ↦ subst (λ (rs : List CategoryRange). StartsAtZero (rs ++ new ∷ [])) (sym (h.none e)) (start_is ∙ ap (λ n. get_or cuts n 0) e ∙ zero_first)
-    | inr (some, other) ↦
-        let l = h.last some in
-        subst (λ (rs : List CategoryRange). StartsAtZero (rs ++ new ∷ [])) (sym l.is)
-        (zero_push l.front l.last new (subst StartsAtZero l.is (h.from_zero some)))
-  ];
-  apart = elim when [
-    | inl e ↦ subst (λ (rs : List CategoryRange). AreApart (rs ++ new ∷ [])) (sym (h.none e)) tt
-    | inr (some, other) ↦
-        let l = h.last some in
-        subst (λ (rs : List CategoryRange). AreApart (rs ++ new ∷ [])) (sym l.is)
-        (apart_push l.front l.last new (subst AreApart l.is h.apart) (omega
-        (arith, l.start, start_is, rises cuts rising (k - 1) k (omega (arith, some)) inside))
-        (λ e. other (sym l.category_is ∙ e ∙ category_is)))
-  ];
-  starts = all_append (IsRangeOf cuts numbers) ranges (new ∷ []) h.starts (new_is, tt);
-  below = λ c bound.
-      let from : get_or cuts k 0 ≤ c = omega (arith, bound (omega arith), ap (λ n. get_or cuts n 0) back) in
-      all_append (λ (range : CategoryRange). range.start ≤ c) ranges (new ∷ []) (h.below c
-      (λ s. omega (arith, from, rises cuts rising (k - 1) k (omega (arith, s)) inside))) (omega (arith, from, start_is), tt);
-}
-  where
-    back : k + 1 - 1 ≡ k
-    back = omega arith
-
-    up_to : (i : ℕ) → i ≤ k → get_or cuts i 0 ≤ get_or cuts k 0
-    up_to i below = elim (cases_eq i k) [
-      | inl same ↦ omega (arith, ap (λ n. get_or cuts n 0) same)
-      | inr other ↦ omega (arith, rises cuts rising i k (omega arith) inside)
-    ]
-
-    new_is : IsRangeOf cuts numbers new
-    new_is = ((k, inside, get_or_default cuts k new.start 0 inside ∙ sym start_is), (get_or classes k 0, category_is))
+    some : (ranges : List CategoryRange) → 1 ≤ length (ranges ++ last ∷ [])
+    some [] = omega arith
+    some (range ∷ ranges) = omega arith

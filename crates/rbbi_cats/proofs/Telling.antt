@@ -1,182 +1,119 @@
--- What one more set tells apart.
-use Rattle.std.proofs.Common.{◌≡◌, ℕ, zero, suc, ◌+◌, ◌≤◌, ◌<◌, ◌⊎◌, ◌↔◌, Some, List, [], ◌∷◌, ◌++◌, length, get_or, take, refl, ap, sym, ◌∙◌, subst, inl, inr}
+-- What one more set tells apart, and code points that sets tell apart.
+use Rattle.std.proofs.Common.{◌≡◌, ◌≢◌, ℕ, zero, suc, ◌+◌, ◌≤◌, ◌<◌, ◌⊎◌, ◌↔◌, List, [], ◌∷◌, ◌++◌, length, get_or, refl, ap, sym, ◌∙◌, subst, inl, inr}
 use Rattle.std.proofs.Common.{arith}
-use Rattle.std.specs.Prelude.{slice_get, Contains, AllPairs}
-use Rattle.std.specs.List.{AllByRecursion}
-use Rattle.std.proofs.lemmas.List.{get_or_default}
+use Rattle.std.specs.Prelude.{AllPairs}
+use Rattle.std.specs.List.{AllByRecursion, All}
 use Rattle.std.proofs.lemmas.List.Kept.{AllPairs-cons}
-use Rattle.std.proofs.lemmas.List.Elements.{All-from_recursion}
-use Rattle.std.proofs.lemmas.Bool.{cases_lt}
+use Rattle.std.proofs.lemmas.List.Elements.{All-from_recursion, recursion_from_All, Contains-append_left, Contains-push, Contains-push_cases}
+use Rattle.std.proofs.lemmas.List.Quantifiers.{Any-push}
 use Rattle.rbbi_model.specs.Ranges.{Range, Has}
-use Rattle.rbbi_cats.specs.inner.Partitions.{AreStretchClasses, Refines}
-use Rattle.rbbi_cats.specs.inner.Cuts.{AreMembers}
-use Rattle.rbbi_cats.specs.inner.SetClasses.{SomeHas, NoneTells, AreClassesOfSets, HasTold}
-use Rattle.rbbi_cats.proofs.Nexts.{take_next}
+use Rattle.rbbi_sets.specs.Partitions.{AreTogether}
+use Rattle.rbbi_classes.specs.Classes.{ClassBits, HasClass}
+use Rattle.rbbi_classes.specs.Steps.{number_at}
+use Rattle.rbbi_classes.specs.declared.steps.Step.{Step}
+use Rattle.rbbi_cats.specs.inner.Refinements.{AreNumbered, Refines}
+use Rattle.rbbi_cats.specs.inner.Categories.{IsHeld, category_by, AreCategories, HasTold}
 
--- whether a set holds a code point
-pub has_cases : (set : List Range) (c : ℕ) → Has set c ⊎ (¬ Has set c)
-has_cases [] c = inr (λ h. h)
-has_cases (range ∷ set) c =
-    elim (has_cases set c) [
-      | inl h ↦ inl (inr h)
-      | inr n ↦ elim (cases_lt c range.low) [
-        | inl before ↦ inr (λ h. elim h [ inl i ↦ absurd (omega (arith, i.0, before)) | inr l ↦ n l ])
-        | inr from ↦ elim (cases_lt range.high c) [
-          | inl behind ↦ inr (λ h. elim h [ inl i ↦ absurd (omega (arith, i.1, behind)) | inr l ↦ n l ])
-          | inr to ↦ inl (inl (from, to))
-        ]
-      ]
-    ]
+together_push : (sets : List (List Range)) (set : List Range) (c d : ℕ) → AreTogether (sets ++ set ∷ []) c d ↔ (AreTogether sets c d × (Has set c ↔ Has set d))
+together_push sets set c d = (
+  λ h. (λ other inside. h other (Contains-append_left sets (set ∷ []) other inside), h set (Contains-push sets set)),
+  λ both other inside. elim (Contains-push_cases sets set other inside) [
+    | inl old ↦ both.0 other old
+    | inr same ↦ subst (λ (x : List Range). Has x c ↔ Has x d) same both.1
+  ],
+)
 
-pub some_cases : (sets : List (List Range)) (c : ℕ) → SomeHas sets c ⊎ (¬ SomeHas sets c)
-some_cases [] c = inr (λ h. h)
-some_cases (set ∷ sets) c =
-    elim (has_cases set c) [
-      | inl h ↦ inl (inl h)
-      | inr n ↦ elim (some_cases sets c) [ inl h ↦ inl (inr h) | inr m ↦ inr (λ h. elim h [ inl i ↦ n i | inr l ↦ m l ]) ]
-    ]
+-- a member of some sets is one of more
+held_more : (sets rest : List (List Range)) (c : ℕ) → IsHeld sets c → IsHeld (sets ++ rest) c
+held_more sets rest c (k, set, below, is, has) =
+    let (j, inside, is') = Contains-append_left sets rest set (k, below, is) in
+    (j, set, inside, is', has)
 
-some_push : (sets : List (List Range)) (set : List Range) (c : ℕ) → SomeHas (sets ++ set ∷ []) c ↔ (SomeHas sets c ⊎ Has set c)
-some_push [] set c = (λ h. elim h [ inl i ↦ inr i | inr n ↦ absurd n ], λ h. elim h [ inl n ↦ absurd n | inr i ↦ inl i ])
-some_push (first ∷ sets) set c =
-    let more = some_push sets set c in (
-      λ h. elim h [ inl i ↦ inl (inl i) | inr l ↦ elim (more.0 l) [ inl a ↦ inl (inr a) | inr b ↦ inr b ] ],
-      λ h. elim h [ inl s ↦ elim s [ inl i ↦ inl i | inr l ↦ inr (more.1 (inl l)) ] | inr i ↦ inr (more.1 (inr i)) ],
-    )
+held_push : (sets : List (List Range)) (set : List Range) (c : ℕ) → IsHeld (sets ++ set ∷ []) c ↔ (IsHeld sets c ⊎ Has set c)
+held_push sets set c = (
+  λ (k, other, below, is, has). elim (Contains-push_cases sets set other (k, below, is)) [
+    | inl (j, inside, is') ↦ inl (j, other, inside, is', has)
+    | inr same ↦ inr (subst (λ (x : List Range). Has x c) (sym same) has)
+  ],
+  λ h. elim h [ inl old ↦ held_more sets (set ∷ []) c old | inr new ↦ Any-push (λ x. Has x c) sets set new ],
+)
 
-none_push : (sets : List (List Range)) (set : List Range) (c d : ℕ) → NoneTells (sets ++ set ∷ []) c d ↔ (NoneTells sets c d × (Has set c ↔ Has set d))
-none_push [] set c d = (λ h. (tt, h.0), λ h. (h.1, tt))
-none_push (first ∷ sets) set c d =
-    let more = none_push sets set c d in
-    (λ h. ((h.0, (more.0 h.1).0), (more.0 h.1).1), λ h. (h.0.0, more.1 (h.0.1, h.1)))
-
-pub none_take : (sets : List (List Range)) (k c d : ℕ) → NoneTells sets c d → NoneTells (take k sets) c d
-none_take [] zero c d h = tt
-none_take [] (suc k) c d h = tt
-none_take (set ∷ sets) zero c d h = tt
-none_take (set ∷ sets) (suc k) c d h = (h.0, none_take sets k c d h.1)
-
-pub some_take : (sets : List (List Range)) (k c : ℕ) → SomeHas (take k sets) c → SomeHas sets c
-some_take [] zero c h = h
-some_take [] (suc k) c h = h
-some_take (set ∷ sets) zero c h = absurd h
-some_take (set ∷ sets) (suc k) c (inl h) = inl h
-some_take (set ∷ sets) (suc k) c (inr h) = inr (some_take sets k c h)
-
-pub told_more : (sets : List (List Range)) (cuts before after members : List ℕ) (k : ℕ) (set : List Range) → slice_get sets k ≡ Some set →
-    AreMembers cuts set members → Refines before after members →
-    AreClassesOfSets (take k sets) cuts before → AreClassesOfSets (take (k + 1) sets) cuts after
-told_more sets cuts before after members k set at m r h = subst (λ (s : List (List Range)). AreClassesOfSets s cuts after) (sym (take_next sets k set at))
-    (record {
-      many = r.many ∙ h.many;
-      alike = λ i j inside inside'. (alike_there i j inside inside', alike_back i j inside inside');
-      none = λ i inside. (none_there i inside, none_back i inside);
-    })
-  where
-    within : (i : ℕ) → i < length cuts → i < length before
-    within i inside = omega (arith, inside, h.many)
-
-    alike_there : (i j : ℕ) → i < length cuts → j < length cuts → get_or after i 0 ≡ get_or after j 0 →
-        NoneTells (take k sets ++ set ∷ []) (get_or cuts i 0) (get_or cuts j 0)
-    alike_there i j inside inside' e =
-        let both = (r.alike i j (within i inside) (within j inside')).0 e in
-        (none_push (take k sets) set (get_or cuts i 0) (get_or cuts j 0)).1 (
-          (h.alike i j inside inside').0 both.0,
-          (λ s. (m.exactly j inside').0 (both.1.0 ((m.exactly i inside).1 s)), λ s. (m.exactly i inside).0 (both.1.1 ((m.exactly j inside').1 s))),
-        )
-
-    alike_back : (i j : ℕ) → i < length cuts → j < length cuts → NoneTells (take k sets ++ set ∷ []) (get_or cuts i 0) (get_or cuts j 0) →
-        get_or after i 0 ≡ get_or after j 0
-    alike_back i j inside inside' n =
-        let both = (none_push (take k sets) set (get_or cuts i 0) (get_or cuts j 0)).0 n in
-        (r.alike i j (within i inside) (within j inside')).1 (
-          (h.alike i j inside inside').1 both.0,
-          (λ s. (m.exactly j inside').1 (both.1.0 ((m.exactly i inside).0 s)), λ s. (m.exactly i inside).1 (both.1.1 ((m.exactly j inside').0 s))),
-        )
-
-    none_there : (i : ℕ) → i < length cuts → get_or after i 0 ≡ 0 → ¬ SomeHas (take k sets ++ set ∷ []) (get_or cuts i 0)
-    none_there i inside e some =
-        let both = (r.none i (within i inside)).0 e in
-        elim ((some_push (take k sets) set (get_or cuts i 0)).0 some) [
-          | inl old ↦ (h.none i inside).0 both.0 old
-          | inr new ↦ both.1 ((m.exactly i inside).1 new)
-        ]
-
-    none_back : (i : ℕ) → i < length cuts → ¬ SomeHas (take k sets ++ set ∷ []) (get_or cuts i 0) → get_or after i 0 ≡ 0
-    none_back i inside none =
-        (r.none i (within i inside)).1 (
-          (h.none i inside).1 (λ s. none ((some_push (take k sets) set (get_or cuts i 0)).1 (inl s))),
-          λ s. none ((some_push (take k sets) set (get_or cuts i 0)).1 (inr ((m.exactly i inside).0 s))),
-        )
-
--- stretches of the classes from 1 on, one each
-record Representatives (sets : List (List Range)) (cuts classes : List ℕ) (count : ℕ) : Type 0 where
-  starts : List ℕ
-  many : length starts ≡ count
-  each : AllByRecursion (λ c. SomeHas sets c × Contains cuts c) starts
-  classed : AllByRecursion (λ c. (i : ℕ) × (i < length cuts) × (get_or cuts i 0 ≡ c) × (get_or classes i 0 ≤ count)) starts
-  apart : AllPairs (λ c d. ¬ NoneTells sets c d) starts
-
-representatives : (sets : List (List Range)) (cuts classes sizes : List ℕ) (k count : ℕ) → AreStretchClasses classes sizes →
-    AreClassesOfSets (take k sets) cuts classes →
-    count < length sizes → Representatives sets cuts classes count
-representatives sets cuts classes sizes k zero p t below = record {
-  starts = [];
-  many = refl;
-  each = tt;
-  classed = tt;
-  apart =
-      λ i j d less inside. absurd (omega (arith, inside));
+-- The categories by one more set.
+pub told_more : (steps : List Step) (sets : List (List Range)) (set : List Range) (row : ClassBits) (before after : List ℕ) →
+    ((c : ℕ) → c ≤ 0x10FFFF → number_at steps c < length before) →
+    ((c : ℕ) → c ≤ 0x10FFFF → HasClass row (number_at steps c) ↔ Has set c) → Refines row before after → AreCategories steps sets before →
+    AreCategories steps (sets ++ set ∷ []) after
+told_more steps sets set row before after within has r h = record {
+  alike = λ c d small small'.
+      let step = r.alike (number_at steps c) (number_at steps d) (within c small) (within d small') in
+      let push = together_push sets set c d in
+      let of = has c small in
+      let of' = has d small' in (
+        λ e. let both = step.0 e in push.1 (
+          (h.alike c d small small').0 both.0,
+          (λ m. of'.0 (both.1.0 (of.1 m)), λ m. of.0 (both.1.1 (of'.1 m))),
+        ),
+        λ t. let both = push.0 t in step.1 (
+          (h.alike c d small small').1 both.0,
+          (λ m. of'.1 (both.1.0 (of.0 m)), λ m. of.1 (both.1.1 (of'.0 m))),
+        ),
+      );
+  some = λ c small.
+      let step = r.some (number_at steps c) (within c small) in
+      let push = held_push sets set c in (
+        λ n. push.1 (elim (step.0 n) [ inl old ↦ inl ((h.some c small).0 old) | inr new ↦ inr ((has c small).0 new) ]),
+        λ held. step.1 (elim (push.0 held) [ inl old ↦ inl ((h.some c small).1 old) | inr new ↦ inr ((has c small).1 new) ]),
+      );
 }
-representatives sets cuts classes sizes k (suc count) p t below =
-    let old = representatives sets cuts classes sizes k count p t (omega (arith, below)) in
-    let (i, inside, class_is) = p.used (suc count) (omega arith) below in
-    let here : i < length cuts = omega (arith, inside, t.many) in
+
+-- so many code points with different values from 1 on
+record Distinct (value : ℕ → ℕ) (count : ℕ) : Type 0 where
+  codes : List ℕ
+  many : length codes ≡ count
+  each : AllByRecursion (λ c. (c ≤ 0x10FFFF) × (1 ≤ value c) × (value c ≤ count)) codes
+  apart : AllPairs (λ c d. value c ≢ value d) codes
+
+distinct : (value : ℕ → ℕ) (count : ℕ) → ((n : ℕ) → 1 ≤ n → n ≤ count → (c : ℕ) × (c ≤ 0x10FFFF) × (value c ≡ n)) → Distinct value count
+distinct value zero found = record { codes = []; many = refl; each = tt; apart = λ i j d less inside. absurd (omega (arith, inside)) }
+distinct value (suc count) found =
+    let old = distinct value count (λ n one few. found n one (omega (arith, few))) in
+    let (c, small, is) = found (suc count) (omega arith) (omega arith) in
     record {
-      starts = get_or cuts i 0 ∷ old.starts;
+      codes = c ∷ old.codes;
       many = ap (λ n. suc n) old.many;
-      each = ((is_held i here class_is, (i, here, get_or_default cuts i (get_or cuts i 0) 0 here)), old.each);
-      classed = ((i, here, refl, omega (arith, class_is)), wider old.starts old.classed);
-      apart = AllPairs-cons (λ c d. ¬ NoneTells sets c d) (get_or cuts i 0) old.starts
-          (All-from_recursion (λ d. ¬ NoneTells sets (get_or cuts i 0) d) old.starts (new_apart i here class_is old.starts old.classed)) old.apart;
+      each = ((small, omega (arith, is), omega (arith, is)), wider old.codes old.each);
+      apart = AllPairs-cons (λ c d. value c ≢ value d) c old.codes
+          (All-from_recursion (λ d. value c ≢ value d) old.codes (other c is old.codes old.each)) old.apart;
     }
   where
-    is_held : (i : ℕ) → i < length cuts → get_or classes i 0 ≡ suc count → SomeHas sets (get_or cuts i 0)
-    is_held i here class_is =
-        elim (some_cases (take k sets) (get_or cuts i 0)) [
-          | inl s ↦ some_take sets k (get_or cuts i 0) s
-          | inr n ↦ absurd (omega (arith, (t.none i here).1 n, class_is))
-        ]
-
-    wider : (starts : List ℕ) → AllByRecursion (λ c. (i : ℕ) × (i < length cuts) × (get_or cuts i 0 ≡ c) × (get_or classes i 0 ≤ count)) starts →
-        AllByRecursion (λ c. (i : ℕ) × (i < length cuts) × (get_or cuts i 0 ≡ c) × (get_or classes i 0 ≤ suc count)) starts
+    wider : (codes : List ℕ) → AllByRecursion (λ c. (c ≤ 0x10FFFF) × (1 ≤ value c) × (value c ≤ count)) codes →
+        AllByRecursion (λ c. (c ≤ 0x10FFFF) × (1 ≤ value c) × (value c ≤ suc count)) codes
     wider [] h = tt
-    wider (c ∷ starts) ((i, here, is, few), h) = ((i, here, is, omega (arith, few)), wider starts h)
+    wider (d ∷ codes) (this, h) = ((this.0, this.1, omega (arith, this.2)), wider codes h)
 
-    new_apart : (i : ℕ) → i < length cuts → get_or classes i 0 ≡ suc count → (starts : List ℕ) →
-        AllByRecursion (λ c. (i : ℕ) × (i < length cuts) × (get_or cuts i 0 ≡ c) × (get_or classes i 0 ≤ count)) starts →
-        AllByRecursion (λ d. ¬ NoneTells sets (get_or cuts i 0) d) starts
-    new_apart i here class_is [] h = tt
-    new_apart i here class_is (d ∷ starts) ((j, there, is, few), h) = (
-      λ n. absurd (omega (
-        arith,
-        (t.alike i j here there).1 (none_take sets k (get_or cuts i 0) (get_or cuts j 0)
-            (subst (NoneTells sets (get_or cuts i 0)) (sym is) n)),
-        class_is,
-        few,
-      )),
-      new_apart i here class_is starts h,
-    )
+    other : (c : ℕ) → value c ≡ suc count → (codes : List ℕ) → AllByRecursion (λ c. (c ≤ 0x10FFFF) × (1 ≤ value c) × (value c ≤ count)) codes →
+        AllByRecursion (λ d. value c ≢ value d) codes
+    other c is [] h = tt
+    other c is (d ∷ codes) (this, h) = (λ e. absurd (omega (arith, is, e, this.2)), other c is codes h)
 
-pub too_many_told : (sets : List (List Range)) (cuts classes sizes : List ℕ) (k count : ℕ) → AreStretchClasses classes sizes →
-    AreClassesOfSets (take k sets) cuts classes →
-    count < length sizes → HasTold sets cuts count
-too_many_told sets cuts classes sizes k count p t below =
-    let h = representatives sets cuts classes sizes k count p t below in
-    record { starts = h.starts; many = h.many; each = h.each; apart = h.apart }
-
--- the classes by the first so many sets
-pub record ClassesSoFar (sets : List (List Range)) (cuts classes sizes : List ℕ) (k : ℕ) : Type 0 where
-  pub partition : AreStretchClasses classes sizes
-  pub tells : AreClassesOfSets (take k sets) cuts classes
-  pub few : length sizes ≤ 255
+-- where there are more categories by some sets, there are so many code points that all sets tell apart
+pub has_told : (steps : List Step) (bounds : List ℕ) (sets rest : List (List Range)) (categories : List ℕ) (count all : ℕ) → AreNumbered categories all →
+    count < all → ((k : ℕ) → k < length categories → (c : ℕ) × (c ≤ 0x10FFFF) × (number_at steps c ≡ k)) → AreCategories steps sets categories →
+    HasTold (sets ++ rest) count
+has_told steps bounds sets rest categories count all numbered more found h =
+    let value = category_by steps categories in
+    let codes = distinct value count (λ n one few.
+    let (k, below, is) = numbered.used n one (omega (arith, few, more)) in
+    let (c, small, at) = found k below in
+    (c, small, ap (λ k. get_or categories k 0) at ∙ is)) in
+    let small : All (λ c. (c ≤ 0x10FFFF) × (1 ≤ value c) × (value c ≤ count)) codes.codes = All-from_recursion _ codes.codes codes.each in
+    record {
+      codes = codes.codes;
+      many = codes.many;
+      each = recursion_from_All (λ c. (c ≤ 0x10FFFF) × IsHeld (sets ++ rest) c) codes.codes (λ k d below.
+          let (point, one, few) = small k d below in
+          (point, held_more sets rest (get_or codes.codes k d) ((h.some (get_or codes.codes k d) point).0 (λ z. absurd (omega (arith, z, one))))));
+      apart = λ i j d less below together. codes.apart i j d less below
+          ((h.alike (get_or codes.codes i d) (get_or codes.codes j d) (small i d (omega (arith, less, below))).0 (small j d below).0).1
+          (λ set inside. together set (Contains-append_left sets rest set inside)));
+    }

@@ -1,5 +1,4 @@
 -- What only this crate's own code and proofs cite. Nothing that is promised rests on it.
-pub mod Partitions
-pub mod Cuts
-pub mod Numbers
-pub mod SetClasses
+pub mod Refinements
+pub mod Categories
+pub mod Ranges

@@ -8,9 +8,8 @@ ghost use Rattle.rbbi_resolve.specs.RuleLists.{rules_of};
 ghost use Rattle.rbbi_cats.specs.CategoryLists.{HasClasses};
 ghost use Rattle.rbbi_cats.specs.declared.error.CatsErr.TheVariants.{TooManyCategories};
 
-use crate::classes::{MOST_CATEGORIES, classes_of};
-use crate::cuts::cuts_of;
-use crate::numbers::{numbers_of, ranges_of};
+use crate::classes::{MOST_CATEGORIES, categories_of};
+use crate::ranges::ranges_of;
 use crate::{CatRange, CatsErr};
 use rbbi_resolve::Rules;
 use rbbi_table::Blocks;
@@ -52,14 +51,12 @@ pub fn partition(alloc: Global, rules: &Rules) -> Result<Categories, CatsErr>
     ensures too_many { result ≡ Err TooManyCategories →
         HasClasses (rules_of rules.now) MOST_CATEGORIES }
 {
-    let sets = rules.sets();
-    let cuts = cuts_of(alloc, sets)?;
-    let (classes, sizes) = classes_of(alloc, sets, &cuts)?;
-    let (numbers, greatest) = numbers_of(alloc, &classes, sizes.len())?;
-    let ranges = ranges_of(alloc, &cuts, &classes, &numbers)?;
+    let (division, rows) = rules.sets().by_classes();
+    let (categories, count) = categories_of(alloc, division, rows)?;
+    let ranges = ranges_of(alloc, division.steps(), &categories)?;
     let blocks = Blocks::new(alloc, &ranges)?;
     Ok(Categories {
-        count: greatest + 1,
+        count: count as u16,
         ranges,
         blocks,
     })

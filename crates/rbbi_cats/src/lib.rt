@@ -3,10 +3,8 @@
 
 mod categories;
 mod classes;
-mod cuts;
 mod error;
-mod members;
-mod numbers;
+mod ranges;
 mod refine;
 
 pub use categories::{Categories, partition};

@@ -1,113 +1,63 @@
-//! Partition refinement: one set splits the classes that it holds a part of.
-ghost use Rattle.std.specs.Prelude.{◌≡◌, ◌<◌, ◌⊎◌, ℕ, IfOk, OnOk, length, slice_index};
-ghost use Rattle.rbbi_cats.specs.inner.Partitions.{
-  AreSizes,
-  AreStretches,
-  AreStretchClasses,
-  PutsBack,
-  Refines,
-  TakesOut,
-  Targets,
-};
+//! Partition refinement: one row of bits splits the classes that it has a part of.
+ghost use Rattle.std.specs.Prelude.{◌≡◌, ◌+◌, ◌*◌, ◌^◌, ◌≤◌, ◌<◌, IfOk, OnOk, length};
+ghost use Rattle.rbbi_model.specs.Places.{has_bit};
+ghost use Rattle.rbbi_cats.specs.inner.Refinements.{AreNumbered, Refines, IsNext, paired};
 
+use rbbi_bits::is_set;
+use rbbi_classes::ClassSet;
 use std::alloc::{AllocError, Global};
 
-/// In the place of a class: the stretch is between two classes.
-const MOVING: usize = usize::MAX;
-
-/// Splits each class of which the members are a part, so that they have a class of their own. The
-/// members' classes are counted first, so it takes time in proportion to the members and the
-/// classes.
+/// Splits categories of classes by a row, which has a bit for each class: category 0 is what was in
+/// it and isn't in the row, and the others are numbered in the order of their first classes. Gives
+/// the number of categories, category 0 counted. It takes a step for each class.
 pub(crate) fn refine(
     alloc: Global,
-    classes: &mut Vec<usize>,
-    sizes: &mut Vec<usize>,
-    members: &[usize],
-) -> Result<(), AllocError>
-    requires partition { AreStretchClasses classes.old.items sizes.old.items }
-    requires stretches { AreStretches classes.old.items members.now }
-    ensures partition { OnOk result (AreStretchClasses classes.new.items sizes.new.items) }
-    ensures refines { OnOk result (Refines classes.old.items classes.new.items members.now) }
-{
-    let origins = take_out(alloc, classes, sizes, members)?;
-    put_back(alloc, classes, sizes, members, &origins)
-}
-
-/// Takes the members out of their classes, and gives the classes that they had.
-fn take_out(
-    alloc: Global,
-    classes: &mut Vec<usize>,
-    sizes: &mut Vec<usize>,
-    members: &[usize],
-) -> Result<Vec<usize>, AllocError>
-    requires partition { AreStretchClasses classes.old.items sizes.old.items }
-    requires stretches { AreStretches classes.old.items members.now }
-    ensures out { IfOk result (λ origins. TakesOut classes.old.items classes.new.items members.now
-        origins.items sizes.new.items MOVING) }
-    ensures many_classes { length classes.new.items ≡ length classes.old.items }
-    ensures many_sizes { length sizes.new.items ≡ length sizes.old.items }
-{
-    let mut origins = Vec::new(alloc);
-    for member in members {
-        let origin = classes[*member];
-        origins.push(origin)?;
-        sizes[origin] -= 1;
-        classes[*member] = MOVING;
-    }
-    Ok(origins)
-}
-
-/// Puts the members into the targets of their former classes.
-fn put_back(
-    alloc: Global,
-    classes: &mut Vec<usize>,
-    sizes: &mut Vec<usize>,
-    members: &[usize],
-    origins: &[usize],
-) -> Result<(), AllocError>
-    requires stretches { AreStretches classes.old.items members.now }
-    requires many { length origins.now ≡ length members.now }
-    requires origins { (j : ℕ) → j < length members.now →
-        slice_index origins.now j < length sizes.old.items }
-    requires out { (j : ℕ) → j < length members.now →
-        slice_index classes.old.items (slice_index members.now j) ≡ MOVING }
-    requires classes { (i : ℕ) → i < length classes.old.items →
-        (slice_index classes.old.items i < length sizes.old.items) ⊎
-        (slice_index classes.old.items i ≡ MOVING) }
-    requires sizes { AreSizes classes.old.items sizes.old.items }
-    ensures { OnOk result (PutsBack classes.old.items classes.new.items members.now origins.now
-        sizes.old.items sizes.new.items) }
-{
-    let mut targets = vec![in alloc; MOVING; sizes.len()]?;
-    for (k, member) in members.iter().enumerate() {
-        let target = target_of(&mut targets, sizes, origins[k])?;
-        sizes[target] += 1;
-        classes[*member] = target;
-    }
-    Ok(())
-}
-
-/// The class that members of a former class get: the class itself if it has no other stretches,
-/// and else a new one. Class 0 is always left.
-fn target_of(
-    targets: &mut Vec<usize>,
-    sizes: &mut Vec<usize>,
-    origin: usize,
+    categories: &mut [usize],
+    count: usize,
+    row: &ClassSet,
 ) -> Result<usize, AllocError>
-    requires target { origin < length targets.old.items }
-    requires size { origin < length sizes.old.items }
-    ensures { IfOk result (λ target. Targets MOVING targets.old.items sizes.old.items origin
-        targets.new.items sizes.new.items target) }
+    requires numbered { AreNumbered categories.old count }
+    requires few { count < 2 ^ 32 }
+    ensures numbered { IfOk result (λ count. AreNumbered categories.new count) }
+    ensures refines { OnOk result (Refines row.now categories.old categories.new) }
 {
-    if targets[origin] != MOVING {
-        return Ok(targets[origin]);
+    let mut table = vec![in alloc; 0usize; 2 * count]?;
+    let numbers = table.as_mut_slice();
+    let mut greatest = 0;
+    let mut word = 0;
+    for k in 0..categories.len() {
+        if k % 64 == 0 {
+            word = row.word(k / 64);
+        }
+        let pair = pair_of(categories[k], word, k % 64);
+        greatest = number(numbers, greatest, pair);
+        categories[k] = numbers[pair];
     }
-    if origin != 0 && sizes[origin] == 0 {
-        targets[origin] = origin;
-        return Ok(origin);
+    Ok(greatest + 1)
+}
+
+/// A category and a bit of a word in one number.
+fn pair_of(category: usize, word: u64, bit: usize) -> usize
+    requires bit { bit < 64 }
+    requires small { category < 2 ^ 32 }
+    ensures { result ≡ paired category (has_bit word bit) }
+{
+    if is_set(word, bit) {
+        2 * category + 1
+    } else {
+        2 * category
     }
-    let target = sizes.len();
-    sizes.push(0)?;
-    targets[origin] = target;
-    Ok(target)
+}
+
+/// Gives a pair the next number if it has none; pair 0 has the number 0. Gives the greatest number.
+fn number(numbers: &mut [usize], greatest: usize, pair: usize) -> usize
+    requires inside { pair < length numbers.old }
+    requires room { greatest + 1 < 2 ^ 64 }
+    ensures { IsNext numbers.old greatest pair numbers.new result }
+{
+    if pair == 0 || numbers[pair] != 0 {
+        return greatest;
+    }
+    numbers[pair] = greatest + 1;
+    greatest + 1
 }

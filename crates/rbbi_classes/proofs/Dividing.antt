@@ -121,11 +121,13 @@ module _ (own steps : List Step) (bounds : List ℕ) (form : AreBounds bounds) (
   }
 
   -- the classes are a division
-  pub divides : AreSteps steps → IsDivision division
-  divides rise = record {
+  pub divides : AreSteps steps → ((c : ℕ) → first_of bounds (number_at steps c) ≤ c) → IsDivision division
+  divides rise least = record {
     bounds = form;
     steps = rise;
     within = λ c few. within c;
+    first = first;
+    least = λ c few. least c;
     surrogates = λ c few. (
       same_surrogates c (stand_in division c) (right c (stand_in division c) few (small c) (sym (stands c))),
       same_surrogates (stand_in division c) c (right (stand_in division c) c (small c) few (stands c)),

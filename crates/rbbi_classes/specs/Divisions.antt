@@ -1,5 +1,5 @@
 -- Partitions of the code points into classes that no given set splits.
-use Rattle.std.specs.Prelude.{ℕ, ◌≤◌, ◌↔◌, List, ◌∷◌, length, slice_index}
+use Rattle.std.specs.Prelude.{◌≡◌, ℕ, ◌≤◌, ◌↔◌, List, ◌∷◌, length, slice_index}
 use Rattle.rbbi_model.specs.Words.{IsSurrogate}
 use Rattle.rbbi_model.specs.Ranges.{Range, Has}
 use Rattle.rbbi_classes.specs.Classes.{AreBounds, ClassBits, HasMember}
@@ -23,11 +23,14 @@ stand_in division c = first_of division.bounds (number_at division.steps c)
 abbrev pub IsRespected : ClassDivision → List Range → Type 0
 IsRespected division set = (c : ℕ) → c ≤ 0x10FFFF → Has set c ↔ Has set (stand_in division c)
 
--- the bounds and steps rise, each code point has a class, and the set of surrogates is a union of classes
+-- The bounds and steps rise. Each code point has a class, and the first one of each class is its least. The set of surrogates is a union of
+-- classes.
 pub record IsDivision (division : ClassDivision) : Type 0 where
   pub bounds : AreBounds division.bounds
   pub steps : AreSteps division.steps
   pub within : (c : ℕ) → c ≤ 0x10FFFF → number_at division.steps c ≤ length division.bounds
+  pub first : (k : ℕ) → k ≤ length division.bounds → number_at division.steps (first_of division.bounds k) ≡ k
+  pub least : (c : ℕ) → c ≤ 0x10FFFF → stand_in division c ≤ c
   pub surrogates : (c : ℕ) → c ≤ 0x10FFFF → IsSurrogate c ↔ IsSurrogate (stand_in division c)
 
 -- the code point is in one of the classes of the set

@@ -134,7 +134,7 @@ impl ClassSet {
     }
 
     /// The word with this number, counted with those that are left out.
-    pub(crate) fn word(&self, i: usize) -> u64
+    pub fn word(&self, i: usize) -> u64
         ensures { result ≡ word_at self.now i }
     {
         self.piece_at(i)[0]

@@ -83,14 +83,14 @@ impl Division {
     }
 
     /// The steps at which the class changes.
-    pub(crate) fn steps(&self) -> &[Step]
+    pub fn steps(&self) -> &[Step]
         ensures { result.now ≡ self.now.steps }
     {
         self.steps.as_slice()
     }
 
     /// The number of the class of a code point, by a binary search.
-    pub(crate) fn class_at(&self, c: u32) -> usize
+    pub fn class_at(&self, c: u32) -> usize
         ensures { result ≡ number_at self.now.steps c }
     {
         let next = self.steps.partition_point(|step| step.start <= c);

@@ -40,7 +40,7 @@ impl Layout {
     }
 
     /// The number of the last class.
-    pub(crate) fn last_class(&self) -> usize
+    pub fn last_class(&self) -> usize
         ensures { result ≡ length self.now }
     {
         self.bounds.len()

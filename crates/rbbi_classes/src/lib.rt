@@ -21,3 +21,4 @@ pub use class_set::ClassSet;
 pub use class_shelf::ClassShelf;
 pub use division::Division;
 pub use layout::Layout;
+pub use steps::Step;

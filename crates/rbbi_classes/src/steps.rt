@@ -12,9 +12,11 @@ use std::alloc::{AllocError, Global};
 
 /// From the code point `start` on, up to the next step, code points have this number.
 #[derive(Clone, Copy, Debug)]
-pub(crate) struct Step {
-    pub(crate) start: u32,
-    pub(crate) number: u32,
+pub struct Step {
+    /// The first code point with the number.
+    pub start: u32,
+    /// The number.
+    pub number: u32,
 }
 
 /// How far a walk along steps has come: how many it has passed, and the number behind these.

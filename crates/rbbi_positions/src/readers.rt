@@ -3,14 +3,19 @@ ghost use Rattle.std.specs.Prelude.{◌≡◌, ◌+◌, ◌*◌, ◌<◌, ◌≤
 ghost use Rattle.std.specs.Prelude.{slice_index, vec_len};
 ghost use Rattle.std.specs.List.{AllByRecursion};
 ghost use Rattle.rbbi_model.specs.Ranges.{Has};
+ghost use Rattle.rbbi_model.specs.Words.{IsCharacter};
+ghost use Rattle.rbbi_classes.specs.CharacterSets.{characters_of};
+ghost use Rattle.rbbi_classes.specs.Divisions.{IsDivision};
+ghost use Rattle.rbbi_classes.specs.Steps.{number_at};
 ghost use Rattle.rbbi_resolve.specs.RuleTrees.{set_at};
 ghost use Rattle.rbbi_positions.specs.inner.Rows.{in_row};
 ghost use Rattle.rbbi_positions.specs.inner.RuleTests.{AreCodesOf, ReadCode};
 ghost use Rattle.rbbi_positions.specs.inner.Readers.{HasEachCategory, AreReaders};
 
 use crate::row_union::unite_row;
-use rbbi_bits::insert;
+use rbbi_bits::{insert, is_set};
 use rbbi_cats::Categories;
+use rbbi_classes::{ClassSet, Division};
 use rbbi_resolve::SetList;
 use std::alloc::{AllocError, Global};
 
@@ -40,13 +45,31 @@ fn readers_of_code(
     ensures many { IfOk result (λ row. length row.items ≡ words) }
     ensures read { IfOk result (λ row. ReadCode sets.now numbers.now code row.items) }
 {
+    let (division, rows) = sets.by_classes();
+    let class = division.class_at(code);
     let mut row = vec![in alloc; 0u64; words]?;
     for position in 0..numbers.len() {
-        if sets.get(numbers[position] as usize).has(code) {
+        if is_in(division, &rows[numbers[position] as usize], code, class) {
             insert(&mut row, position);
         }
     }
     Ok(row)
+}
+
+/// Whether the code point, which is of this class of a division, is a character of the classes.
+fn is_in(division: &Division, classes: &ClassSet, code: u32, class: usize) -> bool
+    requires form { IsDivision division.now }
+    requires class { class ≡ number_at division.now.steps code }
+    ensures { IsTrue result ↔ Has (characters_of division.now classes.now) code }
+{
+    is_character(code) && is_set(classes.word(class / 64), class % 64)
+}
+
+/// Whether the number is that of a character: a code point that is no surrogate.
+fn is_character(code: u32) -> bool
+    ensures { IsTrue result ↔ IsCharacter code }
+{
+    code < 0xD800 || 0xDFFF < code && code <= 0x10_FFFF
 }
 
 /// For each category the row of the positions whose sets hold its code point. That of category 0 is

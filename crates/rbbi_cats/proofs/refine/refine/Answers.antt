@@ -1,21 +1,39 @@
-use Rattle.std.proofs.Common.{arith}
-use Rattle.std.proofs.lemmas.Result.{on_ok_weaker}
-use Rattle.rbbi_cats.specs.declared.refine.TheConstants.{MOVING}
-use Rattle.rbbi_cats.proofs.Refining.{refined, partitioned, class_or_out}
+use Rattle.std.proofs.Common.{◌≡◌, ◌/◌, ◌%◌, ◌<◌, length, get_or, ◌∙◌, arith}
+use Rattle.rbbi_model.specs.Places.{has_bit}
+use Rattle.rbbi_classes.specs.Classes.{word_at}
+use Rattle.rbbi_cats.proofs.Numbering.{refined_more, paired-small, are_numbered, are_refined}
 use Rattle.rbbi_cats.proofs.refine.refine.Goals as goal
+use Rattle.rbbi_cats.proofs.refine.refine.Goals.{then-k-eq0, else-k-eq0}
 
-pub put_back-requires-clause-classes : goal.put_back-requires-clause-classes
-put_back-requires-clause-classes c =
-    class_or_out c.args.classes.now.items c.take_out.new.classes.items c.args.members.now c.in_ok-origins.origins.items c.args.sizes.now.items
-    c.take_out.new.sizes.items MOVING
-    c.requires.partition c.take_out.ensures.many_classes c.take_out.ensures.many_sizes c.in_ok-origins.ensures.out
+pub loop-k-preserved : goal.loop-k-preserved
+loop-k-preserved c =
+    let k = c.loop-k.k in
+    let h = c.loop-k.invariant.refined in
+    let word : c.if-k-eq0.word ≡ word_at c.args.row.now (k / 64) = elim c.if-k-eq0.branch [
+      | then-k-eq0 w ↦ w.word-is ∙ w.word-word.ensures
+      | else-k-eq0 w ↦ w.word-is ∙ h.word_is w.if-k-eq0.false
+    ] in
+    let inside : c.pair_of-pair.result < length c.loop-k.numbers = omega (
+      arith,
+      c.pair_of-pair.ensures,
+      paired-small (get_or c.loop-k.categories k 0) (has_bit c.if-k-eq0.word (k % 64)),
+      h.rest k (omega arith),
+      c.requires.numbered.within k c.loop-k-test.true,
+      c.loop-k.invariant.many,
+    ) in
+    record {
+      refined = refined_more c.number-greatest.new.numbers c.number-greatest.result c.if-k-eq0.word c.pair_of-pair.result h word c.pair_of-pair.ensures inside
+          (omega arith) c.number-greatest.ensures;
+      many = omega arith;
+    }
 
-pub returns-clause-partition : goal.returns-clause-partition
-returns-clause-partition c =
-    on_ok_weaker c.put_back.result (partitioned c.requires.partition c.requires.stretches c.take_out.ensures.many_classes c.take_out.ensures.many_sizes
-    c.in_ok-origins.ensures.out (omega (arith, c.args.sizes.now.small))) (rw c.deref.ensures.value at c.put_back.ensures)
-
-pub returns-clause-refines : goal.returns-clause-refines
-returns-clause-refines c =
-    on_ok_weaker c.put_back.result (refined c.requires.partition c.requires.stretches c.take_out.ensures.many_classes c.take_out.ensures.many_sizes
-    c.in_ok-origins.ensures.out (omega (arith, c.args.sizes.now.small))) (rw c.deref.ensures.value at c.put_back.ensures)
+pub returns : goal.returns
+returns c =
+    let k = c.loop-k.k in
+    let all : k ≡ length c.args.categories.now = omega arith in
+    let long = c.loop-k.auto.categories in
+    let h = c.loop-k.invariant.refined in
+    record {
+      numbered = are_numbered c.args.row.now c.args.categories.now c.loop-k.categories c.loop-k.numbers c.loop-k.greatest c.loop-k.word k all long h;
+      refines = are_refined c.args.row.now c.args.categories.now c.loop-k.categories c.loop-k.numbers c.loop-k.greatest c.loop-k.word k all long h;
+    }

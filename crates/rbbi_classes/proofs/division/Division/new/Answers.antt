@@ -35,7 +35,7 @@ form : (c : After-of_bounds) → IsDivision (record { bounds = c.of_bounds.resul
 form c =
     subst (λ (bounds : List ℕ). IsDivision (record { bounds = bounds; steps = c.in_ok-steps.steps.items })) (sym c.of_bounds.ensures)
     (divides c.in_ok-own.own.items c.in_ok-steps.steps.items c.in_ok-bounds.bounds.items c.in_ok-bounds.ensures.form (within c) (first c) (left c)
-    c.in_ok-steps.ensures.right c.in_ok-steps.ensures.form)
+    c.in_ok-steps.ensures.right c.in_ok-steps.ensures.form (rw (← c.deref-2.ensures.value) c.in_ok-bounds.ensures.least))
 
 -- each of the sets has all of a class or nothing of it
 respected : (c : After-of_bounds) → (set : List Range) → Contains c.args.sets.now set →
