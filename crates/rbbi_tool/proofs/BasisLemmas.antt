@@ -8,9 +8,9 @@ use Rattle.rbbi_model.specs.ValidTables.{IsValidTable}
 use Rattle.rbbi_model.specs.Marks.{HasSameMarks}
 use Rattle.rbbi_model.specs.Compiled.{IsCompiled, GivesBoundaries}
 use Rattle.rbbi_model.specs.Searches.{table_boundaries}
-use Rattle.rbbi_tool.specs.declared.words.setting.Property.{Property}
-use Rattle.rbbi_tool.specs.declared.refusal.Refusal.{Refusal}
-use Rattle.rbbi_tool.specs.Stages.{Stage, followed_by, gives}
+use Rattle.rbbi_command.specs.declared.words.setting.Property.{Property}
+use Rattle.rbbi_command.specs.declared.refusal.Refusal.{Refusal}
+use Rattle.rbbi_command.specs.Stages.{Stage, followed_by, gives}
 use Rattle.rbbi_tool.specs.inner.Stages.{Meets, Serves}
 use Rattle.rbbi_tool.specs.Basis.{limits_stage, compiled_stage, table_stage, basis_stage}
 use Rattle.rbbi_tool.specs.Basis.{Basis, ByRules, ByTable, IsTableOf, AreBoundariesBy}

@@ -2,13 +2,13 @@
 use Rattle.std.proofs.Common.{◌≡◌, ◌<◌, ◌≤◌, ℕ, zero, suc, List, [], ◌∷◌, length, take, drop, sym, ap, ◌∙◌, subst, refl, arith}
 use Rattle.std.specs.Prelude.{Result, Some, IfSome, slice_get, if◌then◌else◌, ◌==◌}
 use Rattle.std.proofs.lemmas.Bool.{cond_both}
-use Rattle.rbbi_tool.specs.declared.refusal.Refusal.{Refusal}
-use Rattle.rbbi_tool.specs.declared.words.command.Command.{Command}
-use Rattle.rbbi_tool.specs.declared.words.command.Command.TheVariants.{Check, Compile, Breaks, Run, Conform, Demo}
-use Rattle.rbbi_tool.specs.Stages.{Stage}
+use Rattle.rbbi_command.specs.declared.refusal.Refusal.{Refusal}
+use Rattle.rbbi_command.specs.declared.words.command.Command.{Command}
+use Rattle.rbbi_command.specs.declared.words.command.Command.TheVariants.{Check, Compile, Breaks, Run, Conform, Demo}
+use Rattle.rbbi_command.specs.Stages.{Stage}
 use Rattle.rbbi_tool.specs.inner.Stages.{Meets}
-use Rattle.rbbi_tool.specs.Refusals.{Outcome}
-use Rattle.rbbi_tool.specs.Words.{Request, operands_of}
+use Rattle.rbbi_command.specs.Refusals.{Outcome}
+use Rattle.rbbi_command.specs.Words.{Request, operands_of}
 use Rattle.rbbi_tool.specs.Program.{nth, command_stage, files_stage}
 use Rattle.rbbi_tool.specs.Causes.{IsWrittenBy}
 use Rattle.rbbi_tool.specs.Command.Check.{check_stage}

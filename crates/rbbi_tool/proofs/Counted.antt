@@ -7,23 +7,23 @@ use Rattle.rbbi_model.specs.Tables.{Table}
 use Rattle.rbbi_model.specs.Scripts as model
 use Rattle.rbbi_model.specs.Costs.{script_cost, breaks_cost}
 use Rattle.rbbi_text.specs.Steps.{RisesUpTo}
-use Rattle.rbbi_tool.specs.declared.words.command.Command.{Command}
-use Rattle.rbbi_tool.specs.declared.words.command.Command.TheVariants.{Check, Compile, Breaks, Run, Conform, Demo}
-use Rattle.rbbi_tool.specs.declared.words.setting.Property.{Property}
-use Rattle.rbbi_tool.specs.declared.files.Source.{Source}
-use Rattle.rbbi_tool.specs.Stages.{Stage}
-use Rattle.rbbi_tool.specs.Words.{Request, Asks, operands_of}
-use Rattle.rbbi_tool.specs.Files.{property_source, operand_sources, sources_of}
-use Rattle.rbbi_tool.specs.Reads.{bytes_of, MakesSomeReads}
-use Rattle.rbbi_tool.specs.inner.Reads.{AreRead}
+use Rattle.rbbi_command.specs.declared.words.command.Command.{Command}
+use Rattle.rbbi_command.specs.declared.words.command.Command.TheVariants.{Check, Compile, Breaks, Run, Conform, Demo}
+use Rattle.rbbi_command.specs.declared.words.setting.Property.{Property}
+use Rattle.rbbi_command.specs.declared.files.Source.{Source}
+use Rattle.rbbi_command.specs.Stages.{Stage}
+use Rattle.rbbi_command.specs.Words.{Request, IsCommandLine, operands_of}
+use Rattle.rbbi_command.specs.Files.{property_source, operand_sources, sources_of}
+use Rattle.rbbi_command.specs.Reads.{bytes_of, MakesSomeReads}
+use Rattle.rbbi_command.specs.Reads.{AreRead}
 use Rattle.rbbi_tool.specs.Texts.{text_stage}
 use Rattle.rbbi_tool.specs.Scripts.{script_stage}
 use Rattle.rbbi_tool.specs.Basis.{Basis, IsTableOf, basis_stage}
 use Rattle.rbbi_tool.specs.Program.{nth}
 use Rattle.rbbi_tool.specs.Steps.{counted, named_bytes, ReadsForBreaks, ReadsForScript, CommandReads, RequestReads}
 use Rattle.rbbi_tool.specs.inner.Steps.{given_bytes, FilesReads, ReadsInOrder}
-use Rattle.rbbi_tool.proofs.Forms.{same_request}
-use Rattle.rbbi_tool.proofs.Reading.{all_told, always_told}
+use Rattle.rbbi_command.proofs.Forms.{same_request}
+use Rattle.rbbi_command.proofs.Reading.{all_told, always_told}
 
 -- the bytes of one more property file
 pub handed_more : (handed : List (List ℕ)) (i begun steps steps' : ℕ) (bytes : List ℕ) → i < length handed → bytes ≡ get_or handed i bytes →
@@ -262,7 +262,7 @@ reads_nothing words contents reads steps = record {
 }
 
 -- what is read of the files that were read in order
-pub reads_told : (words : List (List ℕ)) (contents : Option (List ℕ → List ℕ)) (here request : Request) → Asks words request → Asks words here →
+pub reads_told : (words : List (List ℕ)) (contents : Option (List ℕ → List ℕ)) (here request : Request) → IsCommandLine words request → IsCommandLine words here →
     (sources : List Source) (bytes : List (List ℕ)) (before after : ℕ) → sources ≡ sources_of here → IfSome contents (AreRead sources bytes) →
     FilesReads here bytes before after → IfSome contents (λ held. RequestReads request held before after)
 reads_told words contents here request asks asks' sources bytes before after is read reads =

@@ -1,12 +1,7 @@
 pub mod Positions
 pub mod StageLemmas
-pub mod SettingLemmas
-pub mod Forms
-pub mod SourceLemmas
 pub mod Handing
-pub mod Reading
 pub mod Listing
-pub mod Delivering
 pub mod Numbers
 pub mod Sizes
 pub mod BasisLemmas
@@ -20,4 +15,3 @@ pub mod OneReading
 pub mod OneOutcome
 pub mod Searched
 pub mod Counted
-pub mod Fitting

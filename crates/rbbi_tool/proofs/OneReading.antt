@@ -9,7 +9,7 @@ use Rattle.rbbi_conform.specs.Tests.{Test}
 use Rattle.rbbi_conform.specs.declared.verdict.Verdict.{Verdict}
 use Rattle.rbbi_conform.specs.Verdicts.{IsVerdict}
 use Rattle.rbbi_conform.specs.Laws.{HaveOneTestList, HasOneVerdict}
-use Rattle.rbbi_tool.specs.inner.Stages.{IsDetermined}
+use Rattle.rbbi_tool.specs.inner.Stages.{IsDeterministic}
 use Rattle.rbbi_tool.specs.Basis.{Basis, AreBoundariesBy}
 use Rattle.rbbi_tool.specs.Scripts.{lines_fault, script_stage, tests_stage}
 use Rattle.rbbi_tool.specs.Command.Conform.{AreVerdictsBy}
@@ -26,7 +26,7 @@ module _ {A E : Type 0} where
   no_error a e same = cc
 
 -- what a script comes to is determined
-pub script_determined : HaveOneScript → (name bytes : List ℕ) → IsDetermined (List Command) (script_stage name bytes)
+pub script_determined : HaveOneScript → (name bytes : List ℕ) → IsDeterministic (List Command) (script_stage name bytes)
 script_determined law name bytes = record {
   value = λ cs ds is is'.
       let same = law bytes (Ok is.written) (Ok is'.written) is.read is'.read (λ e. no_error _ _ e) (λ e. no_error _ _ e) in
@@ -40,7 +40,7 @@ script_determined law name bytes = record {
 }
 
 -- what a test file comes to is determined
-pub tests_determined : HaveOneTestList → (name bytes : List ℕ) → IsDetermined (List Test) (tests_stage name bytes)
+pub tests_determined : HaveOneTestList → (name bytes : List ℕ) → IsDeterministic (List Test) (tests_stage name bytes)
 tests_determined law name bytes = record {
   value = λ ts us is is'. value_of ts us (law bytes (Ok ts) (Ok us) is is' (λ e. no_error _ _ e) (λ e. no_error _ _ e));
   refusal = λ r s is is'.

@@ -4,14 +4,14 @@ use Rattle.std.proofs.Common.{◌∙◌, subst, arith}
 use Rattle.std.proofs.lemmas.List.{length-map, length-append, length-take-le, length-drop}
 use Rattle.rbbi_model.proofs.Lists.{all_take, all_drop}
 use Rattle.rbbi_text.specs.Bytes.{most_bytes}
-use Rattle.rbbi_tool.specs.declared.words.command.Command.{Command}
-use Rattle.rbbi_tool.specs.declared.words.command.Command.TheVariants.{Check, Compile, Breaks, Run, Conform, Demo}
-use Rattle.rbbi_tool.specs.declared.files.Role.{Role}
-use Rattle.rbbi_tool.specs.declared.files.Role.TheVariants as role
-use Rattle.rbbi_tool.specs.declared.files.Source.{Source}
-use Rattle.rbbi_tool.specs.Words.{Request, operands_of}
-use Rattle.rbbi_tool.specs.Files.{limit_of, property_source, operand_sources, sources_of}
-use Rattle.rbbi_tool.specs.inner.Reads.{AreWithin, AreShort}
+use Rattle.rbbi_command.specs.declared.words.command.Command.{Command}
+use Rattle.rbbi_command.specs.declared.words.command.Command.TheVariants.{Check, Compile, Breaks, Run, Conform, Demo}
+use Rattle.rbbi_command.specs.declared.files.Role.{Role}
+use Rattle.rbbi_command.specs.declared.files.Role.TheVariants as role
+use Rattle.rbbi_command.specs.declared.files.Source.{Source}
+use Rattle.rbbi_command.specs.Words.{Request, operands_of}
+use Rattle.rbbi_command.specs.Files.{limit_of, property_source, operand_sources, sources_of}
+use Rattle.rbbi_command.specs.Reads.{AreWithin, AreShort}
 use Rattle.rbbi_tool.specs.inner.Properties.{AreHanded}
 use Rattle.rbbi_tool.specs.Program.{nth}
 

@@ -16,13 +16,13 @@ use Rattle.rbbi_file.specs.declared.error.FileErr.{FileErr}
 use Rattle.rbbi_file.specs.declared.error.FileErr.TheVariants as file
 use Rattle.rbbi_file.specs.Errors as reader
 use Rattle.rbbi_file.specs.Answers.{ReadsTable}
-use Rattle.rbbi_tool.specs.declared.words.setting.Property.{Property}
-use Rattle.rbbi_tool.specs.declared.refusal.Subject.TheVariants as subject
-use Rattle.rbbi_tool.specs.declared.refusal.Place.{Place}
-use Rattle.rbbi_tool.specs.declared.refusal.Place.TheVariants.{Whole, Byte}
-use Rattle.rbbi_tool.specs.declared.refusal.Refusal.{Refusal}
-use Rattle.rbbi_tool.specs.declared.refusal.Refusal.TheVariants.{Fault}
-use Rattle.rbbi_tool.specs.Stages.{Stage, followed_by, gives}
+use Rattle.rbbi_command.specs.declared.words.setting.Property.{Property}
+use Rattle.rbbi_command.specs.declared.refusal.Subject.TheVariants as subject
+use Rattle.rbbi_command.specs.declared.refusal.Place.{Place}
+use Rattle.rbbi_command.specs.declared.refusal.Place.TheVariants.{Whole, Byte}
+use Rattle.rbbi_command.specs.declared.refusal.Refusal.{Refusal}
+use Rattle.rbbi_command.specs.declared.refusal.Refusal.TheVariants.{Fault}
+use Rattle.rbbi_command.specs.Stages.{Stage, followed_by, gives}
 use Rattle.rbbi_tool.specs.Rules.{rules_stage, rules_of_text_stage}
 
 -- there are at most 255 categories, category 0 counted, or more

@@ -1,14 +1,14 @@
 -- What a run of the program answers, where the files tell what they hold: the exit status, and what is written.
 use Rattle.std.specs.Prelude.{◌≡◌, ◌⊎◌, ℕ, List, [], slice_index_or, length, take, drop}
-use Rattle.rbbi_tool.specs.declared.words.command.Command.{Command}
-use Rattle.rbbi_tool.specs.declared.words.command.Command.TheVariants.{Check, Compile, Breaks, Run, Conform, Demo}
-use Rattle.rbbi_tool.specs.declared.refusal.Refusal.{Refusal}
-use Rattle.rbbi_tool.specs.declared.refusal.Refusal.TheVariants.{Usage}
-use Rattle.rbbi_tool.specs.Stages.{Stage, followed_by}
-use Rattle.rbbi_tool.specs.Refusals.{Outcome, refused}
-use Rattle.rbbi_tool.specs.Words.{Request, Asks, AreNoForm}
-use Rattle.rbbi_tool.specs.Files.{sources_of, lengths_stage}
-use Rattle.rbbi_tool.specs.Reads.{bytes_of}
+use Rattle.rbbi_command.specs.declared.words.command.Command.{Command}
+use Rattle.rbbi_command.specs.declared.words.command.Command.TheVariants.{Check, Compile, Breaks, Run, Conform, Demo}
+use Rattle.rbbi_command.specs.declared.refusal.Refusal.{Refusal}
+use Rattle.rbbi_command.specs.declared.refusal.Refusal.TheVariants.{Usage}
+use Rattle.rbbi_command.specs.Stages.{Stage, followed_by}
+use Rattle.rbbi_command.specs.Refusals.{Outcome, refused}
+use Rattle.rbbi_command.specs.Words.{Request, IsCommandLine, AreNoForm}
+use Rattle.rbbi_command.specs.Files.{sources_of, lengths_stage}
+use Rattle.rbbi_command.specs.Reads.{bytes_of}
 use Rattle.rbbi_tool.specs.Command.Check.{check_stage}
 use Rattle.rbbi_tool.specs.Command.Compile.{compile_stage}
 use Rattle.rbbi_tool.specs.Command.Breaks.{breaks_stage}
@@ -18,7 +18,7 @@ use Rattle.rbbi_tool.specs.Command.Demo.{demo_stage}
 
 -- what the words ask for
 abbrev pub words_stage : List (List ℕ) → Stage Request
-words_stage words = record { passes = Asks words; refuses = λ refusal. AreNoForm words × (refusal ≡ Usage) }
+words_stage words = record { passes = IsCommandLine words; refuses = λ refusal. AreNoForm words × (refusal ≡ Usage) }
 
 -- the word with this number, from 0; or the bytes of the file with this number
 abbrev pub nth : List (List ℕ) → ℕ → List ℕ

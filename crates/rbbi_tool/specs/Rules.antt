@@ -14,13 +14,13 @@ use Rattle.rbbi_tree.specs.Refusals as parser
 use Rattle.rbbi_props.specs.Rows.{File}
 use Rattle.rbbi_resolve.specs.Outcomes.{Means}
 use Rattle.rbbi_resolve.specs.Refusals as resolver
-use Rattle.rbbi_tool.specs.declared.refusal.Subject.TheVariants.{Rules}
-use Rattle.rbbi_tool.specs.declared.refusal.Place.TheVariants.{Within}
-use Rattle.rbbi_tool.specs.declared.refusal.Refusal.{Refusal}
-use Rattle.rbbi_tool.specs.declared.refusal.Refusal.TheVariants.{Fault}
-use Rattle.rbbi_tool.specs.Stages.{Stage, followed_by}
+use Rattle.rbbi_command.specs.declared.refusal.Subject.TheVariants.{Rules}
+use Rattle.rbbi_command.specs.declared.refusal.Place.TheVariants.{Within}
+use Rattle.rbbi_command.specs.declared.refusal.Refusal.{Refusal}
+use Rattle.rbbi_command.specs.declared.refusal.Refusal.TheVariants.{Fault}
+use Rattle.rbbi_command.specs.Stages.{Stage, followed_by}
 use Rattle.rbbi_tool.specs.Texts.{TellsNotUtf8}
-use Rattle.rbbi_tool.specs.declared.words.setting.Property.{Property}
+use Rattle.rbbi_command.specs.declared.words.setting.Property.{Property}
 use Rattle.rbbi_tool.specs.Properties.{properties_stage, property_files}
 
 -- a fault of this label at a place of the text of the rule file

@@ -8,11 +8,11 @@ use Rattle.rbbi_script.specs.Meaning.{meaning}
 use Rattle.rbbi_script.specs.Files.{ReadsScript}
 use Rattle.rbbi_conform.specs.Tests.{Test}
 use Rattle.rbbi_conform.specs.Files.{ReadsTests}
-use Rattle.rbbi_tool.specs.declared.refusal.Subject.TheVariants.{File}
-use Rattle.rbbi_tool.specs.declared.refusal.Place.TheVariants.{Byte, Row}
-use Rattle.rbbi_tool.specs.declared.refusal.Refusal.{Refusal}
-use Rattle.rbbi_tool.specs.declared.refusal.Refusal.TheVariants.{Fault, Memory}
-use Rattle.rbbi_tool.specs.Stages.{Stage}
+use Rattle.rbbi_command.specs.declared.refusal.Subject.TheVariants.{File}
+use Rattle.rbbi_command.specs.declared.refusal.Place.TheVariants.{Byte, Row}
+use Rattle.rbbi_command.specs.declared.refusal.Refusal.{Refusal}
+use Rattle.rbbi_command.specs.declared.refusal.Refusal.TheVariants.{Fault, Memory}
+use Rattle.rbbi_command.specs.Stages.{Stage}
 
 -- what a fault of the script or the test file of this name tells
 abbrev pub lines_fault : List ℕ → LinesErr → Refusal

@@ -3,12 +3,12 @@ use Rattle.std.specs.Prelude.{◌≡◌, ◌<◌, ◌≤◌, ℕ, List, length, 
 use Rattle.std.specs.Str.{chars}
 use Rattle.rbbi_model.specs.Words.{most_characters}
 use Rattle.rbbi_text.specs.Bytes.{IsNotUtf8At}
-use Rattle.rbbi_tool.specs.declared.refusal.Subject.{Subject}
-use Rattle.rbbi_tool.specs.declared.refusal.Subject.TheVariants.{File}
-use Rattle.rbbi_tool.specs.declared.refusal.Place.TheVariants.{Whole, Byte}
-use Rattle.rbbi_tool.specs.declared.refusal.Refusal.{Refusal}
-use Rattle.rbbi_tool.specs.declared.refusal.Refusal.TheVariants.{Fault}
-use Rattle.rbbi_tool.specs.Stages.{Stage, followed_by}
+use Rattle.rbbi_command.specs.declared.refusal.Subject.{Subject}
+use Rattle.rbbi_command.specs.declared.refusal.Subject.TheVariants.{File}
+use Rattle.rbbi_command.specs.declared.refusal.Place.TheVariants.{Whole, Byte}
+use Rattle.rbbi_command.specs.declared.refusal.Refusal.{Refusal}
+use Rattle.rbbi_command.specs.declared.refusal.Refusal.TheVariants.{Fault}
+use Rattle.rbbi_command.specs.Stages.{Stage, followed_by}
 
 -- the bytes aren't UTF-8, and the first byte past the longest front that is, is told
 abbrev pub TellsNotUtf8 : Subject → List ℕ → Refusal → Type 0

@@ -10,9 +10,8 @@ ghost use Rattle.rbbi_tool.specs.inner.Stages.{Meets, Serves};
 ghost use Rattle.rbbi_tool.specs.inner.Properties.{AreHanded};
 ghost use Rattle.rbbi_tool.specs.Basis as spec;
 
-use crate::refusal::{Place, Refusal, Subject, fault};
 use crate::rules::{rules_from, rules_of_text};
-use crate::words::Options;
+use rbbi_command::{Options, Place, Refusal, Subject, fault};
 use rbbi_cats::{Categories, CatsErr};
 use rbbi_dfa::BuildErr;
 use rbbi_file::FileErr;

@@ -2,16 +2,15 @@
 ghost use Rattle.std.specs.Prelude.{◌≡◌, ◌<◌, map, length};
 ghost use Rattle.std.specs.String.{string_bytes};
 ghost use Rattle.rbbi_tool.specs.inner.Stages.{Meets};
-ghost use Rattle.rbbi_tool.specs.Words.{operands_of, AllFit};
-ghost use Rattle.rbbi_tool.specs.inner.Requests.{asked_by};
-ghost use Rattle.rbbi_tool.specs.Files.{sources_of};
-ghost use Rattle.rbbi_tool.specs.inner.Reads.{AreWithin};
+ghost use Rattle.rbbi_command.specs.Words.{operands_of, AllFit};
+ghost use Rattle.rbbi_command.specs.Requests.{asked_by};
+ghost use Rattle.rbbi_command.specs.Files.{sources_of};
+ghost use Rattle.rbbi_command.specs.Reads.{AreWithin};
 ghost use Rattle.rbbi_tool.specs.Program.{nth, files_stage};
 ghost use Rattle.rbbi_tool.specs.inner.Steps.{FilesReads};
 
-use crate::command::{Output, breaks, check, compile, conform, demo, run};
-use crate::refusal::Refusal;
-use crate::words::{Command, Request};
+use crate::command::{breaks, check, compile, conform, demo, run};
+use rbbi_command::{Command, Output, Refusal, Request};
 use rbbi_text::{Raw, Steps};
 use std::alloc::Global;
 use std::sync::ledger::Ledger;

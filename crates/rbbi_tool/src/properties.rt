@@ -7,9 +7,7 @@ ghost use Rattle.rbbi_tool.specs.inner.Stages.{Meets};
 ghost use Rattle.rbbi_tool.specs.Properties as spec;
 ghost use Rattle.rbbi_tool.specs.inner.Properties.{AreHanded};
 
-use crate::name::Name;
-use crate::refusal::{Place, Refusal, Subject, fault};
-use crate::words::Property;
+use rbbi_command::{Name, Place, Property, Refusal, Subject, fault};
 use rbbi_props::{PropErr, PropTable};
 use rbbi_text::{Raw, Steps};
 use std::alloc::Global;

@@ -15,8 +15,7 @@ ghost use Rattle.rbbi_tool.specs.Rules as spec;
 
 use crate::position::position_of;
 use crate::properties::properties_of;
-use crate::refusal::{Place, Refusal, Subject, fault};
-use crate::words::Options;
+use rbbi_command::{Options, Place, Refusal, Subject, fault};
 use rbbi_lex::Tokens;
 use rbbi_props::PropTable;
 use rbbi_resolve::Rules;

@@ -7,7 +7,7 @@ ghost use Rattle.rbbi_script.specs.Meaning.{meaning};
 ghost use Rattle.rbbi_tool.specs.inner.Stages.{Meets};
 ghost use Rattle.rbbi_tool.specs.Scripts as spec;
 
-use crate::refusal::{Place, Refusal, file_fault};
+use rbbi_command::{Place, Refusal, file_fault};
 use rbbi_conform::{Tests, read_tests};
 use rbbi_script::{Commands, read_script};
 use rbbi_text::{LinesErr, Raw, Steps};

@@ -5,8 +5,7 @@ ghost use Rattle.rbbi_text.specs.Bytes.{most_bytes};
 ghost use Rattle.rbbi_tool.specs.inner.Stages.{Meets};
 ghost use Rattle.rbbi_tool.specs.Texts.{text_stage};
 
-use crate::name::Name;
-use crate::refusal::{Place, Refusal, Subject, fault};
+use rbbi_command::{Name, Place, Refusal, Subject, fault};
 use rbbi_text::{Chars, Pieces, PlainText, Raw, RawErr};
 use std::alloc::Global;
 

@@ -2,9 +2,9 @@
 use Rattle.std.specs.Prelude.{ℕ, Bool, List, length, sum_by}
 use Rattle.rbbi_model.specs.Rules.{Rule, leaves_of, look_aheads}
 use Rattle.rbbi_model.specs.Lines.{check_line}
-use Rattle.rbbi_tool.specs.declared.words.setting.Property.{Property}
-use Rattle.rbbi_tool.specs.Stages.{Stage, followed_by, gives}
-use Rattle.rbbi_tool.specs.Refusals.{Outcome, printed}
+use Rattle.rbbi_command.specs.declared.words.setting.Property.{Property}
+use Rattle.rbbi_command.specs.Stages.{Stage, followed_by, gives}
+use Rattle.rbbi_command.specs.Refusals.{Outcome, printed}
 use Rattle.rbbi_tool.specs.Rules.{rules_stage}
 
 -- how many rules there are, how many of them look ahead, and how many leaves they have

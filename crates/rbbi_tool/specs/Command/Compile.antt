@@ -5,9 +5,9 @@ use Rattle.rbbi_model.specs.Lines.{compile_line}
 use Rattle.rbbi_model.specs.Tables.{Table}
 use Rattle.rbbi_model.specs.Compiled.{IsCompiled}
 use Rattle.rbbi_model.specs.TableFile.{spelling}
-use Rattle.rbbi_tool.specs.declared.words.setting.Property.{Property}
-use Rattle.rbbi_tool.specs.Stages.{Stage, followed_by}
-use Rattle.rbbi_tool.specs.Refusals.{Outcome}
+use Rattle.rbbi_command.specs.declared.words.setting.Property.{Property}
+use Rattle.rbbi_command.specs.Stages.{Stage, followed_by}
+use Rattle.rbbi_command.specs.Refusals.{Outcome}
 use Rattle.rbbi_tool.specs.Basis.{compiled_stage}
 
 -- A table is compiled from the rules, which are lawful: its file is written under the name, and its numbers are told. The numbers of

@@ -6,9 +6,9 @@ use Rattle.rbbi_conform.specs.Tests.{Test}
 use Rattle.rbbi_conform.specs.declared.verdict.Verdict.{Verdict}
 use Rattle.rbbi_conform.specs.declared.verdict.Verdict.TheVariants.{Same, Differs}
 use Rattle.rbbi_conform.specs.Verdicts.{IsVerdict}
-use Rattle.rbbi_tool.specs.declared.words.setting.Property.{Property}
-use Rattle.rbbi_tool.specs.Stages.{Stage, followed_by}
-use Rattle.rbbi_tool.specs.Refusals.{Outcome}
+use Rattle.rbbi_command.specs.declared.words.setting.Property.{Property}
+use Rattle.rbbi_command.specs.Stages.{Stage, followed_by}
+use Rattle.rbbi_command.specs.Refusals.{Outcome}
 use Rattle.rbbi_tool.specs.Scripts.{tests_stage}
 use Rattle.rbbi_tool.specs.Basis.{Basis, AreBoundariesBy, basis_stage}
 

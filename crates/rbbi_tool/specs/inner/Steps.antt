@@ -5,14 +5,14 @@ use Rattle.rbbi_model.specs.Scripts as model
 use Rattle.rbbi_model.specs.Costs.{script_cost, breaks_cost}
 use Rattle.rbbi_io.specs.Counts.{EachStays}
 use Rattle.rbbi_text.specs.Steps.{RisesUpTo}
-use Rattle.rbbi_tool.specs.declared.words.command.Command.{Command}
-use Rattle.rbbi_tool.specs.declared.words.command.Command.TheVariants.{Breaks, Run}
-use Rattle.rbbi_tool.specs.declared.files.Role.{Role}
-use Rattle.rbbi_tool.specs.declared.files.Role.TheVariants.{Text}
-use Rattle.rbbi_tool.specs.Stages.{Stage}
-use Rattle.rbbi_tool.specs.Words.{Request, Asks, AreNoForm}
-use Rattle.rbbi_tool.specs.Files.{sources_of}
-use Rattle.rbbi_tool.specs.Reads.{bytes_of, MakesSomeReads}
+use Rattle.rbbi_command.specs.declared.words.command.Command.{Command}
+use Rattle.rbbi_command.specs.declared.words.command.Command.TheVariants.{Breaks, Run}
+use Rattle.rbbi_command.specs.declared.files.Role.{Role}
+use Rattle.rbbi_command.specs.declared.files.Role.TheVariants.{Text}
+use Rattle.rbbi_command.specs.Stages.{Stage}
+use Rattle.rbbi_command.specs.Words.{Request, IsCommandLine, AreNoForm}
+use Rattle.rbbi_command.specs.Files.{sources_of}
+use Rattle.rbbi_command.specs.Reads.{bytes_of, MakesSomeReads}
 use Rattle.rbbi_tool.specs.Texts.{text_stage}
 use Rattle.rbbi_tool.specs.Scripts.{script_stage}
 use Rattle.rbbi_tool.specs.Basis.{Basis, IsTableOf, basis_stage}
@@ -36,5 +36,5 @@ FilesReads request all before after =
 -- what the request reads.
 pub record ReadsInOrder (words : List (List ℕ)) (contents : Option (List ℕ → List ℕ)) (reads reads' : List ℕ → ℕ) (before after : ℕ) : Type 0 where
   pub unread : AreNoForm words → EachStays reads reads'
-  pub order : (request : Request) → Asks words request → IfSome contents (MakesSomeReads (sources_of request) reads reads')
-  pub steps : (request : Request) → Asks words request → IfSome contents (λ held. RequestReads request held before after)
+  pub order : (request : Request) → IsCommandLine words request → IfSome contents (MakesSomeReads (sources_of request) reads reads')
+  pub steps : (request : Request) → IsCommandLine words request → IfSome contents (λ held. RequestReads request held before after)

@@ -12,11 +12,9 @@ ghost use Rattle.rbbi_tool.specs.Basis.{basis_stage};
 ghost use Rattle.rbbi_tool.specs.Command.Breaks.{breaks_stage};
 ghost use Rattle.rbbi_tool.specs.Steps.{ReadsForBreaks};
 
-use super::Output;
 use crate::basis::basis;
-use crate::refusal::Refusal;
 use crate::texts::text_of;
-use crate::words::Options;
+use rbbi_command::{Options, Output, Refusal};
 use rbbi_table::{Marks, Table};
 use rbbi_text::{Chars, PlainText, Raw, Steps, append_boundary};
 use std::alloc::{AllocError, Global};

@@ -6,11 +6,8 @@ ghost use Rattle.rbbi_tool.specs.inner.Stages.{Meets};
 ghost use Rattle.rbbi_tool.specs.inner.Properties.{AreHanded};
 ghost use Rattle.rbbi_tool.specs.Command.Check as spec;
 
-use super::Output;
-use crate::lines::joined;
-use crate::refusal::Refusal;
 use crate::rules::rules_from;
-use crate::words::Options;
+use rbbi_command::{Options, Output, Refusal, joined};
 use itoa::Buffer;
 use rbbi_resolve::Rules;
 use rbbi_text::{Raw, Steps};

@@ -6,13 +6,9 @@ ghost use Rattle.rbbi_tool.specs.inner.Stages.{Meets};
 ghost use Rattle.rbbi_tool.specs.inner.Properties.{AreHanded};
 ghost use Rattle.rbbi_tool.specs.Command.Compile.{compile_stage};
 
-use super::{Output, Written};
 use crate::basis::table_of;
-use crate::lines::joined;
-use crate::name::Name;
-use crate::refusal::Refusal;
 use crate::rules::rules_from;
-use crate::words::Options;
+use rbbi_command::{Name, Options, Output, Refusal, Written, joined};
 use itoa::Buffer;
 use rbbi_table::Table;
 use rbbi_text::{Raw, Steps};

@@ -8,12 +8,9 @@ ghost use Rattle.rbbi_tool.specs.inner.Properties.{AreHanded};
 ghost use Rattle.rbbi_tool.specs.inner.Judging.{TellsVerdicts};
 ghost use Rattle.rbbi_tool.specs.Command.Conform as spec;
 
-use super::Output;
 use crate::basis::basis;
-use crate::lines::joined;
-use crate::refusal::Refusal;
 use crate::scripts::tests_of;
-use crate::words::Options;
+use rbbi_command::{Options, Output, Refusal, joined};
 use itoa::Buffer;
 use rbbi_conform::{Test, Tests, Verdict, judge};
 use rbbi_table::{Marks, Table};

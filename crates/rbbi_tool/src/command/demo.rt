@@ -1,15 +1,12 @@
 //! The command `demo`.
 ghost use Rattle.std.specs.Prelude.{◌≡◌, ℕ, IfOk};
 ghost use Rattle.rbbi_demo.specs.declared.summary.Summary.{Summary};
-ghost use Rattle.rbbi_tool.specs.Counts.{IsCount};
+ghost use Rattle.rbbi_command.specs.Counts.{IsCount};
 ghost use Rattle.rbbi_tool.specs.inner.Stages.{Meets};
 ghost use Rattle.rbbi_tool.specs.Command.Demo as spec;
 
-use super::Output;
 use crate::basis::compiled_text;
-use crate::lines::joined;
-use crate::refusal::Refusal;
-use crate::words::count_of;
+use rbbi_command::{Output, Refusal, count_of, joined};
 use itoa::Buffer;
 use rbbi_demo::Summary;
 use rbbi_text::Steps;

@@ -14,12 +14,10 @@ ghost use Rattle.rbbi_tool.specs.Basis.{basis_stage};
 ghost use Rattle.rbbi_tool.specs.Command.Run.{play_stage};
 ghost use Rattle.rbbi_tool.specs.Steps.{ReadsForScript};
 
-use super::Output;
 use crate::basis::basis;
-use crate::refusal::Refusal;
 use crate::scripts::commands_of;
 use crate::texts::pieces_of;
-use crate::words::Options;
+use rbbi_command::{Options, Output, Refusal};
 use rbbi_script::{Commands, play};
 use rbbi_session::Session;
 use rbbi_table::Table;

@@ -1,7 +1,7 @@
 use Rattle.std.proofs.Common.{◌∙◌, List, ℕ, subst}
 use Rattle.std.proofs.lemmas.Result.{err_from_is_err_and}
 use Rattle.rbbi_tool.specs.inner.Stages.{Meets}
-use Rattle.rbbi_tool.specs.inner.Requests.{asked_by}
+use Rattle.rbbi_command.specs.Requests.{asked_by}
 use Rattle.rbbi_tool.specs.Program.{files_stage}
 use Rattle.rbbi_tool.specs.inner.Steps.{FilesReads}
 use Rattle.rbbi_tool.proofs.Runs.{ends_run, command_ends, ordered}

@@ -2,7 +2,7 @@ use Rattle.std.proofs.Common.{inl, inr, ⊎_elim, subst, ap, ◌∙◌}
 use Rattle.std.specs.Str.{chars}
 use Rattle.std.proofs.lemmas.Result.{err_from_is_err_and}
 use Rattle.rbbi_resolve.specs.RuleLists.{rules_of}
-use Rattle.rbbi_tool.specs.declared.refusal.Subject.TheVariants.{Rules}
+use Rattle.rbbi_command.specs.declared.refusal.Subject.TheVariants.{Rules}
 use Rattle.rbbi_tool.specs.inner.Stages.{Meets}
 use Rattle.rbbi_tool.specs.Texts.{TellsNotUtf8}
 use Rattle.rbbi_tool.specs.Properties.{properties_stage, property_files}

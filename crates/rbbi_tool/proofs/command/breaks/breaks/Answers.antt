@@ -1,7 +1,7 @@
 use Rattle.std.proofs.Common.{inl, inr, ⊎_elim, ap, ◌∙◌}
 use Rattle.std.proofs.lemmas.Result.{err_from_is_err_and}
 use Rattle.rbbi_model.specs.Searches.{table_boundaries}
-use Rattle.rbbi_tool.specs.Refusals.{printed}
+use Rattle.rbbi_command.specs.Refusals.{printed}
 use Rattle.rbbi_tool.proofs.BasisLemmas.{gives_them, boundaries_given}
 use Rattle.rbbi_tool.proofs.Counted.{listing_reads}
 use Rattle.rbbi_tool.proofs.command.breaks.breaks.Goals as goal

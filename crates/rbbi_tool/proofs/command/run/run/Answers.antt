@@ -2,7 +2,7 @@ use Rattle.std.proofs.Common.{inl, inr, ⊎_elim, map, ap, ◌∙◌}
 use Rattle.std.proofs.lemmas.Result.{err_from_is_err_and}
 use Rattle.rbbi_model.specs.Scripts.{table_replies}
 use Rattle.rbbi_script.specs.Meaning.{meaning}
-use Rattle.rbbi_tool.specs.Refusals.{printed}
+use Rattle.rbbi_command.specs.Refusals.{printed}
 use Rattle.rbbi_tool.proofs.BasisLemmas.{gives_them}
 use Rattle.rbbi_tool.proofs.Replies.{replies_given}
 use Rattle.rbbi_tool.proofs.Counted.{rises_by, replies_read}
