@@ -4,7 +4,7 @@ use Rattle.std.specs.Prelude.{codes, bytes_eq, if◌then◌else◌}
 use Rattle.rbbi_command.specs.declared.words.command.Command.{Command}
 use Rattle.rbbi_command.specs.declared.words.command.Command.TheVariants.{Check, Compile, Breaks, Run, Conform, Demo}
 use Rattle.rbbi_command.specs.declared.words.setting.Setting.{Setting}
-use Rattle.rbbi_command.specs.Settings.{are_taken, properties_of, ignores_dictionary, are_by_table, BeginWithSettings}
+use Rattle.rbbi_command.specs.Settings.{options_of, are_taken, are_by_table, BeginWithSettings}
 use Rattle.rbbi_command.specs.Words.{Request, IsCommandLine, AreNoForm, name_of, taken_by, operands_of, AllFit}
 use Rattle.rbbi_command.proofs.SettingLemmas.{same_settings}
 
@@ -70,19 +70,19 @@ module _ (words : List (List ℕ)) (word : List ℕ) (more : List (List ℕ)) (a
       -- there are more or fewer operands
       pub other_count : (by_table : Bool) → by_table ≡ are_by_table settings → length rest ≢ length (operands_of command by_table) → AreNoForm words
       other_count by_table same differ request asks =
-          let table : request.by_table ≡ by_table = asks.by_table ∙ ap are_by_table (settings_are request asks).0 ∙ sym same in
+          let table : request.options.by_table ≡ by_table = ap (λ o. o.by_table) asks.options ∙ ap are_by_table (settings_are request asks).0 ∙ sym same in
           differ
-          (ap length (sym (settings_are request asks).1) ∙ asks.count ∙ ap (λ c. length (operands_of c request.by_table)) (command_is request asks)
+          (ap length (sym (settings_are request asks).1) ∙ asks.count ∙ ap (λ c. length (operands_of c request.options.by_table)) (command_is request asks)
           ∙ ap (λ t. length (operands_of command t)) table)
 
       -- an operand isn't of its form
       pub not_fit : (by_table : Bool) → by_table ≡ are_by_table settings → ¬ AllFit (operands_of command by_table) rest → AreNoForm words
       not_fit by_table same none request asks =
-          let table : request.by_table ≡ by_table = asks.by_table ∙ ap are_by_table (settings_are request asks).0 ∙ sym same in
+          let table : request.options.by_table ≡ by_table = ap (λ o. o.by_table) asks.options ∙ ap are_by_table (settings_are request asks).0 ∙ sym same in
           none
           (subst (AllFit (operands_of command by_table)) (settings_are request asks).1
           (subst (λ t. AllFit (operands_of command t) request.operands) table
-          (subst (λ c. AllFit (operands_of c request.by_table) request.operands) (command_is request asks) asks.fit)))
+          (subst (λ c. AllFit (operands_of c request.options.by_table) request.operands) (command_is request asks) asks.fit)))
 
 -- one request fits the words
 pub same_request : (words : List (List ℕ)) (one other : Request) → IsCommandLine words one → IsCommandLine words other → one ≡ other
@@ -93,7 +93,5 @@ same_request words one other asks asks' =
     let command : one.command ≡ other.command = same_command one.command other.command name in
     let settings = same_settings asks'.more asks.settings asks'.settings one.operands other.operands
     (subst (λ w. BeginWithSettings w asks.settings one.operands) same asks.begin) asks'.begin in
-    let properties = asks.properties ∙ ap properties_of settings.0 ∙ sym asks'.properties in
-    let ignored = asks.ignored ∙ ap ignores_dictionary settings.0 ∙ sym asks'.ignored in
-    let by_table = asks.by_table ∙ ap are_by_table settings.0 ∙ sym asks'.by_table in
-    λ i. record { command = command i; properties = properties i; ignored = ignored i; by_table = by_table i; operands = settings.1 i }
+    let options = asks.options ∙ ap options_of settings.0 ∙ sym asks'.options in
+    λ i. record { command = command i; options = options i; operands = settings.1 i }

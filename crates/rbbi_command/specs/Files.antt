@@ -52,7 +52,7 @@ operand_sources (operand ∷ operands) (name ∷ names) = operand_source operand
 -- the files that a request names to be read, in the order of the words
 abbrev pub sources_of : Request → List Source
 sources_of request =
-    map property_source request.properties ++ operand_sources (operands_of request.command request.by_table) request.operands
+    map property_source request.options.properties ++ operand_sources (operands_of request.command request.options.by_table) request.operands
 
 -- the file is too long
 abbrev pub too_long : Source → Refusal

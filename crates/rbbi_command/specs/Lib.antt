@@ -5,6 +5,7 @@ pub mod Counts
 pub mod Words
 pub mod Requests
 pub mod Files
+pub mod Inputs
 pub mod Reads
 pub mod Delivery
 pub mod inner

@@ -1,16 +1,11 @@
 -- What reading the files of a list, in order, answers and leaves.
-use Rattle.std.specs.Prelude.{◌≡◌, ◌≢◌, ◌<◌, ◌≤◌, ◌+◌, ℕ, List, [], ◌∷◌, map, length, Option, Some, slice_get, IfSome}
-use Rattle.std.specs.List.{AllByRecursion}
-use Rattle.rbbi_text.specs.Bytes.{most_bytes}
+use Rattle.std.specs.Prelude.{◌≡◌, ◌≢◌, ◌<◌, ◌≤◌, ◌+◌, ℕ, List, length, Option, Some, slice_get, IfSome}
 use Rattle.rbbi_io.specs.Counts.{Rose}
 use Rattle.rbbi_command.specs.declared.files.Source.{Source}
 use Rattle.rbbi_command.specs.declared.refusal.Refusal.{Refusal}
 use Rattle.rbbi_command.specs.declared.refusal.Refusal.TheVariants.{Usage, Unread, Fault, Memory}
-use Rattle.rbbi_command.specs.Files.{limit_of, length_stage, lengths_stage}
-
--- what each file holds
-abbrev pub bytes_of : (List ℕ → List ℕ) → List Source → List (List ℕ)
-bytes_of held sources = map (λ source. held source.name) sources
+use Rattle.rbbi_command.specs.Files.{limit_of, lengths_stage}
+use Rattle.rbbi_command.specs.Inputs.{Inputs, inputs_of}
 
 -- So many of the files were read, in order: each but the last of these is within its limit, and no other name's count of
 -- failed reads changed.
@@ -32,17 +27,6 @@ pub record FailsToRead (sources : List Source) (contents : Option (List ℕ → 
   pub rose : Rose (before name) (now name)
   pub reads : IfSome contents (λ held. MakesReads held sources before now (number + 1))
 
--- the bytes are those of the files, each within its limit
-abbrev pub AreWithin : List Source → List (List ℕ) → Type 0
-AreWithin [] [] = Unit {0}
-AreWithin [] (bytes ∷ more) = ⊥
-AreWithin (source ∷ sources) [] = ⊥
-AreWithin (source ∷ sources) (bytes ∷ more) = (length bytes ≤ limit_of source.role) × AreWithin sources more
-
--- none has more bytes than are read at once
-abbrev pub AreShort : List (List ℕ) → Type 0
-AreShort files = AllByRecursion (λ bytes. length bytes ≤ most_bytes) files
-
 -- why reading the files ended: a read failed, or a file is too long
 abbrev pub EndsReading : List Source → Option (List ℕ → List ℕ) → (List ℕ → ℕ) → (List ℕ → ℕ) → Refusal → Type 0
 EndsReading sources contents before now Usage = ⊥
@@ -51,6 +35,6 @@ EndsReading sources contents before now (Fault subject label place) =
     IfSome contents (λ held. (lengths_stage held sources).refuses (Fault subject label place))
 EndsReading sources contents before now Memory = Unit {0}
 
--- all files were read, and these are their bytes
-abbrev pub AreRead : List Source → List (List ℕ) → (List ℕ → List ℕ) → Type 0
-AreRead sources bytes held = (bytes ≡ bytes_of held sources) × (lengths_stage held sources).passes tt
+-- all files were read, and this is what they are to the program
+abbrev pub AreRead : List Source → Inputs → (List ℕ → List ℕ) → Type 0
+AreRead sources inputs held = (inputs ≡ inputs_of held sources) × (lengths_stage held sources).passes tt

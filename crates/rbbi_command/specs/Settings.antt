@@ -41,10 +41,6 @@ property_of (HandIn property) = Some property
 property_of IgnoreDictionary = None
 property_of ByTable = None
 
--- the property files that options hand in, in order
-abbrev pub properties_of : List Setting → List Property
-properties_of settings = filter_map property_of settings
-
 -- whether the option lets `$dictionary` be a variable like others
 abbrev pub is_ignoring : Setting → Bool
 is_ignoring (HandIn property) = false
@@ -57,13 +53,20 @@ is_by_table (HandIn property) = false
 is_by_table IgnoreDictionary = false
 is_by_table ByTable = true
 
--- whether one of the options lets `$dictionary` be a variable like others
-abbrev pub ignores_dictionary : List Setting → Bool
-ignores_dictionary settings = list_any is_ignoring settings
-
 -- whether one of the options says that the first operand is a table file
 abbrev pub are_by_table : List Setting → Bool
 are_by_table settings = list_any is_by_table settings
+
+-- what options come to: the property files that are handed in, whether `$dictionary` is a variable like others, and whether the first
+-- operand is a table file
+pub record Options : Type 0 where
+  pub properties : List Property
+  pub ignored : Bool
+  pub by_table : Bool
+
+abbrev pub options_of : List Setting → Options
+options_of settings =
+    record { properties = filter_map property_of settings; ignored = list_any is_ignoring settings; by_table = are_by_table settings }
 
 -- whether there are at most 16 property files, and `$dictionary` is ignored once at most
 abbrev pub are_few : List Setting → Bool

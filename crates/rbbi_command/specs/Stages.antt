@@ -1,7 +1,6 @@
 -- A stage of a run passes with a value, or refuses. Of several stages in a row the first that refuses decides.
-use Rattle.std.specs.Prelude.{◌≡◌, ◌⊎◌, Result, Ok, Err}
+use Rattle.std.specs.Prelude.{◌≡◌, ◌⊎◌}
 use Rattle.rbbi_command.specs.declared.refusal.Refusal.{Refusal}
-use Rattle.rbbi_command.specs.declared.refusal.Refusal.TheVariants.{Memory}
 
 -- with which values the stage passes, and how it refuses
 pub record Stage (A : Type 0) : Type 1 where

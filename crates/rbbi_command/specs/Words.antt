@@ -7,10 +7,9 @@ use Rattle.rbbi_command.specs.declared.words.command.Takes.TheVariants.{NoOption
 use Rattle.rbbi_command.specs.declared.words.command.Operand.{Operand}
 use Rattle.rbbi_command.specs.declared.words.command.Operand.TheVariants.{Read, Written, Count}
 use Rattle.rbbi_command.specs.declared.files.Role.TheVariants.{Rules, Table, Text, Script, Tests}
-use Rattle.rbbi_command.specs.declared.words.setting.Property.{Property}
 use Rattle.rbbi_command.specs.declared.words.setting.Setting.{Setting}
 use Rattle.rbbi_command.specs.Counts.{IsCount}
-use Rattle.rbbi_command.specs.Settings.{are_taken, properties_of, ignores_dictionary, are_by_table, BeginWithSettings}
+use Rattle.rbbi_command.specs.Settings.{Options, options_of, are_taken, BeginWithSettings}
 
 -- the word of a command
 abbrev pub name_of : Command → List ℕ
@@ -54,13 +53,10 @@ AllFit [] words = Unit {0}
 AllFit (operand ∷ operands) [] = Unit {0}
 AllFit (operand ∷ operands) (word ∷ words) = Fits operand word × AllFit operands words
 
--- what the words ask for: a command, the property files, whether `$dictionary` is ignored, whether the first operand is a table
--- file, and the operands
+-- what the words ask for: a command, what its options come to, and its operands
 pub record Request : Type 0 where
   pub command : Command
-  pub properties : List Property
-  pub ignored : Bool
-  pub by_table : Bool
+  pub options : Options
   pub operands : List (List ℕ)
 
 -- The words are a command, options that it takes, and just its operands, each of its form. The first operand doesn't begin as an
@@ -71,11 +67,9 @@ pub record IsCommandLine (words : List (List ℕ)) (request : Request) : Type 0 
   pub are : words ≡ name_of request.command ∷ more
   pub begin : BeginWithSettings more settings request.operands
   pub taken : are_taken (taken_by request.command) settings ≡ true
-  pub properties : request.properties ≡ properties_of settings
-  pub ignored : request.ignored ≡ ignores_dictionary settings
-  pub by_table : request.by_table ≡ are_by_table settings
-  pub count : length request.operands ≡ length (operands_of request.command request.by_table)
-  pub fit : AllFit (operands_of request.command request.by_table) request.operands
+  pub options : request.options ≡ options_of settings
+  pub count : length request.operands ≡ length (operands_of request.command request.options.by_table)
+  pub fit : AllFit (operands_of request.command request.options.by_table) request.operands
 
 -- the words are of no stated form
 abbrev pub AreNoForm : List (List ℕ) → Type 0

@@ -1,10 +1,8 @@
 //! The files that words name to be read, in order, each with its limit.
-ghost use Rattle.std.specs.Prelude.{◌≡◌, IfOk, IfErr, IfSome, OnSome};
+ghost use Rattle.std.specs.Prelude.{◌≡◌, IfOk, IfErr, OnSome};
 ghost use Rattle.rbbi_io.specs.Counts.{EachGoesOn, EachStays, OthersStay};
 ghost use Rattle.rbbi_command.specs.Files as spec;
 ghost use Rattle.rbbi_command.specs.inner.Reads.{IsReadOf, EndsRead};
-ghost use Rattle.rbbi_command.specs.Reads.{AreWithin, AreRead, EndsReading};
-ghost use Rattle.rbbi_command.specs.Reads.{MakesSomeReads};
 
 use crate::{Name, Place, Refusal, Subject, fault};
 use rbbi_io::{Files, ReadErr};
@@ -65,7 +63,11 @@ impl Role {
 }
 
 /// The bytes of a file.
-fn read_one<F: Files>(alloc: Global, source: &Source, files: &mut F) -> Result<Raw, Refusal>
+pub(crate) fn read_one<F: Files>(
+    alloc: Global,
+    source: &Source,
+    files: &mut F,
+) -> Result<Raw, Refusal>
     ensures read { IfOk result (IsReadOf source.now (F.contents files.old)) }
     ensures refused { IfErr result (EndsRead source.now (F.contents files.old)
         (F.failed_reads files.old) (F.failed_reads files.new)) }
@@ -86,31 +88,4 @@ fn read_one<F: Files>(alloc: Global, source: &Source, files: &mut F) -> Result<R
         }
         Err(ReadErr::Memory) => Err(Refusal::Memory),
     }
-}
-
-/// The bytes of all files, which are read in order. The first that can't be read or is too long
-/// ends the reading, and none behind it is read.
-pub fn read_all<F: Files>(
-    alloc: Global,
-    sources: &[Source],
-    files: &mut F,
-) -> Result<Vec<Raw>, Refusal>
-    ensures within { IfOk result (λ all. AreWithin sources.now all.items) }
-    ensures read { IfOk result (λ all.
-        IfSome (F.contents files.old) (AreRead sources.now all.items)) }
-    ensures refused { IfErr result (EndsReading sources.now (F.contents files.old)
-        (F.failed_reads files.old) (F.failed_reads files.new)) }
-    ensures order { IfSome (F.contents files.old) (MakesSomeReads sources.now
-        (F.failed_reads files.old) (F.failed_reads files.new)) }
-
-    ensures same { F.contents files.new ≡ F.contents files.old }
-    ensures reads { EachGoesOn (F.failed_reads files.old) (F.failed_reads files.new) }
-    ensures writes { EachStays (F.failed_writes files.old) (F.failed_writes files.new) }
-{
-    let mut all = Vec::new(alloc);
-    for source in sources {
-        let bytes = read_one(alloc, source, files)?;
-        all.push(bytes)?;
-    }
-    Ok(all)
 }

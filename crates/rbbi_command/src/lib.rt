@@ -7,6 +7,7 @@
 
 mod delivery;
 mod files;
+mod inputs;
 mod lines;
 mod name;
 mod output;
@@ -15,7 +16,8 @@ mod sources;
 mod words;
 
 pub use delivery::deliver;
-pub use files::{Role, Source, read_all};
+pub use files::{Role, Source};
+pub use inputs::{Input, Inputs, read_all};
 pub use lines::joined;
 pub use name::Name;
 pub use output::{Output, Written};

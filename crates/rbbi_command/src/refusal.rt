@@ -1,5 +1,5 @@
 //! What ends a run before its output.
-ghost use Rattle.std.specs.Prelude.{◌≡◌, ◌⊎◌, IfOk, OnOk};
+ghost use Rattle.std.specs.Prelude.{◌≡◌, ◌⊎◌, IfOk};
 ghost use Rattle.rbbi_command.specs.declared.refusal.Refusal.TheVariants as refusal;
 ghost use Rattle.rbbi_command.specs.declared.refusal.Subject.TheVariants as file;
 ghost use Rattle.rbbi_command.specs.Refusals as spec;

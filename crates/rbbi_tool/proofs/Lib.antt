@@ -3,8 +3,7 @@ pub mod StageLemmas
 pub mod Handing
 pub mod Listing
 pub mod Numbers
-pub mod Sizes
-pub mod BasisLemmas
+pub mod Bases
 pub mod Verdicts
 pub mod Replies
 pub mod Commands

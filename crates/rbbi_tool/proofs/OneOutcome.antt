@@ -44,6 +44,7 @@ use Rattle.rbbi_demo.specs.Summaries.{IsSummary}
 use Rattle.rbbi_command.specs.declared.words.command.Command.{Command}
 use Rattle.rbbi_command.specs.declared.words.command.Command.TheVariants.{Check, Compile, Breaks, Run, Conform, Demo}
 use Rattle.rbbi_command.specs.declared.words.setting.Property.{Property}
+use Rattle.rbbi_command.specs.declared.inputs.Input.{Input}
 use Rattle.rbbi_command.specs.declared.files.Source.{Source}
 use Rattle.rbbi_command.specs.declared.refusal.Subject.{Subject}
 use Rattle.rbbi_command.specs.declared.refusal.Subject.TheVariants as subject
@@ -61,8 +62,9 @@ use Rattle.rbbi_tool.specs.Rules.{IsTold, fault_at, rule_text_stage, tokens_stag
 use Rattle.rbbi_tool.specs.Rules.{rules_stage}
 use Rattle.rbbi_tool.specs.Basis.{categories_stage, sizes_stage, limits_stage, compiled_stage, table_place, table_stage}
 use Rattle.rbbi_tool.specs.Basis.{compiled_text_stage}
-use Rattle.rbbi_tool.specs.Basis.{Basis, ByRules, ByTable, AreBoundariesBy, basis_stage}
-use Rattle.rbbi_command.specs.Reads.{bytes_of}
+use Rattle.rbbi_tool.specs.Basis.{Basis, ByRules, ByTable, AreBoundariesBy, basis_by, basis_stage}
+use Rattle.rbbi_command.specs.Settings.{Options}
+use Rattle.rbbi_command.specs.Inputs.{Inputs, inputs_of}
 use Rattle.rbbi_tool.specs.Command.Check.{counts_line}
 use Rattle.rbbi_tool.specs.Command.Compile.{TellsTable}
 use Rattle.rbbi_tool.specs.Command.Breaks.{boundaries_stage}
@@ -70,7 +72,7 @@ use Rattle.rbbi_tool.specs.Command.Run.{AreRepliesFrom, replies_stage}
 use Rattle.rbbi_tool.specs.Command.Conform.{told_verdicts, verdicts_stage}
 use Rattle.rbbi_tool.specs.Command.Demo.{demo_rules, number_stage, summary_line, summary_stage}
 use Rattle.rbbi_tool.specs.Scripts.{script_stage, tests_stage}
-use Rattle.rbbi_tool.specs.Program.{nth, words_stage, command_stage, files_stage, request_stage, run_stage, IsOutcome}
+use Rattle.rbbi_tool.specs.Program.{nth, words_stage, command_stage, request_stage, run_stage, IsOutcome}
 use Rattle.rbbi_tool.specs.Causes.{TellOneTable}
 use Rattle.rbbi_command.proofs.Forms.{same_request}
 use Rattle.rbbi_tool.proofs.StageLemmas.{IsSettled, settled, determined_both, settled_both}
@@ -210,9 +212,9 @@ limits_determined rules =
       apart = λ a r is is'. limit_or_within rules is'.error is'.passed is'.not_memory is;
     })
 
-text_determined : (name bytes : List ℕ) → IsDeterministic (List ℕ) (text_stage name bytes)
-text_determined name bytes =
-    determined_both (utf8_stage _ bytes) (count_stage _) (utf8_determined _ bytes) (count_determined _)
+text_determined : (text : Input) → IsDeterministic (List ℕ) (text_stage text)
+text_determined text =
+    determined_both (utf8_stage _ text.bytes) (count_stage _) (utf8_determined _ text.bytes) (count_determined _)
 
 -- errors of which one holds alone are told alike
 told_once : {E : Type 0} (Holds : E → Type 0) (label_of : E → List ℕ) (place_of : E → Option ℕ) (x : List ℕ)
@@ -281,14 +283,15 @@ module _ (laws : Laws) where
       determined_both (tokens_stage x) (λ ts. followed_by (statements_stage x ts) (meaning_stage files ignored x)) (tokens_determined x)
       (λ ts. determined_both (statements_stage x ts) (meaning_stage files ignored x) (statements_determined x ts) (meaning_determined files ignored x))
 
-  rules_determined : (properties : List Property) (ignored : Bool) (handed : List (List ℕ)) (bytes : List ℕ)
-      → IsDeterministic (List Rule) (rules_stage properties ignored handed bytes)
-  rules_determined properties ignored handed bytes =
-      let files : List rows.File = property_files properties handed in
-      determined_both (properties_stage properties handed) (λ _. rule_bytes_stage files ignored bytes) (properties_determined properties handed)
+  rules_determined : (options : Options) (inputs : Inputs) → IsDeterministic (List Rule) (rules_stage options inputs)
+  rules_determined options inputs =
+      let ignored = options.ignored in
+      let files : List rows.File = property_files options.properties inputs.properties in
+      determined_both (properties_stage options.properties inputs.properties) (λ _. rule_bytes_stage files ignored inputs.rules)
+      (properties_determined options.properties inputs.properties)
       (λ _.
-      determined_both (rule_text_stage bytes) (rules_of_text_stage files ignored)
-      (record { value = λ x y is is'. is.1 ∙ sym is'.1; refusal = not_utf8_once subject.Rules bytes; apart = λ x r is (at, wrong, told). wrong.not_utf8 is.0 })
+      determined_both (rule_text_stage inputs.rules) (rules_of_text_stage files ignored)
+      (record { value = λ x y is is'. is.1 ∙ sym is'.1; refusal = not_utf8_once subject.Rules inputs.rules; apart = λ x r is (at, wrong, told). wrong.not_utf8 is.0 })
       (rule_text_determined files ignored))
 
   -- what the table of rules comes to is determined
@@ -298,10 +301,8 @@ module _ (laws : Laws) where
       determined_both stage (λ rules. followed_by (limits_stage rules) (λ _. gives rules)) is
       (λ rules. determined_both (limits_stage rules) (λ _. gives rules) (limits_determined rules) (λ _. gives_determined rules))
 
-  compiled_determined : (properties : List Property) (ignored : Bool) (handed : List (List ℕ)) (bytes : List ℕ)
-      → IsDeterministic (List Rule) (compiled_stage properties ignored handed bytes)
-  compiled_determined properties ignored handed bytes =
-      table_of_determined (rules_stage properties ignored handed bytes) (rules_determined properties ignored handed bytes)
+  compiled_determined : (options : Options) (inputs : Inputs) → IsDeterministic (List Rule) (compiled_stage options inputs)
+  compiled_determined options inputs = table_of_determined (rules_stage options inputs) (rules_determined options inputs)
 
   -- what a table file comes to is determined
   err_same : (e f : FileErr) → (let this : Result Table FileErr = Err e in this) ≡ Err f → e ≡ f
@@ -318,13 +319,13 @@ module _ (laws : Laws) where
         absurd cc;
   }
 
-  basis_determined : (properties : List Property) (ignored by_table : Bool) (handed : List (List ℕ)) (bytes : List ℕ)
-      → IsDeterministic Basis (basis_stage properties ignored by_table handed bytes)
-  basis_determined properties ignored false handed bytes =
-      determined_both (compiled_stage properties ignored handed bytes) (λ rules. gives (ByRules rules)) (compiled_determined properties ignored handed bytes)
+  basis_determined : (by_table : Bool) (options : Options) (inputs : Inputs) → IsDeterministic Basis (basis_by by_table options inputs)
+  basis_determined false options inputs =
+      determined_both (compiled_stage options inputs) (λ rules. gives (ByRules rules)) (compiled_determined options inputs)
       (λ rules. gives_determined (ByRules rules))
-  basis_determined properties ignored true handed bytes =
-      determined_both (table_stage bytes) (λ table. gives (ByTable table)) (table_determined bytes) (λ table. gives_determined (ByTable table))
+  basis_determined true options inputs =
+      determined_both (table_stage inputs.table) (λ table. gives (ByTable table)) (table_determined inputs.table)
+      (λ table. gives_determined (ByTable table))
 
   -- boundaries are determined
   same_boundaries : (basis : Basis) (x : List ℕ) (these those : List Boundary) → AreBoundariesBy basis x these → AreBoundariesBy basis x those → these ≡ those
@@ -392,61 +393,57 @@ module _ (laws : Laws) where
         same_line = ap (λ (o : Outcome). o.bytes) is.is ∙ counts.line ∙ sym (ap (λ (o : Outcome). o.bytes) is'.is);
       })
 
+  -- what comes by a basis is determined
+  by_basis : (options : Options) (inputs : Inputs) (next : Basis → Stage Outcome) → ((basis : Basis) → IsDeterministic Outcome (next basis))
+      → IsSettled Outcome AreAlike (followed_by (basis_stage options inputs) next)
+  by_basis options inputs next each =
+      settled AreAlike (followed_by (basis_stage options inputs) next) alike
+      (determined_both (basis_stage options inputs) next (basis_determined options.by_table options inputs) each)
+
   -- what a command answers is settled
-  command_settled : (command : Command) (request : Request) (handed files : List (List ℕ))
-      → IsSettled Outcome AreAlike (command_stage command request handed files)
-  command_settled Run request handed files =
-      let script = script_stage (nth request.operands 2) (nth files 2) in
-      settled AreAlike (command_stage Run request handed files) alike
-      (determined_both (basis_stage request.properties request.ignored request.by_table handed (nth files 0))
-      (λ basis. followed_by (text_stage (nth request.operands 1) (nth files 1)) (λ x. followed_by script (replies_stage basis x)))
-      (basis_determined request.properties request.ignored request.by_table handed (nth files 0))
-      (λ basis. determined_both (text_stage (nth request.operands 1) (nth files 1)) (λ x. followed_by script (replies_stage basis x))
-      (text_determined (nth request.operands 1) (nth files 1))
-      (λ x. determined_both script (replies_stage basis x)
-      (script_determined laws.scripts (nth request.operands 2) (nth files 2)) (replies_determined basis x))))
-  command_settled Conform request handed files =
-      let tests = tests_stage (nth request.operands 1) (nth files 1) in
-      settled AreAlike (command_stage Conform request handed files) alike
-      (determined_both (basis_stage request.properties request.ignored request.by_table handed (nth files 0))
-      (λ basis. followed_by tests (verdicts_stage basis))
-      (basis_determined request.properties request.ignored request.by_table handed (nth files 0))
-      (λ basis. determined_both tests (verdicts_stage basis) (tests_determined laws.tests (nth request.operands 1) (nth files 1)) (verdicts_determined basis)))
-  command_settled Demo request handed files =
+  command_settled : (command : Command) (request : Request) (inputs : Inputs) → IsSettled Outcome AreAlike (command_stage command request inputs)
+  command_settled Run request inputs =
+      let text = text_stage inputs.text in
+      let script = script_stage inputs.script in
+      by_basis request.options inputs (λ basis. followed_by text (λ x. followed_by script (replies_stage basis x)))
+      (λ basis. determined_both text (λ x. followed_by script (replies_stage basis x)) (text_determined inputs.text)
+      (λ x. determined_both script (replies_stage basis x) (script_determined laws.scripts inputs.script) (replies_determined basis x)))
+  command_settled Conform request inputs =
+      let tests = tests_stage inputs.tests in
+      by_basis request.options inputs (λ basis. followed_by tests (verdicts_stage basis))
+      (λ basis. determined_both tests (verdicts_stage basis) (tests_determined laws.tests inputs.tests) (verdicts_determined basis))
+  command_settled Breaks request inputs =
+      let text = text_stage inputs.text in
+      by_basis request.options inputs (λ basis. followed_by text (boundaries_stage basis))
+      (λ basis. determined_both text (boundaries_stage basis) (text_determined inputs.text) (boundaries_determined basis))
+  command_settled Demo request inputs =
       let word : List ℕ = nth request.operands 0 in
-      settled AreAlike (command_stage Demo request handed files) alike
+      settled AreAlike (command_stage Demo request inputs) alike
       (determined_both (number_stage word) (λ count. followed_by (compiled_text_stage (chars demo_rules)) (summary_stage count)) (number_determined word)
       (λ count. determined_both (compiled_text_stage (chars demo_rules)) (summary_stage count)
       (table_of_determined (rules_of_text_stage [] false (chars demo_rules)) (rule_text_determined [] false (chars demo_rules))) (summary_determined count)))
-  command_settled Check request handed files =
-      settled AreAlike (command_stage Check request handed files) alike
-      (determined_both (rules_stage request.properties request.ignored handed (nth files 0)) (λ rules. gives (printed (counts_line rules)))
-      (rules_determined request.properties request.ignored handed (nth files 0)) (λ rules. gives_determined (printed (counts_line rules))))
-  command_settled Compile request handed files =
-      settled_both (compiled_stage request.properties request.ignored handed (nth files 0))
+  command_settled Check request inputs =
+      settled AreAlike (command_stage Check request inputs) alike
+      (determined_both (rules_stage request.options inputs) (λ rules. gives (printed (counts_line rules)))
+      (rules_determined request.options inputs) (λ rules. gives_determined (printed (counts_line rules))))
+  command_settled Compile request inputs =
+      settled_both (compiled_stage request.options inputs)
       (λ rules. record { passes = TellsTable rules (nth request.operands 1); refuses = λ _. ⊥ }) AreAlike
-      (compiled_determined request.properties request.ignored handed (nth files 0))
+      (compiled_determined request.options inputs)
       (λ rules mean. record {
         value = told_alike rules (nth request.operands 1);
         refusal = λ r s is is'. absurd is;
         apart = λ o r is is'. is';
       })
-  command_settled Breaks request handed files =
-      settled AreAlike (command_stage Breaks request handed files) alike
-      (determined_both (basis_stage request.properties request.ignored request.by_table handed (nth files 0))
-      (λ basis. followed_by (text_stage (nth request.operands 1) (nth files 1)) (boundaries_stage basis))
-      (basis_determined request.properties request.ignored request.by_table handed (nth files 0))
-      (λ basis. determined_both (text_stage (nth request.operands 1) (nth files 1)) (boundaries_stage basis)
-      (text_determined (nth request.operands 1) (nth files 1)) (boundaries_determined basis)))
 
   -- a run over files that tell what they hold is settled
   run_settled : (words : List (List ℕ)) (held : List ℕ → List ℕ) → IsSettled Outcome AreAlike (run_stage words held)
   run_settled words held =
       settled_both (words_stage words) (request_stage held) AreAlike (words_determined words)
       (λ request asks.
-      settled_both (lengths_stage held (sources_of request)) (λ _. files_stage request (bytes_of held (sources_of request))) AreAlike
-      (lengths_determined held (sources_of request))
-      (λ _ short. command_settled request.command request _ _))
+      settled_both (lengths_stage held (sources_of request)) (λ _. command_stage request.command request (inputs_of held (sources_of request)))
+      AreAlike (lengths_determined held (sources_of request))
+      (λ _ short. command_settled request.command request (inputs_of held (sources_of request))))
 
   pub same_outcome : (words : List (List ℕ)) (held : List ℕ → List ℕ) → (one other : Outcome) → IsOutcome words held one
       → IsOutcome words held other → AreAlike one other

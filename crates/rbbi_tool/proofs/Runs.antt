@@ -17,8 +17,9 @@ use Rattle.rbbi_model.specs.Lines.{usage_line}
 use Rattle.rbbi_command.specs.Words.{Request, IsCommandLine, AreNoForm}
 use Rattle.rbbi_command.specs.Files.{sources_of, lengths_stage}
 use Rattle.rbbi_command.specs.Reads.{EndsReading, AreRead}
-use Rattle.rbbi_command.specs.Reads.{MakesSomeReads, bytes_of}
-use Rattle.rbbi_tool.specs.Program.{files_stage, run_stage, IsOutcome}
+use Rattle.rbbi_command.specs.Inputs.{Inputs, inputs_of}
+use Rattle.rbbi_command.specs.Reads.{MakesSomeReads}
+use Rattle.rbbi_tool.specs.Program.{command_stage, run_stage, IsOutcome}
 use Rattle.rbbi_command.specs.Delivery.{HoldsFile}
 use Rattle.rbbi_command.specs.Delivery.{FileFailed, OthersUncounted, EachHoldsOrIsOutputFile}
 use Rattle.rbbi_tool.specs.Causes.{NamesToWrite, IsWrittenBy, TellsFailedRead, NoReadFailed, IsPartOfAnswer, TakesPart}
@@ -57,31 +58,36 @@ module _ (words : List (List ℕ)) (contents : Option (List ℕ → List ℕ)) (
   named None written = tt
   named (Some file) written = record { request = request; asks = asks; written = written }
 
+  -- the files are within their limits, and what holds of the inputs holds of what the files hold
+  abbrev Holds : (Inputs → Type 0) → (List ℕ → List ℕ) → Type 0
+  Holds P held = (lengths_stage held (sources_of request)).passes tt × P (inputs_of held (sources_of request))
+
+  over : (sources : List Source) (inputs : Inputs) (P : Inputs → Type 0) → sources ≡ sources_of request → IfSome contents (AreRead sources inputs)
+      → P inputs → IfSome contents (Holds P)
+  over sources inputs P same read p =
+      all_told contents (AreRead sources inputs) (Holds P) read
+      (λ held (are, short). (subst (λ ss. (lengths_stage held ss).passes tt) same short, subst P (are ∙ ap (inputs_of held) same) p))
+
   -- the command ends the run
-  pub command_ends : (sources : List Source) (bytes : List (List ℕ)) (result : Result Outcome Refusal) → sources ≡ sources_of request → IfSome contents
-      (AreRead sources bytes)
-      → Meets (λ outcome. outcome) (files_stage request bytes) result → ComesTo words contents before now result
-  command_ends sources bytes (Ok outcome) same read met =
-      let told = command_told request.command request _ _ outcome refl asks.count met in (
+  pub command_ends : (sources : List Source) (inputs : Inputs) (result : Result Outcome Refusal) → sources ≡ sources_of request
+      → IfSome contents (AreRead sources inputs)
+      → Meets (λ outcome. outcome) (command_stage request.command request inputs) result → ComesTo words contents before now result
+  command_ends sources inputs (Ok outcome) same read met =
+      let told = command_told request.command request inputs outcome refl asks.count met in
+      let Passes = λ (i : Inputs). (command_stage request.command request i).passes outcome in (
         told.status,
         λ none. none request asks,
         named outcome.file told.file,
-        all_told contents (AreRead sources bytes) (λ held. (run_stage words held).passes outcome) read
-            (λ held (bytes_are, short).
-            let short' : (lengths_stage held (sources_of request)).passes tt = subst (λ ss. (lengths_stage held ss).passes tt) same short in (
-              request,
-              asks,
-              (tt, short', subst (λ bs. (files_stage request bs).passes outcome) (bytes_are ∙ ap (λ ss. bytes_of held ss) same) met),
-            )),
+        all_told contents (Holds Passes) (λ held. (run_stage words held).passes outcome) (over sources inputs Passes same read met)
+            (λ held (short, passes). (request, asks, (tt, short, passes))),
       )
-  command_ends sources bytes (Err r) same read met =
+  command_ends sources inputs (Err r) same read met =
       ⊎_elim (λ memory. subst (λ s. ComesTo words contents before now (Err s)) (sym memory) tt)
       (λ refuses.
-      fault_ends r (command_fault request.command request _ _ r refuses)
-      (all_told contents (AreRead sources bytes) (λ held. (run_stage words held).refuses r) read
-      (λ held (bytes_are, short).
-      let short' : (lengths_stage held (sources_of request)).passes tt = subst (λ ss. (lengths_stage held ss).passes tt) same short in
-      inr (request, asks, inr (tt, short', subst (λ bs. (files_stage request bs).refuses r) (bytes_are ∙ ap (λ ss. bytes_of held ss) same) refuses)))))
+      let Refuses = λ (i : Inputs). (command_stage request.command request i).refuses r in
+      fault_ends r (command_fault request.command request inputs r refuses)
+      (all_told contents (Holds Refuses) (λ held. (run_stage words held).refuses r) (over sources inputs Refuses same read refuses)
+      (λ held (short, refuses). inr (request, asks, inr (tt, short, refuses)))))
       met
 
 -- the files are read in the order of the one request that the words ask for

@@ -1,6 +1,5 @@
 -- What only this crate's own code and proofs cite. Nothing that is promised rests on it.
 pub mod Stages
-pub mod Properties
 pub mod Judging
 pub mod Causes
 pub mod Steps

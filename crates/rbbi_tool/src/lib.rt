@@ -5,7 +5,6 @@
 //! function for each.
 #![tactic(auto)]
 
-mod basis;
 mod command;
 mod laws;
 mod output;
@@ -14,6 +13,7 @@ mod program;
 mod properties;
 mod rules;
 mod scripts;
+mod tables;
 mod texts;
 
 pub use laws::outcomes_are_unique;

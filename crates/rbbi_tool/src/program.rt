@@ -1,5 +1,5 @@
 //! The top call.
-ghost use Rattle.std.specs.Prelude.{◌≡◌, ◌≢◌, ◌≤◌, ◌⊎◌, map, length, IfOk, IfSome};
+ghost use Rattle.std.specs.Prelude.{◌≡◌, ◌≢◌, ◌≤◌, ◌⊎◌, map, IfOk, IfSome};
 ghost use Rattle.std.specs.String.{string_bytes};
 ghost use Rattle.rbbi_model.specs.Lines.{usage_line};
 ghost use Rattle.rbbi_io.specs.Counts.{Rose, GoesOn, EachGoesOn, EachStays};
@@ -41,8 +41,8 @@ fn run<F: Files, L: Ledger>(
         return Err(Refusal::Usage);
     };
     let sources = sources_of(alloc, &request)?;
-    let all = read_all(alloc, &sources, files)?;
-    output_of(alloc, &request, &all, steps)
+    let inputs = read_all(alloc, &sources, files)?;
+    output_of(alloc, &request, &inputs, steps)
 }
 
 /// The status and the bytes that go out.

@@ -1,5 +1,5 @@
 //! What the words of the command line ask for.
-ghost use Rattle.std.specs.Prelude.{◌≡◌, MatchOption, map, length, IfOk};
+ghost use Rattle.std.specs.Prelude.{MatchOption, map, IfOk};
 ghost use Rattle.std.specs.String.{string_bytes};
 ghost use Rattle.rbbi_command.specs.Words as spec;
 ghost use Rattle.rbbi_command.specs.Requests.{asked_by};
@@ -28,10 +28,7 @@ pub struct Request<'a> {
 }
 
 /// What the words ask for, where they are of a stated form.
-pub fn request_of(
-    alloc: Global,
-    words: &Vec<String>,
-) -> Result<Option<Request<'_>>, AllocError>
+pub fn request_of(alloc: Global, words: &Vec<String>) -> Result<Option<Request<'_>>, AllocError>
     ensures { IfOk result (λ found. MatchOption found
         (spec.AreNoForm (map string_bytes words.now.items))
         (λ request. spec.IsCommandLine (map string_bytes words.now.items) (asked_by request))) }

@@ -1,6 +1,8 @@
 //! What the options of a command come to.
 ghost use Rattle.std.specs.Prelude.{◌≡◌, IfOk, count_by};
+ghost use Rattle.std.specs.List.{list_any};
 ghost use Rattle.rbbi_command.specs.Settings as spec;
+ghost use Rattle.rbbi_command.specs.Requests.{options_in};
 
 use super::command::Takes;
 use super::setting::{Property, Setting};
@@ -27,7 +29,7 @@ fn are_by_table(settings: &[Setting]) -> bool
 }
 
 fn ignores_dictionary(settings: &[Setting]) -> bool
-    ensures { result ≡ spec.ignores_dictionary settings.now }
+    ensures { result ≡ list_any spec.is_ignoring settings.now }
 {
     settings.iter().any(|setting| setting.is_ignoring())
 }
@@ -76,12 +78,7 @@ pub(super) fn are_taken(takes: Takes, settings: &[Setting]) -> bool
 
 /// What these options come to.
 pub(super) fn options_of(alloc: Global, settings: Vec<Setting>) -> Result<Options, AllocError>
-    ensures properties { IfOk result (λ options.
-        options.properties.items ≡ spec.properties_of settings.items) }
-    ensures ignored { IfOk result (λ options.
-        options.ignored ≡ spec.ignores_dictionary settings.items) }
-    ensures by_table { IfOk result (λ options.
-        options.by_table ≡ spec.are_by_table settings.items) }
+    ensures { IfOk result (λ options. options_in options ≡ spec.options_of settings.items) }
 {
     let ignored = ignores_dictionary(&settings);
     let by_table = are_by_table(&settings);

@@ -1,20 +1,11 @@
 -- What a run comes to before anything is written, and what is told of it.
-use Rattle.std.specs.Prelude.{◌≡◌, ◌≢◌, ◌⊎◌, ◌≤◌, ℕ, List, [], take, slice_get, Option, Some, None, IfSome, Result, Ok, Err}
-use Rattle.rbbi_model.specs.Lines.{usage_line, unread_line}
-use Rattle.rbbi_model.specs.Rules.{Rule}
-use Rattle.rbbi_io.specs.Counts.{Rose}
-use Rattle.rbbi_io.specs.Sinks.{Takes}
-use Rattle.rbbi_command.specs.declared.files.Source.{Source}
-use Rattle.rbbi_command.specs.declared.words.command.Operand.TheVariants as operand
+use Rattle.std.specs.Prelude.{◌≡◌, ◌≢◌, ◌≤◌, ℕ, List, Option, None, IfSome, Result, Ok, Err}
+use Rattle.rbbi_model.specs.Lines.{usage_line}
 use Rattle.rbbi_command.specs.declared.refusal.Refusal.{Refusal}
 use Rattle.rbbi_command.specs.declared.refusal.Refusal.TheVariants.{Usage, Unread, Fault, Memory}
 use Rattle.rbbi_command.specs.Refusals.{Outcome, refused}
-use Rattle.rbbi_command.specs.Words.{Request, IsCommandLine, AreNoForm, operands_of}
-use Rattle.rbbi_command.specs.Files.{sources_of}
-use Rattle.rbbi_command.specs.Reads.{FailsToRead}
-use Rattle.rbbi_tool.specs.Command.Compile.{TellsTable}
+use Rattle.rbbi_command.specs.Words.{AreNoForm}
 use Rattle.rbbi_tool.specs.Program.{run_stage, IsOutcome}
-use Rattle.rbbi_command.specs.Delivery.{HoldsFile}
 use Rattle.rbbi_tool.specs.Causes.{NamesToWrite, ReadFails, TellsFailedRead}
 
 -- what a run comes to before anything is written: its output, or what ends it

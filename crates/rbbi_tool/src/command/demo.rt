@@ -5,9 +5,9 @@ ghost use Rattle.rbbi_command.specs.Counts.{IsCount};
 ghost use Rattle.rbbi_tool.specs.inner.Stages.{Meets};
 ghost use Rattle.rbbi_tool.specs.Command.Demo as spec;
 
-use crate::basis::compiled_text;
-use rbbi_command::{Output, Refusal, count_of, joined};
+use crate::tables::table_of_text;
 use itoa::Buffer;
+use rbbi_command::{Output, Refusal, count_of, joined};
 use rbbi_demo::Summary;
 use rbbi_text::Steps;
 use std::alloc::{AllocError, Global};
@@ -60,7 +60,7 @@ pub(crate) fn demo<L: Ledger>(
     let Some(count) = count_of(word) else {
         unreachable!();
     };
-    let table = compiled_text(alloc, RULES)?;
+    let table = table_of_text(alloc, RULES)?;
     rbbi_model::same_marks_give_the_boundaries();
     rbbi_demo::table_summaries_are_those_of_the_rules();
     let summary = rbbi_demo::demo(alloc, &table, count, steps)?;

@@ -22,7 +22,7 @@ returns-then-operands c =
     let begin = rw c.in-Some-2.is at c.in_ok-settings.ensures in
     let long = ap length (sym c.behind-operands.ensures) ∙ length-map c.behind-operands.result.now string_bytes in
     other_count _ _ _ are c.in-Some-command_of.command
-    (sym c.as_str.ensures.value ∙ c.in-Some-command_of.ensures) _ _ begin.1 c.in_ok-options.options.by_table c.in_ok-options.ensures.by_table
+    (sym c.as_str.ensures.value ∙ c.in-Some-command_of.ensures) _ _ begin.1 c.in_ok-options.options.by_table (ap (λ o. o.by_table) c.in_ok-options.ensures)
     (λ same. c.if-operands.true (sym long ∙ same ∙ ap length (sym c.operands.ensures)))
 
 pub returns-then-not-are_fit : goal.returns-then-not-are_fit
@@ -34,7 +34,7 @@ returns-then-not-are_fit c =
     let operands = map string_bytes c.behind-operands.result.now in
     let refused : ¬ AllFit c.operands-2.result.now operands = rw c.if-not-are_fit.true at c.are_fit.ensures in
     not_fit _ _ _ are command
-    (sym c.as_str.ensures.value ∙ c.in-Some-command_of.ensures) _ _ begin.1 by_table c.in_ok-options.ensures.by_table
+    (sym c.as_str.ensures.value ∙ c.in-Some-command_of.ensures) _ _ begin.1 by_table (ap (λ o. o.by_table) c.in_ok-options.ensures)
     (λ fit.
     refused
     (subst (λ os. AllFit os operands) (sym c.operands-2.ensures) (subst (AllFit (operands_of command by_table)) (sym c.behind-operands.ensures) fit)))

@@ -1,24 +1,26 @@
 //! The table that the boundaries of a text come by: compiled from a rule file, or read from a table
 //! file.
-ghost use Rattle.std.specs.Prelude.{◌≡◌, ◌+◌, ◌≤◌, length, chars, sum_by, IfOk};
+ghost use Rattle.std.specs.Prelude.{◌≤◌, length, chars, IfOk};
 ghost use Rattle.rbbi_text.specs.Bytes.{most_bytes};
 ghost use Rattle.rbbi_model.specs.Rules.{AreLawful};
 ghost use Rattle.rbbi_model.specs.Compiled.{AreClasses, IsCompiled};
 ghost use Rattle.rbbi_resolve.specs.RuleLists.{rules_of};
 ghost use Rattle.rbbi_text.specs.Steps.{RisesUpTo};
 ghost use Rattle.rbbi_tool.specs.inner.Stages.{Meets, Serves};
-ghost use Rattle.rbbi_tool.specs.inner.Properties.{AreHanded};
+ghost use Rattle.rbbi_command.specs.Requests.{options_in};
+ghost use Rattle.rbbi_command.specs.Inputs.{inputs_in, AreShort};
+ghost use Rattle.rbbi_tool.specs.inner.Steps.{basis_bytes};
 ghost use Rattle.rbbi_tool.specs.Basis as spec;
 
 use crate::rules::{rules_from, rules_of_text};
-use rbbi_command::{Options, Place, Refusal, Subject, fault};
 use rbbi_cats::{Categories, CatsErr};
+use rbbi_command::{Inputs, Options, Place, Refusal, Subject, fault};
 use rbbi_dfa::BuildErr;
 use rbbi_file::FileErr;
 use rbbi_props::PropTable;
 use rbbi_resolve::Rules;
 use rbbi_table::Table;
-use rbbi_text::{Raw, Steps};
+use rbbi_text::Steps;
 use std::alloc::Global;
 use std::sync::ledger::Ledger;
 
@@ -67,7 +69,7 @@ pub(crate) fn table_of(alloc: Global, rules: &Rules) -> Result<Table, Refusal>
 }
 
 /// The table of the rules of a text, without property files.
-pub(crate) fn compiled_text(alloc: Global, text: &str) -> Result<Table, Refusal>
+pub(crate) fn table_of_text(alloc: Global, text: &str) -> Result<Table, Refusal>
     requires { length text.now ≤ most_bytes }
     ensures { Serves IsCompiled (spec.compiled_text_stage (chars text.now)) result }
 {
@@ -96,22 +98,20 @@ fn read(alloc: Global, bytes: &[u8]) -> Result<Table, Refusal>
 
 /// The table that boundaries come by: read from a table file, or compiled from a rule file, whose
 /// fault is the first of the property files, of the rules, and of their table.
-pub(crate) fn basis<L: Ledger>(
+pub(crate) fn table_from<L: Ledger>(
     alloc: Global,
     options: &Options,
-    handed: &[Raw],
-    bytes: &Raw,
+    inputs: &Inputs,
     steps: &mut Steps<L>,
 ) -> Result<Table, Refusal>
-    requires handed { AreHanded options.now.properties.items handed.now }
-    requires short { length bytes.now ≤ most_bytes }
-    ensures table { Serves spec.IsTableOf (spec.basis_stage options.now.properties.items
-        options.now.ignored options.now.by_table handed.now bytes.now) result }
-    ensures steps { RisesUpTo (sum_by length handed.now + length bytes.now) steps.old steps.new }
+    requires { AreShort (inputs_in inputs.now) }
+    ensures table { Serves spec.IsTableOf
+        (spec.basis_stage (options_in options.now) (inputs_in inputs.now)) result }
+    ensures steps { RisesUpTo (basis_bytes (inputs_in inputs.now)) steps.old steps.new }
 {
     if options.by_table {
-        return read(alloc, bytes.bytes(steps));
+        return read(alloc, inputs.table.bytes(steps));
     }
-    let rules = rules_from(alloc, options, handed, bytes, steps)?;
+    let rules = rules_from(alloc, options, inputs, steps)?;
     table_of(alloc, &rules)
 }

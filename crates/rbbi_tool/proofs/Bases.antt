@@ -8,11 +8,12 @@ use Rattle.rbbi_model.specs.ValidTables.{IsValidTable}
 use Rattle.rbbi_model.specs.Marks.{HasSameMarks}
 use Rattle.rbbi_model.specs.Compiled.{IsCompiled, GivesBoundaries}
 use Rattle.rbbi_model.specs.Searches.{table_boundaries}
-use Rattle.rbbi_command.specs.declared.words.setting.Property.{Property}
+use Rattle.rbbi_command.specs.Settings.{Options}
+use Rattle.rbbi_command.specs.Inputs.{Inputs}
 use Rattle.rbbi_command.specs.declared.refusal.Refusal.{Refusal}
 use Rattle.rbbi_command.specs.Stages.{Stage, followed_by, gives}
 use Rattle.rbbi_tool.specs.inner.Stages.{Meets, Serves}
-use Rattle.rbbi_tool.specs.Basis.{limits_stage, compiled_stage, table_stage, basis_stage}
+use Rattle.rbbi_tool.specs.Basis.{limits_stage, compiled_stage, table_stage, basis_by}
 use Rattle.rbbi_tool.specs.Basis.{Basis, ByRules, ByTable, IsTableOf, AreBoundariesBy}
 
 -- a table of the rules that a stage passes with
@@ -22,28 +23,28 @@ pub rules_serve : (stage : Stage (List Rule)) (rules : List Rule) (result : Resu
 rules_serve stage rules (Ok table) mean met compiled = (rules, (rules, mean, (tt, met, refl)), compiled)
 rules_serve stage rules (Err r) mean met compiled = ⊎_elim inl (λ is. inr (inr (rules, mean, inl is))) met
 
-module _ (properties : List Property) (ignored : Bool) (handed : List (List ℕ)) (bytes : List ℕ) where
+module _ (options : Options) (inputs : Inputs) where
   -- boundaries come by a table of the rules of a rule file
   pub compiled_serves : (by_table : Bool) (result : Result Table Refusal) → by_table ≡ false
-      → Serves IsCompiled (compiled_stage properties ignored handed bytes) result
-      → Serves IsTableOf (basis_stage properties ignored by_table handed bytes) result
+      → Serves IsCompiled (compiled_stage options inputs) result
+      → Serves IsTableOf (basis_by by_table options inputs) result
   compiled_serves by_table result is served =
-      subst (λ b. Serves IsTableOf (basis_stage properties ignored b handed bytes) result) (sym is) (serve result served)
+      subst (λ b. Serves IsTableOf (basis_by b options inputs) result) (sym is) (serve result served)
     where
-      serve : (result : Result Table Refusal) → Serves IsCompiled (compiled_stage properties ignored handed bytes) result
-          → Serves IsTableOf (basis_stage properties ignored false handed bytes) result
+      serve : (result : Result Table Refusal) → Serves IsCompiled (compiled_stage options inputs) result
+          → Serves IsTableOf (basis_by false options inputs) result
       serve (Ok table) (rules, mean, compiled) = (ByRules rules, (rules, mean, refl), compiled)
       serve (Err r) refused = ⊎_elim inl (λ is. inr (inl is)) refused
 
   -- boundaries come by a table that is read
-  pub table_serves : (by_table : Bool) (read : List ℕ) (result : Result Table Refusal) → by_table ≡ true → read ≡ bytes
-      → Meets (λ table. table) (table_stage read) result → Serves IsTableOf (basis_stage properties ignored by_table handed bytes) result
+  pub table_serves : (by_table : Bool) (read : List ℕ) (result : Result Table Refusal) → by_table ≡ true → read ≡ inputs.table
+      → Meets (λ table. table) (table_stage read) result → Serves IsTableOf (basis_by by_table options inputs) result
   table_serves by_table read result is same met =
-      subst (λ b. Serves IsTableOf (basis_stage properties ignored b handed bytes) result) (sym is)
+      subst (λ b. Serves IsTableOf (basis_by b options inputs) result) (sym is)
       (serve result (subst (λ b. Meets (λ table. table) (table_stage b) result) same met))
     where
-      serve : (result : Result Table Refusal) → Meets (λ table. table) (table_stage bytes) result
-          → Serves IsTableOf (basis_stage properties ignored true handed bytes) result
+      serve : (result : Result Table Refusal) → Meets (λ table. table) (table_stage inputs.table) result
+          → Serves IsTableOf (basis_by true options inputs) result
       serve (Ok table) met = (ByTable table, (table, met, refl), refl)
       serve (Err r) refused = ⊎_elim inl (λ is. inr (inl is)) refused
 

@@ -3,8 +3,8 @@ use Rattle.std.specs.Prelude.{chars}
 use Rattle.std.proofs.lemmas.Result.{err_from_is_err_and}
 use Rattle.rbbi_resolve.specs.RuleLists.{rules_of}
 use Rattle.rbbi_tool.specs.Rules.{rules_of_text_stage}
-use Rattle.rbbi_tool.proofs.BasisLemmas.{rules_serve}
-use Rattle.rbbi_tool.proofs.basis.compiled_text.Goals as goal
+use Rattle.rbbi_tool.proofs.Bases.{rules_serve}
+use Rattle.rbbi_tool.proofs.tables.table_of_text.Goals as goal
 
 pub returns-in_err-rules : goal.returns-in_err-rules
 returns-in_err-rules c =
