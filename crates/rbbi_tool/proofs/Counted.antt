@@ -1,29 +1,26 @@
 -- The bytes that count of the files that a request names, and what a command reads of them.
-use Rattle.std.proofs.Common.{◌≡◌, ℕ, ◌+◌, ◌<◌, ◌≤◌, Bool, true, false, List, [], ◌∷◌, ◌++◌, length, map, take, drop, get_or, refl, sym, ap, ◌∙◌}
-use Rattle.std.proofs.Common.{subst, inl, inr, ⊎_elim, arith}
+use Rattle.std.proofs.Common.{◌≡◌, ℕ, ◌+◌, ◌<◌, ◌≤◌, List, [], ◌∷◌, length, take, get_or, refl, ap, ◌∙◌, subst, inl, inr, ⊎_elim, arith}
 use Rattle.std.specs.Prelude.{◌⊎◌, sum_by, Option, IfSome}
 use Rattle.std.proofs.lemmas.List.Sums.{sum_by-append, sum_by-cons, sum_by_more, sum_by-take-le}
 use Rattle.rbbi_model.specs.Tables.{Table}
 use Rattle.rbbi_model.specs.Scripts as model
 use Rattle.rbbi_model.specs.Costs.{script_cost, breaks_cost}
 use Rattle.rbbi_text.specs.Steps.{RisesUpTo}
-use Rattle.rbbi_tool.specs.declared.words.command.Command.{Command}
-use Rattle.rbbi_tool.specs.declared.words.command.Command.TheVariants.{Check, Compile, Breaks, Run, Conform, Demo}
-use Rattle.rbbi_tool.specs.declared.words.setting.Property.{Property}
-use Rattle.rbbi_tool.specs.declared.files.Source.{Source}
-use Rattle.rbbi_tool.specs.Stages.{Stage}
-use Rattle.rbbi_tool.specs.Words.{Request, Asks, operands_of}
-use Rattle.rbbi_tool.specs.Files.{property_source, operand_sources, sources_of}
-use Rattle.rbbi_tool.specs.Reads.{bytes_of, MakesSomeReads}
-use Rattle.rbbi_tool.specs.inner.Reads.{AreRead}
-use Rattle.rbbi_tool.specs.Texts.{text_stage}
-use Rattle.rbbi_tool.specs.Scripts.{script_stage}
-use Rattle.rbbi_tool.specs.Basis.{Basis, IsTableOf, basis_stage}
-use Rattle.rbbi_tool.specs.Program.{nth}
+use Rattle.rbbi_command.specs.declared.words.command.Command.{Command}
+use Rattle.rbbi_command.specs.declared.words.command.Command.TheVariants.{Check, Compile, Breaks, Run, Conform, Demo}
+use Rattle.rbbi_command.specs.declared.files.Role.{Role}
+use Rattle.rbbi_command.specs.declared.files.Role.TheVariants as role
+use Rattle.rbbi_command.specs.declared.files.Source.{Source}
+use Rattle.rbbi_command.specs.Stages.{Stage}
+use Rattle.rbbi_command.specs.Words.{Request, IsCommandLine}
+use Rattle.rbbi_command.specs.Files.{sources_of}
+use Rattle.rbbi_command.specs.Inputs.{Inputs, no_inputs, put, with_files, inputs_of}
+use Rattle.rbbi_command.specs.Reads.{MakesSomeReads, AreRead}
+use Rattle.rbbi_tool.specs.Basis.{Basis, IsTableOf}
 use Rattle.rbbi_tool.specs.Steps.{counted, named_bytes, ReadsForBreaks, ReadsForScript, CommandReads, RequestReads}
-use Rattle.rbbi_tool.specs.inner.Steps.{given_bytes, FilesReads, ReadsInOrder}
-use Rattle.rbbi_tool.proofs.Forms.{same_request}
-use Rattle.rbbi_tool.proofs.Reading.{all_told, always_told}
+use Rattle.rbbi_tool.specs.inner.Steps.{given_bytes, ReadsInOrder}
+use Rattle.rbbi_command.proofs.Forms.{same_request}
+use Rattle.rbbi_command.proofs.Reading.{all_told, always_told}
 
 -- the bytes of one more property file
 pub handed_more : (handed : List (List ℕ)) (i begun steps steps' : ℕ) (bytes : List ℕ) → i < length handed → bytes ≡ get_or handed i bytes →
@@ -77,178 +74,79 @@ module _ (basis : Stage Basis) (text : Stage (List ℕ)) (bytes before between a
     reads = rises_twice bytes (script_cost table x commands) before between after paid cost;
   })
 
-module _ (request : Request) (all handed back : List (List ℕ)) (source : List ℕ) (before after : ℕ)
-    (handed_is : handed ≡ take (length request.properties) all) (back_is : back ≡ drop (length request.properties) all)
-    (source_is : source ≡ nth back 0) where
-  -- what `breaks` and `run` read of their files
-  pub breaks_reads : (name text : List ℕ) → name ≡ nth request.operands 1 → text ≡ nth back 1 → request.command ≡ Breaks →
-      (RisesUpTo (sum_by length handed + length source) before after
-      ⊎ ReadsForBreaks (basis_stage request.properties request.ignored request.by_table handed source) (text_stage name text)
-      (sum_by length handed + length source) before after) →
-      FilesReads request all before after
-  breaks_reads name text name_is text_is is reads =
-      let Says = λ (h : List (List ℕ)) (s n t : List ℕ).
-      RisesUpTo (sum_by length h + length s) before after
-      ⊎ ReadsForBreaks (basis_stage request.properties request.ignored request.by_table h s) (text_stage n t) (sum_by length h + length s) before after in
-      let rest = drop (length request.properties) all in
-      subst (λ c. CommandReads c request (take (length request.properties) all) rest (given_bytes c (take (length request.properties) all) rest) before after)
-      (sym is)
-      (subst (λ h. Says h (nth rest 0) (nth request.operands 1) (nth rest 1)) handed_is
-      (subst (λ b. Says handed (nth b 0) (nth request.operands 1) (nth b 1)) back_is
-      (subst (λ s. Says handed s (nth request.operands 1) (nth back 1)) source_is
-      (subst (λ n. Says handed source n (nth back 1)) name_is (subst (λ t. Says handed source name t) text_is reads)))))
-
-  pub run_reads : (name text script_name script : List ℕ) → name ≡ nth request.operands 1 → text ≡ nth back 1 → script_name ≡ nth request.operands 2 →
-      script ≡ nth back 2 → request.command ≡ Run →
-      (RisesUpTo (sum_by length handed + length source + length script) before after
-      ⊎ ReadsForScript (basis_stage request.properties request.ignored request.by_table handed source) (text_stage name text) (script_stage script_name script)
-      (sum_by length handed + length source + length script) before after) →
-      FilesReads request all before after
-  run_reads name text script_name script name_is text_is script_name_is script_is is reads =
-      let Says = λ (h : List (List ℕ)) (s n t m r : List ℕ).
-      RisesUpTo (sum_by length h + length s + length r) before after
-      ⊎ ReadsForScript (basis_stage request.properties request.ignored request.by_table h s) (text_stage n t) (script_stage m r)
-      (sum_by length h + length s + length r) before after in
-      let names = request.operands in
-      let rest = drop (length request.properties) all in
-      subst (λ c. CommandReads c request (take (length request.properties) all) rest (given_bytes c (take (length request.properties) all) rest) before after)
-      (sym is)
-      (subst (λ h. Says h (nth rest 0) (nth names 1) (nth rest 1) (nth names 2) (nth rest 2)) handed_is
-      (subst (λ b. Says handed (nth b 0) (nth names 1) (nth b 1) (nth names 2) (nth b 2)) back_is
-      (subst (λ s. Says handed s (nth names 1) (nth back 1) (nth names 2) (nth back 2)) source_is
-      (subst (λ n. Says handed source n (nth back 1) (nth names 2) (nth back 2)) name_is
-      (subst (λ t. Says handed source name t (nth names 2) (nth back 2)) text_is
-      (subst (λ m. Says handed source name text m (nth back 2)) script_name_is
-      (subst (λ r. Says handed source name text script_name r) script_is reads)))))))
-
--- of the other commands nothing is said
-pub others_read : (request : Request) (command : Command) (all : List (List ℕ)) (before after : ℕ) → request.command ≡ command →
-    CommandReads command request (take (length request.properties) all) (drop (length request.properties) all)
-    (given_bytes command (take (length request.properties) all) (drop (length request.properties) all)) before after →
-    FilesReads request all before after
-others_read request command all before after is reads =
-    let handed = take (length request.properties) all in
-    let files = drop (length request.properties) all in
-    subst (λ c. CommandReads c request handed files (given_bytes c handed files) before after) (sym is) reads
-
 -- where nothing is read, nothing is over the bound
-command_reads_none : (command : Command) (request : Request) (handed files : List (List ℕ)) (bytes steps : ℕ) →
-    CommandReads command request handed files bytes steps steps
-command_reads_none Check request handed files bytes steps = tt
-command_reads_none Compile request handed files bytes steps = tt
-command_reads_none Breaks request handed files bytes steps = inl (record { more = omega arith; cost = omega arith })
-command_reads_none Run request handed files bytes steps = inl (record { more = omega arith; cost = omega arith })
-command_reads_none Conform request handed files bytes steps = tt
-command_reads_none Demo request handed files bytes steps = tt
+command_reads_none : (command : Command) (request : Request) (inputs : Inputs) (bytes steps : ℕ) → CommandReads command request inputs bytes steps steps
+command_reads_none Check request inputs bytes steps = tt
+command_reads_none Compile request inputs bytes steps = tt
+command_reads_none Breaks request inputs bytes steps = inl (record { more = omega arith; cost = omega arith })
+command_reads_none Run request inputs bytes steps = inl (record { more = omega arith; cost = omega arith })
+command_reads_none Conform request inputs bytes steps = tt
+command_reads_none Demo request inputs bytes steps = tt
 
 pub reads_none : (contents : Option (List ℕ → List ℕ)) (request : Request) (steps : ℕ) → IfSome contents (λ held. RequestReads request held steps steps)
 reads_none contents request steps =
     always_told contents (λ held. RequestReads request held steps steps)
-    (λ held.
-    let all = bytes_of held (sources_of request) in
-    command_reads_none request.command request (take (length request.properties) all) (drop (length request.properties) all) (named_bytes held request) steps)
+    (λ held. command_reads_none request.command request (inputs_of held (sources_of request)) (named_bytes held request) steps)
+
+-- a file more counts its bytes, or in place of others
+put_counted : (role : Role) (name bytes : List ℕ) (inputs : Inputs) → given_bytes (put role name bytes inputs) ≤ given_bytes inputs + counted role bytes
+put_counted role.Property name bytes inputs = omega (arith, sum_by-append length inputs.properties (bytes ∷ []), sum_by-cons length bytes [])
+put_counted role.Rules name bytes inputs = omega arith
+put_counted role.Table name bytes inputs = omega arith
+put_counted role.Text name bytes inputs = omega arith
+put_counted role.Script name bytes inputs = omega arith
+put_counted role.Tests name bytes inputs = omega arith
 
 module _ (held : List ℕ → List ℕ) where
-  -- the bytes of the property files come first
-  first_bytes : (properties : List Property) (rest : List Source) → take (length properties) (bytes_of held (map property_source properties ++ rest))
-      ≡ bytes_of held (map property_source properties)
-  first_bytes [] rest = refl
-  first_bytes (p ∷ properties) rest = ap (λ bs. held p.file ∷ bs) (first_bytes properties rest)
+  abbrev counts : Source → ℕ
+  counts source = counted source.role (held source.name)
 
-  last_bytes : (properties : List Property) (rest : List Source) → drop (length properties) (bytes_of held (map property_source properties ++ rest))
-      ≡ bytes_of held rest
-  last_bytes [] rest = refl
-  last_bytes (p ∷ properties) rest = last_bytes properties rest
+  files_counted : (sources : List Source) (inputs : Inputs) → given_bytes (with_files held inputs sources) ≤ given_bytes inputs + sum_by counts sources
+  files_counted [] inputs = omega arith
+  files_counted (source ∷ sources) inputs =
+      omega (
+        arith,
+        files_counted sources (put source.role source.name (held source.name) inputs),
+        put_counted source.role source.name (held source.name) inputs,
+        sum_by-cons counts source sources,
+      )
 
-  property_bytes : (properties : List Property) → sum_by (λ (source : Source). counted source.role (held source.name)) (map property_source properties)
-      ≡ sum_by length (bytes_of held (map property_source properties))
-  property_bytes [] = refl
-  property_bytes (p ∷ properties) =
-      sum_by-cons (λ (source : Source). counted source.role (held source.name)) (property_source p) (map property_source properties)
-      ∙ ap (λ n. length (held p.file) + n) (property_bytes properties)
-      ∙ sym (sum_by-cons length (held p.file) (bytes_of held (map property_source properties)))
+  given_named : (request : Request) → given_bytes (inputs_of held (sources_of request)) ≤ named_bytes held request
+  given_named request = omega (arith, files_counted (sources_of request) no_inputs)
 
-  -- the bytes that count of the files of a command's operands
-  abbrev behind : Command → Bool → List (List ℕ) → ℕ
-  behind command by_table names =
-      sum_by (λ (source : Source). counted source.role (held source.name)) (operand_sources (operands_of command by_table) names)
-
-  abbrev files_of : Command → Bool → List (List ℕ) → List (List ℕ)
-  files_of command by_table names = bytes_of held (operand_sources (operands_of command by_table) names)
-
-  behind_breaks : (by_table : Bool) (names : List (List ℕ)) → length names ≡ length (operands_of Breaks by_table) →
-      behind Breaks by_table names ≡ length (nth (files_of Breaks by_table names) 0)
-  behind_breaks false (n ∷ m ∷ []) count = omega arith
-  behind_breaks false [] count = absurd (omega arith)
-  behind_breaks false (n ∷ []) count = absurd (omega arith)
-  behind_breaks false (n ∷ m ∷ o ∷ names) count = absurd (omega arith)
-  behind_breaks true (n ∷ m ∷ []) count = omega arith
-  behind_breaks true [] count = absurd (omega arith)
-  behind_breaks true (n ∷ []) count = absurd (omega arith)
-  behind_breaks true (n ∷ m ∷ o ∷ names) count = absurd (omega arith)
-
-  behind_run : (by_table : Bool) (names : List (List ℕ)) → length names ≡ length (operands_of Run by_table) →
-      behind Run by_table names ≡ length (nth (files_of Run by_table names) 0) + length (nth (files_of Run by_table names) 2)
-  behind_run false (n ∷ m ∷ o ∷ []) count = omega arith
-  behind_run false [] count = absurd (omega arith)
-  behind_run false (n ∷ []) count = absurd (omega arith)
-  behind_run false (n ∷ m ∷ []) count = absurd (omega arith)
-  behind_run false (n ∷ m ∷ o ∷ q ∷ names) count = absurd (omega arith)
-  behind_run true (n ∷ m ∷ o ∷ []) count = omega arith
-  behind_run true [] count = absurd (omega arith)
-  behind_run true (n ∷ []) count = absurd (omega arith)
-  behind_run true (n ∷ m ∷ []) count = absurd (omega arith)
-  behind_run true (n ∷ m ∷ o ∷ q ∷ names) count = absurd (omega arith)
-
-  module _ (request : Request) (count : length request.operands ≡ length (operands_of request.command request.by_table)) where
-    abbrev handed_bytes : List (List ℕ)
-    handed_bytes = take (length request.properties) (bytes_of held (sources_of request))
-
-    abbrev other_bytes : List (List ℕ)
-    other_bytes = drop (length request.properties) (bytes_of held (sources_of request))
-
-    -- all bytes that count: those of the property files, and those behind them
-    named_parts : (command : Command) → request.command ≡ command →
-        named_bytes held request ≡ sum_by length handed_bytes + behind command request.by_table request.operands
-    named_parts command is =
-        let rest : List Source = operand_sources (operands_of request.command request.by_table) request.operands in
-        sum_by-append (λ (source : Source). counted source.role (held source.name)) (map property_source request.properties) rest
-        ∙ ap (λ n. n + behind request.command request.by_table request.operands)
-        (property_bytes request.properties ∙ ap (sum_by length) (sym (first_bytes request.properties rest)))
-        ∙ ap (λ c. sum_by length handed_bytes + behind c request.by_table request.operands) is
-
-    others_are : (command : Command) → request.command ≡ command → other_bytes ≡ files_of command request.by_table request.operands
-    others_are command is =
-        last_bytes request.properties (operand_sources (operands_of request.command request.by_table) request.operands)
-        ∙ ap (λ c. files_of c request.by_table request.operands) is
-
-    count_of : (command : Command) → request.command ≡ command → length request.operands ≡ length (operands_of command request.by_table)
-    count_of command is = count ∙ ap (λ c. length (operands_of c request.by_table)) is
-
-    named_reads : (command : Command) (before after : ℕ) → request.command ≡ command →
-        CommandReads command request handed_bytes other_bytes (given_bytes command handed_bytes other_bytes) before after →
-        CommandReads command request handed_bytes other_bytes (named_bytes held request) before after
-    named_reads Check before after is reads = reads
-    named_reads Compile before after is reads = reads
-    named_reads Breaks before after is reads =
-        let same : sum_by length handed_bytes + length (nth other_bytes 0) ≡ named_bytes held request =
-        ap (λ fs. sum_by length handed_bytes + length (nth fs 0)) (others_are Breaks is)
-        ∙ ap (λ n. sum_by length handed_bytes + n) (sym (behind_breaks request.by_table request.operands (count_of Breaks is)))
-        ∙ sym (named_parts Breaks is) in
-        subst (λ n. CommandReads Breaks request handed_bytes other_bytes n before after) same reads
-    named_reads Run before after is reads =
-        let same : sum_by length handed_bytes + length (nth other_bytes 0) + length (nth other_bytes 2) ≡ named_bytes held request =
-        let parts = named_parts Run is in
-        let tail = behind_run request.by_table request.operands (count_of Run is) in
-        let zeroth = ap (λ fs. length (nth fs 0)) (others_are Run is) in
-        let second = ap (λ fs. length (nth fs 2)) (others_are Run is) in
-        omega (arith, parts, tail, zeroth, second) in
-        subst (λ n. CommandReads Run request handed_bytes other_bytes n before after) same reads
-    named_reads Conform before after is reads = reads
-    named_reads Demo before after is reads = reads
-
-    files_reads : (before after : ℕ) → FilesReads request (bytes_of held (sources_of request)) before after → RequestReads request held before after
-    files_reads before after reads = named_reads request.command before after refl reads
+-- a command reads no more than may be
+reads_further : (command : Command) (request : Request) (inputs : Inputs) (few many before after : ℕ) → few ≤ many
+    → CommandReads command request inputs few before after → CommandReads command request inputs many before after
+reads_further Check request inputs few many before after less reads = tt
+reads_further Compile request inputs few many before after less reads = tt
+reads_further Conform request inputs few many before after less reads = tt
+reads_further Demo request inputs few many before after less reads = tt
+reads_further Breaks request inputs few many before after less reads =
+    ⊎_elim (λ paid. inl (rises_further few many before after paid less))
+    (λ r. inr (record {
+      by = r.by;
+      table = r.table;
+      x = r.x;
+      passes = r.passes;
+      table_is = r.table_is;
+      text_is = r.text_is;
+      reads = rises_further (few + breaks_cost r.table r.x 0) (many + breaks_cost r.table r.x 0) before after r.reads (omega (arith, less));
+    }))
+    reads
+reads_further Run request inputs few many before after less reads =
+    ⊎_elim (λ paid. inl (rises_further few many before after paid less))
+    (λ r. inr (record {
+      by = r.by;
+      table = r.table;
+      x = r.x;
+      commands = r.commands;
+      passes = r.passes;
+      table_is = r.table_is;
+      text_is = r.text_is;
+      script_is = r.script_is;
+      reads = rises_further (few + script_cost r.table r.x r.commands) (many + script_cost r.table r.x r.commands) before after r.reads (omega (arith, less));
+    }))
+    reads
 
 -- no file is read
 pub reads_nothing : (words : List (List ℕ)) (contents : Option (List ℕ → List ℕ)) (reads : List ℕ → ℕ) (steps : ℕ)
@@ -262,12 +160,14 @@ reads_nothing words contents reads steps = record {
 }
 
 -- what is read of the files that were read in order
-pub reads_told : (words : List (List ℕ)) (contents : Option (List ℕ → List ℕ)) (here request : Request) → Asks words request → Asks words here →
-    (sources : List Source) (bytes : List (List ℕ)) (before after : ℕ) → sources ≡ sources_of here → IfSome contents (AreRead sources bytes) →
-    FilesReads here bytes before after → IfSome contents (λ held. RequestReads request held before after)
-reads_told words contents here request asks asks' sources bytes before after is read reads =
-    all_told contents (AreRead sources bytes) (λ held. RequestReads request held before after) read
-    (λ held (bytes_are, short).
+pub reads_told : (words : List (List ℕ)) (contents : Option (List ℕ → List ℕ)) (here request : Request) → IsCommandLine words request
+    → IsCommandLine words here → (sources : List Source) (inputs : Inputs) (before after : ℕ) → sources ≡ sources_of here
+    → IfSome contents (AreRead sources inputs) → CommandReads here.command here inputs (given_bytes inputs) before after
+    → IfSome contents (λ held. RequestReads request held before after)
+reads_told words contents here request asks asks' sources inputs before after is read reads =
+    all_told contents (AreRead sources inputs) (λ held. RequestReads request held before after) read
+    (λ held (are, short).
+    let named = inputs_of held (sources_of here) in
     subst (λ r. RequestReads r held before after) (same_request words here request asks' asks)
-    (files_reads held here asks'.count before after
-    (subst (λ bs. FilesReads here bs before after) (bytes_are ∙ ap (λ ss. bytes_of held ss) is) reads)))
+    (reads_further here.command here named (given_bytes named) (named_bytes held here) before after (given_named held here)
+    (subst (λ i. CommandReads here.command here i (given_bytes i) before after) (are ∙ ap (inputs_of held) is) reads)))

@@ -1,22 +1,25 @@
 -- The stages of commands refuse with faults of files alone.
 use Rattle.std.proofs.Common.{◌≡◌, ◌≢◌, refl, ℕ, Bool, true, false, Option, List, [], ◌∷◌, sym, subst, inl, inr}
 use Rattle.rbbi_model.specs.Rules.{Rule}
-use Rattle.rbbi_tool.specs.declared.words.command.Command.{Command}
-use Rattle.rbbi_tool.specs.declared.words.command.Command.TheVariants.{Check, Compile, Breaks, Run, Conform, Demo}
-use Rattle.rbbi_tool.specs.declared.words.setting.Property.{Property}
-use Rattle.rbbi_tool.specs.declared.refusal.Subject.{Subject}
-use Rattle.rbbi_tool.specs.declared.refusal.Place.{Place}
-use Rattle.rbbi_tool.specs.declared.refusal.Refusal.{Refusal}
-use Rattle.rbbi_tool.specs.declared.refusal.Refusal.TheVariants.{Usage, Unread, Fault, Memory}
-use Rattle.rbbi_tool.specs.Stages.{Stage}
-use Rattle.rbbi_tool.specs.Words.{Request}
+use Rattle.rbbi_command.specs.declared.words.command.Command.{Command}
+use Rattle.rbbi_command.specs.declared.words.command.Command.TheVariants.{Check, Compile, Breaks, Run, Conform, Demo}
+use Rattle.rbbi_command.specs.declared.words.setting.Property.{Property}
+use Rattle.rbbi_command.specs.declared.inputs.Input.{Input}
+use Rattle.rbbi_command.specs.declared.refusal.Subject.{Subject}
+use Rattle.rbbi_command.specs.declared.refusal.Place.{Place}
+use Rattle.rbbi_command.specs.declared.refusal.Refusal.{Refusal}
+use Rattle.rbbi_command.specs.declared.refusal.Refusal.TheVariants.{Usage, Unread, Fault, Memory}
+use Rattle.rbbi_command.specs.Stages.{Stage}
+use Rattle.rbbi_command.specs.Words.{Request}
+use Rattle.rbbi_command.specs.Settings.{Options}
+use Rattle.rbbi_command.specs.Inputs.{Inputs}
 use Rattle.rbbi_tool.specs.Texts.{text_stage}
 use Rattle.rbbi_tool.specs.Properties.{properties_stage}
 use Rattle.rbbi_tool.specs.Rules.{IsTold, rules_stage}
 use Rattle.rbbi_text.specs.declared.error.LinesErr.{LinesErr}
 use Rattle.rbbi_text.specs.declared.error.LinesErr.TheVariants as lines
 use Rattle.rbbi_tool.specs.Scripts.{lines_fault}
-use Rattle.rbbi_tool.specs.Basis.{limits_stage, compiled_stage, compiled_text_stage, basis_stage}
+use Rattle.rbbi_tool.specs.Basis.{limits_stage, compiled_stage, compiled_text_stage, basis_by}
 use Rattle.rbbi_tool.specs.Program.{command_stage}
 
 -- a fault of a file ends the run
@@ -47,22 +50,21 @@ properties_fault (p ∷ properties) (b ∷ handed) r (inl (inr (u, utf8, (line, 
 properties_fault (p ∷ properties) (b ∷ handed) r (inr (u, passed, is)) = properties_fault properties handed r is
 
 -- rule files
-rules_fault : (properties : List Property) (ignored : Bool) (handed : List (List ℕ)) (bytes : List ℕ) → Faults (rules_stage properties ignored handed bytes)
-rules_fault properties ignored handed bytes r (inl is) = properties_fault properties handed r is
-rules_fault properties ignored handed bytes r (inr (u, passed, inl (at, wrong, is))) = is_fault _ _ _ r is
-rules_fault properties ignored handed bytes r (inr (u, passed, inr (x, text, inl is))) = told_fault _ _ _ x r is
-rules_fault properties ignored handed bytes r (inr (u, passed, inr (x, text, inr (tokens, are, inl is)))) = told_fault _ _ _ x r is
-rules_fault properties ignored handed bytes r (inr (u, passed, inr (x, text, inr (tokens, are, inr (statements, read, is))))) = told_fault _ _ _ x r is
+rules_fault : (options : Options) (inputs : Inputs) → Faults (rules_stage options inputs)
+rules_fault options inputs r (inl is) = properties_fault options.properties inputs.properties r is
+rules_fault options inputs r (inr (u, passed, inl (at, wrong, is))) = is_fault _ _ _ r is
+rules_fault options inputs r (inr (u, passed, inr (x, text, inl is))) = told_fault _ _ _ x r is
+rules_fault options inputs r (inr (u, passed, inr (x, text, inr (tokens, are, inl is)))) = told_fault _ _ _ x r is
+rules_fault options inputs r (inr (u, passed, inr (x, text, inr (tokens, are, inr (statements, read, is))))) = told_fault _ _ _ x r is
 
 limits_fault : (rules : List Rule) → Faults (limits_stage rules)
 limits_fault rules r (inl is) = is_fault _ _ _ r is.1
 limits_fault rules r (inr (u, few, is)) = is_fault _ _ _ r is.is
 
-compiled_fault : (properties : List Property) (ignored : Bool) (handed : List (List ℕ)) (bytes : List ℕ)
-    → Faults (compiled_stage properties ignored handed bytes)
-compiled_fault properties ignored handed bytes r (inl is) = rules_fault properties ignored handed bytes r is
-compiled_fault properties ignored handed bytes r (inr (rules, mean, inl is)) = limits_fault rules r is
-compiled_fault properties ignored handed bytes r (inr (rules, mean, inr (u, few, never))) = absurd never
+compiled_fault : (options : Options) (inputs : Inputs) → Faults (compiled_stage options inputs)
+compiled_fault options inputs r (inl is) = rules_fault options inputs r is
+compiled_fault options inputs r (inr (rules, mean, inl is)) = limits_fault rules r is
+compiled_fault options inputs r (inr (rules, mean, inr (u, few, never))) = absurd never
 
 -- the text of built-in rules
 compiled_text_fault : (x : List ℕ) → Faults (compiled_text_stage x)
@@ -73,17 +75,16 @@ compiled_text_fault x r (inr (rules, mean, inl is)) = limits_fault rules r is
 compiled_text_fault x r (inr (rules, mean, inr (u, few, never))) = absurd never
 
 -- what boundaries come by
-basis_fault : (properties : List Property) (ignored by_table : Bool) (handed : List (List ℕ)) (bytes : List ℕ)
-    → Faults (basis_stage properties ignored by_table handed bytes)
-basis_fault properties ignored false handed bytes r (inl is) = compiled_fault properties ignored handed bytes r is
-basis_fault properties ignored false handed bytes r (inr (rules, mean, never)) = absurd never
-basis_fault properties ignored true handed bytes r (inl is) = is_fault _ _ _ r is.is
-basis_fault properties ignored true handed bytes r (inr (table, spelled, never)) = absurd never
+basis_fault : (by_table : Bool) (options : Options) (inputs : Inputs) → Faults (basis_by by_table options inputs)
+basis_fault false options inputs r (inl is) = compiled_fault options inputs r is
+basis_fault false options inputs r (inr (rules, mean, never)) = absurd never
+basis_fault true options inputs r (inl is) = is_fault _ _ _ r is.is
+basis_fault true options inputs r (inr (table, spelled, never)) = absurd never
 
 -- texts
-text_fault : (name bytes : List ℕ) → Faults (text_stage name bytes)
-text_fault name bytes r (inl (at, wrong, is)) = is_fault _ _ _ r is
-text_fault name bytes r (inr (x, passed, is)) = is_fault _ _ _ r is.1
+text_fault : (text : Input) → Faults (text_stage text)
+text_fault text r (inl (at, wrong, is)) = is_fault _ _ _ r is
+text_fault text r (inr (x, passed, is)) = is_fault _ _ _ r is.1
 
 -- scripts and test files
 lines_fault_is : (name : List ℕ) (e : LinesErr) (r : Refusal) → e ≢ lines.Memory → r ≡ lines_fault name e → IsFault r
@@ -92,22 +93,22 @@ lines_fault_is name (lines.BadLine line) r some is = is_fault _ _ _ r is
 lines_fault_is name lines.Memory r some is = absurd (some refl)
 
 -- commands
-pub command_fault : (command : Command) (request : Request) (handed files : List (List ℕ)) (r : Refusal)
-    → (command_stage command request handed files).refuses r → IsFault r
-command_fault Check request handed files r (inl is) = rules_fault request.properties request.ignored handed _ r is
-command_fault Check request handed files r (inr (rules, mean, never)) = absurd never
-command_fault Compile request handed files r (inl is) = compiled_fault request.properties request.ignored handed _ r is
-command_fault Compile request handed files r (inr (rules, mean, never)) = absurd never
-command_fault Breaks request handed files r (inl is) = basis_fault request.properties request.ignored request.by_table handed _ r is
-command_fault Breaks request handed files r (inr (basis, passed, inl is)) = text_fault _ _ r is
-command_fault Breaks request handed files r (inr (basis, passed, inr (x, taken, never))) = absurd never
-command_fault Run request handed files r (inl is) = basis_fault request.properties request.ignored request.by_table handed _ r is
-command_fault Run request handed files r (inr (basis, passed, inl is)) = text_fault _ _ r is
-command_fault Run request handed files r (inr (basis, passed, inr (x, taken, inl is))) = lines_fault_is _ is.error r is.not_memory is.is
-command_fault Run request handed files r (inr (basis, passed, inr (x, taken, inr (commands, read, never)))) = absurd never
-command_fault Conform request handed files r (inl is) = basis_fault request.properties request.ignored request.by_table handed _ r is
-command_fault Conform request handed files r (inr (basis, passed, inl is)) = lines_fault_is _ is.error r is.not_memory is.is
-command_fault Conform request handed files r (inr (basis, passed, inr (tests, read, never))) = absurd never
-command_fault Demo request handed files r (inl never) = absurd never
-command_fault Demo request handed files r (inr (count, written, inl is)) = compiled_text_fault _ r is
-command_fault Demo request handed files r (inr (count, written, inr (rules, passed, never))) = absurd never
+pub command_fault : (command : Command) (request : Request) (inputs : Inputs) (r : Refusal)
+    → (command_stage command request inputs).refuses r → IsFault r
+command_fault Check request inputs r (inl is) = rules_fault request.options inputs r is
+command_fault Check request inputs r (inr (rules, mean, never)) = absurd never
+command_fault Compile request inputs r (inl is) = compiled_fault request.options inputs r is
+command_fault Compile request inputs r (inr (rules, mean, never)) = absurd never
+command_fault Breaks request inputs r (inl is) = basis_fault request.options.by_table request.options inputs r is
+command_fault Breaks request inputs r (inr (basis, passed, inl is)) = text_fault inputs.text r is
+command_fault Breaks request inputs r (inr (basis, passed, inr (x, taken, never))) = absurd never
+command_fault Run request inputs r (inl is) = basis_fault request.options.by_table request.options inputs r is
+command_fault Run request inputs r (inr (basis, passed, inl is)) = text_fault inputs.text r is
+command_fault Run request inputs r (inr (basis, passed, inr (x, taken, inl is))) = lines_fault_is _ is.error r is.not_memory is.is
+command_fault Run request inputs r (inr (basis, passed, inr (x, taken, inr (commands, read, never)))) = absurd never
+command_fault Conform request inputs r (inl is) = basis_fault request.options.by_table request.options inputs r is
+command_fault Conform request inputs r (inr (basis, passed, inl is)) = lines_fault_is _ is.error r is.not_memory is.is
+command_fault Conform request inputs r (inr (basis, passed, inr (tests, read, never))) = absurd never
+command_fault Demo request inputs r (inl never) = absurd never
+command_fault Demo request inputs r (inr (count, written, inl is)) = compiled_text_fault _ r is
+command_fault Demo request inputs r (inr (count, written, inr (rules, passed, never))) = absurd never

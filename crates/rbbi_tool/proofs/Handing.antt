@@ -1,11 +1,13 @@
 -- Property files, checked one after another.
-use Rattle.std.proofs.Common.{◌≡◌, ◌<◌, ◌≤◌, ◌+◌, ℕ, List, [], ◌∷◌, ◌++◌, length, drop, get_or, sym, ap, ◌∙◌, subst, inl, inr, append_assoc, arith}
+use Rattle.std.proofs.Common.{◌≡◌, ◌⊎◌, ◌<◌, ◌≤◌, ◌+◌, ℕ, List, [], ◌∷◌, ◌++◌, length, drop, get_or, sym, ap, ◌∙◌, subst, refl, inl, inr, ⊎_elim, append_assoc, arith}
+use Rattle.std.specs.Prelude.{min}
+use Rattle.std.proofs.lemmas.Bool.{cases_lt}
 use Rattle.std.proofs.lemmas.List.{drop_more, drop_all, append-nil}
 use Rattle.rbbi_props.specs.Rows as rows
 use Rattle.rbbi_props.specs.Files.{named_file}
-use Rattle.rbbi_tool.specs.declared.words.setting.Property.{Property}
-use Rattle.rbbi_tool.specs.declared.refusal.Refusal.{Refusal}
-use Rattle.rbbi_tool.specs.Stages.{Stage}
+use Rattle.rbbi_command.specs.declared.words.setting.Property.{Property}
+use Rattle.rbbi_command.specs.declared.refusal.Refusal.{Refusal}
+use Rattle.rbbi_command.specs.Stages.{Stage}
 use Rattle.rbbi_tool.specs.Properties.{property_stage, properties_stage, property_files}
 
 -- what is left of the property files
@@ -14,7 +16,6 @@ left properties handed i = properties_stage (drop i properties) (drop i handed)
 
 -- so many property files pass, and these are they
 pub record AreHandedTo (properties : List Property) (handed : List (List ℕ)) (files : List rows.File) (i : ℕ) : Type 0 where
-  pub inside : i ≤ length properties
   pub files_are : files ++ property_files (drop i properties) (drop i handed) ≡ property_files properties handed
   pub refuses : (r : Refusal) → (properties_stage (drop i properties) (drop i handed)).refuses r → (properties_stage properties handed).refuses r
   pub passes : (properties_stage (drop i properties) (drop i handed)).passes tt → (properties_stage properties handed).passes tt
@@ -39,7 +40,6 @@ module _ {properties : List Property} {handed : List (List ℕ)} {files : List r
   pub handing_more : (files' : List rows.File) → (property_stage property.file bytes).passes tt → files' ≡ files ++ named_file property.name bytes ∷ []
       → AreHandedTo properties handed files' (i + 1)
   handing_more files' passed pushed = record {
-    inside = omega arith;
     files_are =
         ap (λ fs. fs ++ property_files (drop (i + 1) properties) (drop (i + 1) handed)) pushed
         ∙ append_assoc files (named_file property.name bytes ∷ []) (property_files (drop (i + 1) properties) (drop (i + 1) handed))
@@ -58,20 +58,29 @@ module _ {properties : List Property} {handed : List (List ℕ)} {files : List r
 -- before the first
 pub handed_none : (properties : List Property) (handed : List (List ℕ)) (files : List rows.File) → files ≡ [] → AreHandedTo properties handed files 0
 handed_none properties handed files none = record {
-  inside = omega arith;
   files_are = ap (λ fs. fs ++ property_files properties handed) none;
   refuses = λ r refused. refused;
   passes = λ passes. passes;
 }
 
+-- nothing is left where either list ends
+none_left : (properties : List Property) (handed : List (List ℕ)) → (properties ≡ []) ⊎ (handed ≡ [])
+    → (properties_stage properties handed).passes tt × (property_files properties handed ≡ [])
+none_left [] handed either = (tt, refl)
+none_left (p ∷ properties) [] either = (tt, refl)
+none_left (p ∷ properties) (b ∷ handed) either = absurd (⊎_elim (λ none. cc) (λ none. cc) either)
+
 module _ {properties : List Property} {handed : List (List ℕ)} {files : List rows.File} {i : ℕ} (so_far : AreHandedTo properties handed files i)
-    (whole : length properties ≤ i) where
-  none_left : drop i properties ≡ []
-  none_left = drop_all i properties whole
+    (whole : min (length properties) (length handed) ≤ i) where
+  none : (properties_stage (drop i properties) (drop i handed)).passes tt × (property_files (drop i properties) (drop i handed) ≡ [])
+  none =
+      none_left (drop i properties) (drop i handed)
+      (⊎_elim (λ less. inr (drop_all i handed (omega (arith, whole)))) (λ more. inl (drop_all i properties (omega (arith, whole))))
+      (cases_lt (length handed) (length properties)))
 
   -- all pass
   pub all_handed : (properties_stage properties handed).passes tt
-  all_handed = so_far.passes (subst (λ ps. (properties_stage ps (drop i handed)).passes tt) (sym none_left) tt)
+  all_handed = so_far.passes none.0
 
   pub all_files : files ≡ property_files properties handed
-  all_files = sym (append-nil files) ∙ ap (λ ps. files ++ property_files ps (drop i handed)) (sym none_left) ∙ so_far.files_are
+  all_files = sym (append-nil files) ∙ ap (λ more. files ++ more) (sym none.1) ∙ so_far.files_are

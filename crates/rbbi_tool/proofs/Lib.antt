@@ -1,15 +1,9 @@
 pub mod Positions
 pub mod StageLemmas
-pub mod SettingLemmas
-pub mod Forms
-pub mod SourceLemmas
 pub mod Handing
-pub mod Reading
 pub mod Listing
-pub mod Delivering
 pub mod Numbers
-pub mod Sizes
-pub mod BasisLemmas
+pub mod Bases
 pub mod Verdicts
 pub mod Replies
 pub mod Commands
@@ -20,4 +14,3 @@ pub mod OneReading
 pub mod OneOutcome
 pub mod Searched
 pub mod Counted
-pub mod Fitting

@@ -1,13 +1,12 @@
 -- The lines of the boundaries that searches find, one after another.
-use Rattle.std.proofs.Common.{◌≡◌, ℕ, zero, suc, ◌+◌, ◌-◌, ◌<◌, ◌≤◌, List, [], ◌∷◌, ◌++◌, Option, Some, None, length, cond, sym, refl, ap, ◌∙◌, ⊎_elim}
+use Rattle.std.proofs.Common.{◌≡◌, ℕ, zero, suc, ◌+◌, ◌-◌, ◌<◌, ◌≤◌, List, [], ◌∷◌, ◌++◌, length, cond, sym, refl, ap, ◌∙◌}
 use Rattle.std.proofs.Common.{append_assoc, arith}
-use Rattle.std.proofs.lemmas.Bool.{cond_both, cases_lt, lt-ltb, le-ltb}
-use Rattle.std.proofs.lemmas.List.{get_or_past, append-nil}
+use Rattle.std.proofs.lemmas.Bool.{lt-ltb, le-ltb}
+use Rattle.std.proofs.lemmas.List.{append-nil}
 use Rattle.rbbi_model.specs.Boundaries.{Boundary, start}
 use Rattle.rbbi_model.specs.Lines.{boundary_line, boundary_lines}
-use Rattle.rbbi_model.specs.Tables.{Table, accept_of, empty_head, list_of, completes}
-use Rattle.rbbi_model.specs.ValidTables.{IsValidTable}
-use Rattle.rbbi_model.specs.Searches.{row_at, search_end, cut_place, longest_place, found_longest, found, next_boundary, follow_by, table_boundaries}
+use Rattle.rbbi_model.specs.Tables.{Table}
+use Rattle.rbbi_model.specs.Searches.{next_boundary, follow_by, table_boundaries}
 
 -- the boundaries that follow one at this place, at most so many
 abbrev pub following : Table → List ℕ → ℕ → ℕ → List Boundary

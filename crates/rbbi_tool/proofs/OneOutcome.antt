@@ -41,28 +41,30 @@ use Rattle.rbbi_conform.specs.Tests.{Test}
 use Rattle.rbbi_conform.specs.Laws.{HaveOneTestList, HasOneVerdict}
 use Rattle.rbbi_demo.specs.declared.summary.Summary.{Summary}
 use Rattle.rbbi_demo.specs.Summaries.{IsSummary}
-use Rattle.rbbi_tool.specs.declared.words.command.Command.{Command}
-use Rattle.rbbi_tool.specs.declared.words.command.Command.TheVariants.{Check, Compile, Breaks, Run, Conform, Demo}
-use Rattle.rbbi_tool.specs.declared.words.setting.Property.{Property}
-use Rattle.rbbi_tool.specs.declared.files.Source.{Source}
-use Rattle.rbbi_tool.specs.declared.refusal.Subject.{Subject}
-use Rattle.rbbi_tool.specs.declared.refusal.Subject.TheVariants as subject
-use Rattle.rbbi_tool.specs.declared.refusal.Place.TheVariants.{Whole, Byte, Row}
-use Rattle.rbbi_tool.specs.declared.refusal.Refusal.{Refusal}
-use Rattle.rbbi_tool.specs.declared.refusal.Refusal.TheVariants.{Fault}
-use Rattle.rbbi_tool.specs.Stages.{Stage, followed_by, gives}
-use Rattle.rbbi_tool.specs.inner.Stages.{IsDetermined}
-use Rattle.rbbi_tool.specs.Refusals.{Outcome, refused, printed}
-use Rattle.rbbi_tool.specs.Words.{Request}
-use Rattle.rbbi_tool.specs.Files.{length_stage, lengths_stage, sources_of}
+use Rattle.rbbi_command.specs.declared.words.command.Command.{Command}
+use Rattle.rbbi_command.specs.declared.words.command.Command.TheVariants.{Check, Compile, Breaks, Run, Conform, Demo}
+use Rattle.rbbi_command.specs.declared.words.setting.Property.{Property}
+use Rattle.rbbi_command.specs.declared.inputs.Input.{Input}
+use Rattle.rbbi_command.specs.declared.files.Source.{Source}
+use Rattle.rbbi_command.specs.declared.refusal.Subject.{Subject}
+use Rattle.rbbi_command.specs.declared.refusal.Subject.TheVariants as subject
+use Rattle.rbbi_command.specs.declared.refusal.Place.TheVariants.{Whole, Byte, Row}
+use Rattle.rbbi_command.specs.declared.refusal.Refusal.{Refusal}
+use Rattle.rbbi_command.specs.declared.refusal.Refusal.TheVariants.{Fault}
+use Rattle.rbbi_command.specs.Stages.{Stage, followed_by, gives}
+use Rattle.rbbi_tool.specs.inner.Stages.{IsDeterministic}
+use Rattle.rbbi_command.specs.Refusals.{Outcome, refused, printed}
+use Rattle.rbbi_command.specs.Words.{Request}
+use Rattle.rbbi_command.specs.Files.{length_stage, lengths_stage, sources_of}
 use Rattle.rbbi_tool.specs.Texts.{TellsNotUtf8, checked_utf8_stage, utf8_stage, count_stage, text_stage}
 use Rattle.rbbi_tool.specs.Properties.{rows_stage, property_stage, properties_stage, property_files}
 use Rattle.rbbi_tool.specs.Rules.{IsTold, fault_at, rule_text_stage, tokens_stage, statements_stage, meaning_stage, rules_of_text_stage, rule_bytes_stage}
 use Rattle.rbbi_tool.specs.Rules.{rules_stage}
 use Rattle.rbbi_tool.specs.Basis.{categories_stage, sizes_stage, limits_stage, compiled_stage, table_place, table_stage}
 use Rattle.rbbi_tool.specs.Basis.{compiled_text_stage}
-use Rattle.rbbi_tool.specs.Basis.{Basis, ByRules, ByTable, AreBoundariesBy, basis_stage}
-use Rattle.rbbi_tool.specs.Reads.{bytes_of}
+use Rattle.rbbi_tool.specs.Basis.{Basis, ByRules, ByTable, AreBoundariesBy, basis_by, basis_stage}
+use Rattle.rbbi_command.specs.Settings.{Options}
+use Rattle.rbbi_command.specs.Inputs.{Inputs, inputs_of}
 use Rattle.rbbi_tool.specs.Command.Check.{counts_line}
 use Rattle.rbbi_tool.specs.Command.Compile.{TellsTable}
 use Rattle.rbbi_tool.specs.Command.Breaks.{boundaries_stage}
@@ -70,9 +72,9 @@ use Rattle.rbbi_tool.specs.Command.Run.{AreRepliesFrom, replies_stage}
 use Rattle.rbbi_tool.specs.Command.Conform.{told_verdicts, verdicts_stage}
 use Rattle.rbbi_tool.specs.Command.Demo.{demo_rules, number_stage, summary_line, summary_stage}
 use Rattle.rbbi_tool.specs.Scripts.{script_stage, tests_stage}
-use Rattle.rbbi_tool.specs.Program.{nth, words_stage, command_stage, files_stage, request_stage, run_stage, IsOutcome}
+use Rattle.rbbi_tool.specs.Program.{nth, words_stage, command_stage, request_stage, run_stage, IsOutcome}
 use Rattle.rbbi_tool.specs.Causes.{TellOneTable}
-use Rattle.rbbi_tool.proofs.Forms.{same_request}
+use Rattle.rbbi_command.proofs.Forms.{same_request}
 use Rattle.rbbi_tool.proofs.StageLemmas.{IsSettled, settled, determined_both, settled_both}
 use Rattle.rbbi_tool.proofs.OneReading.{script_determined, tests_determined, same_verdicts}
 use Rattle.rbbi_tool.proofs.LeastFaults.{same_fault, meaning_excludes}
@@ -107,7 +109,7 @@ AreAlike one other = (one ≡ other) ⊎ TellOneTable one other
 alike : (one other : Outcome) → one ≡ other → AreAlike one other
 alike one other same = inl same
 
-words_determined : (words : List (List ℕ)) → IsDetermined Request (words_stage words)
+words_determined : (words : List (List ℕ)) → IsDeterministic Request (words_stage words)
 words_determined words = record {
   value = same_request words;
   refusal = λ r s is is'. is.1 ∙ sym is'.1;
@@ -115,14 +117,14 @@ words_determined words = record {
 }
 
 -- whether files are too long is determined
-length_determined : (held : List ℕ → List ℕ) (source : Source) → IsDetermined (Unit {0}) (length_stage held source)
+length_determined : (held : List ℕ → List ℕ) (source : Source) → IsDeterministic (Unit {0}) (length_stage held source)
 length_determined held source = record {
   value = λ a b is is'. refl;
   refusal = λ r s is is'. is.1 ∙ sym is'.1;
   apart = λ a r is is'. let long = is'.0 in omega arith;
 }
 
-lengths_determined : (held : List ℕ → List ℕ) (sources : List Source) → IsDetermined (Unit {0}) (lengths_stage held sources)
+lengths_determined : (held : List ℕ → List ℕ) (sources : List Source) → IsDeterministic (Unit {0}) (lengths_stage held sources)
 lengths_determined held [] = record { value = λ a b is is'. refl; refusal = λ r s is is'. absurd is; apart = λ a r is is'. is' }
 lengths_determined held (source ∷ sources) =
     determined_both (length_stage held source) (λ _. lengths_stage held sources) (length_determined held source) (λ _. lengths_determined held sources)
@@ -132,28 +134,28 @@ not_utf8_once : (subject : Subject) (bytes : List ℕ) (r s : Refusal) → Tells
 not_utf8_once subject bytes r s (at, wrong, is) (at', wrong', is') = is ∙ ap (λ n. Fault subject (codes "NotUtf8") (Byte n))
     (wrong.at_is ∙ sym wrong'.at_is) ∙ sym is'
 
-utf8_determined : (subject : Subject) (bytes : List ℕ) → IsDetermined (List ℕ) (utf8_stage subject bytes)
+utf8_determined : (subject : Subject) (bytes : List ℕ) → IsDeterministic (List ℕ) (utf8_stage subject bytes)
 utf8_determined subject bytes = record {
   value = λ x y is is'. is.1 ∙ sym is'.1;
   refusal = not_utf8_once subject bytes;
   apart = λ x r is (at, wrong, told). wrong.not_utf8 is.0;
 }
 
-count_determined : (subject : Subject) (x : List ℕ) → IsDetermined (List ℕ) (count_stage subject x)
+count_determined : (subject : Subject) (x : List ℕ) → IsDeterministic (List ℕ) (count_stage subject x)
 count_determined subject x = record {
   value = λ y z is is'. is.0 ∙ sym is'.0;
   refusal = λ r s is is'. is.1 ∙ sym is'.1;
   apart = λ y r is is'. let few = is.1 in let many = is'.0 in omega arith;
 }
 
-checked_determined : (subject : Subject) (bytes : List ℕ) → IsDetermined (Unit {0}) (checked_utf8_stage subject bytes)
+checked_determined : (subject : Subject) (bytes : List ℕ) → IsDeterministic (Unit {0}) (checked_utf8_stage subject bytes)
 checked_determined subject bytes = record {
   value = λ x y is is'. refl;
   refusal = not_utf8_once subject bytes;
   apart = λ x r is (at, wrong, told). wrong.not_utf8 is;
 }
 
-rows_determined : (name bytes : List ℕ) → IsDetermined (Unit {0}) (rows_stage name bytes)
+rows_determined : (name bytes : List ℕ) → IsDeterministic (Unit {0}) (rows_stage name bytes)
 rows_determined name bytes = record {
   value = λ a b is is'. refl;
   refusal = λ r s (line, (k, first, at), is) (line', (k', first', at'), is').
@@ -162,7 +164,7 @@ rows_determined name bytes = record {
   apart = λ a r is (line, (k, first, at), told). let both = sym is ∙ first in absurd cc;
 }
 
-properties_determined : (properties : List Property) (handed : List (List ℕ)) → IsDetermined (Unit {0}) (properties_stage properties handed)
+properties_determined : (properties : List Property) (handed : List (List ℕ)) → IsDeterministic (Unit {0}) (properties_stage properties handed)
 properties_determined [] handed = record { value = λ a b is is'. refl; refusal = λ r s is is'. absurd is; apart = λ a r is is'. is' }
 properties_determined (p ∷ properties) [] = record { value = λ a b is is'. refl; refusal = λ r s is is'. absurd is; apart = λ a r is is'. is' }
 properties_determined (p ∷ properties) (b ∷ handed) =
@@ -172,7 +174,7 @@ properties_determined (p ∷ properties) (b ∷ handed) =
     (λ _. properties_determined properties handed)
 
 -- a stage that gives one value is determined
-gives_determined : {A : Type 0} (a : A) → IsDetermined A (gives a)
+gives_determined : {A : Type 0} (a : A) → IsDeterministic A (gives a)
 gives_determined a = record { value = λ b c is is'. is ∙ sym is'; refusal = λ r s is is'. absurd is; apart = λ b r is is'. is' }
 
 -- the limits on tables are passed or not
@@ -197,7 +199,7 @@ limit_or_within rules build.TooManyRows is some within = within.rows is.1
 limit_or_within rules build.TooManyStatuses is some within = within.statuses is.2
 limit_or_within rules build.Memory is some within = some refl
 
-limits_determined : (rules : List Rule) → IsDetermined (Unit {0}) (limits_stage rules)
+limits_determined : (rules : List Rule) → IsDeterministic (Unit {0}) (limits_stage rules)
 limits_determined rules =
     determined_both (categories_stage rules) (λ _. sizes_stage rules)
     (record { value = λ a b is is'. refl; refusal = λ r s is is'. is.1 ∙ sym is'.1; apart = λ a r is is'. is is'.0 })
@@ -210,9 +212,9 @@ limits_determined rules =
       apart = λ a r is is'. limit_or_within rules is'.error is'.passed is'.not_memory is;
     })
 
-text_determined : (name bytes : List ℕ) → IsDetermined (List ℕ) (text_stage name bytes)
-text_determined name bytes =
-    determined_both (utf8_stage _ bytes) (count_stage _) (utf8_determined _ bytes) (count_determined _)
+text_determined : (text : Input) → IsDeterministic (List ℕ) (text_stage text)
+text_determined text =
+    determined_both (utf8_stage _ text.bytes) (count_stage _) (utf8_determined _ text.bytes) (count_determined _)
 
 -- errors of which one holds alone are told alike
 told_once : {E : Type 0} (Holds : E → Type 0) (label_of : E → List ℕ) (place_of : E → Option ℕ) (x : List ℕ)
@@ -250,14 +252,14 @@ module _ (laws : Laws) where
       let same = laws.faults x one.fault other.fault one.place other.place one.is other.is in
       one.error_is ∙ ap (λ fault. error_of fault one.place) same.0 ∙ ap (λ place. error_of other.fault place) same.1 ∙ sym other.error_is
 
-  tokens_determined : (x : List ℕ) → IsDetermined (List Token) (tokens_stage x)
+  tokens_determined : (x : List ℕ) → IsDeterministic (List Token) (tokens_stage x)
   tokens_determined x = record {
     value = laws.tokens x;
     refusal = told_once (lexer.TellsFault x) lexer.label_of lexer.place_of x (same_stop x);
     apart = λ ts r are is. let one = tells_one x is.error is.place is.holds is.placed in laws.apart x ts one.fault one.place are one.is;
   }
 
-  statements_determined : (x : List ℕ) (ts : List Token) → IsDetermined (List StatementTree) (statements_stage x ts)
+  statements_determined : (x : List ℕ) (ts : List Token) → IsDeterministic (List StatementTree) (statements_stage x ts)
   statements_determined x ts = record {
     value = λ f g is is'. laws.readings ts f g is.0 is'.0;
     refusal = told_once (parser.IsRefusalOf ts (length x)) parser.label_of parser.place_of x
@@ -267,7 +269,7 @@ module _ (laws : Laws) where
 
   -- what the statements mean is determined
   meaning_determined : (files : List rows.File) (ignored : Bool) (x : List ℕ) (statements : List StatementTree)
-      → IsDetermined (List Rule) (meaning_stage files ignored x statements)
+      → IsDeterministic (List Rule) (meaning_stage files ignored x statements)
   meaning_determined files ignored x statements = record {
     value = laws.meanings files ignored statements;
     refusal = told_once (resolver.IsRefusedFor files ignored statements (length x)) resolver.label_of resolver.place_of x
@@ -276,38 +278,37 @@ module _ (laws : Laws) where
   }
 
   -- what the text of rules comes to is determined, and what a rule file comes to
-  rule_text_determined : (files : List rows.File) (ignored : Bool) (x : List ℕ) → IsDetermined (List Rule) (rules_of_text_stage files ignored x)
+  rule_text_determined : (files : List rows.File) (ignored : Bool) (x : List ℕ) → IsDeterministic (List Rule) (rules_of_text_stage files ignored x)
   rule_text_determined files ignored x =
       determined_both (tokens_stage x) (λ ts. followed_by (statements_stage x ts) (meaning_stage files ignored x)) (tokens_determined x)
       (λ ts. determined_both (statements_stage x ts) (meaning_stage files ignored x) (statements_determined x ts) (meaning_determined files ignored x))
 
-  rules_determined : (properties : List Property) (ignored : Bool) (handed : List (List ℕ)) (bytes : List ℕ)
-      → IsDetermined (List Rule) (rules_stage properties ignored handed bytes)
-  rules_determined properties ignored handed bytes =
-      let files : List rows.File = property_files properties handed in
-      determined_both (properties_stage properties handed) (λ _. rule_bytes_stage files ignored bytes) (properties_determined properties handed)
+  rules_determined : (options : Options) (inputs : Inputs) → IsDeterministic (List Rule) (rules_stage options inputs)
+  rules_determined options inputs =
+      let ignored = options.ignored in
+      let files : List rows.File = property_files options.properties inputs.properties in
+      determined_both (properties_stage options.properties inputs.properties) (λ _. rule_bytes_stage files ignored inputs.rules)
+      (properties_determined options.properties inputs.properties)
       (λ _.
-      determined_both (rule_text_stage bytes) (rules_of_text_stage files ignored)
-      (record { value = λ x y is is'. is.1 ∙ sym is'.1; refusal = not_utf8_once subject.Rules bytes; apart = λ x r is (at, wrong, told). wrong.not_utf8 is.0 })
+      determined_both (rule_text_stage inputs.rules) (rules_of_text_stage files ignored)
+      (record { value = λ x y is is'. is.1 ∙ sym is'.1; refusal = not_utf8_once subject.Rules inputs.rules; apart = λ x r is (at, wrong, told). wrong.not_utf8 is.0 })
       (rule_text_determined files ignored))
 
   -- what the table of rules comes to is determined
-  table_of_determined : (stage : Stage (List Rule)) → IsDetermined (List Rule) stage
-      → IsDetermined (List Rule) (followed_by stage (λ rules. followed_by (limits_stage rules) (λ _. gives rules)))
+  table_of_determined : (stage : Stage (List Rule)) → IsDeterministic (List Rule) stage
+      → IsDeterministic (List Rule) (followed_by stage (λ rules. followed_by (limits_stage rules) (λ _. gives rules)))
   table_of_determined stage is =
       determined_both stage (λ rules. followed_by (limits_stage rules) (λ _. gives rules)) is
       (λ rules. determined_both (limits_stage rules) (λ _. gives rules) (limits_determined rules) (λ _. gives_determined rules))
 
-  compiled_determined : (properties : List Property) (ignored : Bool) (handed : List (List ℕ)) (bytes : List ℕ)
-      → IsDetermined (List Rule) (compiled_stage properties ignored handed bytes)
-  compiled_determined properties ignored handed bytes =
-      table_of_determined (rules_stage properties ignored handed bytes) (rules_determined properties ignored handed bytes)
+  compiled_determined : (options : Options) (inputs : Inputs) → IsDeterministic (List Rule) (compiled_stage options inputs)
+  compiled_determined options inputs = table_of_determined (rules_stage options inputs) (rules_determined options inputs)
 
   -- what a table file comes to is determined
   err_same : (e f : FileErr) → (let this : Result Table FileErr = Err e in this) ≡ Err f → e ≡ f
   err_same e f same = cc
 
-  table_determined : (bytes : List ℕ) → IsDetermined Table (table_stage bytes)
+  table_determined : (bytes : List ℕ) → IsDeterministic Table (table_stage bytes)
   table_determined bytes = record {
     value = λ t u is is'. laws.tables t u is.0 is'.0 (sym is.1 ∙ is'.1);
     refusal = λ r s is is'.
@@ -318,20 +319,20 @@ module _ (laws : Laws) where
         absurd cc;
   }
 
-  basis_determined : (properties : List Property) (ignored by_table : Bool) (handed : List (List ℕ)) (bytes : List ℕ)
-      → IsDetermined Basis (basis_stage properties ignored by_table handed bytes)
-  basis_determined properties ignored false handed bytes =
-      determined_both (compiled_stage properties ignored handed bytes) (λ rules. gives (ByRules rules)) (compiled_determined properties ignored handed bytes)
+  basis_determined : (by_table : Bool) (options : Options) (inputs : Inputs) → IsDeterministic Basis (basis_by by_table options inputs)
+  basis_determined false options inputs =
+      determined_both (compiled_stage options inputs) (λ rules. gives (ByRules rules)) (compiled_determined options inputs)
       (λ rules. gives_determined (ByRules rules))
-  basis_determined properties ignored true handed bytes =
-      determined_both (table_stage bytes) (λ table. gives (ByTable table)) (table_determined bytes) (λ table. gives_determined (ByTable table))
+  basis_determined true options inputs =
+      determined_both (table_stage inputs.table) (λ table. gives (ByTable table)) (table_determined inputs.table)
+      (λ table. gives_determined (ByTable table))
 
   -- boundaries are determined
   same_boundaries : (basis : Basis) (x : List ℕ) (these those : List Boundary) → AreBoundariesBy basis x these → AreBoundariesBy basis x those → these ≡ those
   same_boundaries (ByRules rules) x these those are are' = laws.boundaries rules x these those are are'
   same_boundaries (ByTable table) x these those are are' = are ∙ sym are'
 
-  boundaries_determined : (basis : Basis) (x : List ℕ) → IsDetermined Outcome (boundaries_stage basis x)
+  boundaries_determined : (basis : Basis) (x : List ℕ) → IsDeterministic Outcome (boundaries_stage basis x)
   boundaries_determined basis x = record {
     value = λ o p (bs, are, is) (cs, are', is'). is ∙ ap (λ list. printed (boundary_lines list)) (same_boundaries basis x bs cs are are') ∙ sym is';
     refusal = λ r s is is'. absurd is;
@@ -344,7 +345,7 @@ module _ (laws : Laws) where
   same_replies (ByRules rules) x commands these those are are' = laws.replies rules x commands these those are are'
   same_replies (ByTable table) x commands these those are are' = are ∙ sym are'
 
-  replies_determined : (basis : Basis) (x : List ℕ) (commands : List scripts.Command) → IsDetermined Outcome (replies_stage basis x commands)
+  replies_determined : (basis : Basis) (x : List ℕ) (commands : List scripts.Command) → IsDeterministic Outcome (replies_stage basis x commands)
   replies_determined basis x commands = record {
     value = λ o p (rs, are, is) (ss, are', is'). is ∙ ap (λ list. printed (all_reply_lines list)) (same_replies basis x commands rs ss are are') ∙ sym is';
     refusal = λ r s is is'. absurd is;
@@ -352,7 +353,7 @@ module _ (laws : Laws) where
   }
 
   -- verdicts are determined
-  verdicts_determined : (basis : Basis) (tests : List Test) → IsDetermined Outcome (verdicts_stage basis tests)
+  verdicts_determined : (basis : Basis) (tests : List Test) → IsDeterministic Outcome (verdicts_stage basis tests)
   verdicts_determined basis tests = record {
     value = λ o p (vs, are, is) (ws, are', is').
         is ∙ ap (told_verdicts tests) (same_verdicts basis (same_boundaries basis) laws.verdicts tests vs ws are are') ∙ sym is';
@@ -361,7 +362,7 @@ module _ (laws : Laws) where
   }
 
   -- the number that a word writes is determined, and so is its summary
-  number_determined : (word : List ℕ) → IsDetermined ℕ (number_stage word)
+  number_determined : (word : List ℕ) → IsDeterministic ℕ (number_stage word)
   number_determined word = record {
     value = λ n m is is'. same_some n m (sym is.written ∙ is'.written);
     refusal = λ r s is is'. absurd is;
@@ -371,7 +372,7 @@ module _ (laws : Laws) where
       same_some : (n m : ℕ) → Some n ≡ Some m → n ≡ m
       same_some n m same = cc
 
-  summary_determined : (count : ℕ) (rules : List Rule) → IsDetermined Outcome (summary_stage count rules)
+  summary_determined : (count : ℕ) (rules : List Rule) → IsDeterministic Outcome (summary_stage count rules)
   summary_determined count rules = record {
     value = λ o p is is'.
         is.is ∙ ap (λ summary. printed (summary_line summary)) (laws.summaries rules count is.summary is'.summary is.are is'.are) ∙ sym is'.is;
@@ -392,61 +393,57 @@ module _ (laws : Laws) where
         same_line = ap (λ (o : Outcome). o.bytes) is.is ∙ counts.line ∙ sym (ap (λ (o : Outcome). o.bytes) is'.is);
       })
 
+  -- what comes by a basis is determined
+  by_basis : (options : Options) (inputs : Inputs) (next : Basis → Stage Outcome) → ((basis : Basis) → IsDeterministic Outcome (next basis))
+      → IsSettled Outcome AreAlike (followed_by (basis_stage options inputs) next)
+  by_basis options inputs next each =
+      settled AreAlike (followed_by (basis_stage options inputs) next) alike
+      (determined_both (basis_stage options inputs) next (basis_determined options.by_table options inputs) each)
+
   -- what a command answers is settled
-  command_settled : (command : Command) (request : Request) (handed files : List (List ℕ))
-      → IsSettled Outcome AreAlike (command_stage command request handed files)
-  command_settled Run request handed files =
-      let script = script_stage (nth request.operands 2) (nth files 2) in
-      settled AreAlike (command_stage Run request handed files) alike
-      (determined_both (basis_stage request.properties request.ignored request.by_table handed (nth files 0))
-      (λ basis. followed_by (text_stage (nth request.operands 1) (nth files 1)) (λ x. followed_by script (replies_stage basis x)))
-      (basis_determined request.properties request.ignored request.by_table handed (nth files 0))
-      (λ basis. determined_both (text_stage (nth request.operands 1) (nth files 1)) (λ x. followed_by script (replies_stage basis x))
-      (text_determined (nth request.operands 1) (nth files 1))
-      (λ x. determined_both script (replies_stage basis x)
-      (script_determined laws.scripts (nth request.operands 2) (nth files 2)) (replies_determined basis x))))
-  command_settled Conform request handed files =
-      let tests = tests_stage (nth request.operands 1) (nth files 1) in
-      settled AreAlike (command_stage Conform request handed files) alike
-      (determined_both (basis_stage request.properties request.ignored request.by_table handed (nth files 0))
-      (λ basis. followed_by tests (verdicts_stage basis))
-      (basis_determined request.properties request.ignored request.by_table handed (nth files 0))
-      (λ basis. determined_both tests (verdicts_stage basis) (tests_determined laws.tests (nth request.operands 1) (nth files 1)) (verdicts_determined basis)))
-  command_settled Demo request handed files =
+  command_settled : (command : Command) (request : Request) (inputs : Inputs) → IsSettled Outcome AreAlike (command_stage command request inputs)
+  command_settled Run request inputs =
+      let text = text_stage inputs.text in
+      let script = script_stage inputs.script in
+      by_basis request.options inputs (λ basis. followed_by text (λ x. followed_by script (replies_stage basis x)))
+      (λ basis. determined_both text (λ x. followed_by script (replies_stage basis x)) (text_determined inputs.text)
+      (λ x. determined_both script (replies_stage basis x) (script_determined laws.scripts inputs.script) (replies_determined basis x)))
+  command_settled Conform request inputs =
+      let tests = tests_stage inputs.tests in
+      by_basis request.options inputs (λ basis. followed_by tests (verdicts_stage basis))
+      (λ basis. determined_both tests (verdicts_stage basis) (tests_determined laws.tests inputs.tests) (verdicts_determined basis))
+  command_settled Breaks request inputs =
+      let text = text_stage inputs.text in
+      by_basis request.options inputs (λ basis. followed_by text (boundaries_stage basis))
+      (λ basis. determined_both text (boundaries_stage basis) (text_determined inputs.text) (boundaries_determined basis))
+  command_settled Demo request inputs =
       let word : List ℕ = nth request.operands 0 in
-      settled AreAlike (command_stage Demo request handed files) alike
+      settled AreAlike (command_stage Demo request inputs) alike
       (determined_both (number_stage word) (λ count. followed_by (compiled_text_stage (chars demo_rules)) (summary_stage count)) (number_determined word)
       (λ count. determined_both (compiled_text_stage (chars demo_rules)) (summary_stage count)
       (table_of_determined (rules_of_text_stage [] false (chars demo_rules)) (rule_text_determined [] false (chars demo_rules))) (summary_determined count)))
-  command_settled Check request handed files =
-      settled AreAlike (command_stage Check request handed files) alike
-      (determined_both (rules_stage request.properties request.ignored handed (nth files 0)) (λ rules. gives (printed (counts_line rules)))
-      (rules_determined request.properties request.ignored handed (nth files 0)) (λ rules. gives_determined (printed (counts_line rules))))
-  command_settled Compile request handed files =
-      settled_both (compiled_stage request.properties request.ignored handed (nth files 0))
+  command_settled Check request inputs =
+      settled AreAlike (command_stage Check request inputs) alike
+      (determined_both (rules_stage request.options inputs) (λ rules. gives (printed (counts_line rules)))
+      (rules_determined request.options inputs) (λ rules. gives_determined (printed (counts_line rules))))
+  command_settled Compile request inputs =
+      settled_both (compiled_stage request.options inputs)
       (λ rules. record { passes = TellsTable rules (nth request.operands 1); refuses = λ _. ⊥ }) AreAlike
-      (compiled_determined request.properties request.ignored handed (nth files 0))
+      (compiled_determined request.options inputs)
       (λ rules mean. record {
         value = told_alike rules (nth request.operands 1);
         refusal = λ r s is is'. absurd is;
         apart = λ o r is is'. is';
       })
-  command_settled Breaks request handed files =
-      settled AreAlike (command_stage Breaks request handed files) alike
-      (determined_both (basis_stage request.properties request.ignored request.by_table handed (nth files 0))
-      (λ basis. followed_by (text_stage (nth request.operands 1) (nth files 1)) (boundaries_stage basis))
-      (basis_determined request.properties request.ignored request.by_table handed (nth files 0))
-      (λ basis. determined_both (text_stage (nth request.operands 1) (nth files 1)) (boundaries_stage basis)
-      (text_determined (nth request.operands 1) (nth files 1)) (boundaries_determined basis)))
 
   -- a run over files that tell what they hold is settled
   run_settled : (words : List (List ℕ)) (held : List ℕ → List ℕ) → IsSettled Outcome AreAlike (run_stage words held)
   run_settled words held =
       settled_both (words_stage words) (request_stage held) AreAlike (words_determined words)
       (λ request asks.
-      settled_both (lengths_stage held (sources_of request)) (λ _. files_stage request (bytes_of held (sources_of request))) AreAlike
-      (lengths_determined held (sources_of request))
-      (λ _ short. command_settled request.command request _ _))
+      settled_both (lengths_stage held (sources_of request)) (λ _. command_stage request.command request (inputs_of held (sources_of request)))
+      AreAlike (lengths_determined held (sources_of request))
+      (λ _ short. command_settled request.command request (inputs_of held (sources_of request))))
 
   pub same_outcome : (words : List (List ℕ)) (held : List ℕ → List ℕ) → (one other : Outcome) → IsOutcome words held one
       → IsOutcome words held other → AreAlike one other

@@ -9,7 +9,8 @@ use Rattle.rbbi_conform.specs.Tests.{Test}
 use Rattle.rbbi_conform.specs.declared.verdict.Verdict.{Verdict}
 use Rattle.rbbi_conform.specs.Verdicts.{IsVerdict}
 use Rattle.rbbi_conform.specs.Laws.{HaveOneTestList, HasOneVerdict}
-use Rattle.rbbi_tool.specs.inner.Stages.{IsDetermined}
+use Rattle.rbbi_command.specs.declared.inputs.Input.{Input}
+use Rattle.rbbi_tool.specs.inner.Stages.{IsDeterministic}
 use Rattle.rbbi_tool.specs.Basis.{Basis, AreBoundariesBy}
 use Rattle.rbbi_tool.specs.Scripts.{lines_fault, script_stage, tests_stage}
 use Rattle.rbbi_tool.specs.Command.Conform.{AreVerdictsBy}
@@ -26,28 +27,28 @@ module _ {A E : Type 0} where
   no_error a e same = cc
 
 -- what a script comes to is determined
-pub script_determined : HaveOneScript → (name bytes : List ℕ) → IsDetermined (List Command) (script_stage name bytes)
-script_determined law name bytes = record {
+pub script_determined : HaveOneScript → (script : Input) → IsDeterministic (List Command) (script_stage script)
+script_determined law script = record {
   value = λ cs ds is is'.
-      let same = law bytes (Ok is.written) (Ok is'.written) is.read is'.read (λ e. no_error _ _ e) (λ e. no_error _ _ e) in
+      let same = law script.bytes (Ok is.written) (Ok is'.written) is.read is'.read (λ e. no_error _ _ e) (λ e. no_error _ _ e) in
       is.mean ∙ ap (map meaning) (value_of is.written is'.written same) ∙ sym is'.mean;
   refusal = λ r s is is'.
-      let same = law bytes (Err is.error) (Err is'.error) is.refused is'.refused (λ e. is.not_memory (error_of _ _ e)) (λ e. is'.not_memory (error_of _ _ e)) in
-      is.is ∙ ap (lines_fault name) (error_of is.error is'.error same) ∙ sym is'.is;
+      let same = law script.bytes (Err is.error) (Err is'.error) is.refused is'.refused (λ e. is.not_memory (error_of _ _ e)) (λ e. is'.not_memory (error_of _ _ e)) in
+      is.is ∙ ap (lines_fault script.name) (error_of is.error is'.error same) ∙ sym is'.is;
   apart = λ cs r is is'.
       no_error is.written is'.error
-      (law bytes (Ok is.written) (Err is'.error) is.read is'.refused (λ e. no_error _ _ e) (λ e. is'.not_memory (error_of _ _ e)));
+      (law script.bytes (Ok is.written) (Err is'.error) is.read is'.refused (λ e. no_error _ _ e) (λ e. is'.not_memory (error_of _ _ e)));
 }
 
 -- what a test file comes to is determined
-pub tests_determined : HaveOneTestList → (name bytes : List ℕ) → IsDetermined (List Test) (tests_stage name bytes)
-tests_determined law name bytes = record {
-  value = λ ts us is is'. value_of ts us (law bytes (Ok ts) (Ok us) is is' (λ e. no_error _ _ e) (λ e. no_error _ _ e));
+pub tests_determined : HaveOneTestList → (tests : Input) → IsDeterministic (List Test) (tests_stage tests)
+tests_determined law tests = record {
+  value = λ ts us is is'. value_of ts us (law tests.bytes (Ok ts) (Ok us) is is' (λ e. no_error _ _ e) (λ e. no_error _ _ e));
   refusal = λ r s is is'.
-      let same = law bytes (Err is.error) (Err is'.error) is.refused is'.refused (λ e. is.not_memory (error_of _ _ e)) (λ e. is'.not_memory (error_of _ _ e)) in
-      is.is ∙ ap (lines_fault name) (error_of is.error is'.error same) ∙ sym is'.is;
+      let same = law tests.bytes (Err is.error) (Err is'.error) is.refused is'.refused (λ e. is.not_memory (error_of _ _ e)) (λ e. is'.not_memory (error_of _ _ e)) in
+      is.is ∙ ap (lines_fault tests.name) (error_of is.error is'.error same) ∙ sym is'.is;
   apart = λ ts r is is'.
-      no_error ts is'.error (law bytes (Ok ts) (Err is'.error) is is'.refused (λ e. no_error _ _ e) (λ e. is'.not_memory (error_of _ _ e)));
+      no_error ts is'.error (law tests.bytes (Ok ts) (Err is'.error) is is'.refused (λ e. no_error _ _ e) (λ e. is'.not_memory (error_of _ _ e)));
 }
 
 -- tests have one list of verdicts, where each text has one list of boundaries

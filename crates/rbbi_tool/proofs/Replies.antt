@@ -8,7 +8,7 @@ use Rattle.rbbi_model.specs.Compiled.{GivesBoundaries}
 use Rattle.rbbi_model.specs.Scripts.{Command, AreReplies, table_replies, InsertsText}
 use Rattle.rbbi_tool.specs.Basis.{Basis, ByRules, ByTable}
 use Rattle.rbbi_tool.specs.Command.Run.{AreRepliesFrom}
-use Rattle.rbbi_tool.proofs.BasisLemmas.{GivesThem}
+use Rattle.rbbi_tool.proofs.Bases.{GivesThem}
 
 -- the replies that a table gives
 pub replies_given : (basis : Basis) (table : Table) (x : List ℕ) (commands : List Command)

@@ -6,31 +6,32 @@ use Rattle.std.proofs.lemmas.Bool.{cases_lt}
 use Rattle.rbbi_io.specs.Counts.{Rose, EachStays}
 use Rattle.rbbi_io.specs.Answers.{WhereTold}
 use Rattle.rbbi_io.specs.Sinks.{Takes, TakesFront}
-use Rattle.rbbi_tool.specs.declared.files.Source.{Source}
-use Rattle.rbbi_tool.specs.declared.refusal.Subject.{Subject}
-use Rattle.rbbi_tool.specs.declared.refusal.Subject.TheVariants.{Rules, Table, File}
-use Rattle.rbbi_tool.specs.declared.refusal.Refusal.{Refusal}
-use Rattle.rbbi_tool.specs.declared.refusal.Refusal.TheVariants.{Usage, Unread, Fault, Memory}
+use Rattle.rbbi_command.specs.declared.files.Source.{Source}
+use Rattle.rbbi_command.specs.declared.refusal.Subject.{Subject}
+use Rattle.rbbi_command.specs.declared.refusal.Subject.TheVariants.{Rules, Table, File}
+use Rattle.rbbi_command.specs.declared.refusal.Refusal.{Refusal}
+use Rattle.rbbi_command.specs.declared.refusal.Refusal.TheVariants.{Usage, Unread, Fault, Memory}
 use Rattle.rbbi_tool.specs.inner.Stages.{Meets}
-use Rattle.rbbi_tool.specs.Refusals.{Outcome, Written, status_of_subject}
+use Rattle.rbbi_command.specs.Refusals.{Outcome, Written, status_of_subject}
 use Rattle.rbbi_model.specs.Lines.{usage_line}
-use Rattle.rbbi_tool.specs.Words.{Request, Asks, AreNoForm}
-use Rattle.rbbi_tool.specs.Files.{sources_of, lengths_stage}
-use Rattle.rbbi_tool.specs.inner.Reads.{EndsReading, AreRead}
-use Rattle.rbbi_tool.specs.Reads.{MakesSomeReads, bytes_of}
-use Rattle.rbbi_tool.specs.Program.{files_stage, run_stage, IsOutcome}
-use Rattle.rbbi_tool.specs.Delivery.{HoldsFile}
-use Rattle.rbbi_tool.specs.inner.Delivery.{FileFailed, OthersUncounted, EachHoldsOrIsFile}
+use Rattle.rbbi_command.specs.Words.{Request, IsCommandLine, AreNoForm}
+use Rattle.rbbi_command.specs.Files.{sources_of, lengths_stage}
+use Rattle.rbbi_command.specs.Reads.{EndsReading, AreRead}
+use Rattle.rbbi_command.specs.Inputs.{Inputs, inputs_of}
+use Rattle.rbbi_command.specs.Reads.{MakesSomeReads}
+use Rattle.rbbi_tool.specs.Program.{command_stage, run_stage, IsOutcome}
+use Rattle.rbbi_command.specs.Delivery.{HoldsFile}
+use Rattle.rbbi_command.specs.Delivery.{FileFailed, OthersUncounted, EachHoldsOrIsOutputFile}
 use Rattle.rbbi_tool.specs.Causes.{NamesToWrite, IsWrittenBy, TellsFailedRead, NoReadFailed, IsPartOfAnswer, TakesPart}
-use Rattle.rbbi_tool.specs.inner.Causes.{ComesTo, Tells, IsAnswer}
+use Rattle.rbbi_tool.specs.inner.Causes.{ComesTo, GivesOutcome, IsAnswer}
 use Rattle.rbbi_tool.specs.Causes.{TakesOutcome, TakesFailedRead}
 use Rattle.rbbi_tool.specs.Causes.{EachHolds, SomeWriteFailed, OthersUnwritten}
-use Rattle.rbbi_tool.proofs.Forms.{same_request}
-use Rattle.rbbi_tool.proofs.Reading.{all_told, always_told}
+use Rattle.rbbi_command.proofs.Forms.{same_request}
+use Rattle.rbbi_command.proofs.Reading.{all_told, always_told}
 use Rattle.rbbi_tool.proofs.Faults.{IsFault, command_fault}
 use Rattle.rbbi_tool.proofs.Commands.{command_told}
 
-module _ (words : List (List ℕ)) (contents : Option (List ℕ → List ℕ)) (before now : List ℕ → ℕ) (request : Request) (asks : Asks words request) where
+module _ (words : List (List ℕ)) (contents : Option (List ℕ → List ℕ)) (before now : List ℕ → ℕ) (request : Request) (asks : IsCommandLine words request) where
   -- reading the files ends the run
   pub ends_run : (sources : List Source) (r : Refusal) → sources ≡ sources_of request → EndsReading sources contents before now r
       → ComesTo words contents before now (Err r)
@@ -57,35 +58,40 @@ module _ (words : List (List ℕ)) (contents : Option (List ℕ → List ℕ)) (
   named None written = tt
   named (Some file) written = record { request = request; asks = asks; written = written }
 
+  -- the files are within their limits, and what holds of the inputs holds of what the files hold
+  abbrev Holds : (Inputs → Type 0) → (List ℕ → List ℕ) → Type 0
+  Holds P held = (lengths_stage held (sources_of request)).passes tt × P (inputs_of held (sources_of request))
+
+  over : (sources : List Source) (inputs : Inputs) (P : Inputs → Type 0) → sources ≡ sources_of request → IfSome contents (AreRead sources inputs)
+      → P inputs → IfSome contents (Holds P)
+  over sources inputs P same read p =
+      all_told contents (AreRead sources inputs) (Holds P) read
+      (λ held (are, short). (subst (λ ss. (lengths_stage held ss).passes tt) same short, subst P (are ∙ ap (inputs_of held) same) p))
+
   -- the command ends the run
-  pub command_ends : (sources : List Source) (bytes : List (List ℕ)) (result : Result Outcome Refusal) → sources ≡ sources_of request → IfSome contents
-      (AreRead sources bytes)
-      → Meets (λ outcome. outcome) (files_stage request bytes) result → ComesTo words contents before now result
-  command_ends sources bytes (Ok outcome) same read met =
-      let told = command_told request.command request _ _ outcome refl asks.count met in (
+  pub command_ends : (sources : List Source) (inputs : Inputs) (result : Result Outcome Refusal) → sources ≡ sources_of request
+      → IfSome contents (AreRead sources inputs)
+      → Meets (λ outcome. outcome) (command_stage request.command request inputs) result → ComesTo words contents before now result
+  command_ends sources inputs (Ok outcome) same read met =
+      let told = command_told request.command request inputs outcome refl asks.count met in
+      let Passes = λ (i : Inputs). (command_stage request.command request i).passes outcome in (
         told.status,
         λ none. none request asks,
         named outcome.file told.file,
-        all_told contents (AreRead sources bytes) (λ held. (run_stage words held).passes outcome) read
-            (λ held (bytes_are, short).
-            let short' : (lengths_stage held (sources_of request)).passes tt = subst (λ ss. (lengths_stage held ss).passes tt) same short in (
-              request,
-              asks,
-              (tt, short', subst (λ bs. (files_stage request bs).passes outcome) (bytes_are ∙ ap (λ ss. bytes_of held ss) same) met),
-            )),
+        all_told contents (Holds Passes) (λ held. (run_stage words held).passes outcome) (over sources inputs Passes same read met)
+            (λ held (short, passes). (request, asks, (tt, short, passes))),
       )
-  command_ends sources bytes (Err r) same read met =
+  command_ends sources inputs (Err r) same read met =
       ⊎_elim (λ memory. subst (λ s. ComesTo words contents before now (Err s)) (sym memory) tt)
       (λ refuses.
-      fault_ends r (command_fault request.command request _ _ r refuses)
-      (all_told contents (AreRead sources bytes) (λ held. (run_stage words held).refuses r) read
-      (λ held (bytes_are, short).
-      let short' : (lengths_stage held (sources_of request)).passes tt = subst (λ ss. (lengths_stage held ss).passes tt) same short in
-      inr (request, asks, inr (tt, short', subst (λ bs. (files_stage request bs).refuses r) (bytes_are ∙ ap (λ ss. bytes_of held ss) same) refuses)))))
+      let Refuses = λ (i : Inputs). (command_stage request.command request i).refuses r in
+      fault_ends r (command_fault request.command request inputs r refuses)
+      (all_told contents (Holds Refuses) (λ held. (run_stage words held).refuses r) (over sources inputs Refuses same read refuses)
+      (λ held (short, refuses). inr (request, asks, inr (tt, short, refuses)))))
       met
 
 -- the files are read in the order of the one request that the words ask for
-pub ordered : (words : List (List ℕ)) (contents : Option (List ℕ → List ℕ)) (here request : Request) → Asks words request → Asks words here
+pub ordered : (words : List (List ℕ)) (contents : Option (List ℕ → List ℕ)) (here request : Request) → IsCommandLine words request → IsCommandLine words here
     → (sources : List Source) → sources ≡ sources_of here → (before now : List ℕ → ℕ) → IfSome contents (MakesSomeReads sources before now)
     → IfSome contents (MakesSomeReads (sources_of request) before now)
 ordered words contents here request asks asks' sources is before now made =
@@ -115,7 +121,7 @@ module _ (words : List (List ℕ)) (contents : Option (List ℕ → List ℕ)) (
   no_file_told none = subst (λ f. IfSome f (λ f. NamesToWrite words f.name)) (sym none) tt
 
   -- what is told is what the program answers
-  pub is_answer : (result : Result Outcome Refusal) → ComesTo words contents before now result → Tells result outcome
+  pub is_answer : (result : Result Outcome Refusal) → ComesTo words contents before now result → GivesOutcome result outcome
       → IsAnswer words contents before now outcome
   is_answer (Ok output) comes told =
       let status : outcome.status ≡ output.status = ap (λ o. o.status) told in
@@ -206,12 +212,12 @@ module _ (words : List (List ℕ)) (contents contents' : Option (List ℕ → Li
 
   -- the sink took nothing, or a front of the answer after its file was held
   pub takes_front : (outcome : Outcome) (writes writes' : List ℕ → ℕ) → IsAnswer words contents before now outcome
-      → TakesFront taken taken' outcome.bytes → WhereTold contents contents' (EachHoldsOrIsFile outcome.file writes writes')
+      → TakesFront taken taken' outcome.bytes → WhereTold contents contents' (EachHoldsOrIsOutputFile outcome.file writes writes')
       → (taken' ≡ taken) ⊎ WhereTold contents contents' (HoldsFile outcome.file)
       → WhereTold contents contents' (TakesPart words before now taken taken')
   takes_front outcome writes writes' answer front each file_first =
       ⊎_elim
-      (λ same. takes_no_part (EachHoldsOrIsFile outcome.file writes writes') same each)
+      (λ same. takes_no_part (EachHoldsOrIsOutputFile outcome.file writes writes') same each)
       (λ holds.
       held_more contents contents' (λ held held'. IsPartOfAnswer words before now held held' (take front.0 outcome.bytes))
       (TakesPart words before now taken taken') (front_of_answer words contents before now outcome front.0 contents' answer holds)
@@ -258,18 +264,18 @@ module _ (words : List (List ℕ)) (contents contents' : Option (List ℕ → Li
       (λ held held' is file. record { outcome = outcome; is = is; status_is = sym same; takes = takes; holds = file })
 
   -- each name holds what it held, or is that of the outcome's file
-  pub each_holds : (writes writes' : List ℕ → ℕ) → WhereTold contents contents' (EachHoldsOrIsFile outcome.file writes writes')
+  pub each_holds : (writes writes' : List ℕ → ℕ) → WhereTold contents contents' (EachHoldsOrIsOutputFile outcome.file writes writes')
       → WhereTold contents contents' (EachHolds words writes writes')
   each_holds writes writes' told =
       ⊎_elim
       (λ low.
-      both_held contents contents' (λ held. IsOutcome words held outcome) (EachHoldsOrIsFile outcome.file writes writes') (EachHolds words writes writes')
+      both_held contents contents' (λ held. IsOutcome words held outcome) (EachHoldsOrIsOutputFile outcome.file writes writes') (EachHolds words writes writes')
       (answer.is (λ six. omega arith)) told
       (λ held held' is each name. ⊎_elim inl (λ file. inr (record { outcome = outcome; is = is; bytes = file.bytes; file = file.is; holds = file.holds }))
       (each name)))
       (λ high.
       let none : outcome.file ≡ None = answer.no_file (omega arith) in
-      held_more contents contents' (EachHoldsOrIsFile outcome.file writes writes') (EachHolds words writes writes') told
+      held_more contents contents' (EachHoldsOrIsOutputFile outcome.file writes writes') (EachHolds words writes writes') told
       (λ held held' each name. ⊎_elim inl (λ file. absurd (cc (none, file.is))) (each name)))
       (cases_lt outcome.status 6)
 
@@ -305,7 +311,7 @@ pub record IsDelivered (words : List (List ℕ)) (contents contents' : Option (L
   pub failed : result ≡ 7 → Rose faults faults' ⊎ FileFailed outcome.file writes writes'
   pub front : TakesFront taken taken' outcome.bytes
   pub file_first : (taken' ≡ taken) ⊎ WhereTold contents contents' (HoldsFile outcome.file)
-  pub each : WhereTold contents contents' (EachHoldsOrIsFile outcome.file writes writes')
+  pub each : WhereTold contents contents' (EachHoldsOrIsOutputFile outcome.file writes writes')
   pub others : OnSome contents (OthersUncounted outcome.file writes writes')
 
 module _ {words : List (List ℕ)} {contents contents' : Option (List ℕ → List ℕ)} {reads reads' writes writes' : List ℕ → ℕ}
@@ -366,7 +372,7 @@ pub from_start : (words : List (List ℕ)) (k0 k1 k2 : Option (List ℕ → List
     → IsAnswer words k0 r0 r1 outcome → (result ≡ outcome.status) ⊎ ((result ≡ 7) ⊎ (result ≡ 8)) → (result ≤ 6 → Takes taken taken' outcome.bytes)
     → (result ≤ 6 → WhereTold k1 k2 (HoldsFile outcome.file)) → (result ≡ 7 → Rose faults faults' ⊎ FileFailed outcome.file w1 w2)
     → TakesFront taken taken' outcome.bytes → (taken' ≡ taken) ⊎ WhereTold k1 k2 (HoldsFile outcome.file)
-    → WhereTold k1 k2 (EachHoldsOrIsFile outcome.file w1 w2) → OnSome k1 (OthersUncounted outcome.file w1 w2)
+    → WhereTold k1 k2 (EachHoldsOrIsOutputFile outcome.file w1 w2) → OnSome k1 (OthersUncounted outcome.file w1 w2)
     → IsDelivered words k0 k2 r0 r2 w0 w2 taken taken' faults faults' outcome result
 from_start words k0 k1 k2 r0 r1 r2 w0 w1 w2 taken taken' faults faults' outcome result same reads writes answer status takes holds failed front first each
     others =
@@ -380,7 +386,7 @@ from_start words k0 k1 k2 r0 r1 r2 w0 w1 w2 taken taken' faults faults' outcome 
       failed = λ seven. subst (λ w. Rose faults faults' ⊎ FileFailed outcome.file w w2) writes_are (failed seven);
       front = front;
       file_first = subst (λ k. (taken' ≡ taken) ⊎ WhereTold k k2 (HoldsFile outcome.file)) same first;
-      each = subst (λ k. WhereTold k k2 (EachHoldsOrIsFile outcome.file w0 w2)) same
-          (subst (λ w. WhereTold k1 k2 (EachHoldsOrIsFile outcome.file w w2)) writes_are each);
+      each = subst (λ k. WhereTold k k2 (EachHoldsOrIsOutputFile outcome.file w0 w2)) same
+          (subst (λ w. WhereTold k1 k2 (EachHoldsOrIsOutputFile outcome.file w w2)) writes_are each);
       others = subst (λ k. OnSome k (OthersUncounted outcome.file w0 w2)) same (subst (λ w. OnSome k1 (OthersUncounted outcome.file w w2)) writes_are others);
     }

@@ -1,10 +1,10 @@
 -- Stages in a row: how they pass and refuse, and that they are determined where each of them is.
 use Rattle.std.proofs.Common.{◌≡◌, ◌⊎◌, inl, inr, ⊎_elim, subst}
 use Rattle.std.specs.Prelude.{Result, Ok, Err}
-use Rattle.rbbi_tool.specs.declared.refusal.Refusal.{Refusal}
-use Rattle.rbbi_tool.specs.declared.refusal.Refusal.TheVariants.{Memory}
-use Rattle.rbbi_tool.specs.Stages.{Stage, followed_by}
-use Rattle.rbbi_tool.specs.inner.Stages.{Meets, IsDetermined}
+use Rattle.rbbi_command.specs.declared.refusal.Refusal.{Refusal}
+use Rattle.rbbi_command.specs.declared.refusal.Refusal.TheVariants.{Memory}
+use Rattle.rbbi_command.specs.Stages.{Stage, followed_by}
+use Rattle.rbbi_tool.specs.inner.Stages.{Meets, IsDeterministic}
 
 -- the stage doesn't both pass and refuse, it refuses in one way alone, and values that it passes with are so related
 pub record IsSettled (A : Type 0) (R : A → A → Type 0) (stage : Stage A) : Type 0 where
@@ -13,7 +13,7 @@ pub record IsSettled (A : Type 0) (R : A → A → Type 0) (stage : Stage A) : T
   pub apart : (a : A) (r : Refusal) → stage.passes a → stage.refuses r → ⊥
 
 -- a determined stage is settled
-pub settled : {A : Type 0} (R : A → A → Type 0) (stage : Stage A) → ((a b : A) → a ≡ b → R a b) → IsDetermined A stage → IsSettled A R stage
+pub settled : {A : Type 0} (R : A → A → Type 0) (stage : Stage A) → ((a b : A) → a ≡ b → R a b) → IsDeterministic A stage → IsSettled A R stage
 settled R stage same is = record { value = λ a b p q. same a b (is.value a b p q); refusal = is.refusal; apart = is.apart }
 
 module _ {A B : Type 0} (first : Stage A) (next : A → Stage B) where
@@ -33,7 +33,7 @@ module _ {A B : Type 0} (first : Stage A) (next : A → Stage B) where
   goes_on view a (Err refusal) passed met = stops_next a refusal passed met
 
   -- of a determined stage and a settled one the row is settled
-  pub settled_both : (R : B → B → Type 0) → IsDetermined A first → ((a : A) → first.passes a → IsSettled B R (next a)) → IsSettled B R (followed_by first next)
+  pub settled_both : (R : B → B → Type 0) → IsDeterministic A first → ((a : A) → first.passes a → IsSettled B R (next a)) → IsSettled B R (followed_by first next)
   settled_both R one each = record {
     value = λ b c (a, passed, is) (a', passed', is').
         (each a' passed').value b c (subst (λ v. (next v).passes b) (one.value a a' passed passed') is) is';
@@ -54,7 +54,7 @@ module _ {A B : Type 0} (first : Stage A) (next : A → Stage B) where
   }
 
   -- two determined stages in a row are determined
-  pub determined_both : IsDetermined A first → ((a : A) → IsDetermined B (next a)) → IsDetermined B (followed_by first next)
+  pub determined_both : IsDeterministic A first → ((a : A) → IsDeterministic B (next a)) → IsDeterministic B (followed_by first next)
   determined_both one each =
       let both = settled_both (λ b c. b ≡ c) one (λ a _. settled (λ b c. b ≡ c) (next a) (λ b c same. same) (each a)) in
       record { value = both.value; refusal = both.refusal; apart = both.apart }

@@ -13,7 +13,7 @@ use Rattle.rbbi_conform.specs.Verdicts.{IsVerdict}
 use Rattle.rbbi_tool.specs.Basis.{Basis}
 use Rattle.rbbi_tool.specs.Command.Conform.{AreVerdictsBy, is_passed, test_lines, differing_lines, passed_count, failed_count}
 use Rattle.rbbi_tool.specs.inner.Judging.{AreVerdictsIn, TellsVerdicts}
-use Rattle.rbbi_tool.proofs.BasisLemmas.{GivesThem, boundaries_given}
+use Rattle.rbbi_tool.proofs.Bases.{GivesThem, boundaries_given}
 
 -- What verdicts on the tests that are left come to behind those so far.
 pub record AreJudgedTo (table : Table) (tests : List Test) (lines : List ℕ) (passed failed i : ℕ) : Type 0 where

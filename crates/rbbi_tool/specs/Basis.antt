@@ -16,13 +16,14 @@ use Rattle.rbbi_file.specs.declared.error.FileErr.{FileErr}
 use Rattle.rbbi_file.specs.declared.error.FileErr.TheVariants as file
 use Rattle.rbbi_file.specs.Errors as reader
 use Rattle.rbbi_file.specs.Answers.{ReadsTable}
-use Rattle.rbbi_tool.specs.declared.words.setting.Property.{Property}
-use Rattle.rbbi_tool.specs.declared.refusal.Subject.TheVariants as subject
-use Rattle.rbbi_tool.specs.declared.refusal.Place.{Place}
-use Rattle.rbbi_tool.specs.declared.refusal.Place.TheVariants.{Whole, Byte}
-use Rattle.rbbi_tool.specs.declared.refusal.Refusal.{Refusal}
-use Rattle.rbbi_tool.specs.declared.refusal.Refusal.TheVariants.{Fault}
-use Rattle.rbbi_tool.specs.Stages.{Stage, followed_by, gives}
+use Rattle.rbbi_command.specs.Settings.{Options}
+use Rattle.rbbi_command.specs.Inputs.{Inputs}
+use Rattle.rbbi_command.specs.declared.refusal.Subject.TheVariants as subject
+use Rattle.rbbi_command.specs.declared.refusal.Place.{Place}
+use Rattle.rbbi_command.specs.declared.refusal.Place.TheVariants.{Whole, Byte}
+use Rattle.rbbi_command.specs.declared.refusal.Refusal.{Refusal}
+use Rattle.rbbi_command.specs.declared.refusal.Refusal.TheVariants.{Fault}
+use Rattle.rbbi_command.specs.Stages.{Stage, followed_by, gives}
 use Rattle.rbbi_tool.specs.Rules.{rules_stage, rules_of_text_stage}
 
 -- there are at most 255 categories, category 0 counted, or more
@@ -48,9 +49,8 @@ abbrev pub limits_stage : List Rule → Stage (Unit {0})
 limits_stage rules = followed_by (categories_stage rules) (λ _. sizes_stage rules)
 
 -- the rules of a rule file that has a table
-abbrev pub compiled_stage : List Property → Bool → List (List ℕ) → List ℕ → Stage (List Rule)
-compiled_stage properties ignored handed bytes =
-    followed_by (rules_stage properties ignored handed bytes) (λ rules. followed_by (limits_stage rules) (λ _. gives rules))
+abbrev pub compiled_stage : Options → Inputs → Stage (List Rule)
+compiled_stage options inputs = followed_by (rules_stage options inputs) (λ rules. followed_by (limits_stage rules) (λ _. gives rules))
 
 -- the rules of a text that has a table, without property files
 abbrev pub compiled_text_stage : List ℕ → Stage (List Rule)
@@ -87,7 +87,10 @@ abbrev pub IsTableOf : Table → Basis → Type 0
 IsTableOf table (ByRules rules) = IsCompiled table rules
 IsTableOf table (ByTable other) = other ≡ table
 
--- what a rule file gives, or a table file
-abbrev pub basis_stage : List Property → Bool → Bool → List (List ℕ) → List ℕ → Stage Basis
-basis_stage properties ignored false handed bytes = followed_by (compiled_stage properties ignored handed bytes) (λ rules. gives (ByRules rules))
-basis_stage properties ignored true handed bytes = followed_by (table_stage bytes) (λ table. gives (ByTable table))
+-- what a table file gives, or a rule file
+abbrev pub basis_by : Bool → Options → Inputs → Stage Basis
+basis_by false options inputs = followed_by (compiled_stage options inputs) (λ rules. gives (ByRules rules))
+basis_by true options inputs = followed_by (table_stage inputs.table) (λ table. gives (ByTable table))
+
+abbrev pub basis_stage : Options → Inputs → Stage Basis
+basis_stage options inputs = basis_by options.by_table options inputs

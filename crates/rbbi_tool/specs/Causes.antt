@@ -1,37 +1,35 @@
 -- What a run of the program answers and writes, and why.
-use Rattle.std.specs.Prelude.{◌≡◌, ◌≢◌, ◌⊎◌, ◌≤◌, ℕ, List, [], take, slice_get, Option, Some, None, IfSome, Result, Ok, Err}
-use Rattle.rbbi_model.specs.Lines.{usage_line, unread_line}
+use Rattle.std.specs.Prelude.{◌≡◌, ◌⊎◌, ℕ, List, [], take, slice_get, Option, Some}
+use Rattle.rbbi_model.specs.Lines.{unread_line}
 use Rattle.rbbi_model.specs.Rules.{Rule}
 use Rattle.rbbi_io.specs.Counts.{Rose}
 use Rattle.rbbi_io.specs.Sinks.{Takes}
-use Rattle.rbbi_tool.specs.declared.files.Source.{Source}
-use Rattle.rbbi_tool.specs.declared.words.command.Operand.TheVariants as operand
-use Rattle.rbbi_tool.specs.declared.refusal.Refusal.{Refusal}
-use Rattle.rbbi_tool.specs.declared.refusal.Refusal.TheVariants.{Usage, Unread, Fault, Memory}
-use Rattle.rbbi_tool.specs.Refusals.{Outcome, refused}
-use Rattle.rbbi_tool.specs.Words.{Request, Asks, AreNoForm, operands_of}
-use Rattle.rbbi_tool.specs.Files.{sources_of}
-use Rattle.rbbi_tool.specs.Reads.{FailsToRead}
+use Rattle.rbbi_command.specs.declared.files.Source.{Source}
+use Rattle.rbbi_command.specs.declared.words.command.Operand.TheVariants as operand
+use Rattle.rbbi_command.specs.Refusals.{Outcome}
+use Rattle.rbbi_command.specs.Words.{Request, IsCommandLine, operands_of}
+use Rattle.rbbi_command.specs.Files.{sources_of}
+use Rattle.rbbi_command.specs.Reads.{FailsToRead}
 use Rattle.rbbi_tool.specs.Command.Compile.{TellsTable}
-use Rattle.rbbi_tool.specs.Program.{run_stage, IsOutcome}
-use Rattle.rbbi_tool.specs.Delivery.{HoldsFile}
+use Rattle.rbbi_tool.specs.Program.{IsOutcome}
+use Rattle.rbbi_command.specs.Delivery.{HoldsFile}
 
 -- an operand of the request is a file that is written, and this is its name
 pub record IsWrittenBy (request : Request) (name : List ℕ) : Type 0 where
   pub number : ℕ
-  pub written : slice_get (operands_of request.command request.by_table) number ≡ Some operand.Written
+  pub written : slice_get (operands_of request.command request.options.by_table) number ≡ Some operand.Written
   pub is : slice_get request.operands number ≡ Some name
 
 -- the words name this file to be written
 pub record NamesToWrite (words : List (List ℕ)) (name : List ℕ) : Type 0 where
   pub request : Request
-  pub asks : Asks words request
+  pub asks : IsCommandLine words request
   pub written : IsWrittenBy request name
 
 -- the words name this file to be read
 pub record NamesToRead (words : List (List ℕ)) (name : List ℕ) : Type 0 where
   pub request : Request
-  pub asks : Asks words request
+  pub asks : IsCommandLine words request
   pub number : ℕ
   pub source : Source
   pub is : slice_get (sources_of request) number ≡ Some source
@@ -45,7 +43,7 @@ NoReadFailed words before now = (name : List ℕ) → NamesToRead words name →
 -- before and now, and it was the last that was made.
 pub record ReadFails (words : List (List ℕ)) (contents : Option (List ℕ → List ℕ)) (before now : List ℕ → ℕ) (name : List ℕ) : Type 0 where
   pub request : Request
-  pub asks : Asks words request
+  pub asks : IsCommandLine words request
   pub fails : FailsToRead (sources_of request) contents before now name
 
 -- this line tells that a read of a file failed which the words name

@@ -1,10 +1,3 @@
-pub mod Stages
-pub mod Refusals
-pub mod Settings
-pub mod Counts
-pub mod Words
-pub mod Files
-pub mod Reads
 pub mod Texts
 pub mod Properties
 pub mod Rules
@@ -12,7 +5,6 @@ pub mod Basis
 pub mod Scripts
 pub mod Command
 pub mod Program
-pub mod Delivery
 pub mod Causes
 pub mod Steps
 pub mod inner

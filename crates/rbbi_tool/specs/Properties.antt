@@ -1,15 +1,14 @@
 -- From the bytes of property files to their rows.
-use Rattle.std.specs.Prelude.{◌≡◌, ℕ, List, [], ◌∷◌, length, codes}
+use Rattle.std.specs.Prelude.{◌≡◌, ℕ, List, [], ◌∷◌, codes}
 use Rattle.rbbi_text.specs.Bytes.{file_lines}
 use Rattle.rbbi_props.specs.Rows as rows
 use Rattle.rbbi_props.specs.Files.{named_file}
 use Rattle.rbbi_props.specs.Refusals.{HasRowsAlone, IsBadRow}
-use Rattle.rbbi_tool.specs.declared.words.setting.Property.{Property}
-use Rattle.rbbi_tool.specs.declared.refusal.Subject.TheVariants.{File}
-use Rattle.rbbi_tool.specs.declared.refusal.Place.TheVariants.{Row}
-use Rattle.rbbi_tool.specs.declared.refusal.Refusal.TheVariants.{Fault}
-use Rattle.rbbi_tool.specs.Stages.{Stage, followed_by}
-use Rattle.rbbi_tool.specs.inner.Reads.{AreShort}
+use Rattle.rbbi_command.specs.declared.words.setting.Property.{Property}
+use Rattle.rbbi_command.specs.declared.refusal.Subject.TheVariants.{File}
+use Rattle.rbbi_command.specs.declared.refusal.Place.TheVariants.{Row}
+use Rattle.rbbi_command.specs.declared.refusal.Refusal.TheVariants.{Fault}
+use Rattle.rbbi_command.specs.Stages.{Stage, followed_by}
 use Rattle.rbbi_tool.specs.Texts.{checked_utf8_stage}
 
 -- the bytes of a property file of this name are lines that are skipped and rows, or the first bad row is told

@@ -14,13 +14,14 @@ use Rattle.rbbi_tree.specs.Refusals as parser
 use Rattle.rbbi_props.specs.Rows.{File}
 use Rattle.rbbi_resolve.specs.Outcomes.{Means}
 use Rattle.rbbi_resolve.specs.Refusals as resolver
-use Rattle.rbbi_tool.specs.declared.refusal.Subject.TheVariants.{Rules}
-use Rattle.rbbi_tool.specs.declared.refusal.Place.TheVariants.{Within}
-use Rattle.rbbi_tool.specs.declared.refusal.Refusal.{Refusal}
-use Rattle.rbbi_tool.specs.declared.refusal.Refusal.TheVariants.{Fault}
-use Rattle.rbbi_tool.specs.Stages.{Stage, followed_by}
+use Rattle.rbbi_command.specs.declared.refusal.Subject.TheVariants.{Rules}
+use Rattle.rbbi_command.specs.declared.refusal.Place.TheVariants.{Within}
+use Rattle.rbbi_command.specs.declared.refusal.Refusal.{Refusal}
+use Rattle.rbbi_command.specs.declared.refusal.Refusal.TheVariants.{Fault}
+use Rattle.rbbi_command.specs.Stages.{Stage, followed_by}
 use Rattle.rbbi_tool.specs.Texts.{TellsNotUtf8}
-use Rattle.rbbi_tool.specs.declared.words.setting.Property.{Property}
+use Rattle.rbbi_command.specs.Settings.{Options}
+use Rattle.rbbi_command.specs.Inputs.{Inputs}
 use Rattle.rbbi_tool.specs.Properties.{properties_stage, property_files}
 
 -- a fault of this label at a place of the text of the rule file
@@ -70,6 +71,7 @@ abbrev pub rule_bytes_stage : List File → Bool → List ℕ → Stage (List Ru
 rule_bytes_stage files ignored bytes = followed_by (rule_text_stage bytes) (rules_of_text_stage files ignored)
 
 -- the rules of a rule file, behind the property files that are handed in
-abbrev pub rules_stage : List Property → Bool → List (List ℕ) → List ℕ → Stage (List Rule)
-rules_stage properties ignored handed bytes =
-    followed_by (properties_stage properties handed) (λ _. rule_bytes_stage (property_files properties handed) ignored bytes)
+abbrev pub rules_stage : Options → Inputs → Stage (List Rule)
+rules_stage options inputs =
+    followed_by (properties_stage options.properties inputs.properties)
+    (λ _. rule_bytes_stage (property_files options.properties inputs.properties) options.ignored inputs.rules)

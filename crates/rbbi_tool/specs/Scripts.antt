@@ -8,11 +8,12 @@ use Rattle.rbbi_script.specs.Meaning.{meaning}
 use Rattle.rbbi_script.specs.Files.{ReadsScript}
 use Rattle.rbbi_conform.specs.Tests.{Test}
 use Rattle.rbbi_conform.specs.Files.{ReadsTests}
-use Rattle.rbbi_tool.specs.declared.refusal.Subject.TheVariants.{File}
-use Rattle.rbbi_tool.specs.declared.refusal.Place.TheVariants.{Byte, Row}
-use Rattle.rbbi_tool.specs.declared.refusal.Refusal.{Refusal}
-use Rattle.rbbi_tool.specs.declared.refusal.Refusal.TheVariants.{Fault, Memory}
-use Rattle.rbbi_tool.specs.Stages.{Stage}
+use Rattle.rbbi_command.specs.declared.inputs.Input.{Input}
+use Rattle.rbbi_command.specs.declared.refusal.Subject.TheVariants.{File}
+use Rattle.rbbi_command.specs.declared.refusal.Place.TheVariants.{Byte, Row}
+use Rattle.rbbi_command.specs.declared.refusal.Refusal.{Refusal}
+use Rattle.rbbi_command.specs.declared.refusal.Refusal.TheVariants.{Fault, Memory}
+use Rattle.rbbi_command.specs.Stages.{Stage}
 
 -- what a fault of the script or the test file of this name tells
 abbrev pub lines_fault : List ℕ → LinesErr → Refusal
@@ -33,13 +34,16 @@ pub record MeanCommands (bytes : List ℕ) (commands : List Command) : Type 0 wh
   pub read : ReadsScript bytes (Ok written)
   pub mean : commands ≡ map meaning written
 
--- the commands of a script of this name
-abbrev pub script_stage : List ℕ → List ℕ → Stage (List Command)
-script_stage name bytes = record { passes = MeanCommands bytes; refuses = TellsLinesFault (λ error. ReadsScript bytes (Err error)) name }
+-- the commands of a script
+abbrev pub script_stage : Input → Stage (List Command)
+script_stage script = record {
+  passes = MeanCommands script.bytes;
+  refuses = TellsLinesFault (λ error. ReadsScript script.bytes (Err error)) script.name;
+}
 
--- the tests of a test file of this name
-abbrev pub tests_stage : List ℕ → List ℕ → Stage (List Test)
-tests_stage name bytes = record {
-  passes = λ tests. ReadsTests bytes (Ok tests);
-  refuses = TellsLinesFault (λ error. ReadsTests bytes (Err error)) name;
+-- the tests of a test file
+abbrev pub tests_stage : Input → Stage (List Test)
+tests_stage tests = record {
+  passes = λ list. ReadsTests tests.bytes (Ok list);
+  refuses = TellsLinesFault (λ error. ReadsTests tests.bytes (Err error)) tests.name;
 }

@@ -1,22 +1,20 @@
 -- How much a run of the program reads: characters of its text, and bytes of its other files.
-use Rattle.std.specs.Prelude.{◌≡◌, ◌⊎◌, ℕ, ◌+◌, List, Option, IfSome, length, sum_by, take, drop}
+use Rattle.std.specs.Prelude.{◌⊎◌, ℕ, ◌+◌, List, length, sum_by}
 use Rattle.rbbi_model.specs.Tables.{Table}
 use Rattle.rbbi_model.specs.Scripts as model
 use Rattle.rbbi_model.specs.Costs.{script_cost, breaks_cost}
-use Rattle.rbbi_io.specs.Counts.{EachStays}
 use Rattle.rbbi_text.specs.Steps.{RisesUpTo}
-use Rattle.rbbi_tool.specs.declared.words.command.Command.{Command}
-use Rattle.rbbi_tool.specs.declared.words.command.Command.TheVariants.{Breaks, Run}
-use Rattle.rbbi_tool.specs.declared.files.Role.{Role}
-use Rattle.rbbi_tool.specs.declared.files.Role.TheVariants.{Text}
-use Rattle.rbbi_tool.specs.Stages.{Stage}
-use Rattle.rbbi_tool.specs.Words.{Request, Asks, AreNoForm}
-use Rattle.rbbi_tool.specs.Files.{sources_of}
-use Rattle.rbbi_tool.specs.Reads.{bytes_of, MakesSomeReads}
+use Rattle.rbbi_command.specs.declared.words.command.Command.{Command}
+use Rattle.rbbi_command.specs.declared.words.command.Command.TheVariants.{Breaks, Run}
+use Rattle.rbbi_command.specs.declared.files.Role.{Role}
+use Rattle.rbbi_command.specs.declared.files.Role.TheVariants.{Text}
+use Rattle.rbbi_command.specs.Stages.{Stage}
+use Rattle.rbbi_command.specs.Words.{Request}
+use Rattle.rbbi_command.specs.Files.{sources_of}
+use Rattle.rbbi_command.specs.Inputs.{Inputs, inputs_of}
 use Rattle.rbbi_tool.specs.Texts.{text_stage}
 use Rattle.rbbi_tool.specs.Scripts.{script_stage}
 use Rattle.rbbi_tool.specs.Basis.{Basis, IsTableOf, basis_stage}
-use Rattle.rbbi_tool.specs.Program.{nth}
 
 -- the bytes of a file that count: all, but none of a text, whose characters count as they are read
 abbrev pub counted : Role → List ℕ → ℕ
@@ -49,21 +47,17 @@ pub record ReadsForScript (basis : Stage Basis) (text : Stage (List ℕ)) (scrip
   pub script_is : script.passes commands
   pub reads : RisesUpTo (bytes + script_cost table x commands) before after
 
--- What a command reads, given the bytes of the property files and of the other files: at most so many bytes, or also what it costs
--- to answer, where it comes to that. Of the other commands nothing is said.
-abbrev pub CommandReads : Command → Request → List (List ℕ) → List (List ℕ) → ℕ → ℕ → ℕ → Type 0
-CommandReads Breaks request handed files bytes before after =
+-- What a command reads, given its files: at most so many bytes, or also what it costs to answer, where it comes to that. Of the
+-- other commands nothing is said.
+abbrev pub CommandReads : Command → Request → Inputs → ℕ → ℕ → ℕ → Type 0
+CommandReads Breaks request inputs bytes before after =
+    RisesUpTo bytes before after ⊎ ReadsForBreaks (basis_stage request.options inputs) (text_stage inputs.text) bytes before after
+CommandReads Run request inputs bytes before after =
     RisesUpTo bytes before after
-    ⊎ ReadsForBreaks (basis_stage request.properties request.ignored request.by_table handed (nth files 0)) (text_stage (nth request.operands 1) (nth files 1))
-    bytes before after
-CommandReads Run request handed files bytes before after =
-    RisesUpTo bytes before after
-    ⊎ ReadsForScript (basis_stage request.properties request.ignored request.by_table handed (nth files 0)) (text_stage (nth request.operands 1) (nth files 1))
-    (script_stage (nth request.operands 2) (nth files 2)) bytes before after
-CommandReads command request handed files bytes before after = Unit {0}
+    ⊎ ReadsForScript (basis_stage request.options inputs) (text_stage inputs.text) (script_stage inputs.script) bytes before after
+CommandReads command request inputs bytes before after = Unit {0}
 
 -- what a request reads over files that hold this
 abbrev pub RequestReads : Request → (List ℕ → List ℕ) → ℕ → ℕ → Type 0
 RequestReads request held before after =
-    let all = bytes_of held (sources_of request) in
-    CommandReads request.command request (take (length request.properties) all) (drop (length request.properties) all) (named_bytes held request) before after
+    CommandReads request.command request (inputs_of held (sources_of request)) (named_bytes held request) before after

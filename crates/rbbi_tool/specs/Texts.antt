@@ -3,12 +3,13 @@ use Rattle.std.specs.Prelude.{◌≡◌, ◌<◌, ◌≤◌, ℕ, List, length, 
 use Rattle.std.specs.Str.{chars}
 use Rattle.rbbi_model.specs.Words.{most_characters}
 use Rattle.rbbi_text.specs.Bytes.{IsNotUtf8At}
-use Rattle.rbbi_tool.specs.declared.refusal.Subject.{Subject}
-use Rattle.rbbi_tool.specs.declared.refusal.Subject.TheVariants.{File}
-use Rattle.rbbi_tool.specs.declared.refusal.Place.TheVariants.{Whole, Byte}
-use Rattle.rbbi_tool.specs.declared.refusal.Refusal.{Refusal}
-use Rattle.rbbi_tool.specs.declared.refusal.Refusal.TheVariants.{Fault}
-use Rattle.rbbi_tool.specs.Stages.{Stage, followed_by}
+use Rattle.rbbi_command.specs.declared.inputs.Input.{Input}
+use Rattle.rbbi_command.specs.declared.refusal.Subject.{Subject}
+use Rattle.rbbi_command.specs.declared.refusal.Subject.TheVariants.{File}
+use Rattle.rbbi_command.specs.declared.refusal.Place.TheVariants.{Whole, Byte}
+use Rattle.rbbi_command.specs.declared.refusal.Refusal.{Refusal}
+use Rattle.rbbi_command.specs.declared.refusal.Refusal.TheVariants.{Fault}
+use Rattle.rbbi_command.specs.Stages.{Stage, followed_by}
 
 -- the bytes aren't UTF-8, and the first byte past the longest front that is, is told
 abbrev pub TellsNotUtf8 : Subject → List ℕ → Refusal → Type 0
@@ -32,6 +33,6 @@ count_stage subject x = record {
   refuses = λ refusal. (most_characters < length x) × (refusal ≡ Fault subject (codes "TooManyChars") Whole);
 }
 
--- the text of a text file of this name
-abbrev pub text_stage : List ℕ → List ℕ → Stage (List ℕ)
-text_stage name bytes = followed_by (utf8_stage (File name) bytes) (count_stage (File name))
+-- the text of a text file
+abbrev pub text_stage : Input → Stage (List ℕ)
+text_stage text = followed_by (utf8_stage (File text.name) text.bytes) (count_stage (File text.name))

@@ -1,9 +1,5 @@
 -- What only this crate's own code and proofs cite. Nothing that is promised rests on it.
 pub mod Stages
-pub mod Requests
-pub mod Reads
-pub mod Properties
 pub mod Judging
-pub mod Delivery
 pub mod Causes
 pub mod Steps

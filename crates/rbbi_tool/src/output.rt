@@ -1,18 +1,17 @@
-//! What a request comes to, from the bytes of its files.
+//! What a request comes to, from its files.
 ghost use Rattle.std.specs.Prelude.{◌≡◌, ◌<◌, map, length};
 ghost use Rattle.std.specs.String.{string_bytes};
 ghost use Rattle.rbbi_tool.specs.inner.Stages.{Meets};
-ghost use Rattle.rbbi_tool.specs.Words.{operands_of, AllFit};
-ghost use Rattle.rbbi_tool.specs.inner.Requests.{asked_by};
-ghost use Rattle.rbbi_tool.specs.Files.{sources_of};
-ghost use Rattle.rbbi_tool.specs.inner.Reads.{AreWithin};
-ghost use Rattle.rbbi_tool.specs.Program.{nth, files_stage};
-ghost use Rattle.rbbi_tool.specs.inner.Steps.{FilesReads};
+ghost use Rattle.rbbi_command.specs.Words.{operands_of, AllFit};
+ghost use Rattle.rbbi_command.specs.Requests.{asked_by};
+ghost use Rattle.rbbi_command.specs.Inputs.{inputs_in, AreShort};
+ghost use Rattle.rbbi_tool.specs.Program.{nth, command_stage};
+ghost use Rattle.rbbi_tool.specs.Steps.{CommandReads};
+ghost use Rattle.rbbi_tool.specs.inner.Steps.{given_bytes};
 
-use crate::command::{Output, breaks, check, compile, conform, demo, run};
-use crate::refusal::Refusal;
-use crate::words::{Command, Request};
-use rbbi_text::{Raw, Steps};
+use crate::command::{breaks, check, compile, conform, demo, run};
+use rbbi_command::{Command, Inputs, Output, Refusal, Request};
+use rbbi_text::Steps;
 use std::alloc::Global;
 use std::sync::ledger::Ledger;
 
@@ -24,72 +23,31 @@ fn word(words: &[String], number: usize) -> &str
     words[number].as_str()
 }
 
-/// The bytes of the file with this number, from 0.
-fn file(files: &[Raw], number: usize) -> &Raw
-    requires { number < length files.now }
-    ensures { result.now ≡ nth files.now number }
-{
-    &files[number]
-}
-
-/// What a request comes to, from the bytes of its files in order.
+/// What a request comes to, from its files.
 pub(crate) fn output_of<L: Ledger>(
     alloc: Global,
     request: &Request,
-    files: &[Raw],
+    inputs: &Inputs,
     steps: &mut Steps<L>,
 ) -> Result<Output, Refusal>
     requires count { length request.now.operands.now
         ≡ length (operands_of request.now.command request.now.options.by_table) }
     requires fit { AllFit (operands_of request.now.command request.now.options.by_table)
         (map string_bytes request.now.operands.now) }
-    requires within { AreWithin (sources_of (asked_by request.now)) files.now }
-    ensures exact { Meets (λ output. output) (files_stage (asked_by request.now) files.now) result }
-    ensures steps { FilesReads (asked_by request.now) files.now steps.old steps.new }
+    requires short { AreShort (inputs_in inputs.now) }
+    ensures exact { Meets (λ output. output)
+        (command_stage request.now.command (asked_by request.now) (inputs_in inputs.now)) result }
+    ensures steps { CommandReads request.now.command (asked_by request.now) (inputs_in inputs.now)
+        (given_bytes (inputs_in inputs.now)) steps.old steps.new }
 {
     let options = &request.options;
     let operands = request.operands;
-    let (handed, files) = files.split_at(options.properties.len());
     match request.command {
-        Command::Check => {
-            let rules = file(files, 0);
-            check(alloc, options, handed, rules, steps)
-        }
-        Command::Compile => {
-            let rules = file(files, 0);
-            let table_name = word(operands, 1);
-            compile(alloc, options, handed, rules, table_name, steps)
-        }
-        Command::Breaks => {
-            let source = file(files, 0);
-            let text_name = word(operands, 1);
-            let text = file(files, 1);
-            breaks(alloc, options, handed, source, text_name, text, steps)
-        }
-        Command::Run => {
-            let source = file(files, 0);
-            let played_name = word(operands, 1);
-            let played = file(files, 1);
-            let script_name = word(operands, 2);
-            let script = file(files, 2);
-            run(
-                alloc,
-                options,
-                handed,
-                source,
-                played_name,
-                played,
-                script_name,
-                script,
-                steps,
-            )
-        }
-        Command::Conform => {
-            let source = file(files, 0);
-            let tests_name = word(operands, 1);
-            let tests = file(files, 1);
-            conform(alloc, options, handed, source, tests_name, tests, steps)
-        }
+        Command::Check => check(alloc, options, inputs, steps),
+        Command::Compile => compile(alloc, options, inputs, word(operands, 1), steps),
+        Command::Breaks => breaks(alloc, options, inputs, steps),
+        Command::Run => run(alloc, options, inputs, steps),
+        Command::Conform => conform(alloc, options, inputs, steps),
         Command::Demo => demo(alloc, word(operands, 0), steps),
     }
 }

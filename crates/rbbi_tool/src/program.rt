@@ -1,27 +1,22 @@
 //! The top call.
-ghost use Rattle.std.specs.Prelude.{◌≡◌, ◌≢◌, ◌≤◌, ◌⊎◌, map, length, IfOk, IfSome};
+ghost use Rattle.std.specs.Prelude.{◌≡◌, ◌≢◌, ◌≤◌, ◌⊎◌, map, IfOk, IfSome};
 ghost use Rattle.std.specs.String.{string_bytes};
 ghost use Rattle.rbbi_model.specs.Lines.{usage_line};
 ghost use Rattle.rbbi_io.specs.Counts.{Rose, GoesOn, EachGoesOn, EachStays};
 ghost use Rattle.rbbi_io.specs.Answers.{WhereTold};
 ghost use Rattle.rbbi_io.specs.Sinks.{Takes};
-ghost use Rattle.rbbi_tool.specs.Words.{Request, Asks, AreNoForm};
-ghost use Rattle.rbbi_tool.specs.Files.{sources_of};
-ghost use Rattle.rbbi_tool.specs.Reads.{MakesSomeReads};
+ghost use Rattle.rbbi_command.specs.Words.{Request, IsCommandLine, AreNoForm};
+ghost use Rattle.rbbi_command.specs.Files.{sources_of};
+ghost use Rattle.rbbi_command.specs.Reads.{MakesSomeReads};
 ghost use Rattle.rbbi_tool.specs.Steps.{RequestReads};
 ghost use Rattle.rbbi_tool.specs.inner.Steps.{ReadsInOrder};
-ghost use Rattle.rbbi_tool.specs.inner.Causes.{ComesTo, Tells};
+ghost use Rattle.rbbi_tool.specs.inner.Causes.{ComesTo, GivesOutcome};
 ghost use Rattle.rbbi_tool.specs.Causes.{NoReadFailed};
 ghost use Rattle.rbbi_tool.specs.Causes.{TakesOutcome, TakesFailedRead, TakesPart};
 ghost use Rattle.rbbi_tool.specs.Causes.{EachHolds, SomeWriteFailed, OthersUnwritten};
 
-use crate::command::Output;
-use crate::deliver::deliver;
-use crate::files::read_all;
 use crate::output::output_of;
-use crate::refusal::Refusal;
-use crate::sources::sources_of;
-use crate::words::request_of;
+use rbbi_command::{Output, Refusal, deliver, read_all, request_of, sources_of};
 use rbbi_io::{Files, Sink};
 use rbbi_text::Steps;
 use std::alloc::{AllocError, Global};
@@ -46,13 +41,13 @@ fn run<F: Files, L: Ledger>(
         return Err(Refusal::Usage);
     };
     let sources = sources_of(alloc, &request)?;
-    let all = read_all(alloc, &sources, files)?;
-    output_of(alloc, &request, &all, steps)
+    let inputs = read_all(alloc, &sources, files)?;
+    output_of(alloc, &request, &inputs, steps)
 }
 
 /// The status and the bytes that go out.
 fn told(alloc: Global, ended: Result<Output, Refusal>) -> Result<Output, AllocError>
-    ensures { IfOk result (Tells ended) }
+    ensures { IfOk result (GivesOutcome ended) }
 {
     match ended {
         Ok(output) => Ok(output),
@@ -107,13 +102,13 @@ pub fn rbbi<F: Files, K: Sink, L: Ledger>(
 
     // The files are read in the order of the words, and none behind one that can't be read or is
     // too long.
-    ensures order { (request : Request) → Asks (map string_bytes words.now.items) request
+    ensures order { (request : Request) → IsCommandLine (map string_bytes words.now.items) request
         → IfSome (F.contents files.old) (MakesSomeReads (sources_of request)
         (F.failed_reads files.old) (F.failed_reads files.new)) }
 
     // Of a text only the characters count that are read. Its lines are made within what the
     // boundaries or the commands cost; beside that, the bytes of the other files are read once.
-    ensures steps { (request : Request) → Asks (map string_bytes words.now.items) request
+    ensures steps { (request : Request) → IsCommandLine (map string_bytes words.now.items) request
         → IfSome (F.contents files.old)
         (λ held. RequestReads request held steps.old steps.new) }
 

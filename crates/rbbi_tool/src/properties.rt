@@ -4,12 +4,10 @@ ghost use Rattle.rbbi_text.specs.Bytes.{most_bytes};
 ghost use Rattle.rbbi_props.specs.Files.{named_file};
 ghost use Rattle.rbbi_text.specs.Steps.{RisesUpTo};
 ghost use Rattle.rbbi_tool.specs.inner.Stages.{Meets};
+ghost use Rattle.rbbi_command.specs.Inputs.{inputs_in, AreShort};
 ghost use Rattle.rbbi_tool.specs.Properties as spec;
-ghost use Rattle.rbbi_tool.specs.inner.Properties.{AreHanded};
 
-use crate::name::Name;
-use crate::refusal::{Place, Refusal, Subject, fault};
-use crate::words::Property;
+use rbbi_command::{Inputs, Name, Options, Place, Property, Refusal, Subject, fault};
 use rbbi_props::{PropErr, PropTable};
 use rbbi_text::{Raw, Steps};
 use std::alloc::Global;
@@ -47,18 +45,21 @@ fn add<L: Ledger>(
 /// UTF-8 or has a bad row is told.
 pub(crate) fn properties_of<L: Ledger>(
     alloc: Global,
-    properties: &[Property],
-    handed: &[Raw],
+    options: &Options,
+    inputs: &Inputs,
     steps: &mut Steps<L>,
 ) -> Result<PropTable, Refusal>
-    requires { AreHanded properties.now handed.now }
-    ensures exact { Meets (λ _. tt) (spec.properties_stage properties.now handed.now) result }
-    ensures files { IfOk result (λ table. table ≡ spec.property_files properties.now handed.now) }
-    ensures steps { RisesUpTo (sum_by length handed.now) steps.old steps.new }
+    requires { AreShort (inputs_in inputs.now) }
+    ensures exact { Meets (λ _. tt) (spec.properties_stage options.now.properties.items
+        inputs.now.properties.items) result }
+    ensures files { IfOk result (λ table. table
+        ≡ spec.property_files options.now.properties.items inputs.now.properties.items) }
+    ensures steps { RisesUpTo (sum_by length inputs.now.properties.items) steps.old steps.new }
 {
     let mut table = PropTable::new(alloc);
-    for i in 0..properties.len() {
-        add(&mut table, alloc, &properties[i], &handed[i], steps)?;
+    for i in 0..options.properties.len().min(inputs.properties.len()) {
+        let property = &options.properties[i];
+        add(&mut table, alloc, property, &inputs.properties[i], steps)?;
     }
     Ok(table)
 }

@@ -9,18 +9,18 @@ ghost use Rattle.rbbi_tree.specs.WellMade.{AreWellMade};
 ghost use Rattle.rbbi_model.specs.Rules.{AreLawful};
 ghost use Rattle.rbbi_resolve.specs.RuleLists.{rules_of};
 ghost use Rattle.rbbi_text.specs.Steps.{RisesUpTo};
-ghost use Rattle.rbbi_tool.specs.inner.Properties.{AreHanded};
+ghost use Rattle.rbbi_command.specs.Requests.{options_in};
+ghost use Rattle.rbbi_command.specs.Inputs.{inputs_in, AreShort};
 ghost use Rattle.rbbi_tool.specs.inner.Stages.{Meets};
 ghost use Rattle.rbbi_tool.specs.Rules as spec;
 
 use crate::position::position_of;
 use crate::properties::properties_of;
-use crate::refusal::{Place, Refusal, Subject, fault};
-use crate::words::Options;
+use rbbi_command::{Inputs, Options, Place, Refusal, Subject, fault};
 use rbbi_lex::Tokens;
 use rbbi_props::PropTable;
 use rbbi_resolve::Rules;
-use rbbi_text::{Raw, Steps, count_characters, utf8_text, without_mark};
+use rbbi_text::{Steps, count_characters, utf8_text, without_mark};
 use rbbi_tree::Statements;
 use std::alloc::Global;
 use std::sync::ledger::Ledger;
@@ -134,18 +134,17 @@ pub(crate) fn rules_of_text(
 pub(crate) fn rules_from<L: Ledger>(
     alloc: Global,
     options: &Options,
-    handed: &[Raw],
-    bytes: &Raw,
+    inputs: &Inputs,
     steps: &mut Steps<L>,
 ) -> Result<Rules, Refusal>
-    requires handed { AreHanded options.now.properties.items handed.now }
-    requires short { length bytes.now ≤ most_bytes }
-    ensures exact { Meets rules_of (spec.rules_stage options.now.properties.items
-        options.now.ignored handed.now bytes.now) result }
+    requires { AreShort (inputs_in inputs.now) }
+    ensures exact { Meets rules_of
+        (spec.rules_stage (options_in options.now) (inputs_in inputs.now)) result }
     ensures lawful { IfOk result (λ rules. AreLawful (rules_of rules)) }
-    ensures steps { RisesUpTo (sum_by length handed.now + length bytes.now) steps.old steps.new }
+    ensures steps { RisesUpTo (sum_by length inputs.now.properties.items + length inputs.now.rules)
+        steps.old steps.new }
 {
-    let props = properties_of(alloc, &options.properties, handed, steps)?;
-    let text = text_of(alloc, bytes.bytes(steps))?;
+    let props = properties_of(alloc, options, inputs, steps)?;
+    let text = text_of(alloc, inputs.rules.bytes(steps))?;
     rules_of_text(alloc, text, &props, options.ignored)
 }

@@ -7,10 +7,10 @@ ghost use Rattle.rbbi_script.specs.Meaning.{meaning};
 ghost use Rattle.rbbi_tool.specs.inner.Stages.{Meets};
 ghost use Rattle.rbbi_tool.specs.Scripts as spec;
 
-use crate::refusal::{Place, Refusal, file_fault};
+use rbbi_command::{Input, Place, Refusal, file_fault};
 use rbbi_conform::{Tests, read_tests};
 use rbbi_script::{Commands, read_script};
-use rbbi_text::{LinesErr, Raw, Steps};
+use rbbi_text::{LinesErr, Steps};
 use std::alloc::Global;
 use std::sync::ledger::Ledger;
 
@@ -26,38 +26,36 @@ fn lines_refusal(alloc: Global, name: &str, error: LinesErr) -> Refusal
     }
 }
 
-/// The commands of a script of this name.
+/// The commands of a script.
 pub(crate) fn commands_of<L: Ledger>(
     alloc: Global,
-    name: &str,
-    bytes: &Raw,
+    script: &Input,
     steps: &mut Steps<L>,
 ) -> Result<Commands, Refusal>
-    requires { length bytes.now ≤ most_bytes }
+    requires { length script.now.bytes ≤ most_bytes }
     ensures exact { Meets (λ commands. map meaning commands)
-        (spec.script_stage name.now bytes.now) result }
+        (spec.script_stage script.now) result }
     ensures inserts { IfOk result (λ commands.
         AllByRecursion InsertsText (map meaning commands)) }
-    ensures steps { steps.new ≡ steps.old + length bytes.now }
+    ensures steps { steps.new ≡ steps.old + length script.now.bytes }
 {
-    match read_script(alloc, bytes.bytes(steps)) {
+    match read_script(alloc, script.bytes.bytes(steps)) {
         Ok(commands) => Ok(commands),
-        Err(error) => Err(lines_refusal(alloc, name, error)),
+        Err(error) => Err(lines_refusal(alloc, script.name.as_str(), error)),
     }
 }
 
-/// The tests of a test file of this name.
+/// The tests of a test file.
 pub(crate) fn tests_of<L: Ledger>(
     alloc: Global,
-    name: &str,
-    bytes: &Raw,
+    tests: &Input,
     steps: &mut Steps<L>,
 ) -> Result<Tests, Refusal>
-    requires { length bytes.now ≤ most_bytes }
-    ensures { Meets (λ tests. tests) (spec.tests_stage name.now bytes.now) result }
+    requires { length tests.now.bytes ≤ most_bytes }
+    ensures { Meets (λ list. list) (spec.tests_stage tests.now) result }
 {
-    match read_tests(alloc, bytes.bytes(steps)) {
-        Ok(tests) => Ok(tests),
-        Err(error) => Err(lines_refusal(alloc, name, error)),
+    match read_tests(alloc, tests.bytes.bytes(steps)) {
+        Ok(list) => Ok(list),
+        Err(error) => Err(lines_refusal(alloc, tests.name.as_str(), error)),
     }
 }

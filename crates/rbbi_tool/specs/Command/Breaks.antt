@@ -1,10 +1,11 @@
 -- What `breaks` answers.
-use Rattle.std.specs.Prelude.{◌≡◌, ℕ, Bool, List}
+use Rattle.std.specs.Prelude.{◌≡◌, ℕ, List}
 use Rattle.rbbi_model.specs.Boundaries.{Boundary}
 use Rattle.rbbi_model.specs.Lines.{boundary_lines}
-use Rattle.rbbi_tool.specs.declared.words.setting.Property.{Property}
-use Rattle.rbbi_tool.specs.Stages.{Stage, followed_by}
-use Rattle.rbbi_tool.specs.Refusals.{Outcome, printed}
+use Rattle.rbbi_command.specs.Settings.{Options}
+use Rattle.rbbi_command.specs.Inputs.{Inputs}
+use Rattle.rbbi_command.specs.Stages.{Stage, followed_by}
+use Rattle.rbbi_command.specs.Refusals.{Outcome, printed}
 use Rattle.rbbi_tool.specs.Texts.{text_stage}
 use Rattle.rbbi_tool.specs.Basis.{Basis, AreBoundariesBy, basis_stage}
 
@@ -15,8 +16,7 @@ boundaries_stage basis x = record {
   refuses = λ _. ⊥;
 }
 
--- the boundaries of a text file of this name by a rule file or a table file
-abbrev pub breaks_stage : List Property → Bool → Bool → List (List ℕ) → List ℕ → List ℕ → List ℕ → Stage Outcome
-breaks_stage properties ignored by_table handed source name text =
-    followed_by (basis_stage properties ignored by_table handed source)
-    (λ basis. followed_by (text_stage name text) (boundaries_stage basis))
+-- the boundaries of a text file by a rule file or a table file
+abbrev pub breaks_stage : Options → Inputs → Stage Outcome
+breaks_stage options inputs =
+    followed_by (basis_stage options inputs) (λ basis. followed_by (text_stage inputs.text) (boundaries_stage basis))

@@ -1,13 +1,14 @@
 -- What `compile` answers.
-use Rattle.std.specs.Prelude.{◌≡◌, ℕ, Bool, List, Some}
+use Rattle.std.specs.Prelude.{◌≡◌, ℕ, List, Some}
 use Rattle.rbbi_model.specs.Rules.{Rule, AreLawful}
 use Rattle.rbbi_model.specs.Lines.{compile_line}
 use Rattle.rbbi_model.specs.Tables.{Table}
 use Rattle.rbbi_model.specs.Compiled.{IsCompiled}
 use Rattle.rbbi_model.specs.TableFile.{spelling}
-use Rattle.rbbi_tool.specs.declared.words.setting.Property.{Property}
-use Rattle.rbbi_tool.specs.Stages.{Stage, followed_by}
-use Rattle.rbbi_tool.specs.Refusals.{Outcome}
+use Rattle.rbbi_command.specs.Settings.{Options}
+use Rattle.rbbi_command.specs.Inputs.{Inputs}
+use Rattle.rbbi_command.specs.Stages.{Stage, followed_by}
+use Rattle.rbbi_command.specs.Refusals.{Outcome}
 use Rattle.rbbi_tool.specs.Basis.{compiled_stage}
 
 -- A table is compiled from the rules, which are lawful: its file is written under the name, and its numbers are told. The numbers of
@@ -19,6 +20,6 @@ pub record TellsTable (rules : List Rule) (name : List ℕ) (outcome : Outcome) 
   pub is : outcome ≡ record { status = 0; bytes = compile_line table; file = Some (record { name = name; bytes = spelling table }) }
 
 -- the table file of a rule file, under this name
-abbrev pub compile_stage : List Property → Bool → List (List ℕ) → List ℕ → List ℕ → Stage Outcome
-compile_stage properties ignored handed rules name =
-    followed_by (compiled_stage properties ignored handed rules) (λ rules. record { passes = TellsTable rules name; refuses = λ _. ⊥ })
+abbrev pub compile_stage : Options → Inputs → List ℕ → Stage Outcome
+compile_stage options inputs name =
+    followed_by (compiled_stage options inputs) (λ rules. record { passes = TellsTable rules name; refuses = λ _. ⊥ })

@@ -6,9 +6,10 @@ use Rattle.rbbi_conform.specs.Tests.{Test}
 use Rattle.rbbi_conform.specs.declared.verdict.Verdict.{Verdict}
 use Rattle.rbbi_conform.specs.declared.verdict.Verdict.TheVariants.{Same, Differs}
 use Rattle.rbbi_conform.specs.Verdicts.{IsVerdict}
-use Rattle.rbbi_tool.specs.declared.words.setting.Property.{Property}
-use Rattle.rbbi_tool.specs.Stages.{Stage, followed_by}
-use Rattle.rbbi_tool.specs.Refusals.{Outcome}
+use Rattle.rbbi_command.specs.Settings.{Options}
+use Rattle.rbbi_command.specs.Inputs.{Inputs}
+use Rattle.rbbi_command.specs.Stages.{Stage, followed_by}
+use Rattle.rbbi_command.specs.Refusals.{Outcome}
 use Rattle.rbbi_tool.specs.Scripts.{tests_stage}
 use Rattle.rbbi_tool.specs.Basis.{Basis, AreBoundariesBy, basis_stage}
 
@@ -62,7 +63,7 @@ verdicts_stage basis tests = record {
   refuses = λ _. ⊥;
 }
 
--- the verdicts on a test file of this name, by a rule file or a table file
-abbrev pub conform_stage : List Property → Bool → Bool → List (List ℕ) → List ℕ → List ℕ → List ℕ → Stage Outcome
-conform_stage properties ignored by_table handed source name bytes =
-    followed_by (basis_stage properties ignored by_table handed source) (λ basis. followed_by (tests_stage name bytes) (verdicts_stage basis))
+-- the verdicts on a test file, by a rule file or a table file
+abbrev pub conform_stage : Options → Inputs → Stage Outcome
+conform_stage options inputs =
+    followed_by (basis_stage options inputs) (λ basis. followed_by (tests_stage inputs.tests) (verdicts_stage basis))

@@ -6,9 +6,9 @@ use Rattle.rbbi_model.specs.Boundaries.{AreBoundaries}
 use Rattle.rbbi_model.specs.Lines.{demo_line}
 use Rattle.rbbi_demo.specs.declared.summary.Summary.{Summary}
 use Rattle.rbbi_demo.specs.Summaries.{IsSummary}
-use Rattle.rbbi_tool.specs.Stages.{Stage, followed_by}
-use Rattle.rbbi_tool.specs.Refusals.{Outcome, printed}
-use Rattle.rbbi_tool.specs.Counts.{IsCount}
+use Rattle.rbbi_command.specs.Stages.{Stage, followed_by}
+use Rattle.rbbi_command.specs.Refusals.{Outcome, printed}
+use Rattle.rbbi_command.specs.Counts.{IsCount}
 use Rattle.rbbi_tool.specs.Basis.{compiled_text_stage}
 
 -- the text of the built-in rules

@@ -1,11 +1,12 @@
 -- What `run` answers.
-use Rattle.std.specs.Prelude.{◌≡◌, ℕ, Bool, List}
+use Rattle.std.specs.Prelude.{◌≡◌, ℕ, List}
 use Rattle.rbbi_model.specs.Answers.{Reply}
 use Rattle.rbbi_model.specs.Scripts.{Command, AreReplies, table_replies}
 use Rattle.rbbi_model.specs.Lines.{all_reply_lines}
-use Rattle.rbbi_tool.specs.declared.words.setting.Property.{Property}
-use Rattle.rbbi_tool.specs.Stages.{Stage, followed_by}
-use Rattle.rbbi_tool.specs.Refusals.{Outcome, printed}
+use Rattle.rbbi_command.specs.Settings.{Options}
+use Rattle.rbbi_command.specs.Inputs.{Inputs}
+use Rattle.rbbi_command.specs.Stages.{Stage, followed_by}
+use Rattle.rbbi_command.specs.Refusals.{Outcome, printed}
 use Rattle.rbbi_tool.specs.Texts.{text_stage}
 use Rattle.rbbi_tool.specs.Scripts.{script_stage}
 use Rattle.rbbi_tool.specs.Basis.{Basis, ByRules, ByTable, basis_stage}
@@ -22,8 +23,8 @@ replies_stage basis x commands = record {
   refuses = λ _. ⊥;
 }
 
--- the replies to a script, over a text file of this name, by a rule file or a table file
-abbrev pub play_stage : List Property → Bool → Bool → List (List ℕ) → List ℕ → List ℕ → List ℕ → List ℕ → List ℕ → Stage Outcome
-play_stage properties ignored by_table handed source name text script_name script =
-    followed_by (basis_stage properties ignored by_table handed source)
-    (λ basis. followed_by (text_stage name text) (λ x. followed_by (script_stage script_name script) (replies_stage basis x)))
+-- the replies to a script, over a text file, by a rule file or a table file
+abbrev pub play_stage : Options → Inputs → Stage Outcome
+play_stage options inputs =
+    followed_by (basis_stage options inputs)
+    (λ basis. followed_by (text_stage inputs.text) (λ x. followed_by (script_stage inputs.script) (replies_stage basis x)))

@@ -1,20 +1,11 @@
 -- What a run comes to before anything is written, and what is told of it.
-use Rattle.std.specs.Prelude.{◌≡◌, ◌≢◌, ◌⊎◌, ◌≤◌, ℕ, List, [], take, slice_get, Option, Some, None, IfSome, Result, Ok, Err}
-use Rattle.rbbi_model.specs.Lines.{usage_line, unread_line}
-use Rattle.rbbi_model.specs.Rules.{Rule}
-use Rattle.rbbi_io.specs.Counts.{Rose}
-use Rattle.rbbi_io.specs.Sinks.{Takes}
-use Rattle.rbbi_tool.specs.declared.files.Source.{Source}
-use Rattle.rbbi_tool.specs.declared.words.command.Operand.TheVariants as operand
-use Rattle.rbbi_tool.specs.declared.refusal.Refusal.{Refusal}
-use Rattle.rbbi_tool.specs.declared.refusal.Refusal.TheVariants.{Usage, Unread, Fault, Memory}
-use Rattle.rbbi_tool.specs.Refusals.{Outcome, refused}
-use Rattle.rbbi_tool.specs.Words.{Request, Asks, AreNoForm, operands_of}
-use Rattle.rbbi_tool.specs.Files.{sources_of}
-use Rattle.rbbi_tool.specs.Reads.{FailsToRead}
-use Rattle.rbbi_tool.specs.Command.Compile.{TellsTable}
+use Rattle.std.specs.Prelude.{◌≡◌, ◌≢◌, ◌≤◌, ℕ, List, Option, None, IfSome, Result, Ok, Err}
+use Rattle.rbbi_model.specs.Lines.{usage_line}
+use Rattle.rbbi_command.specs.declared.refusal.Refusal.{Refusal}
+use Rattle.rbbi_command.specs.declared.refusal.Refusal.TheVariants.{Usage, Unread, Fault, Memory}
+use Rattle.rbbi_command.specs.Refusals.{Outcome, refused}
+use Rattle.rbbi_command.specs.Words.{AreNoForm}
 use Rattle.rbbi_tool.specs.Program.{run_stage, IsOutcome}
-use Rattle.rbbi_tool.specs.Delivery.{HoldsFile}
 use Rattle.rbbi_tool.specs.Causes.{NamesToWrite, ReadFails, TellsFailedRead}
 
 -- what a run comes to before anything is written: its output, or what ends it
@@ -29,9 +20,9 @@ ComesTo words contents before now (Err (Fault subject label place)) =
 ComesTo words contents before now (Err Memory) = Unit {0}
 
 -- what is told of an output, or of what ends a run; of want of memory nothing is
-abbrev pub Tells : Result Outcome Refusal → Outcome → Type 0
-Tells (Ok output) outcome = outcome ≡ output
-Tells (Err refusal) outcome = (refusal ≢ Memory) × (outcome ≡ refused refusal)
+abbrev pub GivesOutcome : Result Outcome Refusal → Outcome → Type 0
+GivesOutcome (Ok output) outcome = outcome ≡ output
+GivesOutcome (Err refusal) outcome = (refusal ≢ Memory) × (outcome ≡ refused refusal)
 
 -- What the program answers, before anything is written: a status from 0 to 6, all that goes out, and the file that is written.
 pub record IsAnswer (words : List (List ℕ)) (contents : Option (List ℕ → List ℕ)) (before now : List ℕ → ℕ) (outcome : Outcome) : Type 0 where

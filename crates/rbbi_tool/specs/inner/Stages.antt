@@ -1,8 +1,8 @@
 -- What a function answers that runs a stage; and stages that come to one thing alone.
 use Rattle.std.specs.Prelude.{◌≡◌, ◌⊎◌, Result, Ok, Err}
-use Rattle.rbbi_tool.specs.declared.refusal.Refusal.{Refusal}
-use Rattle.rbbi_tool.specs.declared.refusal.Refusal.TheVariants.{Memory}
-use Rattle.rbbi_tool.specs.Stages.{Stage}
+use Rattle.rbbi_command.specs.declared.refusal.Refusal.{Refusal}
+use Rattle.rbbi_command.specs.declared.refusal.Refusal.TheVariants.{Memory}
+use Rattle.rbbi_command.specs.Stages.{Stage}
 
 -- What a function answers that runs the stage, where its value is seen by this view. Want of memory tells nothing.
 abbrev pub Meets : {A V : Type 0} → (V → A) → Stage A → Result V Refusal → Type 0
@@ -15,7 +15,7 @@ Serves {A} related stage (Ok value) = (a : A) × stage.passes a × related value
 Serves related stage (Err refusal) = (refusal ≡ Memory) ⊎ stage.refuses refusal
 
 -- the stage doesn't both pass and refuse, and it passes with one value and refuses in one way alone
-pub record IsDetermined (A : Type 0) (stage : Stage A) : Type 0 where
+pub record IsDeterministic (A : Type 0) (stage : Stage A) : Type 0 where
   pub value : (a b : A) → stage.passes a → stage.passes b → a ≡ b
   pub refusal : (r s : Refusal) → stage.refuses r → stage.refuses s → r ≡ s
   pub apart : (a : A) (r : Refusal) → stage.passes a → stage.refuses r → ⊥

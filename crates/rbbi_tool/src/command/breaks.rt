@@ -1,24 +1,23 @@
 //! The command `breaks`.
-ghost use Rattle.std.specs.Prelude.{◌≡◌, ◌+◌, ◌≤◌, ◌⊎◌, length, sum_by, IfOk};
-ghost use Rattle.rbbi_text.specs.Bytes.{most_bytes};
+ghost use Rattle.std.specs.Prelude.{◌≡◌, ◌⊎◌, IfOk};
 ghost use Rattle.rbbi_model.specs.Lines.{boundary_lines};
 ghost use Rattle.rbbi_model.specs.Searches.{table_boundaries};
 ghost use Rattle.rbbi_model.specs.Costs.{breaks_cost};
 ghost use Rattle.rbbi_text.specs.Steps.{RisesUpTo};
 ghost use Rattle.rbbi_tool.specs.inner.Stages.{Meets};
-ghost use Rattle.rbbi_tool.specs.inner.Properties.{AreHanded};
+ghost use Rattle.rbbi_command.specs.Requests.{options_in};
+ghost use Rattle.rbbi_command.specs.Inputs.{inputs_in, AreShort};
 ghost use Rattle.rbbi_tool.specs.Texts.{text_stage};
 ghost use Rattle.rbbi_tool.specs.Basis.{basis_stage};
 ghost use Rattle.rbbi_tool.specs.Command.Breaks.{breaks_stage};
 ghost use Rattle.rbbi_tool.specs.Steps.{ReadsForBreaks};
+ghost use Rattle.rbbi_tool.specs.inner.Steps.{given_bytes};
 
-use super::Output;
-use crate::basis::basis;
-use crate::refusal::Refusal;
+use crate::tables::table_from;
 use crate::texts::text_of;
-use crate::words::Options;
+use rbbi_command::{Inputs, Options, Output, Refusal};
 use rbbi_table::{Marks, Table};
-use rbbi_text::{Chars, PlainText, Raw, Steps, append_boundary};
+use rbbi_text::{Chars, PlainText, Steps, append_boundary};
 use std::alloc::{AllocError, Global};
 use std::sync::ledger::Ledger;
 
@@ -49,30 +48,23 @@ fn lines_of<L: Ledger>(
     Ok(lines)
 }
 
-/// The boundaries of a text file of this name by a rule file or a table file, a line for each.
+/// The boundaries of a text file by a rule file or a table file, a line for each.
 pub(crate) fn breaks<L: Ledger>(
     alloc: Global,
     options: &Options,
-    handed: &[Raw],
-    source: &Raw,
-    name: &str,
-    text: &Raw,
+    inputs: &Inputs,
     steps: &mut Steps<L>,
 ) -> Result<Output, Refusal>
-    requires handed { AreHanded options.now.properties.items handed.now }
-    requires source { length source.now ≤ most_bytes }
-    requires text { length text.now ≤ most_bytes }
-    ensures exact { Meets (λ output. output) (breaks_stage options.now.properties.items
-        options.now.ignored
-        options.now.by_table handed.now source.now name.now text.now) result }
-    ensures steps { let bytes = sum_by length handed.now + length source.now in
+    requires { AreShort (inputs_in inputs.now) }
+    ensures exact { Meets (λ output. output)
+        (breaks_stage (options_in options.now) (inputs_in inputs.now)) result }
+    ensures steps { let bytes = given_bytes (inputs_in inputs.now) in
         RisesUpTo bytes steps.old steps.new
-        ⊎ ReadsForBreaks (basis_stage options.now.properties.items options.now.ignored
-        options.now.by_table handed.now source.now) (text_stage name.now text.now)
-        bytes steps.old steps.new }
+        ⊎ ReadsForBreaks (basis_stage (options_in options.now) (inputs_in inputs.now))
+        (text_stage inputs.now.text) bytes steps.old steps.new }
 {
-    let table = basis(alloc, options, handed, source, steps)?;
-    let text = text_of(alloc, name, text)?;
+    let table = table_from(alloc, options, inputs, steps)?;
+    let text = text_of(alloc, &inputs.text)?;
     rbbi_model::same_marks_give_the_boundaries();
     let bytes = lines_of(alloc, &table, &text, steps)?;
     Ok(Output::printed(bytes))

@@ -1,19 +1,16 @@
 //! The command `check`.
-ghost use Rattle.std.specs.Prelude.{◌≡◌, ◌≤◌, length, IfOk};
-ghost use Rattle.rbbi_text.specs.Bytes.{most_bytes};
+ghost use Rattle.std.specs.Prelude.{◌≡◌, IfOk};
 ghost use Rattle.rbbi_resolve.specs.RuleLists.{rules_of};
 ghost use Rattle.rbbi_tool.specs.inner.Stages.{Meets};
-ghost use Rattle.rbbi_tool.specs.inner.Properties.{AreHanded};
+ghost use Rattle.rbbi_command.specs.Requests.{options_in};
+ghost use Rattle.rbbi_command.specs.Inputs.{inputs_in, AreShort};
 ghost use Rattle.rbbi_tool.specs.Command.Check as spec;
 
-use super::Output;
-use crate::lines::joined;
-use crate::refusal::Refusal;
 use crate::rules::rules_from;
-use crate::words::Options;
 use itoa::Buffer;
+use rbbi_command::{Inputs, Options, Output, Refusal, joined};
 use rbbi_resolve::Rules;
-use rbbi_text::{Raw, Steps};
+use rbbi_text::Steps;
 use std::alloc::{AllocError, Global};
 use std::sync::ledger::Ledger;
 
@@ -45,16 +42,14 @@ fn counts_line(alloc: Global, rules: &Rules) -> Result<Vec<u8>, AllocError>
 pub(crate) fn check<L: Ledger>(
     alloc: Global,
     options: &Options,
-    handed: &[Raw],
-    rules: &Raw,
+    inputs: &Inputs,
     steps: &mut Steps<L>,
 ) -> Result<Output, Refusal>
-    requires handed { AreHanded options.now.properties.items handed.now }
-    requires short { length rules.now ≤ most_bytes }
-    ensures { Meets (λ output. output) (spec.check_stage options.now.properties.items
-        options.now.ignored handed.now rules.now) result }
+    requires { AreShort (inputs_in inputs.now) }
+    ensures { Meets (λ output. output)
+        (spec.check_stage (options_in options.now) (inputs_in inputs.now)) result }
 {
-    let rules = rules_from(alloc, options, handed, rules, steps)?;
+    let rules = rules_from(alloc, options, inputs, steps)?;
     let bytes = counts_line(alloc, &rules)?;
     Ok(Output::printed(bytes))
 }

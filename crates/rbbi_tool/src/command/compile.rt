@@ -1,21 +1,17 @@
 //! The command `compile`.
-ghost use Rattle.std.specs.Prelude.{◌≡◌, ◌≤◌, length, IfOk};
-ghost use Rattle.rbbi_text.specs.Bytes.{most_bytes};
+ghost use Rattle.std.specs.Prelude.{◌≡◌, IfOk};
 ghost use Rattle.rbbi_model.specs.Lines.{compile_line};
 ghost use Rattle.rbbi_tool.specs.inner.Stages.{Meets};
-ghost use Rattle.rbbi_tool.specs.inner.Properties.{AreHanded};
+ghost use Rattle.rbbi_command.specs.Requests.{options_in};
+ghost use Rattle.rbbi_command.specs.Inputs.{inputs_in, AreShort};
 ghost use Rattle.rbbi_tool.specs.Command.Compile.{compile_stage};
 
-use super::{Output, Written};
-use crate::basis::table_of;
-use crate::lines::joined;
-use crate::name::Name;
-use crate::refusal::Refusal;
 use crate::rules::rules_from;
-use crate::words::Options;
+use crate::tables::table_of;
 use itoa::Buffer;
+use rbbi_command::{Inputs, Name, Options, Output, Refusal, Written, joined};
 use rbbi_table::Table;
-use rbbi_text::{Raw, Steps};
+use rbbi_text::Steps;
 use std::alloc::{AllocError, Global};
 use std::sync::ledger::Ledger;
 
@@ -55,17 +51,15 @@ fn numbers_line(alloc: Global, table: &Table) -> Result<Vec<u8>, AllocError>
 pub(crate) fn compile<L: Ledger>(
     alloc: Global,
     options: &Options,
-    handed: &[Raw],
-    rules: &Raw,
+    inputs: &Inputs,
     name: &str,
     steps: &mut Steps<L>,
 ) -> Result<Output, Refusal>
-    requires handed { AreHanded options.now.properties.items handed.now }
-    requires short { length rules.now ≤ most_bytes }
-    ensures { Meets (λ output. output) (compile_stage options.now.properties.items
-        options.now.ignored handed.now rules.now name.now) result }
+    requires { AreShort (inputs_in inputs.now) }
+    ensures { Meets (λ output. output)
+        (compile_stage (options_in options.now) (inputs_in inputs.now) name.now) result }
 {
-    let rules = rules_from(alloc, options, handed, rules, steps)?;
+    let rules = rules_from(alloc, options, inputs, steps)?;
     let table = table_of(alloc, &rules)?;
     let name = Name::new(alloc, name)?;
     let bytes = rbbi_file::write_table(alloc, &table)?;

@@ -1,23 +1,20 @@
 //! The command `conform`.
-ghost use Rattle.std.specs.Prelude.{◌≡◌, ◌≤◌, ◌<◌, ◌+◌, ◌-◌, ◌^◌, ◌++◌, ◌==◌, if◌then◌else◌};
-ghost use Rattle.std.specs.Prelude.{length, None, IfOk, OnOk};
-ghost use Rattle.rbbi_text.specs.Bytes.{most_bytes};
+ghost use Rattle.std.specs.Prelude.{◌≡◌, ◌<◌, ◌+◌, ◌-◌, ◌^◌, ◌++◌, ◌==◌, if◌then◌else◌};
+ghost use Rattle.std.specs.Prelude.{None, IfOk, OnOk};
 ghost use Rattle.rbbi_model.specs.Lines.{differs_line, verdicts_line};
 ghost use Rattle.rbbi_tool.specs.inner.Stages.{Meets};
-ghost use Rattle.rbbi_tool.specs.inner.Properties.{AreHanded};
+ghost use Rattle.rbbi_command.specs.Requests.{options_in};
+ghost use Rattle.rbbi_command.specs.Inputs.{inputs_in, AreShort};
 ghost use Rattle.rbbi_tool.specs.inner.Judging.{TellsVerdicts};
 ghost use Rattle.rbbi_tool.specs.Command.Conform as spec;
 
-use super::Output;
-use crate::basis::basis;
-use crate::lines::joined;
-use crate::refusal::Refusal;
 use crate::scripts::tests_of;
-use crate::words::Options;
+use crate::tables::table_from;
 use itoa::Buffer;
+use rbbi_command::{Inputs, Options, Output, Refusal, joined};
 use rbbi_conform::{Test, Tests, Verdict, judge};
 use rbbi_table::{Marks, Table};
-use rbbi_text::{Chars, Raw, Steps};
+use rbbi_text::{Chars, Steps};
 use std::alloc::{AllocError, Global};
 use std::sync::ledger::Ledger;
 
@@ -131,24 +128,19 @@ fn output_of(alloc: Global, report: Report) -> Result<Output, AllocError>
     })
 }
 
-/// The verdicts on a test file of this name, by a rule file or a table file.
+/// The verdicts on a test file, by a rule file or a table file.
 pub(crate) fn conform<L: Ledger>(
     alloc: Global,
     options: &Options,
-    handed: &[Raw],
-    source: &Raw,
-    name: &str,
-    tests: &Raw,
+    inputs: &Inputs,
     steps: &mut Steps<L>,
 ) -> Result<Output, Refusal>
-    requires handed { AreHanded options.now.properties.items handed.now }
-    requires source { length source.now ≤ most_bytes }
-    requires tests { length tests.now ≤ most_bytes }
-    ensures { Meets (λ output. output) (spec.conform_stage options.now.properties.items
-        options.now.ignored options.now.by_table handed.now source.now name.now tests.now) result }
+    requires { AreShort (inputs_in inputs.now) }
+    ensures { Meets (λ output. output)
+        (spec.conform_stage (options_in options.now) (inputs_in inputs.now)) result }
 {
-    let table = basis(alloc, options, handed, source, steps)?;
-    let tests = tests_of(alloc, name, tests, steps)?;
+    let table = table_from(alloc, options, inputs, steps)?;
+    let tests = tests_of(alloc, &inputs.tests, steps)?;
     rbbi_model::same_marks_give_the_boundaries();
     let report = report_of(alloc, &table, &tests, steps)?;
     Ok(output_of(alloc, report)?)

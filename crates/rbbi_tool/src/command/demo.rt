@@ -1,16 +1,13 @@
 //! The command `demo`.
 ghost use Rattle.std.specs.Prelude.{◌≡◌, ℕ, IfOk};
 ghost use Rattle.rbbi_demo.specs.declared.summary.Summary.{Summary};
-ghost use Rattle.rbbi_tool.specs.Counts.{IsCount};
+ghost use Rattle.rbbi_command.specs.Counts.{IsCount};
 ghost use Rattle.rbbi_tool.specs.inner.Stages.{Meets};
 ghost use Rattle.rbbi_tool.specs.Command.Demo as spec;
 
-use super::Output;
-use crate::basis::compiled_text;
-use crate::lines::joined;
-use crate::refusal::Refusal;
-use crate::words::count_of;
+use crate::tables::table_of_text;
 use itoa::Buffer;
+use rbbi_command::{Output, Refusal, count_of, joined};
 use rbbi_demo::Summary;
 use rbbi_text::Steps;
 use std::alloc::{AllocError, Global};
@@ -63,7 +60,7 @@ pub(crate) fn demo<L: Ledger>(
     let Some(count) = count_of(word) else {
         unreachable!();
     };
-    let table = compiled_text(alloc, RULES)?;
+    let table = table_of_text(alloc, RULES)?;
     rbbi_model::same_marks_give_the_boundaries();
     rbbi_demo::table_summaries_are_those_of_the_rules();
     let summary = rbbi_demo::demo(alloc, &table, count, steps)?;

@@ -1,8 +1,8 @@
 use Rattle.std.proofs.Common.{◌∙◌, refl, sym, subst}
 use Rattle.std.specs.Prelude.{IfSome}
 use Rattle.rbbi_io.specs.Counts.{EachGoesOn}
-use Rattle.rbbi_tool.specs.Files.{sources_of}
-use Rattle.rbbi_tool.specs.Reads.{MakesSomeReads}
+use Rattle.rbbi_command.specs.Files.{sources_of}
+use Rattle.rbbi_command.specs.Reads.{MakesSomeReads}
 use Rattle.rbbi_tool.proofs.Runs.{is_answer, from_start, statuses_of, usage_of, no_form_of, outcome_of, read_failed_of, put_failed_of, front_of}
 use Rattle.rbbi_tool.proofs.Runs.{no_part_same, complete_of, each_of, unwritten_of, others_of_all}
 use Rattle.rbbi_tool.proofs.program.rbbi.Goals as goal

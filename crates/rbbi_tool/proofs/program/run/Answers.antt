@@ -1,27 +1,23 @@
-use Rattle.std.proofs.Common.{◌∙◌, List, ℕ, subst}
+use Rattle.std.proofs.Common.{◌∙◌}
 use Rattle.std.proofs.lemmas.Result.{err_from_is_err_and}
-use Rattle.rbbi_tool.specs.inner.Stages.{Meets}
-use Rattle.rbbi_tool.specs.inner.Requests.{asked_by}
-use Rattle.rbbi_tool.specs.Program.{files_stage}
-use Rattle.rbbi_tool.specs.inner.Steps.{FilesReads}
+use Rattle.rbbi_command.specs.Requests.{asked_by}
+use Rattle.rbbi_command.specs.Inputs.{inputs_in}
 use Rattle.rbbi_tool.proofs.Runs.{ends_run, command_ends, ordered}
 use Rattle.rbbi_tool.proofs.Counted.{reads_nothing, reads_none, reads_told}
 use Rattle.rbbi_tool.proofs.program.run.Goals as goal
 
-pub returns-in_err-all-clause-comes : goal.returns-in_err-all-clause-comes
-returns-in_err-all-clause-comes g c =
-    let p = err_from_is_err_and c.from_residual-in_err-all.result c.from_residual-in_err-all.ensures.1 in
+pub returns-in_err-inputs-clause-comes : goal.returns-in_err-inputs-clause-comes
+returns-in_err-inputs-clause-comes g c =
+    let p = err_from_is_err_and c.from_residual-in_err-inputs.result c.from_residual-in_err-inputs.ensures.1 in
     let asks = rw c.in-Some.is at c.in_ok-request.ensures in
-    rw (p.1, p.2) (ends_run _ _ _ _ _ asks c.deref.result.now c.in_err-all.field-0.0
-    (c.deref.ensures.value ∙ c.in_ok-sources.ensures) c.in_err-all.ensures.refused)
+    rw (p.1, p.2) (ends_run _ _ _ _ _ asks c.deref.result.now c.in_err-inputs.field-0.0
+    (c.deref.ensures.value ∙ c.in_ok-sources.ensures) c.in_err-inputs.ensures.refused)
 
 pub returns-clause-comes : goal.returns-clause-comes
 returns-clause-comes g c =
     let asks = rw c.in-Some.is at c.in_ok-request.ensures in
-    command_ends _ _ _ _ _ asks c.deref.result.now c.in_ok-all.all.items c.output_of.result
-    (c.deref.ensures.value ∙ c.in_ok-sources.ensures) c.in_ok-all.ensures.read
-    (subst (λ bytes. Meets (λ outcome. outcome) (files_stage (asked_by c.in-Some.request) bytes) c.output_of.result) c.deref-2.ensures.value
-    c.output_of.ensures.exact)
+    command_ends _ _ _ _ _ asks c.deref.result.now (inputs_in c.in_ok-inputs.inputs) c.output_of.result
+    (c.deref.ensures.value ∙ c.in_ok-sources.ensures) c.in_ok-inputs.ensures.read c.output_of.ensures.exact
 
 pub returns-in_err-request-clause-reading : goal.returns-in_err-request-clause-reading
 returns-in_err-request-clause-reading g c = reads_nothing _ _ _ c.args.steps.now
@@ -32,13 +28,13 @@ returns-in_default-clause-reading g c = reads_nothing _ _ _ c.args.steps.now
 pub returns-in_err-sources-clause-reading : goal.returns-in_err-sources-clause-reading
 returns-in_err-sources-clause-reading g c = reads_nothing _ _ _ c.args.steps.now
 
-pub returns-in_err-all-clause-reading : goal.returns-in_err-all-clause-reading
-returns-in_err-all-clause-reading g c =
+pub returns-in_err-inputs-clause-reading : goal.returns-in_err-inputs-clause-reading
+returns-in_err-inputs-clause-reading g c =
     let here = rw c.in-Some.is at c.in_ok-request.ensures in
     let sources = c.deref.ensures.value ∙ c.in_ok-sources.ensures in
     record {
       unread = λ none. absurd (none (asked_by c.in-Some.request) here);
-      order = λ request asks. ordered _ _ _ request asks here c.deref.result.now sources _ _ c.in_err-all.ensures.order;
+      order = λ request asks. ordered _ _ _ request asks here c.deref.result.now sources _ _ c.in_err-inputs.ensures.order;
       steps = λ request asks. reads_none _ request c.args.steps.now;
     }
 
@@ -46,11 +42,10 @@ pub returns-clause-reading : goal.returns-clause-reading
 returns-clause-reading g c =
     let here = rw c.in-Some.is at c.in_ok-request.ensures in
     let sources = c.deref.ensures.value ∙ c.in_ok-sources.ensures in
-    let Reads = λ (bytes : List (List ℕ)). FilesReads (asked_by c.in-Some.request) bytes c.args.steps.now c.output_of.new.steps in
     record {
       unread = λ none. absurd (none (asked_by c.in-Some.request) here);
-      order = λ request asks. ordered _ _ _ request asks here c.deref.result.now sources _ _ c.in_ok-all.ensures.order;
+      order = λ request asks. ordered _ _ _ request asks here c.deref.result.now sources _ _ c.in_ok-inputs.ensures.order;
       steps = λ request asks.
-          reads_told _ _ (asked_by c.in-Some.request) request asks here c.deref.result.now c.in_ok-all.all.items c.args.steps.now c.output_of.new.steps
-          sources c.in_ok-all.ensures.read (subst Reads c.deref-2.ensures.value c.output_of.ensures.steps);
+          reads_told _ _ (asked_by c.in-Some.request) request asks here c.deref.result.now (inputs_in c.in_ok-inputs.inputs) c.args.steps.now
+          c.output_of.new.steps sources c.in_ok-inputs.ensures.read c.output_of.ensures.steps;
     }

@@ -1,6 +1,7 @@
-use Rattle.std.proofs.Common.{inl, inr, ⊎_elim, subst, refl}
+use Rattle.std.proofs.Common.{inl, inr, ⊎_elim, subst, refl, ap, ◌∙◌}
 use Rattle.std.specs.Prelude.{Ok, Err}
 use Rattle.rbbi_script.specs.Files.{ReadsScript}
+use Rattle.rbbi_tool.specs.Scripts.{lines_fault}
 use Rattle.rbbi_tool.proofs.scripts.commands_of.Goals as goal
 
 pub returns-in-Ok-clause-exact : goal.returns-in-Ok-clause-exact
@@ -17,5 +18,5 @@ returns-in-Err-clause-exact g c =
       error = c.in-Err.error;
       refused = subst (λ b. ReadsScript b (Err c.in-Err.error)) c.bytes.ensures.bytes c.in-Err.ensures.script;
       not_memory = some;
-      is = is;
+      is = is ∙ ap (λ name. lines_fault name c.in-Err.error) c.as_str.ensures;
     })) c.lines_refusal.ensures

@@ -1,9 +1,11 @@
-use Rattle.std.proofs.Common.{inl, inr, ⊎_elim, ap, ◌∙◌}
+use Rattle.std.proofs.Common.{inl, inr, ⊎_elim, ap, ◌∙◌, arith}
 use Rattle.std.proofs.lemmas.Result.{err_from_is_err_and}
 use Rattle.rbbi_model.specs.Searches.{table_boundaries}
-use Rattle.rbbi_tool.specs.Refusals.{printed}
-use Rattle.rbbi_tool.proofs.BasisLemmas.{gives_them, boundaries_given}
-use Rattle.rbbi_tool.proofs.Counted.{listing_reads}
+use Rattle.rbbi_command.specs.Refusals.{printed}
+use Rattle.rbbi_tool.proofs.Bases.{gives_them, boundaries_given}
+use Rattle.rbbi_tool.proofs.Counted.{rises_further, listing_reads}
+use Rattle.rbbi_command.specs.Inputs.{inputs_in}
+use Rattle.rbbi_tool.specs.inner.Steps.{given_bytes}
 use Rattle.rbbi_tool.proofs.command.breaks.breaks.Goals as goal
 
 pub returns-in_err-text-clause-exact : goal.returns-in_err-text-clause-exact
@@ -33,9 +35,11 @@ returns-clause-exact g c =
 pub returns-in_err-bytes-clause-steps : goal.returns-in_err-bytes-clause-steps
 returns-in_err-bytes-clause-steps g c =
     let basis = c.in_ok-table.ensures.table in
-    listing_reads _ _ _ _ c.basis.new.steps _ basis.0 _ _ basis.1 basis.2 c.in_ok-text.ensures.exact c.basis.ensures.steps c.lines_of.ensures.steps
+    listing_reads _ _ _ _ c.table_from.new.steps _ basis.0 _ _ basis.1 basis.2 c.in_ok-text.ensures.exact
+    (rises_further _ (given_bytes (inputs_in c.args.inputs.now)) _ _ c.table_from.ensures.steps (omega arith)) c.lines_of.ensures.steps
 
 pub returns-clause-steps : goal.returns-clause-steps
 returns-clause-steps g c =
     let basis = c.in_ok-table.ensures.table in
-    listing_reads _ _ _ _ c.basis.new.steps _ basis.0 _ _ basis.1 basis.2 c.in_ok-text.ensures.exact c.basis.ensures.steps c.lines_of.ensures.steps
+    listing_reads _ _ _ _ c.table_from.new.steps _ basis.0 _ _ basis.1 basis.2 c.in_ok-text.ensures.exact
+    (rises_further _ (given_bytes (inputs_in c.args.inputs.now)) _ _ c.table_from.ensures.steps (omega arith)) c.lines_of.ensures.steps

@@ -1,7 +1,7 @@
 use Rattle.std.proofs.Common.{◌≡◌, ℕ, List, Some, refl, inl, inr, ⊎_elim}
 use Rattle.std.proofs.lemmas.Result.{err_from_is_err_and}
 use Rattle.rbbi_resolve.specs.RuleLists.{rules_of}
-use Rattle.rbbi_tool.specs.Refusals.{Outcome}
+use Rattle.rbbi_command.specs.Refusals.{Outcome}
 use Rattle.rbbi_tool.proofs.command.compile.compile.Goals as goal
 
 -- outcomes with equal bytes and files are equal

@@ -3,7 +3,7 @@ use Rattle.std.specs.Prelude.{if◌then◌else◌, ◌==◌}
 use Rattle.std.proofs.lemmas.Result.{err_from_is_err_and}
 use Rattle.rbbi_model.specs.Lines.{verdicts_line}
 use Rattle.rbbi_tool.specs.Command.Conform.{told_verdicts}
-use Rattle.rbbi_tool.proofs.BasisLemmas.{gives_them}
+use Rattle.rbbi_tool.proofs.Bases.{gives_them}
 use Rattle.rbbi_tool.proofs.Verdicts.{verdicts_given}
 use Rattle.rbbi_tool.proofs.command.conform.conform.Goals as goal
 

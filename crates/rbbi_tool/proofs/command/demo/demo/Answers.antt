@@ -1,6 +1,6 @@
 use Rattle.std.proofs.Common.{inl, inr, ⊎_elim, ap, ◌∙◌}
 use Rattle.std.proofs.lemmas.Result.{err_from_is_err_and}
-use Rattle.rbbi_tool.specs.Refusals.{printed}
+use Rattle.rbbi_command.specs.Refusals.{printed}
 use Rattle.rbbi_tool.specs.Command.Demo.{demo_rules}
 use Rattle.rbbi_tool.proofs.command.demo.demo.Goals as goal
 

@@ -1,11 +1,13 @@
-use Rattle.std.proofs.Common.{inl, inr, ⊎_elim, map, ap, ◌∙◌}
+use Rattle.std.proofs.Common.{inl, inr, ⊎_elim, map, ap, ◌∙◌, arith}
 use Rattle.std.proofs.lemmas.Result.{err_from_is_err_and}
 use Rattle.rbbi_model.specs.Scripts.{table_replies}
 use Rattle.rbbi_script.specs.Meaning.{meaning}
-use Rattle.rbbi_tool.specs.Refusals.{printed}
-use Rattle.rbbi_tool.proofs.BasisLemmas.{gives_them}
+use Rattle.rbbi_command.specs.Refusals.{printed}
+use Rattle.rbbi_tool.proofs.Bases.{gives_them}
 use Rattle.rbbi_tool.proofs.Replies.{replies_given}
-use Rattle.rbbi_tool.proofs.Counted.{rises_by, replies_read}
+use Rattle.rbbi_tool.proofs.Counted.{rises_further, rises_by, replies_read}
+use Rattle.rbbi_command.specs.Inputs.{inputs_in}
+use Rattle.rbbi_tool.specs.inner.Steps.{given_bytes}
 use Rattle.rbbi_tool.proofs.command.run.run.Goals as goal
 
 pub returns-in_err-text-clause-exact : goal.returns-in_err-text-clause-exact
@@ -48,10 +50,12 @@ pub returns-in_err-replies-clause-steps : goal.returns-in_err-replies-clause-ste
 returns-in_err-replies-clause-steps g c =
     let basis = c.in_ok-table.ensures.table in
     replies_read _ _ _ _ c.commands_of.new.steps _ basis.0 _ _ basis.1 basis.2 c.in_ok-text.ensures.exact
-    (rises_by _ _ _ c.basis.new.steps _ c.basis.ensures.steps c.commands_of.ensures.steps) _ _ c.in_ok-commands.ensures.exact c.replies_of.ensures.steps
+    (rises_further _ (given_bytes (inputs_in c.args.inputs.now)) _ _
+    (rises_by _ _ _ c.table_from.new.steps _ c.table_from.ensures.steps c.commands_of.ensures.steps) (omega arith)) _ _ c.in_ok-commands.ensures.exact c.replies_of.ensures.steps
 
 pub returns-clause-steps : goal.returns-clause-steps
 returns-clause-steps g c =
     let basis = c.in_ok-table.ensures.table in
     replies_read _ _ _ _ c.commands_of.new.steps _ basis.0 _ _ basis.1 basis.2 c.in_ok-text.ensures.exact
-    (rises_by _ _ _ c.basis.new.steps _ c.basis.ensures.steps c.commands_of.ensures.steps) _ _ c.in_ok-commands.ensures.exact c.replies_of.ensures.steps
+    (rises_further _ (given_bytes (inputs_in c.args.inputs.now)) _ _
+    (rises_by _ _ _ c.table_from.new.steps _ c.table_from.ensures.steps c.commands_of.ensures.steps) (omega arith)) _ _ c.in_ok-commands.ensures.exact c.replies_of.ensures.steps

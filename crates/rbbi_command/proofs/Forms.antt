@@ -1,0 +1,97 @@
+-- What words ask for, and that they are of no form.
+use Rattle.std.proofs.Common.{◌≡◌, ◌≢◌, ℕ, Bool, false, List, [], ◌∷◌, length, Option, None, Some, refl, sym, ap, ◌∙◌, subst}
+use Rattle.std.specs.Prelude.{codes, bytes_eq, if◌then◌else◌}
+use Rattle.rbbi_command.specs.declared.words.command.Command.{Command}
+use Rattle.rbbi_command.specs.declared.words.command.Command.TheVariants.{Check, Compile, Breaks, Run, Conform, Demo}
+use Rattle.rbbi_command.specs.declared.words.setting.Setting.{Setting}
+use Rattle.rbbi_command.specs.Settings.{options_of, are_taken, are_by_table, BeginWithSettings}
+use Rattle.rbbi_command.specs.Words.{Request, IsCommandLine, AreNoForm, name_of, taken_by, operands_of, AllFit}
+use Rattle.rbbi_command.proofs.SettingLemmas.{same_settings}
+
+-- the command of a word
+abbrev command_at : List ℕ → Option Command
+command_at word =
+    if bytes_eq word (codes "check") then Some Check
+    else (if bytes_eq word (codes "compile") then Some Compile
+    else (if bytes_eq word (codes "breaks") then Some Breaks
+    else (if bytes_eq word (codes "run") then Some Run
+    else (if bytes_eq word (codes "conform") then Some Conform else (if bytes_eq word (codes "demo") then Some Demo else None)))))
+
+named : (command : Command) → command_at (name_of command) ≡ Some command
+named Check = refl
+named Compile = refl
+named Breaks = refl
+named Run = refl
+named Conform = refl
+named Demo = refl
+
+-- a word is that of one command alone
+pub same_command : (one other : Command) → name_of one ≡ name_of other → one ≡ other
+same_command one other same = let both = sym (named one) ∙ ap command_at same ∙ named other in cc
+
+-- no words at all
+pub no_words : (words : List (List ℕ)) → words ≡ [] → AreNoForm words
+no_words words none request asks = absurd (cc (asks.are))
+
+module _ (words : List (List ℕ)) (word : List ℕ) (more : List (List ℕ)) (are : words ≡ word ∷ more) where
+  -- the first word is of no command
+  pub no_command : ((command : Command) → word ≢ name_of command) → AreNoForm words
+  no_command none request asks = none request.command (let same = sym are ∙ asks.are in cc)
+
+  -- the words behind it begin with no options
+  pub no_options : ((settings : List Setting) (rest : List (List ℕ)) → ¬ BeginWithSettings more settings rest) → AreNoForm words
+  no_options none request asks =
+      let same : asks.more ≡ more = (let both = sym are ∙ asks.are in cc) in
+      none asks.settings request.operands (subst (λ w. BeginWithSettings w asks.settings request.operands) same asks.begin)
+
+  module _ (command : Command) (is : word ≡ name_of command) (settings : List Setting) (rest : List (List ℕ)) (begin : BeginWithSettings more settings rest)
+    where
+      command_is : (request : Request) → IsCommandLine words request → request.command ≡ command
+      command_is request asks =
+          let both = sym are ∙ asks.are in
+          let name : name_of request.command ≡ name_of command = cc in
+          same_command request.command command name
+
+      settings_are : (request : Request) (asks : IsCommandLine words request) → (asks.settings ≡ settings) × (request.operands ≡ rest)
+      settings_are request asks =
+          let both = sym are ∙ asks.are in
+          let same : asks.more ≡ more = cc in
+          same_settings more asks.settings settings request.operands rest
+          (subst (λ w. BeginWithSettings w asks.settings request.operands) same asks.begin) begin
+
+      -- the command doesn't take the options
+      pub not_taken : are_taken (taken_by command) settings ≡ false → AreNoForm words
+      not_taken refused request asks =
+          let here : are_taken (taken_by request.command) asks.settings ≡ are_taken (taken_by command) settings =
+          ap (λ c. are_taken (taken_by c) asks.settings) (command_is request asks) ∙ ap (are_taken (taken_by command)) (settings_are request asks).0 in
+          let taken = asks.taken in
+          absurd cc
+
+      -- there are more or fewer operands
+      pub other_count : (by_table : Bool) → by_table ≡ are_by_table settings → length rest ≢ length (operands_of command by_table) → AreNoForm words
+      other_count by_table same differ request asks =
+          let table : request.options.by_table ≡ by_table = ap (λ o. o.by_table) asks.options ∙ ap are_by_table (settings_are request asks).0 ∙ sym same in
+          differ
+          (ap length (sym (settings_are request asks).1) ∙ asks.count ∙ ap (λ c. length (operands_of c request.options.by_table)) (command_is request asks)
+          ∙ ap (λ t. length (operands_of command t)) table)
+
+      -- an operand isn't of its form
+      pub not_fit : (by_table : Bool) → by_table ≡ are_by_table settings → ¬ AllFit (operands_of command by_table) rest → AreNoForm words
+      not_fit by_table same none request asks =
+          let table : request.options.by_table ≡ by_table = ap (λ o. o.by_table) asks.options ∙ ap are_by_table (settings_are request asks).0 ∙ sym same in
+          none
+          (subst (AllFit (operands_of command by_table)) (settings_are request asks).1
+          (subst (λ t. AllFit (operands_of command t) request.operands) table
+          (subst (λ c. AllFit (operands_of c request.options.by_table) request.operands) (command_is request asks) asks.fit)))
+
+-- one request fits the words
+pub same_request : (words : List (List ℕ)) (one other : Request) → IsCommandLine words one → IsCommandLine words other → one ≡ other
+same_request words one other asks asks' =
+    let both = sym asks.are ∙ asks'.are in
+    let name : name_of one.command ≡ name_of other.command = cc in
+    let same : asks.more ≡ asks'.more = cc in
+    let command : one.command ≡ other.command = same_command one.command other.command name in
+    let settings = same_settings asks'.more asks.settings asks'.settings one.operands other.operands
+    (subst (λ w. BeginWithSettings w asks.settings one.operands) same asks.begin) asks'.begin in
+    let options = asks.options ∙ ap options_of settings.0 ∙ sym asks'.options in
+    λ i. record { command = command i; options = options i; operands = settings.1 i }

@@ -1,0 +1,71 @@
+-- The files that words name to be read, each with its limit.
+use Rattle.std.specs.Prelude.{◌≡◌, ◌<◌, ◌≤◌, ℕ, List, [], ◌∷◌, ◌++◌, length, map, codes}
+use Rattle.rbbi_text.specs.Bytes.{most_bytes}
+use Rattle.rbbi_command.specs.declared.words.setting.Property.{Property}
+use Rattle.rbbi_command.specs.declared.words.command.Operand.{Operand}
+use Rattle.rbbi_command.specs.declared.words.command.Operand.TheVariants.{Read, Written, Count}
+use Rattle.rbbi_command.specs.declared.files.Role.{Role}
+use Rattle.rbbi_command.specs.declared.files.Role.TheVariants as role
+use Rattle.rbbi_command.specs.declared.files.Source.{Source}
+use Rattle.rbbi_command.specs.declared.refusal.Subject.{Subject}
+use Rattle.rbbi_command.specs.declared.refusal.Subject.TheVariants.{Rules, Table, File}
+use Rattle.rbbi_command.specs.declared.refusal.Place.TheVariants.{Whole}
+use Rattle.rbbi_command.specs.declared.refusal.Refusal.{Refusal}
+use Rattle.rbbi_command.specs.declared.refusal.Refusal.TheVariants.{Fault}
+use Rattle.rbbi_command.specs.Stages.{Stage, followed_by}
+use Rattle.rbbi_command.specs.Words.{Request, operands_of}
+
+-- the most bytes that a file in this role may have
+abbrev pub limit_of : Role → ℕ
+limit_of role.Property = 8388608
+limit_of role.Rules = 1048576
+limit_of role.Table = most_bytes
+limit_of role.Text = 67108864
+limit_of role.Script = 1048576
+limit_of role.Tests = 16777216
+
+-- what the faults of a file are told of
+abbrev pub subject_of : Role → List ℕ → Subject
+subject_of role.Property name = File name
+subject_of role.Rules name = Rules
+subject_of role.Table name = Table
+subject_of role.Text name = File name
+subject_of role.Script name = File name
+subject_of role.Tests name = File name
+
+-- the property file
+abbrev pub property_source : Property → Source
+property_source property = record { role = role.Property; name = property.file }
+
+-- the file of an operand, where it is read
+abbrev pub operand_source : Operand → List ℕ → List Source
+operand_source (Read role) name = record { role = role; name = name } ∷ []
+operand_source Written name = []
+operand_source Count word = []
+
+-- the files of these operands that are read
+abbrev pub operand_sources : List Operand → List (List ℕ) → List Source
+operand_sources [] names = []
+operand_sources (operand ∷ operands) [] = []
+operand_sources (operand ∷ operands) (name ∷ names) = operand_source operand name ++ operand_sources operands names
+
+-- the files that a request names to be read, in the order of the words
+abbrev pub sources_of : Request → List Source
+sources_of request =
+    map property_source request.options.properties ++ operand_sources (operands_of request.command request.options.by_table) request.operands
+
+-- the file is too long
+abbrev pub too_long : Source → Refusal
+too_long source = Fault (subject_of source.role source.name) (codes "TooLong") Whole
+
+-- a file that holds so many bytes is within its limit, or too long
+abbrev pub length_stage : (List ℕ → List ℕ) → Source → Stage (Unit {0})
+length_stage held source = record {
+  passes = λ _. length (held source.name) ≤ limit_of source.role;
+  refuses = λ refusal. (limit_of source.role < length (held source.name)) × (refusal ≡ too_long source);
+}
+
+-- each file is within its limit, or the first that is too long is refused
+abbrev pub lengths_stage : (List ℕ → List ℕ) → List Source → Stage (Unit {0})
+lengths_stage held [] = record { passes = λ _. Unit {0}; refuses = λ _. ⊥ }
+lengths_stage held (source ∷ sources) = followed_by (length_stage held source) (λ _. lengths_stage held sources)

@@ -1,0 +1,11 @@
+pub mod Stages
+pub mod Refusals
+pub mod Settings
+pub mod Counts
+pub mod Words
+pub mod Requests
+pub mod Files
+pub mod Inputs
+pub mod Reads
+pub mod Delivery
+pub mod inner

@@ -1,0 +1,95 @@
+-- The options between the word of a command and its first operand.
+use Rattle.std.specs.Prelude.{◌≡◌, ◌≢◌, ℕ, Bool, true, false, not, ◌&&◌, ◌||◌, ◌==◌, nat_le, if◌then◌else◌, List, [], ◌∷◌, ◌++◌, length, codes, count_by}
+use Rattle.std.specs.Prelude.{filter_map, Option, Some, None}
+use Rattle.std.specs.List.{list_any, list_all, flat_map, AllByRecursion}
+use Rattle.std.specs.Char.{is_ascii_alphanumeric}
+use Rattle.rbbi_command.specs.declared.words.setting.Property.{Property}
+use Rattle.rbbi_command.specs.declared.words.setting.Setting.{Setting}
+use Rattle.rbbi_command.specs.declared.words.setting.Setting.TheVariants.{HandIn, IgnoreDictionary, ByTable}
+use Rattle.rbbi_command.specs.declared.words.command.Takes.{Takes}
+use Rattle.rbbi_command.specs.declared.words.command.Takes.TheVariants.{NoOptions, RuleOptions, RuleOptionsOrTable}
+
+-- whether a byte may stand in the name of a property: a letter, a digit, a space, `_` or `-`
+abbrev pub is_property_name_byte : ℕ → Bool
+is_property_name_byte byte = is_ascii_alphanumeric byte || ((byte == 32) || ((byte == 95) || (byte == 45)))
+
+-- whether a word is the name of a property: of such bytes, with a letter or digit
+abbrev pub is_property_name : List ℕ → Bool
+is_property_name name = list_any is_ascii_alphanumeric name && list_all is_property_name_byte name
+
+-- an option is of its form: a property file has the name of a property, and a name of its own that isn't empty
+abbrev pub IsSetting : Setting → Type 0
+IsSetting (HandIn property) = (is_property_name property.name ≡ true) × (property.file ≢ [])
+IsSetting IgnoreDictionary = Unit {0}
+IsSetting ByTable = Unit {0}
+
+-- the words of an option. The name of a property has no `=`, so the first one ends it.
+abbrev pub spelled : Setting → List (List ℕ)
+spelled (HandIn property) = codes "--prop" ∷ (property.name ++ 61 ∷ property.file) ∷ []
+spelled IgnoreDictionary = codes "--ignore-dictionary" ∷ []
+spelled ByTable = codes "--table" ∷ []
+
+-- whether the option hands in a property file
+abbrev pub is_property : Setting → Bool
+is_property (HandIn property) = true
+is_property IgnoreDictionary = false
+is_property ByTable = false
+
+-- the property file that an option hands in
+abbrev pub property_of : Setting → Option Property
+property_of (HandIn property) = Some property
+property_of IgnoreDictionary = None
+property_of ByTable = None
+
+-- whether the option lets `$dictionary` be a variable like others
+abbrev pub is_ignoring : Setting → Bool
+is_ignoring (HandIn property) = false
+is_ignoring IgnoreDictionary = true
+is_ignoring ByTable = false
+
+-- whether the option says that the first operand is a table file
+abbrev pub is_by_table : Setting → Bool
+is_by_table (HandIn property) = false
+is_by_table IgnoreDictionary = false
+is_by_table ByTable = true
+
+-- whether one of the options says that the first operand is a table file
+abbrev pub are_by_table : List Setting → Bool
+are_by_table settings = list_any is_by_table settings
+
+-- what options come to: the property files that are handed in, whether `$dictionary` is a variable like others, and whether the first
+-- operand is a table file
+pub record Options : Type 0 where
+  pub properties : List Property
+  pub ignored : Bool
+  pub by_table : Bool
+
+abbrev pub options_of : List Setting → Options
+options_of settings =
+    record { properties = filter_map property_of settings; ignored = list_any is_ignoring settings; by_table = are_by_table settings }
+
+-- whether there are at most 16 property files, and `$dictionary` is ignored once at most
+abbrev pub are_few : List Setting → Bool
+are_few settings = nat_le (count_by is_property settings) 16 && nat_le (count_by is_ignoring settings) 1
+
+-- Whether a command that takes such options takes these: none; those on rule files; or also the one that says that there is a table,
+-- which stands alone.
+abbrev pub are_taken : Takes → List Setting → Bool
+are_taken NoOptions settings = length settings == 0
+are_taken RuleOptions settings = not (are_by_table settings) && are_few settings
+are_taken RuleOptionsOrTable settings = if are_by_table settings then length settings == 1 else are_few settings
+
+-- the word begins as an option does
+abbrev pub IsOption : List ℕ → Type 0
+IsOption word = (rest : List ℕ) × (word ≡ codes "--" ++ rest)
+
+-- the first word, if there is one, doesn't begin as an option does
+abbrev pub BeginsWithoutOption : List (List ℕ) → Type 0
+BeginsWithoutOption [] = Unit {0}
+BeginsWithoutOption (word ∷ words) = ¬ IsOption word
+
+-- the words are these options, and then these further words, of which the first doesn't begin as an option does
+pub record BeginWithSettings (words : List (List ℕ)) (settings : List Setting) (rest : List (List ℕ)) : Type 0 where
+  pub are : words ≡ flat_map spelled settings ++ rest
+  pub each : AllByRecursion IsSetting settings
+  pub no_option : BeginsWithoutOption rest

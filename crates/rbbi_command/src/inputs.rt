@@ -1,0 +1,113 @@
+//! The files of a request as they were read, each by its role.
+ghost use Rattle.std.specs.Prelude.{◌≡◌, [], IfOk, IfErr, IfSome, OnOk};
+ghost use Rattle.rbbi_io.specs.Counts.{EachGoesOn, EachStays};
+ghost use Rattle.rbbi_command.specs.declared.inputs.Input.{Input};
+ghost use Rattle.rbbi_command.specs.Inputs as spec;
+ghost use Rattle.rbbi_command.specs.Reads.{AreRead, EndsReading, MakesSomeReads};
+
+use crate::files::read_one;
+use crate::{Name, Refusal, Role, Source};
+use rbbi_io::Files;
+use rbbi_text::Raw;
+use std::alloc::{AllocError, Global};
+
+/// A file that is told by its name.
+#[derive(Debug, Drop)]
+pub struct Input {
+    pub name: Name,
+    pub bytes: Raw,
+}
+
+/// What was read, by what it is to the program. A file that a request doesn't name is empty.
+#[derive(Debug, Drop)]
+pub struct Inputs {
+    /// The property files, in order.
+    pub properties: Vec<Raw>,
+    /// The rule file.
+    pub rules: Raw,
+    /// The table file.
+    pub table: Raw,
+    /// The text.
+    pub text: Input,
+    /// The script.
+    pub script: Input,
+    /// The test file.
+    pub tests: Input,
+}
+
+impl Input {
+    /// A file of this name that holds these bytes.
+    fn new(alloc: Global, name: &str, bytes: Raw) -> Result<Input, AllocError>
+        ensures { IfOk result (λ input. input ≡ record { name = name.now; bytes = bytes }) }
+    {
+        let name = Name::new(alloc, name)?;
+        Ok(Input { name, bytes })
+    }
+
+    /// A file that a request doesn't name.
+    fn none(alloc: Global) -> Result<Input, AllocError>
+        ensures { IfOk result (λ input. input ≡ record { name = []; bytes = [] }) }
+    {
+        Input::new(alloc, "", Raw::new(Vec::new(alloc)))
+    }
+}
+
+impl Inputs {
+    /// No file is read yet.
+    fn new(alloc: Global) -> Result<Inputs, AllocError>
+        ensures { IfOk result (λ inputs. spec.inputs_in inputs ≡ spec.no_inputs) }
+    {
+        Ok(Inputs {
+            properties: Vec::new(alloc),
+            rules: Raw::new(Vec::new(alloc)),
+            table: Raw::new(Vec::new(alloc)),
+            text: Input::none(alloc)?,
+            script: Input::none(alloc)?,
+            tests: Input::none(alloc)?,
+        })
+    }
+
+    /// Puts what a file holds in the place of its role.
+    fn put(&mut self, alloc: Global, source: &Source, bytes: Raw) -> Result<(), AllocError>
+        ensures { OnOk result (spec.inputs_in self.new
+            ≡ spec.put source.now.role source.now.name bytes (spec.inputs_in self.old)) }
+    {
+        let name = source.name.as_str();
+        match source.role {
+            Role::Property => self.properties.push(bytes)?,
+            Role::Rules => self.rules = bytes,
+            Role::Table => self.table = bytes,
+            Role::Text => self.text = Input::new(alloc, name, bytes)?,
+            Role::Script => self.script = Input::new(alloc, name, bytes)?,
+            Role::Tests => self.tests = Input::new(alloc, name, bytes)?,
+        }
+        Ok(())
+    }
+}
+
+/// Reads the files in order, and tells what each is to the program. The first that can't be read or
+/// is too long ends the reading, and none behind it is read.
+pub fn read_all<F: Files>(
+    alloc: Global,
+    sources: &[Source],
+    files: &mut F,
+) -> Result<Inputs, Refusal>
+    ensures short { IfOk result (λ inputs. spec.AreShort (spec.inputs_in inputs)) }
+    ensures read { IfOk result (λ inputs.
+        IfSome (F.contents files.old) (AreRead sources.now (spec.inputs_in inputs))) }
+    ensures refused { IfErr result (EndsReading sources.now (F.contents files.old)
+        (F.failed_reads files.old) (F.failed_reads files.new)) }
+    ensures order { IfSome (F.contents files.old) (MakesSomeReads sources.now
+        (F.failed_reads files.old) (F.failed_reads files.new)) }
+
+    ensures same { F.contents files.new ≡ F.contents files.old }
+    ensures reads { EachGoesOn (F.failed_reads files.old) (F.failed_reads files.new) }
+    ensures writes { EachStays (F.failed_writes files.old) (F.failed_writes files.new) }
+{
+    let mut inputs = Inputs::new(alloc)?;
+    for source in sources {
+        let bytes = read_one(alloc, source, files)?;
+        inputs.put(alloc, source, bytes)?;
+    }
+    Ok(inputs)
+}

@@ -1,0 +1,26 @@
+//! What a command of `rbbi` is: the words that ask for it, the files that it reads, why it ends
+//! without an output, and how its output is written. No compiler and no engine is known here.
+//!
+//! `words` has the commands, their options and their operands as data, `files` the limits of what
+//! is read, `refusal` all that ends a run, and `delivery` writes what a command comes to.
+#![tactic(auto)]
+
+mod delivery;
+mod files;
+mod inputs;
+mod lines;
+mod name;
+mod output;
+mod refusal;
+mod sources;
+mod words;
+
+pub use delivery::deliver;
+pub use files::{Role, Source};
+pub use inputs::{Input, Inputs, read_all};
+pub use lines::joined;
+pub use name::Name;
+pub use output::{Output, Written};
+pub use refusal::{Place, Refusal, Subject, fault, file_fault};
+pub use sources::sources_of;
+pub use words::{Command, Operand, Options, Property, Request, count_of, request_of};

@@ -1,0 +1,61 @@
+//! What a command comes to.
+
+use crate::Name;
+use std::marker::Model;
+
+/// A file that is written. Contracts see its name and its bytes.
+#[derive(Debug, Drop)]
+pub struct Written {
+    /// The name of the file.
+    pub name: Name,
+    /// What it holds then.
+    pub bytes: Vec<u8>,
+}
+
+impl Model for Written {
+    ghost use Rattle.rbbi_command.specs.Refusals as spec;
+
+    ghost Value = { spec.Written };
+
+    ghost view = { λ written. record { name = written.name; bytes = written.bytes.items } };
+}
+
+/// What a command comes to. Contracts see the status, the bytes and the file.
+#[derive(Debug, Drop)]
+pub struct Output {
+    /// The exit status.
+    pub status: u8,
+    /// What goes out.
+    pub bytes: Vec<u8>,
+    /// The file that is written before, if one is.
+    pub file: Option<Written>,
+}
+
+impl Model for Output {
+    ghost use Rattle.rbbi_command.specs.Refusals.{Outcome};
+
+    ghost Value = { Outcome };
+
+    ghost view = { λ output. record {
+      status = output.status;
+      bytes = output.bytes.items;
+      file =
+          output.file;
+    } };
+}
+
+impl Output {
+    ghost use Rattle.std.specs.Prelude.{◌≡◌};
+    ghost use Rattle.rbbi_command.specs.Refusals.{printed};
+
+    /// All is done, and these bytes go out.
+    pub fn printed(bytes: Vec<u8>) -> Output
+        ensures { result ≡ printed bytes.items }
+    {
+        Output {
+            status: 0,
+            bytes,
+            file: None,
+        }
+    }
+}

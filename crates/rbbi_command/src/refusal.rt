@@ -1,0 +1,175 @@
+//! What ends a run before its output.
+ghost use Rattle.std.specs.Prelude.{◌≡◌, ◌⊎◌, IfOk};
+ghost use Rattle.rbbi_command.specs.declared.refusal.Refusal.TheVariants as refusal;
+ghost use Rattle.rbbi_command.specs.declared.refusal.Subject.TheVariants as file;
+ghost use Rattle.rbbi_command.specs.Refusals as spec;
+
+use crate::{Name, joined};
+use itoa::Buffer;
+use std::alloc::{AllocError, AllocFailed, Global};
+
+/// The file that a fault is told of.
+#[derive(Debug, Drop)]
+pub enum Subject {
+    /// The rule file.
+    Rules,
+    /// The table file.
+    Table,
+    /// A file that is told by its name.
+    File(Name),
+}
+
+/// Where in a file a fault stands.
+#[derive(Clone, Copy, Debug)]
+pub enum Place {
+    /// In the file as a whole.
+    Whole,
+    /// At a byte, from 0.
+    Byte(u32),
+    /// At a line, from 1.
+    Row(u32),
+    /// At a line and a column, each from 1.
+    Within { row: u32, column: u32 },
+}
+
+/// What ends a run before its output.
+#[derive(Debug, Drop)]
+pub enum Refusal {
+    /// The words are of no stated form.
+    Usage,
+    /// The read of the file with this name failed.
+    Unread(Name),
+    /// A fault of this label stands in a file.
+    Fault {
+        subject: Subject,
+        label: Name,
+        place: Place,
+    },
+    /// Memory ran out.
+    Memory,
+}
+
+impl From<AllocError> for Refusal {
+    ghost from_gives = { λ _ e. e ≡ refusal.Memory };
+
+    fn from(_error: AllocError) -> Refusal {
+        Refusal::Memory
+    }
+}
+
+impl<T: Drop> From<AllocFailed<T>> for Refusal {
+    ghost from_gives = { λ _ e. e ≡ refusal.Memory };
+
+    fn from(_error: AllocFailed<T>) -> Refusal {
+        Refusal::Memory
+    }
+}
+
+impl Subject {
+    /// The name under which faults are told.
+    fn printed_name(&self) -> &str
+        ensures { result.now ≡ spec.printed_name self.now }
+    {
+        match self {
+            Subject::Rules => "rules",
+            Subject::Table => "table",
+            Subject::File(name) => name.as_str(),
+        }
+    }
+
+    /// The exit status of a fault.
+    fn status(&self) -> u8
+        ensures { result ≡ spec.status_of_subject self.now }
+    {
+        match self {
+            Subject::Rules => 3,
+            Subject::Table => 4,
+            Subject::File(_) => 5,
+        }
+    }
+}
+
+/// A fault of this label, or want of memory.
+pub fn fault(alloc: Global, subject: Subject, label: &str, place: Place) -> Refusal
+    ensures { (result ≡ Refusal.Memory) ⊎ (result ≡ Refusal.Fault subject label.now place) }
+{
+    match Name::new(alloc, label) {
+        Ok(label) => Refusal::Fault {
+            subject,
+            label,
+            place,
+        },
+        Err(AllocError) => Refusal::Memory,
+    }
+}
+
+/// A fault of this label in the file of this name, or want of memory.
+pub fn file_fault(alloc: Global, name: &str, label: &str, place: Place) -> Refusal
+    ensures { (result ≡ Refusal.Memory)
+        ⊎ (result ≡ Refusal.Fault (file.File name.now) label.now place) }
+{
+    match Name::new(alloc, name) {
+        Ok(name) => fault(alloc, Subject::File(name), label, place),
+        Err(AllocError) => Refusal::Memory,
+    }
+}
+
+/// The line of a fault, by the name of its file.
+fn fault_line(alloc: Global, name: &str, label: &str, place: Place) -> Result<Vec<u8>, AllocError>
+    ensures { IfOk result (λ line. line.items ≡ spec.told_at name.now label.now place) }
+{
+    let name = name.as_bytes();
+    let label = label.as_bytes();
+    let mut numbers = Buffer::new();
+    let mut more_numbers = Buffer::new();
+    match place {
+        Place::Whole => joined(alloc, &[name, b": ", label, b"\n"]),
+        Place::Byte(at) => {
+            let at = numbers.format(at).as_bytes();
+            joined(alloc, &[name, b": ", label, b" ", at, b"\n"])
+        }
+        Place::Row(row) => {
+            let row = numbers.format(row).as_bytes();
+            joined(alloc, &[name, b":", row, b": ", label, b"\n"])
+        }
+        Place::Within { row, column } => {
+            let row = numbers.format(row).as_bytes();
+            let column = more_numbers.format(column).as_bytes();
+            joined(alloc, &[name, b":", row, b":", column, b": ", label, b"\n"])
+        }
+    }
+}
+
+impl Refusal {
+    /// The exit status.
+    pub fn status(&self) -> u8
+        ensures { result ≡ spec.status_of self.now }
+    {
+        match self {
+            Refusal::Usage => 2,
+            Refusal::Unread(_) => 6,
+            Refusal::Fault { subject, .. } => subject.status(),
+            Refusal::Memory => 8,
+        }
+    }
+
+    /// All that is written. Of want of memory nothing is.
+    pub fn line(&self, alloc: Global) -> Result<Vec<u8>, AllocError>
+        ensures { IfOk result (λ line. line.items ≡ spec.line_of self.now) }
+    {
+        match self {
+            Refusal::Usage => {
+                Vec::from_slice(alloc, b"usage: rbbi COMMAND [OPTIONS] OPERANDS\n")
+            }
+            Refusal::Unread(name) => {
+                joined(alloc, &[b"cannot read ", name.as_str().as_bytes(), b"\n"])
+            }
+            Refusal::Fault {
+                subject,
+                label,
+                place,
+            } => fault_line(alloc, subject.printed_name(), label.as_str(), *place),
+            Refusal::Memory => Ok(Vec::new(alloc)),
+        }
+    }
+}

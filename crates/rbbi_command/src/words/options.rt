@@ -1,0 +1,94 @@
+//! What the options of a command come to.
+ghost use Rattle.std.specs.Prelude.{◌≡◌, IfOk, count_by};
+ghost use Rattle.std.specs.List.{list_any};
+ghost use Rattle.rbbi_command.specs.Settings as spec;
+ghost use Rattle.rbbi_command.specs.Requests.{options_in};
+
+use super::command::Takes;
+use super::setting::{Property, Setting};
+use std::alloc::{AllocError, Global};
+
+/// The most property files that may be handed in.
+const MOST_PROPERTIES: usize = 16;
+
+/// What the options of a command come to.
+#[derive(Debug, Drop)]
+pub struct Options {
+    /// The property files that are handed in, in order.
+    pub properties: Vec<Property>,
+    /// Whether `$dictionary` is a variable like others.
+    pub ignored: bool,
+    /// Whether the first operand is a table file.
+    pub by_table: bool,
+}
+
+fn are_by_table(settings: &[Setting]) -> bool
+    ensures { result ≡ spec.are_by_table settings.now }
+{
+    settings.iter().any(|setting| setting.is_by_table())
+}
+
+fn ignores_dictionary(settings: &[Setting]) -> bool
+    ensures { result ≡ list_any spec.is_ignoring settings.now }
+{
+    settings.iter().any(|setting| setting.is_ignoring())
+}
+
+fn count_properties(settings: &[Setting]) -> usize
+    ensures { result ≡ count_by spec.is_property settings.now }
+{
+    settings
+        .iter()
+        .filter(|setting| setting.is_property())
+        .count()
+}
+
+fn count_ignoring(settings: &[Setting]) -> usize
+    ensures { result ≡ count_by spec.is_ignoring settings.now }
+{
+    settings
+        .iter()
+        .filter(|setting| setting.is_ignoring())
+        .count()
+}
+
+/// Whether there are at most 16 property files, and `$dictionary` is ignored once at most.
+fn are_few(settings: &[Setting]) -> bool
+    ensures { result ≡ spec.are_few settings.now }
+{
+    count_properties(settings) <= MOST_PROPERTIES && count_ignoring(settings) <= 1
+}
+
+/// Whether a command that takes such options takes these.
+pub(super) fn are_taken(takes: Takes, settings: &[Setting]) -> bool
+    ensures { result ≡ spec.are_taken takes settings.now }
+{
+    match takes {
+        Takes::NoOptions => settings.is_empty(),
+        Takes::RuleOptions => !are_by_table(settings) && are_few(settings),
+        Takes::RuleOptionsOrTable => {
+            if are_by_table(settings) {
+                settings.len() == 1
+            } else {
+                are_few(settings)
+            }
+        }
+    }
+}
+
+/// What these options come to.
+pub(super) fn options_of(alloc: Global, settings: Vec<Setting>) -> Result<Options, AllocError>
+    ensures { IfOk result (λ options. options_in options ≡ spec.options_of settings.items) }
+{
+    let ignored = ignores_dictionary(&settings);
+    let by_table = are_by_table(&settings);
+    let properties = settings
+        .into_iter()
+        .filter_map(|setting| setting.into_property())
+        .collect(alloc)?;
+    Ok(Options {
+        properties,
+        ignored,
+        by_table,
+    })
+}

@@ -1,0 +1,204 @@
+//! The options between the word of a command and its first operand.
+ghost use Rattle.std.specs.Prelude.{◌≡◌, ◌≢◌, ◌++◌, ◌∷◌, [], ℕ, List, length, codes, map, drop};
+ghost use Rattle.std.specs.Prelude.{MatchOption, MatchBool, IfOk, ◌≤◌};
+ghost use Rattle.std.specs.List.{list_all, list_any};
+ghost use Rattle.std.specs.Char.{is_ascii_alphanumeric};
+ghost use Rattle.std.specs.String.{string_bytes};
+ghost use Rattle.rbbi_command.specs.declared.words.setting.Property.{Property};
+ghost use Rattle.rbbi_command.specs.declared.words.setting.Setting.{Setting};
+ghost use Rattle.rbbi_command.specs.Settings as spec;
+
+use crate::Name;
+use std::alloc::{AllocError, Global};
+
+/// A property file that is handed in.
+#[derive(Debug, Drop)]
+pub struct Property {
+    /// The name of the property, under which its rows are found.
+    pub name: Name,
+    /// The name of the file.
+    pub file: Name,
+}
+
+/// An option and what it takes.
+#[derive(Debug, Drop)]
+pub(super) enum Setting {
+    /// Hand in a property file.
+    HandIn(Property),
+    /// Let `$dictionary` be a variable like others.
+    IgnoreDictionary,
+    /// Take the first operand as a table file.
+    ByTable,
+}
+
+impl Setting {
+    /// How many words it has.
+    fn words(&self) -> usize
+        ensures { result ≡ length (spec.spelled self.now) }
+    {
+        match self {
+            Setting::HandIn(_) => 2,
+            Setting::IgnoreDictionary | Setting::ByTable => 1,
+        }
+    }
+
+    /// Whether it hands in a property file.
+    pub(super) fn is_property(&self) -> bool
+        ensures { result ≡ spec.is_property self.now }
+    {
+        match self {
+            Setting::HandIn(_) => true,
+            Setting::IgnoreDictionary | Setting::ByTable => false,
+        }
+    }
+
+    /// The property file that it hands in.
+    pub(super) fn into_property(self) -> Option<Property>
+        ensures { result ≡ spec.property_of self }
+    {
+        match self {
+            Setting::HandIn(property) => Some(property),
+            Setting::IgnoreDictionary | Setting::ByTable => None,
+        }
+    }
+
+    /// Whether it lets `$dictionary` be a variable like others.
+    pub(super) fn is_ignoring(&self) -> bool
+        ensures { result ≡ spec.is_ignoring self.now }
+    {
+        match self {
+            Setting::IgnoreDictionary => true,
+            Setting::HandIn(_) | Setting::ByTable => false,
+        }
+    }
+
+    /// Whether it says that the first operand is a table file.
+    pub(super) fn is_by_table(&self) -> bool
+        ensures { result ≡ spec.is_by_table self.now }
+    {
+        match self {
+            Setting::ByTable => true,
+            Setting::HandIn(_) | Setting::IgnoreDictionary => false,
+        }
+    }
+}
+
+fn is_property_name_byte(byte: u8) -> bool
+    ensures { result ≡ spec.is_property_name_byte byte }
+{
+    byte.is_ascii_alphanumeric() || matches!(byte, b' ' | b'_' | b'-')
+}
+
+fn has_letter_or_digit(name: &[u8]) -> bool
+    ensures { result ≡ list_any is_ascii_alphanumeric name.now }
+{
+    name.iter().any(|byte| byte.is_ascii_alphanumeric())
+}
+
+fn are_name_bytes(name: &[u8]) -> bool
+    ensures { result ≡ list_all spec.is_property_name_byte name.now }
+{
+    name.iter().all(|byte| is_property_name_byte(*byte))
+}
+
+/// Whether it is the name of a property: letters, digits, spaces, `_` and `-` of ASCII, with a
+/// letter or digit among them.
+fn is_property_name(name: &str) -> bool
+    ensures { result ≡ spec.is_property_name name.now }
+{
+    has_letter_or_digit(name.as_bytes()) && are_name_bytes(name.as_bytes())
+}
+
+/// The property file that `NAME=FILE` hands in, where the word is of this form.
+fn property_of(alloc: Global, word: &str) -> Result<Option<Setting>, AllocError>
+    ensures { IfOk result (λ found. MatchOption found
+        ((property : Property) → spec.IsSetting (Setting.HandIn property)
+        → word.now ≢ property.name ++ 61 ∷ property.file)
+        (λ setting. spec.IsSetting setting
+        × (spec.spelled setting ≡ codes "--prop" ∷ word.now ∷ []))) }
+{
+    let Some((name, file)) = word.split_once('=') else {
+        return Ok(None);
+    };
+    if !is_property_name(name) {
+        return Ok(None);
+    }
+    if file.is_empty() {
+        return Ok(None);
+    }
+    let name = Name::new(alloc, name)?;
+    let file = Name::new(alloc, file)?;
+    Ok(Some(Setting::HandIn(Property { name, file })))
+}
+
+/// The option that these words begin with, where they begin with one.
+fn setting_of(alloc: Global, words: &[String]) -> Result<Option<Setting>, AllocError>
+    ensures { IfOk result (λ found. MatchOption found
+        ((setting : Setting) (more : List (List ℕ)) → spec.IsSetting setting
+        → map string_bytes words.now ≢ spec.spelled setting ++ more)
+        (λ setting. spec.IsSetting setting × (map string_bytes words.now ≡ spec.spelled setting
+        ++ drop (length (spec.spelled setting)) (map string_bytes words.now)))) }
+{
+    let Some((first, more)) = words.split_first() else {
+        return Ok(None);
+    };
+    match first.as_str() {
+        "--ignore-dictionary" => Ok(Some(Setting::IgnoreDictionary)),
+        "--table" => Ok(Some(Setting::ByTable)),
+        "--prop" => match more.first() {
+            Some(word) => property_of(alloc, word.as_str()),
+            None => Ok(None),
+        },
+        _ => Ok(None),
+    }
+}
+
+/// The words behind so many.
+pub(super) fn behind(words: &[String], count: usize) -> &[String]
+    requires { count ≤ length words.now }
+    ensures { map string_bytes result.now ≡ drop count (map string_bytes words.now) }
+{
+    words.split_at(count).1
+}
+
+/// Whether the first of the words, if there is one, begins as an option does.
+fn begins_with_option(words: &[String]) -> bool
+    ensures { MatchBool result (¬ spec.BeginsWithoutOption (map string_bytes words.now))
+        (spec.BeginsWithoutOption (map string_bytes words.now)) }
+{
+    match words.first() {
+        Some(word) => word.as_str().starts_with("--"),
+        None => false,
+    }
+}
+
+/// Options in a row.
+#[derive(Debug, Drop)]
+pub(super) struct Settings {
+    /// The options, in order.
+    pub(super) list: Vec<Setting>,
+    /// How many words they have.
+    pub(super) words: usize,
+}
+
+/// The options that the words begin with, up to a word that doesn't begin as an option does; and
+/// nothing where a word before that begins as one and is none.
+pub(super) fn settings_of(alloc: Global, words: &[String]) -> Result<Option<Settings>, AllocError>
+    ensures { IfOk result (λ found. MatchOption found
+        ((settings : List Setting) (rest : List (List ℕ))
+        → ¬ spec.BeginWithSettings (map string_bytes words.now) settings rest)
+        (λ settings. (settings.words ≤ length words.now)
+        × spec.BeginWithSettings (map string_bytes words.now) settings.list.items
+        (drop settings.words (map string_bytes words.now)))) }
+{
+    let mut list = Vec::new(alloc);
+    let mut at = 0;
+    'options: while begins_with_option(behind(words, at)) {
+        let Some(setting) = setting_of(alloc, behind(words, at))? else {
+            return Ok(None);
+        };
+        at += setting.words();
+        list.push(setting)?;
+    }
+    Ok(Some(Settings { list, words: at }))
+}
