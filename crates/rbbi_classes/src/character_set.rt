@@ -8,7 +8,6 @@ ghost use Rattle.rbbi_classes.specs.CharacterSets.{characters_of};
 ghost use Rattle.rbbi_classes.specs.Divisions.{HasDivided};
 
 use crate::{ClassSet, Division};
-use rbbi_sets::CodeSet;
 use std::alloc::{AllocError, Global};
 use std::marker::Model;
 use std::rc::Rc;
@@ -60,14 +59,6 @@ impl CharacterSet {
         ensures { IsTrue result ↔ Has self.now c }
     {
         !is_surrogate(c) && self.division.as_ref().has(&self.classes, c)
-    }
-
-    /// The same set by ranges of its own.
-    pub fn to_set(&self, alloc: Global) -> Result<CodeSet, AllocError>
-        ensures { IfOk result (λ set. set ≡ self.now) }
-    {
-        let set = self.division.as_ref().characters(alloc, &self.classes)?;
-        Ok(set)
     }
 }
 

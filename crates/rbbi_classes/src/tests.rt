@@ -44,15 +44,11 @@ fn set_of(alloc: Global, pairs: &[(u32, u32)]) -> Result<CodeSet, AllocError> {
     CodeSet::from_ranges(alloc, collect(alloc, pairs)?)
 }
 
-fn is_list(set: &CodeSet, want: &[(u32, u32)]) -> bool {
-    let ranges = set.ranges();
-    if ranges.len() != want.len() {
-        return false;
-    }
-    for (range, pair) in ranges.iter().zip(want) {
-        if range.low != pair.0 || range.high != pair.1 {
-            return false;
+fn is_in(pairs: &[(u32, u32)], c: u32) -> bool {
+    for pair in pairs {
+        if pair.0 <= c && c <= pair.1 {
+            return true;
         }
     }
-    true
+    false
 }

@@ -129,16 +129,6 @@ impl CodeSet {
         all.minus(alloc, self)
     }
 
-    /// The characters of the set: its members but for surrogates (0xD800 to 0xDFFF).
-    pub fn without_surrogates(&self, alloc: Global) -> Result<CodeSet, AllocError>
-        ensures members { IfOk result (λ set. (c : ℕ) →
-            Has set c ↔ (Has self.now c × ¬ IsSurrogate c)) }
-        ensures form { IfOk result (λ set. AreRising set) }
-    {
-        let surrogates = CodeSet::range(alloc, 0xD800, 0xDFFF)?;
-        self.minus(alloc, &surrogates)
-    }
-
     /// Whether the code point is in the set, by a binary search.
     pub fn has(&self, c: u32) -> bool
         ensures { IsTrue result ↔ Has self.now c }

@@ -198,18 +198,6 @@ fn members(rt: HostRuntime) -> Result<(), Fail> {
     }
     assert_eq!(rt; set.first(), Some(0x41));
     assert_eq!(rt; set.ranges().len(), 3);
-    let characters = set.without_surrogates(rt.alloc())?;
-    assert!(rt;
-        is_list(
-            &characters,
-            &[
-                (0x41, 0x5A),
-                (0x61, 0x7A),
-                (0xD700, 0xD7FF),
-                (0xE000, 0xE000)
-            ],
-        )
-    );
     assert!(rt;
         is_list(
             &set.clone()?,
