@@ -3,9 +3,10 @@ use Rattle.rbbi_command.specs.Words.{operands_of}
 use Rattle.rbbi_command.specs.Requests.{options_in, asked_by}
 use Rattle.rbbi_command.specs.Inputs.{inputs_in}
 use Rattle.rbbi_tool.specs.inner.Stages.{Meets}
+use Rattle.rbbi_tool.specs.inner.Prepared.{answer_of}
 use Rattle.rbbi_tool.specs.Command.Compile.{compile_stage}
 use Rattle.rbbi_tool.specs.Program.{command_stage}
-use Rattle.rbbi_tool.proofs.output.output_of.Goals as goal
+use Rattle.rbbi_tool.proofs.prepare.prepare.Goals as goal
 
 pub word-requires : goal.word-requires
 word-requires g c =
@@ -22,6 +23,6 @@ word-requires-in-Demo g c =
 pub returns-in-Compile-clause-exact : goal.returns-in-Compile-clause-exact
 returns-in-Compile-clause-exact g c =
     let inputs = inputs_in c.args.inputs.now in
-    subst (λ k. Meets (λ output. output) (command_stage k (asked_by c.args.request.now) inputs) c.compile.result) (sym c.in-Compile.is)
-    (subst (λ n. Meets (λ output. output) (compile_stage (options_in c.args.request.now.options) inputs n) c.compile.result) c.word.ensures
+    subst (λ k. Meets (λ output. output) (command_stage k (asked_by c.args.request.now) inputs) (answer_of c.compile.result)) (sym c.in-Compile.is)
+    (subst (λ n. Meets (λ output. output) (compile_stage (options_in c.args.request.now.options) inputs n) (answer_of c.compile.result)) c.word.ensures
     c.compile.ensures)
