@@ -3,7 +3,9 @@ use Rattle.rbbi_command.specs.Words.{operands_of}
 use Rattle.rbbi_command.specs.Requests.{options_in, asked_by}
 use Rattle.rbbi_command.specs.Inputs.{inputs_in}
 use Rattle.rbbi_tool.specs.inner.Stages.{Meets}
-use Rattle.rbbi_tool.specs.inner.Prepared.{answer_of}
+use Rattle.rbbi_tool.specs.inner.Prepared.{answer_of, rest_after, ReadsByEnd}
+use Rattle.rbbi_tool.specs.inner.Steps.{given_bytes}
+use Rattle.rbbi_tool.specs.Steps.{CommandReads}
 use Rattle.rbbi_tool.specs.Command.Compile.{compile_stage}
 use Rattle.rbbi_tool.specs.Program.{command_stage}
 use Rattle.rbbi_tool.proofs.prepare.prepare.Goals as goal
@@ -26,3 +28,15 @@ returns-in-Compile-clause-exact g c =
     subst (λ k. Meets (λ output. output) (command_stage k (asked_by c.args.request.now) inputs) (answer_of c.compile.result)) (sym c.in-Compile.is)
     (subst (λ n. Meets (λ output. output) (compile_stage (options_in c.args.request.now.options) inputs n) (answer_of c.compile.result)) c.word.ensures
     c.compile.ensures)
+
+pub returns-in-Breaks-clause-steps : goal.returns-in-Breaks-clause-steps
+returns-in-Breaks-clause-steps g c =
+    let inputs = inputs_in c.args.inputs.now in
+    subst (λ k. ReadsByEnd (rest_after c.breaks.result) (CommandReads k (asked_by c.args.request.now) inputs (given_bytes inputs))
+    c.args.steps.now c.breaks.new.steps) (sym c.in-Breaks.is) c.breaks.ensures.steps
+
+pub returns-in-Run-clause-steps : goal.returns-in-Run-clause-steps
+returns-in-Run-clause-steps g c =
+    let inputs = inputs_in c.args.inputs.now in
+    subst (λ k. ReadsByEnd (rest_after c.run.result) (CommandReads k (asked_by c.args.request.now) inputs (given_bytes inputs))
+    c.args.steps.now c.run.new.steps) (sym c.in-Run.is) c.run.ensures.steps
