@@ -4,7 +4,7 @@ use Rattle.rbbi_io.specs.Counts.{EachGoesOn}
 use Rattle.rbbi_text.specs.Steps.{RisesUpTo}
 use Rattle.rbbi_command.specs.Files.{sources_of}
 use Rattle.rbbi_command.specs.Reads.{MakesSomeReads}
-use Rattle.rbbi_tool.specs.inner.Prepared.{answer_of, outcome_of}
+use Rattle.rbbi_tool.specs.inner.Prepared.{answer_of, outcome_of as prepared_outcome}
 use Rattle.rbbi_tool.proofs.Counted.{reads_at_end}
 use Rattle.rbbi_tool.proofs.Runs.{is_answer, from_start, statuses_of, usage_of, no_form_of, outcome_of, read_failed_of, put_failed_of, front_of}
 use Rattle.rbbi_tool.proofs.Runs.{no_part_same, complete_of, each_of, unwritten_of, others_of_all}
@@ -12,7 +12,7 @@ use Rattle.rbbi_tool.proofs.program.rbbi.Goals as goal
 
 pub emit-requires : goal.emit-requires
 emit-requires g c =
-    (is_answer _ _ _ _ (outcome_of c.in-Ok.prepared) (answer_of c.run-ended.result) c.run-ended.ensures.comes c.in-Ok.ensures.gives).low
+    (is_answer _ _ _ _ (prepared_outcome c.in-Ok.prepared) (answer_of c.run-ended.result) c.run-ended.ensures.comes c.in-Ok.ensures.gives).low
 
 pub returns-in-Ok : goal.returns-in-Ok
 returns-in-Ok g c =
@@ -24,10 +24,10 @@ returns-in-Ok g c =
     let end = c.emit.new.files in
     let before = c.run-ended.ensures in
     let after = c.emit.ensures in
-    let answer = is_answer _ _ _ _ (outcome_of c.in-Ok.prepared) (answer_of c.run-ended.result) before.comes c.in-Ok.ensures.gives in
+    let answer = is_answer _ _ _ _ (prepared_outcome c.in-Ok.prepared) (answer_of c.run-ended.result) before.comes c.in-Ok.ensures.gives in
     let d = from_start _ (held start) (held ran) (held end) (reads start) (reads ran) (reads end) (writes start) (writes ran) (writes end)
     (g.K.Sink.taken c.args.out.now) (g.K.Sink.taken c.emit.new.out) (g.K.Sink.faults c.args.out.now) (g.K.Sink.faults c.emit.new.out)
-    (outcome_of c.in-Ok.prepared) c.emit.result before.contents (λ name. after.reads name) before.writes answer after.status after.taken after.held after.failed after.front
+    (prepared_outcome c.in-Ok.prepared) c.emit.result before.contents (λ name. after.reads name) before.writes answer after.status after.taken after.held after.failed after.front
     after.file_first after.contents after.others in
     record {
       statuses = statuses_of d;
