@@ -5,6 +5,7 @@ use Rattle.rbbi_text.specs.Steps.{RisesUpTo}
 use Rattle.rbbi_command.specs.Files.{sources_of}
 use Rattle.rbbi_command.specs.Reads.{MakesSomeReads}
 use Rattle.rbbi_tool.specs.inner.Prepared.{answer_of, outcome_of as prepared_outcome}
+use Rattle.rbbi_command.proofs.Reading.{always_told}
 use Rattle.rbbi_tool.proofs.Counted.{reads_at_end}
 use Rattle.rbbi_tool.proofs.Runs.{is_answer, from_start, statuses_of, usage_of, no_form_of, outcome_of, read_failed_of, put_failed_of, front_of}
 use Rattle.rbbi_tool.proofs.Runs.{no_part_same, complete_of, each_of, unwritten_of, others_of_all}
@@ -61,3 +62,7 @@ pub returns-in-Err-clause-steps : goal.returns-in-Err-clause-steps
 returns-in-Err-clause-steps g c = λ request asks.
     reads_at_end (g.F.Files.contents c.args.files.now) request _ _ _ c.run-ended.new.steps (c.run-ended.ensures.reading.steps request asks)
     (record { more = omega arith; cost = omega arith })
+
+pub returns-in-Err-clause-others : goal.returns-in-Err-clause-others
+returns-in-Err-clause-others g c =
+    always_told (g.F.Files.contents c.args.files.now) _ (λ held name other. c.run-ended.ensures.writes name)
