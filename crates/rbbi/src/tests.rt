@@ -9,6 +9,7 @@ mod demo;
 mod faults;
 mod forms;
 mod limits;
+mod pieces;
 mod run;
 
 use rbbi_io::{MemFiles, MemSink};

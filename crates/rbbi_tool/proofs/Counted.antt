@@ -19,6 +19,7 @@ use Rattle.rbbi_command.specs.Reads.{MakesSomeReads, AreRead}
 use Rattle.rbbi_tool.specs.Basis.{Basis, IsTableOf}
 use Rattle.rbbi_tool.specs.Steps.{counted, named_bytes, ReadsForBreaks, ReadsForScript, CommandReads, RequestReads}
 use Rattle.rbbi_tool.specs.inner.Steps.{given_bytes, ReadsInOrder}
+use Rattle.rbbi_tool.specs.inner.Prepared.{ReadsByEnd}
 use Rattle.rbbi_command.proofs.Forms.{same_request}
 use Rattle.rbbi_command.proofs.Reading.{all_told, always_told}
 
@@ -75,18 +76,21 @@ module _ (basis : Stage Basis) (text : Stage (List ℕ)) (bytes before between a
   })
 
 -- where nothing is read, nothing is over the bound
-command_reads_none : (command : Command) (request : Request) (inputs : Inputs) (bytes steps : ℕ) → CommandReads command request inputs bytes steps steps
-command_reads_none Check request inputs bytes steps = tt
-command_reads_none Compile request inputs bytes steps = tt
-command_reads_none Breaks request inputs bytes steps = inl (record { more = omega arith; cost = omega arith })
-command_reads_none Run request inputs bytes steps = inl (record { more = omega arith; cost = omega arith })
-command_reads_none Conform request inputs bytes steps = tt
-command_reads_none Demo request inputs bytes steps = tt
+command_reads_none : (command : Command) (request : Request) (inputs : Inputs) (bytes before after : ℕ) → RisesUpTo 0 before after
+    → CommandReads command request inputs bytes before after
+command_reads_none Check request inputs bytes before after none = tt
+command_reads_none Compile request inputs bytes before after none = tt
+command_reads_none Breaks request inputs bytes before after none = inl (rises_further 0 bytes before after none (omega arith))
+command_reads_none Run request inputs bytes before after none = inl (rises_further 0 bytes before after none (omega arith))
+command_reads_none Conform request inputs bytes before after none = tt
+command_reads_none Demo request inputs bytes before after none = tt
 
-pub reads_none : (contents : Option (List ℕ → List ℕ)) (request : Request) (steps : ℕ) → IfSome contents (λ held. RequestReads request held steps steps)
+pub reads_none : (contents : Option (List ℕ → List ℕ)) (request : Request) (steps : ℕ)
+    → IfSome contents (λ held. ReadsByEnd 0 (RequestReads request held) steps steps)
 reads_none contents request steps =
-    always_told contents (λ held. RequestReads request held steps steps)
-    (λ held. command_reads_none request.command request (inputs_of held (sources_of request)) (named_bytes held request) steps)
+    always_told contents (λ held. ReadsByEnd 0 (RequestReads request held) steps steps)
+    (λ held end none.
+    command_reads_none request.command request (inputs_of held (sources_of request)) (named_bytes held request) steps end none)
 
 -- a file more counts its bytes, or in place of others
 put_counted : (role : Role) (name bytes : List ℕ) (inputs : Inputs) → given_bytes (put role name bytes inputs) ≤ given_bytes inputs + counted role bytes
@@ -150,7 +154,7 @@ reads_further Run request inputs few many before after less reads =
 
 -- no file is read
 pub reads_nothing : (words : List (List ℕ)) (contents : Option (List ℕ → List ℕ)) (reads : List ℕ → ℕ) (steps : ℕ)
-    → ReadsInOrder words contents reads reads steps steps
+    → ReadsInOrder words contents reads reads 0 steps steps
 reads_nothing words contents reads steps = record {
   unread = λ none name. refl;
   order = λ request asks.
@@ -161,13 +165,21 @@ reads_nothing words contents reads steps = record {
 
 -- what is read of the files that were read in order
 pub reads_told : (words : List (List ℕ)) (contents : Option (List ℕ → List ℕ)) (here request : Request) → IsCommandLine words request
-    → IsCommandLine words here → (sources : List Source) (inputs : Inputs) (before after : ℕ) → sources ≡ sources_of here
-    → IfSome contents (AreRead sources inputs) → CommandReads here.command here inputs (given_bytes inputs) before after
-    → IfSome contents (λ held. RequestReads request held before after)
-reads_told words contents here request asks asks' sources inputs before after is read reads =
-    all_told contents (AreRead sources inputs) (λ held. RequestReads request held before after) read
-    (λ held (are, short).
+    → IsCommandLine words here → (sources : List Source) (inputs : Inputs) (rest before now : ℕ) → sources ≡ sources_of here
+    → IfSome contents (AreRead sources inputs) → ReadsByEnd rest (CommandReads here.command here inputs (given_bytes inputs)) before now
+    → IfSome contents (λ held. ReadsByEnd rest (RequestReads request held) before now)
+reads_told words contents here request asks asks' sources inputs rest before now is read reads =
+    all_told contents (AreRead sources inputs) (λ held. ReadsByEnd rest (RequestReads request held) before now) read
+    (λ held (are, short) end more.
     let named = inputs_of held (sources_of here) in
-    subst (λ r. RequestReads r held before after) (same_request words here request asks' asks)
-    (reads_further here.command here named (given_bytes named) (named_bytes held here) before after (given_named held here)
-    (subst (λ i. CommandReads here.command here i (given_bytes i) before after) (are ∙ ap (inputs_of held) is) reads)))
+    subst (λ r. RequestReads r held before end) (same_request words here request asks' asks)
+    (reads_further here.command here named (given_bytes named) (named_bytes held here) before end (given_named held here)
+    (subst (λ i. CommandReads here.command here i (given_bytes i) before end) (are ∙ ap (inputs_of held) is) (reads end more))))
+
+-- what is read by the run's end
+pub reads_at_end : (contents : Option (List ℕ → List ℕ)) (request : Request) (rest before now end : ℕ)
+    → IfSome contents (λ held. ReadsByEnd rest (RequestReads request held) before now) → RisesUpTo rest now end
+    → IfSome contents (λ held. RequestReads request held before end)
+reads_at_end contents request rest before now end reads more =
+    all_told contents (λ held. ReadsByEnd rest (RequestReads request held) before now) (λ held. RequestReads request held before end) reads
+    (λ held by_end. by_end end more)

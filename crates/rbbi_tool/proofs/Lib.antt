@@ -1,7 +1,9 @@
 pub mod Positions
 pub mod StageLemmas
 pub mod Handing
+pub mod Emitting
 pub mod Listing
+pub mod Replying
 pub mod Numbers
 pub mod Bases
 pub mod Verdicts

@@ -1,12 +1,12 @@
 -- The lines of the boundaries that searches find, one after another.
-use Rattle.std.proofs.Common.{◌≡◌, ℕ, zero, suc, ◌+◌, ◌-◌, ◌<◌, ◌≤◌, List, [], ◌∷◌, ◌++◌, length, cond, sym, refl, ap, ◌∙◌}
-use Rattle.std.proofs.Common.{append_assoc, arith}
+use Rattle.std.proofs.Common.{◌≡◌, ℕ, zero, suc, ◌+◌, ◌-◌, ◌<◌, ◌≤◌, List, [], ◌∷◌, ◌++◌, length, cond, sym, refl, ap, ◌∙◌, arith, Option}
 use Rattle.std.proofs.lemmas.Bool.{lt-ltb, le-ltb}
-use Rattle.std.proofs.lemmas.List.{append-nil}
 use Rattle.rbbi_model.specs.Boundaries.{Boundary, start}
 use Rattle.rbbi_model.specs.Lines.{boundary_line, boundary_lines}
 use Rattle.rbbi_model.specs.Tables.{Table}
 use Rattle.rbbi_model.specs.Searches.{next_boundary, follow_by, table_boundaries}
+use Rattle.rbbi_io.specs.Sinks.{Takes, IsBuffered}
+use Rattle.rbbi_tool.proofs.Emitting.{IsPutTo, put_none, put_more, put_flushed, put_end}
 
 -- the boundaries that follow one at this place, at most so many
 abbrev pub following : Table → List ℕ → ℕ → ℕ → List Boundary
@@ -31,44 +31,60 @@ ends table x (suc most) at past =
     let next : Boundary = next_boundary table x at in
     ap (λ t. cond t (next ∷ follow_by (next_boundary table x) (length x) most next) []) (le-ltb at (length x) past)
 
--- The lines so far, and those of the boundaries that follow this place, are all.
-pub record AreListedTo (table : Table) (x lines : List ℕ) (at : ℕ) : Type 0 where
+-- The lines of the boundaries up to a place were made, those that follow it are the rest, and a front of them was put.
+pub record AreListedTo (table : Table) (x : List ℕ) (before now : Option (List ℕ)) (waiting : List ℕ) (at : ℕ) : Type 0 where
   pub within : at ≤ length x
   pub most : ℕ
   pub enough : length x ≤ at + most
-  pub whole : lines ++ boundary_lines (following table x most at) ≡ boundary_lines (table_boundaries table x)
+  pub put : IsPutTo (boundary_lines (table_boundaries table x)) (boundary_lines (following table x most at)) before now waiting
 
 -- the text's start is listed
-pub listed_start : (table : Table) (x lines : List ℕ) → lines ≡ [] ++ boundary_line start → AreListedTo table x lines 0
-listed_start table x lines is = record {
-  within = omega arith;
-  most = length x;
-  enough = omega arith;
-  whole = ap (λ l. l ++ boundary_lines (following table x (length x) 0)) is
-      ∙ ap (λ bs. boundary_line start ++ boundary_lines bs) (sym (by_place table x (length x) start));
-}
-
--- one boundary more is listed
-pub listed_more : (table : Table) (x lines lines' : List ℕ) (at next : ℕ) → AreListedTo table x lines at → at < length x
-    → (at < (next_boundary table x at).at) × ((next_boundary table x at).at ≤ length x)
-    → next ≡ (next_boundary table x at).at → lines' ≡ lines ++ boundary_line (next_boundary table x at) → AreListedTo table x lines' next
-listed_more table x lines lines' at next so_far inside past is pushed = by_most so_far.most so_far.enough so_far.whole
-  where
-    by_most : (most : ℕ) → length x ≤ at + most → lines ++ boundary_lines (following table x most at) ≡ boundary_lines (table_boundaries table x)
-        → AreListedTo table x lines' next
-    by_most zero enough whole = absurd (omega arith)
-    by_most (suc most) enough whole = record {
-      within = omega (arith, past.1);
-      most = most;
-      enough = omega (arith, past.0);
-      whole =
-          ap (λ l. l ++ boundary_lines (following table x most next)) pushed
-          ∙ ap (λ n. (lines ++ boundary_line (next_boundary table x at)) ++ boundary_lines (following table x most n)) is
-          ∙ append_assoc lines (boundary_line (next_boundary table x at)) (boundary_lines (following table x most (next_boundary table x at).at))
-          ∙ ap (λ bs. lines ++ boundary_lines bs) (sym (follows table x most at inside)) ∙ whole;
+pub listed_start : (table : Table) (x : List ℕ) (taken : Option (List ℕ)) (waiting : List ℕ) → waiting ≡ [] ++ boundary_line start
+    → AreListedTo table x taken taken waiting 0
+listed_start table x taken waiting is =
+    let rest : List ℕ = boundary_lines (following table x (length x) 0) in
+    record {
+      within = omega arith;
+      most = length x;
+      enough = omega arith;
+      put = put_none (boundary_lines (table_boundaries table x)) rest taken waiting
+          (ap (λ bs. boundary_line start ++ boundary_lines bs) (by_place table x (length x) start) ∙ ap (λ l. l ++ rest) (sym is));
     }
 
+-- one boundary more is listed
+pub listed_more : (table : Table) (x : List ℕ) (before now : Option (List ℕ)) (waiting made : List ℕ) (at next : ℕ)
+    → AreListedTo table x before now waiting at → at < length x
+    → (at < (next_boundary table x at).at) × ((next_boundary table x at).at ≤ length x)
+    → next ≡ (next_boundary table x at).at → made ≡ waiting ++ boundary_line (next_boundary table x at) → AreListedTo table x before now made next
+listed_more table x before now waiting made at next so_far inside past is pushed = by_most so_far.most so_far.enough so_far.put
+  where
+    by_most : (most : ℕ) → length x ≤ at + most
+        → IsPutTo (boundary_lines (table_boundaries table x)) (boundary_lines (following table x most at)) before now waiting
+        → AreListedTo table x before now made next
+    by_most zero enough put = absurd (omega arith)
+    by_most (suc most) enough put =
+        let line : List ℕ = boundary_line (next_boundary table x at) in
+        record {
+          within = omega (arith, past.1);
+          most = most;
+          enough = omega (arith, past.0);
+          put = put_more (boundary_lines (table_boundaries table x)) (boundary_lines (following table x (suc most) at)) before now waiting put
+              line (boundary_lines (following table x most next)) made
+              (ap boundary_lines (follows table x most at inside) ∙ ap (λ n. line ++ boundary_lines (following table x most n)) (sym is)) pushed;
+        }
+
+-- some of the lines were put
+pub listed_flushed : (table : Table) (x : List ℕ) (before between now : Option (List ℕ)) (waiting left : List ℕ) (at : ℕ)
+    → AreListedTo table x before between waiting at → IsBuffered between now waiting left → AreListedTo table x before now left at
+listed_flushed table x before between now waiting left at so_far more = record {
+  within = so_far.within;
+  most = so_far.most;
+  enough = so_far.enough;
+  put = put_flushed _ _ before between waiting so_far.put now left more;
+}
+
 -- at the text's end all are listed
-pub all_listed : (table : Table) (x lines : List ℕ) (at : ℕ) → AreListedTo table x lines at → length x ≤ at → lines ≡ boundary_lines (table_boundaries table x)
-all_listed table x lines at so_far past =
-    sym (append-nil lines) ∙ ap (λ bs. lines ++ boundary_lines bs) (sym (ends table x so_far.most at past)) ∙ so_far.whole
+pub all_listed : (table : Table) (x : List ℕ) (before between now : Option (List ℕ)) (waiting : List ℕ) (at : ℕ)
+    → AreListedTo table x before between waiting at → length x ≤ at → Takes between now waiting → Takes before now (boundary_lines (table_boundaries table x))
+all_listed table x before between now waiting at so_far past more =
+    put_end _ _ before between waiting so_far.put (ap boundary_lines (ends table x so_far.most at past)) now more

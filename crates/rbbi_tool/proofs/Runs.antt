@@ -1,7 +1,6 @@
 -- What a run comes to, what is told of it, and what the sink takes.
 use Rattle.std.proofs.Common.{◌≡◌, ◌≢◌, ◌⊎◌, ◌≤◌, ◌<◌, ℕ, Option, Some, None, List, [], take, sym, refl, ap, ◌∙◌, subst, inl, inr, ⊎_elim, arith}
 use Rattle.std.specs.Prelude.{IfSome, OnSome, Result, Ok, Err}
-use Rattle.std.proofs.lemmas.List.{append-nil}
 use Rattle.std.proofs.lemmas.Bool.{cases_lt}
 use Rattle.rbbi_io.specs.Counts.{Rose, EachStays}
 use Rattle.rbbi_io.specs.Answers.{WhereTold}
@@ -30,6 +29,7 @@ use Rattle.rbbi_command.proofs.Forms.{same_request}
 use Rattle.rbbi_command.proofs.Reading.{all_told, always_told}
 use Rattle.rbbi_tool.proofs.Faults.{IsFault, command_fault}
 use Rattle.rbbi_tool.proofs.Commands.{command_told}
+use Rattle.rbbi_tool.proofs.Emitting.{takes_nothing}
 
 module _ (words : List (List ℕ)) (contents : Option (List ℕ → List ℕ)) (before now : List ℕ → ℕ) (request : Request) (asks : IsCommandLine words request) where
   -- reading the files ends the run
@@ -196,11 +196,6 @@ module _ (words : List (List ℕ)) (contents : Option (List ℕ → List ℕ)) (
       six_or_not : (outcome.status < 6) ⊎ (6 ≤ outcome.status) → (outcome.status ≡ 6) ⊎ (outcome.status ≢ 6)
       six_or_not (inl low) = inr (λ six. omega arith)
       six_or_not (inr high) = inl (omega (arith, answer.low))
-
--- nothing was taken
-takes_nothing : (taken : Option (List ℕ)) → Takes taken taken []
-takes_nothing None = refl
-takes_nothing (Some bytes) = ap Some (sym (append-nil bytes))
 
 module _ (words : List (List ℕ)) (contents contents' : Option (List ℕ → List ℕ)) (before now : List ℕ → ℕ) (taken taken' : Option (List ℕ)) where
   -- the sink took nothing, of files that still tell what they hold

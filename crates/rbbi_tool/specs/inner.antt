@@ -3,3 +3,4 @@ pub mod Stages
 pub mod Judging
 pub mod Causes
 pub mod Steps
+pub mod Prepared

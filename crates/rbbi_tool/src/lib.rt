@@ -6,9 +6,12 @@
 #![tactic(auto)]
 
 mod command;
+mod emission;
+mod in_memory;
 mod laws;
-mod output;
 mod position;
+mod prepare;
+mod prepared;
 mod program;
 mod properties;
 mod rules;
@@ -16,5 +19,6 @@ mod scripts;
 mod tables;
 mod texts;
 
+pub use in_memory::rbbi_in_memory;
 pub use laws::outcomes_are_unique;
 pub use program::rbbi;

@@ -11,28 +11,32 @@ ghost use Rattle.rbbi_command.specs.Reads.{MakesSomeReads};
 ghost use Rattle.rbbi_tool.specs.Steps.{RequestReads};
 ghost use Rattle.rbbi_tool.specs.inner.Steps.{ReadsInOrder};
 ghost use Rattle.rbbi_tool.specs.inner.Causes.{ComesTo, GivesOutcome};
+ghost use Rattle.rbbi_tool.specs.inner.Prepared.{answer_of, outcome_of, rest_of, rest_after};
 ghost use Rattle.rbbi_tool.specs.Causes.{NoReadFailed};
 ghost use Rattle.rbbi_tool.specs.Causes.{TakesOutcome, TakesFailedRead, TakesPart};
 ghost use Rattle.rbbi_tool.specs.Causes.{EachHolds, SomeWriteFailed, OthersUnwritten};
 
-use crate::output::output_of;
-use rbbi_command::{Output, Refusal, deliver, read_all, request_of, sources_of};
+use crate::emission::emit;
+use crate::prepare::prepare;
+use crate::prepared::Prepared;
+use rbbi_command::{Output, Refusal, read_all, request_of, sources_of};
 use rbbi_io::{Files, Sink};
 use rbbi_text::Steps;
 use std::alloc::{AllocError, Global};
 use std::sync::ledger::Ledger;
 
-/// What the words come to over the files: an output, or what ends the run. No file is written.
+/// What the words come to over the files, or what ends the run. No file is written.
 fn run<F: Files, L: Ledger>(
     alloc: Global,
     words: &Vec<String>,
     files: &mut F,
     steps: &mut Steps<L>,
-) -> Result<Output, Refusal>
+) -> Result<Prepared, Refusal>
     ensures comes { ComesTo (map string_bytes words.now.items) (F.contents files.old)
-        (F.failed_reads files.old) (F.failed_reads files.new) result }
+        (F.failed_reads files.old) (F.failed_reads files.new) (answer_of result) }
     ensures reading { ReadsInOrder (map string_bytes words.now.items) (F.contents files.old)
-        (F.failed_reads files.old) (F.failed_reads files.new) steps.old steps.new }
+        (F.failed_reads files.old) (F.failed_reads files.new)
+        (rest_after result) steps.old steps.new }
     ensures contents { F.contents files.new ≡ F.contents files.old }
     ensures reads { EachGoesOn (F.failed_reads files.old) (F.failed_reads files.new) }
     ensures writes { EachStays (F.failed_writes files.old) (F.failed_writes files.new) }
@@ -42,23 +46,24 @@ fn run<F: Files, L: Ledger>(
     };
     let sources = sources_of(alloc, &request)?;
     let inputs = read_all(alloc, &sources, files)?;
-    output_of(alloc, &request, &inputs, steps)
+    prepare(alloc, &request, &inputs, steps)
 }
 
-/// The status and the bytes that go out.
-fn told(alloc: Global, ended: Result<Output, Refusal>) -> Result<Output, AllocError>
-    ensures { IfOk result (GivesOutcome ended) }
+/// What is written: the status, the bytes that go out, and the file.
+fn told(alloc: Global, ended: Result<Prepared, Refusal>) -> Result<Prepared, AllocError>
+    ensures gives { IfOk result (λ told. GivesOutcome (answer_of ended) (outcome_of told)) }
+    ensures rest { IfOk result (λ told. rest_of told ≡ rest_after ended) }
 {
     match ended {
-        Ok(output) => Ok(output),
+        Ok(prepared) => Ok(prepared),
         Err(Refusal::Memory) => Err(AllocError),
         Err(refusal) => {
             let bytes = refusal.line(alloc)?;
-            Ok(Output {
+            Ok(Prepared::Ready(Output {
                 status: refusal.status(),
                 bytes,
                 file: None,
-            })
+            }))
         }
     }
 }
@@ -81,7 +86,8 @@ fn told(alloc: Global, ended: Result<Output, Refusal>) -> Result<Output, AllocEr
 /// The words are looked at first, then the files are read in the order of the words; then come the
 /// property files, then the rule file or the table file, then the text, and then the script or the
 /// tests. A file that the command writes is written before anything goes out, so where the write
-/// fails, nothing goes out.
+/// fails, nothing goes out. The lines of `breaks` and `run` go out while they are made, as soon as
+/// 65,536 bytes or more wait. After a put or a write that is refused there is no further call.
 pub fn rbbi<F: Files, K: Sink, L: Ledger>(
     alloc: Global,
     words: &Vec<String>,
@@ -155,7 +161,7 @@ pub fn rbbi<F: Files, K: Sink, L: Ledger>(
 {
     let ended = run(alloc, words, files, steps);
     match told(alloc, ended) {
-        Ok(output) => deliver(&output, files, out),
+        Ok(prepared) => emit(alloc, prepared, files, out, steps),
         Err(AllocError) => 8,
     }
 }

@@ -6,6 +6,7 @@ use Rattle.rbbi_command.specs.Files.{sources_of}
 use Rattle.rbbi_command.specs.Inputs.{Inputs}
 use Rattle.rbbi_command.specs.Reads.{MakesSomeReads}
 use Rattle.rbbi_tool.specs.Steps.{RequestReads}
+use Rattle.rbbi_tool.specs.inner.Prepared.{ReadsByEnd}
 
 -- the bytes that boundaries come by
 abbrev pub basis_bytes : Inputs → ℕ
@@ -15,9 +16,9 @@ basis_bytes inputs = sum_by length inputs.properties + length inputs.rules + len
 abbrev pub given_bytes : Inputs → ℕ
 given_bytes inputs = basis_bytes inputs + length inputs.script.bytes + length inputs.tests.bytes
 
--- What a run reads. Where the words are of no form it reads no file; else it reads the files of the request in order, and of them
--- what the request reads.
-pub record ReadsInOrder (words : List (List ℕ)) (contents : Option (List ℕ → List ℕ)) (reads reads' : List ℕ → ℕ) (before after : ℕ) : Type 0 where
+-- What a run reads, where it reads so much at most while it writes. Where the words are of no form it reads no file; else it reads the
+-- files of the request in order, and of them what the request reads.
+pub record ReadsInOrder (words : List (List ℕ)) (contents : Option (List ℕ → List ℕ)) (reads reads' : List ℕ → ℕ) (rest before now : ℕ) : Type 0 where
   pub unread : AreNoForm words → EachStays reads reads'
   pub order : (request : Request) → IsCommandLine words request → IfSome contents (MakesSomeReads (sources_of request) reads reads')
-  pub steps : (request : Request) → IsCommandLine words request → IfSome contents (λ held. RequestReads request held before after)
+  pub steps : (request : Request) → IsCommandLine words request → IfSome contents (λ held. ReadsByEnd rest (RequestReads request held) before now)

@@ -2,10 +2,12 @@
 ghost use Rattle.std.specs.Prelude.{◌≡◌, IfOk};
 ghost use Rattle.rbbi_resolve.specs.RuleLists.{rules_of};
 ghost use Rattle.rbbi_tool.specs.inner.Stages.{Meets};
+ghost use Rattle.rbbi_tool.specs.inner.Prepared.{answer_of};
 ghost use Rattle.rbbi_command.specs.Requests.{options_in};
 ghost use Rattle.rbbi_command.specs.Inputs.{inputs_in, AreShort};
 ghost use Rattle.rbbi_tool.specs.Command.Check as spec;
 
+use crate::prepared::Prepared;
 use crate::rules::rules_from;
 use itoa::Buffer;
 use rbbi_command::{Inputs, Options, Output, Refusal, joined};
@@ -44,12 +46,12 @@ pub(crate) fn check<L: Ledger>(
     options: &Options,
     inputs: &Inputs,
     steps: &mut Steps<L>,
-) -> Result<Output, Refusal>
+) -> Result<Prepared, Refusal>
     requires { AreShort (inputs_in inputs.now) }
     ensures { Meets (λ output. output)
-        (spec.check_stage (options_in options.now) (inputs_in inputs.now)) result }
+        (spec.check_stage (options_in options.now) (inputs_in inputs.now)) (answer_of result) }
 {
     let rules = rules_from(alloc, options, inputs, steps)?;
     let bytes = counts_line(alloc, &rules)?;
-    Ok(Output::printed(bytes))
+    Ok(Prepared::Ready(Output::printed(bytes)))
 }

@@ -2,10 +2,12 @@
 ghost use Rattle.std.specs.Prelude.{◌≡◌, IfOk};
 ghost use Rattle.rbbi_model.specs.Lines.{compile_line};
 ghost use Rattle.rbbi_tool.specs.inner.Stages.{Meets};
+ghost use Rattle.rbbi_tool.specs.inner.Prepared.{answer_of};
 ghost use Rattle.rbbi_command.specs.Requests.{options_in};
 ghost use Rattle.rbbi_command.specs.Inputs.{inputs_in, AreShort};
 ghost use Rattle.rbbi_tool.specs.Command.Compile.{compile_stage};
 
+use crate::prepared::Prepared;
 use crate::rules::rules_from;
 use crate::tables::table_of;
 use itoa::Buffer;
@@ -54,19 +56,20 @@ pub(crate) fn compile<L: Ledger>(
     inputs: &Inputs,
     name: &str,
     steps: &mut Steps<L>,
-) -> Result<Output, Refusal>
+) -> Result<Prepared, Refusal>
     requires { AreShort (inputs_in inputs.now) }
     ensures { Meets (λ output. output)
-        (compile_stage (options_in options.now) (inputs_in inputs.now) name.now) result }
+        (compile_stage (options_in options.now) (inputs_in inputs.now) name.now)
+        (answer_of result) }
 {
     let rules = rules_from(alloc, options, inputs, steps)?;
     let table = table_of(alloc, &rules)?;
     let name = Name::new(alloc, name)?;
     let bytes = rbbi_file::write_table(alloc, &table)?;
     let line = numbers_line(alloc, &table)?;
-    Ok(Output {
+    Ok(Prepared::Ready(Output {
         status: 0,
         bytes: line,
         file: Some(Written { name, bytes }),
-    })
+    }))
 }

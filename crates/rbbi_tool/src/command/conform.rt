@@ -3,11 +3,13 @@ ghost use Rattle.std.specs.Prelude.{◌≡◌, ◌<◌, ◌+◌, ◌-◌, ◌^�
 ghost use Rattle.std.specs.Prelude.{None, IfOk, OnOk};
 ghost use Rattle.rbbi_model.specs.Lines.{differs_line, verdicts_line};
 ghost use Rattle.rbbi_tool.specs.inner.Stages.{Meets};
+ghost use Rattle.rbbi_tool.specs.inner.Prepared.{answer_of};
 ghost use Rattle.rbbi_command.specs.Requests.{options_in};
 ghost use Rattle.rbbi_command.specs.Inputs.{inputs_in, AreShort};
 ghost use Rattle.rbbi_tool.specs.inner.Judging.{TellsVerdicts};
 ghost use Rattle.rbbi_tool.specs.Command.Conform as spec;
 
+use crate::prepared::Prepared;
 use crate::scripts::tests_of;
 use crate::tables::table_from;
 use itoa::Buffer;
@@ -134,14 +136,14 @@ pub(crate) fn conform<L: Ledger>(
     options: &Options,
     inputs: &Inputs,
     steps: &mut Steps<L>,
-) -> Result<Output, Refusal>
+) -> Result<Prepared, Refusal>
     requires { AreShort (inputs_in inputs.now) }
     ensures { Meets (λ output. output)
-        (spec.conform_stage (options_in options.now) (inputs_in inputs.now)) result }
+        (spec.conform_stage (options_in options.now) (inputs_in inputs.now)) (answer_of result) }
 {
     let table = table_from(alloc, options, inputs, steps)?;
     let tests = tests_of(alloc, &inputs.tests, steps)?;
     rbbi_model::same_marks_give_the_boundaries();
     let report = report_of(alloc, &table, &tests, steps)?;
-    Ok(output_of(alloc, report)?)
+    Ok(Prepared::Ready(output_of(alloc, report)?))
 }

@@ -3,8 +3,10 @@ ghost use Rattle.std.specs.Prelude.{◌≡◌, ℕ, IfOk};
 ghost use Rattle.rbbi_demo.specs.declared.summary.Summary.{Summary};
 ghost use Rattle.rbbi_command.specs.Counts.{IsCount};
 ghost use Rattle.rbbi_tool.specs.inner.Stages.{Meets};
+ghost use Rattle.rbbi_tool.specs.inner.Prepared.{answer_of};
 ghost use Rattle.rbbi_tool.specs.Command.Demo as spec;
 
+use crate::prepared::Prepared;
 use crate::tables::table_of_text;
 use itoa::Buffer;
 use rbbi_command::{Output, Refusal, count_of, joined};
@@ -53,9 +55,9 @@ pub(crate) fn demo<L: Ledger>(
     alloc: Global,
     word: &str,
     steps: &mut Steps<L>,
-) -> Result<Output, Refusal>
+) -> Result<Prepared, Refusal>
     requires { (count : ℕ) × IsCount word.now count }
-    ensures { Meets (λ output. output) (spec.demo_stage word.now) result }
+    ensures { Meets (λ output. output) (spec.demo_stage word.now) (answer_of result) }
 {
     let Some(count) = count_of(word) else {
         unreachable!();
@@ -65,5 +67,5 @@ pub(crate) fn demo<L: Ledger>(
     rbbi_demo::table_summaries_are_those_of_the_rules();
     let summary = rbbi_demo::demo(alloc, &table, count, steps)?;
     let line = summary_line(alloc, &summary)?;
-    Ok(Output::printed(line))
+    Ok(Prepared::Ready(Output::printed(line)))
 }

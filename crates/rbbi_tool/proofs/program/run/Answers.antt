@@ -2,6 +2,7 @@ use Rattle.std.proofs.Common.{◌∙◌}
 use Rattle.std.proofs.lemmas.Result.{err_from_is_err_and}
 use Rattle.rbbi_command.specs.Requests.{asked_by}
 use Rattle.rbbi_command.specs.Inputs.{inputs_in}
+use Rattle.rbbi_tool.specs.inner.Prepared.{answer_of}
 use Rattle.rbbi_tool.proofs.Runs.{ends_run, command_ends, ordered}
 use Rattle.rbbi_tool.proofs.Counted.{reads_nothing, reads_none, reads_told}
 use Rattle.rbbi_tool.proofs.program.run.Goals as goal
@@ -16,27 +17,33 @@ returns-in_err-inputs-clause-comes g c =
 pub returns-clause-comes : goal.returns-clause-comes
 returns-clause-comes g c =
     let asks = rw c.in-Some.is at c.in_ok-request.ensures in
-    command_ends _ _ _ _ _ asks c.deref.result.now (inputs_in c.in_ok-inputs.inputs) c.output_of.result
-    (c.deref.ensures.value ∙ c.in_ok-sources.ensures) c.in_ok-inputs.ensures.read c.output_of.ensures.exact
+    command_ends _ _ _ _ _ asks c.deref.result.now (inputs_in c.in_ok-inputs.inputs) (answer_of c.prepare.result)
+    (c.deref.ensures.value ∙ c.in_ok-sources.ensures) c.in_ok-inputs.ensures.read c.prepare.ensures.exact
 
 pub returns-in_err-request-clause-reading : goal.returns-in_err-request-clause-reading
-returns-in_err-request-clause-reading g c = reads_nothing _ _ _ c.args.steps.now
+returns-in_err-request-clause-reading g c =
+    let told = err_from_is_err_and c.from_residual.result c.from_residual.ensures.1 in
+    rw told.1 (reads_nothing _ _ _ c.args.steps.now)
 
 pub returns-in_default-clause-reading : goal.returns-in_default-clause-reading
 returns-in_default-clause-reading g c = reads_nothing _ _ _ c.args.steps.now
 
 pub returns-in_err-sources-clause-reading : goal.returns-in_err-sources-clause-reading
-returns-in_err-sources-clause-reading g c = reads_nothing _ _ _ c.args.steps.now
+returns-in_err-sources-clause-reading g c =
+    let told = err_from_is_err_and c.from_residual-in_err-sources.result c.from_residual-in_err-sources.ensures.1 in
+    rw told.1 (reads_nothing _ _ _ c.args.steps.now)
 
 pub returns-in_err-inputs-clause-reading : goal.returns-in_err-inputs-clause-reading
 returns-in_err-inputs-clause-reading g c =
+    let told = err_from_is_err_and c.from_residual-in_err-inputs.result c.from_residual-in_err-inputs.ensures.1 in
     let here = rw c.in-Some.is at c.in_ok-request.ensures in
     let sources = c.deref.ensures.value ∙ c.in_ok-sources.ensures in
-    record {
+    rw told.1
+    (record {
       unread = λ none. absurd (none (asked_by c.in-Some.request) here);
       order = λ request asks. ordered _ _ _ request asks here c.deref.result.now sources _ _ c.in_err-inputs.ensures.order;
       steps = λ request asks. reads_none _ request c.args.steps.now;
-    }
+    })
 
 pub returns-clause-reading : goal.returns-clause-reading
 returns-clause-reading g c =
@@ -46,6 +53,6 @@ returns-clause-reading g c =
       unread = λ none. absurd (none (asked_by c.in-Some.request) here);
       order = λ request asks. ordered _ _ _ request asks here c.deref.result.now sources _ _ c.in_ok-inputs.ensures.order;
       steps = λ request asks.
-          reads_told _ _ (asked_by c.in-Some.request) request asks here c.deref.result.now (inputs_in c.in_ok-inputs.inputs) c.args.steps.now
-          c.output_of.new.steps sources c.in_ok-inputs.ensures.read c.output_of.ensures.steps;
+          reads_told _ _ (asked_by c.in-Some.request) request asks here c.deref.result.now (inputs_in c.in_ok-inputs.inputs) _ c.args.steps.now
+          c.prepare.new.steps sources c.in_ok-inputs.ensures.read c.prepare.ensures.steps;
     }

@@ -1,11 +1,10 @@
-use Rattle.std.proofs.Common.{inl, inr, ⊎_elim, ap, ◌∙◌, arith}
+use Rattle.std.proofs.Common.{inl, inr, ⊎_elim, refl, arith}
 use Rattle.std.proofs.lemmas.Result.{err_from_is_err_and}
 use Rattle.rbbi_model.specs.Searches.{table_boundaries}
-use Rattle.rbbi_command.specs.Refusals.{printed}
-use Rattle.rbbi_tool.proofs.Bases.{gives_them, boundaries_given}
-use Rattle.rbbi_tool.proofs.Counted.{rises_further, listing_reads}
 use Rattle.rbbi_command.specs.Inputs.{inputs_in}
 use Rattle.rbbi_tool.specs.inner.Steps.{given_bytes}
+use Rattle.rbbi_tool.proofs.Bases.{gives_them, boundaries_given}
+use Rattle.rbbi_tool.proofs.Counted.{rises_further, rises_twice, listing_reads}
 use Rattle.rbbi_tool.proofs.command.breaks.breaks.Goals as goal
 
 pub returns-in_err-text-clause-exact : goal.returns-in_err-text-clause-exact
@@ -27,19 +26,26 @@ returns-clause-exact g c =
         (
           table_boundaries table x,
           boundaries_given basis.0 table x (gives_them c.same_marks_give_the_boundaries.ensures basis.0 table basis.2) c.in_ok-text.ensures.text,
-          c.printed.ensures ∙ ap printed c.in_ok-bytes.ensures.lines,
+          refl,
         ),
       ),
     )
 
-pub returns-in_err-bytes-clause-steps : goal.returns-in_err-bytes-clause-steps
-returns-in_err-bytes-clause-steps g c =
-    let basis = c.in_ok-table.ensures.table in
-    listing_reads _ _ _ _ c.table_from.new.steps _ basis.0 _ _ basis.1 basis.2 c.in_ok-text.ensures.exact
-    (rises_further _ (given_bytes (inputs_in c.args.inputs.now)) _ _ c.table_from.ensures.steps (omega arith)) c.lines_of.ensures.steps
+pub returns-in_err-table-clause-steps : goal.returns-in_err-table-clause-steps
+returns-in_err-table-clause-steps g c =
+    let told = err_from_is_err_and c.from_residual.result c.from_residual.ensures.1 in
+    rw told.1
+    (λ end none. inl (rises_further _ (given_bytes (inputs_in c.args.inputs.now)) _ _ (rises_twice _ 0 _ _ end c.table_from.ensures.steps none) (omega arith)))
+
+pub returns-in_err-text-clause-steps : goal.returns-in_err-text-clause-steps
+returns-in_err-text-clause-steps g c =
+    let told = err_from_is_err_and c.from_residual-in_err-text.result c.from_residual-in_err-text.ensures.1 in
+    rw told.1
+    (λ end none. inl (rises_further _ (given_bytes (inputs_in c.args.inputs.now)) _ _ (rises_twice _ 0 _ _ end c.table_from.ensures.steps none) (omega arith)))
 
 pub returns-clause-steps : goal.returns-clause-steps
 returns-clause-steps g c =
     let basis = c.in_ok-table.ensures.table in
-    listing_reads _ _ _ _ c.table_from.new.steps _ basis.0 _ _ basis.1 basis.2 c.in_ok-text.ensures.exact
-    (rises_further _ (given_bytes (inputs_in c.args.inputs.now)) _ _ c.table_from.ensures.steps (omega arith)) c.lines_of.ensures.steps
+    λ end more.
+    listing_reads _ _ _ _ c.table_from.new.steps end basis.0 _ _ basis.1 basis.2 c.in_ok-text.ensures.exact
+    (rises_further _ (given_bytes (inputs_in c.args.inputs.now)) _ _ c.table_from.ensures.steps (omega arith)) more

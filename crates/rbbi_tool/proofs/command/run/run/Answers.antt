@@ -1,11 +1,10 @@
-use Rattle.std.proofs.Common.{inl, inr, ⊎_elim, map, ap, ◌∙◌, arith}
+use Rattle.std.proofs.Common.{inl, inr, ⊎_elim, map, refl, arith}
 use Rattle.std.proofs.lemmas.Result.{err_from_is_err_and}
 use Rattle.rbbi_model.specs.Scripts.{table_replies}
 use Rattle.rbbi_script.specs.Meaning.{meaning}
-use Rattle.rbbi_command.specs.Refusals.{printed}
 use Rattle.rbbi_tool.proofs.Bases.{gives_them}
 use Rattle.rbbi_tool.proofs.Replies.{replies_given}
-use Rattle.rbbi_tool.proofs.Counted.{rises_further, rises_by, replies_read}
+use Rattle.rbbi_tool.proofs.Counted.{rises_further, rises_by, rises_twice, replies_read}
 use Rattle.rbbi_command.specs.Inputs.{inputs_in}
 use Rattle.rbbi_tool.specs.inner.Steps.{given_bytes}
 use Rattle.rbbi_tool.proofs.command.run.run.Goals as goal
@@ -40,22 +39,37 @@ returns-clause-exact g c =
             table_replies table x commands,
             replies_given basis.0 table x commands c.table_replies_are_those_of_the_rules.ensures
                 (gives_them c.same_marks_give_the_boundaries.ensures basis.0 table basis.2) c.in_ok-text.ensures.text c.in_ok-commands.ensures.inserts,
-            c.printed.ensures ∙ ap printed c.in_ok-replies.ensures.lines,
+            refl,
           ),
         ),
       ),
     )
 
-pub returns-in_err-replies-clause-steps : goal.returns-in_err-replies-clause-steps
-returns-in_err-replies-clause-steps g c =
-    let basis = c.in_ok-table.ensures.table in
-    replies_read _ _ _ _ c.commands_of.new.steps _ basis.0 _ _ basis.1 basis.2 c.in_ok-text.ensures.exact
+pub returns-in_err-table-clause-steps : goal.returns-in_err-table-clause-steps
+returns-in_err-table-clause-steps g c =
+    let told = err_from_is_err_and c.from_residual.result c.from_residual.ensures.1 in
+    rw told.1
+    (λ end none. inl (rises_further _ (given_bytes (inputs_in c.args.inputs.now)) _ _ (rises_twice _ 0 _ _ end c.table_from.ensures.steps none) (omega arith)))
+
+pub returns-in_err-text-clause-steps : goal.returns-in_err-text-clause-steps
+returns-in_err-text-clause-steps g c =
+    let told = err_from_is_err_and c.from_residual-in_err-text.result c.from_residual-in_err-text.ensures.1 in
+    rw told.1
+    (λ end none. inl (rises_further _ (given_bytes (inputs_in c.args.inputs.now)) _ _ (rises_twice _ 0 _ _ end c.table_from.ensures.steps none) (omega arith)))
+
+pub returns-in_err-commands-clause-steps : goal.returns-in_err-commands-clause-steps
+returns-in_err-commands-clause-steps g c =
+    let told = err_from_is_err_and c.from_residual-in_err-commands.result c.from_residual-in_err-commands.ensures.1 in
+    rw told.1
+    (λ end none.
+    inl
     (rises_further _ (given_bytes (inputs_in c.args.inputs.now)) _ _
-    (rises_by _ _ _ c.table_from.new.steps _ c.table_from.ensures.steps c.commands_of.ensures.steps) (omega arith)) _ _ c.in_ok-commands.ensures.exact c.replies_of.ensures.steps
+    (rises_twice _ 0 _ _ end (rises_by _ _ _ c.table_from.new.steps _ c.table_from.ensures.steps c.commands_of.ensures.steps) none) (omega arith)))
 
 pub returns-clause-steps : goal.returns-clause-steps
 returns-clause-steps g c =
     let basis = c.in_ok-table.ensures.table in
-    replies_read _ _ _ _ c.commands_of.new.steps _ basis.0 _ _ basis.1 basis.2 c.in_ok-text.ensures.exact
+    λ end more.
+    replies_read _ _ _ _ c.commands_of.new.steps end basis.0 _ _ basis.1 basis.2 c.in_ok-text.ensures.exact
     (rises_further _ (given_bytes (inputs_in c.args.inputs.now)) _ _
-    (rises_by _ _ _ c.table_from.new.steps _ c.table_from.ensures.steps c.commands_of.ensures.steps) (omega arith)) _ _ c.in_ok-commands.ensures.exact c.replies_of.ensures.steps
+    (rises_by _ _ _ c.table_from.new.steps _ c.table_from.ensures.steps c.commands_of.ensures.steps) (omega arith)) _ _ c.in_ok-commands.ensures.exact more

@@ -2,6 +2,7 @@
 ghost use Rattle.std.specs.Prelude.{◌≡◌, ◌<◌, map, length};
 ghost use Rattle.std.specs.String.{string_bytes};
 ghost use Rattle.rbbi_tool.specs.inner.Stages.{Meets};
+ghost use Rattle.rbbi_tool.specs.inner.Prepared.{answer_of, rest_after, ReadsByEnd};
 ghost use Rattle.rbbi_command.specs.Words.{operands_of, AllFit};
 ghost use Rattle.rbbi_command.specs.Requests.{asked_by};
 ghost use Rattle.rbbi_command.specs.Inputs.{inputs_in, AreShort};
@@ -10,7 +11,8 @@ ghost use Rattle.rbbi_tool.specs.Steps.{CommandReads};
 ghost use Rattle.rbbi_tool.specs.inner.Steps.{given_bytes};
 
 use crate::command::{breaks, check, compile, conform, demo, run};
-use rbbi_command::{Command, Inputs, Output, Refusal, Request};
+use crate::prepared::Prepared;
+use rbbi_command::{Command, Inputs, Refusal, Request};
 use rbbi_text::Steps;
 use std::alloc::Global;
 use std::sync::ledger::Ledger;
@@ -24,21 +26,23 @@ fn word(words: &[String], number: usize) -> &str
 }
 
 /// What a request comes to, from its files.
-pub(crate) fn output_of<L: Ledger>(
+pub(crate) fn prepare<L: Ledger>(
     alloc: Global,
     request: &Request,
     inputs: &Inputs,
     steps: &mut Steps<L>,
-) -> Result<Output, Refusal>
+) -> Result<Prepared, Refusal>
     requires count { length request.now.operands.now
         ≡ length (operands_of request.now.command request.now.options.by_table) }
     requires fit { AllFit (operands_of request.now.command request.now.options.by_table)
         (map string_bytes request.now.operands.now) }
     requires short { AreShort (inputs_in inputs.now) }
     ensures exact { Meets (λ output. output)
-        (command_stage request.now.command (asked_by request.now) (inputs_in inputs.now)) result }
-    ensures steps { CommandReads request.now.command (asked_by request.now) (inputs_in inputs.now)
-        (given_bytes (inputs_in inputs.now)) steps.old steps.new }
+        (command_stage request.now.command (asked_by request.now) (inputs_in inputs.now))
+        (answer_of result) }
+    ensures steps { ReadsByEnd (rest_after result)
+        (CommandReads request.now.command (asked_by request.now) (inputs_in inputs.now)
+        (given_bytes (inputs_in inputs.now))) steps.old steps.new }
 {
     let options = &request.options;
     let operands = request.operands;

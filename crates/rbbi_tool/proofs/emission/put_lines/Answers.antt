@@ -1,0 +1,20 @@
+use Rattle.std.proofs.Common.{sym, subst}
+use Rattle.std.specs.Prelude.{OnOk, OnErr}
+use Rattle.rbbi_io.specs.Sinks.{Takes, TakesFront}
+use Rattle.rbbi_tool.specs.inner.Prepared.{bytes_of}
+use Rattle.rbbi_tool.proofs.emission.put_lines.Goals as goal
+
+pub returns-in-Boundaries-clause-err : goal.returns-in-Boundaries-clause-err
+returns-in-Boundaries-clause-err g c =
+    subst (λ l. OnErr c.put_boundaries.result (TakesFront (g.K.Sink.taken c.args.out.now) (g.K.Sink.taken c.put_boundaries.new.out) (bytes_of l)))
+    (sym c.in-Boundaries.is) c.put_boundaries.ensures.err
+
+pub returns-in-Replies-clause-ok : goal.returns-in-Replies-clause-ok
+returns-in-Replies-clause-ok g c =
+    subst (λ l. OnOk c.put_replies_over.result (Takes (g.K.Sink.taken c.args.out.now) (g.K.Sink.taken c.put_replies_over.new.out) (bytes_of l)))
+    (sym c.in-Replies.is) c.put_replies_over.ensures.ok
+
+pub returns-in-Replies-clause-err : goal.returns-in-Replies-clause-err
+returns-in-Replies-clause-err g c =
+    subst (λ l. OnErr c.put_replies_over.result (TakesFront (g.K.Sink.taken c.args.out.now) (g.K.Sink.taken c.put_replies_over.new.out) (bytes_of l)))
+    (sym c.in-Replies.is) c.put_replies_over.ensures.err

@@ -1,0 +1,175 @@
+//! What a request comes to, as it is written.
+ghost use Rattle.std.specs.Prelude.{◌≡◌, ◌≤◌, ◌⊎◌, map, None, OnOk, OnErr, OnSome, IsErrOf};
+ghost use Rattle.rbbi_model.specs.Lines.{boundary_lines, all_reply_lines};
+ghost use Rattle.rbbi_model.specs.Searches.{table_boundaries};
+ghost use Rattle.rbbi_model.specs.Scripts.{table_replies};
+ghost use Rattle.rbbi_model.specs.Costs.{breaks_cost, script_cost};
+ghost use Rattle.rbbi_text.specs.Steps.{RisesUpTo};
+ghost use Rattle.rbbi_script.specs.Meaning.{meaning};
+ghost use Rattle.rbbi_script.specs.Performing.{replies_of};
+ghost use Rattle.rbbi_script.specs.Reading.{commands_cost};
+ghost use Rattle.rbbi_io.specs.Counts.{Rose, GoesOn, EachGoesOn, EachStays};
+ghost use Rattle.rbbi_io.specs.Answers.{WhereTold};
+ghost use Rattle.rbbi_io.specs.Sinks.{Takes, TakesFront};
+ghost use Rattle.rbbi_io.specs.declared.error.WriteErr.TheVariants.{Failed};
+ghost use Rattle.rbbi_command.specs.Delivery.{HoldsFile, FileFailed, OthersUncounted};
+ghost use Rattle.rbbi_command.specs.Delivery.{EachHoldsOrIsOutputFile};
+ghost use Rattle.rbbi_tool.specs.inner.Prepared.{bytes_of, cost_of, outcome_of, rest_of};
+
+use crate::prepared::{Lines, Prepared};
+use rbbi_command::deliver;
+use rbbi_io::{Files, Sink, WriteErr, put_all, put_when_full};
+use rbbi_script::{Commands, perform};
+use rbbi_session::Session;
+use rbbi_table::{Marks, Table};
+use rbbi_text::{Chars, EditText, Pieces, PlainText, Steps, append_boundary};
+use std::alloc::Global;
+use std::sync::ledger::Ledger;
+
+/// Puts the lines of all boundaries of a text by a table, in pieces.
+fn put_boundaries<K: Sink, L: Ledger>(
+    alloc: Global,
+    table: &Table,
+    text: &PlainText,
+    out: &mut K,
+    steps: &mut Steps<L>,
+) -> Result<(), WriteErr>
+    ensures ok { OnOk result (Takes (K.taken out.old) (K.taken out.new)
+        (boundary_lines (table_boundaries table.now text.now))) }
+    ensures err { OnErr result (TakesFront (K.taken out.old) (K.taken out.new)
+        (boundary_lines (table_boundaries table.now text.now))) }
+    ensures faults { GoesOn (K.faults out.old) (K.faults out.new) }
+    ensures failed { IsErrOf result Failed → Rose (K.faults out.old) (K.faults out.new) }
+    ensures steps { RisesUpTo (breaks_cost table.now text.now 0) steps.old steps.new }
+{
+    rbbi_model::next_boundary_is_past_the_start();
+    rbbi_model::anchors_are_stored();
+    rbbi_model::anchors_lead_to_the_boundaries();
+    table.valid();
+    let mut marks = Marks::new(alloc, table)?;
+    let mut made = Vec::new(alloc);
+    append_boundary(0, &[0], &mut made)?;
+    let mut at = 0;
+    while at < text.len() {
+        let found = table.next(text, at, &mut marks, steps);
+        append_boundary(found.at, table.status_list(found.status), &mut made)?;
+        put_when_full(out, &mut made)?;
+        at = found.at;
+    }
+    put_all(out, &made)?;
+    Ok(())
+}
+
+/// Puts the lines of the replies to all commands, in pieces.
+fn put_replies<T: EditText, K: Sink, L: Ledger>(
+    alloc: Global,
+    session: &mut Session<'_, T>,
+    commands: &Commands,
+    out: &mut K,
+    steps: &mut Steps<L>,
+) -> Result<(), WriteErr>
+    ensures ok { OnOk result (Takes (K.taken out.old) (K.taken out.new)
+        (all_reply_lines (replies_of session.old (map meaning commands.now)))) }
+    ensures err { OnErr result (TakesFront (K.taken out.old) (K.taken out.new)
+        (all_reply_lines (replies_of session.old (map meaning commands.now)))) }
+    ensures faults { GoesOn (K.faults out.old) (K.faults out.new) }
+    ensures failed { IsErrOf result Failed → Rose (K.faults out.old) (K.faults out.new) }
+    ensures cost { RisesUpTo (commands_cost session.old.table session.old.state
+        (map meaning commands.now)) steps.old steps.new }
+{
+    let mut made = Vec::new(alloc);
+    for i in 0..commands.len() {
+        perform(session, commands.get(i), &mut made, steps)?;
+        put_when_full(out, &mut made)?;
+    }
+    put_all(out, &made)?;
+    Ok(())
+}
+
+/// Puts the lines of the replies to all commands over a text, by a table, in pieces.
+fn put_replies_over<K: Sink, L: Ledger>(
+    alloc: Global,
+    table: &Table,
+    text: Pieces,
+    commands: &Commands,
+    out: &mut K,
+    steps: &mut Steps<L>,
+) -> Result<(), WriteErr>
+    ensures ok { OnOk result (Takes (K.taken out.old) (K.taken out.new)
+        (all_reply_lines (table_replies table.now text (map meaning commands.now)))) }
+    ensures err { OnErr result (TakesFront (K.taken out.old) (K.taken out.new)
+        (all_reply_lines (table_replies table.now text (map meaning commands.now)))) }
+    ensures faults { GoesOn (K.faults out.old) (K.faults out.new) }
+    ensures failed { IsErrOf result Failed → Rose (K.faults out.old) (K.faults out.new) }
+    ensures steps { RisesUpTo (script_cost table.now text (map meaning commands.now))
+        steps.old steps.new }
+{
+    let mut session = Session::open(alloc, table, text)?;
+    put_replies(alloc, &mut session, commands, out, steps)
+}
+
+/// Puts lines that are made while they go out.
+fn put_lines<K: Sink, L: Ledger>(
+    alloc: Global,
+    lines: Lines,
+    out: &mut K,
+    steps: &mut Steps<L>,
+) -> Result<(), WriteErr>
+    ensures ok { OnOk result (Takes (K.taken out.old) (K.taken out.new) (bytes_of lines)) }
+    ensures err { OnErr result (TakesFront (K.taken out.old) (K.taken out.new) (bytes_of lines)) }
+    ensures faults { GoesOn (K.faults out.old) (K.faults out.new) }
+    ensures failed { IsErrOf result Failed → Rose (K.faults out.old) (K.faults out.new) }
+    ensures steps { RisesUpTo (cost_of lines) steps.old steps.new }
+{
+    match lines {
+        Lines::Boundaries(table, text) => put_boundaries(alloc, &table, &text, out, steps),
+        Lines::Replies(table, text, commands) => {
+            put_replies_over(alloc, &table, text, &commands, out, steps)
+        }
+    }
+}
+
+/// Writes what a request comes to: its file, if it has one, and then what goes out. The result is
+/// the exit status: that of the output, 7 where the write or a put failed, or 8 where memory ran
+/// out.
+pub(crate) fn emit<F: Files, K: Sink, L: Ledger>(
+    alloc: Global,
+    prepared: Prepared,
+    files: &mut F,
+    out: &mut K,
+    steps: &mut Steps<L>,
+) -> u8
+    requires { (outcome_of prepared).status ≤ 6 }
+    ensures status { (result ≡ (outcome_of prepared).status) ⊎ ((result ≡ 7) ⊎ (result ≡ 8)) }
+    ensures taken { result ≤ 6
+        → Takes (K.taken out.old) (K.taken out.new) (outcome_of prepared).bytes }
+    ensures held { result ≤ 6 → WhereTold (F.contents files.old) (F.contents files.new)
+        (HoldsFile (outcome_of prepared).file) }
+    ensures failed { result ≡ 7 → Rose (K.faults out.old) (K.faults out.new)
+        ⊎ FileFailed (outcome_of prepared).file
+        (F.failed_writes files.old) (F.failed_writes files.new) }
+    ensures front { TakesFront (K.taken out.old) (K.taken out.new) (outcome_of prepared).bytes }
+    ensures file_first { (K.taken out.new ≡ K.taken out.old)
+        ⊎ WhereTold (F.contents files.old) (F.contents files.new)
+        (HoldsFile (outcome_of prepared).file) }
+    ensures contents { WhereTold (F.contents files.old) (F.contents files.new)
+        (EachHoldsOrIsOutputFile (outcome_of prepared).file
+        (F.failed_writes files.old) (F.failed_writes files.new)) }
+    ensures same { (outcome_of prepared).file ≡ None
+        → F.contents files.new ≡ F.contents files.old }
+    ensures others { OnSome (F.contents files.old) (OthersUncounted (outcome_of prepared).file
+        (F.failed_writes files.old) (F.failed_writes files.new)) }
+    ensures reads { EachStays (F.failed_reads files.old) (F.failed_reads files.new) }
+    ensures writes { EachGoesOn (F.failed_writes files.old) (F.failed_writes files.new) }
+    ensures faults { GoesOn (K.faults out.old) (K.faults out.new) }
+    ensures steps { RisesUpTo (rest_of prepared) steps.old steps.new }
+{
+    match prepared {
+        Prepared::Ready(output) => deliver(&output, files, out),
+        Prepared::Waiting(lines) => match put_lines(alloc, lines, out, steps) {
+            Ok(()) => 0,
+            Err(WriteErr::Failed) => 7,
+            Err(WriteErr::Memory) => 8,
+        },
+    }
+}

@@ -1,0 +1,24 @@
+//! What a request comes to, before anything is written.
+
+use rbbi_command::Output;
+use rbbi_script::Commands;
+use rbbi_table::Table;
+use rbbi_text::{Pieces, PlainText};
+
+/// What a request comes to, which determines all that is written.
+#[derive(Drop)]
+pub(crate) enum Prepared {
+    /// An output that is made.
+    Ready(Output),
+    /// Lines that are made while they go out.
+    Waiting(Lines),
+}
+
+/// Lines that are made while they go out.
+#[derive(Drop)]
+pub(crate) enum Lines {
+    /// Those of all boundaries of a text by a table.
+    Boundaries(Table, PlainText),
+    /// Those of the replies to the commands of a script, over a text, by a table.
+    Replies(Table, Pieces, Commands),
+}
