@@ -46,7 +46,7 @@ def printing(bench):
     for name in ('letters', 'word'):
         path, props, _ = bench.rules(name)
         words = ['breaks'] + props + [path]
-        line = Line(f'`breaks`, {name}.rules: memory a character, beside the file and the output',
+        line = Line(f'`breaks`, {name}.rules: memory a character, beside the file, with the output',
                     bench.lacking(words + [bench.tiny()]), target='4.5 bytes')
         if not line.time:
             held = []
@@ -54,7 +54,7 @@ def printing(bench):
                 text = inputs.make_text(bench.folder, 'prose', size)
                 out = os.path.join(bench.folder, 'printed')
                 result = measure(bench.program + words + [text], out)
-                held.append(result.peak - os.path.getsize(text) - os.path.getsize(out))
+                held.append(result.peak - os.path.getsize(text))
             each = (held[1] - held[0]) / (TWELVE_MILLION - ONE_MILLION)
             line.peak, line.verdict = f'{each:.1f} bytes', verdict(each, 4.5)
         yield line
