@@ -208,8 +208,7 @@ impl ClassSet {
         ClassSet::of_span(alloc, all)?.remove(alloc, self)
     }
 
-    /// The words in a row that also has those from the number `first` to before `last`: in this
-    /// one, if it is the set's own and has them.
+    /// The words in a row of the set's own, which also has those from `first` to before `last`.
     fn into_row(self, alloc: Global, first: usize, last: usize) -> Result<WordRow, AllocError>
         requires ordered { first ≤ last }
         requires few { last ≤ 2 ^ 58 }
@@ -218,21 +217,30 @@ impl ClassSet {
         ensures end { IfOk result (λ row. last ≤ row.from + length row.words.items) }
         ensures few { IfOk result (λ row. row.from + length row.words.items ≤ 2 ^ 58) }
     {
+        let from = self.from;
         let end = self.end();
-        let ClassSet { from, words } = self;
-        match words {
-            Words::Own(words) => {
-                let row = WordRow { from, words };
-                if from <= first && last <= end {
-                    return Ok(row);
-                }
-                ClassSet::of_row(row).copy(alloc, first.min(from), last.max(end))
-            }
-            Words::Shared(chunks) => {
-                let words = Words::Shared(chunks);
-                ClassSet { from, words }.copy(alloc, first.min(from), last.max(end))
-            }
+        let row = self.into_own_row(alloc)?;
+        if from <= first && last <= end {
+            return Ok(row);
         }
+        ClassSet::of_row(row).copy(alloc, first.min(from), last.max(end))
+    }
+
+    /// The words in a row of the set's own. Those in chunks are copied.
+    fn into_own_row(self, alloc: Global) -> Result<WordRow, AllocError>
+        ensures { IfOk result (λ row. bits row ≡ self) }
+    {
+        let count = self.end() - self.from;
+        let ClassSet { from, words } = self;
+        let chunks = match words {
+            Words::Own(words) => return Ok(WordRow { from, words }),
+            Words::Shared(chunks) => chunks,
+        };
+        let mut words = Vec::with_capacity(alloc, count)?;
+        for chunk in chunks.as_slice() {
+            words.extend_from_slice(chunk.as_slice())?;
+        }
+        Ok(WordRow { from, words })
     }
 
     /// The words in a new row that has those from the number `first` to before `last`.

@@ -291,7 +291,12 @@ module _ (laws : Laws) where
       (properties_determined options.properties inputs.properties)
       (λ _.
       determined_both (rule_text_stage inputs.rules) (rules_of_text_stage files ignored)
-      (record { value = λ x y is is'. is.1 ∙ sym is'.1; refusal = not_utf8_once subject.Rules inputs.rules; apart = λ x r is (at, wrong, told). wrong.not_utf8 is.0 })
+      (record {
+        value = λ x y is is'. is.1 ∙ sym is'.1;
+        refusal = not_utf8_once subject.Rules inputs.rules;
+        apart = λ x r is (at, wrong, told).
+            wrong.not_utf8 is.0;
+      })
       (rule_text_determined files ignored))
 
   -- what the table of rules comes to is determined

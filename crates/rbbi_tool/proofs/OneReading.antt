@@ -33,7 +33,8 @@ script_determined law script = record {
       let same = law script.bytes (Ok is.written) (Ok is'.written) is.read is'.read (λ e. no_error _ _ e) (λ e. no_error _ _ e) in
       is.mean ∙ ap (map meaning) (value_of is.written is'.written same) ∙ sym is'.mean;
   refusal = λ r s is is'.
-      let same = law script.bytes (Err is.error) (Err is'.error) is.refused is'.refused (λ e. is.not_memory (error_of _ _ e)) (λ e. is'.not_memory (error_of _ _ e)) in
+      let same = law script.bytes (Err is.error) (Err is'.error) is.refused is'.refused (λ e. is.not_memory (error_of _ _ e))
+      (λ e. is'.not_memory (error_of _ _ e)) in
       is.is ∙ ap (lines_fault script.name) (error_of is.error is'.error same) ∙ sym is'.is;
   apart = λ cs r is is'.
       no_error is.written is'.error
@@ -45,7 +46,8 @@ pub tests_determined : HaveOneTestList → (tests : Input) → IsDeterministic (
 tests_determined law tests = record {
   value = λ ts us is is'. value_of ts us (law tests.bytes (Ok ts) (Ok us) is is' (λ e. no_error _ _ e) (λ e. no_error _ _ e));
   refusal = λ r s is is'.
-      let same = law tests.bytes (Err is.error) (Err is'.error) is.refused is'.refused (λ e. is.not_memory (error_of _ _ e)) (λ e. is'.not_memory (error_of _ _ e)) in
+      let same = law tests.bytes (Err is.error) (Err is'.error) is.refused is'.refused (λ e. is.not_memory (error_of _ _ e))
+      (λ e. is'.not_memory (error_of _ _ e)) in
       is.is ∙ ap (lines_fault tests.name) (error_of is.error is'.error same) ∙ sym is'.is;
   apart = λ ts r is is'.
       no_error ts is'.error (law tests.bytes (Ok ts) (Err is'.error) is is'.refused (λ e. no_error _ _ e) (λ e. is'.not_memory (error_of _ _ e)));

@@ -33,7 +33,8 @@ module _ {A B : Type 0} (first : Stage A) (next : A → Stage B) where
   goes_on view a (Err refusal) passed met = stops_next a refusal passed met
 
   -- of a determined stage and a settled one the row is settled
-  pub settled_both : (R : B → B → Type 0) → IsDeterministic A first → ((a : A) → first.passes a → IsSettled B R (next a)) → IsSettled B R (followed_by first next)
+  pub settled_both : (R : B → B → Type 0) → IsDeterministic A first → ((a : A) → first.passes a → IsSettled B R (next a)) → IsSettled B R
+      (followed_by first next)
   settled_both R one each = record {
     value = λ b c (a, passed, is) (a', passed', is').
         (each a' passed').value b c (subst (λ v. (next v).passes b) (one.value a a' passed passed') is) is';

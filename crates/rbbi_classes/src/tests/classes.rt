@@ -52,8 +52,8 @@ fn classes_of(
     ClassSet::of_set(alloc, layout, &set_of(alloc, pairs)?)
 }
 
-/// Whether the code points of the classes in the set are these. It asks where the tests have ends of
-/// ranges.
+/// Whether the code points of the classes in the set are these. It asks where the tests have ends
+/// of ranges.
 fn are(division: &Division, set: &ClassSet, want: &[(u32, u32)]) -> bool {
     for c in (0..2_050).chain(0xD700..0xE100).chain(LAST - 1..LAST + 2) {
         if division.has(set, c) != is_in(want, c) {

@@ -28,7 +28,8 @@ returns-in-Ok g c =
     let answer = is_answer _ _ _ _ (prepared_outcome c.in-Ok.prepared) (answer_of c.run-ended.result) before.comes c.in-Ok.ensures.gives in
     let d = from_start _ (held start) (held ran) (held end) (reads start) (reads ran) (reads end) (writes start) (writes ran) (writes end)
     (g.K.Sink.taken c.args.out.now) (g.K.Sink.taken c.emit.new.out) (g.K.Sink.faults c.args.out.now) (g.K.Sink.faults c.emit.new.out)
-    (prepared_outcome c.in-Ok.prepared) c.emit.result before.contents (λ name. after.reads name) before.writes answer after.status after.taken after.held after.failed after.front
+    (prepared_outcome c.in-Ok.prepared) c.emit.result before.contents (λ name. after.reads name) before.writes answer after.status after.taken
+    after.held after.failed after.front
     after.file_first after.contents after.others in
     record {
       statuses = statuses_of d;

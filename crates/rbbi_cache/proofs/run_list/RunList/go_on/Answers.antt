@@ -11,7 +11,8 @@ pub item_mut-run-requires : goal.item_mut-run-requires
 item_mut-run-requires g c =
     let at = c.requires.from in
     let short : c.self.inside.count ≤ length c.self.inside.slots.items.items = omega (arith, c.self.invariant.0, c.self.invariant.1) in
-    let k = below c.self.inside.slots.items.items c.self.inside.count short c.args.self.now at.before at.run at.after c.self.view_is at.whole c.args.k at.number in
+    let k = below c.self.inside.slots.items.items c.self.inside.count short c.args.self.now at.before at.run at.after c.self.view_is at.whole
+    c.args.k at.number in
     omega (arith, k, c.self.inside.slots.items.ok.0)
 
 pub go_on-requires-clause-is_true : goal.go_on-requires-clause-is_true

@@ -16,6 +16,7 @@ returns c before after run whole number =
       length-append
           before (after ++ drop c.self.inside.count c.self.inside.slots.items.items),
     ) in
-    ap (take c.self.inside.count) (refilled c.to_front.new.runs c.self.inside.slots.items.items c.self.inside.slots.items.len (omega (arith, c.self.inside.slots.items.ok.0))
+    ap (take c.self.inside.count) (refilled c.to_front.new.runs c.self.inside.slots.items.items c.self.inside.slots.items.len
+    (omega (arith, c.self.inside.slots.items.ok.0))
     same)
     ∙ moved_is c.self.inside.slots.items.items c.self.inside.count short c.args.self.now before run after c.self.view_is whole c.to_front.new.runs moved

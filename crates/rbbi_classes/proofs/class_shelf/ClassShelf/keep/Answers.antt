@@ -1,5 +1,5 @@
 -- Each chunk has the words up to the next cut.
-use Rattle.std.proofs.Common.{◌∙◌, ◌≡◌, ◌≤◌, ◌+◌, ◌-◌, ◌++◌, ◌∷◌, ℕ, List, [], length, take, ap, sym, arith, subst, length-take}
+use Rattle.std.proofs.Common.{◌∙◌, ◌≡◌, ◌≤◌, ◌+◌, ◌-◌, ℕ, List, take, ap, arith, length-take}
 use Rattle.std.specs.List.{flat_map, slice_index}
 use Rattle.std.specs.Rc.{rc_slice_items}
 use Rattle.std.proofs.lemmas.List.{get_or-take}

@@ -1,5 +1,5 @@
 -- The word at this place is made of both, and no other changes.
-use Rattle.std.proofs.Common.{◌≡◌, ◌≢◌, ◌+◌, ◌<◌, ℕ, List, get_or, set, ap, sym, ◌∙◌, ⊎_elim, inl, inr, subst, arith}
+use Rattle.std.proofs.Common.{◌≡◌, ◌≢◌, ◌+◌, ℕ, List, get_or, set, ap, ◌∙◌, ⊎_elim, inl, inr, subst, arith}
 use Rattle.std.proofs.lemmas.Bool.{cases_lt}
 use Rattle.std.proofs.lemmas.List.{get_or-set_same, get_or-set_other}
 use Rattle.rbbi_model.specs.Places.{has_bit}

@@ -1,5 +1,5 @@
 -- The bits of the word that is made.
-use Rattle.std.proofs.Common.{not, ◌&&◌, ap, ◌∙◌, arith}
+use Rattle.std.proofs.Common.{◌&&◌, ap, ◌∙◌, arith}
 use Rattle.rbbi_model.specs.Places.{has_bit}
 use Rattle.rbbi_bits.proofs.WordBits.{has_bit_or, has_bit_and, has_bit_not}
 use Rattle.rbbi_classes.proofs.operation.Operation.of.Goals as goal

@@ -1,7 +1,6 @@
 -- One piece more is joined with the row.
-use Rattle.std.proofs.Common.{◌≡◌, ◌<◌, ℕ, length, get_or, take, ◌∙◌, ⊎_elim, inl, inr, arith, length-take}
+use Rattle.std.proofs.Common.{◌≡◌, ℕ, length, take, ◌∙◌, ⊎_elim, inl, inr, arith, length-take}
 use Rattle.std.proofs.lemmas.List.{get_or-take}
-use Rattle.rbbi_classes.specs.Classes.{word_at}
 use Rattle.rbbi_classes.proofs.ClassRows.{joined-more}
 use Rattle.rbbi_classes.proofs.word_row.WordRow.combine.Goals as goal
 
