@@ -1,6 +1,6 @@
 -- Files and sinks in memory.
-use Rattle.std.specs.Prelude.{◌≡◌, ◌≢◌, ◌<◌, ◌≤◌, ◌⊎◌, ◌++◌, ℕ, Bool, true, false, List, [], ◌∷◌, length, Option, Some, None, Result, Ok, Err, bytes_eq}
-use Rattle.std.specs.Prelude.{if◌then◌else◌, ◌&&◌, unwrap_or, count_by, Contains, slice_index_or, min, take}
+use Rattle.std.specs.Prelude.{◌≡◌, ◌<◌, ◌≤◌, ◌⊎◌, ◌++◌, ℕ, Bool, true, false, List, [], ◌∷◌, length, Option, Some, None, Result, Ok, Err, bytes_eq}
+use Rattle.std.specs.Prelude.{if◌then◌else◌, ◌&&◌, unwrap_or, count_by, Contains, min, take}
 use Rattle.rbbi_io.specs.Counts.{capped, one_more}
 use Rattle.rbbi_io.specs.declared.mem_files.CallKind.{CallKind}
 use Rattle.rbbi_io.specs.declared.mem_files.CallKind.TheVariants.{Read, Write}
