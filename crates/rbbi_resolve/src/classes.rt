@@ -19,6 +19,7 @@ use crate::properties::{Answer, Properties};
 use crate::question::Question;
 use indexmap::IndexMap;
 use rbbi_classes::{ClassSet, Division, Layout};
+use rbbi_props::PropTable;
 use rbbi_text::Word;
 use rbbi_tree::Statements;
 use std::alloc::{AllocError, Global};
@@ -45,18 +46,23 @@ impl Classes {
     /// The partition for the statements of a rule file.
     pub(crate) fn of(
         alloc: Global,
-        properties: &mut Properties,
+        table: &PropTable,
         statements: &Statements,
     ) -> Result<Classes, AllocError>
-        ensures classes { IfOk result (AreRightClasses properties.old) }
+        ensures classes { IfOk result (AreRightClasses table.now) }
         ensures covers { IfOk result (λ classes.
-            CoversAll properties.old (stand_in (rc_value classes.division))
+            CoversAll table.now (stand_in (rc_value classes.division))
             (statement_trees statements.now)) }
-        ensures same { properties.new ≡ properties.old }
     {
+        let mut properties = Properties::new(alloc, table);
         let mut collection = Collection::new(alloc)?;
         for number in 0..statements.len() {
-            collect_statement(alloc, properties, &mut collection, statements.get(number))?;
+            collect_statement(
+                alloc,
+                &mut properties,
+                &mut collection,
+                statements.get(number),
+            )?;
         }
         let Collection { bases, answers, .. } = collection;
         let division = Division::new(alloc, &bases)?;

@@ -11,7 +11,6 @@ ghost use Rattle.std.specs.List.{All};
 
 use crate::question::{Question, key_of, text_of};
 use indexmap::IndexMap;
-use rbbi_classes::{ClassSet, ClassShelf};
 use rbbi_props::PropTable;
 use rbbi_sets::CodeSet;
 use rbbi_text::Word;
@@ -38,8 +37,6 @@ pub(crate) struct Properties<'a> {
     /// What was found, by a hash, since properties of many names may be the same. Of sets with one
     /// hash the last one is here.
     sets: IndexMap<u64, Rc<Option<CodeSet>>>,
-    /// The chunks of the sets of variables.
-    shelf: ClassShelf,
 }
 
 impl<'a> Model for Properties<'a> {
@@ -67,7 +64,6 @@ impl<'a> Properties<'a> {
             table,
             answers: IndexMap::new(alloc),
             sets: IndexMap::new(alloc),
-            shelf: ClassShelf::new(alloc),
         }
     }
 
@@ -113,24 +109,6 @@ impl<'a> Properties<'a> {
                 } else {
                     Ok(None)
                 }
-            }
-            None => Ok(None),
-        }
-    }
-
-    /// The set of a variable, where it has one, with the chunks that it shares.
-    pub(crate) fn keep(
-        &mut self,
-        alloc: Global,
-        set: &Option<ClassSet>,
-    ) -> Result<Option<ClassSet>, AllocError>
-        ensures value { IfOk result (λ kept. kept ≡ set.now) }
-        ensures same { self.new ≡ self.old }
-    {
-        match set {
-            Some(set) => {
-                let kept = self.shelf.keep(alloc, set)?;
-                Ok(Some(kept))
             }
             None => Ok(None),
         }
@@ -206,7 +184,7 @@ pub(crate) fn hash_of(set: &Option<CodeSet>) -> u64 {
 }
 
 /// The set of a property by a look-up, and None where it is unknown.
-fn find(
+pub(crate) fn find(
     alloc: Global,
     table: &PropTable,
     negated: bool,
