@@ -1,12 +1,13 @@
 -- The trees of parts, one after another.
-use Rattle.std.proofs.Common.{◌≡◌, ℕ, zero, suc, ◌+◌, ◌<◌, ◌≤◌, ◌⊎◌, inl, inr, Option, None, Some, unwrap_or, List, [], ◌∷◌, ◌++◌, map, length, slice_get, set, replicate}
+use Rattle.std.proofs.Common.{◌≡◌, ℕ, zero, suc, ◌+◌, ◌<◌, ◌≤◌, ◌⊎◌, inl, inr, Option, None, Some, unwrap_or, List}
+use Rattle.std.proofs.Common.{[], ◌∷◌, ◌++◌, map, length, slice_get, set}
 use Rattle.std.proofs.Common.{sym, refl, ap, ◌∙◌, subst, arith}
 use Rattle.std.specs.List.{AllByRecursion, AllZip, Contains, flat_map}
 use Rattle.std.proofs.lemmas.Bool.{cases_lt}
 use Rattle.std.specs.Option.{option_map}
 use Rattle.std.proofs.lemmas.Option.{slice_get_within, slice_get-map}
 use Rattle.std.proofs.lemmas.List.Elements.{Contains-append_left, Contains-append_right}
-use Rattle.std.proofs.lemmas.List.{append_assoc, append-nil, length-append, length-map, length-set, length-replicate, map-append}
+use Rattle.std.proofs.lemmas.List.{append_assoc, append-nil, length-append, length-map, length-set, map-append}
 use Rattle.std.proofs.lemmas.Slice.Zip.{AllZip-long}
 use Rattle.rbbi_model.specs.Ranges.{Range}
 use Rattle.rbbi_model.specs.SetTrees as model
@@ -400,22 +401,6 @@ set_added context leaves before after place row b at lawful few rows numbers =
             ];
       };
     }
-
--- where there are no numbers
-pub none_numbered : (context : Context) (leaves : FileLeaves) (builder : Builder) → builder.rows.items ≡ [] →
-    builder.numbers.items ≡ replicate (length leaves.rows.items) None → IsBuilder context leaves builder
-none_numbered context leaves builder rows numbers =
-    record {
-      few = let e = ap length rows in omega arith;
-      formed = subst (λ xs. AllByRecursion IsLeafSet (sets_of context xs)) (sym rows) tt;
-      long = ap length numbers ∙ length-replicate (length leaves.rows.items) None;
-      each = λ p number row known there. absurd (none_known (length leaves.rows.items) p number (ap (λ xs. slice_get xs p) (sym numbers) ∙ known));
-    }
-  where
-    none_known : (n p number : ℕ) → slice_get (replicate n None) p ≡ Some (Some number) → ⊥
-    none_known zero p number e = cc
-    none_known (suc n) zero number e = cc
-    none_known (suc n) (suc p) number e = none_known n p number e
 
 -- the row of a leaf that stands there is lawful
 pub lawful_row : (context : Context) (leaves : FileLeaves) (next : ℕ) (value : Option model.SetTree) → StandFrom context leaves next (value ∷ []) →

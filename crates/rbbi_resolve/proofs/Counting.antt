@@ -122,7 +122,8 @@ pub seqs_left : (items : List Item) (i : ℕ) (p : Item) → i < length items �
     (seq_of (map item_tree (drop (i + 1) items)))
 seqs_left items i p inside is = ap (λ ps. seq_of (map item_tree ps)) (drop_more items i p inside ∙ ap (λ q. q ∷ drop (i + 1) items) (sym is))
 
-pub expr_turn : (c : Context) (before : Option Fault) (whole : ExprTree) (summary part summary' : Summary) (least least' : Option Fault) (items : List Seq) (i : ℕ)
+pub expr_turn : (c : Context) (before : Option Fault) (whole : ExprTree) (summary part summary' : Summary) (least least' : Option Fault) (items : List Seq)
+    (i : ℕ)
     (p : Seq) → i < length items → p ≡ get_or items i p → CountingExpr c before whole summary least (expr_of (map seq_tree (drop i items))) →
     CountsPart c (parts_of_seq (seq_tree p)) (meaning_of_seq c (seq_tree p)) (height_of_seq c (seq_tree p)) part least least' →
     ((a b h k : ℕ) (e f : Bool) → Sums summary a h e → Sums part b k f → Sums summary' (a + b) (max h k) (e || f)) →
@@ -145,7 +146,8 @@ expr_turn c before whole summary part summary' least least' items i p inside is 
           ∙ here.noted;
     }
 
-pub seq_turn : (c : Context) (before : Option Fault) (whole : SeqTree) (summary part summary' : Summary) (least least' : Option Fault) (items : List Item) (i : ℕ)
+pub seq_turn : (c : Context) (before : Option Fault) (whole : SeqTree) (summary part summary' : Summary) (least least' : Option Fault) (items : List Item)
+    (i : ℕ)
     (p : Item) → i < length items → p ≡ get_or items i p → CountingSeq c before whole summary least (seq_of (map item_tree (drop i items))) →
     CountsPart c (parts_of_item (item_tree p)) (meaning_of_item c (item_tree p)) (height_of_item c (item_tree p)) part least least' →
     ((a b h k : ℕ) (e f : Bool) → Sums summary a h e → Sums part b k f → Sums summary' (a + b) (max h k) (e && f)) →

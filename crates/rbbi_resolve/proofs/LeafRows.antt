@@ -36,7 +36,8 @@ use Rattle.rbbi_resolve.specs.inner.Readings.{AreLeavesTo}
 use Rattle.rbbi_resolve.proofs.Building.{stand_more}
 use Rattle.rbbi_resolve.proofs.Characters.{held_character, character_held, in_set_takes}
 use Rattle.rbbi_resolve.proofs.Good.{not_empty_holds}
-use Rattle.rbbi_resolve.proofs.Sound.{IsThere, IsFaultless, first_empty, second_empty, faultless_first, faultless_second, faultless_part, known_there, set_there}
+use Rattle.rbbi_resolve.proofs.Sound.{IsThere, IsFaultless, first_empty, second_empty, faultless_first, faultless_second}
+use Rattle.rbbi_resolve.proofs.Sound.{faultless_part, known_there, set_there}
 use Rattle.rbbi_resolve.proofs.SoundFiles.{assigned_faultless}
 
 -- the value is there, and holds a character

@@ -65,7 +65,8 @@ property_noted context files least place join negated word value unknown same is
 
 -- what is noted of a property outside of sets
 two_faults : (least : Option Fault) (a b : Bool) (place : ℕ) (kind other : FaultKind) →
-    noted (noted least (faults_where a place kind)) (faults_where b place other) ≡ noted least ((faults_where a place kind ++ (faults_where b place other ++ [])) ++ [])
+    noted (noted least (faults_where a place kind)) (faults_where b place other) ≡ noted least
+    ((faults_where a place kind ++ (faults_where b place other ++ [])) ++ [])
 two_faults least true true place kind other = refl
 two_faults least true false place kind other = refl
 two_faults least false true place kind other = refl

@@ -183,7 +183,8 @@ statement_built context leaves before after switches switches' rules rules' new 
           ∙ ap (λ xs. a.done ++ xs) (sym (rules_next k s rest))
           ∙ ap (λ x. a.done ++ rules_from k x) (sym left)
           ∙ a.every;
-      each = subst (λ rs. AllZip (IsRuleBuilt files sets') (a.done ++ rule_in k s) rs) (sym put) (rules_both files sets' a.done rules (rule_in k s) new wider each);
+      each = subst (λ rs. AllZip (IsRuleBuilt files sets') (a.done ++ rule_in k s) rs) (sym put)
+          (rules_both files sets' a.done rules (rule_in k s) new wider each);
       used =
           λ j low.
           elim (cases_lt j (length sets)) [

@@ -15,7 +15,7 @@ ghost use Rattle.rbbi_classes.specs.Divisions.{stand_in};
 use crate::collect::collect_statement;
 use crate::collection::Collection;
 use crate::division::{Divided, divide_once};
-use crate::properties::{Answer, Properties};
+use crate::properties::Answer;
 use crate::question::Question;
 use indexmap::IndexMap;
 use rbbi_classes::{ClassSet, Division, Layout};
@@ -38,7 +38,7 @@ pub(crate) struct PropertyClasses {
 #[derive(Drop)]
 pub(crate) struct Classes {
     pub(crate) division: Rc<Division>,
-    /// The sets of the file's properties, by the keys of `Properties`.
+    /// The sets of the file's properties, by the keys of properties.
     pub(crate) sets: IndexMap<String, PropertyClasses>,
 }
 
@@ -54,15 +54,9 @@ impl Classes {
             CoversAll table.now (stand_in (rc_value classes.division))
             (statement_trees statements.now)) }
     {
-        let mut properties = Properties::new(alloc, table);
         let mut collection = Collection::new(alloc)?;
         for number in 0..statements.len() {
-            collect_statement(
-                alloc,
-                &mut properties,
-                &mut collection,
-                statements.get(number),
-            )?;
+            collect_statement(alloc, table, &mut collection, statements.get(number))?;
         }
         let Collection { bases, answers, .. } = collection;
         let division = Division::new(alloc, &bases)?;

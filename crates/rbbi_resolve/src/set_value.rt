@@ -39,7 +39,8 @@ pub(crate) fn value_of_set(
     set: &SetExpr,
 ) -> Result<Option<ClassSet>, AllocError>
     requires { IsContext context.now }
-    ensures value { IfOk result (λ value. IsClassValue (files_of context.now) (bounds_of context.now)
+    ensures value { IfOk result (λ value. IsClassValue (files_of context.now)
+        (bounds_of context.now)
         (value_of_set (files_of context.now) (value_of_name (context_of context.now))
         (set_tree set.now)) value) }
     ensures noted { OnOk result (least.new ≡ noted_parts
@@ -65,7 +66,8 @@ fn value_of_item(
     item: &SetItem,
 ) -> Result<Option<ClassSet>, AllocError>
     requires { IsContext context.now }
-    ensures value { IfOk result (λ value. IsClassValue (files_of context.now) (bounds_of context.now)
+    ensures value { IfOk result (λ value. IsClassValue (files_of context.now)
+        (bounds_of context.now)
         (value_of_item (files_of context.now) (value_of_name (context_of context.now))
         (set_item_tree item.now)) value) }
     ensures noted { OnOk result ((join : trees.Join) → least.new ≡ noted_parts
@@ -131,7 +133,8 @@ fn value_of_variable(
     name: &Word,
 ) -> Result<Option<ClassSet>, AllocError>
     requires { IsContext context.now }
-    ensures value { IfOk result (λ value. IsClassValue (files_of context.now) (bounds_of context.now)
+    ensures value { IfOk result (λ value. IsClassValue (files_of context.now)
+        (bounds_of context.now)
         (value_of_name (context_of context.now) name.now) value) }
     ensures noted { OnOk result (least.new ≡ noted_parts (context_of context.now) least.old
         (Within place (set_name name.now) ∷ [])) }

@@ -61,7 +61,8 @@ pub record IsLeafRow (files : List File) (division : ClassDivision) (value : Opt
   pub letter : IfSome value IsLetter
 
 -- the rows of these leaves were added
-pub record AddsLeafRows (files : List File) (division : ClassDivision) (values : List (Option model.SetTree)) (before after : List (Option ClassBits)) : Type 0 where
+pub record AddsLeafRows (files : List File) (division : ClassDivision) (values : List (Option model.SetTree))
+    (before after : List (Option ClassBits)) : Type 0 where
   pub more : List (Option ClassBits)
   pub is : after ≡ before ++ more
   pub each : AllZip (IsLeafRow files division) values more

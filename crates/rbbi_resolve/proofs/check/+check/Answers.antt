@@ -50,8 +50,10 @@ check_expr-loop-seq-preserved t c =
       expr_turn k c.args.least.now _ l.whole c.in_ok-part.part c.or-whole.result l.least c.check_seq.new.least xs l.seq-index p
           (omega arith) c.seq-item.is l.invariant.0 (record { noted = c.in_ok-part.ensures.noted; counts = c.in_ok-part.ensures.counts })
           c.or-whole.ensures,
-      adding_turn context c.args.leaves.now.rows.items (leaves_of_expr k (expr_of (map seq_tree xs))) l.leaves.rows.items c.check_seq.new.leaves.rows.items (leaves_of_seq k (seq_tree p)) _
-          (subst (λ x. IsAdding context c.args.leaves.now.rows.items (leaves_of_expr k (expr_of (map seq_tree xs))) l.leaves.rows.items (leaves_of_expr k x)) left l.invariant.1) c.in_ok-part.ensures.rows,
+      adding_turn context c.args.leaves.now.rows.items (leaves_of_expr k (expr_of (map seq_tree xs))) l.leaves.rows.items c.check_seq.new.leaves.rows.items
+          (leaves_of_seq k (seq_tree p)) _
+          (subst (λ x. IsAdding context c.args.leaves.now.rows.items (leaves_of_expr k (expr_of (map seq_tree xs))) l.leaves.rows.items
+          (leaves_of_expr k x)) left l.invariant.1) c.in_ok-part.ensures.rows,
     )
 
 pub check_expr-returns-clause-noted : goal.check_expr-returns-clause-noted
@@ -120,8 +122,10 @@ check_seq-loop-item-preserved t c =
       seq_turn k c.args.least.now _ l.whole c.in_ok-part.part c.then-whole.result l.least c.check_item.new.least xs l.item-index p
           (omega arith) c.item-item.is l.invariant.0 (record { noted = c.in_ok-part.ensures.noted; counts = c.in_ok-part.ensures.counts })
           c.then-whole.ensures,
-      adding_turn context c.args.leaves.now.rows.items (leaves_of_seq k (seq_of (map item_tree xs))) l.leaves.rows.items c.check_item.new.leaves.rows.items (leaves_of_item k (item_tree p)) _
-          (subst (λ x. IsAdding context c.args.leaves.now.rows.items (leaves_of_seq k (seq_of (map item_tree xs))) l.leaves.rows.items (leaves_of_seq k x)) left l.invariant.1) c.in_ok-part.ensures.rows,
+      adding_turn context c.args.leaves.now.rows.items (leaves_of_seq k (seq_of (map item_tree xs))) l.leaves.rows.items c.check_item.new.leaves.rows.items
+          (leaves_of_item k (item_tree p)) _
+          (subst (λ x. IsAdding context c.args.leaves.now.rows.items (leaves_of_seq k (seq_of (map item_tree xs))) l.leaves.rows.items
+          (leaves_of_seq k x)) left l.invariant.1) c.in_ok-part.ensures.rows,
     )
 
 pub check_seq-returns-clause-noted : goal.check_seq-returns-clause-noted

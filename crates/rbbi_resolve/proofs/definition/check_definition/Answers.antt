@@ -14,8 +14,12 @@ kind_of_atom-requires-clause-rows c =
     let own = leaves_of_atom k (atom_tree c.in-Some.item.now.atom) in
     let leaves : leaves_of_expr k (expr_tree c.args.expr.now) ≡ own =
     ap (leaves_of_expr k) c.in-Some.ensures.lone ∙ append-nil (own ++ []) ∙ append-nil own in
-    let old = c.args.leaves.now.rows.items in
-    (old, omega (arith, c.len-first.ensures, c.args.leaves.now.rows.ok.0), subst (λ values. AddsRows context values old c.check_expr.new.leaves.rows.items) leaves c.in_ok-summary.ensures.rows)
+    let old = c.args.leaves.now.rows.items in (
+      old,
+      omega (arith, c.len-first.ensures, c.args.leaves.now.rows.ok.0),
+      subst
+          (λ values. AddsRows context values old c.check_expr.new.leaves.rows.items) leaves c.in_ok-summary.ensures.rows,
+    )
 
 pub returns-in_ok-kind-in-Some-clause-kind : goal.returns-in_ok-kind-in-Some-clause-kind
 returns-in_ok-kind-in-Some-clause-kind c =
@@ -25,12 +29,14 @@ returns-in_ok-kind-in-Some-clause-kind c =
     let m = meaning_of_expr k e in
     let h = height_of_expr k e in
     let own = c.in_ok-kind-in-Some.ensures m h c.in_ok-summary.ensures.counts in
-    subst (λ o. IsKindOf (files_of context) (bounds_of context) c.in_ok-kind-in-Some.kind (variable_with o m h)) (sym (ap (set_of_expr k) c.in-Some.ensures.lone)) own
+    subst (λ o. IsKindOf (files_of context) (bounds_of context) c.in_ok-kind-in-Some.kind (variable_with o m h))
+    (sym (ap (set_of_expr k) c.in-Some.ensures.lone)) own
 
 pub returns-in-None-clause-kind : goal.returns-in-None-clause-kind
 returns-in-None-clause-kind c =
     let context = c.args.context.now in
     let k = context_of context in
     let e = expr_tree c.args.expr.now in
-    subst (λ o. IsKindOf (files_of context) (bounds_of context) (kind.Expression c.in_ok-summary.summary) (variable_with o (meaning_of_expr k e) (height_of_expr k e)))
+    subst (λ o. IsKindOf (files_of context) (bounds_of context) (kind.Expression c.in_ok-summary.summary)
+    (variable_with o (meaning_of_expr k e) (height_of_expr k e)))
     (sym (c.in-None.ensures.none k)) c.in_ok-summary.ensures.counts

@@ -29,7 +29,8 @@ returns-in-Nothing c =
           refl
           c.requires.reading.switched
           (λ left all so_far. so_far);
-      leaves = leaves_next r.table.now (rc_value r.classes.division) trees r.firsts.items c.push.new.self.items r.leaves.rows.items r.leaves.rows.items n nothing
+      leaves = leaves_next r.table.now
+          (rc_value r.classes.division) trees r.firsts.items c.push.new.self.items r.leaves.rows.items r.leaves.rows.items n nothing
           at (begun (goal.at.returns-in-Nothing c).In_ok-push) c.requires.leaves (record { more = []; is = sym (append-nil r.leaves.rows.items); each = tt });
       statements = refl;
       table = refl;
