@@ -1,5 +1,5 @@
 //! The trees of expressions, with the sets of their leaves.
-ghost use Rattle.std.specs.Prelude.{◌≡◌, ◌+◌, ◌<◌, ◌≤◌, ℕ, List, [], ◌∷◌, Option, Some};
+ghost use Rattle.std.specs.Prelude.{◌≡◌, ◌+◌, ◌<◌, ◌≤◌, ℕ, [], ◌∷◌, Option, Some};
 ghost use Rattle.std.specs.Prelude.{IfOk, IfSome, IfNone, OnOk, length, map, slice_get};
 ghost use Rattle.rbbi_model.specs.SetTrees as model;
 ghost use Rattle.rbbi_classes.specs.Classes.{ClassBits};

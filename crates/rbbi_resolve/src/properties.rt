@@ -1,21 +1,18 @@
 //! The sets of properties.
-ghost use Rattle.std.specs.Prelude.{◌≡◌, List, IfOk, IfSome, OnOk, IsTrue};
+ghost use Rattle.std.specs.Prelude.{◌≡◌, List, IfOk, IsTrue};
 ghost use Rattle.std.specs.Rc.{rc_value};
 ghost use Rattle.rbbi_props.specs.Lookups.{IsSetOf};
 ghost use Rattle.rbbi_resolve.specs.inner.SetValues.{IsValue};
 ghost use Rattle.rbbi_resolve.specs.SetValues.{value_of_property, property_test};
 ghost use Rattle.rbbi_resolve.specs.inner.Questions.{IsRightAnswer};
 ghost use Rattle.rbbi_props.specs.Rows.{File};
-ghost use Rattle.std.specs.HashMap.{values};
-ghost use Rattle.std.specs.List.{All};
 
-use crate::question::{Question, key_of, text_of};
+use crate::question::{Question, text_of};
 use indexmap::IndexMap;
 use rbbi_props::PropTable;
 use rbbi_sets::CodeSet;
 use rbbi_text::Word;
 use std::alloc::{AllocError, Global};
-use std::marker::Model;
 use std::rc::Rc;
 
 /// A property that was asked for, and what was found.
