@@ -1,28 +1,36 @@
 -- The trees of parts, one after another.
-use Rattle.std.proofs.Common.{◌≡◌, ℕ, zero, suc, ◌+◌, ◌<◌, ◌≤◌, inl, inr, Option, Some, unwrap_or, List, [], ◌∷◌, ◌++◌, map, length, slice_get}
+use Rattle.std.proofs.Common.{◌≡◌, ℕ, zero, suc, ◌+◌, ◌<◌, ◌≤◌, ◌⊎◌, inl, inr, Option, None, Some, unwrap_or, List}
+use Rattle.std.proofs.Common.{[], ◌∷◌, ◌++◌, map, length, slice_get, set}
 use Rattle.std.proofs.Common.{sym, refl, ap, ◌∙◌, subst, arith}
 use Rattle.std.specs.List.{AllByRecursion, AllZip, Contains, flat_map}
 use Rattle.std.proofs.lemmas.Bool.{cases_lt}
+use Rattle.std.specs.Option.{option_map}
+use Rattle.std.proofs.lemmas.Option.{slice_get_within, slice_get-map}
 use Rattle.std.proofs.lemmas.List.Elements.{Contains-append_left, Contains-append_right}
-use Rattle.std.proofs.lemmas.List.{append_assoc, append-nil, length-append}
+use Rattle.std.proofs.lemmas.List.{append_assoc, append-nil, length-append, length-map, length-set, map-append}
 use Rattle.std.proofs.lemmas.Slice.Zip.{AllZip-long}
 use Rattle.rbbi_model.specs.Ranges.{Range}
 use Rattle.rbbi_model.specs.SetTrees as model
 use Rattle.rbbi_model.specs.Spelling as spelling
 use Rattle.rbbi_model.proofs.Lists.{all_append}
 use Rattle.rbbi_props.specs.Rows.{File}
-use Rattle.rbbi_tree.specs.Trees.{StatementTree}
 use Rattle.rbbi_tree.specs.declared.syntax.Quant.{Quant}
 use Rattle.rbbi_tree.specs.declared.syntax.Quant.TheVariants as quant
+use Rattle.rbbi_classes.specs.Classes.{ClassBits}
+use Rattle.rbbi_classes.specs.CharacterSets.{characters_of}
+use Rattle.rbbi_classes.specs.Divisions.{ClassDivision}
+use Rattle.rbbi_resolve.specs.declared.build.Builder.{Builder}
+use Rattle.rbbi_resolve.specs.declared.build.FileLeaves.{FileLeaves}
+use Rattle.rbbi_resolve.specs.declared.context.Context.{Context}
 use Rattle.rbbi_resolve.specs.declared.rules.Tree.{Tree}
 use Rattle.rbbi_resolve.specs.Meanings.{Meaning, Leaf, Empty, Never, Then, Either, Stands}
-use Rattle.rbbi_resolve.specs.Expressions.{repeated}
+use Rattle.rbbi_resolve.specs.Expressions.{repeated, leaf_of}
+use Rattle.rbbi_resolve.specs.RuleLists.{IsLeafSet}
 use Rattle.rbbi_resolve.specs.RuleTrees as trees
 use Rattle.rbbi_resolve.specs.RuleTrees.{tree_of, numbers_of, set_at}
-use Rattle.rbbi_resolve.specs.RuleLists.{IsLeafSet}
-use Rattle.rbbi_resolve.specs.inner.OwnLeaves.{IsSetOfLeaf, AddsLeaves, leaves_of_expr}
-use Rattle.rbbi_resolve.specs.inner.Files.{context_at}
-use Rattle.rbbi_resolve.specs.inner.Builders.{StandFrom, HasLawfulLeaves, IsPart, IsBuilt, IsBuilder, Extends}
+use Rattle.rbbi_resolve.specs.inner.Contexts.{files_of, division_of, sets_of}
+use Rattle.rbbi_resolve.specs.inner.OwnLeaves.{StandAt, IsLawfulRow}
+use Rattle.rbbi_resolve.specs.inner.Builders.{IsSetOfLeaf, IsSetRow, StandFrom, HasLawfulLeaves, IsPart, IsBuilt, Builds, IsBuilder, Extends}
 
 -- one of several that follow one another, and a choice of several
 abbrev pub sequence_meaning : List Meaning → Meaning
@@ -61,23 +69,22 @@ zip_push P [] (b ∷ ys) x y z p = absurd z
 zip_push P (a ∷ xs) [] x y z p = absurd z
 zip_push P (a ∷ xs) (b ∷ ys) x y z p = (z.0, zip_push P xs ys x y z.1 p)
 
-pub sets_formed : (files : List File) (leaves : List model.SetTree) (sets : List (List Range)) → AllZip (IsSetOfLeaf files) leaves sets →
-    AllByRecursion IsLeafSet sets
-sets_formed files [] [] z = tt
-sets_formed files [] (s ∷ sets) z = absurd z
-sets_formed files (l ∷ leaves) [] z = absurd z
-sets_formed files (l ∷ leaves) (s ∷ sets) z = (z.0.form, sets_formed files leaves sets z.1)
-
-get_at : (before : List (List Range)) (x : List Range) (after : List (List Range)) (n : ℕ) → length before ≡ n → slice_get (before ++ (x ∷ after)) n ≡ Some x
+pub get_at : {A : Type 0} (before : List A) (x : A) (after : List A) (n : ℕ) → length before ≡ n → slice_get (before ++ (x ∷ after)) n ≡ Some x
 get_at [] x after zero e = refl
 get_at [] x after (suc n) e = absurd (omega arith)
 get_at (b ∷ before) x after zero e = absurd (omega arith)
 get_at (b ∷ before) x after (suc n) e = get_at before x after n (omega arith)
 
-module _ (files : List File) where
-  pub stand_more : (sets more : List (List Range)) (n : ℕ) (leaves : List model.SetTree) → StandFrom files sets n leaves →
-      StandFrom files (sets ++ more) n leaves
-  stand_more sets more n leaves s =
+slice_get_first : {A : Type 0} (xs more : List A) (n : ℕ) (x : A) → slice_get xs n ≡ Some x → slice_get (xs ++ more) n ≡ Some x
+slice_get_first [] more n x e = absurd cc
+slice_get_first (y ∷ xs) more zero x e = e
+slice_get_first (y ∷ xs) more (suc n) x e = slice_get_first xs more n x e
+
+-- what stands from a number on stands there when more is added behind it, and so do its parts
+module _ (IsRow : Option model.SetTree → Option ClassBits → Type 0) where
+  pub stand_more : (rows more : List (Option ClassBits)) (n : ℕ) (values : List (Option model.SetTree)) → StandAt IsRow rows n values →
+      StandAt IsRow (rows ++ more) n values
+  stand_more rows more n values s =
       record {
         before = s.before;
         own = s.own;
@@ -87,20 +94,11 @@ module _ (files : List File) where
         each = s.each;
       }
 
-  pub stand_low : (sets : List (List Range)) (n : ℕ) (leaves : List model.SetTree) → StandFrom files sets n leaves → n + length leaves ≤ length sets
-  stand_low sets n leaves s =
-      let a = length-append s.before (s.own ++ s.after) in
-      let b = length-append s.own s.after in
-      let l = AllZip-long (IsSetOfLeaf files) leaves s.own s.each in
-      let e = ap length s.is in
-      let at = s.at in
-      omega arith
-
-  stand_parts : (sets : List (List Range)) (n : ℕ) (a b : List model.SetTree) → StandFrom files sets n (a ++ b) → StandFrom files sets n a ×
-      StandFrom files sets (n + length a) b
-  stand_parts sets n a b s =
-      let r = zip_split (IsSetOfLeaf files) a b s.own s.each in
-      let whole : sets ≡ s.before ++ (r.0 ++ (r.1 ++ s.after)) = s.is ∙ ap (λ x. s.before ++ (x ++ s.after)) r.2
+  pub stand_parts : (rows : List (Option ClassBits)) (n : ℕ) (a b : List (Option model.SetTree)) → StandAt IsRow rows n (a ++ b) →
+      StandAt IsRow rows n a × StandAt IsRow rows (n + length a) b
+  stand_parts rows n a b s =
+      let r = zip_split IsRow a b s.own s.each in
+      let whole : rows ≡ s.before ++ (r.0 ++ (r.1 ++ s.after)) = s.is ∙ ap (λ x. s.before ++ (x ++ s.after)) r.2
       ∙ ap (λ x. s.before ++ x) (append_assoc r.0 r.1 s.after) in (
         record { before = s.before; own = r.0; after = r.1 ++ s.after; is = whole; at = s.at; each = r.3 },
         record {
@@ -109,7 +107,7 @@ module _ (files : List File) where
           after = s.after;
           is = whole ∙ sym (append_assoc s.before r.0 (r.1 ++ s.after));
           at =
-              let l = AllZip-long (IsSetOfLeaf files) a r.0 r.3 in
+              let l = AllZip-long IsRow a r.0 r.3 in
               let at = s.at in
               let e = length-append s.before r.0 in
               omega arith;
@@ -117,73 +115,43 @@ module _ (files : List File) where
         },
       )
 
-  pub stand_first : (sets : List (List Range)) (n : ℕ) (a b : List model.SetTree) → StandFrom files sets n (a ++ b) → StandFrom files sets n a
-  stand_first sets n a b s = (stand_parts sets n a b s).0
+  -- the row of a leaf alone
+  pub stand_leaf : (rows : List (Option ClassBits)) (n : ℕ) (value : Option model.SetTree) → StandAt IsRow rows n (value ∷ []) →
+      (row : Option ClassBits) × (slice_get rows n ≡ Some row) × IsRow value row
+  stand_leaf rows n value s = first_of s.own s.each s.is
+    where
+      first_of : (own : List (Option ClassBits)) → AllZip IsRow (value ∷ []) own → rows ≡ s.before ++ (own ++ s.after) →
+          (row : Option ClassBits) × (slice_get rows n ≡ Some row) × IsRow value row
+      first_of [] z is = absurd z
+      first_of (x ∷ own) z is = (x, ap (λ xs. slice_get xs n) is ∙ get_at s.before x (own ++ s.after) n s.at, z.0)
 
-  pub stand_rest : (sets : List (List Range)) (n : ℕ) (a b : List model.SetTree) → StandFrom files sets n (a ++ b) → StandFrom files sets (n + length a) b
-  stand_rest sets n a b s = (stand_parts sets n a b s).1
-
-  pub stand_added : (before after : List (List Range)) (leaves : List model.SetTree) → AddsLeaves files leaves before after →
-      StandFrom files after (length before) leaves
-  stand_added before after leaves a = record {
-    before = before;
-    own = a.more;
-    after = [];
-    is = a.is ∙ ap (λ x. before ++ x) (sym (append-nil a.more));
-    at =
-        refl;
-    each = a.each;
-  }
-
-  pub added_length : (before after : List (List Range)) (leaves : List model.SetTree) → AddsLeaves files leaves before after →
-      length after ≡ length before + length leaves
-  added_length before after leaves a =
-      let l = AllZip-long (IsSetOfLeaf files) leaves a.more a.each in
-      let e = ap length a.is in
-      let b = length-append before a.more in
-      omega arith
-
-  leaf_own : (tree : model.SetTree) (own : List (List Range)) → AllZip (IsSetOfLeaf files) (tree ∷ []) own → (set : List Range) ×
-      (own ≡ set ∷ []) × IsSetOfLeaf files tree set
-  leaf_own tree [] z = absurd z
-  leaf_own tree (x ∷ []) z = (x, refl, z.0)
-  leaf_own tree (x ∷ y ∷ own) z = absurd z.1
-
-  stand_leaf : (sets : List (List Range)) (n : ℕ) (tree : model.SetTree) → StandFrom files sets n (tree ∷ []) → (set : List Range) ×
-      (slice_get sets n ≡ Some set) × IsSetOfLeaf files tree set
-  stand_leaf sets n tree s =
-      let o = leaf_own tree s.own s.each in
-      (o.0, ap (λ x. slice_get x n) (s.is ∙ ap (λ w. s.before ++ (w ++ s.after)) o.1) ∙ get_at s.before o.0 s.after n s.at, o.2)
-
+module _ (files : List File) where
   -- a leaf
-  pub leaf_built : (sets : List (List Range)) (n : ℕ) (tree : model.SetTree) (t : Tree) → StandFrom files sets n (tree ∷ []) →
-      ((ss : List (List Range)) → tree_of ss t ≡ spelling.Leaf (set_at ss n)) → numbers_of t ≡ n ∷ [] → IsBuilt files (length sets) sets n (n + 1) (Leaf tree) t
-  leaf_built sets n tree t s of numbers =
-      let w : (more : List (List Range)) → (set : List Range) × (slice_get (sets ++ more) n ≡ Some set) × IsSetOfLeaf files tree set =
-      λ more. stand_leaf (sets ++ more) n tree (stand_more sets more n (tree ∷ []) s) in
-      let is : (more : List (List Range)) → tree_of (sets ++ more) t ≡ spelling.Leaf (w more).0 =
-      λ more. of (sets ++ more) ∙ ap (λ o. spelling.Leaf (unwrap_or o [])) (w more).1 in
+  pub leaf_built : (old : ℕ) (sets : List (List Range)) (n : ℕ) (tree : model.SetTree) (set : List Range) (t : Tree) → slice_get sets n ≡ Some set →
+      IsSetOfLeaf files tree set → ((ss : List (List Range)) → tree_of ss t ≡ spelling.Leaf (set_at ss n)) → numbers_of t ≡ n ∷ [] →
+      ((k : ℕ) → old ≤ k → k < length sets → k ≡ n) → IsBuilt files old sets (Leaf tree) t
+  leaf_built old sets n tree set t at own of numbers alone =
+      let is : (more : List (List Range)) → tree_of (sets ++ more) t ≡ spelling.Leaf set =
+      λ more. of (sets ++ more) ∙ ap (λ o. spelling.Leaf (unwrap_or o [])) (slice_get_first sets more n set at) in
       record {
         part = record {
-          stands = λ more. ((w more).0, is more, (w more).2.of_leaf);
-          filled = λ more. subst HasLawfulLeaves (sym (is more)) (w more).2.form;
-          numbered = subst (AllByRecursion (λ k. k < length sets)) (sym numbers) ((let low = stand_low sets n (tree ∷ []) s in omega arith), tt);
+          stands = λ more. (set, is more, own.of_leaf);
+          filled = λ more. subst HasLawfulLeaves (sym (is more)) own.form;
+          numbered = subst (AllByRecursion (λ k. k < length sets)) (sym numbers) (slice_get_within sets n set at, tt);
         };
-        own = λ k low high. subst (λ ns. Contains ns k) (sym numbers) (0, omega arith, omega arith);
-        fresh = λ k low high. absurd (omega arith);
+        fresh = λ k low high. subst (λ ns. Contains ns k) (sym numbers) (let e = alone k low high in (0, omega arith, omega arith));
       }
 
   -- no tree
-  pub never_built : (sets : List (List Range)) (n : ℕ) (t : Tree) → ((ss : List (List Range)) → tree_of ss t ≡ spelling.Never) → numbers_of t ≡ [] →
-      IsBuilt files (length sets) sets n n Never t
-  never_built sets n t of numbers =
+  pub never_built : (sets : List (List Range)) (t : Tree) → ((ss : List (List Range)) → tree_of ss t ≡ spelling.Never) → numbers_of t ≡ [] →
+      IsBuilt files (length sets) sets Never t
+  never_built sets t of numbers =
       record {
         part = record {
           stands = λ more. of (sets ++ more);
           filled = λ more. subst HasLawfulLeaves (sym (of (sets ++ more))) tt;
           numbered = subst (AllByRecursion (λ k. k < length sets)) (sym numbers) tt;
         };
-        own = λ k low high. absurd (omega arith);
         fresh = λ k low high. absurd (omega arith);
       }
 
@@ -200,17 +168,16 @@ module _ (files : List File) where
   filled_repeated quant.Quest t f = f
 
   -- a part as often as it stands
-  pub repeated_built : (q : Quant) (old : ℕ) (sets : List (List Range)) (from to : ℕ) (m : Meaning) (t r : Tree) → IsBuilt files old sets from to m t →
+  pub repeated_built : (q : Quant) (old : ℕ) (sets : List (List Range)) (m : Meaning) (t r : Tree) → IsBuilt files old sets m t →
       ((ss : List (List Range)) → tree_of ss r ≡ trees.repeated q (tree_of ss t)) → numbers_of r ≡ numbers_of t →
-      IsBuilt files old sets from to (repeated q m) r
-  repeated_built q old sets from to m t r b of numbers =
+      IsBuilt files old sets (repeated q m) r
+  repeated_built q old sets m t r b of numbers =
       record {
         part = record {
           stands = λ more. subst (Stands files (repeated q m)) (sym (of (sets ++ more))) (stands_repeated q m (tree_of (sets ++ more) t) (b.part.stands more));
           filled = λ more. subst HasLawfulLeaves (sym (of (sets ++ more))) (filled_repeated q (tree_of (sets ++ more) t) (b.part.filled more));
           numbered = subst (AllByRecursion (λ k. k < length sets)) (sym numbers) b.part.numbered;
         };
-        own = λ k low high. subst (λ ns. Contains ns k) (sym numbers) (b.own k low high);
         fresh = λ k low high. subst (λ ns. Contains ns k) (sym numbers) (b.fresh k low high);
       }
 
@@ -224,67 +191,24 @@ module _ (files : List File) where
       }
 
   -- several trees
-  pub record AreBuilt (old : ℕ) (sets : List (List Range)) (from to : ℕ) (meanings : List Meaning) (ts : List Tree) : Type 0 where
+  pub record AreBuilt (old : ℕ) (sets : List (List Range)) (meanings : List Meaning) (ts : List Tree) : Type 0 where
     pub each : AllZip (IsPart files sets) meanings ts
-    pub own : (number : ℕ) → from ≤ number → number < to → Contains (flat_map numbers_of ts) number
     pub fresh : (number : ℕ) → old ≤ number → number < length sets → Contains (flat_map numbers_of ts) number
 
-  pub none_built : (sets : List (List Range)) (n : ℕ) → AreBuilt (length sets) sets n n [] []
-  none_built sets n = record { each = tt; own = λ k low high. absurd (omega arith); fresh = λ k low high. absurd (omega arith) }
-
-  pub push_built : (old : ℕ) (sets ext : List (List Range)) (from mid to : ℕ) (ms : List Meaning) (ts : List Tree) (m : Meaning) (t : Tree) →
-      AreBuilt old sets from mid ms ts → IsBuilt files (length sets) (sets ++ ext) mid to m t → AreBuilt old (sets ++ ext) from to (ms ++ m ∷ []) (ts ++ t ∷ [])
-  push_built old sets ext from mid to ms ts m t a b =
+  push_built : (old : ℕ) (sets ext : List (List Range)) (ms : List Meaning) (ts : List Tree) (m : Meaning) (t : Tree) →
+      AreBuilt old sets ms ts → IsBuilt files (length sets) (sets ++ ext) m t → AreBuilt old (sets ++ ext) (ms ++ m ∷ []) (ts ++ t ∷ [])
+  push_built old sets ext ms ts m t a b =
       let put : (k : ℕ) → Contains (flat_map numbers_of ts ++ numbers_of t) k → Contains (flat_map numbers_of (ts ++ t ∷ [])) k =
       λ k w. subst (λ ns. Contains ns k) (sym (flat_push ts t)) w in
       record {
         each = zip_push (IsPart files (sets ++ ext)) ms ts m t
             (zip_with (IsPart files sets) (IsPart files (sets ++ ext)) ms ts (λ x y p. part_more sets ext x y p) a.each) b.part;
-        own =
-            λ k low high.
-            elim (cases_lt k mid) [
-              | inl lt ↦ put k (Contains-append_left (flat_map numbers_of ts) (numbers_of t) k (a.own k low lt))
-              | inr ge ↦ put k (Contains-append_right (flat_map numbers_of ts) (numbers_of t) k (b.own k ge high))
-            ];
         fresh =
             λ k low high.
             elim (cases_lt k (length sets)) [
               | inl lt ↦ put k (Contains-append_left (flat_map numbers_of ts) (numbers_of t) k (a.fresh k low lt))
               | inr ge ↦ put k (Contains-append_right (flat_map numbers_of ts) (numbers_of t) k (b.fresh k ge high))
             ];
-      }
-
-  -- one more with the same sets
-  pub push_same : (old : ℕ) (sets : List (List Range)) (from mid to : ℕ) (ms : List Meaning) (ts : List Tree) (m : Meaning) (t : Tree) →
-      AreBuilt old sets from mid ms ts → IsBuilt files (length sets) sets mid to m t → AreBuilt old sets from to (ms ++ m ∷ []) (ts ++ t ∷ [])
-  push_same old sets from mid to ms ts m t a b =
-      subst (λ ss. AreBuilt old ss from to (ms ++ m ∷ []) (ts ++ t ∷ [])) (append-nil sets)
-      (push_built old sets [] from mid to ms ts m t a (subst (λ ss. IsBuilt files (length sets) ss mid to m t) (sym (append-nil sets)) b))
-
-  -- a tree with all the sets that were added for it
-  pub whole_built : (old mid : ℕ) (sets : List (List Range)) (from to : ℕ) (m : Meaning) (t : Tree) → IsBuilt files mid sets from to m t →
-      ((k : ℕ) → old ≤ k → k < mid → from ≤ k) → ((k : ℕ) → old ≤ k → k < mid → k < to) → IsBuilt files old sets 0 0 m t
-  whole_built old mid sets from to m t b above below =
-      record {
-        part = b.part;
-        own = λ k low high. absurd (omega arith);
-        fresh = λ k low high. elim (cases_lt k mid) [ inl lt ↦ b.own k (above k low lt) (below k low lt) | inr ge ↦ b.fresh k ge high ];
-      }
-
-  -- the same for no own leaves
-  pub other_built : (old : ℕ) (sets : List (List Range)) (n : ℕ) (m : Meaning) (t : Tree) → IsBuilt files old sets 0 0 m t → IsBuilt files old sets n n m t
-  other_built old sets n m t b = record { part = b.part; own = λ k low high. absurd (omega arith); fresh = b.fresh }
-
-  -- the bases stay right when sets are added
-  pub builder_more : (statements : List StatementTree) (sets sets' more : List (List Range)) (bases : List (Option ℕ)) → sets' ≡ sets ++ more →
-      length sets' ≤ 4294967295 → AllByRecursion IsLeafSet more → IsBuilder files statements sets bases → IsBuilder files statements sets' bases
-  builder_more statements sets sets' more bases is few formed b =
-      record {
-        few = few;
-        formed = subst (AllByRecursion IsLeafSet) (sym is) (all_append IsLeafSet sets more b.formed formed);
-        long = b.long;
-        based = λ number base expr at assigned. subst (λ ss. StandFrom files ss base (leaves_of_expr (context_at files statements number) expr)) (sym is)
-            (stand_more sets more base (leaves_of_expr (context_at files statements number) expr) (b.based number base expr at assigned));
       }
 
   zip_stands : (sets more : List (List Range)) (ms : List Meaning) (ts : List Tree) → AllZip (IsPart files sets) ms ts →
@@ -337,10 +261,10 @@ module _ (files : List File) where
   sequence_filled (t ∷ u ∷ ts) a = (a.0, sequence_filled (u ∷ ts) a.1)
 
   -- a choice
-  pub choice_built : (old : ℕ) (sets : List (List Range)) (from to : ℕ) (ms : List Meaning) (ts : List Tree) (r : Tree) → AreBuilt old sets from to ms ts →
+  pub choice_built : (old : ℕ) (sets : List (List Range)) (ms : List Meaning) (ts : List Tree) (r : Tree) → AreBuilt old sets ms ts →
       ((ss : List (List Range)) → tree_of ss r ≡ spelling.choice_of (map (tree_of ss) ts)) → numbers_of r ≡ flat_map numbers_of ts →
-      IsBuilt files old sets from to (choice_meaning ms) r
-  choice_built old sets from to ms ts r a of numbers =
+      IsBuilt files old sets (choice_meaning ms) r
+  choice_built old sets ms ts r a of numbers =
       record {
         part = record {
           stands = λ more. subst (Stands files (choice_meaning ms)) (sym (of (sets ++ more)))
@@ -349,15 +273,14 @@ module _ (files : List File) where
               (all_filled sets more ms ts a.each));
           numbered = subst (AllByRecursion (λ k. k < length sets)) (sym numbers) (all_numbered sets ms ts a.each);
         };
-        own = λ k low high. subst (λ ns. Contains ns k) (sym numbers) (a.own k low high);
         fresh = λ k low high. subst (λ ns. Contains ns k) (sym numbers) (a.fresh k low high);
       }
 
   -- a sequence
-  pub sequence_built : (old : ℕ) (sets : List (List Range)) (from to : ℕ) (ms : List Meaning) (ts : List Tree) (r : Tree) → AreBuilt old sets from to ms ts →
+  pub sequence_built : (old : ℕ) (sets : List (List Range)) (ms : List Meaning) (ts : List Tree) (r : Tree) → AreBuilt old sets ms ts →
       ((ss : List (List Range)) → tree_of ss r ≡ spelling.sequence_of (map (tree_of ss) ts)) → numbers_of r ≡ flat_map numbers_of ts →
-      IsBuilt files old sets from to (sequence_meaning ms) r
-  sequence_built old sets from to ms ts r a of numbers =
+      IsBuilt files old sets (sequence_meaning ms) r
+  sequence_built old sets ms ts r a of numbers =
       record {
         part = record {
           stands = λ more. subst (Stands files (sequence_meaning ms)) (sym (of (sets ++ more)))
@@ -366,84 +289,159 @@ module _ (files : List File) where
               (all_filled sets more ms ts a.each));
           numbered = subst (AllByRecursion (λ k. k < length sets)) (sym numbers) (all_numbered sets ms ts a.each);
         };
-        own = λ k low high. subst (λ ns. Contains ns k) (sym numbers) (a.own k low high);
         fresh = λ k low high. subst (λ ns. Contains ns k) (sym numbers) (a.fresh k low high);
       }
 
-  -- sets were added, and added again
-  pub goes_nowhere : (statements : List StatementTree) (sets : List (List Range)) (bases : List (Option ℕ)) → IsBuilder files statements sets bases →
-      Extends files statements sets sets bases
-  goes_nowhere statements sets bases b = record { more = []; is = sym (append-nil sets); builder = b }
+-- sets were added, and added again
+pub goes_nowhere : (context : Context) (leaves : FileLeaves) (builder : Builder) → IsBuilder context leaves builder → Extends context leaves builder builder
+goes_nowhere context leaves builder b = record { more = []; is = sym (append-nil (sets_of context builder.rows.items)); builder = b }
 
-  pub goes_further : (statements : List StatementTree) (a b d : List (List Range)) (bases bases' : List (Option ℕ)) → Extends files statements a b bases →
-      Extends files statements b d bases' → Extends files statements a d bases'
-  goes_further statements a b d bases bases' x y =
-      record { more = x.more ++ y.more; is = y.is ∙ ap (λ s. s ++ y.more) x.is ∙ append_assoc a x.more y.more; builder = y.builder }
+pub goes_further : (context : Context) (leaves : FileLeaves) (a b d : Builder) → Extends context leaves a b → Extends context leaves b d →
+    Extends context leaves a d
+goes_further context leaves a b d x y =
+    record {
+      more = x.more ++ y.more;
+      is = y.is ∙ ap (λ s. s ++ y.more) x.is ∙ append_assoc (sets_of context a.rows.items) x.more y.more;
+      builder = y.builder;
+    }
 
--- what building a part does
-pub record Builds (files : List File) (statements : List StatementTree) (sets sets' : List (List Range)) (bases' : List (Option ℕ)) (next next' : ℕ)
-    (leaves : List model.SetTree) (meaning : Meaning) (t : Tree) : Type 0 where
-  pub on : Extends files statements sets sets' bases'
-  pub moved : next' ≡ next + length leaves
-  pub built : IsBuilt files (length sets) sets' next next' meaning t
-
--- the parts so far, and those that are left
-pub record AreBuilding (files : List File) (statements : List StatementTree) (start : List (List Range)) (from : ℕ) (whole : List Meaning)
-    (all : List model.SetTree) (now : List File) (sets : List (List Range)) (bases : List (Option ℕ)) (next : ℕ) (ts : List Tree) (left : List Meaning)
-    (leaves : List model.SetTree) : Type 0 where
-  pub same : now ≡ files
-  pub goes : Extends files statements start sets bases
+-- the trees of parts so far, and the parts and leaves that are left
+pub record AreBuilding (context : Context) (leaves : FileLeaves) (start : Builder) (from : ℕ) (whole : List Meaning) (all : List (Option model.SetTree))
+    (now : Builder) (next : ℕ) (ts : List Tree) (left : List Meaning) (own : List (Option model.SetTree)) : Type 0 where
+  pub goes : Extends context leaves start now
   pub done : List Meaning
   pub every : done ++ left ≡ whole
-  pub parts : AreBuilt files (length start) sets from next done ts
-  pub stand : StandFrom files sets next leaves
-  pub moved : next + length leaves ≡ from + length all
+  pub parts : AreBuilt (files_of context) (length (sets_of context start.rows.items)) (sets_of context now.rows.items) done ts
+  pub stand : StandFrom context leaves next own
+  pub moved : next + length own ≡ from + length all
 
 -- before the first part
-pub building_start : (files : List File) (statements : List StatementTree) (sets : List (List Range)) (bases : List (Option ℕ)) (next : ℕ)
-    (whole : List Meaning) (all : List model.SetTree) (ts : List Tree) → IsBuilder files statements sets bases → ts ≡ [] → StandFrom files sets next all →
-    AreBuilding files statements sets next whole all files sets bases next ts whole all
-building_start files statements sets bases next whole all ts builder none stand =
+pub building_start : (context : Context) (leaves : FileLeaves) (start : Builder) (next : ℕ) (whole : List Meaning) (all : List (Option model.SetTree))
+    (ts : List Tree) → IsBuilder context leaves start → ts ≡ [] → StandFrom context leaves next all →
+    AreBuilding context leaves start next whole all start next ts whole all
+building_start context leaves start next whole all ts builder none stand =
     record {
-      same = refl;
-      goes = goes_nowhere files statements sets bases builder;
+      goes = goes_nowhere context leaves start builder;
       done = [];
       every = refl;
-      parts = subst (AreBuilt files (length sets) sets next next []) (sym none) (none_built files sets next);
+      parts = subst (AreBuilt (files_of context) (length (sets_of context start.rows.items)) (sets_of context start.rows.items) []) (sym none)
+          (record { each = tt; fresh = λ k low high. absurd (omega arith) });
       stand = stand;
       moved = refl;
     }
 
-pub building_turn : (files : List File) (statements : List StatementTree) (start : List (List Range)) (from : ℕ) (whole : List Meaning)
-    (all : List model.SetTree) (now now' : List File) (sets sets' : List (List Range)) (bases bases' : List (Option ℕ)) (next next' : ℕ) (ts ts' : List Tree)
-    (t : Tree) (m : List File → Meaning) (left : List Meaning) (own : List File → List model.SetTree) (leaves : List model.SetTree) →
-    AreBuilding files statements start from whole all now sets bases next ts (m files ∷ left) (own files ++ leaves) →
-    Builds now statements sets sets' bases' next next' (own now) (m now) t → now' ≡ now → ts' ≡ ts ++ t ∷ [] →
-    AreBuilding files statements start from whole all now' sets' bases' next' ts' left leaves
-building_turn files statements start from whole all now now' sets sets' bases bases' next next' ts ts' t m left own leaves here builds same put =
-    let step = subst (λ f. Builds f statements sets sets' bases' next next' (own f) (m f) t) here.same builds in
-    let ext = step.on.more in
-    let wider : sets' ≡ sets ++ ext = step.on.is in
-    let built' : IsBuilt files (length sets) (sets ++ ext) next next' (m files) t =
-    subst (λ ss. IsBuilt files (length sets) ss next next' (m files) t) wider step.built in
-    let pushed = push_built files (length start) sets ext from next next' here.done ts (m files) t here.parts built' in
-    let rest = stand_more files sets ext (next + length (own files)) leaves (stand_rest files sets next (own files) leaves here.stand) in
+-- one part more
+pub building_turn : (context : Context) (leaves : FileLeaves) (start : Builder) (from : ℕ) (whole : List Meaning) (all : List (Option model.SetTree))
+    (now later : Builder) (next next' : ℕ) (ts ts' : List Tree) (t : Tree) (m : Meaning) (left : List Meaning) (own rest : List (Option model.SetTree)) →
+    AreBuilding context leaves start from whole all now next ts (m ∷ left) (own ++ rest) → Extends context leaves now later →
+    next' ≡ next + length own → Builds context now later m t → ts' ≡ ts ++ t ∷ [] →
+    AreBuilding context leaves start from whole all later next' ts' left rest
+building_turn context leaves start from whole all now later next next' ts ts' t m left own rest here on moved built put =
+    let files = files_of context in
+    let sets = sets_of context now.rows.items in
+    let old = length (sets_of context start.rows.items) in
+    let pushed = push_built files old sets on.more here.done ts m t here.parts
+    (subst (λ ss. IsBuilt files (length sets) ss m t) on.is built) in
     record {
-      same = same ∙ here.same;
-      goes = goes_further files statements start sets sets' bases bases' here.goes step.on;
-      done = here.done ++ m files ∷ [];
-      every = append_assoc here.done (m files ∷ []) left ∙ here.every;
-      parts = subst (λ ss. AreBuilt files (length start) ss from next' (here.done ++ m files ∷ []) ts') (sym wider)
-          (subst (λ xs. AreBuilt files (length start) (sets ++ ext) from next' (here.done ++ m files ∷ []) xs) (sym put) pushed);
-      stand = subst (λ ss. StandFrom files ss next' leaves) (sym wider) (subst (λ n. StandFrom files (sets ++ ext) n leaves) (sym step.moved) rest);
-      moved = let l = length-append (own files) leaves in let a = here.moved in let b = step.moved in omega arith;
+      goes = goes_further context leaves start now later here.goes on;
+      done = here.done ++ m ∷ [];
+      every = append_assoc here.done (m ∷ []) left ∙ here.every;
+      parts = subst (λ ss. AreBuilt files old ss (here.done ++ m ∷ []) ts') (sym on.is)
+          (subst (AreBuilt files old (sets ++ on.more) (here.done ++ m ∷ [])) (sym put) pushed);
+      stand = subst (λ n. StandFrom context leaves n rest) (sym moved)
+          (stand_parts (IsSetRow files (division_of context)) leaves.rows.items next own rest here.stand).1;
+      moved = let l = length-append own rest in let a = here.moved in omega arith;
     }
 
 -- after the last part
-pub building_end : (files : List File) (statements : List StatementTree) (start : List (List Range)) (from : ℕ) (whole : List Meaning)
-    (all : List model.SetTree) (now : List File) (sets : List (List Range)) (bases : List (Option ℕ)) (next : ℕ) (ts : List Tree) (left : List Meaning)
-    (leaves : List model.SetTree) → AreBuilding files statements start from whole all now sets bases next ts left leaves → left ≡ [] →
-    AreBuilt files (length start) sets from next whole ts
-building_end files statements start from whole all now sets bases next ts left leaves here none =
-    subst (λ ms. AreBuilt files (length start) sets from next ms ts)
+pub building_end : (context : Context) (leaves : FileLeaves) (start : Builder) (from : ℕ) (whole : List Meaning) (all : List (Option model.SetTree))
+    (now : Builder) (next : ℕ) (ts : List Tree) (left : List Meaning) (own : List (Option model.SetTree)) →
+    AreBuilding context leaves start from whole all now next ts left own → left ≡ [] →
+    AreBuilt (files_of context) (length (sets_of context start.rows.items)) (sets_of context now.rows.items) whole ts
+building_end context leaves start from whole all now next ts left own here none =
+    subst (λ ms. AreBuilt (files_of context) (length (sets_of context start.rows.items)) (sets_of context now.rows.items) ms ts)
     (sym (append-nil here.done) ∙ subst (λ ms. here.done ++ ms ≡ whole) none here.every) here.parts
+
+slice_get_set : {A : Type 0} (xs : List A) (i j : ℕ) (x y : A) → slice_get (set xs i x) j ≡ Some y → ((j ≡ i) × (x ≡ y)) ⊎ (slice_get xs j ≡ Some y)
+slice_get_set [] i j x y e = inr e
+slice_get_set (z ∷ xs) zero zero x y e = inl (refl, cc)
+slice_get_set (z ∷ xs) zero (suc j) x y e = inr e
+slice_get_set (z ∷ xs) (suc i) zero x y e = inr e
+slice_get_set (z ∷ xs) (suc i) (suc j) x y e =
+    elim (slice_get_set xs i j x y e) [ inl p ↦ inl (ap suc p.0, p.1) | inr q ↦ inr q ]
+
+-- a leaf's set has the next number
+pub set_added : (context : Context) (leaves : FileLeaves) (before after : Builder) (place : ℕ) (row : ClassBits) → IsBuilder context leaves before →
+    slice_get leaves.rows.items place ≡ Some (Some row) → IsLeafSet (characters_of (division_of context) row) →
+    length before.rows.items < 4294967295 → after.rows.items ≡ before.rows.items ++ row ∷ [] →
+    after.numbers.items ≡ set before.numbers.items place (Some (length before.rows.items)) → Extends context leaves before after
+set_added context leaves before after place row b at lawful few rows numbers =
+    let division = division_of context in
+    let old = before.rows.items in
+    let is : sets_of context after.rows.items ≡ sets_of context old ++ characters_of division row ∷ [] =
+    ap (sets_of context) rows ∙ map-append (characters_of division) old (row ∷ []) in
+    record {
+      more = characters_of division row ∷ [];
+      is = is;
+      builder = record {
+        few = let l = length-append old (row ∷ []) in let e = ap length rows in omega arith;
+        formed = subst (AllByRecursion IsLeafSet) (sym is) (all_append IsLeafSet (sets_of context old) (characters_of division row ∷ []) b.formed (lawful, tt));
+        long = ap length numbers ∙ length-set before.numbers.items place (Some (length old)) ∙ b.long;
+        each = λ p number other known there.
+            let known' = ap (λ xs. slice_get xs p) (sym numbers) ∙ known in
+            ap (λ xs. slice_get xs number) rows
+            ∙ elim (slice_get_set before.numbers.items place p (Some (length old)) (Some number) known') [
+              | inl e ↦
+                  let here : slice_get leaves.rows.items p ≡ Some (Some row) = ap (slice_get leaves.rows.items) e.0 ∙ at in
+                  let same : row ≡ other = cc in
+                  let own = e.1 in
+                  let last : length old ≡ number = cc in
+                  get_at old row [] number last ∙ ap Some same
+              | inr earlier ↦ slice_get_first old (row ∷ []) number other (b.each p number other earlier there)
+            ];
+      };
+    }
+
+-- the row of a leaf that stands there is lawful
+pub lawful_row : (context : Context) (leaves : FileLeaves) (next : ℕ) (value : Option model.SetTree) → StandFrom context leaves next (value ∷ []) →
+    IsLawfulRow (division_of context) (slice_get leaves.rows.items next)
+lawful_row context leaves next value stand =
+    let s = stand_leaf (IsSetRow (files_of context) (division_of context)) leaves.rows.items next value stand in
+    subst (IsLawfulRow (division_of context)) (sym s.1) (by_cases value s.0 s.2)
+  where
+    by_cases : (v : Option model.SetTree) (row : Option ClassBits) → IsSetRow (files_of context) (division_of context) v row →
+        IsLawfulRow (division_of context) (Some row)
+    by_cases None row is = absurd is
+    by_cases (Some tree) None is = absurd is
+    by_cases (Some tree) (Some row) is = is.form
+
+-- the tree of a leaf
+pub leaf_stands : (context : Context) (leaves : FileLeaves) (before after : Builder) (next n : ℕ) (value : Option model.SetTree) (t : Tree) →
+    StandFrom context leaves next (value ∷ []) →
+    ((row : ClassBits) → slice_get leaves.rows.items next ≡ Some (Some row) → slice_get after.rows.items n ≡ Some row) →
+    ((k : ℕ) → length before.rows.items ≤ k → k < length after.rows.items → k ≡ n) →
+    ((ss : List (List Range)) → tree_of ss t ≡ spelling.Leaf (set_at ss n)) → numbers_of t ≡ n ∷ [] → Builds context before after (leaf_of value) t
+leaf_stands context leaves before after next n value t stand number fresh of numbers =
+    let s = stand_leaf (IsSetRow (files_of context) (division_of context)) leaves.rows.items next value stand in
+    by_cases value s.0 s.1 s.2
+  where
+    characters : ClassBits → List Range
+    characters = characters_of (division_of context)
+
+    by_cases : (v : Option model.SetTree) (row : Option ClassBits) → slice_get leaves.rows.items next ≡ Some row →
+        IsSetRow (files_of context) (division_of context) v row → Builds context before after (leaf_of v) t
+    by_cases None row at is = absurd is
+    by_cases (Some tree) None at is = absurd is
+    by_cases (Some tree) (Some row) at is =
+        leaf_built (files_of context) (length (sets_of context before.rows.items)) (sets_of context after.rows.items) n tree (characters row) t
+        (slice_get-map characters after.rows.items n ∙ ap (option_map characters) (number row at)) is of numbers
+        (λ k low high.
+        let a : length (map characters before.rows.items) ≡ length before.rows.items = simp length-map in
+        let b : length (map characters after.rows.items) ≡ length after.rows.items = simp length-map in
+        fresh k (omega arith) (omega arith))
+
+-- there is a row where a lawful one is
+pub lawful_inside : (division : ClassDivision) (rows : List (Option ClassBits)) (i : ℕ) → IsLawfulRow division (slice_get rows i) → i < length rows
+lawful_inside division [] i l = absurd l
+lawful_inside division (x ∷ rows) zero l = omega arith
+lawful_inside division (x ∷ rows) (suc i) l = let r = lawful_inside division rows i l in omega arith

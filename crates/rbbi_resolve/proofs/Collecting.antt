@@ -98,68 +98,61 @@ collects_more files before between after a b first second =
       kept = second.kept;
     }
 
--- a loop over parts: the files stay, and with what is collected of the parts left, all parts are covered
-pub record IsCollecting (files now : List File) (start between : Collection) (whole left : List Part) : Type 0 where
-  pub same : now ≡ files
+-- a loop over parts: with what is collected of the parts left, all parts are covered
+pub record IsCollecting (files : List File) (start between : Collection) (whole left : List Part) : Type 0 where
   pub kept : IsCollection files between
   pub goes_on : (after : Collection) → Collects files between after left → Collects files start after whole
 
 pub collecting_starts : (files : List File) (start : Collection) (whole : List Part) → IsCollection files start →
-    IsCollecting files files start start whole whole
-collecting_starts files start whole kept = record { same = refl; kept = kept; goes_on = λ after rest. rest }
+    IsCollecting files start start whole whole
+collecting_starts files start whole kept = record { kept = kept; goes_on = λ after rest. rest }
 
 -- one turn of it
-turn : (files now now' : List File) (start between between' : Collection) (whole part left : List Part) →
-    IsCollecting files now start between whole (part ++ left) → Collects now between between' part → now' ≡ now →
-    IsCollecting files now' start between' whole left
-turn files now now' start between between' whole part left collecting step next =
-    record {
-      same = next ∙ collecting.same;
-      kept = (subst (λ f. Collects f between between' part) collecting.same step).kept;
-      goes_on = λ after rest. collecting.goes_on after (collects_more files between between' after part left
-          (subst (λ f. Collects f between between' part) collecting.same step) rest);
-    }
+turn : (files : List File) (start between between' : Collection) (whole part left : List Part) → IsCollecting files start between whole (part ++ left) →
+    Collects files between between' part → IsCollecting files start between' whole left
+turn files start between between' whole part left collecting step =
+    record { kept = step.kept; goes_on = λ after rest. collecting.goes_on after (collects_more files between between' after part left step rest) }
 
 -- its end
-ended : (files now : List File) (start between : Collection) (whole : List Part) → IsCollecting files now start between whole [] →
+ended : (files : List File) (start between : Collection) (whole : List Part) → IsCollecting files start between whole [] →
     Collects files start between whole
-ended files now start between whole collecting = collecting.goes_on between (collects_none files between collecting.kept)
+ended files start between whole collecting = collecting.goes_on between (collects_none files between collecting.kept)
 
-module _ (files now : List File) (start between : Collection) where
+module _ (files : List File) (start between : Collection) where
   -- the loop over the sequences of an expression
-  pub seqs_turn : (now' : List File) (between' : Collection) (whole : List Part) (items : List Seq) (i : ℕ) (p : Seq) →
+  pub seqs_turn : (between' : Collection) (whole : List Part) (items : List Seq) (i : ℕ) (p : Seq) →
       i < length items → p ≡ get_or items i p →
-      IsCollecting files now start between whole (parts_of_expr (expr_of (map seq_tree (drop i items)))) →
-      Collects now between between' (parts_of_seq (seq_tree p)) → now' ≡ now →
-      IsCollecting files now' start between' whole (parts_of_expr (expr_of (map seq_tree (drop (i + 1) items))))
-  seqs_turn now' between' whole items i p inside is collecting step next =
-      turn files now now' start between between' whole (parts_of_seq (seq_tree p)) _
-      (subst (λ x. IsCollecting files now start between whole (parts_of_expr x)) (exprs_left items i p inside is) collecting) step next
+      IsCollecting files start between whole (parts_of_expr (expr_of (map seq_tree (drop i items)))) →
+      Collects files between between' (parts_of_seq (seq_tree p)) →
+      IsCollecting files start between' whole (parts_of_expr (expr_of (map seq_tree (drop (i + 1) items))))
+  seqs_turn between' whole items i p inside is collecting step =
+      turn files start between between' whole (parts_of_seq (seq_tree p)) _
+      (subst (λ x. IsCollecting files start between whole (parts_of_expr x)) (exprs_left items i p inside is) collecting) step
 
   pub seqs_end : (e : Expr) (items : List Seq) (i : ℕ) → items ≡ (out-Expr e).items.items → length items ≤ i →
-      IsCollecting files now start between (parts_of_expr (expr_of (map seq_tree items))) (parts_of_expr (expr_of (map seq_tree (drop i items)))) →
+      IsCollecting files start between (parts_of_expr (expr_of (map seq_tree items))) (parts_of_expr (expr_of (map seq_tree (drop i items)))) →
       Collects files start between (parts_of_expr (expr_tree e))
   seqs_end e items i of all collecting =
       subst (λ x. Collects files start between (parts_of_expr x)) (sym (expr_by_items e items of))
-      (ended files now start between _ (subst (λ xs. IsCollecting files now start between (parts_of_expr (expr_of (map seq_tree items)))
+      (ended files start between _ (subst (λ xs. IsCollecting files start between (parts_of_expr (expr_of (map seq_tree items)))
       (parts_of_expr (expr_of (map seq_tree xs)))) (drop_all i items all) collecting))
 
   -- the loop over the items of a sequence
-  pub items_turn : (now' : List File) (between' : Collection) (whole : List Part) (items : List Item) (i : ℕ) (p : Item) →
+  pub items_turn : (between' : Collection) (whole : List Part) (items : List Item) (i : ℕ) (p : Item) →
       i < length items → p ≡ get_or items i p →
-      IsCollecting files now start between whole (parts_of_seq (seq_of (map item_tree (drop i items)))) →
-      Collects now between between' (parts_of_item (item_tree p)) → now' ≡ now →
-      IsCollecting files now' start between' whole (parts_of_seq (seq_of (map item_tree (drop (i + 1) items))))
-  items_turn now' between' whole items i p inside is collecting step next =
-      turn files now now' start between between' whole (parts_of_item (item_tree p)) _
-      (subst (λ x. IsCollecting files now start between whole (parts_of_seq x)) (seqs_left items i p inside is) collecting) step next
+      IsCollecting files start between whole (parts_of_seq (seq_of (map item_tree (drop i items)))) →
+      Collects files between between' (parts_of_item (item_tree p)) →
+      IsCollecting files start between' whole (parts_of_seq (seq_of (map item_tree (drop (i + 1) items))))
+  items_turn between' whole items i p inside is collecting step =
+      turn files start between between' whole (parts_of_item (item_tree p)) _
+      (subst (λ x. IsCollecting files start between whole (parts_of_seq x)) (seqs_left items i p inside is) collecting) step
 
   pub items_end : (s : Seq) (items : List Item) (i : ℕ) → items ≡ (out-Seq s).items.items → length items ≤ i →
-      IsCollecting files now start between (parts_of_seq (seq_of (map item_tree items))) (parts_of_seq (seq_of (map item_tree (drop i items)))) →
+      IsCollecting files start between (parts_of_seq (seq_of (map item_tree items))) (parts_of_seq (seq_of (map item_tree (drop i items)))) →
       Collects files start between (parts_of_seq (seq_tree s))
   items_end s items i of all collecting =
       subst (λ x. Collects files start between (parts_of_seq x)) (sym (seq_by_items s items of))
-      (ended files now start between _ (subst (λ xs. IsCollecting files now start between (parts_of_seq (seq_of (map item_tree items)))
+      (ended files start between _ (subst (λ xs. IsCollecting files start between (parts_of_seq (seq_of (map item_tree items)))
       (parts_of_seq (seq_of (map item_tree xs)))) (drop_all i items all) collecting))
 
 -- an atom is covered with what stands in it

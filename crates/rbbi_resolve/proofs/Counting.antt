@@ -5,7 +5,6 @@ use Rattle.std.proofs.Math.Nat.{max-zero, le-max_left, le-max_right, max-le}
 use Rattle.std.proofs.Math.Bool.{or_assoc, or-false, and-true}
 use Rattle.std.proofs.lemmas.List.{length-map}
 use Rattle.std.proofs.lemmas.List.{drop_more, drop_all}
-use Rattle.rbbi_props.specs.Rows.{File}
 use Rattle.rbbi_tree.specs.Trees.{ExprTree, SeqTree, ItemTree, no_alternatives, alternative, no_items, item, expr_of, seq_of}
 use Rattle.rbbi_tree.specs.Values.{expr_tree, seq_tree, item_tree, expr_tree_out, seq_tree_out}
 use Rattle.rbbi_tree.specs.declared.syntax.Expr.{Expr}
@@ -66,10 +65,9 @@ seq_height context (i ∷ []) = let e = max-zero (height_of_item context i) in o
 seq_height context (i ∷ j ∷ is) = let e : nat_lt 1 (length (i ∷ j ∷ is)) ≡ true = search rules in rw e refl
 
 -- the counts so far, with those of what is left, are those of the whole; and the faults left are noted last
-pub record IsCounting (files : List File) (context : Context) (before : Option Fault) (join : Bool → Bool → Bool) (parts : List Part) (leaves height : ℕ)
-    (empty : Bool) (summary : Summary) (least : Option Fault) (now : List File) (parts_left : List Part) (leaves_left height_left : ℕ)
+pub record IsCounting (context : Context) (before : Option Fault) (join : Bool → Bool → Bool) (parts : List Part) (leaves height : ℕ)
+    (empty : Bool) (summary : Summary) (least : Option Fault) (parts_left : List Part) (leaves_left height_left : ℕ)
     (empty_left : Bool) : Type 0 where
-  pub same : now ≡ files
   pub leaf_number : ℕ
   pub height_number : ℕ
   pub empty_so_far : Bool
@@ -98,25 +96,23 @@ and-join true b c = refl
 and-join false b c = refl
 
 -- the loop over the sequences of an expression
-abbrev pub CountingExpr : List File → Context → Option Fault → ExprTree → Summary → Option Fault → List File → ExprTree → Type 0
-CountingExpr files context before whole summary least now left =
-    IsCounting files context before ◌||◌ (parts_of_expr whole) (leaves_in (meaning_of_expr context whole)) (highest_of_expr context whole)
-    (spells_empty (meaning_of_expr context whole)) summary least now (parts_of_expr left) (leaves_in (meaning_of_expr context left))
+abbrev pub CountingExpr : Context → Option Fault → ExprTree → Summary → Option Fault → ExprTree → Type 0
+CountingExpr context before whole summary least left =
+    IsCounting context before ◌||◌ (parts_of_expr whole) (leaves_in (meaning_of_expr context whole)) (highest_of_expr context whole)
+    (spells_empty (meaning_of_expr context whole)) summary least (parts_of_expr left) (leaves_in (meaning_of_expr context left))
     (highest_of_expr context left) (spells_empty (meaning_of_expr context left))
 
 -- the loop over the items of a sequence
-abbrev pub CountingSeq : List File → Context → Option Fault → SeqTree → Summary → Option Fault → List File → SeqTree → Type 0
-CountingSeq files context before whole summary least now left =
-    IsCounting files context before ◌&&◌ (parts_of_seq whole) (leaves_in (meaning_of_seq context whole)) (highest_of_seq context whole)
-    (spells_empty (meaning_of_seq context whole)) summary least now (parts_of_seq left) (leaves_in (meaning_of_seq context left))
+abbrev pub CountingSeq : Context → Option Fault → SeqTree → Summary → Option Fault → SeqTree → Type 0
+CountingSeq context before whole summary least left =
+    IsCounting context before ◌&&◌ (parts_of_seq whole) (leaves_in (meaning_of_seq context whole)) (highest_of_seq context whole)
+    (spells_empty (meaning_of_seq context whole)) summary least (parts_of_seq left) (leaves_in (meaning_of_seq context left))
     (highest_of_seq context left) (spells_empty (meaning_of_seq context left))
 
 -- what counting a part does
-pub record CountsPart (context : List File → Context) (parts : List Part) (meaning : Context → Meaning) (height : Context → ℕ) (files : List File)
-    (part : Summary) (least least' : Option Fault) (now' : List File) : Type 0 where
-  pub noted : least' ≡ noted_parts (context files) least parts
-  pub counts : Summarizes part (meaning (context files)) (height (context files))
-  pub same : now' ≡ files
+pub record CountsPart (context : Context) (parts : List Part) (meaning : Meaning) (height : ℕ) (part : Summary) (least least' : Option Fault) : Type 0 where
+  pub noted : least' ≡ noted_parts context least parts
+  pub counts : Summarizes part meaning height
 
 pub exprs_left : (items : List Seq) (i : ℕ) (p : Seq) → i < length items → p ≡ get_or items i p → expr_of (map seq_tree (drop i items)) ≡ alternative
     (seq_tree p) (expr_of (map seq_tree (drop (i + 1) items)))
@@ -126,74 +122,64 @@ pub seqs_left : (items : List Item) (i : ℕ) (p : Item) → i < length items �
     (seq_of (map item_tree (drop (i + 1) items)))
 seqs_left items i p inside is = ap (λ ps. seq_of (map item_tree ps)) (drop_more items i p inside ∙ ap (λ q. q ∷ drop (i + 1) items) (sym is))
 
-pub expr_turn : (context : List File → Context) (files : List File) (before : Option Fault) (whole : ExprTree) (summary part summary' : Summary)
-    (least least' : Option Fault) (now now' : List File) (items : List Seq) (i : ℕ) (p : Seq) →
-    i < length items → p ≡ get_or items i p →
-    CountingExpr files (context files) before whole summary least now (expr_of (map seq_tree (drop i items))) →
-    CountsPart context (parts_of_seq (seq_tree p)) (λ k. meaning_of_seq k (seq_tree p)) (λ k. height_of_seq k (seq_tree p)) now part least least' now' →
+pub expr_turn : (c : Context) (before : Option Fault) (whole : ExprTree) (summary part summary' : Summary) (least least' : Option Fault) (items : List Seq)
+    (i : ℕ)
+    (p : Seq) → i < length items → p ≡ get_or items i p → CountingExpr c before whole summary least (expr_of (map seq_tree (drop i items))) →
+    CountsPart c (parts_of_seq (seq_tree p)) (meaning_of_seq c (seq_tree p)) (height_of_seq c (seq_tree p)) part least least' →
     ((a b h k : ℕ) (e f : Bool) → Sums summary a h e → Sums part b k f → Sums summary' (a + b) (max h k) (e || f)) →
-    CountingExpr files (context files) before whole summary' least' now' (expr_of (map seq_tree (drop (i + 1) items)))
-expr_turn context files before whole summary part summary' least least' now now' items i p inside is counting step joins =
-    let c = context files in
+    CountingExpr c before whole summary' least' (expr_of (map seq_tree (drop (i + 1) items)))
+expr_turn c before whole summary part summary' least least' items i p inside is counting step joins =
     let s = seq_tree p in
     let rest = expr_of (map seq_tree (drop (i + 1) items)) in
-    let here : CountingExpr files c before whole summary least now (alternative s rest) =
-    subst (CountingExpr files c before whole summary least now) (exprs_left items i p inside is) counting in
-    let step' : CountsPart context (parts_of_seq s) (λ k. meaning_of_seq k s) (λ k. height_of_seq k s) files part least least' now' =
-    subst (λ n. CountsPart context (parts_of_seq s) (λ k. meaning_of_seq k s) (λ k. height_of_seq k s) n part least least' now') here.same step in
+    let here : CountingExpr c before whole summary least (alternative s rest) =
+    subst (CountingExpr c before whole summary least) (exprs_left items i p inside is) counting in
     record {
-      same = step'.same;
       leaf_number = here.leaf_number + leaves_in (meaning_of_seq c s);
       height_number = max here.height_number (height_of_seq c s);
       empty_so_far = here.empty_so_far || spells_empty (meaning_of_seq c s);
-      sums = joins _ _ _ _ _ _ here.sums step'.counts;
+      sums = joins _ _ _ _ _ _ here.sums step.counts;
       all_leaves = let e = expr_leaves c s rest in let f = here.all_leaves in omega arith;
       all_heights = max-join here.height_number (height_of_seq c s) (highest_of_expr c rest) ∙ here.all_heights;
       all_empty = or_assoc here.empty_so_far (spells_empty (meaning_of_seq c s)) (spells_empty (meaning_of_expr c rest))
           ∙ ap (λ b. here.empty_so_far || b) (sym (expr_empty c s rest)) ∙ here.all_empty;
-      noted = ap (λ l. noted_parts c l (parts_of_expr rest)) step'.noted ∙ sym (noted_parts_of_append c least (parts_of_seq s) (parts_of_expr rest))
+      noted = ap (λ l. noted_parts c l (parts_of_expr rest)) step.noted ∙ sym (noted_parts_of_append c least (parts_of_seq s) (parts_of_expr rest))
           ∙ here.noted;
     }
 
-pub seq_turn : (context : List File → Context) (files : List File) (before : Option Fault) (whole : SeqTree) (summary part summary' : Summary)
-    (least least' : Option Fault) (now now' : List File) (items : List Item) (i : ℕ) (p : Item) →
-    i < length items → p ≡ get_or items i p →
-    CountingSeq files (context files) before whole summary least now (seq_of (map item_tree (drop i items))) →
-    CountsPart context (parts_of_item (item_tree p)) (λ k. meaning_of_item k (item_tree p)) (λ k. height_of_item k (item_tree p)) now part least least' now' →
+pub seq_turn : (c : Context) (before : Option Fault) (whole : SeqTree) (summary part summary' : Summary) (least least' : Option Fault) (items : List Item)
+    (i : ℕ)
+    (p : Item) → i < length items → p ≡ get_or items i p → CountingSeq c before whole summary least (seq_of (map item_tree (drop i items))) →
+    CountsPart c (parts_of_item (item_tree p)) (meaning_of_item c (item_tree p)) (height_of_item c (item_tree p)) part least least' →
     ((a b h k : ℕ) (e f : Bool) → Sums summary a h e → Sums part b k f → Sums summary' (a + b) (max h k) (e && f)) →
-    CountingSeq files (context files) before whole summary' least' now' (seq_of (map item_tree (drop (i + 1) items)))
-seq_turn context files before whole summary part summary' least least' now now' items i p inside is counting step joins =
-    let c = context files in
+    CountingSeq c before whole summary' least' (seq_of (map item_tree (drop (i + 1) items)))
+seq_turn c before whole summary part summary' least least' items i p inside is counting step joins =
     let s = item_tree p in
     let rest = seq_of (map item_tree (drop (i + 1) items)) in
-    let here : CountingSeq files c before whole summary least now (item s rest) =
-    subst (CountingSeq files c before whole summary least now) (seqs_left items i p inside is) counting in
-    let step' : CountsPart context (parts_of_item s) (λ k. meaning_of_item k s) (λ k. height_of_item k s) files part least least' now' =
-    subst (λ n. CountsPart context (parts_of_item s) (λ k. meaning_of_item k s) (λ k. height_of_item k s) n part least least' now') here.same step in
+    let here : CountingSeq c before whole summary least (item s rest) =
+    subst (CountingSeq c before whole summary least) (seqs_left items i p inside is) counting in
     record {
-      same = step'.same;
       leaf_number = here.leaf_number + leaves_in (meaning_of_item c s);
       height_number = max here.height_number (height_of_item c s);
       empty_so_far = here.empty_so_far && spells_empty (meaning_of_item c s);
-      sums = joins _ _ _ _ _ _ here.sums step'.counts;
+      sums = joins _ _ _ _ _ _ here.sums step.counts;
       all_leaves = let e = seq_leaves c s rest in let f = here.all_leaves in omega arith;
       all_heights = max-join here.height_number (height_of_item c s) (highest_of_seq c rest) ∙ here.all_heights;
       all_empty = and-join here.empty_so_far (spells_empty (meaning_of_item c s)) (spells_empty (meaning_of_seq c rest))
           ∙ ap (λ b. here.empty_so_far && b) (sym (seq_empty c s rest)) ∙ here.all_empty;
-      noted = ap (λ l. noted_parts c l (parts_of_seq rest)) step'.noted ∙ sym (noted_parts_of_append c least (parts_of_item s) (parts_of_seq rest))
+      noted = ap (λ l. noted_parts c l (parts_of_seq rest)) step.noted ∙ sym (noted_parts_of_append c least (parts_of_item s) (parts_of_seq rest))
           ∙ here.noted;
     }
 
-module _ (files : List File) (context : Context) (before : Option Fault) (summary raised : Summary) (least : Option Fault) (now : List File) where
+module _ (context : Context) (before : Option Fault) (summary raised : Summary) (least : Option Fault) where
   pub expr_gives : (e : Expr) (items : List Seq) (i : ℕ) → items ≡ (out-Expr e).items.items → length items ≤ i →
-      CountingExpr files context before (expr_of (map seq_tree items)) summary least now (expr_of (map seq_tree (drop i items))) →
+      CountingExpr context before (expr_of (map seq_tree items)) summary least (expr_of (map seq_tree (drop i items))) →
       ((a h : ℕ) (b : Bool) → Sums summary a h b → Sums raised a (h + (if nat_lt 1 (length items) then 1 else 0)) b) →
       Summarizes raised (meaning_of_expr context (expr_tree e)) (height_of_expr context (expr_tree e)) ×
       (least ≡ noted_parts context before (parts_of_expr (expr_tree e)))
   expr_gives e items i is done counting raises =
       let whole = expr_of (map seq_tree items) in
-      let end : CountingExpr files context before whole summary least now no_alternatives =
-      subst (λ ps. CountingExpr files context before whole summary least now (expr_of (map seq_tree ps))) (drop_all i items done) counting in
+      let end : CountingExpr context before whole summary least no_alternatives =
+      subst (λ ps. CountingExpr context before whole summary least (expr_of (map seq_tree ps))) (drop_all i items done) counting in
       let tree : expr_tree e ≡ whole = expr_by_items e _ is in
       let leaves : end.leaf_number ≡ leaves_in (meaning_of_expr context whole) = let f = end.all_leaves in omega arith in
       let heights : end.height_number ≡ highest_of_expr context whole = sym (max-zero end.height_number) ∙ end.all_heights in
@@ -206,14 +192,14 @@ module _ (files : List File) (context : Context) (before : Option Fault) (summar
       rw tree (rw (sym leaves, sym empty, height) sums, end.noted)
 
   pub seq_gives : (e : Seq) (items : List Item) (i : ℕ) → items ≡ (out-Seq e).items.items → length items ≤ i →
-      CountingSeq files context before (seq_of (map item_tree items)) summary least now (seq_of (map item_tree (drop i items))) →
+      CountingSeq context before (seq_of (map item_tree items)) summary least (seq_of (map item_tree (drop i items))) →
       ((a h : ℕ) (b : Bool) → Sums summary a h b → Sums raised a (h + (if nat_lt 1 (length items) then 1 else 0)) b) →
       Summarizes raised (meaning_of_seq context (seq_tree e)) (height_of_seq context (seq_tree e)) ×
       (least ≡ noted_parts context before (parts_of_seq (seq_tree e)))
   seq_gives e items i is done counting raises =
       let whole = seq_of (map item_tree items) in
-      let end : CountingSeq files context before whole summary least now no_items =
-      subst (λ ps. CountingSeq files context before whole summary least now (seq_of (map item_tree ps))) (drop_all i items done) counting in
+      let end : CountingSeq context before whole summary least no_items =
+      subst (λ ps. CountingSeq context before whole summary least (seq_of (map item_tree ps))) (drop_all i items done) counting in
       let tree : seq_tree e ≡ whole = seq_by_items e _ is in
       let leaves : end.leaf_number ≡ leaves_in (meaning_of_seq context whole) = let f = end.all_leaves in omega arith in
       let heights : end.height_number ≡ highest_of_seq context whole = sym (max-zero end.height_number) ∙ end.all_heights in

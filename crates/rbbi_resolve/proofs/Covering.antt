@@ -1,6 +1,6 @@
 -- Parts of covered expressions are covered, and sets that are made of those that stand for all of a class respect it.
 use Rattle.std.proofs.Common.{◌≡◌, ℕ, zero, suc, ◌+◌, ◌<◌, ◌≤◌, ◌↔◌, ◌⊎◌, inl, inr, List, [], ◌∷◌, ◌++◌, map, length, drop, get_or}
-use Rattle.std.proofs.Common.{sym, ap, ◌∙◌, subst, arith, Bool, true, false, Option, Some, None, IfSome, option_map, ⊎_elim}
+use Rattle.std.proofs.Common.{subst, arith, Bool, true, false, Option, Some, None, IfSome, option_map, ⊎_elim}
 use Rattle.std.specs.List.{Contains, AllByRecursion}
 use Rattle.rbbi_model.proofs.Lists.{all_append, all_left, all_right}
 use Rattle.rbbi_model.specs.Ranges.{Range, InRange, Has}
@@ -8,26 +8,23 @@ use Rattle.rbbi_model.specs.SetTrees as model
 use Rattle.rbbi_resolve.proofs.PropertySets.{members_are_code_points}
 use Rattle.rbbi_props.specs.Rows.{File}
 use Rattle.rbbi_tree.specs.Trees.{AtomTree, placed, SetSyntax, PartsTree, PartTree, SetItemTree, set_of, no_parts, part}
-use Rattle.rbbi_tree.specs.Trees.{set, group, set_character, set_range, set_name, set_property, set_within}
+use Rattle.rbbi_tree.specs.Trees.{set_character, set_range, set_name, set_property, set_within}
 use Rattle.rbbi_tree.specs.Trees.{expr_of, seq_of, joined}
-use Rattle.rbbi_tree.specs.Values.{expr_tree, seq_tree, item_tree, atom_tree, set_tree, item_tree_out}
+use Rattle.rbbi_tree.specs.Values.{expr_tree, seq_tree, item_tree, atom_tree, item_tree_out}
 use Rattle.rbbi_tree.specs.declared.syntax.Quant.TheVariants.{Once}
 use Rattle.rbbi_tree.specs.declared.syntax.Join.{Join}
 use Rattle.rbbi_tree.specs.declared.syntax.Join.TheVariants.{Add, Both, Minus}
 use Rattle.rbbi_tree.specs.declared.syntax.Expr.{Expr}
 use Rattle.rbbi_tree.specs.declared.syntax.Seq.{Seq}
 use Rattle.rbbi_tree.specs.declared.syntax.Item.{Item}
-use Rattle.rbbi_tree.specs.declared.syntax.Atom as atoms
-use Rattle.rbbi_tree.specs.declared.syntax.Atom.{Atom}
 use Rattle.rbbi_tree.specs.declared.syntax.Atom.TheViews.{out-Expr, out-Seq, out-Item}
 use Rattle.rbbi_resolve.specs.SetValues.{HasProperty, joined_to, signed}
 use Rattle.rbbi_resolve.specs.inner.SetValues.{IsValue}
 use Rattle.rbbi_resolve.specs.Parts.{Part, Outside, Within, parts_of_expr, parts_of_seq, parts_of_item, parts_in_atom, parts_of_set, parts_of_parts}
 use Rattle.rbbi_resolve.specs.Parts.{parts_of_part, parts_in_item}
-use Rattle.rbbi_resolve.specs.inner.Covered.{Respects, SetRespects, IsCovered, AreCovered, AreRespected}
+use Rattle.rbbi_resolve.specs.inner.Covered.{Respects, IsCovered, AreCovered, AreRespected}
 use Rattle.rbbi_resolve.specs.inner.LiteralRuns.{FollowsRun}
 use Rattle.rbbi_resolve.proofs.Counting.{expr_by_items, seq_by_items, exprs_left, seqs_left}
-use Rattle.rbbi_resolve.proofs.ItemTrees.{atom_of_group}
 
 module _ (files : List File) (stand : ℕ → ℕ) where
   -- of two lists of parts
@@ -60,42 +57,25 @@ module _ (files : List File) (stand : ℕ → ℕ) where
       AreCovered files stand (parts_of_item (placed (out-Item i).place (atom_tree (out-Item i).atom) Once))
   covered_atom i are = subst (λ x. AreCovered files stand (parts_of_item x)) (item_tree_out i) are
 
-  -- the expression in the brackets of a covered item
-  pub covered_group : (i : Item) (inner : Expr) → (out-Item i).atom ≡ atoms.Group inner → AreCovered files stand (parts_of_item (item_tree i)) →
-      AreCovered files stand (parts_of_expr (expr_tree inner))
-  covered_group i inner is are =
-      covered_left (parts_of_expr (expr_tree inner)) (Outside (out-Item i).place (group (expr_tree inner)) ∷ [])
-      (subst (λ a. AreCovered files stand (parts_of_item (placed (out-Item i).place a Once))) (ap atom_tree is ∙ atom_of_group inner) (covered_atom i are))
-
   -- what stands for an atom alone
   pub covered_alone : (place : ℕ) (a : AtomTree) → AreCovered files stand (parts_of_item (placed place a Once)) → IsCovered files stand (Outside place a)
   covered_alone place a are = (covered_right (parts_in_atom a) (Outside place a ∷ []) are).each.0
 
-  -- the atom that a covered item is
-  pub covered_is : (i : Item) (a : Atom) (tree : AtomTree) → (out-Item i).atom ≡ a → atom_tree a ≡ tree → AreCovered files stand (parts_of_item (item_tree i)) →
-      IsCovered files stand (Outside (out-Item i).place tree)
-  covered_is i a tree is same are =
-      covered_alone (out-Item i).place tree
-      (subst (λ x. AreCovered files stand (parts_of_item (placed (out-Item i).place x Once))) (ap atom_tree is ∙ same) (covered_atom i are))
-
-module _ (files now : List File) (stand : ℕ → ℕ) (same : now ≡ files) where
   -- a sequence of a covered expression
   pub covered_seq : (e : Expr) (items : List Seq) (i : ℕ) (p : Seq) → AreCovered files stand (parts_of_expr (expr_tree e)) →
-      items ≡ (out-Expr e).items.items → p ≡ get_or items i p → i < length items → AreCovered now stand (parts_of_seq (seq_tree p))
+      items ≡ (out-Expr e).items.items → p ≡ get_or items i p → i < length items → AreCovered files stand (parts_of_seq (seq_tree p))
   covered_seq e items i p are of is inside =
       let whole = subst (λ x. AreCovered files stand (parts_of_expr x)) (expr_by_items e items of) are in
-      subst (λ f. AreCovered f stand (parts_of_seq (seq_tree p))) (sym same)
-      (covered_left files stand (parts_of_seq (seq_tree p)) (parts_of_expr (expr_of (map seq_tree (drop (i + 1) items))))
-      (subst (λ x. AreCovered files stand (parts_of_expr x)) (exprs_left items i p inside is) (seqs_covered files stand i items whole)))
+      covered_left (parts_of_seq (seq_tree p)) (parts_of_expr (expr_of (map seq_tree (drop (i + 1) items))))
+      (subst (λ x. AreCovered files stand (parts_of_expr x)) (exprs_left items i p inside is) (seqs_covered i items whole))
 
   -- an item of a covered sequence
   pub covered_item : (s : Seq) (items : List Item) (i : ℕ) (p : Item) → AreCovered files stand (parts_of_seq (seq_tree s)) →
-      items ≡ (out-Seq s).items.items → p ≡ get_or items i p → i < length items → AreCovered now stand (parts_of_item (item_tree p))
+      items ≡ (out-Seq s).items.items → p ≡ get_or items i p → i < length items → AreCovered files stand (parts_of_item (item_tree p))
   covered_item s items i p are of is inside =
       let whole = subst (λ x. AreCovered files stand (parts_of_seq x)) (seq_by_items s items of) are in
-      subst (λ f. AreCovered f stand (parts_of_item (item_tree p))) (sym same)
-      (covered_left files stand (parts_of_item (item_tree p)) (parts_of_seq (seq_of (map item_tree (drop (i + 1) items))))
-      (subst (λ x. AreCovered files stand (parts_of_seq x)) (seqs_left items i p inside is) (items_covered files stand i items whole)))
+      covered_left (parts_of_item (item_tree p)) (parts_of_seq (seq_of (map item_tree (drop (i + 1) items))))
+      (subst (λ x. AreCovered files stand (parts_of_seq x)) (seqs_left items i p inside is) (items_covered i items whole))
 
 -- sets that are respected where more are
 pub fewer_respected : (stand : ℕ → ℕ) (bases bases' : List (List Range)) → ((base : List Range) → Contains bases base → Contains bases' base) →

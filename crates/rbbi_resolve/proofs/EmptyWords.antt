@@ -1,5 +1,5 @@
 -- A meaning spells the empty word, by the test that faults cite, exactly if its tree spells it.
-use Rattle.std.proofs.Common.{◌≡◌, ℕ, ◌≤◌, ◌⊎◌, ◌↔◌, inl, inr, Bool, true, false, List, [], ◌∷◌, ◌++◌, length, sym, refl, ap, subst, arith}
+use Rattle.std.proofs.Common.{◌≡◌, ℕ, ◌⊎◌, ◌↔◌, inl, inr, true, false, List, [], ◌∷◌, sym, refl, subst, arith}
 use Rattle.std.specs.List.{AllByRecursion}
 use Rattle.std.proofs.lemmas.Bool.{and_cases, and_parts, or_parts, or_cases, true_from_ne_false}
 use Rattle.rbbi_model.specs.Spelling as spelling

@@ -1,6 +1,6 @@
 -- What was read, before the first statement and behind the last.
-use Rattle.std.proofs.Common.{◌≡◌, ℕ, zero, suc, ◌≤◌, Bool, true, false, if◌then◌else◌, is_some, Option, Some, None, MatchOption, List, [], ◌∷◌}
-use Rattle.std.proofs.Common.{◌++◌, drop, length, slice_get, sum_by, sym, refl, ap, ◌∙◌, subst, arith}
+use Rattle.std.proofs.Common.{◌≡◌, ℕ, ◌≤◌, Bool, true, false, if◌then◌else◌, is_some, Option, None, MatchOption, List, [], ◌∷◌}
+use Rattle.std.proofs.Common.{drop, length, sum_by, sym, refl, ap, ◌∙◌, subst, arith}
 use Rattle.std.proofs.lemmas.List.{drop_all}
 use Rattle.std.specs.HashMap.{get_by_text}
 use Rattle.std.specs.Rc.{rc_value}
@@ -113,10 +113,3 @@ switches_kept switches k word x is =
       | true ↦ is
       | false ↦ record { chained = is.chained; quoted_only = is.quoted_only; active = is.active }
     ]
-
--- a list of no bases, and one more
-pub no_base : (xs : List (Option ℕ)) → ((k b : ℕ) → slice_get xs k ≡ Some (Some b) → ⊥) → (k b : ℕ) → slice_get (xs ++ None ∷ []) k ≡ Some (Some b) → ⊥
-no_base [] f zero b e = cc
-no_base [] f (suc k) b e = cc
-no_base (x ∷ xs) f zero b e = f 0 b e
-no_base (x ∷ xs) f (suc k) b e = no_base xs (λ j d. f (suc j) d) k b e

@@ -115,7 +115,7 @@ mutual
   within_item k good (set_property negated word value) c = within_property k.files negated word value
   within_item k good (set_within inner) c = within_set k good inner c
 
-not_empty_holds : (files : List File) (tree : model.SetTree) → is_empty_value files (Some tree) ≡ false → holds_character files tree ≡ true
+pub not_empty_holds : (files : List File) (tree : model.SetTree) → is_empty_value files (Some tree) ≡ false → holds_character files tree ≡ true
 not_empty_holds files tree e = elim (holds_character files tree) as (λ b. not b ≡ false → b ≡ true) [ true ↦ λ n. refl | false ↦ λ n. absurd cc ] e
 
 -- the leaf of a value that is there, within, and not empty

@@ -23,13 +23,14 @@ pub mod Steps
 pub mod Sound
 pub mod SoundFiles
 pub mod Adding
-pub mod LoneSets
 pub mod TreeValues
 pub mod Weights
 pub mod Building
+pub mod LeafAtoms
 pub mod Meant
 pub mod Lawful
 pub mod RulesBuilt
+pub mod LeafRows
 pub mod Ending
 pub mod Good
 pub mod Existence

@@ -1,5 +1,5 @@
 -- What names mean, by the expressions that their statements assign.
-use Rattle.std.proofs.Common.{◌≡◌, ℕ, ◌<◌, true, false, nat_lt, if◌then◌else◌, Option, Some, None, MatchOption, List, [], ◌∷◌}
+use Rattle.std.proofs.Common.{◌≡◌, ℕ, ◌<◌, ◌≤◌, true, false, nat_lt, if◌then◌else◌, Option, Some, None, MatchOption, List, [], ◌∷◌}
 use Rattle.std.proofs.Common.{map, length, encode_utf8_all, sym, refl, ap, ◌∙◌, subst, arith}
 use Rattle.std.proofs.lemmas.Bool.Decides.{nat_tests}
 use Rattle.std.proofs.lemmas.Option.{slice_get_within}
@@ -11,6 +11,7 @@ use Rattle.rbbi_tree.specs.Trees.{ExprTree, SeqTree, ItemTree, AtomTree, no_alte
 use Rattle.rbbi_tree.specs.Trees.{property, set, group, expr_of, seq_of}
 use Rattle.rbbi_tree.specs.Values.{statement_trees}
 use Rattle.rbbi_tree.specs.declared.syntax.Quant.TheVariants as quant
+use Rattle.rbbi_resolve.specs.declared.build.FileLeaves.{FileLeaves}
 use Rattle.rbbi_resolve.specs.declared.context.Context.{Context}
 use Rattle.rbbi_resolve.specs.declared.variables.Variable.{Variable}
 use Rattle.rbbi_resolve.specs.Meanings as Meanings
@@ -20,8 +21,7 @@ use Rattle.rbbi_resolve.specs.Contexts.{Set, Expression, assigned_to, variable_o
 use Rattle.rbbi_resolve.specs.Expressions.{leaf_of, word_of, meaning_of_variable, meaning_of_expr, meaning_of_seq, meaning_of_item, meaning_of_atom}
 use Rattle.rbbi_resolve.specs.Expressions.{height_of_expr, set_of_variable, set_of_atom, set_of_item, set_of_expr, variable_with, variable_for}
 use Rattle.rbbi_resolve.specs.inner.Files.{context_at}
-use Rattle.rbbi_resolve.specs.inner.Contexts.{visible, Matches, IsKindOf, IsUnassigned, IsDefinedBy, context_of, bounds_of}
-use Rattle.rbbi_resolve.specs.inner.OwnLeaves.{set_or_nothing}
+use Rattle.rbbi_resolve.specs.inner.Contexts.{visible, Matches, IsUnassigned, IsDefinedBy, context_of, files_of, bounds_of}
 use Rattle.rbbi_resolve.specs.inner.Builders.{IsAssigned, IsReady}
 use Rattle.rbbi_resolve.proofs.Building.{sequence_meaning, choice_meaning}
 use Rattle.rbbi_resolve.proofs.Steps.{describes}
@@ -75,19 +75,18 @@ seen_is limit (Some w) v e =
     ] refl e
 
 -- what a name stands for in a context
-pub record IsNamed (files : List File) (context : Context) (word : List ℕ) (v : Variable) : Type 0 where
+pub record IsNamed (context : Context) (word : List ℕ) (v : Variable) : Type 0 where
   pub expr : ExprTree
   pub assigned : IsAssigned (statement_trees context.statements.now) v.statement expr
-  pub means : meaning_of_atom (context_of files context) (name word) ≡ meaning_of_expr (context_at files
+  pub means : meaning_of_atom (context_of context) (name word) ≡ meaning_of_expr (context_at (files_of context)
       (statement_trees context.statements.now) v.statement) expr
-  pub kept : (e : ExprTree) → IsAssigned (statement_trees context.statements.now) v.statement e →
-      IsKindOf files (bounds_of context) v.kind (variable_for (context_at files (statement_trees context.statements.now) v.statement) e)
   pub low : v.statement < context.limit
   pub inside : v.statement < length context.statements.now
 
-pub named : (files : List File) (context : Context) (word : List ℕ) (v : Variable) → IsReady files context →
-    Some v ≡ visible context.limit (get_by_text context.variables.now (encode_utf8_all word)) → IsNamed files context word v
-named files context word v ready e =
+pub named : (context : Context) (leaves : FileLeaves) (word : List ℕ) (v : Variable) → IsReady context leaves →
+    Some v ≡ visible context.limit (get_by_text context.variables.now (encode_utf8_all word)) → IsNamed context word v
+named context leaves word v ready e =
+    let files = files_of context in
     let trees = statement_trees context.statements.now in
     let text = encode_utf8_all word in
     let s = seen_is context.limit (get_by_text context.variables.now text) v e in
@@ -95,35 +94,36 @@ named files context word v ready e =
     subst (λ o. MatchOption o (IsUnassigned files trees ready.end text) (IsDefinedBy files (bounds_of context) trees ready.end text)) s.0
     (ready.variables.each text) in
     let k = context_at files trees v.statement in
-    let found : variable_of (context_of files context) word ≡ Some (variable_for k d.expr) = d.behind context.limit s.1 ready.low in
+    let found : variable_of (context_of context) word ≡ Some (variable_for k d.expr) = d.behind context.limit s.1 ready.low in
     let within = slice_get_within trees v.statement _ d.assigns in
     let long : length trees ≡ length context.statements.now = simp length-map in
     record {
       expr = d.expr;
       assigned = record { word = d.word; place = d.place; at = d.assigns };
       means = ap meaning_of_variable found ∙ variable_means k d.expr (set_of_expr k d.expr) refl;
-      kept = λ e is.
-          let at = d.assigns in
-          let other = is.at in
-          let same : d.expr ≡ e = cc in
-          subst (λ x. IsKindOf files (bounds_of context) v.kind (variable_for k x)) same d.kind;
       low = s.1;
       inside = omega arith;
     }
+
+-- what stands before an earlier statement
+pub ready_before : (context : Context) (leaves : FileLeaves) (limit : ℕ) → limit ≤ context.limit → IsReady context leaves →
+    IsReady (record context { limit = limit }) leaves
+ready_before context leaves limit low r = record { end = r.end; variables = r.variables; low = omega (arith, r.low); long = r.long; stand = r.stand }
 
 unmatched : (files : List File) (bounds : List ℕ) (b : Option contexts.Variable) → Matches files bounds None b → meaning_of_variable b ≡ Never
 unmatched files bounds None m = refl
 unmatched files bounds (Some v) m = absurd m
 
 -- what a name means that stands for nothing
-pub unnamed : (files : List File) (context : Context) (word : List ℕ) → IsReady files context →
+pub unnamed : (context : Context) (leaves : FileLeaves) (word : List ℕ) → IsReady context leaves →
     None ≡ visible context.limit (get_by_text context.variables.now (encode_utf8_all word)) →
-    meaning_of_atom (context_of files context) (name word) ≡ Never
-unnamed files context word ready e =
+    meaning_of_atom (context_of context) (name word) ≡ Never
+unnamed context leaves word ready e =
+    let files = files_of context in
     let d = describes files (bounds_of context) (statement_trees context.statements.now) context.variables.now ready.end
     context.limit ready.low ready.variables in
-    unmatched files (bounds_of context) (variable_of (context_of files context) word) (subst (λ o. Matches files (bounds_of context) o (variable_of
-    (context_of files context) word)) (sym e)
+    unmatched files (bounds_of context) (variable_of (context_of context) word) (subst (λ o. Matches files (bounds_of context) o (variable_of
+    (context_of context) word)) (sym e)
     (d.same (encode_utf8_all word)))
 
 -- an expression is a choice of its sequences, and a sequence its items
@@ -141,7 +141,3 @@ pub word_means : (word : List ℕ) → word_of word ≡ sequence_meaning (map (�
 word_means [] = refl
 word_means (c ∷ []) = refl
 word_means (c ∷ d ∷ word) = ap (Meanings.Then (Leaf (model.Character c))) (word_means (d ∷ word))
-
-pub leaf_means : (v : Option model.SetTree) → leaf_of v ≡ Leaf (set_or_nothing v)
-leaf_means None = refl
-leaf_means (Some tree) = refl

@@ -63,6 +63,29 @@ property_noted context files least place join negated word value unknown same is
     ap (λ b. noted least (faults_where b place kinds.UnknownProperty)) (is ∙ ap (λ f. is_none (property_test f word value)) (sym same))
     ∙ one_fault least (is_none (property_test context.files word value)) place kinds.UnknownProperty
 
+-- what is noted of a property outside of sets
+two_faults : (least : Option Fault) (a b : Bool) (place : ℕ) (kind other : FaultKind) →
+    noted (noted least (faults_where a place kind)) (faults_where b place other) ≡ noted least
+    ((faults_where a place kind ++ (faults_where b place other ++ [])) ++ [])
+two_faults least true true place kind other = refl
+two_faults least true false place kind other = refl
+two_faults least false true place kind other = refl
+two_faults least false false place kind other = refl
+
+pub property_outside : (context : contexts.Context) (files : List File) (least : Option Fault) (place : ℕ) (negated : Bool) (word : List ℕ)
+    (value : Option (List ℕ)) (unknown empty : Bool) → context.files ≡ files → unknown ≡ is_none (property_test files word value) →
+    empty ≡ is_empty_value files (value_of_property files negated word value) →
+    noted (noted least (faults_where unknown place kinds.UnknownProperty)) (faults_where empty place kinds.EmptySet) ≡ noted_parts context least
+    (Outside place (trees.property negated word value) ∷ [])
+property_outside context files least place negated word value unknown empty same known filled =
+    let is_unknown = is_none (property_test context.files word value) in
+    let is_empty = is_empty_value context.files (value_of_property context.files negated word value) in
+    ap (λ a. noted (noted least (faults_where a place kinds.UnknownProperty)) (faults_where empty place kinds.EmptySet))
+    (known ∙ ap (λ f. is_none (property_test f word value)) (sym same))
+    ∙ ap (λ b. noted (noted least (faults_where is_unknown place kinds.UnknownProperty)) (faults_where b place kinds.EmptySet))
+    (subst (λ f. empty ≡ is_empty_value f (value_of_property f negated word value)) (sym same) filled)
+    ∙ two_faults least is_unknown is_empty place kinds.UnknownProperty kinds.EmptySet
+
 -- what is noted of a set in a set
 pub within_noted : (context : contexts.Context) (least : Option Fault) (place : ℕ) (join : Join) (inner : SetSyntax) →
     noted_parts context least (parts_of_set inner) ≡ noted_parts context least (parts_of_part (joined place join (set_within inner)))

@@ -10,12 +10,17 @@ use Rattle.rbbi_model.specs.Ranges.{Range}
 use Rattle.rbbi_model.proofs.Lists.{all_append}
 use Rattle.rbbi_props.specs.Rows.{File}
 use Rattle.rbbi_tree.specs.Trees.{StatementTree}
+use Rattle.rbbi_tree.specs.Values.{statement_trees}
+use Rattle.rbbi_resolve.specs.declared.build.Builder.{Builder}
+use Rattle.rbbi_resolve.specs.declared.build.FileLeaves.{FileLeaves}
+use Rattle.rbbi_resolve.specs.declared.context.Context.{Context}
 use Rattle.rbbi_resolve.specs.declared.rules.Tree.{Tree}
 use Rattle.rbbi_resolve.specs.declared.rules.Rule.{Rule}
 use Rattle.rbbi_resolve.specs.declared.switches.Switches.{Switches}
 use Rattle.rbbi_resolve.specs.Meanings.{Meaning, Stands}
 use Rattle.rbbi_resolve.specs.Files.{RuleMeaning, context_after, rule_in, rules_from, active_rules}
 use Rattle.rbbi_resolve.specs.inner.Files.{context_at}
+use Rattle.rbbi_resolve.specs.inner.Contexts.{files_of, sets_of}
 use Rattle.rbbi_resolve.specs.inner.Switchings.{AreSwitches}
 use Rattle.rbbi_resolve.specs.RuleTrees.{tree_of, numbers_of}
 use Rattle.rbbi_resolve.specs.RuleLists.{rule_of, numbers_of_rule, AreWellFormed}
@@ -63,44 +68,9 @@ module _ (files : List File) where
   flat_both (r ∷ rs) ss = ap (λ ns. numbers_of_rule r ++ ns) (flat_both rs ss)
       ∙ sym (append_assoc (numbers_of_rule r) (flat_map numbers_of_rule rs) (flat_map numbers_of_rule ss))
 
-  -- one statement further
-  pub statement_built : (statements : List StatementTree) (sets sets' : List (List Range)) (bases bases' : List (Option ℕ)) (switches switches' : Switches)
-      (rules rules' new : List Rule) (n : ℕ) (s : StatementTree) →
-      AreRulesTo files statements sets bases switches rules n → slice_get statements n ≡ Some s → Extends files statements sets sets' bases' →
-      AreSwitches switches' (context_after (context_at files statements n) s) → AllZip (IsRuleBuilt files sets') (rule_in (context_at files statements n) s)
-      new → rules' ≡ rules ++ new →
-      ((k : ℕ) → length sets ≤ k → k < length sets' → Contains (flat_map numbers_of_rule new) k) →
-      AreRulesTo files statements sets' bases' switches' rules' (n + 1)
-  statement_built statements sets sets' bases bases' switches switches' rules rules' new n s a at on switch each put fresh =
-      let k = context_at files statements n in
-      let rest = drop (n + 1) statements in
-      let next = context_next files statements n s at in
-      let left = left_here statements n s at in
-      let wider = subst (λ ss. AllZip (IsRuleBuilt files ss) a.done rules) (sym on.is) (rules_more sets on.more a.done rules a.each) in
-      let here : (j : ℕ) → Contains (flat_map numbers_of_rule rules ++ flat_map numbers_of_rule new) j → Contains (flat_map numbers_of_rule rules') j =
-      λ j w. subst (λ rs. Contains (flat_map numbers_of_rule rs) j) (sym put) (subst (λ ns. Contains ns j) (sym (flat_both rules new)) w) in
-      record {
-        builder = on.builder;
-        switched = subst (AreSwitches switches') (sym next) switch;
-        done = a.done ++ rule_in k s;
-        every =
-            append_assoc a.done (rule_in k s) (rules_from (context_at files statements (n + 1)) rest)
-            ∙ ap (λ x. a.done ++ (rule_in k s ++ rules_from x rest)) next
-            ∙ ap (λ xs. a.done ++ xs) (sym (rules_next k s rest))
-            ∙ ap (λ x. a.done ++ rules_from k x) (sym left)
-            ∙ a.every;
-        each = subst (λ rs. AllZip (IsRuleBuilt files sets') (a.done ++ rule_in k s) rs) (sym put) (rules_both sets' a.done rules (rule_in k s) new wider each);
-        used =
-            λ j low.
-            elim (cases_lt j (length sets)) [
-              | inl lt ↦ here j (Contains-append_left (flat_map numbers_of_rule rules) (flat_map numbers_of_rule new) j (a.used j lt))
-              | inr ge ↦ here j (Contains-append_right (flat_map numbers_of_rule rules) (flat_map numbers_of_rule new) j (fresh j ge low))
-            ];
-      }
-
   -- the numbers of a rule that was built
   pub rule_fresh : (old mid : ℕ) (sets' sets : List (List Range)) (m : Meaning) (o : Option Meaning) (r : Rule) → length sets' ≡ mid →
-      IsBuilt files old sets' 0 0 m r.front → IsRestBuilt files mid sets o r.rest →
+      IsBuilt files old sets' m r.front → IsRestBuilt files mid sets o r.rest →
       (k : ℕ) → old ≤ k → k < length sets → Contains (flat_map numbers_of_rule (r ∷ [])) k
   rule_fresh old mid sets' sets m o r long front rest k low high =
       let out : Contains (numbers_of_rule r) k → Contains (flat_map numbers_of_rule (r ∷ [])) k = λ w. Contains-append_left (numbers_of_rule r) [] k w in
@@ -114,17 +84,6 @@ module _ (files : List File) where
   unfolding rules_from
   all_steps statements n long done e =
       sym (append-nil done) ∙ ap (λ x. done ++ rules_from (context_at files statements n) x) (sym (drop_all n statements long)) ∙ e
-
-  -- at the end
-  pub all_built : (statements : List StatementTree) (sets : List (List Range)) (bases : List (Option ℕ)) (switches : Switches) (rules : List Rule) (n : ℕ) →
-      length statements ≤ n → AreRulesTo files statements sets bases switches rules n → AreAllRules files statements sets rules
-  all_built statements sets bases switches rules n long a =
-      record {
-        each = subst (λ ms. AllZip (IsRuleBuilt files sets) ms rules) (all_steps statements n long a.done a.every) a.each;
-        used = a.used;
-        formed =
-            a.builder.formed;
-      }
 
   rest_stands : (sets : List (List Range)) (m : Option Meaning) (t : Option Tree) → IsRest files sets m t → BothStand files m (option_map (tree_of sets) t)
   rest_stands sets None None r = tt
@@ -191,3 +150,57 @@ module _ (files : List File) where
   pub rules_formed : (statements : List StatementTree) (sets : List (List Range)) (rules : List Rule) → AreAllRules files statements sets rules →
       AreWellFormed (record { rules = rules; sets = sets })
   rules_formed statements sets rules a = record { numbered = rules_numbered sets (active_rules files statements) rules a.each; used = a.used; sets = a.formed }
+
+-- one statement further
+pub statement_built : (context : Context) (leaves : FileLeaves) (before after : Builder) (switches switches' : Switches) (rules rules' new : List Rule) (n : ℕ)
+    (s : StatementTree) → AreRulesTo context leaves before switches rules n → slice_get (statement_trees context.statements.now) n ≡ Some s →
+    Extends context leaves before after →
+    AreSwitches switches' (context_after (context_at (files_of context) (statement_trees context.statements.now) n) s) →
+    AllZip (IsRuleBuilt (files_of context) (sets_of context after.rows.items))
+    (rule_in (context_at (files_of context) (statement_trees context.statements.now) n) s) new → rules' ≡ rules ++ new →
+    ((k : ℕ) → length (sets_of context before.rows.items) ≤ k → k < length (sets_of context after.rows.items) →
+    Contains (flat_map numbers_of_rule new) k) →
+    AreRulesTo context leaves after switches' rules' (n + 1)
+statement_built context leaves before after switches switches' rules rules' new n s a at on switch each put fresh =
+    let files = files_of context in
+    let statements = statement_trees context.statements.now in
+    let sets = sets_of context before.rows.items in
+    let sets' = sets_of context after.rows.items in
+    let k = context_at files statements n in
+    let rest = drop (n + 1) statements in
+    let next = context_next files statements n s at in
+    let left = left_here statements n s at in
+    let wider = subst (λ ss. AllZip (IsRuleBuilt files ss) a.done rules) (sym on.is) (rules_more files sets on.more a.done rules a.each) in
+    let here : (j : ℕ) → Contains (flat_map numbers_of_rule rules ++ flat_map numbers_of_rule new) j → Contains (flat_map numbers_of_rule rules') j =
+    λ j w. subst (λ rs. Contains (flat_map numbers_of_rule rs) j) (sym put) (subst (λ ns. Contains ns j) (sym (flat_both files rules new)) w) in
+    record {
+      sound = on.builder;
+      switched = subst (AreSwitches switches') (sym next) switch;
+      done = a.done ++ rule_in k s;
+      every =
+          append_assoc a.done (rule_in k s) (rules_from (context_at files statements (n + 1)) rest)
+          ∙ ap (λ x. a.done ++ (rule_in k s ++ rules_from x rest)) next
+          ∙ ap (λ xs. a.done ++ xs) (sym (rules_next k s rest))
+          ∙ ap (λ x. a.done ++ rules_from k x) (sym left)
+          ∙ a.every;
+      each = subst (λ rs. AllZip (IsRuleBuilt files sets') (a.done ++ rule_in k s) rs) (sym put)
+          (rules_both files sets' a.done rules (rule_in k s) new wider each);
+      used =
+          λ j low.
+          elim (cases_lt j (length sets)) [
+            | inl lt ↦ here j (Contains-append_left (flat_map numbers_of_rule rules) (flat_map numbers_of_rule new) j (a.used j lt))
+            | inr ge ↦ here j (Contains-append_right (flat_map numbers_of_rule rules) (flat_map numbers_of_rule new) j (fresh j ge low))
+          ];
+    }
+
+-- at the end
+pub all_built : (context : Context) (leaves : FileLeaves) (builder : Builder) (switches : Switches) (rules : List Rule) (n : ℕ) →
+    length (statement_trees context.statements.now) ≤ n → AreRulesTo context leaves builder switches rules n →
+    AreAllRules (files_of context) (statement_trees context.statements.now) (sets_of context builder.rows.items) rules
+all_built context leaves builder switches rules n long a =
+    record {
+      each = subst (λ ms. AllZip (IsRuleBuilt (files_of context) (sets_of context builder.rows.items)) ms rules)
+          (all_steps (files_of context) (statement_trees context.statements.now) n long a.done a.every) a.each;
+      used = a.used;
+      formed = a.sound.formed;
+    }

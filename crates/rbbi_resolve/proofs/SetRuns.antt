@@ -1,5 +1,5 @@
 -- A loop over the parts of a set, of which the sets are collected that it is made of.
-use Rattle.std.proofs.Common.{◌≡◌, ℕ, ◌+◌, ◌<◌, ◌≤◌, List, [], ◌∷◌, ◌++◌, map, length, drop, get_or, refl, sym, ap, ◌∙◌, subst}
+use Rattle.std.proofs.Common.{◌≡◌, ℕ, ◌+◌, ◌<◌, ◌≤◌, List, [], ◌∷◌, ◌++◌, map, length, drop, get_or, refl, sym, ap, subst}
 use Rattle.std.proofs.Common.{Option, Some, None, IfSome, if◌then◌else◌, ◌↔◌, inl, inr, ⊎_elim, arith}
 use Rattle.std.proofs.lemmas.Bool.{cases_lt, le-leb, lt-leb}
 use Rattle.std.specs.List.{Contains, All, AllByRecursion}
@@ -26,18 +26,16 @@ use Rattle.rbbi_resolve.proofs.Covering.{nothing_respects, signed_respects, join
 use Rattle.rbbi_resolve.proofs.Covering.{literal_follows, fewer_respected}
 
 -- the parts before those that are left were collected, but for the last run of characters and ranges
-pub record IsCollectingSet (files now : List File) (start between : Collection) (whole left : PartsTree) (run : List Range) : Type 0 where
-  pub same : now ≡ files
+pub record IsCollectingSet (files : List File) (start between : Collection) (whole left : PartsTree) (run : List Range) : Type 0 where
   pub keeps : (base : List Range) → Contains start.bases.items base → Contains between.bases.items base
   pub kept : IsCollection files between
   pub ranges : All IsRange run
   pub running : IsRunning files between.bases.items whole left run
 
 pub set_starts : (files : List File) (start : Collection) (whole : PartsTree) (run : List Range) → run ≡ [] → All IsRange run → IsCollection files start →
-    IsCollectingSet files files start start whole whole run
+    IsCollectingSet files start start whole whole run
 set_starts files start whole run none ranges kept =
     record {
-      same = refl;
       keeps = λ base has. has;
       kept = kept;
       ranges = ranges;
@@ -51,18 +49,17 @@ set_starts files start whole run none ranges kept =
       };
     }
 
-module _ (files now : List File) (start between : Collection) (whole : PartsTree) (items : List SetPart) (i : ℕ) (p : SetPart) (run : List Range)
+module _ (files : List File) (start between : Collection) (whole : PartsTree) (items : List SetPart) (i : ℕ) (p : SetPart) (run : List Range)
     (inside : i < length items) (is : p ≡ get_or items i p)
-    (collecting : IsCollectingSet files now start between whole (parts_of (map part_tree (drop i items))) run) where
+    (collecting : IsCollectingSet files start between whole (parts_of (map part_tree (drop i items))) run) where
   here : IsRunning files between.bases.items whole (part (part_tree p) (parts_of (map part_tree (drop (i + 1) items)))) run
   here = subst (λ left. IsRunning files between.bases.items whole left run) (parts_left items i p inside is) collecting.running
 
   -- a turn with a character or a range that is added
   pub literal_turn : (range : Range) (run' : List Range) → run' ≡ run ++ range ∷ [] → IsRange range → IsLiteral range (part_tree p) →
-      IsCollectingSet files now start between whole (parts_of (map part_tree (drop (i + 1) items))) run'
+      IsCollectingSet files start between whole (parts_of (map part_tree (drop (i + 1) items))) run'
   literal_turn range run' longer valid literal =
       record {
-        same = collecting.same;
         keeps = collecting.keeps;
         kept = collecting.kept;
         ranges = subst (All IsRange) (sym longer) (All-push IsRange run range collecting.ranges valid);
@@ -80,38 +77,36 @@ module _ (files now : List File) (start between : Collection) (whole : PartsTree
       }
 
   -- a turn with any other part, before which the set of the run is collected
-  pub other_turn : (now' : List File) (with_run after : Collection) (run' : List Range) →
+  pub other_turn : (with_run after : Collection) (run' : List Range) →
       ((base : List Range) → Contains between.bases.items base → Contains with_run.bases.items base) → HasSame with_run.bases.items run →
-      run' ≡ [] → All IsRange run' → CollectsPart now with_run after (part_tree p) → now' ≡ now →
-      IsCollectingSet files now' start after whole (parts_of (map part_tree (drop (i + 1) items))) run'
-  other_turn now' with_run after run' keeps own none ranges step next =
-      let step' = subst (λ f. CollectsPart f with_run after (part_tree p)) collecting.same step in
+      run' ≡ [] → All IsRange run' → CollectsPart files with_run after (part_tree p) →
+      IsCollectingSet files start after whole (parts_of (map part_tree (drop (i + 1) items))) run'
+  other_turn with_run after run' keeps own none ranges step =
       record {
-        same = next ∙ collecting.same;
-        keeps = λ base has. step'.keeps base (keeps base (collecting.keeps base has));
-        kept = step'.kept;
+        keeps = λ base has. step.keeps base (keeps base (collecting.keeps base has));
+        kept = step.kept;
         ranges = ranges;
         running = record {
           each = λ stand are named respect.
-              let with = fewer_respected stand with_run.bases.items after.bases.items step'.keeps are in
+              let with = fewer_respected stand with_run.bases.items after.bases.items step.keeps are in
               let was = here.each stand (fewer_respected stand between.bases.items with_run.bases.items keeps with) named respect in
               let value = value_of_part files named was.0 (part_tree p) in (
                 value,
                 was.1,
                 subst (λ r. IfSome value (FollowsRun files stand r)) (sym none)
-                    (follows_none files stand value (step'.covers stand are named respect was.0
+                    (follows_none files stand value (step.covers stand are named respect was.0
                     (run_respects files stand run own.base with_run.bases.items with own.own own.same was.0 was.2))),
               );
         };
       }
 
 -- the end of the loop, behind which the set of the last run is collected
-pub set_ends : (files now : List File) (start between after : Collection) (s : SetExpr) (items : List SetPart) (i : ℕ) (run : List Range) →
+pub set_ends : (files : List File) (start between after : Collection) (s : SetExpr) (items : List SetPart) (i : ℕ) (run : List Range) →
     items ≡ parts_in s → length items ≤ i →
-    IsCollectingSet files now start between (parts_of (map part_tree items)) (parts_of (map part_tree (drop i items))) run →
+    IsCollectingSet files start between (parts_of (map part_tree items)) (parts_of (map part_tree (drop i items))) run →
     ((base : List Range) → Contains between.bases.items base → Contains after.bases.items base) → HasSame after.bases.items run →
     (IsCollection files between → IsCollection files after) → CollectsSet files start after (set_tree s)
-set_ends files now start between after s items i run of all collecting keeps own kept =
+set_ends files start between after s items i run of all collecting keeps own kept =
     let done = subst (λ xs. IsRunning files between.bases.items (parts_of (map part_tree items)) (parts_of (map part_tree xs)) run) (drop_all i items all)
     collecting.running in
     let whole = subst (λ xs. IsRunning files between.bases.items (parts_of (map part_tree xs)) no_parts run) of done in

@@ -26,7 +26,7 @@ use Rattle.rbbi_resolve.specs.Expressions.{height_of_expr, set_of_variable, set_
 use Rattle.rbbi_resolve.specs.Parts.{Part, Outside, Within, parts_of_set, parts_of_parts, parts_of_part, parts_in_item, parts_of_expr, parts_of_seq}
 use Rattle.rbbi_resolve.specs.Parts.{parts_of_item, parts_in_atom}
 use Rattle.rbbi_resolve.specs.Faults.{faults_where, faults_of_part, faults_of_parts, is_undefined, is_expression, is_not_a_set, is_unknown_property}
-use Rattle.rbbi_resolve.specs.Faults.{is_bad_range, is_empty_set, is_bare_literal, place_of_part}
+use Rattle.rbbi_resolve.specs.Faults.{is_bad_range, is_empty_set, place_of_part}
 use Rattle.rbbi_resolve.specs.inner.Soundness.{IsFull, IsSound, AreSound}
 use Rattle.rbbi_resolve.proofs.Noting.{faults_of_append}
 

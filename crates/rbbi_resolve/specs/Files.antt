@@ -1,6 +1,6 @@
 -- The faults and the active rules of a rule file.
 use Rattle.std.specs.Prelude.{ℕ, Bool, true, false, not, ◌&&◌, ◌||◌, max, Option, Some, None, option_map, is_some, List, [], ◌∷◌, ◌++◌}
-use Rattle.std.specs.Prelude.{fold, take, codes, bytes_eq, encode_utf8_all, if◌then◌else◌}
+use Rattle.std.specs.Prelude.{codes, bytes_eq, encode_utf8_all, if◌then◌else◌}
 use Rattle.std.specs.Option.{option_map_or}
 use Rattle.rbbi_props.specs.Rows.{File}
 use Rattle.rbbi_tree.specs.Trees.{ExprTree, StatementTree, nothing, control, assign, rule}

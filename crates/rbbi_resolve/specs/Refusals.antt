@@ -1,5 +1,5 @@
 -- Why a rule file is refused.
-use Rattle.std.specs.Prelude.{◌≡◌, ℕ, ◌≤◌, ◌⊎◌, Bool, false, Option, Some, None, List, [], codes, Contains}
+use Rattle.std.specs.Prelude.{◌≡◌, ℕ, ◌⊎◌, Bool, false, Option, Some, None, List, [], codes, Contains}
 use Rattle.std.specs.List.{AllByRecursion}
 use Rattle.rbbi_resolve.specs.declared.fault.Fault.{Fault}
 use Rattle.rbbi_resolve.specs.declared.fault.FaultKind.{FaultKind}

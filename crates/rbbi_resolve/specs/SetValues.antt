@@ -1,10 +1,8 @@
 -- The values of the set expressions of a rule file.
-use Rattle.std.specs.Prelude.{ℕ, ◌↔◌, Bool, true, false, nat_le, IsTrue, Option, Some, None, option_map, is_some, List, encode_utf8_all}
+use Rattle.std.specs.Prelude.{ℕ, Bool, true, false, nat_le, IsTrue, Option, Some, None, option_map, is_some, List, encode_utf8_all}
 use Rattle.std.specs.Prelude.{if◌then◌else◌}
 use Rattle.rbbi_model.specs.Words.{IsCodePoint}
-use Rattle.rbbi_model.specs.Ranges.{Range, Has}
 use Rattle.rbbi_model.specs.SetTrees as model
-use Rattle.rbbi_sets.specs.Rising.{AreRising}
 use Rattle.rbbi_props.specs.Rows.{File}
 use Rattle.rbbi_props.specs.Lookups.{lookup}
 use Rattle.rbbi_tree.specs.Trees.{SetSyntax, PartsTree, PartTree, SetItemTree, set_of, no_parts, part, joined, set_character, set_range, set_name, set_property}

@@ -5,8 +5,6 @@ pub mod Files
 pub mod Countings
 pub mod Summaries
 pub mod Contexts
-pub mod Definitions
-pub mod LoneSets
 pub mod Switchings
 pub mod RuleSums
 pub mod Readings

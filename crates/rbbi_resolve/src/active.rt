@@ -1,58 +1,51 @@
 //! The active rules of a file without faults, with their trees.
-ghost use Rattle.std.specs.Prelude.{◌≡◌, ◌+◌, ◌<◌, ◌&&◌, not, ℕ, [], None, IfOk, OnOk, length};
-ghost use Rattle.std.specs.Prelude.{option_map};
+ghost use Rattle.std.specs.Prelude.{◌≡◌, ◌+◌, ◌<◌, ◌&&◌, not, ℕ, [], None, IfOk, OnOk};
+ghost use Rattle.std.specs.Prelude.{length, option_map};
 ghost use Rattle.rbbi_model.specs.Rules.{AreLawful};
-ghost use Rattle.rbbi_tree.specs.Values.{statement_trees, expr_tree, rest_tree};
+ghost use Rattle.rbbi_tree.specs.Values.{statement_trees, rest_tree};
 ghost use Rattle.rbbi_tree.specs.WellMade.{AreWellMade};
 ghost use Rattle.rbbi_resolve.specs.Expressions.{meaning_of_expr};
-ghost use Rattle.rbbi_resolve.specs.Files.{faults_of, faults_of_rest, active_rules};
+ghost use Rattle.rbbi_resolve.specs.Files.{faults_of, active_rules};
 ghost use Rattle.rbbi_resolve.specs.Counts.{size_fault};
-ghost use Rattle.rbbi_resolve.specs.inner.Contexts.{context_of, sets_of, stand_of};
-ghost use Rattle.rbbi_resolve.specs.inner.Covered.{AreCovered, parts_of_rest};
-ghost use Rattle.rbbi_resolve.specs.inner.Builders.{IsBuilder, IsReady, Extends};
+ghost use Rattle.rbbi_resolve.specs.inner.Contexts.{context_of, files_of, sets_of};
+ghost use Rattle.rbbi_resolve.specs.inner.OwnLeaves.{leaves_of_rest};
+ghost use Rattle.rbbi_resolve.specs.inner.Builders.{IsBuilder, IsReady, Extends, StandFrom};
 ghost use Rattle.rbbi_resolve.specs.inner.RulesSoFar.{IsRestBuilt, AreRulesTo, AreAllRules};
 ghost use Rattle.rbbi_resolve.specs.RuleLists.{rules_of};
-ghost use Rattle.rbbi_resolve.specs.inner.Readings.{IsReading};
+ghost use Rattle.rbbi_resolve.specs.inner.Readings.{IsReading, HasLeaves};
 ghost use Rattle.rbbi_resolve.specs.Outcomes.{Means};
 
-use crate::build::Builder;
+use crate::build::{Builder, FileLeaves};
 use crate::classes::Classes;
 use crate::context::Context;
 use crate::file::Reading;
-use crate::properties::Properties;
 use crate::rules::{Rule, Rules, SetList, Tree};
 use crate::switches::Switches;
-use rbbi_tree::{Expr, Statement, Statements};
+use rbbi_tree::{Expr, Statement};
 use std::alloc::{AllocError, Global};
 
-/// The tree of a rest, if there is one.
+/// The tree of a rest, if there is one, whose leaves have the numbers from `next` on.
 fn tree_of_rest(
     alloc: Global,
     context: &Context,
+    leaves: &FileLeaves,
     builder: &mut Builder,
+    next: &mut usize,
     rest: &Option<Expr>,
 ) -> Result<Option<Tree>, AllocError>
-    requires ready { IsReady builder.old.properties context.now }
-    requires builder { IsBuilder builder.old.properties (statement_trees context.now.statements.now)
-        (sets_of context.now builder.old.rows.items) builder.old.bases.items }
-    requires faultless { faults_of_rest (context_of builder.old.properties context.now)
-        (rest_tree rest.now) ≡ [] }
-    requires covered { AreCovered builder.old.properties (stand_of context.now)
-        (parts_of_rest (rest_tree rest.now)) }
-    ensures on { OnOk result (Extends builder.old.properties
-        (statement_trees context.now.statements.now)
-        (sets_of context.now builder.old.rows.items) (sets_of context.now builder.new.rows.items)
-        builder.new.bases.items) }
-    ensures built { IfOk result (IsRestBuilt builder.old.properties
+    requires ready { IsReady context.now leaves.now }
+    requires builder { IsBuilder context.now leaves.now builder.old }
+    requires stand { StandFrom context.now leaves.now next.old
+        (leaves_of_rest (context_of context.now) (rest_tree rest.now)) }
+    ensures on { OnOk result (Extends context.now leaves.now builder.old builder.new) }
+    ensures built { IfOk result (IsRestBuilt (files_of context.now)
         (length (sets_of context.now builder.old.rows.items))
         (sets_of context.now builder.new.rows.items)
-        (option_map (meaning_of_expr (context_of builder.old.properties context.now))
-        (rest_tree rest.now))) }
-    ensures same { builder.new.properties ≡ builder.old.properties }
+        (option_map (meaning_of_expr (context_of context.now)) (rest_tree rest.now))) }
 {
     match rest {
         Some(rest) => {
-            let tree = builder.tree(alloc, context, rest)?;
+            let tree = builder.tree_of_expr(alloc, context, leaves, next, rest)?;
             Ok(Some(tree))
         }
         None => Ok(None),
@@ -63,21 +56,17 @@ fn tree_of_rest(
 fn add_statement(
     alloc: Global,
     context: &Context,
+    leaves: &FileLeaves,
     builder: &mut Builder,
     switches: &mut Switches,
     rules: &mut Vec<Rule>,
 ) -> Result<(), AllocError>
-    requires ready { IsReady builder.old.properties context.now }
-    requires rules { AreRulesTo builder.old.properties
-        (statement_trees context.now.statements.now) (sets_of context.now builder.old.rows.items)
-        builder.old.bases.items switches.old rules.old.items context.now.limit }
+    requires ready { IsReady context.now leaves.now }
+    requires rules { AreRulesTo context.now leaves.now builder.old switches.old rules.old.items
+        context.now.limit }
     requires inside { context.now.limit < length context.now.statements.now }
-    ensures added { OnOk result (AreRulesTo builder.old.properties
-        (statement_trees context.now.statements.now)
-        (sets_of context.now builder.new.rows.items)
-        builder.new.bases.items switches.new rules.new.items
-        (context.now.limit + 1)) }
-    ensures same { builder.new.properties ≡ builder.old.properties }
+    ensures { OnOk result (AreRulesTo context.now leaves.now builder.new switches.new
+        rules.new.items (context.now.limit + 1)) }
 {
     match context.statements.get(context.limit) {
         Statement::Nothing => Ok(()),
@@ -97,8 +86,9 @@ fn add_statement(
             if !switches.active {
                 return Ok(());
             }
-            let front = builder.tree(alloc, context, front)?;
-            let rest = tree_of_rest(alloc, context, builder, rest)?;
+            let mut next = leaves.firsts[context.limit];
+            let front = builder.tree_of_expr(alloc, context, leaves, &mut next, front)?;
+            let rest = tree_of_rest(alloc, context, leaves, builder, &mut next, rest)?;
             let chained_into = is_chained(switches, *no_chain_in);
             rules.push(Rule {
                 front,
@@ -116,14 +106,14 @@ fn add_statement(
 fn rules_with_trees(
     alloc: Global,
     context: &Context,
+    leaves: &FileLeaves,
     builder: &mut Builder,
 ) -> Result<Vec<Rule>, AllocError>
-    requires ready { IsReady builder.old.properties context.now }
-    requires builder { IsBuilder builder.old.properties (statement_trees context.now.statements.now)
-        (sets_of context.now builder.old.rows.items) builder.old.bases.items }
-    requires empty { (sets_of context.now builder.old.rows.items) ≡ [] }
+    requires ready { IsReady context.now leaves.now }
+    requires builder { IsBuilder context.now leaves.now builder.old }
+    requires empty { builder.old.rows.items ≡ [] }
     requires all { context.now.limit ≡ length context.now.statements.now }
-    ensures built { IfOk result (λ rules. AreAllRules builder.old.properties
+    ensures { IfOk result (λ rules. AreAllRules (files_of context.now)
         (statement_trees context.now.statements.now)
         (sets_of context.now builder.new.rows.items) rules.items) }
 {
@@ -131,13 +121,10 @@ fn rules_with_trees(
     let mut rules = Vec::new(alloc);
     for number in 0..context.limit {
         let inner = Context {
-            statements: context.statements,
-            variables: context.variables,
-            classes: context.classes,
             limit: number,
-            quoted_only: context.quoted_only,
+            ..*context
         };
-        add_statement(alloc, &inner, builder, &mut switches, &mut rules)?;
+        add_statement(alloc, &inner, leaves, builder, &mut switches, &mut rules)?;
     }
     Ok(rules)
 }
@@ -145,59 +132,45 @@ fn rules_with_trees(
 /// The rules of a file that was read and has no fault.
 pub(crate) fn build_rules(alloc: Global, reading: Reading) -> Result<Rules, AllocError>
     requires reading { IsReading reading (length reading.statements.now) }
+    requires leaves { HasLeaves reading (length reading.statements.now) }
     requires well_made { AreWellMade (statement_trees reading.statements.now) }
-    requires faultless { faults_of reading.properties reading.dictionary_ignored
+    requires faultless { faults_of reading.table.now reading.dictionary_ignored
         (statement_trees reading.statements.now) ≡ [] }
-    requires few { (end : ℕ) × (size_fault end (active_rules reading.properties
+    requires few { (end : ℕ) × (size_fault end (active_rules reading.table.now
         (statement_trees reading.statements.now)) ≡ None) }
-    ensures means { IfOk result (λ rules. Means reading.entry.properties
+    ensures means { IfOk result (λ rules. Means reading.entry.table.now
         reading.entry.dictionary_ignored
         (statement_trees reading.entry.statements.now) (rules_of rules)) }
     ensures lawful { IfOk result (λ rules. AreLawful (rules_of rules)) }
 {
     let Reading {
         statements,
-        properties,
+        table,
         variables,
         classes,
+        leaves,
+        firsts,
         counts,
         ..
     } = reading;
     let context = Context {
+        table,
         statements,
         variables: &variables,
         classes: &classes,
         limit: statements.len(),
         quoted_only: false,
     };
-    let mut builder = new_builder(alloc, statements, properties)?;
-    let rules = rules_with_trees(alloc, &context, &mut builder)?;
+    let leaves = FileLeaves {
+        rows: leaves.rows,
+        firsts,
+    };
+    let mut builder = Builder::new(alloc, &leaves)?;
+    let rules = rules_with_trees(alloc, &context, &leaves, &mut builder)?;
     let Builder { rows, .. } = builder;
     let Classes { division, .. } = classes;
     let sets = SetList::of_rows(alloc, division, rows)?;
     Ok(Rules::new(rules, sets, counts.leaves.sum, counts.slashes.sum))
-}
-
-/// A builder before the first rule.
-fn new_builder<'a>(
-    alloc: Global,
-    statements: &Statements,
-    properties: Properties<'a>,
-) -> Result<Builder<'a>, AllocError>
-    ensures builder { IfOk result (λ builder. IsBuilder properties.entry
-        (statement_trees statements.now) [] builder.bases.items) }
-    ensures empty { IfOk result (λ builder. builder.rows.items ≡ []) }
-    ensures same { IfOk result (λ builder. builder.properties ≡ properties.entry) }
-{
-    let mut bases = Vec::new(alloc);
-    for _ in 0..statements.len() {
-        bases.push(None)?;
-    }
-    Ok(Builder {
-        properties,
-        rows: Vec::new(alloc),
-        bases,
-    })
 }
 
 /// Whether a rule may be chained into.

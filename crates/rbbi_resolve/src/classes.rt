@@ -15,10 +15,11 @@ ghost use Rattle.rbbi_classes.specs.Divisions.{stand_in};
 use crate::collect::collect_statement;
 use crate::collection::Collection;
 use crate::division::{Divided, divide_once};
-use crate::properties::{Answer, Properties};
+use crate::properties::Answer;
 use crate::question::Question;
 use indexmap::IndexMap;
 use rbbi_classes::{ClassSet, Division, Layout};
+use rbbi_props::PropTable;
 use rbbi_text::Word;
 use rbbi_tree::Statements;
 use std::alloc::{AllocError, Global};
@@ -37,7 +38,7 @@ pub(crate) struct PropertyClasses {
 #[derive(Drop)]
 pub(crate) struct Classes {
     pub(crate) division: Rc<Division>,
-    /// The sets of the file's properties, by the keys of `Properties`.
+    /// The sets of the file's properties, by the keys of properties.
     pub(crate) sets: IndexMap<String, PropertyClasses>,
 }
 
@@ -45,18 +46,17 @@ impl Classes {
     /// The partition for the statements of a rule file.
     pub(crate) fn of(
         alloc: Global,
-        properties: &mut Properties,
+        table: &PropTable,
         statements: &Statements,
     ) -> Result<Classes, AllocError>
-        ensures classes { IfOk result (AreRightClasses properties.old) }
+        ensures classes { IfOk result (AreRightClasses table.now) }
         ensures covers { IfOk result (λ classes.
-            CoversAll properties.old (stand_in (rc_value classes.division))
+            CoversAll table.now (stand_in (rc_value classes.division))
             (statement_trees statements.now)) }
-        ensures same { properties.new ≡ properties.old }
     {
         let mut collection = Collection::new(alloc)?;
         for number in 0..statements.len() {
-            collect_statement(alloc, properties, &mut collection, statements.get(number))?;
+            collect_statement(alloc, table, &mut collection, statements.get(number))?;
         }
         let Collection { bases, answers, .. } = collection;
         let division = Division::new(alloc, &bases)?;

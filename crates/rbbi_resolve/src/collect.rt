@@ -10,7 +10,7 @@ ghost use Rattle.rbbi_resolve.specs.inner.Covered.{parts_of_statement};
 ghost use Rattle.rbbi_resolve.specs.inner.LiteralRuns.{IsLiteral};
 
 use crate::collection::Collection;
-use crate::properties::Properties;
+use rbbi_props::PropTable;
 use rbbi_sets::CodeRange;
 use rbbi_tree::{Atom, Expr, Item, Join, Seq, SetExpr, SetItem, SetPart, Statement};
 use std::alloc::{AllocError, Global};
@@ -18,26 +18,25 @@ use std::alloc::{AllocError, Global};
 /// Collects the sets of which those of a statement are made, and looks its properties up.
 pub(crate) fn collect_statement(
     alloc: Global,
-    properties: &mut Properties,
+    table: &PropTable,
     collection: &mut Collection,
     statement: &Statement,
 ) -> Result<(), AllocError>
-    requires { IsCollection properties.old collection.old }
-    ensures collected { OnOk result (Collects properties.old collection.old collection.new
+    requires { IsCollection table.now collection.old }
+    ensures { OnOk result (Collects table.now collection.old collection.new
         (parts_of_statement (statement_tree statement.now))) }
-    ensures same { properties.new ≡ properties.old }
 {
     match statement {
         Statement::Nothing => Ok(()),
         Statement::Control { .. } => Ok(()),
         Statement::Assign { expr, .. } => {
-            collect_expr(alloc, properties, collection, expr)?;
+            collect_expr(alloc, table, collection, expr)?;
             Ok(())
         }
         Statement::Rule { front, rest, .. } => {
-            collect_expr(alloc, properties, collection, front)?;
+            collect_expr(alloc, table, collection, front)?;
             if let Some(rest) = rest {
-                collect_expr(alloc, properties, collection, rest)?;
+                collect_expr(alloc, table, collection, rest)?;
             }
             Ok(())
         }
@@ -48,17 +47,16 @@ pub(crate) fn collect_statement(
 #[cycle(collect)]
 fn collect_expr(
     alloc: Global,
-    properties: &mut Properties,
+    table: &PropTable,
     collection: &mut Collection,
     expr: &Expr,
 ) -> Result<(), AllocError>
-    requires { IsCollection properties.old collection.old }
-    ensures collected { OnOk result (Collects properties.old collection.old collection.new
+    requires { IsCollection table.now collection.old }
+    ensures { OnOk result (Collects table.now collection.old collection.new
         (parts_of_expr (expr_tree expr.now))) }
-    ensures same { properties.new ≡ properties.old }
 {
     for seq in &expr.items {
-        collect_seq(alloc, properties, collection, seq)?;
+        collect_seq(alloc, table, collection, seq)?;
     }
     Ok(())
 }
@@ -67,17 +65,16 @@ fn collect_expr(
 #[cycle(collect)]
 fn collect_seq(
     alloc: Global,
-    properties: &mut Properties,
+    table: &PropTable,
     collection: &mut Collection,
     seq: &Seq,
 ) -> Result<(), AllocError>
-    requires { IsCollection properties.old collection.old }
-    ensures collected { OnOk result (Collects properties.old collection.old collection.new
+    requires { IsCollection table.now collection.old }
+    ensures { OnOk result (Collects table.now collection.old collection.new
         (parts_of_seq (seq_tree seq.now))) }
-    ensures same { properties.new ≡ properties.old }
 {
     for item in &seq.items {
-        collect_item(alloc, properties, collection, item)?;
+        collect_item(alloc, table, collection, item)?;
     }
     Ok(())
 }
@@ -86,14 +83,13 @@ fn collect_seq(
 #[cycle(collect)]
 fn collect_item(
     alloc: Global,
-    properties: &mut Properties,
+    table: &PropTable,
     collection: &mut Collection,
     item: &Item,
 ) -> Result<(), AllocError>
-    requires { IsCollection properties.old collection.old }
-    ensures collected { OnOk result (Collects properties.old collection.old collection.new
+    requires { IsCollection table.now collection.old }
+    ensures { OnOk result (Collects table.now collection.old collection.new
         (parts_of_item (item_tree item.now))) }
-    ensures same { properties.new ≡ properties.old }
 {
     match &item.atom {
         Atom::Char { c, .. } => {
@@ -111,15 +107,15 @@ fn collect_item(
             name,
             value,
         } => {
-            collection.add_property(alloc, properties, *negated, name, value)?;
+            collection.add_property(alloc, table, *negated, name, value)?;
             Ok(())
         }
         Atom::Set(set) => {
-            collect_set(alloc, properties, collection, set)?;
+            collect_set(alloc, table, collection, set)?;
             Ok(())
         }
         Atom::Group(inner) => {
-            collect_expr(alloc, properties, collection, inner)?;
+            collect_expr(alloc, table, collection, inner)?;
             Ok(())
         }
     }
@@ -130,14 +126,13 @@ fn collect_item(
 #[cycle(collect_sets)]
 fn collect_set(
     alloc: Global,
-    properties: &mut Properties,
+    table: &PropTable,
     collection: &mut Collection,
     set: &SetExpr,
 ) -> Result<(), AllocError>
-    requires { IsCollection properties.old collection.old }
-    ensures collected { OnOk result (CollectsSet properties.old collection.old collection.new
+    requires { IsCollection table.now collection.old }
+    ensures { OnOk result (CollectsSet table.now collection.old collection.new
         (set_tree set.now)) }
-    ensures same { properties.new ≡ properties.old }
 {
     let mut run = Vec::new(alloc);
     for part in &set.parts.items {
@@ -146,7 +141,7 @@ fn collect_set(
         } else {
             collection.add_run(alloc, run)?;
             run = Vec::new(alloc);
-            collect_part(alloc, properties, collection, part)?;
+            collect_part(alloc, table, collection, part)?;
         }
     }
     collection.add_run(alloc, run)?;
@@ -185,14 +180,13 @@ fn range_of(first: char, last: char) -> Option<CodeRange>
 #[cycle(collect_sets)]
 fn collect_part(
     alloc: Global,
-    properties: &mut Properties,
+    table: &PropTable,
     collection: &mut Collection,
     part: &SetPart,
 ) -> Result<(), AllocError>
-    requires { IsCollection properties.old collection.old }
-    ensures collected { OnOk result (CollectsPart properties.old collection.old collection.new
+    requires { IsCollection table.now collection.old }
+    ensures { OnOk result (CollectsPart table.now collection.old collection.new
         (part_tree part.now)) }
-    ensures same { properties.new ≡ properties.old }
 {
     match &part.item {
         SetItem::Char(c) => {
@@ -209,11 +203,11 @@ fn collect_part(
             name,
             value,
         } => {
-            collection.add_property(alloc, properties, *negated, name, value)?;
+            collection.add_property(alloc, table, *negated, name, value)?;
             Ok(())
         }
         SetItem::Set(inner) => {
-            collect_set(alloc, properties, collection, inner)?;
+            collect_set(alloc, table, collection, inner)?;
             Ok(())
         }
     }

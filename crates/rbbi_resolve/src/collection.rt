@@ -3,20 +3,21 @@ ghost use Rattle.std.specs.Prelude.{◌≡◌, ◌≤◌, ◌∷◌, [], List, I
 ghost use Rattle.std.specs.Prelude.{OnOk};
 ghost use Rattle.std.specs.HashMap.{values};
 ghost use Rattle.std.specs.List.{All, AllByRecursion, Contains};
-ghost use Rattle.std.specs.Rc.{rc_value};
 ghost use Rattle.rbbi_model.specs.Ranges.{Range};
 ghost use Rattle.rbbi_props.specs.Rows.{File};
 ghost use Rattle.rbbi_sets.specs.Rising.{IsRange};
 ghost use Rattle.rbbi_resolve.specs.inner.Covered.{HasBase, HasSame, HasSingle, IsBasedAnswer};
 ghost use Rattle.rbbi_resolve.specs.inner.Covered.{AreSingled, IsCollection};
 
-use crate::properties::{Answer, Properties, answer_of};
+use crate::properties::{Answer, answer_of, find, keep_once};
 use crate::question::key_of;
 use indexmap::IndexMap;
 use rbbi_bits::{has, insert};
+use rbbi_props::PropTable;
 use rbbi_sets::{CodeRange, CodeSet};
 use rbbi_text::Word;
 use std::alloc::{AllocError, Global};
+use std::rc::Rc;
 
 /// The words of a row of bits for all code points.
 const CHARACTER_WORDS: usize = 0x11_0000 / 64;
@@ -29,8 +30,11 @@ pub(crate) struct Collection {
     pub(crate) bases: Vec<CodeSet>,
     /// The characters whose sets are among `bases`, as a row of bits.
     pub(crate) characters: Vec<u64>,
-    /// What was found for each property, by the keys of `Properties`.
+    /// What was found for each property, by a text that all spellings of it share.
     pub(crate) answers: IndexMap<String, Answer>,
+    /// What was found, by a hash, since properties of many names may be the same. Of sets with one
+    /// hash the last one is here.
+    sets: IndexMap<u64, Rc<Option<CodeSet>>>,
 }
 
 impl Collection {
@@ -42,6 +46,7 @@ impl Collection {
             bases: Vec::new(alloc),
             characters: vec![in alloc; 0; CHARACTER_WORDS]?,
             answers: IndexMap::new(alloc),
+            sets: IndexMap::new(alloc),
         })
     }
 
@@ -119,24 +124,24 @@ impl Collection {
     pub(crate) fn add_property(
         &mut self,
         alloc: Global,
-        properties: &mut Properties,
+        table: &PropTable,
         negated: bool,
         name: &Word,
         value: &Option<Word>,
     ) -> Result<(), AllocError>
-        requires { IsCollection properties.old self.old }
+        requires { IsCollection table.now self.old }
         ensures keeps { OnOk result ((base : List Range) → Contains self.old.bases.items base
             → Contains self.new.bases.items base) }
-        ensures based { OnOk result (HasBase properties.old self.new.bases.items
+        ensures based { OnOk result (HasBase table.now self.new.bases.items
             negated name.now value.now) }
-        ensures kept { OnOk result (IsCollection properties.old self.new) }
-        ensures same { properties.new ≡ properties.old }
+        ensures kept { OnOk result (IsCollection table.now self.new) }
     {
         let key = key_of(alloc, negated, name, value)?;
         if knows(&self.answers, key.as_str(), negated, name, value) {
             return Ok(());
         }
-        let set = properties.set_of(alloc, negated, name, value)?;
+        let found = find(alloc, table, negated, name, value)?;
+        let set = keep_once(alloc, &mut self.sets, found)?;
         self.add_set(set.as_ref())?;
         let answer = answer_of(alloc, negated, name, value, set)?;
         self.answers.insert(key, answer)?;

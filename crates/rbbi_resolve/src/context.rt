@@ -7,6 +7,7 @@ ghost use Rattle.rbbi_resolve.specs.inner.Contexts.{bounds_of, visible};
 use crate::classes::Classes;
 use crate::variables::{Variable, Variables};
 use rbbi_classes::Layout;
+use rbbi_props::PropTable;
 use rbbi_text::Word;
 use rbbi_tree::Statements;
 
@@ -14,6 +15,8 @@ use rbbi_tree::Statements;
 /// use, and the controls.
 #[derive(Clone, Copy)]
 pub(crate) struct Context<'a> {
+    /// The property files.
+    pub(crate) table: &'a PropTable,
     pub(crate) statements: &'a Statements,
     pub(crate) variables: &'a Variables,
     pub(crate) classes: &'a Classes,

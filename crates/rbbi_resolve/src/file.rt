@@ -3,17 +3,18 @@ ghost use Rattle.std.specs.Prelude.{◌≡◌, ◌+◌, ◌<◌, ◌&&◌, not, 
 ghost use Rattle.std.specs.Prelude.{encode_utf8_all, bytes_eq, codes};
 ghost use Rattle.rbbi_tree.specs.Trees as trees;
 ghost use Rattle.rbbi_tree.specs.Values.{statement_trees, expr_tree, rest_tree};
-ghost use Rattle.rbbi_resolve.specs.inner.Readings.{IsReading, ReadsOn};
+ghost use Rattle.rbbi_resolve.specs.inner.Readings.{IsReading, HasLeaves, HasBegun, ReadsOn};
 
 use crate::classes::Classes;
 use crate::context::Context;
 use crate::counts::Counts;
 use crate::definition::check_definition;
 use crate::fault::{Fault, FaultKind, note_where};
-use crate::properties::Properties;
+use crate::leaves::Leaves;
 use crate::rule::check_rule;
 use crate::switches::{Switches, is_unknown, is_unsupported};
 use crate::variables::{Variable, Variables};
+use rbbi_props::PropTable;
 use rbbi_text::Word;
 use rbbi_tree::{Expr, Statement, Statements};
 use std::alloc::{AllocError, Global};
@@ -22,8 +23,13 @@ use std::alloc::{AllocError, Global};
 #[derive(Drop)]
 pub(crate) struct Reading<'a> {
     pub(crate) statements: &'a Statements,
-    pub(crate) properties: Properties<'a>,
+    /// The property files.
+    pub(crate) table: &'a PropTable,
     pub(crate) classes: Classes,
+    /// The leaves of the statements so far.
+    pub(crate) leaves: Leaves,
+    /// For each of these statements the number of its first leaf.
+    pub(crate) firsts: Vec<usize>,
     /// Whether an assignment to `$dictionary` is read as any other.
     pub(crate) dictionary_ignored: bool,
     pub(crate) variables: Variables,
@@ -38,9 +44,11 @@ impl<'a> Reading<'a> {
     pub(crate) fn read(&mut self, alloc: Global, number: usize) -> Result<(), AllocError>
         requires inside { number < length self.old.statements.now }
         requires reading { IsReading self.old number }
+        requires leaves { HasLeaves self.old number }
         ensures { OnOk result (ReadsOn self.old self.new (number + 1)) }
     {
         let statements = self.statements;
+        self.firsts.push(self.leaves.rows.len())?;
         match statements.get(number) {
             Statement::Nothing => Ok(()),
             Statement::Control { name, place } => {
@@ -75,6 +83,7 @@ impl<'a> Reading<'a> {
         requires at { slice_get (statement_trees self.old.statements.now) number ≡ Some
             (trees.control name.now place) }
         requires reading { IsReading self.old number }
+        requires leaves { HasBegun self.old number }
         ensures { ReadsOn self.old self.new (number + 1) }
     {
         let _number = number;
@@ -106,9 +115,11 @@ impl<'a> Reading<'a> {
         requires at { slice_get (statement_trees self.old.statements.now) number
             ≡ Some (trees.assign name.now place (expr_tree expr.now)) }
         requires reading { IsReading self.old number }
+        requires leaves { HasBegun self.old number }
         ensures { OnOk result (ReadsOn self.old self.new (number + 1)) }
     {
         let context = Context {
+            table: self.table,
             statements: self.statements,
             variables: &self.variables,
             classes: &self.classes,
@@ -119,7 +130,7 @@ impl<'a> Reading<'a> {
         let is_assigned = context.variable(name).is_some();
         note_where(&mut self.least, is_dictionary, place, FaultKind::Dictionary);
         note_where(&mut self.least, is_assigned, place, FaultKind::Redefined);
-        let kind = check_definition(alloc, &context, &mut self.properties, &mut self.least, expr)?;
+        let kind = check_definition(alloc, &context, &mut self.least, &mut self.leaves, expr)?;
         if is_assigned {
             return Ok(());
         }
@@ -150,9 +161,11 @@ impl<'a> Reading<'a> {
             ≡ Some (trees.rule place no_chain_in
             (expr_tree front.now) slash (rest_tree rest.now) tag) }
         requires reading { IsReading self.old number }
+        requires leaves { HasBegun self.old number }
         ensures { OnOk result (ReadsOn self.old self.new (number + 1)) }
     {
         let context = Context {
+            table: self.table,
             statements: self.statements,
             variables: &self.variables,
             classes: &self.classes,
@@ -162,8 +175,8 @@ impl<'a> Reading<'a> {
         let whole = check_rule(
             alloc,
             &context,
-            &mut self.properties,
             &mut self.least,
+            &mut self.leaves,
             front,
             slash,
             rest,

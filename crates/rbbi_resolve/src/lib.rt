@@ -18,7 +18,6 @@ mod file;
 mod laws;
 mod leaves;
 mod outcome;
-mod own_leaves;
 mod properties;
 mod question;
 mod rule;

@@ -6,14 +6,14 @@ ghost use Rattle.rbbi_tree.specs.WellMade.{AreWellMade};
 ghost use Rattle.rbbi_resolve.specs.RuleLists.{rules_of};
 ghost use Rattle.rbbi_resolve.specs.Outcomes.{Means};
 ghost use Rattle.rbbi_resolve.specs.Refusals.{IsRefusedFor};
-ghost use Rattle.rbbi_resolve.specs.inner.Readings.{IsReading};
+ghost use Rattle.rbbi_resolve.specs.inner.Readings.{IsReading, HasLeaves};
 
 use crate::active::build_rules;
 use crate::classes::Classes;
 use crate::counts::Counts;
 use crate::error::{ResolveErr, refusal};
 use crate::file::Reading;
-use crate::properties::Properties;
+use crate::leaves::Leaves;
 use crate::rules::Rules;
 use crate::switches::Switches;
 use indexmap::IndexMap;
@@ -62,16 +62,18 @@ fn read_all<'a>(
     ignore_dictionary: bool,
 ) -> Result<Reading<'a>, AllocError>
     ensures reading { IfOk result (λ reading. IsReading reading (length statements.now)) }
+    ensures leaves { IfOk result (λ reading. HasLeaves reading (length statements.now)) }
     ensures statements { IfOk result (λ reading. reading.statements.now ≡ statements.now) }
-    ensures properties { IfOk result (λ reading. reading.properties ≡ props.now) }
+    ensures table { IfOk result (λ reading. reading.table.now ≡ props.now) }
     ensures ignored { IfOk result (λ reading. reading.dictionary_ignored ≡ ignore_dictionary) }
 {
-    let mut properties = Properties::new(alloc, props);
-    let classes = Classes::of(alloc, &mut properties, statements)?;
+    let classes = Classes::of(alloc, props, statements)?;
     let mut reading = Reading {
         statements,
-        properties,
+        table: props,
         classes,
+        leaves: Leaves::new(alloc),
+        firsts: Vec::new(alloc),
         dictionary_ignored: ignore_dictionary,
         variables: IndexMap::new(alloc),
         least: None,

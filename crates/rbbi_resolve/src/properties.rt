@@ -1,22 +1,18 @@
-//! The sets of properties, each looked up once.
-ghost use Rattle.std.specs.Prelude.{◌≡◌, List, IfOk, IfSome, OnOk, IsTrue};
+//! The sets of properties.
+ghost use Rattle.std.specs.Prelude.{◌≡◌, List, IfOk, IsTrue};
 ghost use Rattle.std.specs.Rc.{rc_value};
 ghost use Rattle.rbbi_props.specs.Lookups.{IsSetOf};
 ghost use Rattle.rbbi_resolve.specs.inner.SetValues.{IsValue};
 ghost use Rattle.rbbi_resolve.specs.SetValues.{value_of_property, property_test};
 ghost use Rattle.rbbi_resolve.specs.inner.Questions.{IsRightAnswer};
 ghost use Rattle.rbbi_props.specs.Rows.{File};
-ghost use Rattle.std.specs.HashMap.{values};
-ghost use Rattle.std.specs.List.{All};
 
-use crate::question::{Question, key_of, text_of};
+use crate::question::{Question, text_of};
 use indexmap::IndexMap;
-use rbbi_classes::{ClassSet, ClassShelf};
 use rbbi_props::PropTable;
 use rbbi_sets::CodeSet;
 use rbbi_text::Word;
 use std::alloc::{AllocError, Global};
-use std::marker::Model;
 use std::rc::Rc;
 
 /// A property that was asked for, and what was found.
@@ -24,117 +20,6 @@ use std::rc::Rc;
 pub(crate) struct Answer {
     pub(crate) question: Rc<Question>,
     pub(crate) set: Rc<Option<CodeSet>>,
-}
-
-/// The sets of properties, by a table of property files and the database.
-///
-/// What was found is kept, so that each property is looked up once however often it is written, and
-/// a use of it copies a pointer.
-#[derive(Drop)]
-pub(crate) struct Properties<'a> {
-    table: &'a PropTable,
-    /// What was found for each property so far, by a text that all spellings of it share.
-    answers: IndexMap<String, Answer>,
-    /// What was found, by a hash, since properties of many names may be the same. Of sets with one
-    /// hash the last one is here.
-    sets: IndexMap<u64, Rc<Option<CodeSet>>>,
-    /// The chunks of the sets of variables.
-    shelf: ClassShelf,
-}
-
-impl<'a> Model for Properties<'a> {
-    ghost use Rattle.std.specs.Prelude.{List};
-    ghost use Rattle.rbbi_props.specs.Rows.{File};
-
-    ghost Value = { List File };
-
-    ghost use Rattle.std.specs.HashMap.{values};
-    ghost use Rattle.std.specs.List.{All};
-    ghost use Rattle.rbbi_resolve.specs.inner.Questions.{IsRightAnswer};
-
-    ghost view = { λ properties. properties.table.now };
-
-    ghost invariant = { λ properties. All (IsRightAnswer properties.table.now)
-        (values properties.answers) };
-}
-
-impl<'a> Properties<'a> {
-    /// The properties of a table.
-    pub(crate) fn new(alloc: Global, table: &'a PropTable) -> Properties<'a>
-        ensures { result ≡ table.now }
-    {
-        Properties {
-            table,
-            answers: IndexMap::new(alloc),
-            sets: IndexMap::new(alloc),
-            shelf: ClassShelf::new(alloc),
-        }
-    }
-
-    /// The set of a property, and None where it is unknown.
-    pub(crate) fn set_of(
-        &mut self,
-        alloc: Global,
-        negated: bool,
-        name: &Word,
-        value: &Option<Word>,
-    ) -> Result<Rc<Option<CodeSet>>, AllocError>
-        ensures value { IfOk result (λ set. IsValue self.old
-            (value_of_property self.old negated name.now value.now) (rc_value set)) }
-        ensures same { self.new ≡ self.old }
-    {
-        let key = key_of(alloc, negated, name, value)?;
-        if let Some(found) = self.found_before(key.as_str(), negated, name, value)? {
-            return Ok(found);
-        }
-        let found = find(alloc, self.table, negated, name, value)?;
-        let set = keep_once(alloc, &mut self.sets, found)?;
-        let answer = answer_of(alloc, negated, name, value, set.clone()?)?;
-        self.answers.insert(key, answer)?;
-        Ok(set)
-    }
-
-    /// What was found for a property before, if it was asked for under this key.
-    fn found_before(
-        &self,
-        key: &str,
-        negated: bool,
-        name: &Word,
-        value: &Option<Word>,
-    ) -> Result<Option<Rc<Option<CodeSet>>>, AllocError>
-        ensures { IfOk result (λ found. IfSome found (λ set. IsValue self.now
-            (value_of_property self.now negated name.now value.now) (rc_value set))) }
-    {
-        match self.answers.get(key) {
-            Some(answer) => {
-                if answer.question.is_for(negated, name, value) {
-                    let set = answer.set.clone()?;
-                    Ok(Some(set))
-                } else {
-                    Ok(None)
-                }
-            }
-            None => Ok(None),
-        }
-    }
-
-    /// The set of a variable, where it has one, with the chunks that it shares.
-    pub(crate) fn keep(
-        &mut self,
-        alloc: Global,
-        set: &Option<ClassSet>,
-    ) -> Result<Option<ClassSet>, AllocError>
-        ensures value { IfOk result (λ kept. kept ≡ set.now) }
-        ensures same { self.new ≡ self.old }
-    {
-        match set {
-            Some(set) => {
-                let kept = self.shelf.keep(alloc, set)?;
-                Ok(Some(kept))
-            }
-            None => Ok(None),
-        }
-    }
 }
 
 /// The answer for a property with this set.
@@ -162,7 +47,7 @@ pub(crate) fn answer_of(
 }
 
 /// What was found, or what is the same and was found before, by another name.
-fn keep_once(
+pub(crate) fn keep_once(
     alloc: Global,
     sets: &mut IndexMap<u64, Rc<Option<CodeSet>>>,
     found: Option<CodeSet>,
@@ -206,7 +91,7 @@ pub(crate) fn hash_of(set: &Option<CodeSet>) -> u64 {
 }
 
 /// The set of a property by a look-up, and None where it is unknown.
-fn find(
+pub(crate) fn find(
     alloc: Global,
     table: &PropTable,
     negated: bool,

@@ -4,14 +4,16 @@ ghost use Rattle.rbbi_tree.specs.Values.{expr_tree, rest_tree};
 ghost use Rattle.rbbi_resolve.specs.Parts.{parts_of_expr};
 ghost use Rattle.rbbi_resolve.specs.Faults.{noted, faults_of_parts};
 ghost use Rattle.rbbi_resolve.specs.Files.{faults_of_rest, faults_at_slash};
-ghost use Rattle.rbbi_resolve.specs.inner.Contexts.{IsContext, KnowsQuotes, stand_of, context_of};
+ghost use Rattle.rbbi_resolve.specs.inner.Contexts.{IsContext, KnowsQuotes, files_of, stand_of};
+ghost use Rattle.rbbi_resolve.specs.inner.Contexts.{context_of};
 ghost use Rattle.rbbi_resolve.specs.inner.Covered.{AreCovered, parts_of_rest};
+ghost use Rattle.rbbi_resolve.specs.inner.OwnLeaves.{AddsRows, leaves_of_expr, leaves_of_rest};
 ghost use Rattle.rbbi_resolve.specs.inner.RuleSums.{AreSumsOf, faults_where_empty};
 
 use crate::check::check_expr;
 use crate::context::Context;
 use crate::fault::{Fault, FaultKind, note_where};
-use crate::properties::Properties;
+use crate::leaves::Leaves;
 use crate::variables::Summary;
 use rbbi_tree::Expr;
 use std::alloc::{AllocError, Global};
@@ -20,32 +22,34 @@ use std::alloc::{AllocError, Global};
 pub(crate) fn check_rule(
     alloc: Global,
     context: &Context,
-    properties: &mut Properties,
     least: &mut Option<Fault>,
+    leaves: &mut Leaves,
     front: &Expr,
     slash: Option<u32>,
     rest: &Option<Expr>,
 ) -> Result<Summary, AllocError>
-    requires context { IsContext properties.old context.now }
-    requires quotes { KnowsQuotes properties.old context.now }
-    requires front { AreCovered properties.old (stand_of context.now)
+    requires context { IsContext context.now }
+    requires quotes { KnowsQuotes context.now }
+    requires front { AreCovered (files_of context.now) (stand_of context.now)
         (parts_of_expr (expr_tree front.now)) }
-    requires rest { AreCovered properties.old (stand_of context.now)
+    requires rest { AreCovered (files_of context.now) (stand_of context.now)
         (parts_of_rest (rest_tree rest.now)) }
     ensures noted { OnOk result (least.new ≡ noted least.old (
-        faults_of_parts (context_of properties.old context.now) (parts_of_expr (expr_tree
+        faults_of_parts (context_of context.now) (parts_of_expr (expr_tree
         front.now))
-        ++ (faults_of_rest (context_of properties.old context.now) (rest_tree rest.now)
-        ++ faults_at_slash (context_of properties.old context.now) (expr_tree front.now) slash
+        ++ (faults_of_rest (context_of context.now) (rest_tree rest.now)
+        ++ faults_at_slash (context_of context.now) (expr_tree front.now) slash
         (rest_tree rest.now)))) }
-    ensures counts { IfOk result (AreSumsOf (context_of properties.old context.now)
+    ensures counts { IfOk result (AreSumsOf (context_of context.now)
         (expr_tree front.now) (rest_tree rest.now)) }
-    ensures same { properties.new ≡ properties.old }
+    ensures rows { OnOk result (AddsRows context.now (leaves_of_expr (context_of context.now)
+        (expr_tree front.now) ++ leaves_of_rest (context_of context.now) (rest_tree rest.now))
+        leaves.old.rows.items leaves.new.rows.items) }
 {
-    let front_sums = check_expr(alloc, context, properties, least, front)?;
+    let front_sums = check_expr(alloc, context, least, leaves, front)?;
     match rest {
         Some(rest) => {
-            let rest_sums = check_expr(alloc, context, properties, least, rest)?;
+            let rest_sums = check_expr(alloc, context, least, leaves, rest)?;
             note_empty(
                 least,
                 slash,

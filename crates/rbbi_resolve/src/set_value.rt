@@ -14,12 +14,12 @@ ghost use Rattle.rbbi_resolve.specs.Parts.{Within, parts_of_set, parts_of_part};
 ghost use Rattle.rbbi_resolve.specs.declared.fault.FaultKind.TheVariants as kinds;
 ghost use Rattle.rbbi_resolve.specs.Faults.{noted, faults_where};
 ghost use Rattle.rbbi_resolve.specs.inner.Faults.{noted_parts};
-ghost use Rattle.rbbi_resolve.specs.inner.Contexts.{IsContext, bounds_of, context_of};
+ghost use Rattle.rbbi_resolve.specs.inner.Contexts.{IsContext, files_of, bounds_of, context_of};
 
 use crate::context::Context;
 use crate::division::divide;
 use crate::fault::{Fault, FaultKind, note, note_where};
-use crate::properties::Properties;
+use crate::properties::find;
 use crate::question::key_of;
 use crate::variables::Kind;
 use rbbi_classes::{ClassSet, Layout};
@@ -28,26 +28,28 @@ use rbbi_tree::{Join, SetExpr, SetItem};
 use std::alloc::{AllocError, Global};
 
 /// The value of a set; None if a part of it has none. Notes the faults of its parts.
+///
+/// What it calls for a part isn't inlined, so that its frame stays small: 64 open brackets are to
+/// take less than 64 KiB of stack.
 #[cycle(sets)]
 pub(crate) fn value_of_set(
     alloc: Global,
     context: &Context,
-    properties: &mut Properties,
     least: &mut Option<Fault>,
     set: &SetExpr,
 ) -> Result<Option<ClassSet>, AllocError>
-    requires { IsContext properties.old context.now }
-    ensures value { IfOk result (λ value. IsClassValue properties.old (bounds_of context.now)
-        (value_of_set properties.old (value_of_name (context_of properties.old context.now))
+    requires { IsContext context.now }
+    ensures value { IfOk result (λ value. IsClassValue (files_of context.now)
+        (bounds_of context.now)
+        (value_of_set (files_of context.now) (value_of_name (context_of context.now))
         (set_tree set.now)) value) }
     ensures noted { OnOk result (least.new ≡ noted_parts
-        (context_of properties.old context.now) least.old
+        (context_of context.now) least.old
         (parts_of_set (set_tree set.now))) }
-    ensures same { properties.new ≡ properties.old }
 {
     let mut whole = Some(ClassSet::empty(alloc));
     for part in &set.parts.items {
-        let item = value_of_item(alloc, context, properties, least, part.place, &part.item)?;
+        let item = value_of_item(alloc, context, least, part.place, &part.item)?;
         whole = join(alloc, whole, part.join, item)?;
     }
     let value = with_sign(alloc, context.layout(), set.negated, whole)?;
@@ -59,19 +61,18 @@ pub(crate) fn value_of_set(
 fn value_of_item(
     alloc: Global,
     context: &Context,
-    properties: &mut Properties,
     least: &mut Option<Fault>,
     place: u32,
     item: &SetItem,
 ) -> Result<Option<ClassSet>, AllocError>
-    requires { IsContext properties.old context.now }
-    ensures value { IfOk result (λ value. IsClassValue properties.old (bounds_of context.now)
-        (value_of_item properties.old (value_of_name (context_of properties.old context.now))
+    requires { IsContext context.now }
+    ensures value { IfOk result (λ value. IsClassValue (files_of context.now)
+        (bounds_of context.now)
+        (value_of_item (files_of context.now) (value_of_name (context_of context.now))
         (set_item_tree item.now)) value) }
     ensures noted { OnOk result ((join : trees.Join) → least.new ≡ noted_parts
-        (context_of properties.old context.now) least.old
+        (context_of context.now) least.old
         (parts_of_part (joined place join (set_item_tree item.now)))) }
-    ensures same { properties.new ≡ properties.old }
 {
     match item {
         SetItem::Char(c) => {
@@ -89,12 +90,12 @@ fn value_of_item(
             name,
             value,
         } => {
-            let found = value_of_property(alloc, context, properties, *negated, name, value)?;
+            let found = value_of_property(alloc, context, *negated, name, value)?;
             note_where(least, found.is_none(), place, FaultKind::UnknownProperty);
             Ok(found)
         }
         SetItem::Set(inner) => {
-            let value = value_of_set(alloc, context, properties, least, inner)?;
+            let value = value_of_set(alloc, context, least, inner)?;
             Ok(value)
         }
     }
@@ -131,11 +132,11 @@ fn value_of_variable(
     place: u32,
     name: &Word,
 ) -> Result<Option<ClassSet>, AllocError>
-    ensures value { IfOk result (λ value. (files : List File) → IsContext files context.now
-        → IsClassValue files (bounds_of context.now)
-        (value_of_name (context_of files context.now) name.now) value) }
-    ensures noted { OnOk result ((files : List File) → IsContext files context.now
-        → least.new ≡ noted_parts (context_of files context.now) least.old
+    requires { IsContext context.now }
+    ensures value { IfOk result (λ value. IsClassValue (files_of context.now)
+        (bounds_of context.now)
+        (value_of_name (context_of context.now) name.now) value) }
+    ensures noted { OnOk result (least.new ≡ noted_parts (context_of context.now) least.old
         (Within place (set_name name.now) ∷ [])) }
 {
     match context.variable(name) {
@@ -167,15 +168,13 @@ pub(crate) fn copy_of(set: &Option<ClassSet>) -> Result<Option<ClassSet>, AllocE
 pub(crate) fn value_of_property(
     alloc: Global,
     context: &Context,
-    properties: &mut Properties,
     negated: bool,
     name: &Word,
     value: &Option<Word>,
 ) -> Result<Option<ClassSet>, AllocError>
-    requires { IsContext properties.old context.now }
-    ensures value { IfOk result (λ set. IsClassValue properties.old (bounds_of context.now)
-        (value_of_property properties.old negated name.now value.now) set) }
-    ensures same { properties.new ≡ properties.old }
+    requires { IsContext context.now }
+    ensures { IfOk result (λ set. IsClassValue (files_of context.now) (bounds_of context.now)
+        (value_of_property (files_of context.now) negated name.now value.now) set) }
 {
     let key = key_of(alloc, negated, name, value)?;
     match context.classes.known(key.as_str(), negated, name, value) {
@@ -184,14 +183,15 @@ pub(crate) fn value_of_property(
             Ok(copy)
         }
         None => {
-            let found = properties.set_of(alloc, negated, name, value)?;
-            let set = divide(alloc, context.layout(), found.as_ref())?;
+            let found = find(alloc, context.table, negated, name, value)?;
+            let set = divide(alloc, context.layout(), &found)?;
             Ok(set)
         }
     }
 }
 
 /// `left join item`; None if either has no value.
+#[inline(never)]
 fn join(
     alloc: Global,
     left: Option<ClassSet>,
@@ -240,6 +240,7 @@ fn join_sets(
 }
 
 /// The set, or its complement if `negated`.
+#[inline(never)]
 fn with_sign(
     alloc: Global,
     layout: &Layout,

@@ -30,7 +30,7 @@ fn greater(left: u32, right: u32) -> u32
 }
 
 /// The number of characters of a word.
-fn count_of(word: &Word) -> usize
+pub(crate) fn count_of(word: &Word) -> usize
     ensures { result ≡ length word.now }
 {
     word.as_str().chars().count()

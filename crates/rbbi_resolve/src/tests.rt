@@ -341,6 +341,6 @@ fn trees(rt: HostRuntime) -> Result<(), Fail> {
     let rules = resolve(alloc, &statements, end, &props, false)?;
     assert_eq!(rt; rules.len(), 1);
     let shown = shape(alloc, &rules.get(0).front)?;
-    assert_eq!(rt; shown.as_str(), "((3.*[0.(1.2.).].).(3.*[0.(1.2.).].).)");
+    assert_eq!(rt; shown.as_str(), "((0.*[1.(2.3.).].).(0.*[1.(2.3.).].).)");
     Ok(())
 }

@@ -1,5 +1,5 @@
 //! Trees of parts.
-ghost use Rattle.std.specs.Prelude.{◌≡◌, ◌+◌, ◌≤◌, List, [], ◌∷◌, map, IfOk};
+ghost use Rattle.std.specs.Prelude.{◌≡◌, List, [], ◌∷◌, map, IfOk};
 ghost use Rattle.std.specs.List.{flat_map};
 ghost use Rattle.rbbi_model.specs.Ranges.{Range};
 ghost use Rattle.rbbi_model.specs.Spelling as spelling;
@@ -9,16 +9,12 @@ use crate::rules::{Tree, Trees};
 use rbbi_tree::Quant;
 use std::alloc::{AllocError, Global};
 
-/// The leaf of the next set.
-pub(crate) fn next_leaf(next: &mut usize) -> Tree
-    requires { next.old ≤ 4294967294 }
-    ensures moved { next.new ≡ next.old + 1 }
+/// The leaf of the set with this number.
+pub(crate) fn leaf_of_set(number: u32) -> Tree
     ensures tree { (sets : List (List Range)) →
-        tree_of sets result ≡ spelling.Leaf (set_at sets next.old) }
-    ensures numbers { numbers_of result ≡ next.old ∷ [] }
+        tree_of sets result ≡ spelling.Leaf (set_at sets number) }
+    ensures numbers { numbers_of result ≡ number ∷ [] }
 {
-    let number = *next as u32;
-    *next += 1;
     Tree::Leaf(number)
 }
 

@@ -1,35 +1,40 @@
 -- The trees that the code builds, and the sets of their leaves.
-use Rattle.std.specs.Prelude.{◌≡◌, ℕ, ◌<◌, ◌≤◌, Bool, Option, Some, List, [], ◌++◌, length, slice_get, Contains}
-use Rattle.std.specs.List.{AllByRecursion, AllZip}
+use Rattle.std.specs.Prelude.{◌≡◌, ℕ, ◌<◌, ◌≤◌, Option, Some, None, List, ◌++◌, length, slice_get, slice_index, Contains}
+use Rattle.std.specs.List.{AllByRecursion}
 use Rattle.rbbi_model.specs.Ranges.{Range}
 use Rattle.rbbi_model.specs.SetTrees as model
 use Rattle.rbbi_model.specs.Spelling as spelling
 use Rattle.rbbi_props.specs.Rows.{File}
 use Rattle.rbbi_tree.specs.Trees.{ExprTree, StatementTree, assign}
 use Rattle.rbbi_tree.specs.Values.{statement_trees}
+use Rattle.rbbi_classes.specs.Classes.{ClassBits}
+use Rattle.rbbi_classes.specs.CharacterSets.{characters_of}
+use Rattle.rbbi_classes.specs.Divisions.{ClassDivision}
+use Rattle.rbbi_resolve.specs.declared.build.Builder.{Builder}
 use Rattle.rbbi_resolve.specs.declared.context.Context.{Context}
+use Rattle.rbbi_resolve.specs.declared.build.FileLeaves.{FileLeaves}
 use Rattle.rbbi_resolve.specs.declared.rules.Tree.{Tree}
-use Rattle.rbbi_resolve.specs.Meanings.{Meaning, Stands}
-use Rattle.rbbi_resolve.specs.Parts.{parts_of_expr}
-use Rattle.rbbi_resolve.specs.Faults.{faults_of_parts}
+use Rattle.rbbi_resolve.specs.Meanings.{Meaning, Stands, IsLeafOf}
 use Rattle.rbbi_resolve.specs.inner.Files.{context_at}
-use Rattle.rbbi_resolve.specs.Files.{faults_of}
-use Rattle.rbbi_resolve.specs.inner.Contexts.{AreVariables, bounds_of, stand_of}
-use Rattle.rbbi_resolve.specs.inner.ClassValues.{AreRightClasses}
-use Rattle.rbbi_resolve.specs.inner.Covered.{CoversAll}
-use Rattle.rbbi_resolve.specs.inner.Soundness.{AreSound}
+use Rattle.rbbi_resolve.specs.inner.Contexts.{AreVariables, files_of, division_of, bounds_of, sets_of}
 use Rattle.rbbi_resolve.specs.RuleLists.{IsLeafSet}
 use Rattle.rbbi_resolve.specs.RuleTrees.{tree_of, numbers_of}
-use Rattle.rbbi_resolve.specs.inner.OwnLeaves.{IsSetOfLeaf, leaves_of_expr}
+use Rattle.rbbi_resolve.specs.inner.OwnLeaves.{StandAt, leaves_of_statement}
 
--- the sets from this number on are those of the leaves
-pub record StandFrom (files : List File) (sets : List (List Range)) (number : ℕ) (leaves : List model.SetTree) : Type 0 where
-  pub before : List (List Range)
-  pub own : List (List Range)
-  pub after : List (List Range)
-  pub is : sets ≡ before ++ (own ++ after)
-  pub at : length before ≡ number
-  pub each : AllZip (IsSetOfLeaf files) leaves own
+-- the set is that of the leaf, and a leaf may have it
+pub record IsSetOfLeaf (files : List File) (tree : model.SetTree) (set : List Range) : Type 0 where
+  pub of_leaf : IsLeafOf files tree set
+  pub form : IsLeafSet set
+
+-- the value and the row are there, and the row's set is that of the leaf
+abbrev pub IsSetRow : List File → ClassDivision → Option model.SetTree → Option ClassBits → Type 0
+IsSetRow files division None row = ⊥
+IsSetRow files division (Some tree) None = ⊥
+IsSetRow files division (Some tree) (Some row) = IsSetOfLeaf files tree (characters_of division row)
+
+-- the leaves of the file from this number on are these, and have sets
+abbrev pub StandFrom : Context → FileLeaves → ℕ → List (Option model.SetTree) → Type 0
+StandFrom context leaves number values = StandAt (IsSetRow (files_of context) (division_of context)) leaves.rows.items number values
 
 -- each leaf has a set that it may have
 abbrev pub HasLawfulLeaves : spelling.Tree → Type 0
@@ -46,11 +51,14 @@ pub record IsPart (files : List File) (sets : List (List Range)) (meaning : Mean
   pub filled : (more : List (List Range)) → HasLawfulLeaves (tree_of (sets ++ more) tree)
   pub numbered : AllByRecursion (λ number. number < length sets) (numbers_of tree)
 
--- The tree stands for the meaning. The sets of these numbers are those of its leaves, and so are the sets past the old ones.
-pub record IsBuilt (files : List File) (old : ℕ) (sets : List (List Range)) (from to : ℕ) (meaning : Meaning) (tree : Tree) : Type 0 where
+-- The tree stands for the meaning, and the sets past the old ones are those of its leaves.
+pub record IsBuilt (files : List File) (old : ℕ) (sets : List (List Range)) (meaning : Meaning) (tree : Tree) : Type 0 where
   pub part : IsPart files sets meaning tree
-  pub own : (number : ℕ) → from ≤ number → number < to → Contains (numbers_of tree) number
   pub fresh : (number : ℕ) → old ≤ number → number < length sets → Contains (numbers_of tree) number
+
+abbrev pub Builds : Context → Builder → Builder → Meaning → Tree → Type 0
+Builds context before after meaning tree =
+    IsBuilt (files_of context) (length (sets_of context before.rows.items)) (sets_of context after.rows.items) meaning tree
 
 -- the statement with this number assigns the expression
 pub record IsAssigned (statements : List StatementTree) (number : ℕ) (expr : ExprTree) : Type 0 where
@@ -58,29 +66,26 @@ pub record IsAssigned (statements : List StatementTree) (number : ℕ) (expr : E
   pub place : ℕ
   pub at : slice_get statements number ≡ Some (assign word place expr)
 
--- the number of the first set of a statement's own leaves is right, if there is one
-pub record IsBuilder (files : List File) (statements : List StatementTree) (sets : List (List Range)) (bases : List (Option ℕ)) : Type 0 where
-  pub few : length sets ≤ 4294967295
-  pub formed : AllByRecursion IsLeafSet sets
-  pub long : length bases ≡ length statements
-  pub based : (number base : ℕ) (expr : ExprTree) → slice_get bases number ≡ Some (Some base) → IsAssigned statements number expr →
-      StandFrom files sets base (leaves_of_expr (context_at files statements number) expr)
+-- each set is one that a leaf may have, and a leaf with a number has the set of that
+pub record IsBuilder (context : Context) (leaves : FileLeaves) (builder : Builder) : Type 0 where
+  pub few : length builder.rows.items ≤ 4294967295
+  pub formed : AllByRecursion IsLeafSet (sets_of context builder.rows.items)
+  pub long : length builder.numbers.items ≡ length leaves.rows.items
+  pub each : (place number : ℕ) (row : ClassBits) → slice_get builder.numbers.items place ≡ Some (Some number) →
+      slice_get leaves.rows.items place ≡ Some (Some row) → slice_get builder.rows.items number ≡ Some row
 
 -- sets were added
-pub record Extends (files : List File) (statements : List StatementTree) (sets sets' : List (List Range)) (bases' : List (Option ℕ)) : Type 0 where
+pub record Extends (context : Context) (leaves : FileLeaves) (before after : Builder) : Type 0 where
   pub more : List (List Range)
-  pub is : sets' ≡ sets ++ more
-  pub builder : IsBuilder files statements sets' bases'
+  pub is : sets_of context after.rows.items ≡ sets_of context before.rows.items ++ more
+  pub builder : IsBuilder context leaves after
 
--- the file has no fault, and the variables are those that its statements assign
-pub record IsReady (files : List File) (context : Context) : Type 0 where
+-- the variables are those that the file's statements assign, and the leaves those of the statements, each with its set
+pub record IsReady (context : Context) (leaves : FileLeaves) : Type 0 where
   pub end : ℕ
-  pub classes : AreRightClasses files context.classes.now
-  pub covered : CoversAll files (stand_of context) (statement_trees context.statements.now)
-  pub variables : AreVariables files (bounds_of context) (statement_trees context.statements.now) context.variables.now end
+  pub variables : AreVariables (files_of context) (bounds_of context) (statement_trees context.statements.now) context.variables.now end
   pub low : context.limit ≤ end
-  pub ignored : Bool
-  pub none : faults_of files ignored (statement_trees context.statements.now) ≡ []
-  pub sound : (number : ℕ) → AreSound (context_at files (statement_trees context.statements.now) number)
-  pub faultless : (number : ℕ) (expr : ExprTree) → IsAssigned (statement_trees context.statements.now) number expr →
-      faults_of_parts (context_at files (statement_trees context.statements.now) number) (parts_of_expr expr) ≡ []
+  pub long : length leaves.firsts.items ≡ length context.statements.now
+  pub stand : (number : ℕ) (s : StatementTree) → slice_get (statement_trees context.statements.now) number ≡ Some s →
+      StandFrom context leaves (slice_index leaves.firsts.items number)
+      (leaves_of_statement (context_at (files_of context) (statement_trees context.statements.now) number) s)

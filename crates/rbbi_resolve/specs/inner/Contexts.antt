@@ -20,7 +20,7 @@ use Rattle.rbbi_resolve.specs.inner.Covered.{NamesRespect}
 use Rattle.rbbi_model.specs.Ranges.{Range}
 use Rattle.rbbi_classes.specs.Classes.{ClassBits}
 use Rattle.rbbi_classes.specs.CharacterSets.{characters_of}
-use Rattle.rbbi_classes.specs.Divisions.{stand_in}
+use Rattle.rbbi_classes.specs.Divisions.{ClassDivision, stand_in}
 use Rattle.rbbi_resolve.specs.Expressions.{variable_for}
 use Rattle.rbbi_resolve.specs.inner.Files.{context_at}
 use Rattle.rbbi_resolve.specs.inner.Summaries.{Summarizes}
@@ -73,28 +73,35 @@ IsUnassigned files statements end name = (limit : ℕ) → limit ≤ end → ass
 pub record AreVariables (files : List File) (bounds : List ℕ) (statements : List StatementTree) (variables : Variables) (end : ℕ) : Type 0 where
   pub each : (name : List ℕ) → MatchOption (get_by_text variables name) (IsUnassigned files statements end name) (IsDefinedBy files bounds statements end name)
 
--- what stands before the limit of a context
-abbrev pub context_of : List File → Context → contexts.Context
-context_of files context = context_at files (statement_trees context.statements.now) context.limit
+-- the property files of a context
+abbrev pub files_of : Context → List File
+files_of context = context.table.now
 
--- the bounds of the context's classes
+-- what stands before the limit of a context
+abbrev pub context_of : Context → contexts.Context
+context_of context = context_at (files_of context) (statement_trees context.statements.now) context.limit
+
+-- the division into the context's classes, and their bounds
+abbrev pub division_of : Context → ClassDivision
+division_of context = rc_value context.classes.now.division
+
 abbrev pub bounds_of : Context → List ℕ
-bounds_of context = (rc_value context.classes.now.division).bounds
+bounds_of context = (division_of context).bounds
 
 -- the code point that stands for those of its class
 abbrev pub stand_of : Context → ℕ → ℕ
-stand_of context c = stand_in (rc_value context.classes.now.division) c
+stand_of context c = stand_in (division_of context) c
 
 -- the sets of these rows of the context's classes
 abbrev pub sets_of : Context → List ClassBits → List (List Range)
-sets_of context rows = map (characters_of (rc_value context.classes.now.division)) rows
+sets_of context rows = map (characters_of (division_of context)) rows
 
 -- the variables of the context are those before its limit, their sets have all or nothing of a class, and its classes are right
-pub record IsContext (files : List File) (context : Context) : Type 0 where
-  pub respects : NamesRespect files (stand_of context) (value_of_name (context_of files context))
-  pub describes : Describes files (bounds_of context) (statement_trees context.statements.now) context.variables.now context.limit
-  pub classes : AreRightClasses files context.classes.now
+pub record IsContext (context : Context) : Type 0 where
+  pub respects : NamesRespect (files_of context) (stand_of context) (value_of_name (context_of context))
+  pub describes : Describes (files_of context) (bounds_of context) (statement_trees context.statements.now) context.variables.now context.limit
+  pub classes : AreRightClasses (files_of context) context.classes.now
 
 -- the context knows whether only quoted characters may stand outside of sets
-abbrev pub KnowsQuotes : List File → Context → Type 0
-KnowsQuotes files context = context.quoted_only ≡ (context_of files context).quoted_only
+abbrev pub KnowsQuotes : Context → Type 0
+KnowsQuotes context = context.quoted_only ≡ (context_of context).quoted_only

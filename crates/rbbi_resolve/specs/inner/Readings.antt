@@ -1,5 +1,5 @@
 -- How far the code has read a rule file.
-use Rattle.std.specs.Prelude.{◌≡◌, ℕ, Bool, Option, None, List, drop}
+use Rattle.std.specs.Prelude.{◌≡◌, ℕ, ◌<◌, Bool, Option, Some, None, List, [], ◌∷◌, ◌++◌, drop, length, slice_get, slice_index}
 use Rattle.std.specs.Rc.{rc_value}
 use Rattle.rbbi_props.specs.Rows.{File}
 use Rattle.rbbi_tree.specs.Trees.{StatementTree}
@@ -12,7 +12,9 @@ use Rattle.rbbi_resolve.specs.declared.classes.Classes.{Classes}
 use Rattle.rbbi_resolve.specs.Faults.{noted}
 use Rattle.rbbi_resolve.specs.inner.ClassValues.{AreRightClasses}
 use Rattle.rbbi_resolve.specs.inner.Covered.{CoversAll}
-use Rattle.rbbi_classes.specs.Divisions.{stand_in}
+use Rattle.rbbi_classes.specs.Classes.{ClassBits}
+use Rattle.rbbi_classes.specs.Divisions.{ClassDivision, stand_in}
+use Rattle.rbbi_resolve.specs.inner.OwnLeaves.{IsLeafRow, StandAt, leaves_of_statement}
 use Rattle.rbbi_resolve.specs.inner.Files.{context_at}
 use Rattle.rbbi_resolve.specs.Files.{faults_from, faults_of, rules_from, active_rules}
 use Rattle.rbbi_resolve.specs.inner.Contexts.{Variables, AreVariables}
@@ -32,11 +34,28 @@ pub record IsReadTo (files : List File) (classes : Classes) (ignored : Bool) (st
   pub counted_so_far : AreCounting counts (rules_from (context_at files statements number) (drop number statements)) (active_rules files statements)
 
 abbrev pub IsReading : Reading → ℕ → Type 0
-IsReading r number = IsReadTo r.properties r.classes r.dictionary_ignored (statement_trees r.statements.now) r.variables r.least r.switches r.counts number
+IsReading r number = IsReadTo r.table.now r.classes r.dictionary_ignored (statement_trees r.statements.now) r.variables r.least r.switches r.counts number
+
+-- the statements before this number have first leaves, from which on those of the statement stand
+pub record AreLeavesTo (files : List File) (division : ClassDivision) (statements : List StatementTree) (firsts : List ℕ) (rows : List (Option ClassBits))
+    (number : ℕ) : Type 0 where
+  pub long : length firsts ≡ number
+  pub each : (n : ℕ) (s : StatementTree) → n < number → slice_get statements n ≡ Some s →
+      StandAt (IsLeafRow files division) rows (slice_index firsts n) (leaves_of_statement (context_at files statements n) s)
+
+abbrev pub HasLeaves : Reading → ℕ → Type 0
+HasLeaves r number = AreLeavesTo r.table.now (rc_value r.classes.division) (statement_trees r.statements.now) r.firsts.items r.leaves.rows.items number
+
+-- so do those of this number, but they are still to be added
+pub record HasBegun (r : Reading) (number : ℕ) : Type 0 where
+  pub firsts : List ℕ
+  pub is : r.firsts.items ≡ firsts ++ length r.leaves.rows.items ∷ []
+  pub before : AreLeavesTo r.table.now (rc_value r.classes.division) (statement_trees r.statements.now) firsts r.leaves.rows.items number
 
 -- the reading went on to this number
 pub record ReadsOn (before after : Reading) (number : ℕ) : Type 0 where
   pub reading : IsReading after number
+  pub leaves : HasLeaves after number
   pub statements : after.statements.now ≡ before.statements.now
-  pub properties : after.properties ≡ before.properties
+  pub table : after.table.now ≡ before.table.now
   pub ignored : after.dictionary_ignored ≡ before.dictionary_ignored

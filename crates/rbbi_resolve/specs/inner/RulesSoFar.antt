@@ -15,6 +15,11 @@ use Rattle.rbbi_resolve.specs.inner.Switchings.{AreSwitches}
 use Rattle.rbbi_resolve.specs.RuleTrees.{numbers_of}
 use Rattle.rbbi_resolve.specs.RuleLists.{numbers_of_rule, IsLeafSet}
 use Rattle.rbbi_resolve.specs.inner.Builders.{IsPart, IsBuilder}
+use Rattle.rbbi_resolve.specs.inner.Contexts.{files_of, sets_of}
+use Rattle.rbbi_resolve.specs.declared.build.Builder.{Builder}
+use Rattle.rbbi_resolve.specs.declared.context.Context.{Context}
+use Rattle.rbbi_resolve.specs.declared.build.FileLeaves.{FileLeaves}
+use Rattle.rbbi_tree.specs.Values.{statement_trees}
 
 -- both are absent, or the tree stands for the meaning
 abbrev pub IsRest : List File → List (List Range) → Option Meaning → Option Tree → Type 0
@@ -37,14 +42,14 @@ pub record IsRuleBuilt (files : List File) (sets : List (List Range)) (meaning :
   pub place : rule.place ≡ meaning.place
 
 -- the active rules of the statements before this number were built, and each set is that of one of their leaves
-pub record AreRulesTo (files : List File) (statements : List StatementTree) (sets : List (List Range)) (bases : List (Option ℕ)) (switches : Switches)
-    (rules : List Rule) (number : ℕ) : Type 0 where
-  pub builder : IsBuilder files statements sets bases
-  pub switched : AreSwitches switches (context_at files statements number)
+pub record AreRulesTo (context : Context) (leaves : FileLeaves) (builder : Builder) (switches : Switches) (rules : List Rule) (number : ℕ) : Type 0 where
+  pub sound : IsBuilder context leaves builder
+  pub switched : AreSwitches switches (context_at (files_of context) (statement_trees context.statements.now) number)
   pub done : List RuleMeaning
-  pub every : done ++ rules_from (context_at files statements number) (drop number statements) ≡ active_rules files statements
-  pub each : AllZip (IsRuleBuilt files sets) done rules
-  pub used : (n : ℕ) → n < length sets → Contains (flat_map numbers_of_rule rules) n
+  pub every : done ++ rules_from (context_at (files_of context) (statement_trees context.statements.now) number)
+      (drop number (statement_trees context.statements.now)) ≡ active_rules (files_of context) (statement_trees context.statements.now)
+  pub each : AllZip (IsRuleBuilt (files_of context) (sets_of context builder.rows.items)) done rules
+  pub used : (n : ℕ) → n < length (sets_of context builder.rows.items) → Contains (flat_map numbers_of_rule rules) n
 
 -- all active rules were built, each set is that of one of their leaves, and a leaf may have it
 pub record AreAllRules (files : List File) (statements : List StatementTree) (sets : List (List Range)) (rules : List Rule) : Type 0 where

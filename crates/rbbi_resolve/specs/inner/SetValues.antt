@@ -1,16 +1,9 @@
 -- Sets of ranges that are the values of set expressions.
-use Rattle.std.specs.Prelude.{ℕ, ◌↔◌, Bool, true, false, nat_le, IsTrue, Option, Some, None, option_map, is_some, List, encode_utf8_all}
-use Rattle.std.specs.Prelude.{if◌then◌else◌}
-use Rattle.rbbi_model.specs.Words.{IsCodePoint}
+use Rattle.std.specs.Prelude.{ℕ, ◌↔◌, Option, Some, None, List}
 use Rattle.rbbi_model.specs.Ranges.{Range, Has}
 use Rattle.rbbi_model.specs.SetTrees as model
 use Rattle.rbbi_sets.specs.Rising.{AreRising}
 use Rattle.rbbi_props.specs.Rows.{File}
-use Rattle.rbbi_props.specs.Lookups.{lookup}
-use Rattle.rbbi_tree.specs.Trees.{SetSyntax, PartsTree, PartTree, SetItemTree, set_of, no_parts, part, joined, set_character, set_range, set_name, set_property}
-use Rattle.rbbi_tree.specs.Trees.{set_within}
-use Rattle.rbbi_tree.specs.declared.syntax.Join.{Join}
-use Rattle.rbbi_tree.specs.declared.syntax.Join.TheVariants.{Add, Both, Minus}
 use Rattle.rbbi_resolve.specs.SetValues.{HasProperty}
 
 -- the ranges rise, and have the members of the set

@@ -15,31 +15,31 @@ use Rattle.rbbi_resolve.proofs.SetRuns.{character_respects, word_respects}
 use Rattle.rbbi_resolve.proofs.collect.+collect.Goals as goal
 
 pub collect_expr-loop-seq-init : goal.collect_expr-loop-seq-init
-collect_expr-loop-seq-init t c = collecting_starts c.args.properties.now c.args.collection.now _ c.requires
+collect_expr-loop-seq-init t c = collecting_starts c.args.table.now c.args.collection.now _ c.requires
 
 pub collect_expr-loop-seq-preserved : goal.collect_expr-loop-seq-preserved
 collect_expr-loop-seq-preserved t c =
-    seqs_turn c.args.properties.now c.loop-seq.properties c.args.collection.now c.loop-seq.collection c.collect_seq.new.properties
-    c.collect_seq.new.collection _ c.deref-seq-items.result.now c.loop-seq.seq-index c.seq-item.result (omega arith) c.seq-item.is c.loop-seq.invariant
-    c.in_ok-collect_seq.ensures.collected c.in_ok-collect_seq.ensures.same
+    seqs_turn c.args.table.now c.args.collection.now c.loop-seq.collection c.collect_seq.new.collection _
+    c.deref-seq-items.result.now c.loop-seq.seq-index c.seq-item.result (omega arith) c.seq-item.is
+    c.loop-seq.invariant c.in_ok-collect_seq.ensures
 
-pub collect_expr-returns-clause-collected : goal.collect_expr-returns-clause-collected
-collect_expr-returns-clause-collected t c =
-    seqs_end c.args.properties.now c.loop-seq.properties c.args.collection.now c.loop-seq.collection c.args.expr.now c.deref-seq-items.result.now
+pub collect_expr-returns : goal.collect_expr-returns
+collect_expr-returns t c =
+    seqs_end c.args.table.now c.args.collection.now c.loop-seq.collection c.args.expr.now c.deref-seq-items.result.now
     c.loop-seq.seq-index c.deref-seq-items.ensures.value (omega arith) c.loop-seq.invariant
 
 pub collect_seq-loop-item-init : goal.collect_seq-loop-item-init
-collect_seq-loop-item-init t c = collecting_starts c.args.properties.now c.args.collection.now _ c.requires
+collect_seq-loop-item-init t c = collecting_starts c.args.table.now c.args.collection.now _ c.requires
 
 pub collect_seq-loop-item-preserved : goal.collect_seq-loop-item-preserved
 collect_seq-loop-item-preserved t c =
-    items_turn c.args.properties.now c.loop-item.properties c.args.collection.now c.loop-item.collection c.collect_item.new.properties
-    c.collect_item.new.collection _ c.deref-item-items.result.now c.loop-item.item-index c.item-item.result (omega arith) c.item-item.is
-    c.loop-item.invariant c.in_ok-collect_item.ensures.collected c.in_ok-collect_item.ensures.same
+    items_turn c.args.table.now c.args.collection.now c.loop-item.collection c.collect_item.new.collection _
+    c.deref-item-items.result.now c.loop-item.item-index c.item-item.result (omega arith) c.item-item.is
+    c.loop-item.invariant c.in_ok-collect_item.ensures
 
-pub collect_seq-returns-clause-collected : goal.collect_seq-returns-clause-collected
-collect_seq-returns-clause-collected t c =
-    items_end c.args.properties.now c.loop-item.properties c.args.collection.now c.loop-item.collection c.args.seq.now c.deref-item-items.result.now
+pub collect_seq-returns : goal.collect_seq-returns
+collect_seq-returns t c =
+    items_end c.args.table.now c.args.collection.now c.loop-item.collection c.args.seq.now c.deref-item-items.result.now
     c.loop-item.item-index c.deref-item-items.ensures.value (omega arith) c.loop-item.invariant
 
 -- the tree of an item with such an atom
@@ -47,9 +47,9 @@ item_is : (i : Item) (a : Atom) (tree : AtomTree) → (out-Item i).atom ≡ a �
     item_tree i ≡ placed (out-Item i).place tree (out-Item i).quant
 item_is i a tree is same = item_tree_out i ∙ ap (λ x. placed (out-Item i).place x (out-Item i).quant) (ap atom_tree is ∙ same)
 
-pub collect_item-returns-in_ok-add_character-in-Char-clause-collected : goal.collect_item-returns-in_ok-add_character-in-Char-clause-collected
-collect_item-returns-in_ok-add_character-in-Char-clause-collected t c =
-    let files = c.args.properties.now in
+pub collect_item-returns-in_ok-add_character-in-Char : goal.collect_item-returns-in_ok-add_character-in-Char
+collect_item-returns-in_ok-add_character-in-Char t c =
+    let files = c.args.table.now in
     let now = c.args.collection.now in
     let after = c.add_character.new.self in
     let i = c.args.item.now in
@@ -59,9 +59,9 @@ collect_item-returns-in_ok-add_character-in-Char-clause-collected t c =
     (atom_collected files now after [] (Outside i.place (character r.c r.bare)) done.keeps (done.kept files c.requires)
     (λ stand are. (record { each = tt }, character_respects files stand r.c after.bases.items are (λ order. done.added))))
 
-pub collect_item-returns-in_ok-add_word-in-Quoted-clause-collected : goal.collect_item-returns-in_ok-add_word-in-Quoted-clause-collected
-collect_item-returns-in_ok-add_word-in-Quoted-clause-collected t c =
-    let files = c.args.properties.now in
+pub collect_item-returns-in_ok-add_word-in-Quoted : goal.collect_item-returns-in_ok-add_word-in-Quoted
+collect_item-returns-in_ok-add_word-in-Quoted t c =
+    let files = c.args.table.now in
     let now = c.args.collection.now in
     let after = c.add_word.new.self in
     let i = c.args.item.now in
@@ -71,9 +71,9 @@ collect_item-returns-in_ok-add_word-in-Quoted-clause-collected t c =
     (atom_collected files now after [] (Outside i.place (quoted r.word)) done.keeps (done.kept files c.requires)
     (λ stand are. (record { each = tt }, word_respects files stand after.bases.items are r.word done.added)))
 
-pub collect_item-returns-in_ok-add_property-in-Prop-clause-collected : goal.collect_item-returns-in_ok-add_property-in-Prop-clause-collected
-collect_item-returns-in_ok-add_property-in-Prop-clause-collected t c =
-    let files = c.args.properties.now in
+pub collect_item-returns-in_ok-add_property-in-Prop : goal.collect_item-returns-in_ok-add_property-in-Prop
+collect_item-returns-in_ok-add_property-in-Prop t c =
+    let files = c.args.table.now in
     let now = c.args.collection.now in
     let after = c.add_property.new.self in
     let i = c.args.item.now in
@@ -88,26 +88,26 @@ collect_item-returns-in_ok-add_property-in-Prop-clause-collected t c =
           done.based.value_is done.based.own,
     )))
 
-pub collect_item-returns-in_ok-collect_set-in-Set-clause-collected : goal.collect_item-returns-in_ok-collect_set-in-Set-clause-collected
-collect_item-returns-in_ok-collect_set-in-Set-clause-collected t c =
-    let files = c.args.properties.now in
+pub collect_item-returns-in_ok-collect_set-in-Set : goal.collect_item-returns-in_ok-collect_set-in-Set
+collect_item-returns-in_ok-collect_set-in-Set t c =
+    let files = c.args.table.now in
     let now = c.args.collection.now in
     let after = c.collect_set.new.collection in
     let i = c.args.item.now in
     let s = set_tree c.in-Set.set in
-    let done = c.in_ok-collect_set-in-Set.ensures.collected in
+    let done = c.in_ok-collect_set-in-Set.ensures in
     subst (λ x. Collects files now after (parts_of_item x)) (sym (item_is i _ (set s) c.in-Set.is (atom_of_set c.in-Set.set)))
     (atom_collected files now after (parts_of_set s) (Outside i.place (set s)) done.keeps done.kept
     (λ stand are. (record { each = set_covered files stand s }, done.covers stand are)))
 
-pub collect_item-returns-in_ok-collect_expr-in-Group-clause-collected : goal.collect_item-returns-in_ok-collect_expr-in-Group-clause-collected
-collect_item-returns-in_ok-collect_expr-in-Group-clause-collected t c =
-    let files = c.args.properties.now in
+pub collect_item-returns-in_ok-collect_expr-in-Group : goal.collect_item-returns-in_ok-collect_expr-in-Group
+collect_item-returns-in_ok-collect_expr-in-Group t c =
+    let files = c.args.table.now in
     let now = c.args.collection.now in
     let after = c.collect_expr.new.collection in
     let i = c.args.item.now in
     let inner = expr_tree c.in-Group.inner in
-    let done = c.in_ok-collect_expr-in-Group.ensures.collected in
+    let done = c.in_ok-collect_expr-in-Group.ensures in
     subst (λ x. Collects files now after (parts_of_item x)) (sym (item_is i _ (group inner) c.in-Group.is (atom_of_group c.in-Group.inner)))
     (atom_collected files now after (parts_of_expr inner) (Outside i.place (group inner)) done.keeps done.kept
     (λ stand are. (done.covers stand are, tt)))

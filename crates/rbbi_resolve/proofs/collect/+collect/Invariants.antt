@@ -7,10 +7,10 @@ use Rattle.rbbi_resolve.proofs.collect.+collect.Given as goal
 
 abbrev pub invariant-collect_expr-loop-seq : goal.invariant-collect_expr-loop-seq
 invariant-collect_expr-loop-seq l =
-    IsCollecting l.initial.properties l.properties l.initial.collection l.collection (parts_of_expr (expr_of (map seq_tree l.seq-items)))
+    IsCollecting l.table l.initial.collection l.collection (parts_of_expr (expr_of (map seq_tree l.seq-items)))
     (parts_of_expr (expr_of (map seq_tree (drop l.seq-index l.seq-items))))
 
 abbrev pub invariant-collect_seq-loop-item : goal.invariant-collect_seq-loop-item
 invariant-collect_seq-loop-item l =
-    IsCollecting l.initial.properties l.properties l.initial.collection l.collection (parts_of_seq (seq_of (map item_tree l.item-items)))
+    IsCollecting l.table l.initial.collection l.collection (parts_of_seq (seq_of (map item_tree l.item-items)))
     (parts_of_seq (seq_of (map item_tree (drop l.item-index l.item-items))))

@@ -13,5 +13,5 @@ decreases-collect_part l = size_of_part (part_tree l.part.now)
 
 abbrev pub invariant-collect_set-loop-part : goal.invariant-collect_set-loop-part
 invariant-collect_set-loop-part l =
-    IsCollectingSet l.initial.properties l.properties l.initial.collection l.collection (parts_of (map part_tree l.part-items))
+    IsCollectingSet l.table l.initial.collection l.collection (parts_of (map part_tree l.part-items))
     (parts_of (map part_tree (drop l.part-index l.part-items))) l.run.items

@@ -5,46 +5,44 @@ use Rattle.rbbi_resolve.specs.declared.fault.FaultKind.TheVariants as kinds
 use Rattle.rbbi_resolve.specs.Parts.{parts_of_part}
 use Rattle.rbbi_resolve.specs.Faults.{noted, faults_where}
 use Rattle.rbbi_resolve.specs.inner.Faults.{noted_parts}
-use Rattle.rbbi_resolve.specs.inner.Contexts.{bounds_of, context_of}
+use Rattle.rbbi_resolve.specs.inner.Contexts.{files_of, bounds_of, context_of}
 use Rattle.rbbi_resolve.proofs.ItemTrees.{of_property, of_inner}
 use Rattle.rbbi_resolve.proofs.Kept.{files_stay}
 use Rattle.rbbi_resolve.proofs.Named.{within_noted, known_classes, property_noted}
 use Rattle.rbbi_resolve.proofs.SetFolds.{folding_starts, folding_turn, folding_gives}
-use Rattle.std.proofs.Common.{◌<◌, length, map, subst}
+use Rattle.std.proofs.Common.{◌<◌, length, map}
 use Rattle.rbbi_tree.specs.Trees.{parts_of}
 use Rattle.rbbi_tree.specs.Values.{part_tree}
-use Rattle.rbbi_resolve.specs.inner.Contexts.{IsContext}
 use Rattle.rbbi_resolve.proofs.SetLoops.{set_is}
 use Rattle.rbbi_resolve.proofs.Weights.{size_of_set, size_of_parts, size_of_member, smaller_member}
 use Rattle.rbbi_resolve.proofs.set_value.+sets.Goals as goal
 
 pub value_of_set-loop-part-init : goal.value_of_set-loop-part-init
-value_of_set-loop-part-init t c = folding_starts c.args.properties.now _ _ c.args.least.now _ c.empty.result c.empty.ensures
+value_of_set-loop-part-init t c = folding_starts (files_of c.args.context.now) _ _ c.args.least.now _ c.empty.result c.empty.ensures
 
 pub value_of_set-loop-part-preserved : goal.value_of_set-loop-part-preserved
 value_of_set-loop-part-preserved t c =
-    folding_turn (λ files. context_of files c.args.context.now) c.args.properties.now (bounds_of c.args.context.now) c.args.least.now _ c.loop-part.whole
-    c.in_ok-item.item c.in_ok-whole.whole c.loop-part.least c.value_of_item.new.least c.loop-part.properties
-    c.value_of_item.new.properties
+    folding_turn (context_of c.args.context.now) (files_of c.args.context.now) (bounds_of c.args.context.now) c.args.least.now _ c.loop-part.whole
+    c.in_ok-item.item c.in_ok-whole.whole c.loop-part.least c.value_of_item.new.least
     c.deref-part-items.result.now c.loop-part.part-index c.part-item.result (omega arith) c.part-item.is c.loop-part.invariant
-    (record { value = c.in_ok-item.ensures.value; noted = c.in_ok-item.ensures.noted; same = c.in_ok-item.ensures.same }) c.in_ok-whole.ensures
+    (record { value = c.in_ok-item.ensures.value; noted = c.in_ok-item.ensures.noted }) c.in_ok-whole.ensures
 
 pub value_of_set-returns-clause-value : goal.value_of_set-returns-clause-value
 value_of_set-returns-clause-value t c =
-    (folding_gives c.args.properties.now (bounds_of c.args.context.now) (context_of c.args.properties.now c.args.context.now) c.args.least.now c.args.set.now
-    c.deref-part-items.result.now c.loop-part.part-index c.loop-part.whole c.in_ok-value.value c.loop-part.least c.loop-part.properties
-    c.deref-part-items.ensures.value (omega arith) c.loop-part.invariant (rw c.layout.ensures at (c.in_ok-value.ensures c.args.properties.now))).0
+    (folding_gives (files_of c.args.context.now) (bounds_of c.args.context.now) (context_of c.args.context.now) c.args.least.now c.args.set.now
+    c.deref-part-items.result.now c.loop-part.part-index c.loop-part.whole c.in_ok-value.value c.loop-part.least
+    c.deref-part-items.ensures.value (omega arith) c.loop-part.invariant (rw c.layout.ensures at (c.in_ok-value.ensures (files_of c.args.context.now)))).0
 
 pub value_of_set-returns-clause-noted : goal.value_of_set-returns-clause-noted
 value_of_set-returns-clause-noted t c =
-    (folding_gives c.args.properties.now (bounds_of c.args.context.now) (context_of c.args.properties.now c.args.context.now) c.args.least.now c.args.set.now
-    c.deref-part-items.result.now c.loop-part.part-index c.loop-part.whole c.in_ok-value.value c.loop-part.least c.loop-part.properties
-    c.deref-part-items.ensures.value (omega arith) c.loop-part.invariant (rw c.layout.ensures at (c.in_ok-value.ensures c.args.properties.now))).1
+    (folding_gives (files_of c.args.context.now) (bounds_of c.args.context.now) (context_of c.args.context.now) c.args.least.now c.args.set.now
+    c.deref-part-items.result.now c.loop-part.part-index c.loop-part.whole c.in_ok-value.value c.loop-part.least
+    c.deref-part-items.ensures.value (omega arith) c.loop-part.invariant (rw c.layout.ensures at (c.in_ok-value.ensures (files_of c.args.context.now)))).1
 
 pub value_of_item-returns-in_ok-found-in-Prop-clause-noted : goal.value_of_item-returns-in_ok-found-in-Prop-clause-noted
 value_of_item-returns-in_ok-found-in-Prop-clause-noted t c =
-    let files = c.args.properties.now in
-    let k = context_of files c.args.context.now in
+    let files = files_of c.args.context.now in
+    let k = context_of c.args.context.now in
     let old = c.args.least.now in
     let e : set_item_tree c.args.item.now ≡ set_property c.in-Prop.negated c.in-Prop.name c.in-Prop.value = let i =
     c.in-Prop.is in ap set_item_tree i ∙ of_property c.in-Prop.negated c.in-Prop.name c.in-Prop.value in
@@ -52,12 +50,12 @@ value_of_item-returns-in_ok-found-in-Prop-clause-noted t c =
     λ join.
     n
     ∙ property_noted k files old c.args.place join c.in-Prop.negated c.in-Prop.name c.in-Prop.value (is_none c.in_ok-found-in-Prop.found) (files_stay files _ _)
-    (known_classes files _ c.in-Prop.negated c.in-Prop.name c.in-Prop.value c.in_ok-found-in-Prop.found c.in_ok-found-in-Prop.ensures.value)
+    (known_classes files _ c.in-Prop.negated c.in-Prop.name c.in-Prop.value c.in_ok-found-in-Prop.found c.in_ok-found-in-Prop.ensures)
     ∙ ap (λ i. noted_parts k old (parts_of_part (joined c.args.place join i))) (sym e)
 
 pub value_of_item-returns-in_ok-value-in-Set-clause-noted : goal.value_of_item-returns-in_ok-value-in-Set-clause-noted
 value_of_item-returns-in_ok-value-in-Set-clause-noted t c =
-    let k = context_of c.args.properties.now c.args.context.now in
+    let k = context_of c.args.context.now in
     let old = c.args.least.now in
     let e : set_item_tree c.args.item.now ≡ set_within (set_tree c.in-Set.inner) = let i =
     c.in-Set.is in ap set_item_tree i ∙ of_inner c.in-Set.inner in
@@ -69,7 +67,7 @@ value_of_item-returns-in_ok-value-in-Set-clause-noted t c =
 pub value_of_set-value_of_item-requires : goal.value_of_set-value_of_item-requires
 value_of_set-value_of_item-requires t c =
     let context = c.args.context.now in
-    let files = c.args.properties.now in
+    let files = files_of c.args.context.now in
     let l = c.loop-part in
     let xs = c.deref-part-items.result.now in
     let p = c.part-item.result in
@@ -78,7 +76,6 @@ value_of_set-value_of_item-requires t c =
     let size = ap size_of_set (set_is c.args.set.now) in
     let own = ap (λ ps. size_of_parts (parts_of (map part_tree ps))) c.deref-part-items.ensures.value in
     let smaller : size_of_member (set_item_tree p.item) < size_of_set (set_tree c.args.set.now) = omega arith in
-    let is_context : IsContext l.properties context = subst (λ f. IsContext f context) (sym l.invariant.same) c.requires in
     search rules
 
 pub value_of_item-value_of_set-requires : goal.value_of_item-value_of_set-requires

@@ -1,7 +1,7 @@
 use Rattle.std.specs.Prelude.{map, drop}
 use Rattle.rbbi_tree.specs.Trees.{parts_of}
 use Rattle.rbbi_tree.specs.Values.{part_tree}
-use Rattle.rbbi_resolve.specs.inner.Contexts.{bounds_of, context_of}
+use Rattle.rbbi_resolve.specs.inner.Contexts.{files_of, bounds_of, context_of}
 use Rattle.rbbi_resolve.proofs.SetFolds.{IsFolding}
 use Rattle.rbbi_tree.specs.Values.{set_tree, set_item_tree}
 use Rattle.rbbi_resolve.proofs.Weights.{size_of_set, size_of_member}
@@ -15,5 +15,5 @@ decreases-value_of_item l = size_of_member (set_item_tree l.item.now)
 
 abbrev pub invariant-value_of_set-loop-part : goal.invariant-value_of_set-loop-part
 invariant-value_of_set-loop-part l =
-    IsFolding l.initial.properties (bounds_of l.context) (context_of l.initial.properties l.context) l.initial.least (parts_of (map part_tree l.part-items))
-    (parts_of (map part_tree (drop l.part-index l.part-items))) l.whole l.least l.properties
+    IsFolding (files_of l.context) (bounds_of l.context) (context_of l.context) l.initial.least (parts_of (map part_tree l.part-items))
+    (parts_of (map part_tree (drop l.part-index l.part-items))) l.whole l.least

@@ -1,4 +1,4 @@
-use Rattle.std.proofs.Common.{◌≡◌, ◌<◌, List, length, refl, ◌∙◌, subst, arith, rules}
+use Rattle.std.proofs.Common.{◌≡◌, ◌<◌, List, length, subst, arith, rules}
 use Rattle.std.specs.HashMap.{values}
 use Rattle.std.specs.Rc.{rc_value}
 use Rattle.std.proofs.lemmas.List.{length-map}
@@ -9,24 +9,22 @@ use Rattle.rbbi_model.specs.Ranges.{Range}
 use Rattle.rbbi_classes.specs.Divisions.{ClassDivision, IsRespected, stand_in}
 use Rattle.rbbi_classes.proofs.FirstCodePoints.{stand-in_is_point}
 use Rattle.rbbi_resolve.specs.inner.ClassValues.{IsKnown}
-use Rattle.rbbi_tree.specs.Values.{statement_tree, statement_trees}
+use Rattle.rbbi_tree.specs.Values.{statement_trees}
 use Rattle.rbbi_resolve.specs.inner.Questions.{IsRightAnswer}
-use Rattle.rbbi_resolve.specs.inner.Covered.{AreRespected, Collects, IsBasedAnswer, parts_of_statement}
+use Rattle.rbbi_resolve.specs.inner.Covered.{AreRespected, IsBasedAnswer}
 use Rattle.rbbi_resolve.proofs.Collecting.{statements_covered}
 use Rattle.rbbi_resolve.proofs.classes.Classes.of.Goals as goal
 
 pub loop-number-init : goal.loop-number-init
 loop-number-init c =
-    record { same = refl; kept = c.in_ok-collection.ensures c.args.properties.now; covers = λ stand are number s low. absurd (omega arith) }
+    record { kept = c.in_ok-collection.ensures c.args.table.now; covers = λ stand are number s low. absurd (omega arith) }
 
 pub loop-number-preserved : goal.loop-number-preserved
 loop-number-preserved c =
-    let files = c.args.properties.now in
+    let files = c.args.table.now in
     let l = c.loop-number in
-    let collects = subst (λ f. Collects f l.collection c.collect_statement.new.collection (parts_of_statement (statement_tree c.get.result.now)))
-    l.invariant.same c.in_ok-collect_statement.ensures.collected in
+    let collects = c.in_ok-collect_statement.ensures in
     record {
-      same = c.in_ok-collect_statement.ensures.same ∙ l.invariant.same;
       kept = collects.kept;
       covers = statements_covered files l.collection c.collect_statement.new.collection c.args.statements.now l.number c.get.result.now c.get.ensures collects
           l.invariant.covers;
@@ -52,7 +50,7 @@ returns-clause-covers c =
 
 pub returns-clause-classes : goal.returns-clause-classes
 returns-clause-classes c =
-    let files = c.args.properties.now in
+    let files = c.args.table.now in
     let l = c.loop-number in
     let d : ClassDivision = c.in_ok-division.division in
     let shared : rc_value c.in_ok-shared.shared ≡ d = search rules in

@@ -6,8 +6,7 @@ use Rattle.rbbi_resolve.proofs.classes.Classes.of.Given as goal
 
 abbrev pub invariant-loop-number : goal.invariant-loop-number
 invariant-loop-number l = record {
-  same : l.properties ≡ l.initial.properties;
-  kept : IsCollection l.initial.properties l.collection;
+  kept : IsCollection l.table l.collection;
   covers : (stand : ℕ → ℕ) → AreRespected stand l.collection.bases.items → (number : ℕ) (s : StatementTree) → number < l.number →
-      slice_get (statement_trees l.statements) number ≡ Some s → AreCovered l.initial.properties stand (parts_of_statement s);
+      slice_get (statement_trees l.statements) number ≡ Some s → AreCovered l.table stand (parts_of_statement s);
 }

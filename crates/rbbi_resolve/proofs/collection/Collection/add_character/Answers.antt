@@ -1,4 +1,4 @@
-use Rattle.std.proofs.Common.{◌≡◌, ℕ, ◌∷◌, [], ◌++◌, ◌≤◌, ◌||◌, eqb, List, length, sym, ap, ◌∙◌, subst, arith}
+use Rattle.std.proofs.Common.{◌≡◌, ◌∷◌, [], ◌||◌, eqb, List, length, sym, ap, ◌∙◌, subst, arith}
 use Rattle.std.specs.HashMap.{values}
 use Rattle.std.specs.List.{Contains}
 use Rattle.std.specs.Vec.{with_items}

@@ -1,10 +1,9 @@
-use Rattle.std.proofs.Common.{◌≡◌, ℕ, false, replicate, sym, ap, ◌∙◌, rules, length}
+use Rattle.std.proofs.Common.{◌≡◌, ℕ, replicate, sym, ap, ◌∙◌, rules, length}
 use Rattle.std.proofs.lemmas.Bool.{false≢true}
 use Rattle.std.proofs.lemmas.List.{length-replicate}
 use Rattle.std.specs.HashMap.{values}
 use Rattle.std.specs.List.{All}
 use Rattle.rbbi_bits.proofs.Rows.{blank}
-use Rattle.rbbi_bits.specs.BitRows.{row_bit}
 use Rattle.rbbi_resolve.specs.inner.Covered.{IsBasedAnswer}
 use Rattle.rbbi_resolve.proofs.collection.Collection.new.Goals as goal
 

@@ -1,5 +1,5 @@
 use Rattle.std.proofs.Common.{◌≡◌, ◌+◌, ℕ, ◌&&◌, not, is_some, Some, None, List, bytes_eq, codes, encode_utf8_all, string_bytes}
-use Rattle.std.proofs.Common.{sym, refl, ap, ◌∙◌, subst, arith}
+use Rattle.std.proofs.Common.{sym, refl, ap, ◌∙◌, arith}
 use Rattle.std.specs.Option.{option_copied}
 use Rattle.std.specs.HashMap.{get_by_text}
 use Rattle.std.specs.Map.{update}
@@ -18,6 +18,8 @@ use Rattle.rbbi_resolve.proofs.Steps.{step, context_next, stay_variables, join_v
 use Rattle.rbbi_resolve.proofs.Ending.{switches_kept}
 use Rattle.rbbi_classes.specs.Divisions.{stand_in}
 use Rattle.rbbi_resolve.proofs.Respecting.{context_respects}
+use Rattle.rbbi_resolve.specs.inner.Readings.{AreLeavesTo}
+use Rattle.rbbi_resolve.proofs.LeafRows.{leaves_next}
 use Rattle.rbbi_resolve.proofs.file.Reading.read_assignment.Goals as goal
 use Rattle.rbbi_resolve.proofs.file.Reading.read_assignment.Goals.{In_ok-kind}
 
@@ -32,33 +34,31 @@ shown c =
 -- and as the statements before tell it
 assigned : (c : In_ok-kind) →
     c.is_some-is_assigned.result
-    ≡ is_some (variable_of (context_at c.args.self.now.properties (statement_trees c.args.self.now.statements.now) c.args.number) c.args.name.now)
+    ≡ is_some (variable_of (context_at c.args.self.now.table.now (statement_trees c.args.self.now.statements.now) c.args.number) c.args.name.now)
 assigned c =
     let r = c.args.self.now in
     let n = c.args.number in
     shown c
-    ∙ matches_some r.properties (rc_value r.classes.division).bounds _ _ ((describes r.properties (rc_value r.classes.division).bounds
+    ∙ matches_some r.table.now (rc_value r.classes.division).bounds _ _ ((describes r.table.now (rc_value r.classes.division).bounds
     (statement_trees r.statements.now) r.variables n n (omega arith) c.requires.reading.defined).same
     (encode_utf8_all c.args.name.now))
 
 -- the assignment is read, where the variables are those behind it
 read_to : (c : In_ok-kind) (variables : Variables) →
-    AreVariables c.args.self.now.properties (rc_value c.args.self.now.classes.division).bounds (statement_trees c.args.self.now.statements.now) variables
+    AreVariables c.args.self.now.table.now (rc_value c.args.self.now.classes.division).bounds (statement_trees c.args.self.now.statements.now) variables
     (c.args.number + 1) →
-    IsReadTo c.check_definition.new.properties c.args.self.now.classes c.args.self.now.dictionary_ignored
+    IsReadTo c.args.self.now.table.now c.args.self.now.classes c.args.self.now.dictionary_ignored
     (statement_trees c.args.self.now.statements.now) variables
     c.check_definition.new.least c.args.self.now.switches c.args.self.now.counts (c.args.number + 1)
 read_to c variables are =
     let r = c.args.self.now in
-    let files = r.properties in
+    let files = r.table.now in
     let trees = statement_trees r.statements.now in
     let n = c.args.number in
     let word = c.args.name.now in
     let expr = expr_tree c.args.expr.now in
     let k = context_at files trees n in
-    subst (λ p. IsReadTo p r.classes r.dictionary_ignored trees variables c.check_definition.new.least r.switches r.counts (n + 1))
-    (sym c.in_ok-kind.ensures.same)
-    (step files r.classes r.dictionary_ignored trees n (assign word c.args.place expr) r.variables variables r.least c.check_definition.new.least
+    step files r.classes r.dictionary_ignored trees n (assign word c.args.place expr) r.variables variables r.least c.check_definition.new.least
     r.switches r.switches
     r.counts r.counts c.requires.reading c.requires.at are
     (note_three r.least c.note_where.new.least c.note_where-2.new.least c.check_definition.new.least
@@ -68,7 +68,17 @@ read_to c variables are =
     (c.note_where-2.ensures ∙ ap (λ b. noted c.note_where.new.least (faults_where b c.args.place kinds.Redefined)) (assigned c))
     c.in_ok-kind.ensures.noted)
     (switches_kept r.switches k word expr c.requires.reading.switched)
-    (λ left all so_far. so_far))
+    (λ left all so_far. so_far)
+
+-- its leaves stand behind those of the earlier statements
+added : (c : In_ok-kind) →
+    AreLeavesTo c.args.self.now.table.now (rc_value c.args.self.now.classes.division) (statement_trees c.args.self.now.statements.now)
+    c.args.self.now.firsts.items c.check_definition.new.leaves.rows.items (c.args.number + 1)
+added c =
+    let r = c.args.self.now in
+    let begun = c.requires.leaves in
+    leaves_next r.table.now (rc_value r.classes.division) (statement_trees r.statements.now) begun.firsts r.firsts.items r.leaves.rows.items
+    c.check_definition.new.leaves.rows.items c.args.number _ c.requires.at begun.is begun.before c.in_ok-kind.ensures.rows
 
 pub returns-then-is_assigned : goal.returns-then-is_assigned
 returns-then-is_assigned c =
@@ -78,12 +88,13 @@ returns-then-is_assigned c =
     let n = c.args.number in
     let word = c.args.name.now in
     let expr = expr_tree c.args.expr.now in
-    let stays = with_known (context_at r.properties trees n) word expr (sym (assigned read) ∙ c.if-is_assigned.true) in
-    let next = ap (λ x. x.variables) (context_next r.properties trees n (assign word c.args.place expr) c.requires.at ∙ stays) in
+    let stays = with_known (context_at r.table.now trees n) word expr (sym (assigned read) ∙ c.if-is_assigned.true) in
+    let next = ap (λ x. x.variables) (context_next r.table.now trees n (assign word c.args.place expr) c.requires.at ∙ stays) in
     record {
-      reading = read_to read r.variables (stay_variables r.properties (rc_value r.classes.division).bounds trees r.variables n next c.requires.reading.defined);
+      reading = read_to read r.variables (stay_variables r.table.now (rc_value r.classes.division).bounds trees r.variables n next c.requires.reading.defined);
+      leaves = added read;
       statements = refl;
-      properties = c.in_ok-kind.ensures.same;
+      table = refl;
       ignored = refl;
     }
 
@@ -91,7 +102,7 @@ pub returns : goal.returns
 returns c =
     let read = (goal.at.returns c).In_ok-kind in
     let r = c.args.self.now in
-    let files = r.properties in
+    let files = r.table.now in
     let trees = statement_trees r.statements.now in
     let n = c.args.number in
     let word = c.args.name.now in
@@ -111,8 +122,9 @@ returns c =
       reading = read_to read c.insert.new.self (join_variable files
           (rc_value r.classes.division).bounds trees r.variables c.insert.new.self n word c.args.place expr c.in_ok-kind.kind
           c.requires.at next unknown c.in_ok-kind.ensures.kind put c.requires.reading.defined);
+      leaves = added read;
       statements = refl;
-      properties = c.in_ok-kind.ensures.same;
+      table = refl;
       ignored = refl;
     }
 
@@ -125,7 +137,7 @@ check_definition-requires-clause-context c =
     let trees = statement_trees r.statements.now in
     let n = c.args.number in
     record {
-      respects = context_respects r.properties (stand_in (rc_value r.classes.division)) trees n c.requires.reading.covered;
-      describes = describes r.properties (rc_value r.classes.division).bounds trees r.variables n n (omega arith) c.requires.reading.defined;
+      respects = context_respects r.table.now (stand_in (rc_value r.classes.division)) trees n c.requires.reading.covered;
+      describes = describes r.table.now (rc_value r.classes.division).bounds trees r.variables n n (omega arith) c.requires.reading.defined;
       classes = c.requires.reading.classified;
     }

@@ -1,4 +1,4 @@
-use Rattle.std.proofs.Common.{◌≡◌, map, take, ap, ◌∙◌, arith}
+use Rattle.std.proofs.Common.{map, ap, ◌∙◌, arith}
 use Rattle.std.specs.Rc.{rc_value}
 use Rattle.std.proofs.lemmas.List.{take_all}
 use Rattle.rbbi_classes.specs.CharacterSets.{characters_of}
