@@ -10,8 +10,6 @@ use Rattle.rbbi_model.specs.Answers.{Reply}
 use Rattle.rbbi_model.specs.Scripts.{AreReplies}
 use Rattle.rbbi_model.specs.Scripts as scripts
 use Rattle.rbbi_model.specs.Tables.{Table}
-use Rattle.rbbi_model.specs.ValidTables.{IsValidTable}
-use Rattle.rbbi_model.specs.TableFile.{spelling}
 use Rattle.rbbi_lex.specs.declared.token.Token.{Token}
 use Rattle.rbbi_lex.specs.declared.error.LexErr.{LexErr}
 use Rattle.rbbi_lex.specs.declared.error.LexErr.TheVariants as lexing
@@ -36,6 +34,7 @@ use Rattle.rbbi_file.specs.declared.error.FileErr.{FileErr}
 use Rattle.rbbi_file.specs.declared.error.FileErr.TheVariants as file
 use Rattle.rbbi_file.specs.Errors as reader
 use Rattle.rbbi_file.specs.Answers.{ReadsTable}
+use Rattle.rbbi_file.specs.Laws.{SpellOneTable}
 use Rattle.rbbi_script.specs.Laws.{HaveOneScript}
 use Rattle.rbbi_conform.specs.Tests.{Test}
 use Rattle.rbbi_conform.specs.Laws.{HaveOneTestList, HasOneVerdict}
@@ -89,7 +88,7 @@ pub record Laws : Type 0 where
   pub excludes : (ts : List Token) (end : ℕ) (statements : List StatementTree) (e : TreeErr) → IsFile ts statements → IsShallow ts
       → parser.IsFaultOf ts end e → ⊥
   pub meanings : HasOneMeaning
-  pub tables : (these those : Table) → IsValidTable these → IsValidTable those → spelling these ≡ spelling those → these ≡ those
+  pub tables : SpellOneTable
   pub answers : (bytes : List ℕ) (one other : Result Table FileErr) → ReadsTable bytes one → ReadsTable bytes other → one ≢ Err file.Memory
       → other ≢ Err file.Memory → one ≡ other
   pub boundaries : (rules : List Rule) (x : List ℕ) (these those : List Boundary) → AreBoundaries rules x these → AreBoundaries rules x those → these ≡ those
@@ -310,7 +309,7 @@ module _ (laws : Laws) where
 
   table_determined : (bytes : List ℕ) → IsDeterministic Table (table_stage bytes)
   table_determined bytes = record {
-    value = λ t u is is'. laws.tables t u is.0 is'.0 (sym is.1 ∙ is'.1);
+    value = λ t u is is'. laws.tables bytes t u is.0 is'.0 is.1 is'.1;
     refusal = λ r s is is'.
         let same = laws.answers bytes (Err is.error) (Err is'.error) is.refused is'.refused (λ m. is.not_memory cc) (λ m. is'.not_memory cc) in
         is.is ∙ ap (λ e. Fault subject.Table (reader.label_of e) (table_place (reader.place_of e))) (err_same is.error is'.error same) ∙ sym is'.is;

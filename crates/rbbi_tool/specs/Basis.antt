@@ -6,7 +6,7 @@ use Rattle.rbbi_model.specs.Tables.{Table}
 use Rattle.rbbi_model.specs.ValidTables.{IsValidTable}
 use Rattle.rbbi_model.specs.Searches.{table_boundaries}
 use Rattle.rbbi_model.specs.Compiled.{IsCompiled}
-use Rattle.rbbi_model.specs.TableFile.{spelling}
+use Rattle.rbbi_model.specs.TableFile.{IsSpelling}
 use Rattle.rbbi_cats.specs.CategoryLists.{HasClasses}
 use Rattle.rbbi_dfa.specs.declared.error.BuildErr.{BuildErr}
 use Rattle.rbbi_dfa.specs.declared.error.BuildErr.TheVariants as build
@@ -68,9 +68,9 @@ pub record TellsTableFault (bytes : List ℕ) (refusal : Refusal) : Type 0 where
   pub not_memory : error ≢ file.Memory
   pub is : refusal ≡ Fault subject.Table (reader.label_of error) (table_place (reader.place_of error))
 
--- the table that the bytes of a table file spell, or the first fault
+-- the table that the bytes of a table file spell, in either version, or the first fault
 abbrev pub table_stage : List ℕ → Stage Table
-table_stage bytes = record { passes = λ table. IsValidTable table × (bytes ≡ spelling table); refuses = TellsTableFault bytes }
+table_stage bytes = record { passes = λ table. IsValidTable table × IsSpelling bytes table; refuses = TellsTableFault bytes }
 
 -- what boundaries come by
 pub data Basis : Type 0 where
