@@ -41,7 +41,7 @@ use Rattle.rbbi_conform.specs.Laws.{HaveOneTestList, HasOneVerdict}
 use Rattle.rbbi_demo.specs.declared.summary.Summary.{Summary}
 use Rattle.rbbi_demo.specs.Summaries.{IsSummary}
 use Rattle.rbbi_command.specs.declared.words.command.Command.{Command}
-use Rattle.rbbi_command.specs.declared.words.command.Command.TheVariants.{Check, Compile, Breaks, Run, Conform, Demo}
+use Rattle.rbbi_command.specs.declared.words.command.Command.TheVariants.{Check, Compile, Upgrade, Breaks, Run, Conform, Demo}
 use Rattle.rbbi_command.specs.declared.words.setting.Property.{Property}
 use Rattle.rbbi_command.specs.declared.inputs.Input.{Input}
 use Rattle.rbbi_command.specs.declared.files.Source.{Source}
@@ -65,7 +65,7 @@ use Rattle.rbbi_tool.specs.Basis.{Basis, ByRules, ByTable, AreBoundariesBy, basi
 use Rattle.rbbi_command.specs.Settings.{Options}
 use Rattle.rbbi_command.specs.Inputs.{Inputs, inputs_of}
 use Rattle.rbbi_tool.specs.Command.Check.{counts_line}
-use Rattle.rbbi_tool.specs.Command.Compile.{TellsTable}
+use Rattle.rbbi_tool.specs.Command.Compile.{table_outcome, TellsTable}
 use Rattle.rbbi_tool.specs.Command.Breaks.{boundaries_stage}
 use Rattle.rbbi_tool.specs.Command.Run.{AreRepliesFrom, replies_stage}
 use Rattle.rbbi_tool.specs.Command.Conform.{told_verdicts, verdicts_stage}
@@ -425,6 +425,10 @@ module _ (laws : Laws) where
       settled AreAlike (command_stage Check request inputs) alike
       (determined_both (rules_stage request.options inputs) (λ rules. gives (printed (counts_line rules)))
       (rules_determined request.options inputs) (λ rules. gives_determined (printed (counts_line rules))))
+  command_settled Upgrade request inputs =
+      settled AreAlike (command_stage Upgrade request inputs) alike
+      (determined_both (table_stage inputs.table) (λ table. gives (table_outcome (nth request.operands 1) table)) (table_determined inputs.table)
+      (λ table. gives_determined (table_outcome (nth request.operands 1) table)))
   command_settled Compile request inputs =
       settled_both (compiled_stage request.options inputs)
       (λ rules. record { passes = TellsTable rules (nth request.operands 1); refuses = λ _. ⊥ }) AreAlike
