@@ -81,11 +81,11 @@ pub short_valid : (version : ℕ) (table : Table) → IsValidTable table → len
 short_valid version table valid =
     let categories : ℕ = table.categories in
     let size : ℕ = cell_size version (length table.rows) in
-    let few : categories ≤ 255 = valid.ranges.few_categories in
-    let cells : size * categories ≤ 2 * 255 = mul-le size categories 2 255 (size_few version (length table.rows)) few in
-    let wide : rows_size size (length table.rows) categories ≤ 4095 * 518 =
-    mul-le (length table.rows) (8 + size * categories) 4095 518 valid.rows.few (omega (arith, cells)) in
-    let squares : categories * categories ≤ 255 * 255 = mul-le categories categories 255 255 few few in
+    let few : categories ≤ 1000 = valid.ranges.few_categories in
+    let cells : size * categories ≤ 2 * 1000 = mul-le size categories 2 1000 (size_few version (length table.rows)) few in
+    let wide : rows_size size (length table.rows) categories ≤ 4095 * 2008 =
+    mul-le (length table.rows) (8 + size * categories) 4095 2008 valid.rows.few (omega (arith, cells)) in
+    let squares : categories * categories ≤ 1000 * 1000 = mul-le categories categories 1000 1000 few few in
     omega (
       arith,
       wide,

@@ -26,11 +26,11 @@ use Rattle.rbbi_command.specs.declared.refusal.Refusal.TheVariants.{Fault}
 use Rattle.rbbi_command.specs.Stages.{Stage, followed_by, gives}
 use Rattle.rbbi_tool.specs.Rules.{rules_stage, rules_of_text_stage}
 
--- there are at most 255 categories, category 0 counted, or more
+-- there are at most 1,000 categories, category 0 counted, or more
 abbrev pub categories_stage : List Rule → Stage (Unit {0})
 categories_stage rules = record {
-  passes = λ _. ¬ HasClasses rules 255;
-  refuses = λ refusal. HasClasses rules 255 × (refusal ≡ Fault subject.Rules (codes "TooManyCategories") Whole);
+  passes = λ _. ¬ HasClasses rules 1000;
+  refuses = λ refusal. HasClasses rules 1000 × (refusal ≡ Fault subject.Rules (codes "TooManyCategories") Whole);
 }
 
 -- some limit on tables is passed, and the first that is is told
