@@ -68,10 +68,12 @@ int main(int count, char **words) {
         return 2;
     }
     std::string bytes = read_file(words[1]);
-    Reader reader{bytes, 8};
+    Reader reader{bytes, 7};
+    uint32_t version = reader.number(1);
     uint32_t categories = reader.number(2), ranges = reader.number(4), lists = reader.number(2);
     uint32_t rows = reader.number(2);
     reader.number(2);
+    int cell = version == 2 && rows <= 255 ? 1 : 2;
 
     std::vector<uint32_t> starts, cats;
     for (uint32_t i = 0; i < ranges; i++) {
@@ -79,12 +81,12 @@ int main(int count, char **words) {
         cats.push_back(reader.number(2));
     }
     starts.push_back(0x110000);
-    // Categories in two steps: blocks of 256 code points, each of which names its block of bytes.
-    std::vector<uint8_t> category(0x110000);
+    // Categories in two steps: blocks of 256 code points, each of which names its block of numbers.
+    std::vector<uint16_t> category(0x110000);
     for (uint32_t i = 0; i < ranges; i++)
         for (uint32_t code = starts[i]; code < starts[i + 1]; code++) category[code] = cats[i];
     std::vector<uint16_t> block(0x1100);
-    std::vector<uint8_t> blocks;
+    std::vector<uint16_t> blocks;
     for (uint32_t b = 0; b < 0x1100; b++) {
         uint32_t found = 0, known = blocks.size() / 256;
         while (found < known &&
@@ -105,7 +107,7 @@ int main(int count, char **words) {
         reader.number(4);
         reader.number(2);
         for (uint32_t c = 0; c < categories; c++) {
-            uint32_t next = reader.number(2);
+            uint32_t next = reader.number(cell);
             cells.push_back((next == 0 ? 1 : next) * categories);
         }
     }

@@ -157,10 +157,10 @@ def doubling(names, use):
 
 
 def many_rows():
-    """One literal of 4,093 characters of 254 letters: 4,095 rows of 255 categories."""
+    """One literal of 4,093 characters of 999 letters: 4,095 rows of 1,000 categories."""
     source = random.Random('rows')
-    letters_ = distinct_letters(254)
-    return "'" + ''.join(letters_ + source.choices(letters_, k=4093 - 254)) + "';\n"
+    letters_ = [chr(0x4E00 + k) for k in range(999)]
+    return "'" + ''.join(letters_ + source.choices(letters_, k=4093 - 999)) + "';\n"
 
 
 def literal():
@@ -213,7 +213,7 @@ LIMITS = {
     'sets10': (lambda: rounds(10), '(a|b)*a and 10 times (a|b), 2,049 rows'),
     'sets13': (lambda: rounds(13), '(a|b)*a and 13 times (a|b), refused as TooManyRows'),
     'sets14': (lambda: rounds(14), '(a|b)*a and 14 times (a|b), refused as TooManySets'),
-    'rows': (many_rows, '4,095 rows of 255 categories'),
+    'rows': (many_rows, '4,095 rows of 1,000 categories'),
     'literal': (literal, 'a literal of 4,000 characters'),
     'rules': (many_rules, '4,096 rules'),
     'statuses': (many_statuses, '4,001 status lists'),
@@ -422,16 +422,25 @@ def write_file(folder, name, text):
 
 def make_big_table(folder):
     """A valid table file near the largest: all ranges of one code point, and status lists as long as
-    they fit. Its rows lead nowhere, so all of its pairs are safe."""
+    they fit. By each category one half of its rows leads to the whole other half, and that half to
+    one row. So all pairs are safe, and each takes as many comparisons as can be."""
     path = os.path.join(folder, 'big.table')
     if os.path.exists(path):
         return path
-    categories, rows, lists, ranges = 255, 4095, 4095, 0x110000
+    categories, rows, lists, ranges = 1000, 4095, 4095, 0x110000
+    half = (rows - 1) // 2
 
     def number(value, size):
         return value.to_bytes(size, 'little')
+
+    def cells(row):
+        if row == 0:
+            return [0] * categories
+        if row > half:
+            return [half + 1] * categories
+        return [half + 1 + (row + 7 * category) % (rows - 1 - half) for category in range(categories)]
     with open(path + '.part', 'wb') as file:
-        file.write(bytes.fromhex('5242424954424C01'))
+        file.write(bytes.fromhex('5242424954424C02'))
         file.write(number(categories, 2) + number(ranges, 4) + number(lists, 2) + number(rows, 2)
                    + number(0, 2))
         file.write(b''.join(number(code, 4) + number(code % categories, 2) for code in range(ranges)))
@@ -439,11 +448,11 @@ def make_big_table(folder):
         every = b''.join(number(value, 4) for value in range(2 * 4096))
         for first in range(1, lists):
             file.write(number(4096, 2) + every[4 * first:4 * (first + 4096)])
-        nowhere = bytes(2 * categories)
         for row in range(rows):
             ends = row > 1
-            file.write(number(int(ends), 2) + number(0, 4) + number(row - 1 if ends else 0, 2) + nowhere)
+            file.write(number(int(ends), 2) + number(0, 4) + number(row - 1 if ends else 0, 2))
+            file.write(b''.join(number(next_, 2) for next_ in cells(row)))
         bits = categories * categories
-        file.write(b'\xFF' * (bits // 8) + number((1 << bits % 8) - 1, 1))
+        file.write(b'\xFF' * (bits // 8))
     os.rename(path + '.part', path)
     return path

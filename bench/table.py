@@ -139,7 +139,7 @@ def lookaheads(bench):
 def tables(bench):
     path = inputs.make_big_table(bench.folder)
     what = f'`breaks --table`, a table of {size_text(os.path.getsize(path))}, checked whole'
-    yield bench.below(what, ['breaks', '--table', path, bench.tiny()], 3.0)
+    yield bench.below(what, ['breaks', '--table', path, bench.tiny()], 5.0, 256 * MIB + os.path.getsize(path))
 
 
 def loop(bench):

@@ -83,7 +83,7 @@ module _ {list : RuleList} {division : ClassDivision} {categories : List ℕ} {r
     | inr past ↦ omega (arith, get_or_past categories k 0 past, numbered.some)
   ]
 
-  pub are_valid : count ≤ 255 → AreValidRanges count ranges
+  pub are_valid : count ≤ 1000 → AreValidRanges count ranges
   are_valid few = record {
     some_categories = numbered.some;
     few_categories = few;

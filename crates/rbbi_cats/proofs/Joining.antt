@@ -28,7 +28,7 @@ pub record JoinedSoFar (division : ClassDivision) (rows : List ClassBits) (categ
   pub numbered : AreNumbered categories count
   pub many : length categories ≡ length division.bounds + 1
   pub told : AreCategories division.steps (map (characters_of division) (take i rows)) categories
-  pub few : count ≤ 255
+  pub few : count ≤ 1000
 
 zeros : (n k : ℕ) → ◌≡◌ {A = ℕ} (get_or (replicate n 0) k 0) 0
 zeros n k = elim (cases_lt k n) [
@@ -75,17 +75,17 @@ module _ (division : ClassDivision) (form : IsDivision division) (rows : List Cl
       (told_more division.steps (map (characters_of division) (take i rows)) (characters_of division row) characters before after
       (λ c small. omega (arith, form.within c small, h.many)) has refines h.told)
 
-  pub joined_more : (written_to : List ℕ) (n : ℕ) → n ≡ length before → written_to ≡ take n (after ++ drop (length after) before) → count ≤ 255 →
+  pub joined_more : (written_to : List ℕ) (n : ℕ) → n ≡ length before → written_to ≡ take n (after ++ drop (length after) before) → count ≤ 1000 →
       JoinedSoFar division rows written_to count (i + 1)
   joined_more written_to n all same few =
       subst (λ (list : List ℕ). JoinedSoFar division rows list count (i + 1))
       (sym (same ∙ written after before n (omega (arith, refines.many, all)) (omega (arith, all))))
       (record { numbered = numbered; many = many_more; told = told; few = few })
 
-  pub told_many : 255 < count → HasTold (map (characters_of division) rows) 255
+  pub told_many : 1000 < count → HasTold (map (characters_of division) rows) 1000
   told_many more =
-      subst (λ (sets : List (List Range)). HasTold sets 255)
+      subst (λ (sets : List (List Range)). HasTold sets 1000)
       (sym (map-append (characters_of division) (take (i + 1) rows) (drop (i + 1) rows)) ∙ ap (map (characters_of division)) (take-append-drop (i + 1) rows))
-      (has_told division.steps division.bounds (map (characters_of division) (take (i + 1) rows)) (map (characters_of division) (drop (i + 1) rows)) after 255
+      (has_told division.steps division.bounds (map (characters_of division) (take (i + 1) rows)) (map (characters_of division) (drop (i + 1) rows)) after 1000
       count numbered more (λ k below. let small : k ≤ length division.bounds = omega (arith, below, many_more) in
       (first_of division.bounds k, first-is_point division.bounds form.bounds k small, form.first k small)) told)

@@ -42,7 +42,7 @@ impl Model for Categories {
 /// code points that the leaves' sets don't tell apart, numbered by their least code point
 /// (partition refinement; Paige and Tarjan 1987).
 ///
-/// Refuses `TooManyCategories` if there are more than 255, category 0 counted.
+/// Refuses `TooManyCategories` if there are more than 1,000, category 0 counted.
 pub fn partition(alloc: Global, rules: &Rules) -> Result<Categories, CatsErr>
     requires { AreLawful (rules_of rules.now) }
     ensures classes { IfOk result (λ cats. AreClasses (rules_of rules.now) cats.count cats.ranges) }
@@ -70,7 +70,7 @@ impl Categories {
         self.blocks.category(c)
     }
 
-    /// The number of categories, category 0 counted: 1 to 255.
+    /// The number of categories, category 0 counted: 1 to 1,000.
     pub fn count(&self) -> u16
         ensures value { result ≡ self.now.count }
         ensures form { AreValidRanges self.now.count self.now.ranges }

@@ -15,7 +15,7 @@ use rbbi_classes::{ClassSet, Division};
 use std::alloc::{AllocError, Global};
 
 /// The most categories that rules may have, category 0 counted.
-pub const MOST_CATEGORIES: usize = 255;
+pub const MOST_CATEGORIES: usize = 1000;
 
 /// The category of each class of a division by some rows of its classes, and the number of
 /// categories: 0 for the classes that no row has and for those of surrogates, and one for all

@@ -7,8 +7,8 @@ use thiserror::Error;
 /// Why the categories of rules are refused.
 #[derive(Debug, Drop, Error)]
 pub enum CatsErr {
-    /// There are more than 255 categories, category 0 counted.
-    #[error("more than 255 categories")]
+    /// There are more than 1,000 categories, category 0 counted.
+    #[error("more than 1,000 categories")]
     TooManyCategories,
     /// Memory ran out.
     #[error("out of memory")]

@@ -1,7 +1,7 @@
 -- The forms of the command line.
 use Rattle.std.specs.Prelude.{◌≡◌, Bool, true, false, List, [], ◌∷◌, ℕ, length, codes}
 use Rattle.rbbi_command.specs.declared.words.command.Command.{Command}
-use Rattle.rbbi_command.specs.declared.words.command.Command.TheVariants.{Check, Compile, Breaks, Run, Conform, Demo}
+use Rattle.rbbi_command.specs.declared.words.command.Command.TheVariants.{Check, Compile, Upgrade, Breaks, Run, Conform, Demo}
 use Rattle.rbbi_command.specs.declared.words.command.Takes.{Takes}
 use Rattle.rbbi_command.specs.declared.words.command.Takes.TheVariants.{NoOptions, RuleOptions, RuleOptionsOrTable}
 use Rattle.rbbi_command.specs.declared.words.command.Operand.{Operand}
@@ -15,6 +15,7 @@ use Rattle.rbbi_command.specs.Settings.{Options, options_of, are_taken, BeginWit
 abbrev pub name_of : Command → List ℕ
 name_of Check = codes "check"
 name_of Compile = codes "compile"
+name_of Upgrade = codes "upgrade"
 name_of Breaks = codes "breaks"
 name_of Run = codes "run"
 name_of Conform = codes "conform"
@@ -24,6 +25,7 @@ name_of Demo = codes "demo"
 abbrev pub taken_by : Command → Takes
 taken_by Check = RuleOptions
 taken_by Compile = RuleOptions
+taken_by Upgrade = NoOptions
 taken_by Breaks = RuleOptionsOrTable
 taken_by Run = RuleOptionsOrTable
 taken_by Conform = RuleOptionsOrTable
@@ -33,6 +35,7 @@ taken_by Demo = NoOptions
 abbrev pub operands_of : Command → Bool → List Operand
 operands_of Check by_table = Read Rules ∷ []
 operands_of Compile by_table = Read Rules ∷ Written ∷ []
+operands_of Upgrade by_table = Read Table ∷ Written ∷ []
 operands_of Breaks false = Read Rules ∷ Read Text ∷ []
 operands_of Breaks true = Read Table ∷ Read Text ∷ []
 operands_of Run false = Read Rules ∷ Read Text ∷ Read Script ∷ []

@@ -187,7 +187,7 @@ pub(crate) fn automaton_of(
     slashes: u16,
 ) -> Result<Automaton, DeterminizeErr>
     requires some_categories { 1 ≤ categories }
-    requires few_categories { categories ≤ 255 }
+    requires few_categories { categories ≤ 1000 }
     requires readable { AreReadable positions.now categories slashes }
     ensures categories { IfOk result (λ automaton. automaton.categories ≡ categories) }
     ensures marks { IfOk result (λ automaton. (rules : List Rule) (ranges : List CategoryRange) →

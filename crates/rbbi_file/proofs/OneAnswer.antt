@@ -1,5 +1,5 @@
 -- Bytes have one answer.
-use Rattle.std.proofs.Common.{◌≡◌, ◌≢◌, ℕ, List, length, refl, ap, sym, ◌∙◌, subst, arith}
+use Rattle.std.proofs.Common.{◌≡◌, ◌≢◌, ℕ, List, length, refl, ap, sym, ◌∙◌, subst, inl, inr, arith}
 use Rattle.std.specs.Prelude.{Result, Ok, Err}
 use Rattle.rbbi_model.specs.Tables.{Table}
 use Rattle.rbbi_table.specs.declared.error.TableErr.{TableErr}
@@ -7,8 +7,8 @@ use Rattle.rbbi_table.specs.declared.error.TableErr.TheVariants as table
 use Rattle.rbbi_table.specs.Answers.{MakesTable}
 use Rattle.rbbi_file.specs.declared.error.FileErr.{FileErr}
 use Rattle.rbbi_file.specs.declared.error.FileErr.TheVariants.{BadMagic, Short, Trailing, Part, Memory}
-use Rattle.rbbi_file.specs.Lengths.{HasMagic, parts_end}
-use Rattle.rbbi_file.specs.Answers.{ReadsTable, SpellBadParts}
+use Rattle.rbbi_file.specs.Lengths.{HasMagic, version_in, parts_end}
+use Rattle.rbbi_file.specs.Answers.{ReadsTable, IsFirstBad, SpellBadParts}
 use Rattle.rbbi_file.proofs.OneTable.{one_table}
 use Rattle.rbbi_file.proofs.Ends.{has_magic, ends_there}
 use Rattle.rbbi_file.proofs.WholeFiles.{length_valid, same_valid, spell_valid, not_bad}
@@ -32,8 +32,14 @@ one_fault parts table.BadFronts table.BadSafe makes makes' known known' = absurd
 one_fault parts table.BadSafe table.BadFronts makes makes' known known' = absurd (makes'.3 makes.3)
 one_fault parts table.BadSafe table.BadSafe makes makes' known known' = refl
 
+one_first : (version : ℕ) (parts : Table) (one other : TableErr) → IsFirstBad version parts one → IsFirstBad version parts other → one ≡ other
+one_first version parts one other (inl many) (inl many') = many.1 ∙ sym many'.1
+one_first version parts one other (inl many) (inr bad) = absurd (many.0 bad.0)
+one_first version parts one other (inr bad) (inl many) = absurd (many.0 bad.0)
+one_first version parts one other (inr bad) (inr bad') = one_fault parts one other bad.1 bad'.1 bad.2 bad'.2
+
 bad_magic : (bytes : List ℕ) (error : TableErr) → SpellBadParts bytes error → HasMagic bytes
-bad_magic bytes error bad = has_magic bytes bad.parts bad.spelled.spelled
+bad_magic bytes error bad = bad.spelled.magic
 
 bad_end : (bytes : List ℕ) (error : TableErr) → SpellBadParts bytes error → parts_end bytes ≡ length bytes
 bad_end bytes error bad = ends_there bytes bad.parts bad.spelled
@@ -41,11 +47,10 @@ bad_end bytes error bad = ends_there bytes bad.parts bad.spelled
 same_fault : (bytes : List ℕ) (one other : TableErr) → SpellBadParts bytes one → SpellBadParts bytes other → one ≡ other
 same_fault bytes one other bad bad' =
     let same : bad'.parts ≡ bad.parts = one_table bytes bad'.parts bad.parts bad'.spelled bad.spelled in
-    let P : Table → Type 0 = λ t. MakesTable t (Err other) in
-    one_fault bad.parts one other bad.bad (subst P same bad'.bad) bad.not_memory bad'.not_memory
+    one_first (version_in bytes) bad.parts one other bad.bad (subst (λ t. IsFirstBad (version_in bytes) t other) same bad'.bad)
 
 no_bad : (bytes : List ℕ) (t : Table) (error : TableErr) → ReadsTable bytes (Ok t) → SpellBadParts bytes error → ⊥
-no_bad bytes t error reads bad = not_bad bytes bad.parts error bad.spelled bad.not_memory bad.bad t reads.0 reads.1
+no_bad bytes t error reads bad = not_bad bytes bad.parts error bad.spelled bad.bad t reads.0 reads.1
 
 -- bytes have one answer, but for want of memory
 pub one_answer_lem : (bytes : List ℕ) (one other : Result Table FileErr) → ReadsTable bytes one → ReadsTable bytes other

@@ -10,7 +10,7 @@ use thiserror::Error;
 /// The first fault of a table file, or want of memory. Each place is that of a byte, from 0.
 #[derive(Debug, Drop, Error)]
 pub enum FileErr {
-    /// The first eight bytes aren't there, or aren't those of a table file.
+    /// The first eight bytes aren't there, or aren't those of a table file of either version.
     #[error("this is no table file")]
     BadMagic,
     /// The file ends before its parts do. The place is its number of bytes.

@@ -1,6 +1,7 @@
-//! Table files, version 1: a table as bytes, and back.
+//! Table files of both versions: a table as bytes, and back.
 #![tactic(auto)]
 
+mod cells;
 mod error;
 mod laws;
 mod numbers;
@@ -11,9 +12,12 @@ mod tests;
 mod write;
 
 pub use error::FileErr;
-pub use laws::one_answer;
+pub use laws::{one_answer, spellings_tell_the_table};
 pub use read::read_table;
 pub use write::write_table;
 
-/// The first eight bytes of a table file: a name and the version.
-pub(crate) const MAGIC: [u8; 8] = *b"RBBITBL\x01";
+/// The first eight bytes of a table file of version 1: a name and the version.
+pub(crate) const MAGIC_1: [u8; 8] = *b"RBBITBL\x01";
+
+/// The first eight bytes of a table file of version 2.
+pub(crate) const MAGIC_2: [u8; 8] = *b"RBBITBL\x02";

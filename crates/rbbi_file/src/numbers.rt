@@ -1,6 +1,7 @@
 //! Numbers as bytes, the byte of least value first.
-ghost use Rattle.std.specs.Prelude.{◌≡◌, ◌+◌, ◌*◌, ◌≤◌, ◌++◌, length, IfOk, OnOk, flat_map};
-ghost use Rattle.rbbi_model.specs.TableFile.{u16 as two_bytes, u32 as four_bytes};
+ghost use Rattle.std.specs.Prelude.{◌≡◌, ◌+◌, ◌*◌, ◌^◌, ◌<◌, ◌≤◌, ◌++◌, length, IfOk, OnOk};
+ghost use Rattle.std.specs.Prelude.{flat_map};
+ghost use Rattle.rbbi_model.specs.TableFile.{u16 as two_bytes, u32 as four_bytes, little_endian};
 ghost use Rattle.rbbi_file.specs.Lengths.{u16_at as number_in_two, u32_at as number_in_four};
 ghost use Rattle.rbbi_file.specs.inner.Reading.{Stand};
 
@@ -20,12 +21,33 @@ pub(crate) fn put_u32(out: &mut Vec<u8>, n: u32) -> Result<(), AllocError>
     out.extend_from_slice(&n.to_le_bytes())
 }
 
-/// Adds numbers, each in two bytes.
-pub(crate) fn put_u16s(out: &mut Vec<u8>, numbers: &[u16]) -> Result<(), AllocError>
-    ensures { OnOk result (out.new.items ≡ out.old.items ++ flat_map two_bytes numbers.now) }
+/// Adds a number in one or two bytes: in one, the least.
+fn put_sized(out: &mut Vec<u8>, size: usize, n: u16) -> Result<(), AllocError>
+    requires some { 1 ≤ size }
+    requires few { size ≤ 2 }
+    ensures { OnOk result (out.new.items ≡ out.old.items ++ little_endian size n) }
+{
+    if size == 1 {
+        out.push((n % 256) as u8)?;
+        Ok(())
+    } else {
+        put_u16(out, n)
+    }
+}
+
+/// Adds numbers, each in one or two bytes.
+pub(crate) fn put_all_sized(
+    out: &mut Vec<u8>,
+    size: usize,
+    numbers: &[u16],
+) -> Result<(), AllocError>
+    requires some { 1 ≤ size }
+    requires few { size ≤ 2 }
+    ensures { OnOk result
+        (out.new.items ≡ out.old.items ++ flat_map (little_endian size) numbers.now) }
 {
     for n in numbers {
-        put_u16(out, *n)?;
+        put_sized(out, size, *n)?;
     }
     Ok(())
 }
@@ -47,6 +69,21 @@ pub(crate) fn u16_at(bytes: &[u8], at: usize) -> u16
     ensures stands { Stand bytes.now (two_bytes result) at (at + 2) }
 {
     u16::from_le_bytes([bytes[at], bytes[at + 1]])
+}
+
+/// The number in the one or two bytes at a place.
+pub(crate) fn sized_at(bytes: &[u8], size: usize, at: usize) -> u16
+    requires some { 1 ≤ size }
+    requires few { size ≤ 2 }
+    requires whole { at + size ≤ length bytes.now }
+    ensures stands { Stand bytes.now (little_endian size result) at (at + size) }
+    ensures fits { result < 256 ^ size }
+{
+    if size == 1 {
+        bytes[at] as u16
+    } else {
+        u16_at(bytes, at)
+    }
 }
 
 /// The number in the four bytes at a place.

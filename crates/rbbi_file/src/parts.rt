@@ -8,7 +8,8 @@ ghost use Rattle.rbbi_file.specs.Lengths.{lists_end, rows_size};
 ghost use Rattle.rbbi_file.specs.Fitting.{FitsRange, FitsList, FitsHead};
 ghost use Rattle.rbbi_file.specs.inner.Reading.{Stand, AreCellsAt, AreListsAt, AreRowsAt};
 
-use crate::numbers::{u16_at, u32_at};
+use crate::cells::row_size;
+use crate::numbers::{sized_at, u16_at, u32_at};
 use rbbi_table::{NumberList, RangeRow, RowHead};
 use std::alloc::{AllocError, Global};
 
@@ -97,35 +98,51 @@ fn head_at(bytes: &[u8], at: usize) -> RowHead
     }
 }
 
-/// Adds `count` numbers of two bytes, which are read at a place.
-fn add_cells(cells: &mut Vec<u16>, bytes: &[u8], at: usize, count: usize) -> Result<(), AllocError>
-    requires { at + 2 * count ≤ length bytes.now }
-    ensures { OnOk result (AreCellsAt bytes.now cells.old.items cells.new.items at count) }
+/// Adds `count` numbers, which are read at a place, each in one or two bytes.
+fn add_cells(
+    cells: &mut Vec<u16>,
+    bytes: &[u8],
+    size: usize,
+    at: usize,
+    count: usize,
+) -> Result<(), AllocError>
+    requires some { 1 ≤ size }
+    requires few { size ≤ 2 }
+    requires whole { at + size * count ≤ length bytes.now }
+    ensures { OnOk result (AreCellsAt size bytes.now cells.old.items cells.new.items at count) }
 {
-    for cell in 0..count {
-        cells.push(u16_at(bytes, at + 2 * cell))?;
+    let mut place = at;
+    for _cell in 0..count {
+        cells.push(sized_at(bytes, size, place))?;
+        place += size;
     }
     Ok(())
 }
 
-/// Reads `count` rows at a place: their heads, and their next rows, one for each category.
+/// Reads `count` rows at a place: their heads, and their next rows, one for each category, each in
+/// one or two bytes.
 pub(crate) fn rows_at(
     alloc: Global,
     bytes: &[u8],
+    size: usize,
     at: usize,
     count: usize,
     width: usize,
 ) -> Result<(Vec<RowHead>, Vec<u16>), AllocError>
-    requires { at + rows_size count width ≤ length bytes.now }
+    requires some { 1 ≤ size }
+    requires few { size ≤ 2 }
+    requires narrow { width < 2 ^ 16 }
+    requires whole { at + rows_size size count width ≤ length bytes.now }
     ensures { IfOk result (λ rows.
-        AreRowsAt bytes.now width count rows.0.items rows.1.items at) }
+        AreRowsAt size bytes.now width count rows.0.items rows.1.items at) }
 {
     let mut rows = Vec::with_capacity(alloc, count)?;
     let mut cells = Vec::with_capacity(alloc, count * width)?;
-    for row in 0..count {
-        let start = at + row * (8 + 2 * width);
+    let mut start = at;
+    for _row in 0..count {
         rows.push(head_at(bytes, start))?;
-        add_cells(&mut cells, bytes, start + 8, width)?;
+        add_cells(&mut cells, bytes, size, start + 8, width)?;
+        start += row_size(size, width);
     }
     Ok((rows, cells))
 }

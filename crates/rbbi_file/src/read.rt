@@ -1,5 +1,6 @@
 //! A table from bytes.
 ghost use Rattle.std.specs.Prelude.{◌≡◌, ◌^◌, ◌<◌, ◌≤◌, ◌++◌, length, IfOk, MatchOption};
+ghost use Rattle.std.specs.Prelude.{MatchBool};
 ghost use Rattle.rbbi_model.specs.TableFile.{u16 as two_bytes, u32 as four_bytes};
 ghost use Rattle.rbbi_text.specs.Bytes.{most_bytes};
 ghost use Rattle.rbbi_table.specs.Parts.{table_of};
@@ -7,13 +8,17 @@ ghost use Rattle.rbbi_file.specs.Lengths.{u16_at as number_in_two, u32_at as num
 ghost use Rattle.rbbi_file.specs.Lengths.{HasMagic, lists_end, parts_end};
 ghost use Rattle.rbbi_file.specs.Fitting.{Spell};
 ghost use Rattle.rbbi_file.specs.inner.Reading.{Stand};
-ghost use Rattle.rbbi_file.specs.Answers.{ReadsTable, ReadsEachSpelling};
+ghost use Rattle.rbbi_file.specs.Answers.{HasTablesOf, ReadsTable, ReadsEachSpelling};
 
+use crate::cells::{cell_size, row_size};
 use crate::numbers::{u16_at, u32_at};
 use crate::parts::{lists_at, ranges_at, rest_at, rows_at};
-use crate::{FileErr, MAGIC};
+use crate::{FileErr, MAGIC_1, MAGIC_2};
 use rbbi_table::{ByteList, CellList, NumberLists, Parts, RangeList, RowList, Table, TableErr};
 use std::alloc::{AllocError, Global};
+
+/// The most categories that a file of version 1 may have.
+const MOST_CATEGORIES_1: u16 = 255;
 
 /// The five counts behind the magic.
 #[derive(Clone, Copy)]
@@ -78,7 +83,8 @@ fn end_of_parts(bytes: &[u8]) -> Option<usize>
     let counts = counts_of(bytes);
     let width = counts.categories as usize;
     let lists = end_of_lists(bytes, counts.lists, 20 + 6 * counts.ranges as usize)?;
-    let end = lists + counts.rows as usize * (8 + 2 * width) + (width * width + 7) / 8;
+    let row = row_size(cell_size(bytes[7], counts.rows), width);
+    let end = lists + counts.rows as usize * row + (width * width + 7) / 8;
     if end <= bytes.len() { Some(end) } else { None }
 }
 
@@ -94,8 +100,9 @@ fn parts_of(alloc: Global, bytes: &[u8]) -> Result<Parts, AllocError>
     let at = 20 + 6 * counts.ranges as usize;
     let ranges = ranges_at(alloc, bytes, 20, counts.ranges as usize)?;
     let (lists, at) = lists_at(alloc, bytes, at, counts.lists as usize)?;
-    let (heads, cells) = rows_at(alloc, bytes, at, rows, width)?;
-    let safe = rest_at(alloc, bytes, at + rows * (8 + 2 * width))?;
+    let size = cell_size(bytes[7], counts.rows);
+    let (heads, cells) = rows_at(alloc, bytes, size, at, rows, width)?;
+    let safe = rest_at(alloc, bytes, at + rows * row_size(size, width))?;
     Ok(Parts {
         categories: counts.categories,
         slashes: counts.slashes,
@@ -107,17 +114,37 @@ fn parts_of(alloc: Global, bytes: &[u8]) -> Result<Parts, AllocError>
     })
 }
 
-/// The table that the bytes of a table file spell.
+/// Whether the file begins as a table file of one of the versions does.
+fn has_magic(bytes: &[u8]) -> bool
+    ensures { MatchBool result (HasMagic bytes.now) (¬ HasMagic bytes.now) }
+{
+    if bytes.len() < 8 {
+        return false;
+    }
+    let magic = &bytes[..8];
+    magic == MAGIC_1.as_slice() || magic == MAGIC_2.as_slice()
+}
+
+/// Whether the version has tables of these parts: in version 1 they have at most 255 categories.
+fn has_tables(version: u8, parts: &Parts) -> bool
+    ensures { MatchBool result (HasTablesOf version (table_of parts.now))
+        (¬ HasTablesOf version (table_of parts.now)) }
+{
+    version != 1 || parts.categories <= MOST_CATEGORIES_1
+}
+
+/// The table that the bytes of a table file spell, of either version.
 ///
 /// Refuses `BadMagic` if the first eight bytes aren't those of a table file; otherwise `Short` if
 /// the file ends before its parts do; otherwise `Trailing` if bytes follow; otherwise `Part` with
-/// the first part that isn't valid. Lengths are checked before memory is taken.
+/// the first part that isn't valid, which is `BadRanges` if a file of version 1 has more than 255
+/// categories. Lengths are checked before memory is taken.
 pub fn read_table(alloc: Global, bytes: &[u8]) -> Result<Table, FileErr>
     requires { length bytes.now ≤ most_bytes }
     ensures exact { ReadsTable bytes.now result }
     ensures complete { ReadsEachSpelling bytes.now result }
 {
-    if bytes.len() < 8 || &bytes[..8] != MAGIC.as_slice() {
+    if !has_magic(bytes) {
         return Err(FileErr::BadMagic);
     }
     let Some(end) = end_of_parts(bytes) else {
@@ -127,6 +154,9 @@ pub fn read_table(alloc: Global, bytes: &[u8]) -> Result<Table, FileErr>
         return Err(FileErr::Trailing(end as u32));
     }
     let parts = parts_of(alloc, bytes)?;
+    if !has_tables(bytes[7], &parts) {
+        return Err(FileErr::Part(TableErr::BadRanges));
+    }
     match Table::from_parts(alloc, &parts) {
         Ok(table) => Ok(table),
         Err(error) => match error {

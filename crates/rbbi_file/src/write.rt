@@ -6,21 +6,24 @@ ghost use Rattle.rbbi_model.specs.TableFile.{row_bytes};
 ghost use Rattle.rbbi_text.specs.Bytes.{most_bytes};
 ghost use Rattle.rbbi_file.specs.Fitting.{FitsList};
 
-use crate::MAGIC;
-use crate::numbers::{put_u16, put_u16s, put_u32, put_u32s};
+use crate::MAGIC_2;
+use crate::cells::{cell_size, row_size};
+use crate::numbers::{put_all_sized, put_u16, put_u32, put_u32s};
 use rbbi_table::{NumberList, RangeRow, RowHead, Table};
 use std::alloc::{AllocError, Global};
 
-/// How many bytes the table file takes, so that memory is taken once.
-fn size_of(table: &Table) -> usize
-    requires { AllByRecursion FitsList table.now.lists }
+/// How many bytes the table file takes, so that memory is taken once. A next row takes one or two.
+fn size_of(table: &Table, size: usize) -> usize
+    requires fit { AllByRecursion FitsList table.now.lists }
+    requires some { 1 ≤ size }
+    requires few { size ≤ 2 }
 {
     let width = table.categories() as usize;
-    let mut size = 20 + 6 * table.ranges() as usize;
+    let mut front = 20 + 6 * table.ranges() as usize;
     for list in 0..table.lists() {
-        size += 2 + 4 * table.status_list(list).len();
+        front += 2 + 4 * table.status_list(list).len();
     }
-    size + table.rows() as usize * (8 + 2 * width) + (width * width + 7) / 8
+    front + table.rows() as usize * row_size(size, width) + (width * width + 7) / 8
 }
 
 /// Adds ranges: the start of each in four bytes and its category in two.
@@ -56,34 +59,38 @@ fn put_head(out: &mut Vec<u8>, head: RowHead) -> Result<(), AllocError>
     put_u16(out, head.list)
 }
 
-/// Adds rows: the head of each and its next rows, each of these in two bytes.
+/// Adds rows: the head of each and its next rows, each of these in one or two bytes.
 fn put_rows(
     out: &mut Vec<u8>,
+    size: usize,
     width: usize,
     rows: &[RowHead],
     cells: &[u16],
 ) -> Result<(), AllocError>
-    requires { length cells.now ≡ length rows.now * width }
+    requires some { 1 ≤ size }
+    requires few { size ≤ 2 }
+    requires whole { length cells.now ≡ length rows.now * width }
     ensures { OnOk result (out.new.items
-        ≡ out.old.items ++ row_bytes width rows.now cells.now) }
+        ≡ out.old.items ++ row_bytes size width rows.now cells.now) }
 {
     for row in 0..rows.len() {
         put_head(out, rows[row])?;
-        put_u16s(out, &cells[row * width..row * width + width])?;
+        put_all_sized(out, size, &cells[row * width..row * width + width])?;
     }
     Ok(())
 }
 
-/// The table's one spelling: the bytes of its table file. They are fewer than the most that
-/// `read_table` takes.
+/// The table's spelling of version 2: the bytes of its table file. They are fewer than the most
+/// that `read_table` takes.
 pub fn write_table(alloc: Global, table: &Table) -> Result<Vec<u8>, AllocError>
     ensures spelled { IfOk result (λ bytes. bytes.items ≡ spelling table.now) }
     ensures short { IfOk result (λ bytes. length bytes.items ≤ most_bytes) }
 {
     table.valid();
     let parts = table.parts();
-    let mut out = Vec::with_capacity(alloc, size_of(table))?;
-    out.extend_from_slice(&MAGIC)?;
+    let size = cell_size(2, table.rows());
+    let mut out = Vec::with_capacity(alloc, size_of(table, size))?;
+    out.extend_from_slice(&MAGIC_2)?;
     put_u16(&mut out, table.categories())?;
     put_u32(&mut out, table.ranges())?;
     put_u16(&mut out, table.lists())?;
@@ -93,6 +100,7 @@ pub fn write_table(alloc: Global, table: &Table) -> Result<Vec<u8>, AllocError>
     put_lists(&mut out, parts.lists.as_slice())?;
     put_rows(
         &mut out,
+        size,
         parts.categories as usize,
         parts.rows.as_slice(),
         parts.cells.as_slice(),

@@ -9,7 +9,6 @@ pub mod Covering
 pub mod Cursors
 pub mod ReplyCount
 pub mod Decimals
-pub mod Spelled
 pub mod RulesCover
 pub mod Cuts
 pub mod Anchors

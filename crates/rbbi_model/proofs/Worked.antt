@@ -10,7 +10,7 @@ use Rattle.rbbi_model.specs.Answers.{Characters, Last, Next, Previous, Following
 use Rattle.rbbi_model.specs.Scripts.{Accepted, Ask, Replace, ShowText, table_replies, replies_by, edit, opened}
 use Rattle.rbbi_model.specs.Runs.{is_anchor, Entry, Run, IsTrueRun, ShowsAfter, ShowsBefore}
 use Rattle.rbbi_model.specs.Costs.{forward_cost, tries, back_cost, script_cost}
-use Rattle.rbbi_model.specs.TableFile.{spelling}
+use Rattle.rbbi_model.specs.TableFile.{spelling, spelling1}
 use Rattle.rbbi_model.specs.Lines.{reply_lines, fault_line_at, fault_line_in, fault_line_within, rules_name, table_name, all_reply_lines, boundary_lines}
 use Rattle.rbbi_model.specs.Lines.{compile_line, row_of, column_of}
 
@@ -27,9 +27,20 @@ table_a =
       safe = 0x0F ∷ [];
     }
 
--- its file has these 81 bytes
+-- its file of version 2 has these 75 bytes
 abbrev bytes_a : List ℕ
 bytes_a =
+    0x52 ∷ 0x42 ∷ 0x42 ∷ 0x49 ∷ 0x54 ∷ 0x42 ∷ 0x4C ∷ 0x02 ∷ 2 ∷ 0 ∷ 3 ∷ 0 ∷ 0 ∷ 0 ∷ 1 ∷ 0 ∷ 3 ∷ 0 ∷ 0 ∷ 0
+    ∷ 0 ∷ 0 ∷ 0 ∷ 0 ∷ 0 ∷ 0 ∷ 0x61 ∷ 0 ∷ 0 ∷ 0 ∷ 1 ∷ 0 ∷ 0x62 ∷ 0 ∷ 0 ∷ 0 ∷ 0 ∷ 0
+    ∷ 1 ∷ 0 ∷ 0 ∷ 0 ∷ 0 ∷ 0
+    ∷ 0 ∷ 0 ∷ 0 ∷ 0 ∷ 0 ∷ 0 ∷ 0 ∷ 0 ∷ 0 ∷ 0
+    ∷ 0 ∷ 0 ∷ 0 ∷ 0 ∷ 0 ∷ 0 ∷ 0 ∷ 0 ∷ 0 ∷ 2
+    ∷ 1 ∷ 0 ∷ 0 ∷ 0 ∷ 0 ∷ 0 ∷ 0 ∷ 0 ∷ 0 ∷ 0
+    ∷ 0x0F ∷ []
+
+-- and its file of version 1 these 81
+abbrev bytes1_a : List ℕ
+bytes1_a =
     0x52 ∷ 0x42 ∷ 0x42 ∷ 0x49 ∷ 0x54 ∷ 0x42 ∷ 0x4C ∷ 0x01 ∷ 2 ∷ 0 ∷ 3 ∷ 0 ∷ 0 ∷ 0 ∷ 1 ∷ 0 ∷ 3 ∷ 0 ∷ 0 ∷ 0
     ∷ 0 ∷ 0 ∷ 0 ∷ 0 ∷ 0 ∷ 0 ∷ 0x61 ∷ 0 ∷ 0 ∷ 0 ∷ 1 ∷ 0 ∷ 0x62 ∷ 0 ∷ 0 ∷ 0 ∷ 0 ∷ 0
     ∷ 1 ∷ 0 ∷ 0 ∷ 0 ∷ 0 ∷ 0
@@ -38,11 +49,11 @@ bytes_a =
     ∷ 1 ∷ 0 ∷ 0 ∷ 0 ∷ 0 ∷ 0 ∷ 0 ∷ 0 ∷ 0 ∷ 0 ∷ 0 ∷ 0
     ∷ 0x0F ∷ []
 
-spelled_a : spelling table_a ≡ bytes_a
-spelled_a = refl
+spelled_a : (spelling table_a ≡ bytes_a) × (spelling1 table_a ≡ bytes1_a)
+spelled_a = (refl, refl)
 
-length_a : length (spelling table_a) ≡ 81
-length_a = refl
+length_a : (length (spelling table_a) ≡ 75) × (length (spelling1 table_a) ≡ 81)
+length_a = (refl, refl)
 
 compiled_a : compile_line table_a ≡ codes "categories 2 rows 3 lists 1 slashes 0 safe 4\n"
 unfolding digits

@@ -29,10 +29,10 @@ AreApart (range ∷ next ∷ ranges) = (range.start < next.start) × (range.cate
 abbrev pub IsWithin : ℕ → CategoryRange → Type 0
 IsWithin categories range = (range.start ≤ last_code_point) × (range.category < categories)
 
--- 1 to 255 categories, and ranges that give each code point one of them
+-- 1 to 1,000 categories, and ranges that give each code point one of them
 pub record AreValidRanges (categories : ℕ) (ranges : List CategoryRange) : Type 0 where
   pub some_categories : 1 ≤ categories
-  pub few_categories : categories ≤ 255
+  pub few_categories : categories ≤ 1000
   pub some_ranges : 1 ≤ length ranges
   pub from_zero : StartsAtZero ranges
   pub apart : AreApart ranges

@@ -12,7 +12,6 @@ mod costs;
 mod lines;
 mod runs;
 mod searches;
-mod table_file;
 mod tables;
 
 ghost use Rattle.std.specs.Prelude.{◌≡◌, ℕ, ◌↔◌, List};
@@ -37,7 +36,6 @@ pub use searches::{
     completed_search_has_a_cut, look_end_is_past_the_start, next_boundary_is_past_the_start,
     searches_depend_on_what_they_read, table_boundaries_cover_the_text,
 };
-pub use table_file::spelling_tells_the_table;
 pub use tables::{category_is_within, code_point_has_one_category};
 
 /// A text has at most one list of boundaries by a list of rules.

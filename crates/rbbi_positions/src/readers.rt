@@ -22,7 +22,7 @@ use std::alloc::{AllocError, Global};
 /// One code point of each category but 0, whose place has some number.
 pub(crate) fn codes_of(alloc: Global, cats: &Categories) -> Result<Vec<u32>, AllocError>
     requires { HasEachCategory cats.now.count cats.now.ranges }
-    ensures few { IfOk result (λ codes. length codes.items ≤ 255) }
+    ensures few { IfOk result (λ codes. length codes.items ≤ 1000) }
     ensures codes { IfOk result (λ codes. AreCodesOf cats.now.count cats.now.ranges codes.items) }
 {
     let mut codes = vec![in alloc; 0u32; cats.count() as usize]?;
@@ -83,7 +83,7 @@ pub(crate) fn readers_of(
 ) -> Result<Vec<u64>, AllocError>
     requires numbered { AllByRecursion (λ number. number < length sets.now) numbers.now }
     requires wide { length numbers.now ≤ 64 * words }
-    requires few_categories { length codes.now ≤ 255 }
+    requires few_categories { length codes.now ≤ 1000 }
     requires few_words { words ≤ 128 }
     ensures many { IfOk result (λ rows. length rows.items ≡ length codes.now * words) }
     ensures read { IfOk result (λ rows.

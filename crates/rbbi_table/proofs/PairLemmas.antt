@@ -1,7 +1,9 @@
 -- The bits of the first pairs.
-use Rattle.std.proofs.Common.{◌≡◌, ◌≢◌, ℕ, ◌+◌, ◌*◌, ◌/◌, ◌<◌, ◌≤◌, ◌↔◌, true, cond, eqb, IsTrue, List, [], length, get_or, sym}
-use Rattle.std.proofs.Common.{ap, ◌∙◌, subst, ⊎_elim, arith}
-use Rattle.std.proofs.lemmas.Bool.{cases_eq, cases_lt, cond-true, cond-false, eq-eqb, ne_eqb}
+use Rattle.std.proofs.Common.{◌≡◌, ◌≢◌, ℕ, ◌+◌, ◌*◌, ◌/◌, ◌<◌, ◌≤◌, ◌↔◌, Bool, true, false, cond, eqb, IsTrue, List, [], length, get_or, refl, sym}
+use Rattle.std.proofs.Common.{ap, ◌∙◌, subst, ⊎_elim, arith, below_more, take, ◌++◌}
+use Rattle.std.specs.Prelude.{◌&&◌, ◌==◌}
+use Rattle.std.proofs.lemmas.Bool.{cases_eq, cases_lt, cond-true, cond-false, eq-eqb, eqb-true, ne_eqb}
+use Rattle.std.proofs.lemmas.List.{take-append-le, take_all}
 use Rattle.rbbi_model.specs.Tables.{Table, RowHead, step}
 use Rattle.rbbi_model.specs.SafePairs.{IsSafePair, stored_bit}
 use Rattle.rbbi_table.specs.Parts.{rows_of, AreNextRows}
@@ -32,6 +34,46 @@ safe_where_one table first second targets are = (
         ap (λ r. step table r second) (sym from.3) ∙ safe.1 from.0 from.1 from.2,
   ),
 )
+
+-- A category is marked where the first so many of the rows lead by it to the row to which that at a place does.
+abbrev pub AreMarkedBelow : List ℕ → ℕ → List ℕ → ℕ → List Bool → ℕ → Type 0
+AreMarkedBelow cells width targets first marked count =
+    (category : ℕ) → category < width →
+    IsTrue (get_or marked category false) ↔
+    ((i : ℕ) → i < count → get_or cells (get_or targets i 0 * width + category) 0 ≡ get_or cells (first + category) 0)
+
+-- what is written over the whole of a list
+pub written : {X : Type 0} (n : ℕ) (new rest : List X) → n ≡ length new → take n (new ++ rest) ≡ new
+written n new rest is = take-append-le n new rest (omega (arith, is)) ∙ take_all n new (omega (arith, is))
+
+both_true : (a b : Bool) → IsTrue (a && b) ↔ (IsTrue a × IsTrue b)
+both_true true b = (λ is. (refl, is), λ both. both.1)
+both_true false b = (λ is. absurd cc, λ both. both.0)
+
+-- one more
+pub marked_more : (cells : List ℕ) (width : ℕ) (targets : List ℕ) (first : ℕ) (old new : List Bool) (count : ℕ) →
+    AreMarkedBelow cells width targets first old count →
+    ((k : ℕ) → k < width → get_or new k false ≡
+    (get_or old k false && (get_or cells (get_or targets count 0 * width + k) 0 == get_or cells (first + k) 0))) →
+    AreMarkedBelow cells width targets first new (count + 1)
+marked_more cells width targets first old new count below narrowed category low =
+    let was = below category low in
+    let same = both_true (get_or old category false) (get_or cells (get_or targets count 0 * width + category) 0 == get_or cells (first + category) 0) in (
+      λ is.
+          let both = same.0 (sym (narrowed category low) ∙ is) in
+          below_more _ count (was.0 both.0) (eqb-true _ _ both.1),
+      λ lead. narrowed category low ∙ same.1 (was.1 (λ i short. lead i (omega arith)), eq-eqb _ _ (lead count (omega arith))),
+    )
+
+-- and all, of which the one at the place is the first
+pub marked_all : (cells : List ℕ) (width : ℕ) (targets : List ℕ) (first : ℕ) (marked : List Bool) → 0 < length targets → first ≡ get_or targets 0 0 * width →
+    AreMarkedBelow cells width targets first marked (length targets) → (category : ℕ) → category < width →
+    IsTrue (get_or marked category false) ↔ LeadToOne (rows_of width [] cells []) category targets
+marked_all cells width targets first marked some is all category low =
+    let one = all category low in (
+      λ marks. (get_or cells (first + category) 0, one.0 marks),
+      λ lead. one.1 (λ i short. lead.1 i short ∙ sym (ap (λ n. get_or cells (n + category) 0) is ∙ lead.1 0 some)),
+    )
 
 -- two pairs with one number are the same
 same_pair : (width first second first' second' : ℕ) → second < width → second' < width → first * width + second ≡ first' * width + second' → (first ≡ first') ×
@@ -89,14 +131,14 @@ pair_unset table bytes first second low pairs unsafe =
     }
 
 -- the rows that open rows lead to are rows, and have a next row for each category
-pub targets_within : (width : ℕ) (rows : List RowHead) (cells : List ℕ) (category second : ℕ) (targets : List ℕ) → AreNextRows width rows cells →
-    AreTargets (rows_of width rows cells []) category targets → category < width → second < width →
-    (i : ℕ) → i < length targets → get_or targets i 0 * width + second < length cells
-targets_within width rows cells category second targets steps are low second_low i short =
+pub targets_within : (width : ℕ) (rows : List RowHead) (cells : List ℕ) (category : ℕ) (targets : List ℕ) → AreNextRows width rows cells →
+    AreTargets (rows_of width rows cells []) category targets → category < width →
+    (i : ℕ) → i < length targets → get_or targets i 0 * width + width ≤ length cells
+targets_within width rows cells category targets steps are low i short =
     let from = are.only i short in
     let place : from.0 * width + category < length cells = omega (arith, row_end from.0 (length rows) width from.1, low, steps.all) in
     let row : get_or targets i 0 < length rows = omega (arith, from.3, steps.within (from.0 * width + category) place) in
-    omega (arith, row_end (get_or targets i 0) (length rows) width row, second_low, steps.all)
+    omega (arith, row_end (get_or targets i 0) (length rows) width row, steps.all)
 
 pub all_pairs : (width : ℕ) (rows : List RowHead) (cells bytes : List ℕ) → length bytes ≡ (width * width + 7) / 8 →
     AreFirstPairs (rows_of width rows cells []) bytes (width * width) → ArePairsOf (rows_of width rows cells bytes)

@@ -66,7 +66,7 @@ are_apart categories range (next ∷ ranges) go =
     ((go.0.0, go.0.1, rest.0), (go.0.2, rest.1))
 
 -- ranges are valid where the first is, and each behind the one before it
-pub valid_where_go_on : (categories : ℕ) (ranges : List CategoryRange) → 1 ≤ categories → categories ≤ 255 → 1 ≤ length ranges →
+pub valid_where_go_on : (categories : ℕ) (ranges : List CategoryRange) → 1 ≤ categories → categories ≤ 1000 → 1 ≤ length ranges →
     (get_or ranges 0 no_range).start ≡ 0 → (get_or ranges 0 no_range).category < categories →
     AreValidRanges categories ranges ↔ GoOn categories (get_or ranges 0 no_range) (drop 1 ranges)
 valid_where_go_on categories [] some few one starts within = absurd (omega (arith, one))

@@ -25,7 +25,7 @@ text_at (c ∷ x) (suc i) text short = text_at x i text.1 (omega (arith, short))
 
 -- what stands behind the moves of a row
 pub record IsHead (table : Table) (moves : List ℕ) (r row : ℕ) : Type 0 where
-  pub few : length moves ≤ 4095 * 258
+  pub few : length moves ≤ 4095 * 1003
   pub inside : row + table.categories + 2 < length moves
   pub fronts : get_or moves (row + table.categories + 0) 0 ≡ fronts_of table r
   pub list : get_or moves (row + table.categories + 1) 0 ≡ list_of table r

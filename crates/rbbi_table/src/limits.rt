@@ -1,7 +1,7 @@
 //! The limits of a table.
 
 /// The most categories.
-pub(crate) const MOST_CATEGORIES: u16 = 255;
+pub(crate) const MOST_CATEGORIES: u16 = 1000;
 
 /// The most status lists.
 pub(crate) const MOST_LISTS: usize = 4095;

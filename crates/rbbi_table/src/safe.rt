@@ -1,6 +1,6 @@
 //! The safe pairs of categories: after both, it no longer matters in which row a search was.
 ghost use Rattle.std.specs.Prelude.{◌≡◌, ℕ, ◌↔◌, ◌+◌, ◌*◌, ◌^◌, ◌<◌, ◌≤◌, [], length, slice_index};
-ghost use Rattle.std.specs.Prelude.{IfOk, OnOk, IsTrue};
+ghost use Rattle.std.specs.Prelude.{IfOk, OnOk, IsTrue, false, slice_index_or, ◌&&◌, ◌==◌};
 ghost use Rattle.rbbi_table.specs.Parts.{rows_of, AreNextRows};
 ghost use Rattle.rbbi_table.specs.inner.Targets.{AreTargets, LeadToOne};
 ghost use Rattle.rbbi_table.specs.Pairs.{ArePairsOf};
@@ -38,30 +38,52 @@ fn gather_targets(
     Ok(())
 }
 
-/// Whether all of these rows lead by one category to one row. It stops at the first difference.
-fn lead_to_one(cells: &[u16], width: usize, category: usize, targets: &[u16]) -> bool
-    requires { (i : ℕ) → i < length targets.now →
-        slice_index targets.now i * width + category < length cells.now }
-    ensures { IsTrue result ↔ LeadToOne (rows_of width [] cells.now []) category targets.now }
+/// Keeps of the categories that are marked those by which two rows lead to one row. The next rows
+/// of the two begin at these places. It reads both side by side, so that many categories are
+/// compared at once.
+fn narrow(marked: &mut [bool], cells: &[u16], one: usize, other: usize)
+    requires one { one + length marked.old ≤ length cells.now }
+    requires other { other + length marked.old ≤ length cells.now }
+    ensures { (k : ℕ) → k < length marked.old → slice_index_or marked.new k false
+        ≡ (slice_index_or marked.old k false
+        && (slice_index cells.now (one + k) == slice_index cells.now (other + k))) }
 {
+    for k in 0..marked.len() {
+        marked[k] = marked[k] & (cells[one + k] == cells[other + k]);
+    }
+}
+
+/// For each category whether all of these rows lead by it to one row.
+fn lead_to_one(
+    alloc: Global,
+    cells: &[u16],
+    width: usize,
+    targets: &[u16],
+) -> Result<Vec<bool>, AllocError>
+    requires { (i : ℕ) → i < length targets.now →
+        slice_index targets.now i * width + width ≤ length cells.now }
+    ensures all { IfOk result (λ marked. length marked.items ≡ width) }
+    ensures lead { IfOk result (λ marked. (category : ℕ) → category < width →
+        IsTrue (slice_index_or marked.items category false)
+        ↔ LeadToOne (rows_of width [] cells.now []) category targets.now) }
+{
+    let mut marked = vec![in alloc; true; width]?;
     if targets.is_empty() {
-        return true;
+        return Ok(marked);
     }
-    let goal = cells[targets[0] as usize * width + category];
+    let first = targets[0] as usize * width;
     for target in targets {
-        if cells[*target as usize * width + category] != goal {
-            return false;
-        }
+        narrow(&mut marked, cells, *target as usize * width, first);
     }
-    true
+    Ok(marked)
 }
 
 /// The bytes of the safe pairs of these rows: the pair of `first` and `second` has the bit with the
 /// number `first * categories + second`, eight a byte, the one of least value first, and the bits
 /// that fill the last byte are 0.
 ///
-/// For each first category it gathers the distinct rows that open rows lead to, so that its time
-/// grows with these and not with ways through the table.
+/// For each first category it gathers the distinct rows that open rows lead to, and compares their
+/// next rows. So its time grows with these and not with ways through the table.
 pub fn safe_pairs(
     alloc: Global,
     categories: u16,
@@ -77,8 +99,9 @@ pub fn safe_pairs(
     let mut targets = Vec::with_capacity(alloc, rows.len())?;
     for first in 0..width {
         gather_targets(alloc, rows, cells, width, first, &mut targets)?;
+        let marked = lead_to_one(alloc, cells, width, &targets)?;
         for second in 0..width {
-            if lead_to_one(cells, width, second, &targets) {
+            if marked[second] {
                 store(&mut bytes, first * width + second);
             }
         }

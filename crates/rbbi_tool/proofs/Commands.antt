@@ -3,7 +3,10 @@ use Rattle.std.proofs.Common.{◌≡◌, ◌<◌, ◌≤◌, ℕ, zero, suc, Lis
 use Rattle.std.specs.Prelude.{Some, IfSome, slice_get, if◌then◌else◌, ◌==◌}
 use Rattle.std.proofs.lemmas.Bool.{cond_both}
 use Rattle.rbbi_command.specs.declared.words.command.Command.{Command}
-use Rattle.rbbi_command.specs.declared.words.command.Command.TheVariants.{Check, Compile, Breaks, Run, Conform, Demo}
+use Rattle.rbbi_command.specs.declared.words.command.Command.TheVariants.{Check, Compile, Upgrade, Breaks, Run, Conform, Demo}
+use Rattle.rbbi_command.specs.declared.words.command.Operand.{Operand}
+use Rattle.rbbi_command.specs.declared.words.command.Operand.TheVariants.{Read, Written}
+use Rattle.rbbi_command.specs.declared.files.Role.TheVariants.{Rules, Table}
 use Rattle.rbbi_command.specs.Refusals.{Outcome}
 use Rattle.rbbi_command.specs.Words.{Request, operands_of}
 use Rattle.rbbi_command.specs.Inputs.{Inputs}
@@ -24,13 +27,13 @@ nth_is [] k inside = absurd (omega arith)
 nth_is (w ∷ words) zero inside = refl
 nth_is (w ∷ words) (suc k) inside = nth_is words k (omega arith)
 
-second_is_written : (request : Request) → request.command ≡ Compile → length request.operands ≡ length (operands_of request.command request.options.by_table)
-    → IsWrittenBy request (nth request.operands 1)
-second_is_written request is count =
-    let two : length request.operands ≡ 2 = count ∙ ap (λ c. length (operands_of c request.options.by_table)) is in
+second_is_written : (request : Request) (first : Operand) → operands_of request.command request.options.by_table ≡ first ∷ Written ∷ []
+    → length request.operands ≡ length (operands_of request.command request.options.by_table) → IsWrittenBy request (nth request.operands 1)
+second_is_written request first are count =
+    let two : length request.operands ≡ 2 = count ∙ ap length are in
     record {
       number = 1;
-      written = ap (λ c. slice_get (operands_of c request.options.by_table) 1) is;
+      written = ap (λ operands. slice_get operands 1) are;
       is = nth_is request.operands 1 (omega arith);
     }
 
@@ -41,7 +44,11 @@ pub command_told : (command : Command) (request : Request) (inputs : Inputs) (ou
 command_told Check request inputs outcome is count (rules, passed, gives) =
     told_of request outcome _ gives (record { status = omega arith; file = tt })
 command_told Compile request inputs outcome is count (rules, passed, told) =
-    told_of request outcome _ told.is (record { status = omega arith; file = second_is_written request is count })
+    told_of request outcome _ told.is
+    (record { status = omega arith; file = second_is_written request (Read Rules) (ap (λ c. operands_of c request.options.by_table) is) count })
+command_told Upgrade request inputs outcome is count (table, passed, told) =
+    told_of request outcome _ told
+    (record { status = omega arith; file = second_is_written request (Read Table) (ap (λ c. operands_of c request.options.by_table) is) count })
 command_told Breaks request inputs outcome is count (basis, passed, (x, taken, (boundaries, are, told))) =
     told_of request outcome _ told (record { status = omega arith; file = tt })
 command_told Run request inputs outcome is count (basis, passed, (x, taken, (commands, read, (replies, are, told)))) =

@@ -7,7 +7,7 @@ use Rattle.rbbi_model.specs.Scripts as model
 use Rattle.rbbi_model.specs.Costs.{script_cost, breaks_cost}
 use Rattle.rbbi_text.specs.Steps.{RisesUpTo}
 use Rattle.rbbi_command.specs.declared.words.command.Command.{Command}
-use Rattle.rbbi_command.specs.declared.words.command.Command.TheVariants.{Check, Compile, Breaks, Run, Conform, Demo}
+use Rattle.rbbi_command.specs.declared.words.command.Command.TheVariants.{Check, Compile, Upgrade, Breaks, Run, Conform, Demo}
 use Rattle.rbbi_command.specs.declared.files.Role.{Role}
 use Rattle.rbbi_command.specs.declared.files.Role.TheVariants as role
 use Rattle.rbbi_command.specs.declared.files.Source.{Source}
@@ -79,6 +79,7 @@ module _ (basis : Stage Basis) (text : Stage (List ℕ)) (bytes before between a
 command_reads_none : (command : Command) (request : Request) (inputs : Inputs) (bytes before after : ℕ) → RisesUpTo 0 before after
     → CommandReads command request inputs bytes before after
 command_reads_none Check request inputs bytes before after none = tt
+command_reads_none Upgrade request inputs bytes before after none = tt
 command_reads_none Compile request inputs bytes before after none = tt
 command_reads_none Breaks request inputs bytes before after none = inl (rises_further 0 bytes before after none (omega arith))
 command_reads_none Run request inputs bytes before after none = inl (rises_further 0 bytes before after none (omega arith))
@@ -122,6 +123,7 @@ module _ (held : List ℕ → List ℕ) where
 reads_further : (command : Command) (request : Request) (inputs : Inputs) (few many before after : ℕ) → few ≤ many
     → CommandReads command request inputs few before after → CommandReads command request inputs many before after
 reads_further Check request inputs few many before after less reads = tt
+reads_further Upgrade request inputs few many before after less reads = tt
 reads_further Compile request inputs few many before after less reads = tt
 reads_further Conform request inputs few many before after less reads = tt
 reads_further Demo request inputs few many before after less reads = tt

@@ -2,7 +2,7 @@
 use Rattle.std.proofs.Common.{◌≡◌, ◌≢◌, refl, ℕ, Bool, true, false, Option, List, [], ◌∷◌, sym, subst, inl, inr}
 use Rattle.rbbi_model.specs.Rules.{Rule}
 use Rattle.rbbi_command.specs.declared.words.command.Command.{Command}
-use Rattle.rbbi_command.specs.declared.words.command.Command.TheVariants.{Check, Compile, Breaks, Run, Conform, Demo}
+use Rattle.rbbi_command.specs.declared.words.command.Command.TheVariants.{Check, Compile, Upgrade, Breaks, Run, Conform, Demo}
 use Rattle.rbbi_command.specs.declared.words.setting.Property.{Property}
 use Rattle.rbbi_command.specs.declared.inputs.Input.{Input}
 use Rattle.rbbi_command.specs.declared.refusal.Subject.{Subject}
@@ -99,6 +99,8 @@ command_fault Check request inputs r (inl is) = rules_fault request.options inpu
 command_fault Check request inputs r (inr (rules, mean, never)) = absurd never
 command_fault Compile request inputs r (inl is) = compiled_fault request.options inputs r is
 command_fault Compile request inputs r (inr (rules, mean, never)) = absurd never
+command_fault Upgrade request inputs r (inl is) = is_fault _ _ _ r is.is
+command_fault Upgrade request inputs r (inr (table, passed, never)) = absurd never
 command_fault Breaks request inputs r (inl is) = basis_fault request.options.by_table request.options inputs r is
 command_fault Breaks request inputs r (inr (basis, passed, inl is)) = text_fault inputs.text r is
 command_fault Breaks request inputs r (inr (basis, passed, inr (x, taken, never))) = absurd never

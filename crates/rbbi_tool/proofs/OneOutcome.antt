@@ -10,8 +10,6 @@ use Rattle.rbbi_model.specs.Answers.{Reply}
 use Rattle.rbbi_model.specs.Scripts.{AreReplies}
 use Rattle.rbbi_model.specs.Scripts as scripts
 use Rattle.rbbi_model.specs.Tables.{Table}
-use Rattle.rbbi_model.specs.ValidTables.{IsValidTable}
-use Rattle.rbbi_model.specs.TableFile.{spelling}
 use Rattle.rbbi_lex.specs.declared.token.Token.{Token}
 use Rattle.rbbi_lex.specs.declared.error.LexErr.{LexErr}
 use Rattle.rbbi_lex.specs.declared.error.LexErr.TheVariants as lexing
@@ -36,13 +34,14 @@ use Rattle.rbbi_file.specs.declared.error.FileErr.{FileErr}
 use Rattle.rbbi_file.specs.declared.error.FileErr.TheVariants as file
 use Rattle.rbbi_file.specs.Errors as reader
 use Rattle.rbbi_file.specs.Answers.{ReadsTable}
+use Rattle.rbbi_file.specs.Laws.{SpellOneTable}
 use Rattle.rbbi_script.specs.Laws.{HaveOneScript}
 use Rattle.rbbi_conform.specs.Tests.{Test}
 use Rattle.rbbi_conform.specs.Laws.{HaveOneTestList, HasOneVerdict}
 use Rattle.rbbi_demo.specs.declared.summary.Summary.{Summary}
 use Rattle.rbbi_demo.specs.Summaries.{IsSummary}
 use Rattle.rbbi_command.specs.declared.words.command.Command.{Command}
-use Rattle.rbbi_command.specs.declared.words.command.Command.TheVariants.{Check, Compile, Breaks, Run, Conform, Demo}
+use Rattle.rbbi_command.specs.declared.words.command.Command.TheVariants.{Check, Compile, Upgrade, Breaks, Run, Conform, Demo}
 use Rattle.rbbi_command.specs.declared.words.setting.Property.{Property}
 use Rattle.rbbi_command.specs.declared.inputs.Input.{Input}
 use Rattle.rbbi_command.specs.declared.files.Source.{Source}
@@ -66,7 +65,7 @@ use Rattle.rbbi_tool.specs.Basis.{Basis, ByRules, ByTable, AreBoundariesBy, basi
 use Rattle.rbbi_command.specs.Settings.{Options}
 use Rattle.rbbi_command.specs.Inputs.{Inputs, inputs_of}
 use Rattle.rbbi_tool.specs.Command.Check.{counts_line}
-use Rattle.rbbi_tool.specs.Command.Compile.{TellsTable}
+use Rattle.rbbi_tool.specs.Command.Compile.{table_outcome, TellsTable}
 use Rattle.rbbi_tool.specs.Command.Breaks.{boundaries_stage}
 use Rattle.rbbi_tool.specs.Command.Run.{AreRepliesFrom, replies_stage}
 use Rattle.rbbi_tool.specs.Command.Conform.{told_verdicts, verdicts_stage}
@@ -89,7 +88,7 @@ pub record Laws : Type 0 where
   pub excludes : (ts : List Token) (end : ℕ) (statements : List StatementTree) (e : TreeErr) → IsFile ts statements → IsShallow ts
       → parser.IsFaultOf ts end e → ⊥
   pub meanings : HasOneMeaning
-  pub tables : (these those : Table) → IsValidTable these → IsValidTable those → spelling these ≡ spelling those → these ≡ those
+  pub tables : SpellOneTable
   pub answers : (bytes : List ℕ) (one other : Result Table FileErr) → ReadsTable bytes one → ReadsTable bytes other → one ≢ Err file.Memory
       → other ≢ Err file.Memory → one ≡ other
   pub boundaries : (rules : List Rule) (x : List ℕ) (these those : List Boundary) → AreBoundaries rules x these → AreBoundaries rules x those → these ≡ those
@@ -315,7 +314,7 @@ module _ (laws : Laws) where
 
   table_determined : (bytes : List ℕ) → IsDeterministic Table (table_stage bytes)
   table_determined bytes = record {
-    value = λ t u is is'. laws.tables t u is.0 is'.0 (sym is.1 ∙ is'.1);
+    value = λ t u is is'. laws.tables bytes t u is.0 is'.0 is.1 is'.1;
     refusal = λ r s is is'.
         let same = laws.answers bytes (Err is.error) (Err is'.error) is.refused is'.refused (λ m. is.not_memory cc) (λ m. is'.not_memory cc) in
         is.is ∙ ap (λ e. Fault subject.Table (reader.label_of e) (table_place (reader.place_of e))) (err_same is.error is'.error same) ∙ sym is'.is;
@@ -431,6 +430,10 @@ module _ (laws : Laws) where
       settled AreAlike (command_stage Check request inputs) alike
       (determined_both (rules_stage request.options inputs) (λ rules. gives (printed (counts_line rules)))
       (rules_determined request.options inputs) (λ rules. gives_determined (printed (counts_line rules))))
+  command_settled Upgrade request inputs =
+      settled AreAlike (command_stage Upgrade request inputs) alike
+      (determined_both (table_stage inputs.table) (λ table. gives (table_outcome (nth request.operands 1) table)) (table_determined inputs.table)
+      (λ table. gives_determined (table_outcome (nth request.operands 1) table)))
   command_settled Compile request inputs =
       settled_both (compiled_stage request.options inputs)
       (λ rules. record { passes = TellsTable rules (nth request.operands 1); refuses = λ _. ⊥ }) AreAlike

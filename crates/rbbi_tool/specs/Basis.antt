@@ -6,7 +6,7 @@ use Rattle.rbbi_model.specs.Tables.{Table}
 use Rattle.rbbi_model.specs.ValidTables.{IsValidTable}
 use Rattle.rbbi_model.specs.Searches.{table_boundaries}
 use Rattle.rbbi_model.specs.Compiled.{IsCompiled}
-use Rattle.rbbi_model.specs.TableFile.{spelling}
+use Rattle.rbbi_model.specs.TableFile.{IsSpelling}
 use Rattle.rbbi_cats.specs.CategoryLists.{HasClasses}
 use Rattle.rbbi_dfa.specs.declared.error.BuildErr.{BuildErr}
 use Rattle.rbbi_dfa.specs.declared.error.BuildErr.TheVariants as build
@@ -26,11 +26,11 @@ use Rattle.rbbi_command.specs.declared.refusal.Refusal.TheVariants.{Fault}
 use Rattle.rbbi_command.specs.Stages.{Stage, followed_by, gives}
 use Rattle.rbbi_tool.specs.Rules.{rules_stage, rules_of_text_stage}
 
--- there are at most 255 categories, category 0 counted, or more
+-- there are at most 1,000 categories, category 0 counted, or more
 abbrev pub categories_stage : List Rule → Stage (Unit {0})
 categories_stage rules = record {
-  passes = λ _. ¬ HasClasses rules 255;
-  refuses = λ refusal. HasClasses rules 255 × (refusal ≡ Fault subject.Rules (codes "TooManyCategories") Whole);
+  passes = λ _. ¬ HasClasses rules 1000;
+  refuses = λ refusal. HasClasses rules 1000 × (refusal ≡ Fault subject.Rules (codes "TooManyCategories") Whole);
 }
 
 -- some limit on tables is passed, and the first that is is told
@@ -68,9 +68,9 @@ pub record TellsTableFault (bytes : List ℕ) (refusal : Refusal) : Type 0 where
   pub not_memory : error ≢ file.Memory
   pub is : refusal ≡ Fault subject.Table (reader.label_of error) (table_place (reader.place_of error))
 
--- the table that the bytes of a table file spell, or the first fault
+-- the table that the bytes of a table file spell, in either version, or the first fault
 abbrev pub table_stage : List ℕ → Stage Table
-table_stage bytes = record { passes = λ table. IsValidTable table × (bytes ≡ spelling table); refuses = TellsTableFault bytes }
+table_stage bytes = record { passes = λ table. IsValidTable table × IsSpelling bytes table; refuses = TellsTableFault bytes }
 
 -- what boundaries come by
 pub data Basis : Type 0 where

@@ -1,6 +1,7 @@
 -- What each command answers, from what was read.
 pub mod Check
 pub mod Compile
+pub mod Upgrade
 pub mod Breaks
 pub mod Run
 pub mod Conform

@@ -17,7 +17,7 @@ pub fn outcomes_are_unique()
     rbbi_tree::at_most_one_refusal();
     rbbi_tree::file_excludes_fault();
     rbbi_resolve::at_most_one_meaning();
-    rbbi_model::spelling_tells_the_table();
+    rbbi_file::spellings_tell_the_table();
     rbbi_file::one_answer();
     rbbi_model::replies_are_unique();
     rbbi_script::one_script();

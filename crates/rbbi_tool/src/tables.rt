@@ -78,8 +78,8 @@ pub(crate) fn table_of_text(alloc: Global, text: &str) -> Result<Table, Refusal>
     table_of(alloc, &rules)
 }
 
-/// The table that the bytes of a table file spell.
-fn read(alloc: Global, bytes: &[u8]) -> Result<Table, Refusal>
+/// The table that the bytes of a table file spell, of either version.
+pub(crate) fn read(alloc: Global, bytes: &[u8]) -> Result<Table, Refusal>
     requires { length bytes.now ≤ most_bytes }
     ensures { Meets (λ table. table) (spec.table_stage bytes.now) result }
 {

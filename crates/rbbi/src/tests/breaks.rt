@@ -1,6 +1,6 @@
 //! The command `breaks`.
 use super::check::WORDS;
-use super::compile::TABLE;
+use super::compile::TABLE_1;
 use super::{Table, files_of, is_right};
 use std::test::Fail;
 
@@ -124,8 +124,8 @@ pub(super) const BY_PROPERTIES: Table = (
     )],
 );
 
-/// How many bytes of the table file there are, one of its bytes and what stands there, the text,
-/// the exit status and the output.
+/// How many bytes of the table file of version 1 there are, one of its bytes and what stands there,
+/// the text, the exit status and the output.
 const TABLES: &[(usize, usize, u8, &[u8], u8, &str)] = &[
     (81, 0, 0x52, b"ab", 0, "0 0\n1 0\n2 0\n"),
     (0, 0, 0x52, b"ab", 4, "table: BadMagic\n"),
@@ -140,12 +140,15 @@ const TABLES: &[(usize, usize, u8, &[u8], u8, &str)] = &[
     (81, 78, 2, b"aab", 0, "0 0\n2 0\n3 0\n"),
     (81, 80, 0x0E, b"ab", 4, "table: BadSafe\n"),
     (81, 80, 0x1F, b"ab", 4, "table: BadSafe\n"),
+    // version 2 has a byte for a next row here, and there is no version 3
+    (81, 7, 2, b"ab", 4, "table: Trailing 75\n"),
+    (81, 7, 3, b"ab", 4, "table: BadMagic\n"),
 ];
 
 #[test]
 fn by_table(rt: HostRuntime) -> Result<(), Fail> {
     for (len, at, byte, text, status, output) in TABLES {
-        let mut table = Vec::from_slice(rt.alloc(), TABLE)?;
+        let mut table = Vec::from_slice(rt.alloc(), TABLE_1)?;
         assert!(rt; *len <= table.len() && *at < table.len());
         table[*at] = *byte;
         let mut files = files_of(&rt, &[("b.tbl", &table[..*len]), ("t.txt", text)])?;

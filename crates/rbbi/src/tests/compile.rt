@@ -1,10 +1,17 @@
-//! The command `compile`.
-use super::{Table, files_of, run_words};
+//! The commands `compile` and `upgrade`.
+use super::{Table, files_of, is_right, run_words};
 use rbbi_io::MemFiles;
 use std::test::Fail;
 
 /// The table file of the rules `a;`.
-pub(super) const TABLE: &[u8] = &[
+const TABLE: &[u8] = &[
+    0x52, 0x42, 0x42, 0x49, 0x54, 0x42, 0x4C, 0x02, 2, 0, 3, 0, 0, 0, 1, 0, 3, 0, 0, 0, 0, 0, 0, 0,
+    0, 0, 0x61, 0, 0, 0, 1, 0, 0x62, 0, 0, 0, 0, 0, 1, 0, 0, 0, 0, 0, 0, 0, 0, 0, 0, 0, 0, 0, 0, 0,
+    0, 0, 0, 0, 0, 0, 0, 0, 0, 2, 1, 0, 0, 0, 0, 0, 0, 0, 0, 0, 0x0F,
+];
+
+/// The same table in a file of version 1.
+pub(super) const TABLE_1: &[u8] = &[
     0x52, 0x42, 0x42, 0x49, 0x54, 0x42, 0x4C, 0x01, 2, 0, 3, 0, 0, 0, 1, 0, 3, 0, 0, 0, 0, 0, 0, 0,
     0, 0, 0x61, 0, 0, 0, 1, 0, 0x62, 0, 0, 0, 0, 0, 1, 0, 0, 0, 0, 0, 0, 0, 0, 0, 0, 0, 0, 0, 0, 0,
     0, 0, 0, 0, 0, 0, 0, 0, 0, 0, 0, 0, 2, 0, 1, 0, 0, 0, 0, 0, 0, 0, 0, 0, 0, 0, 0x0F,
@@ -86,5 +93,30 @@ fn files(rt: HostRuntime) -> Result<(), Fail> {
     assert_eq!(rt; out.calls(), 0);
     assert!(rt; holds(&files, "r.txt", b"a;"));
     assert!(rt; holds(&files, "x.txt", b"x"));
+    Ok(())
+}
+
+/// A file of either version is written in version 2, and a damaged one not at all.
+#[test]
+fn upgrades(rt: HostRuntime) -> Result<(), Fail> {
+    let line = "categories 2 rows 3 lists 1 slashes 0 safe 4\n";
+    for old in [TABLE_1, TABLE] {
+        let mut files = files_of(&rt, &[("a.tbl", old)])?;
+        assert!(rt; is_right(&rt, "upgrade a.tbl b.tbl", &mut files, 0, line)?);
+        assert_eq!(rt; files.get("b.tbl"), Some(TABLE));
+        assert_eq!(rt; files.get("a.tbl"), Some(old));
+    }
+    assert!(rt; TABLE.len() == 75);
+    let mut files = files_of(&rt, &[("a.tbl", &TABLE[..74])])?;
+    assert!(rt;
+        is_right(
+            &rt,
+            "upgrade a.tbl b.tbl",
+            &mut files,
+            4,
+            "table: Short 74\n"
+        )?
+    );
+    assert_eq!(rt; files.get("b.tbl"), None);
     Ok(())
 }

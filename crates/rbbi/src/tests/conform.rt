@@ -1,7 +1,7 @@
 //! The command `conform`. In tests U+00F7 marks a boundary, and U+00D7 a place without one.
 use super::Table;
 use super::breaks::{CLASSES, GRAPHEMES};
-use super::compile::TABLE;
+use super::compile::TABLE_1;
 
 /// Tests, the exit status, and the output.
 pub(super) const VERDICTS: Table = (
@@ -35,26 +35,26 @@ pub(super) const BY_TABLE: Table = (
     &["b.tbl", "c.txt"],
     &[
         (
-            &[TABLE, b"\xC3\xB7 0061 \xC3\xB7 0062 \xC3\xB7"],
+            &[TABLE_1, b"\xC3\xB7 0061 \xC3\xB7 0062 \xC3\xB7"],
             0,
             "passed 1 failed 0\n",
         ),
         (
             &[
-                TABLE,
+                TABLE_1,
                 b"# none\n\xC3\xB7 0061 \xC3\x97 0062 \xC3\xB7\n\n\xC3\x97\n\xC3\xB7 0061 \xC3\x97",
             ],
             1,
             "line 2 place 1\nline 5 place 1\npassed 1 failed 2\n",
         ),
-        (&[TABLE, b""], 0, "passed 0 failed 0\n"),
+        (&[TABLE_1, b""], 0, "passed 0 failed 0\n"),
         (
-            &[TABLE, b"\xC3\xB7 0061 \xC3\xB7\n\xC3\xB7 0061"],
+            &[TABLE_1, b"\xC3\xB7 0061 \xC3\xB7\n\xC3\xB7 0061"],
             5,
             "c.txt:2: BadLine\n",
         ),
         (
-            &[TABLE, b"\xC3\xB7 61 \xC3\xB7\n\xC3\xB7"],
+            &[TABLE_1, b"\xC3\xB7 61 \xC3\xB7\n\xC3\xB7"],
             5,
             "c.txt:1: BadLine\n",
         ),

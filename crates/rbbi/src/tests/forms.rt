@@ -25,6 +25,8 @@ const FORMS: &[&str] = &[
     "breaks --table --ignore-dictionary r.txt t.txt",
     "check --table r.txt",
     "compile --table r.txt b.txt",
+    "upgrade r.txt",
+    "upgrade --table r.txt b.txt",
     "--ignore-dictionary check r.txt",
     "check r.txt --ignore-dictionary",
     "demo 0",

@@ -1,6 +1,6 @@
 //! Files at a limit, and past it.
-use super::compile::TABLE;
-use super::{files_of, is_right, run_words};
+use super::compile::TABLE_1;
+use super::{files_of, is_right};
 use std::alloc::{AllocError, Global};
 use std::test::Fail;
 
@@ -46,23 +46,30 @@ fn rule_files(rt: HostRuntime) -> Result<(), Fail> {
     Ok(())
 }
 
-/// A literal of 254 different characters has 255 categories, and one more has too many.
+/// A literal of 999 different characters has 1,000 categories, and one more has too many.
 #[test]
 fn categories(rt: HostRuntime) -> Result<(), Fail> {
-    for (last, status) in [(0x4EFD, 0), (0x4EFE, 3)] {
+    for (last, status, output) in [
+        (
+            0x51E6,
+            0,
+            "categories 1000 rows 1001 lists 1 slashes 0 safe 999002\n",
+        ),
+        (0x51E7, 3, "rules: TooManyCategories\n"),
+    ] {
         let mut rules = String::new(rt.alloc());
-        for c in '\u{4E00}'..='\u{4EFE}' {
+        for c in '\u{4E00}'..='\u{51E7}' {
             if c as u32 <= last {
                 rules.push(c)?;
             }
         }
         rules.push(';')?;
         let mut files = files_of(&rt, &[("r.txt", rules.as_bytes())])?;
-        let (answered, out) = run_words(&rt, "compile r.txt b.tbl", &mut files)?;
-        assert_eq!(rt; answered, status);
-        if status == 3 {
-            assert_eq!(rt; out.taken(), b"rules: TooManyCategories\n".as_slice());
-        }
+        let words = "compile r.txt b.tbl";
+        assert!(rt;
+            is_right(&rt, words, &mut files, status, output)?,
+            "{output}"
+        );
     }
     Ok(())
 }
@@ -121,7 +128,7 @@ fn longest_text(rt: HostRuntime) -> Result<(), Fail> {
         (5, "t.txt: TooManyChars\n"),
     ] {
         let held = [
-            ("b.tbl", TABLE),
+            ("b.tbl", TABLE_1),
             ("t.txt", text.as_bytes()),
             ("s.txt", script.as_slice()),
         ];

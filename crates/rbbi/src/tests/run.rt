@@ -1,7 +1,7 @@
 //! The command `run`.
 use super::Table;
 use super::check::WORDS;
-use super::compile::TABLE;
+use super::compile::TABLE_1;
 
 /// A script of many kinds of commands.
 pub(super) const SCRIPT: &[u8] = b"following 2
@@ -70,7 +70,7 @@ pub(super) const BY_TABLE: Table = (
     &[
         (
             &[
-                TABLE,
+                TABLE_1,
                 b"ab",
                 b"# all\nbreaks\n\ninsert 0 a\\n\nprevious\nlast\nis 3\ntext\n",
             ],
@@ -80,7 +80,7 @@ pub(super) const BY_TABLE: Table = (
         // edits at, before and behind the text's end
         (
             &[
-                TABLE,
+                TABLE_1,
                 b"ab",
                 b"insert 3 a\ninsert 2 a\ndelete 3 0\ndelete 3 1\ndelete 2 1\ndelete 1 2
 replace 1 1 ba\nreplace 0 3 \ninsert 0 b\ndelete 4294967295 4294967295\ntext",
@@ -91,7 +91,7 @@ replace 1 1 ba\nreplace 0 3 \ninsert 0 b\ndelete 4294967295 4294967295\ntext",
         // places behind the text's end
         (
             &[
-                TABLE,
+                TABLE_1,
                 b"ab",
                 b"following 4294967295\npreceding 4294967295\nis 4294967295\nfollowing 2
 preceding 0",
@@ -99,12 +99,16 @@ preceding 0",
             0,
             "done\n2\nno\ndone\ndone\n",
         ),
-        (&[TABLE, b"ab", b"first\nnext 1\n"], 5, "s.txt:2: BadLine\n"),
-        (&[TABLE, b"ab", b"is 4294967296"], 5, "s.txt:1: BadLine\n"),
-        (&[TABLE, b"ab\xFF", b"first"], 5, "t.txt: NotUtf8 2\n"),
-        (&[TABLE, b"ab\xE2\x82", b"first"], 5, "t.txt: NotUtf8 2\n"),
-        (&[TABLE, b"ab", b"first\xFF"], 5, "s.txt: NotUtf8 5\n"),
+        (
+            &[TABLE_1, b"ab", b"first\nnext 1\n"],
+            5,
+            "s.txt:2: BadLine\n",
+        ),
+        (&[TABLE_1, b"ab", b"is 4294967296"], 5, "s.txt:1: BadLine\n"),
+        (&[TABLE_1, b"ab\xFF", b"first"], 5, "t.txt: NotUtf8 2\n"),
+        (&[TABLE_1, b"ab\xE2\x82", b"first"], 5, "t.txt: NotUtf8 2\n"),
+        (&[TABLE_1, b"ab", b"first\xFF"], 5, "s.txt: NotUtf8 5\n"),
         // the text comes before the script
-        (&[TABLE, b"\xFF", b"?"], 5, "t.txt: NotUtf8 0\n"),
+        (&[TABLE_1, b"\xFF", b"?"], 5, "t.txt: NotUtf8 0\n"),
     ],
 );

@@ -12,6 +12,8 @@ pub enum Command {
     Check,
     /// Write the table file of a rule file.
     Compile,
+    /// Write the table of a table file anew, in the newest version.
+    Upgrade,
     /// Tell the boundaries of a text.
     Breaks,
     /// Reply to the commands of a script over a text.
@@ -52,7 +54,7 @@ impl Command {
         match self {
             Command::Check | Command::Compile => Takes::RuleOptions,
             Command::Breaks | Command::Run | Command::Conform => Takes::RuleOptionsOrTable,
-            Command::Demo => Takes::NoOptions,
+            Command::Upgrade | Command::Demo => Takes::NoOptions,
         }
     }
 
@@ -63,6 +65,7 @@ impl Command {
         match (self, by_table) {
             (Command::Check, _) => &[Operand::Read(Role::Rules)],
             (Command::Compile, _) => &[Operand::Read(Role::Rules), Operand::Written],
+            (Command::Upgrade, _) => &[Operand::Read(Role::Table), Operand::Written],
             (Command::Breaks, false) => &[Operand::Read(Role::Rules), Operand::Read(Role::Text)],
             (Command::Breaks, true) => &[Operand::Read(Role::Table), Operand::Read(Role::Text)],
             (Command::Run, false) => &[
@@ -90,6 +93,7 @@ pub(crate) fn command_of(word: &str) -> Option<Command>
     match word {
         "check" => Some(Command::Check),
         "compile" => Some(Command::Compile),
+        "upgrade" => Some(Command::Upgrade),
         "breaks" => Some(Command::Breaks),
         "run" => Some(Command::Run),
         "conform" => Some(Command::Conform),

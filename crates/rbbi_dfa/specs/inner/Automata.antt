@@ -27,7 +27,7 @@ LeadsToMarks automaton row =
 pub record IsDetermined (automaton : Table) : Type 0 where
   pub cells : length automaton.cells ≡ length automaton.rows * automaton.categories
   pub some_categories : 1 ≤ automaton.categories
-  pub few_categories : automaton.categories ≤ 255
+  pub few_categories : automaton.categories ≤ 1000
   pub few_slashes : automaton.slashes ≤ 32
   pub some : 2 ≤ length automaton.rows
   pub few : length automaton.rows ≤ 16386

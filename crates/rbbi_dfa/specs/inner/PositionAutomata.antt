@@ -54,7 +54,7 @@ pub record Tagged (rules : List Rule) (number tag : ℕ) : Type 0 where
 -- The rows are those of the positions of the rules, where these ranges give the categories.
 pub record IsOfRules (rules : List Rule) (ranges : List CategoryRange) (rows : PositionRows) : Type 0 where
   pub some_categories : 1 ≤ rows.categories
-  pub few_categories : rows.categories ≤ 255
+  pub few_categories : rows.categories ≤ 1000
   pub within : (c : ℕ) → category_of ranges c < rows.categories
   pub used : (category : ℕ) → 1 ≤ category → category < rows.categories → (c : ℕ) × IsCodePoint c × (category_of ranges c ≡ category)
   pub slashes : rows.slashes ≡ length (look_aheads rules)

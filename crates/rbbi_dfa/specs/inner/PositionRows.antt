@@ -30,7 +30,7 @@ pub record PositionRows : Type 0 where
 -- don't fall along their list.
 pub record AreRows (rows : PositionRows) : Type 0 where
   pub some_categories : 1 ≤ rows.categories
-  pub few_categories : rows.categories ≤ 255
+  pub few_categories : rows.categories ≤ 1000
   pub few_slashes : rows.slashes ≤ 32
   pub narrow : rows.width ≤ 128
   pub first : length rows.first ≡ rows.width

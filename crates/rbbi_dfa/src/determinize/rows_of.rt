@@ -123,7 +123,7 @@ pub(crate) fn rows_of(
     slashes: u16,
 ) -> Result<Rows, AllocError>
     requires some_categories { 1 ≤ categories }
-    requires few_categories { categories ≤ 255 }
+    requires few_categories { categories ≤ 1000 }
     requires readable { AreReadable positions.now categories slashes }
     ensures { IfOk result (λ rows. AreRowsOf positions.now categories slashes rows) }
 {

@@ -11,13 +11,17 @@ use Rattle.rbbi_command.specs.Stages.{Stage, followed_by}
 use Rattle.rbbi_command.specs.Refusals.{Outcome}
 use Rattle.rbbi_tool.specs.Basis.{compiled_stage}
 
+-- the table's file is written under the name, in version 2, and its numbers are told
+abbrev pub table_outcome : List ℕ → Table → Outcome
+table_outcome name table = record { status = 0; bytes = compile_line table; file = Some (record { name = name; bytes = spelling table }) }
+
 -- A table is compiled from the rules, which are lawful: its file is written under the name, and its numbers are told. The numbers of
 -- its rows but the first two are free.
 pub record TellsTable (rules : List Rule) (name : List ℕ) (outcome : Outcome) : Type 0 where
   pub lawful : AreLawful rules
   pub table : Table
   pub compiled : IsCompiled table rules
-  pub is : outcome ≡ record { status = 0; bytes = compile_line table; file = Some (record { name = name; bytes = spelling table }) }
+  pub is : outcome ≡ table_outcome name table
 
 -- the table file of a rule file, under this name
 abbrev pub compile_stage : Options → Inputs → List ℕ → Stage Outcome

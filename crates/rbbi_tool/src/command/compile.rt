@@ -5,7 +5,7 @@ ghost use Rattle.rbbi_tool.specs.inner.Stages.{Meets};
 ghost use Rattle.rbbi_tool.specs.inner.Prepared.{answer_of};
 ghost use Rattle.rbbi_command.specs.Requests.{options_in};
 ghost use Rattle.rbbi_command.specs.Inputs.{inputs_in, AreShort};
-ghost use Rattle.rbbi_tool.specs.Command.Compile.{compile_stage};
+ghost use Rattle.rbbi_tool.specs.Command.Compile.{compile_stage, table_outcome};
 
 use crate::prepared::Prepared;
 use crate::rules::rules_from;
@@ -49,6 +49,20 @@ fn numbers_line(alloc: Global, table: &Table) -> Result<Vec<u8>, AllocError>
     )
 }
 
+/// The table's file under this name, in version 2, and the line of the table's numbers.
+pub(super) fn table_output(alloc: Global, table: &Table, name: &str) -> Result<Output, AllocError>
+    ensures { IfOk result (λ output. output ≡ table_outcome name.now table.now) }
+{
+    let name = Name::new(alloc, name)?;
+    let bytes = rbbi_file::write_table(alloc, table)?;
+    let line = numbers_line(alloc, table)?;
+    Ok(Output {
+        status: 0,
+        bytes: line,
+        file: Some(Written { name, bytes }),
+    })
+}
+
 /// The table file of a rule file, under this name, and the line of the table's numbers.
 pub(crate) fn compile<L: Ledger>(
     alloc: Global,
@@ -64,12 +78,6 @@ pub(crate) fn compile<L: Ledger>(
 {
     let rules = rules_from(alloc, options, inputs, steps)?;
     let table = table_of(alloc, &rules)?;
-    let name = Name::new(alloc, name)?;
-    let bytes = rbbi_file::write_table(alloc, &table)?;
-    let line = numbers_line(alloc, &table)?;
-    Ok(Prepared::Ready(Output {
-        status: 0,
-        bytes: line,
-        file: Some(Written { name, bytes }),
-    }))
+    let output = table_output(alloc, &table, name)?;
+    Ok(Prepared::Ready(output))
 }

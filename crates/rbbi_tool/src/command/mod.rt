@@ -6,6 +6,7 @@ mod compile;
 mod conform;
 mod demo;
 mod run;
+mod upgrade;
 
 pub(crate) use breaks::breaks;
 pub(crate) use check::check;
@@ -13,3 +14,4 @@ pub(crate) use compile::compile;
 pub(crate) use conform::conform;
 pub(crate) use demo::demo;
 pub(crate) use run::run;
+pub(crate) use upgrade::upgrade;

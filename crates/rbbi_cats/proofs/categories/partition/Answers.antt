@@ -13,8 +13,8 @@ returns-in_err-categories-clause-too_many c =
     let p = err_from_is_err_and c.from_residual.result c.from_residual.ensures.1 in
     λ same.
     let error : c.in_err-categories.field-0.0 ≡ TooManyCategories = sym p.2 ∙ cc (p.1, same) in
-    has_classes c.args.rules.now 255 c.sets.ensures.form
-    (subst (λ (sets : List (List Range)). HasTold sets 255) (sym (sym c.sets.ensures.value ∙ c.by_classes.ensures.same))
+    has_classes c.args.rules.now 1000 c.sets.ensures.form
+    (subst (λ (sets : List (List Range)). HasTold sets 1000) (sym (sym c.sets.ensures.value ∙ c.by_classes.ensures.same))
     (c.in_err-categories.ensures.too_many (ap (λ e. Err e) error)))
 
 pub invariant_of-result : goal.invariant_of-result
@@ -41,6 +41,6 @@ returns c =
     record {
       classes = classes;
       form = valid;
-      few = λ h. few (rules_of list) count ranges classes (λ n code. category_within count ranges n valid) 255 c.in_ok-categories.ensures.few h;
+      few = λ h. few (rules_of list) count ranges classes (λ n code. category_within count ranges n valid) 1000 c.in_ok-categories.ensures.few h;
       too_many = λ same. absurd (cc);
     }

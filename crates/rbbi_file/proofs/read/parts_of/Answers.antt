@@ -1,6 +1,8 @@
-use Rattle.std.proofs.Common.{refl, sym, subst, arith}
+use Rattle.std.proofs.Common.{◌+◌, ◌*◌, drop, refl, sym, ap, ◌∙◌, subst, arith}
 use Rattle.std.proofs.Math.Facts.{Fits-lt-pow}
 use Rattle.rbbi_model.specs.Tables.{Table}
+use Rattle.rbbi_model.specs.TableFile.{cell_size}
+use Rattle.rbbi_file.specs.Lengths.{version_in}
 use Rattle.rbbi_file.specs.Fitting.{Spell}
 use Rattle.rbbi_file.proofs.OneTable.{same_table}
 use Rattle.rbbi_file.proofs.WholeFiles.{over_counts, AreCounts, spelled_parts}
@@ -30,7 +32,9 @@ returns c =
     record { categories_are = are.categories; ranges = are.ranges; lists = are.lists; rows = are.rows; slashes_are = are.slashes; stand = are.stand } in
     subst (Spell c.args.bytes.now)
     (sym (same_table _ table refl refl c.from_vec.ensures c.from_vec-2.ensures c.from_vec-3.ensures c.from_vec-4.ensures c.from_vec-5.ensures))
-    (spelled_parts c.args.bytes.now table counts.ranges counts.lists counts.rows c.in_ok-lists.at (λ i. Fits-lt-pow (c.type_inv.bytes i))
+    (spelled_parts c.args.bytes.now table c.cell_size-size.result counts.ranges counts.lists counts.rows c.in_ok-lists.at
+    (c.cell_size-size.ensures.exact ∙ ap (λ n. cell_size (version_in c.args.bytes.now) n) are.rows) (λ i. Fits-lt-pow (c.type_inv.bytes i))
     c.requires.magic c.requires.whole counted
     c.in_ok-ranges.ensures.count c.in_ok-lists.ensures.count c.in_ok-ranges.ensures.stand c.in_ok-ranges.ensures.fit c.in_ok-lists.ensures.lists
-    c.in_ok-lists.ensures.end c.in_ok-heads.ensures c.in_ok-safe.ensures)
+    c.in_ok-lists.ensures.end c.in_ok-heads.ensures
+    (c.in_ok-safe.ensures ∙ ap (λ n. drop (c.in_ok-lists.at + counts.rows * n) c.args.bytes.now) c.row_size.ensures.exact))

@@ -1,5 +1,6 @@
-use Rattle.std.proofs.Common.{◌≡◌, ℕ, ◌+◌, ◌*◌, ◌<◌, get_or}
+use Rattle.std.proofs.Common.{◌≡◌, length}
+use Rattle.rbbi_table.proofs.PairLemmas.{AreMarkedBelow}
 use Rattle.rbbi_table.proofs.safe.lead_to_one.Given as goal
 
 abbrev pub invariant-loop-target : goal.invariant-loop-target
-invariant-loop-target l = (i : ℕ) → i < l.target-index → get_or l.cells (get_or l.targets i 0 * l.width + l.category) 0 ≡ l.goal
+invariant-loop-target l = (length l.marked.items ≡ l.width) × AreMarkedBelow l.cells l.width l.targets l.first l.marked.items l.target-index

@@ -7,6 +7,7 @@ use Rattle.rbbi_tool.specs.inner.Prepared.{answer_of, rest_after, ReadsByEnd}
 use Rattle.rbbi_tool.specs.inner.Steps.{given_bytes}
 use Rattle.rbbi_tool.specs.Steps.{CommandReads}
 use Rattle.rbbi_tool.specs.Command.Compile.{compile_stage}
+use Rattle.rbbi_tool.specs.Command.Upgrade.{upgrade_stage}
 use Rattle.rbbi_tool.specs.Program.{command_stage}
 use Rattle.rbbi_tool.proofs.prepare.prepare.Goals as goal
 
@@ -14,6 +15,12 @@ pub word-requires : goal.word-requires
 word-requires g c =
     let count : length c.args.request.now.operands.now ≡ 2 =
     c.requires.count ∙ ap (λ k. length (operands_of k c.args.request.now.options.by_table)) c.in-Compile.is in
+    omega arith
+
+pub word-requires-in-Upgrade : goal.word-requires-in-Upgrade
+word-requires-in-Upgrade g c =
+    let count : length c.args.request.now.operands.now ≡ 2 =
+    c.requires.count ∙ ap (λ k. length (operands_of k c.args.request.now.options.by_table)) c.in-Upgrade.is in
     omega arith
 
 pub word-requires-in-Demo : goal.word-requires-in-Demo
@@ -28,6 +35,13 @@ returns-in-Compile-clause-exact g c =
     subst (λ k. Meets (λ output. output) (command_stage k (asked_by c.args.request.now) inputs) (answer_of c.compile.result)) (sym c.in-Compile.is)
     (subst (λ n. Meets (λ output. output) (compile_stage (options_in c.args.request.now.options) inputs n) (answer_of c.compile.result)) c.word.ensures
     c.compile.ensures)
+
+pub returns-in-Upgrade-clause-exact : goal.returns-in-Upgrade-clause-exact
+returns-in-Upgrade-clause-exact g c =
+    let inputs = inputs_in c.args.inputs.now in
+    subst (λ k. Meets (λ output. output) (command_stage k (asked_by c.args.request.now) inputs) (answer_of c.upgrade.result)) (sym c.in-Upgrade.is)
+    (subst (λ n. Meets (λ output. output) (upgrade_stage inputs n) (answer_of c.upgrade.result)) c.word-in-Upgrade.ensures
+    c.upgrade.ensures)
 
 pub returns-in-Breaks-clause-steps : goal.returns-in-Breaks-clause-steps
 returns-in-Breaks-clause-steps g c =

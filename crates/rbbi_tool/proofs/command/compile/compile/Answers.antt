@@ -1,15 +1,7 @@
-use Rattle.std.proofs.Common.{◌≡◌, ℕ, List, Some, refl, inl, inr, ⊎_elim}
+use Rattle.std.proofs.Common.{refl, inl, inr, ⊎_elim}
 use Rattle.std.proofs.lemmas.Result.{err_from_is_err_and}
 use Rattle.rbbi_resolve.specs.RuleLists.{rules_of}
-use Rattle.rbbi_command.specs.Refusals.{Outcome}
 use Rattle.rbbi_tool.proofs.command.compile.compile.Goals as goal
-
--- outcomes with equal bytes and files are equal
-same_told : (b b' n n' s s' : List ℕ) → b ≡ b' → n ≡ n' → s ≡ s' →
-    let told : List ℕ → List ℕ → List ℕ → Outcome =
-    λ bytes name held. record { status = 0; bytes = bytes; file = Some (record { name = name; bytes = held }) } in
-    told b n s ≡ told b' n' s'
-same_told b b' n n' s s' e f h = λ i. record { status = 0; bytes = e i; file = Some (record { name = f i; bytes = h i }) }
 
 pub returns-in_err-rules : goal.returns-in_err-rules
 returns-in_err-rules g c =
@@ -30,6 +22,6 @@ returns g c =
         lawful = c.in_ok-rules.ensures.lawful;
         table = c.in_ok-table.table;
         compiled = c.in_ok-table.ensures.compiled;
-        is = same_told _ _ _ _ _ _ c.in_ok-line.ensures c.in_ok-name.ensures c.in_ok-bytes.ensures.spelled;
+        is = c.in_ok-output.ensures;
       },
     )

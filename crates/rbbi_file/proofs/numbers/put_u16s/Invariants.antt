@@ -1,7 +1,0 @@
-use Rattle.std.proofs.Common.{◌≡◌, ◌++◌, take}
-use Rattle.std.specs.List.{flat_map}
-use Rattle.rbbi_model.specs.TableFile.{u16}
-use Rattle.rbbi_file.proofs.numbers.put_u16s.Given as goal
-
-abbrev pub invariant-loop-n : goal.invariant-loop-n
-invariant-loop-n l = l.out.items ≡ l.initial.out.items ++ flat_map u16 (take l.n-index l.numbers)
