@@ -23,4 +23,5 @@ pub mod Compiled
 pub mod Canonical
 pub mod Costs
 pub mod TableFile
+pub mod Units
 pub mod ReadAlike

@@ -14,6 +14,7 @@ mod runs;
 mod searches;
 mod table_file;
 mod tables;
+mod unit;
 
 ghost use Rattle.std.specs.Prelude.{◌≡◌, ℕ, ◌↔◌, List};
 ghost use Rattle.rbbi_model.specs.Rules.{Rule};
@@ -39,6 +40,7 @@ pub use searches::{
 };
 pub use table_file::spelling_tells_the_table;
 pub use tables::{category_is_within, code_point_has_one_category};
+pub use unit::Unit;
 
 /// A text has at most one list of boundaries by a list of rules.
 pub fn boundaries_are_unique()
