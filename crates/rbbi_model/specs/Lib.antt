@@ -24,4 +24,5 @@ pub mod Canonical
 pub mod Costs
 pub mod TableFile
 pub mod Units
+pub mod UnitAnswers
 pub mod ReadAlike
