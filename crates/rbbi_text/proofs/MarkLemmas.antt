@@ -1,10 +1,12 @@
 -- Marks of lists: what stands at one, and what becomes of them when the list changes.
-use Rattle.std.proofs.Common.{◌≡◌, ℕ, zero, suc, ◌+◌, ◌-◌, ◌*◌, ◌/◌, ◌<◌, ◌≤◌, List, [], ◌∷◌, ◌++◌, length, get_or, set, take, drop, sum_by, min, refl, sym, ap, ◌∙◌}
+use Rattle.std.proofs.Common.{◌≡◌, ℕ, zero, suc, ◌+◌, ◌-◌, ◌*◌, ◌/◌, ◌<◌, ◌≤◌, List, [], ◌∷◌, ◌++◌, length, get_or, set, take, drop, sum_by, min}
+use Rattle.std.proofs.Common.{refl, sym, ap, ◌∙◌}
 use Rattle.std.proofs.Common.{arith, ⊎_elim, length-append, length-take, length-drop, length-set}
 use Rattle.std.proofs.Common.{true, cond, ltb, eqb, subst}
 use Rattle.std.specs.List.{slice_range, splice}
 use Rattle.std.proofs.lemmas.Bool.{cases_lt, cond_both, eqb-true, eq-eqb}
-use Rattle.std.proofs.lemmas.List.{get_or-take, get_or_append_left, get_or-append_right, take-take, take_all, get_or_read, get_or-set_same, take-set-le, get_or-map, get_or-drop, length-map, take_at, drop_at}
+use Rattle.std.proofs.lemmas.List.{get_or-take, get_or_append_left, get_or-append_right, take-take, take_all, get_or_read, get_or-set_same}
+use Rattle.std.proofs.lemmas.List.{take-set-le, get_or-map, get_or-drop, length-map, take_at, drop_at}
 use Rattle.std.proofs.lemmas.List.Sums.{sum_by_more, sum_by_more_le, sum_by-append, sum_by-take-le, sum_by-take-drop, sum_by-set, sum_by-cons}
 use Rattle.std.proofs.Math.Seq.{take-add, take-set-lt}
 use Rattle.rbbi_model.specs.declared.unit.Unit.{Unit as TextUnit}
@@ -242,7 +244,8 @@ long_is x new w start end order within new_is =
 -- what a list takes after an edit, by what the part that is gone and the new one take
 pub reweighed : (unit : TextUnit) (x new w gone_from new_from : List ℕ) (start end n old gone added : ℕ) → start ≤ end → end ≤ length x →
     length x - (end - start) + length w ≤ 1024 → new ≡ splice x start end w → n ≡ length new - (length x - end) → gone_from ≡ x → new_from ≡ new →
-    old ≡ sum_by (size_of unit) x → gone ≡ sum_by (size_of unit) (slice_range gone_from start end) → added ≡ sum_by (size_of unit) (slice_range new_from start n) →
+    old ≡ sum_by (size_of unit) x → gone ≡ sum_by (size_of unit) (slice_range gone_from start end) → added ≡ sum_by (size_of unit)
+    (slice_range new_from start n) →
     (gone ≤ old) × (old - gone + added ≡ sum_by (size_of unit) new) × (length new ≤ 1024)
 reweighed unit x new w gone_from new_from start end n old gone added order within few new_is n_is gone_is from_is old_is is_gone is_added =
     let f : ℕ → ℕ = size_of unit in

@@ -7,8 +7,12 @@ pub total-requires : goal.total-requires
 total-requires g c =
     let from : ℕ = c.min-mark.result * 64 in
     let order : from ≤ c.args.i = omega arith in
-    omega
-    (arith, sum_parts (g.T.Measure.weight c.args.unit) c.args.items.now from c.args.i order, sum_by-take-le (g.T.Measure.weight c.args.unit) c.args.items.now c.args.i)
+    omega (
+      arith,
+      sum_parts (g.T.Measure.weight c.args.unit) c.args.items.now from c.args.i order,
+      sum_by-take-le
+          (g.T.Measure.weight c.args.unit) c.args.items.now c.args.i,
+    )
 
 pub overflow_add-result : goal.overflow_add-result
 overflow_add-result g c =

@@ -8,8 +8,10 @@ pub returns : goal.returns
 returns g c =
     let from : ℕ = c.last_mark-mark.result * 64 in
     let within : from ≤ length c.args.items.now = omega (arith, c.requires.marks.few, c.last_mark-mark.ensures.within) in
-    let at = mark_at (g.T.Measure.weight c.args.unit) c.args.items.now c.args.marks.now c.last_mark-mark.result c.requires.marks c.last_mark-mark.ensures.within in
-    fit_behind (g.T.Measure.weight c.args.unit) c.args.items.now from c.args.most c.at_mark-units.result c.fit_in-fit.result.count c.fit_in-fit.result.units within
+    let at = mark_at (g.T.Measure.weight c.args.unit) c.args.items.now c.args.marks.now c.last_mark-mark.result c.requires.marks
+    c.last_mark-mark.ensures.within in
+    fit_behind (g.T.Measure.weight c.args.unit) c.args.items.now from c.args.most c.at_mark-units.result c.fit_in-fit.result.count
+    c.fit_in-fit.result.units within
     (c.at_mark-units.ensures ∙ at)
     (omega (arith, c.at_mark-units.ensures, c.last_mark-mark.ensures.low))
     (subst (λ l. IsFit (g.T.Measure.weight c.args.unit) l (c.args.most - c.at_mark-units.result) c.fit_in-fit.result.count c.fit_in-fit.result.units)

@@ -27,7 +27,10 @@ overflow_sub-self c =
     )
 
 pub total-requires : goal.total-requires
-total-requires c = let long = long_is c.self.inside.items.items c.put.new.items.items (chars c.args.text.now) c.args.start c.args.end c.requires.forward (omega (arith, c.requires.within, ap length c.self.view_is)) c.in_ok-put.ensures.ok in
+total-requires c =
+    let long =
+    long_is c.self.inside.items.items c.put.new.items.items (chars c.args.text.now) c.args.start c.args.end c.requires.forward
+    (omega (arith, c.requires.within, ap length c.self.view_is)) c.in_ok-put.ensures.ok in
     omega (
       arith,
       slice_small Utf8 c.deref-2.result.now c.args.start (c.len-2.result - (c.len.result - c.args.end)),
@@ -59,7 +62,10 @@ overflow_sub-self-2 c =
     )
 
 pub total-requires-2 : goal.total-requires-2
-total-requires-2 c = let long = long_is c.self.inside.items.items c.put.new.items.items (chars c.args.text.now) c.args.start c.args.end c.requires.forward (omega (arith, c.requires.within, ap length c.self.view_is)) c.in_ok-put.ensures.ok in
+total-requires-2 c =
+    let long =
+    long_is c.self.inside.items.items c.put.new.items.items (chars c.args.text.now) c.args.start c.args.end c.requires.forward
+    (omega (arith, c.requires.within, ap length c.self.view_is)) c.in_ok-put.ensures.ok in
     omega (
       arith,
       slice_small Utf16 c.deref-2.result.now c.args.start (c.len-2.result - (c.len.result - c.args.end)),
