@@ -30,3 +30,4 @@ pub mod Texts
 pub mod SearchesAlike
 pub mod Bits
 pub mod ListingCosts
+pub mod Measured

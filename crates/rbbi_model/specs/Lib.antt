@@ -23,4 +23,6 @@ pub mod Compiled
 pub mod Canonical
 pub mod Costs
 pub mod TableFile
+pub mod Units
+pub mod UnitAnswers
 pub mod ReadAlike

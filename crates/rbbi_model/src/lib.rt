@@ -13,6 +13,7 @@ mod lines;
 mod runs;
 mod searches;
 mod tables;
+mod unit;
 
 ghost use Rattle.std.specs.Prelude.{◌≡◌, ℕ, ◌↔◌, List};
 ghost use Rattle.rbbi_model.specs.Rules.{Rule};
@@ -37,6 +38,7 @@ pub use searches::{
     searches_depend_on_what_they_read, table_boundaries_cover_the_text,
 };
 pub use tables::{category_is_within, code_point_has_one_category};
+pub use unit::Unit;
 
 /// A text has at most one list of boundaries by a list of rules.
 pub fn boundaries_are_unique()

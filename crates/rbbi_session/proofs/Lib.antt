@@ -4,3 +4,5 @@ pub mod Reaching
 pub mod Answering
 pub mod Stepping
 mod Asked
+pub mod UnitAnswering
+pub mod UnitEditing

@@ -6,5 +6,9 @@
 
 mod boundary;
 mod session;
+mod unit_error;
+mod unit_session;
 
 pub use session::Session;
+pub use unit_error::UnitEditErr;
+pub use unit_session::UnitSession;

@@ -5,3 +5,4 @@ pub mod Lines
 pub mod LineValues
 pub mod Pushed
 pub mod Appended
+pub mod MarkLemmas

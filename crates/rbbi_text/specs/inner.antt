@@ -3,3 +3,4 @@ pub mod Answers
 pub mod Cuts
 pub mod Appending
 pub mod LineValues
+pub mod Marks

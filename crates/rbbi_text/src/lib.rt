@@ -10,6 +10,8 @@ mod chars;
 mod error;
 mod line_parts;
 mod line_values;
+mod marks;
+mod measure;
 mod numbers;
 mod piece;
 mod pieces;
@@ -19,6 +21,7 @@ mod raw;
 mod steps;
 #[cfg(test)]
 mod tests;
+mod units;
 mod word;
 
 pub use appending::{append, append_boundary, append_number, append_statuses};
@@ -31,5 +34,7 @@ pub use numbers::{decimal, hexadecimal, number_of_characters};
 pub use pieces::Pieces;
 pub use plain::PlainText;
 pub use raw::Raw;
+pub use rbbi_model::Unit;
 pub use steps::Steps;
+pub use units::{Index, UnitText};
 pub use word::{Word, push_character};

@@ -1,12 +1,16 @@
 //! The pieces that a text is cut into.
 ghost use Rattle.std.specs.Prelude.{◌≡◌, ◌+◌, ◌≤◌, ◌<◌, ◌++◌, length, take, drop, slice_index};
 ghost use Rattle.std.specs.Prelude.{IfOk, OnOk, OnErr, MatchOption, MatchBool, [], ◌∷◌, chars};
+ghost use Rattle.std.specs.Prelude.{◌-◌};
 ghost use Rattle.std.specs.List.{AllByRecursion, splice};
 ghost use Rattle.rbbi_model.specs.Words.{most_characters};
 ghost use Rattle.rbbi_model.specs.Spelling.{joined};
 ghost use Rattle.rbbi_text.specs.Cuts.{IsFilled, AreFilled, ArePieces};
 ghost use Rattle.rbbi_text.specs.inner.Cuts.{AreSoFar, HaveRoom};
+ghost use Rattle.rbbi_text.specs.Weighed.{weight_of};
 
+use crate::Unit;
+use crate::measure::{Measure, total};
 use crate::plain::{MOST_CHARACTERS, put};
 use std::alloc::{AllocError, Global};
 use std::marker::Model;
@@ -18,30 +22,67 @@ pub(crate) const FULL: usize = 1024;
 /// The fewest characters of a piece, but for the last.
 pub(crate) const QUARTER: usize = 256;
 
-/// Some characters of a text, one behind the other. Contracts see it as their list.
+/// At most 1,024 characters of a text, one behind the other. Contracts see it as their list.
 #[derive(Drop)]
 pub(crate) struct Piece {
     items: Vec<char>,
+    /// How many bytes they take in UTF-8.
+    utf8: u32,
+    /// How many numbers of 16 bits they take in UTF-16.
+    utf16: u32,
 }
 
 impl Model for Piece {
     ghost use Rattle.std.specs.Prelude.{List, ℕ};
+    ghost use Rattle.rbbi_text.specs.Weighed.{AreWeighed};
 
     ghost Value = { List ℕ };
 
     ghost view = { λ piece. piece.items.items };
+
+    ghost invariant = { λ piece. AreWeighed piece.items.items piece.utf8 piece.utf16 };
+}
+
+impl Measure for Piece {
+    ghost weight = { weight_of };
+
+    fn units(&self, unit: Unit) -> u32 {
+        match unit {
+            Unit::Chars => self.items.len() as u32,
+            Unit::Utf8 => self.utf8,
+            Unit::Utf16 => self.utf16,
+        }
+    }
 }
 
 impl Piece {
+    /// The piece of these characters.
+    fn of(items: Vec<char>) -> Piece
+        requires { length items.items ≤ 1024 }
+        ensures { result ≡ items.items }
+    {
+        let utf8 = total(&items, Unit::Utf8);
+        let utf16 = total(&items, Unit::Utf16);
+        Piece { items, utf8, utf16 }
+    }
+
     /// Puts the characters of a string in place of those from one place to another. It takes all
     /// memory before it changes anything.
     pub(crate) fn put(&mut self, start: usize, end: usize, text: &str) -> Result<(), AllocError>
         requires forward { start ≤ end }
         requires within { end ≤ length self.old }
+        requires few { length self.old - (end - start) + length (chars text.now) ≤ 1024 }
         ensures ok { OnOk result (self.new ≡ splice self.old start end (chars text.now)) }
         ensures err { OnErr result (self.new ≡ self.old) }
     {
-        put(&mut self.items, start, end, text)
+        let behind = self.items.len() - end;
+        let gone = &self.items[start..end];
+        let (gone_utf8, gone_utf16) = (total(gone, Unit::Utf8), total(gone, Unit::Utf16));
+        put(&mut self.items, start, end, text)?;
+        let new = &self.items[start..self.items.len() - behind];
+        self.utf8 = self.utf8 - gone_utf8 + total(new, Unit::Utf8);
+        self.utf16 = self.utf16 - gone_utf16 + total(new, Unit::Utf16);
+        Ok(())
     }
 
     /// A piece of these characters, with room for as many as a piece may have.
@@ -51,7 +92,7 @@ impl Piece {
     {
         let mut items = Vec::with_capacity(alloc, FULL)?;
         items.extend_from_slice(characters)?;
-        Ok(Piece { items })
+        Ok(Piece::of(items))
     }
 
     /// The number of characters.
@@ -157,7 +198,7 @@ fn make_room(
     }
     let empty = Vec::with_capacity(alloc, FULL)?;
     let full = mem::replace(latest, empty);
-    pieces.push(Piece { items: full })?;
+    pieces.push(Piece::of(full))?;
     Ok(true)
 }
 
@@ -177,6 +218,6 @@ pub(crate) fn pieces_of(alloc: Global, text: &str) -> Result<Option<Vec<Piece>>,
         }
         latest.push(c)?;
     }
-    pieces.push(Piece { items: latest })?;
+    pieces.push(Piece::of(latest))?;
     Ok(Some(pieces))
 }

@@ -9,12 +9,18 @@ ghost use Rattle.rbbi_text.specs.Bytes.{most_bytes};
 ghost use Rattle.rbbi_text.specs.Cuts.{ArePieces};
 ghost use Rattle.rbbi_text.specs.inner.Cuts.{AreWholeCut, IsMiddle, shifted, pieces_with};
 ghost use Rattle.rbbi_text.specs.inner.Cuts.{starts_with_new, edited_piece};
+ghost use Rattle.rbbi_model.specs.Units.{offset_of};
+ghost use Rattle.rbbi_text.specs.Marks.{AreMarks, AreMarked};
+ghost use Rattle.rbbi_text.specs.Weighed.{weight_of};
+ghost use Rattle.rbbi_text.specs.Indexes.{IsIndex};
 ghost use Rattle.rbbi_text.specs.Answers.{TakesText, ReadsText};
 
+use crate::marks::{Marks, before, find, shift_marks};
+use crate::measure::{Measure, fit_in, total};
 use crate::piece::{FULL, Piece, QUARTER, cut, pieces_of};
 use crate::places::{character, locate, push_starts, shift};
 use crate::plain::{added, put};
-use crate::{Chars, EditErr, EditText, Raw, RawErr, Steps, TextErr};
+use crate::{Chars, EditErr, EditText, Index, Raw, RawErr, Steps, TextErr, Unit, UnitText};
 use std::alloc::{AllocError, Global};
 use std::fmt;
 use std::marker::Model;
@@ -33,6 +39,8 @@ pub struct Pieces {
     starts: Vec<u32>,
     /// The number of characters.
     len: u32,
+    /// Where each 64th piece starts in UTF-8 and in UTF-16.
+    marks: Marks,
     /// Where the memory of further pieces comes from.
     alloc: Global,
 }
@@ -41,12 +49,15 @@ impl Model for Pieces {
     ghost use Rattle.std.specs.Prelude.{List, ℕ};
     ghost use Rattle.rbbi_model.specs.Spelling.{joined};
     ghost use Rattle.rbbi_text.specs.Cuts.{AreCut};
+    ghost use Rattle.rbbi_text.specs.Marks.{AreMarked};
+    ghost use Rattle.rbbi_text.specs.Weighed.{weight_of};
 
     ghost Value = { List ℕ };
 
     ghost view = { λ text. joined text.pieces.items };
 
-    ghost invariant = { λ text. AreCut text.pieces.items text.starts.items text.len };
+    ghost invariant = { λ text. AreCut text.pieces.items text.starts.items text.len
+        × AreMarked weight_of text.pieces.items text.marks.utf8.items text.marks.utf16.items };
 }
 
 /// It writes the type's name and none of the characters, which only `char_at` gives.
@@ -63,10 +74,12 @@ fn text_of(alloc: Global, pieces: Vec<Piece>) -> Result<Pieces, AllocError>
 {
     let mut starts = Vec::with_capacity(alloc, pieces.len())?;
     let len = push_starts(&mut starts, 0, &pieces)?;
+    let marks = Marks::of(alloc, &pieces);
     Ok(Pieces {
         pieces,
         starts,
         len,
+        marks,
         alloc,
     })
 }
@@ -119,6 +132,7 @@ impl Chars for Pieces {
 fn edit_piece(
     pieces: &mut Vec<Piece>,
     starts: &mut Vec<u32>,
+    marks: &mut Marks,
     first: usize,
     from: usize,
     remove: u32,
@@ -129,19 +143,33 @@ fn edit_piece(
     requires number_of_start { first < length starts.old.items }
     requires from { from < 2 ^ 32 }
     requires within { from + remove ≤ length (slice_index_or pieces.old.items first []) }
+    requires few { length (slice_index_or pieces.old.items first []) - remove
+        + length (chars insert.now) ≤ 1024 }
     requires behind { (k : ℕ) → first + 1 ≤ k → k < length starts.old.items
         → remove ≤ slice_index starts.old.items k }
     requires small { (k : ℕ) → first + 1 ≤ k → k < length starts.old.items
         → slice_index starts.old.items k + added < 2 ^ 32 }
+    requires marked { AreMarked weight_of pieces.old.items
+        marks.old.utf8.items marks.old.utf16.items }
+    requires short { length (joined pieces.old.items) ≤ most_characters }
     ensures pieces { OnOk result (pieces.new.items ≡ slice_set pieces.old.items first
         (edited_piece pieces.old.items first from remove (chars insert.now))) }
     ensures starts { OnOk result (starts.new.items ≡ take (first + 1) starts.old.items
         ++ shifted remove added (drop (first + 1) starts.old.items)) }
+    ensures marks { OnOk result (AreMarked weight_of pieces.new.items
+        marks.new.utf8.items marks.new.utf16.items) }
     ensures err { OnErr result (pieces.new.items ≡ pieces.old.items) }
     ensures err_starts { OnErr result (starts.new.items ≡ starts.old.items) }
+    ensures err_marks { OnErr result (marks.new ≡ marks.old) }
 {
+    let old_utf8 = pieces[first].units(Unit::Utf8);
+    let old_utf16 = pieces[first].units(Unit::Utf16);
     pieces[first].put(from, from + remove as usize, insert)?;
     shift(starts, first + 1, remove, added);
+    let new_utf8 = pieces[first].units(Unit::Utf8);
+    let new_utf16 = pieces[first].units(Unit::Utf16);
+    shift_marks(&mut marks.utf8, first, old_utf8, new_utf8);
+    shift_marks(&mut marks.utf16, first, old_utf16, new_utf16);
     Ok(())
 }
 
@@ -302,6 +330,7 @@ fn edit(
     alloc: Global,
     pieces: &mut Vec<Piece>,
     starts: &mut Vec<u32>,
+    marks: &mut Marks,
     place: usize,
     remove: u32,
     insert: &str,
@@ -311,18 +340,23 @@ fn edit(
     requires inside { place + remove ≤ length (joined pieces.old.items) }
     requires added { added ≡ length (chars insert.now) }
     requires few { length (joined pieces.old.items) - remove + added ≤ most_characters }
+    requires marked { AreMarked weight_of pieces.old.items
+        marks.old.utf8.items marks.old.utf16.items }
     ensures cut { OnOk result (AreWholeCut pieces.new.items starts.new.items) }
     ensures text { OnOk result (joined pieces.new.items
         ≡ splice (joined pieces.old.items) place remove (chars insert.now)) }
+    ensures marks { OnOk result (AreMarked weight_of pieces.new.items
+        marks.new.utf8.items marks.new.utf16.items) }
     ensures err { OnErr result (pieces.new.items ≡ pieces.old.items) }
     ensures err_starts { OnErr result (starts.new.items ≡ starts.old.items) }
+    ensures err_marks { OnErr result (marks.new ≡ marks.old) }
 {
     let first = locate(pieces, starts, place);
     let from = place - starts[first] as usize;
     let size = pieces[first].len();
     let behind = pieces.len() - first - 1;
     if fits(size, from, remove as usize, added as usize, behind) {
-        edit_piece(pieces, starts, first, from, remove, insert, added)?;
+        edit_piece(pieces, starts, marks, first, from, remove, insert, added)?;
         return Ok(());
     }
     let end = place + remove as usize;
@@ -331,6 +365,7 @@ fn edit(
     let new = cut(alloc, &middle.characters)?;
     let new_starts = starts_with(alloc, starts, first, middle.past, &new, remove, added)?;
     put_pieces(pieces, starts, first, middle.past, new, new_starts)?;
+    marks.renew(pieces, first);
     Ok(())
 }
 
@@ -341,6 +376,7 @@ impl EditText for Pieces {
             self.alloc,
             &mut self.pieces,
             &mut self.starts,
+            &mut self.marks,
             at as usize,
             remove,
             insert,
@@ -348,5 +384,57 @@ impl EditText for Pieces {
         )?;
         self.len = self.len - remove + added;
         Ok(())
+    }
+}
+
+/// Where a place of the pieces lies in a unit, by its marks.
+fn offset_in(pieces: &[Piece], starts: &[u32], marks: &[u32], unit: Unit, place: usize) -> u32
+    requires cut { AreWholeCut pieces.now starts.now }
+    requires marks { AreMarks (weight_of unit) pieces.now marks.now }
+    requires inside { place ≤ length (joined pieces.now) }
+    ensures { result ≡ offset_of unit (joined pieces.now) place }
+{
+    let piece = locate(pieces, starts, place);
+    let front = pieces[piece].before(place - starts[piece] as usize);
+    before(pieces, marks, unit, piece) + total(front, unit)
+}
+
+/// The place at an offset in a unit, by its marks, or the last place before it.
+fn index_in(pieces: &[Piece], starts: &[u32], marks: &[u32], unit: Unit, o: u32) -> Index
+    requires cut { AreWholeCut pieces.now starts.now }
+    requires marks { AreMarks (weight_of unit) pieces.now marks.now }
+    ensures { IsIndex unit (joined pieces.now) o result }
+{
+    let front = find(pieces, marks, unit, o);
+    if front.count == pieces.len() {
+        let last = front.count - 1;
+        return Index {
+            at: starts[last] + pieces[last].len() as u32,
+            whole: front.units == o,
+        };
+    }
+    let rest = fit_in(pieces[front.count].as_slice(), unit, o - front.units);
+    Index {
+        at: starts[front.count] + rest.count as u32,
+        whole: front.units + rest.units == o,
+    }
+}
+
+impl UnitText for Pieces {
+    fn offset(&self, unit: Unit, i: u32) -> u32 {
+        let place = i as usize;
+        match unit {
+            Unit::Chars => i,
+            Unit::Utf8 => offset_in(&self.pieces, &self.starts, &self.marks.utf8, unit, place),
+            Unit::Utf16 => offset_in(&self.pieces, &self.starts, &self.marks.utf16, unit, place),
+        }
+    }
+
+    fn index(&self, unit: Unit, o: u32) -> Index {
+        match unit {
+            Unit::Chars => Index { at: o, whole: true },
+            Unit::Utf8 => index_in(&self.pieces, &self.starts, &self.marks.utf8, unit, o),
+            Unit::Utf16 => index_in(&self.pieces, &self.starts, &self.marks.utf16, unit, o),
+        }
     }
 }

@@ -16,8 +16,12 @@ ghost use Rattle.rbbi_text.specs.Bytes.{most_bytes};
 ghost use Rattle.rbbi_text.specs.Texts.{IsShortText};
 ghost use Rattle.rbbi_text.specs.Answers.{TakesText, ReadsText};
 ghost use Rattle.rbbi_text.specs.inner.Answers.{TellsAdded};
+ghost use Rattle.rbbi_model.specs.Units.{size_of};
+ghost use Rattle.rbbi_text.specs.Marks.{AreMarks};
+ghost use Rattle.rbbi_text.specs.Indexes.{IsIndex};
 
-use crate::{Chars, EditErr, EditText, Raw, RawErr, Steps, TextErr};
+use crate::marks::{Marks, before, find};
+use crate::{Chars, EditErr, EditText, Index, Raw, RawErr, Steps, TextErr, Unit, UnitText};
 use std::alloc::{AllocError, Global};
 use std::fmt;
 use std::marker::Model;
@@ -30,20 +34,26 @@ pub(crate) const MOST_CHARACTERS: usize = 16_777_216;
 ///
 /// It takes four bytes a character. A character is found in one step, and a change copies all that
 /// stands behind it.
+///
+/// Marks by which places are found in UTF-8 and in UTF-16 take an eighth of a byte a character.
 #[derive(Drop)]
 pub struct PlainText {
     items: Vec<char>,
+    marks: Marks,
 }
 
 impl Model for PlainText {
     ghost use Rattle.std.specs.Prelude.{List, ℕ};
+    ghost use Rattle.rbbi_model.specs.Units.{size_of};
     ghost use Rattle.rbbi_text.specs.Texts.{IsShortText};
+    ghost use Rattle.rbbi_text.specs.Marks.{AreMarked};
 
     ghost Value = { List ℕ };
 
     ghost view = { λ text. text.items.items };
 
-    ghost invariant = { λ text. IsShortText text.items.items };
+    ghost invariant = { λ text. IsShortText text.items.items
+        × AreMarked size_of text.items.items text.marks.utf8.items text.marks.utf16.items };
 }
 
 /// It writes the type's name and none of the characters, which only `char_at` gives.
@@ -70,6 +80,15 @@ fn decoded(alloc: Global, text: &str) -> Result<Option<Vec<char>>, AllocError>
     Ok(Some(items))
 }
 
+/// The text of these characters.
+fn marked(alloc: Global, items: Vec<char>) -> PlainText
+    requires { IsShortText items.items }
+    ensures { result ≡ items.items }
+{
+    let marks = Marks::of(alloc, &items);
+    PlainText { items, marks }
+}
+
 impl PlainText {
     /// The text of this string.
     ///
@@ -78,7 +97,7 @@ impl PlainText {
         ensures { TakesText (chars text.now) result }
     {
         match decoded(alloc, text)? {
-            Some(items) => Ok(PlainText { items }),
+            Some(items) => Ok(marked(alloc, items)),
             None => Err(TextErr::TooManyChars),
         }
     }
@@ -93,7 +112,7 @@ impl PlainText {
         ensures { ReadsText raw.now result }
     {
         match decoded(alloc, raw.text()?)? {
-            Some(items) => Ok(PlainText { items }),
+            Some(items) => Ok(marked(alloc, items)),
             None => Err(RawErr::TooManyChars),
         }
     }
@@ -150,6 +169,38 @@ impl EditText for PlainText {
         let _added = added(self.items.len(), at, remove, insert)?;
         let start = at as usize;
         put(&mut self.items, start, start + remove as usize, insert)?;
+        self.marks.renew(&self.items, start);
         Ok(())
+    }
+}
+
+impl UnitText for PlainText {
+    fn offset(&self, unit: Unit, i: u32) -> u32 {
+        match unit {
+            Unit::Chars => i,
+            Unit::Utf8 => before(&self.items, &self.marks.utf8, unit, i as usize),
+            Unit::Utf16 => before(&self.items, &self.marks.utf16, unit, i as usize),
+        }
+    }
+
+    fn index(&self, unit: Unit, o: u32) -> Index {
+        match unit {
+            Unit::Chars => Index { at: o, whole: true },
+            Unit::Utf8 => index_in(&self.items, &self.marks.utf8, unit, o),
+            Unit::Utf16 => index_in(&self.items, &self.marks.utf16, unit, o),
+        }
+    }
+}
+
+/// The place at an offset of the characters, by their marks, or the last place before it.
+fn index_in(items: &[char], marks: &[u32], unit: Unit, o: u32) -> Index
+    requires marks { AreMarks (size_of unit) items.now marks.now }
+    requires short { length items.now ≤ most_characters }
+    ensures { IsIndex unit items.now o result }
+{
+    let fit = find(items, marks, unit, o);
+    Index {
+        at: fit.count as u32,
+        whole: fit.units == o,
     }
 }

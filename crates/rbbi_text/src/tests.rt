@@ -2,11 +2,12 @@
 ghost use Rattle.std.specs.Prelude.{◌≡◌, ◌<◌, IfOk};
 
 use crate::{
-    Chars, EditErr, EditText, Pieces, PlainText, Raw, RawErr, Steps, TextErr, Word, decimal,
-    hexadecimal, without_mark,
+    Chars, EditErr, EditText, Index, Pieces, PlainText, Raw, RawErr, Steps, TextErr, Unit,
+    UnitText, Word, decimal, hexadecimal, without_mark,
 };
 use std::alloc::{AllocError, Global};
 use std::marker::Brand;
+use std::process::Abort;
 use std::sync::ledger::{Blank, Ledger};
 use std::test::Fail;
 
@@ -291,5 +292,106 @@ fn too_many_characters(rt: HostRuntime) -> Result<(), Fail> {
     let raw = raw_of(alloc, letters.as_bytes())?;
     assert!(rt; matches!(PlainText::from_raw(alloc, &raw), Err(RawErr::TooManyChars)));
     assert!(rt; matches!(Pieces::from_raw(alloc, &raw), Err(RawErr::TooManyChars)));
+    Ok(())
+}
+
+/// Where a place lies in a unit; none past the text's end.
+fn offset_at<T: UnitText>(text: &T, unit: Unit, i: u32) -> Option<u32> {
+    if i > text.len() {
+        return None;
+    }
+    Some(text.offset(unit, i))
+}
+
+/// What is found of an offset; none past the text's end.
+fn index_at<T: UnitText>(text: &T, unit: Unit, o: u32) -> Option<Index> {
+    if o > text.offset(unit, text.len()) {
+        return None;
+    }
+    Some(text.index(unit, o))
+}
+
+/// Whether each place of a text lies at these offsets, and is found there.
+fn lie_at<T: UnitText>(text: &T, unit: Unit, offsets: &[u32]) -> bool {
+    let mut at = 0;
+    for offset in offsets {
+        let index = Index { at, whole: true };
+        if offset_at(text, unit, at) != Some(*offset)
+            || index_at(text, unit, *offset) != Some(index)
+        {
+            return false;
+        }
+        at = at.saturating_add(1);
+    }
+    true
+}
+
+/// Whether an offset is inside of the character behind this place.
+fn is_inside<T: UnitText>(text: &T, unit: Unit, o: u32, at: u32) -> bool {
+    index_at(text, unit, o) == Some(Index { at, whole: false })
+}
+
+/// A U+FEFF, a letter with a combining mark, a lone CR, a character past U+FFFF and a letter.
+fn check_units<T: UnitText>(rt: &impl Abort, text: &T) {
+    assert!(rt; lie_at(text, Unit::Chars, &[0, 1, 2, 3, 4, 5, 6]));
+    assert!(rt; lie_at(text, Unit::Utf8, &[0, 3, 4, 6, 7, 11, 12]));
+    assert!(rt; lie_at(text, Unit::Utf16, &[0, 1, 2, 3, 4, 6, 7]));
+    for (o, at) in [(1, 0), (2, 0), (5, 2), (8, 4), (9, 4), (10, 4)] {
+        assert!(rt; is_inside(text, Unit::Utf8, o, at), "at {o}");
+    }
+    assert!(rt; is_inside(text, Unit::Utf16, 5, 4));
+    for (unit, end) in [(Unit::Chars, 6), (Unit::Utf8, 12), (Unit::Utf16, 7)] {
+        assert_eq!(rt; index_at(text, unit, end + 1), None);
+        assert_eq!(rt; index_at(text, unit, u32::MAX), None);
+    }
+}
+
+#[test]
+fn places_in_units(rt: HostRuntime) -> Result<(), Fail> {
+    let alloc = rt.alloc();
+    let text = "\u{feff}e\u{301}\r\u{1d11e}b";
+    check_units(&rt, &PlainText::new(alloc, text)?);
+    check_units(&rt, &Pieces::new(alloc, text)?);
+    Ok(())
+}
+
+/// Whether the end of each third character of `a`, U+00E9, U+1D11E in turn lies where it must, up
+/// to this many thirds, where so much was put in front.
+fn thirds<T: UnitText>(text: &T, count: u32, front: (u32, u32, u32)) -> bool
+    requires count { count < 100000 }
+    requires front { (front.0 < 1000) × (front.1 < 1000) × (front.2 < 1000) }
+{
+    for k in 0..count {
+        let at = front.0 + 3 * k;
+        let index = Some(Index { at, whole: true });
+        if index_at(text, Unit::Utf8, front.1 + 7 * k) != index
+            || offset_at(text, Unit::Utf8, at) != Some(front.1 + 7 * k)
+            || index_at(text, Unit::Utf16, front.2 + 4 * k) != index
+            || offset_at(text, Unit::Utf16, at) != Some(front.2 + 4 * k)
+        {
+            return false;
+        }
+    }
+    true
+}
+
+/// A long text, at first and after edits at its start.
+fn check_long<T: UnitText>(rt: &impl Abort, text: &mut T) {
+    assert!(rt; thirds(text, 30_001, (0, 0, 0)));
+    assert_eq!(rt; edited(text, 0, 0, "\u{1d11e}"), "Ok");
+    assert!(rt; thirds(text, 30_001, (1, 4, 2)));
+    assert_eq!(rt; edited(text, 0, 1, "\u{e9}b"), "Ok");
+    assert!(rt; thirds(text, 30_001, (2, 3, 2)));
+}
+
+#[test]
+fn places_in_long_texts(rt: HostRuntime) -> Result<(), Fail> {
+    let alloc = rt.alloc();
+    let mut string = String::new(alloc);
+    for _ in 0..30_000 {
+        string.push_str("a\u{e9}\u{1d11e}")?;
+    }
+    check_long(&rt, &mut PlainText::new(alloc, &string)?);
+    check_long(&rt, &mut Pieces::new(alloc, &string)?);
     Ok(())
 }

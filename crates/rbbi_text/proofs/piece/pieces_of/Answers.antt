@@ -1,4 +1,4 @@
-use Rattle.std.proofs.Common.{◌≡◌, ◌++◌, length, chars, arith, ap, sym, ◌∙◌, subst}
+use Rattle.std.proofs.Common.{◌≡◌, [], ◌∷◌, ◌++◌, length, chars, arith, ap, sym, ◌∙◌, subst}
 use Rattle.std.proofs.lemmas.List.{map-id}
 use Rattle.std.proofs.lemmas.Iterator.{YieldsList-from_chars}
 use Rattle.std.proofs.lemmas.Iterator.Consumers.{YieldsList-turn, YieldsList-end}
@@ -27,4 +27,6 @@ returns c =
     let all : joined c.loop-c.pieces.items ++ c.loop-c.latest.items ≡ chars c.args.text.now = c.loop-c.invariant.1 ∙ sym (map-id c.loop-c.yielded) ∙ t.0 in
     let made = so_far_pieces c.loop-c.pieces.items c.loop-c.latest.items (chars c.args.text.now) c.loop-c.invariant.0 all
     (IsText-chars c.args.text.now c.utf8.text) in
-    (ap joined c.in_ok-push-2.ensures.items ∙ made.1, subst ArePieces (sym c.in_ok-push-2.ensures.items) made.0)
+    let pushed : c.push-2.new.self.items ≡ c.loop-c.pieces.items ++ c.loop-c.latest.items ∷ [] =
+    c.in_ok-push-2.ensures.items ∙ ap (λ p. c.loop-c.pieces.items ++ p ∷ []) c.of.ensures in
+    (ap joined pushed ∙ made.1, subst ArePieces (sym pushed) made.0)

@@ -1,0 +1,12 @@
+//! The units in which places of a text are counted.
+
+/// The unit of places, numbers and lengths of a text.
+#[derive(Clone, Copy, Debug, PartialEq, Eq)]
+pub enum Unit {
+    /// Characters.
+    Chars,
+    /// Bytes of the text in UTF-8.
+    Utf8,
+    /// Numbers of 16 bits of the text in UTF-16.
+    Utf16,
+}

@@ -1,0 +1,88 @@
+//! How much of a unit characters and pieces of a text take.
+ghost use Rattle.std.specs.Prelude.{◌≡◌, ◌<◌, ◌^◌, ℕ, sum_by};
+ghost use Rattle.rbbi_model.specs.declared.unit.Unit.{Unit as TextUnit};
+ghost use Rattle.rbbi_model.specs.declared.unit.Unit.TheVariants.{Utf8, Utf16};
+ghost use Rattle.rbbi_model.specs.Units.{size_of};
+ghost use Rattle.rbbi_text.specs.inner.Marks.{IsFit};
+
+use crate::Unit;
+
+/// What takes some of each unit: a character, or a piece of a text.
+pub(crate) trait Measure {
+    /// How much of the unit it takes.
+    ghost weight: { TextUnit → Self → ℕ };
+
+    /// How much of the unit it takes.
+    fn units(&self, unit: Unit) -> u32
+        ensures { result ≡ weight unit self.now };
+}
+
+impl Measure for char {
+    ghost weight = { size_of };
+
+    fn units(&self, unit: Unit) -> u32 {
+        let code = *self as u32;
+        match unit {
+            Unit::Chars => 1,
+            Unit::Utf8 => utf8_size(code),
+            Unit::Utf16 => utf16_size(code),
+        }
+    }
+}
+
+/// How many bytes of UTF-8 a character takes.
+fn utf8_size(code: u32) -> u32
+    ensures { result ≡ size_of Utf8 code }
+{
+    if code < 0x80 {
+        return 1;
+    }
+    if code < 0x800 {
+        return 2;
+    }
+    if code < 0x10000 { 3 } else { 4 }
+}
+
+/// How many numbers of 16 bits of UTF-16 a character takes.
+fn utf16_size(code: u32) -> u32
+    ensures { result ≡ size_of Utf16 code }
+{
+    if code < 0x10000 { 1 } else { 2 }
+}
+
+/// How much of the unit the items take together.
+#[tactic(auto, using(crate::proofs::MarkLemmas::total_more))]
+pub(crate) fn total<T: Measure>(items: &[T], unit: Unit) -> u32
+    requires { sum_by (T.weight unit) items.now < 2 ^ 32 }
+    ensures { result ≡ sum_by (T.weight unit) items.now }
+{
+    let mut total = 0;
+    for item in items {
+        total += item.units(unit);
+    }
+    total
+}
+
+/// How many items fit, and how much of the unit they take together.
+#[derive(Clone, Copy)]
+pub(crate) struct Fit {
+    pub(crate) count: usize,
+    pub(crate) units: u32,
+}
+
+/// How many of the items, from the first on, take at most so much of the unit together.
+#[tactic(auto, using(crate::proofs::MarkLemmas::total_more))]
+pub(crate) fn fit_in<T: Measure>(items: &[T], unit: Unit, most: u32) -> Fit
+    ensures { IsFit (T.weight unit) items.now most result.count result.units }
+{
+    let mut fit = Fit { count: 0, units: 0 };
+    for item in items {
+        let units = item.units(unit);
+        if units > most - fit.units {
+            return fit;
+        }
+        fit.count += 1;
+        fit.units += units;
+    }
+    fit
+}

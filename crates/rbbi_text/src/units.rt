@@ -1,0 +1,29 @@
+//! Texts whose places are found in other units than characters.
+ghost use Rattle.std.specs.Prelude.{◌≡◌, ◌≤◌, length};
+ghost use Rattle.rbbi_model.specs.Units.{offset_of};
+ghost use Rattle.rbbi_text.specs.Indexes.{IsIndex};
+
+use crate::{EditText, Unit};
+
+/// The place at an offset, or the last one before it.
+#[derive(Clone, Copy, Debug, PartialEq, Eq)]
+pub struct Index {
+    /// The greatest place that doesn't lie past the offset, in characters from 0.
+    pub at: u32,
+    /// Whether the place lies at the offset. Otherwise the offset is inside of a character.
+    pub whole: bool,
+}
+
+/// A text that knows where its places lie in each unit. Neither call takes memory or gives a
+/// character.
+pub trait UnitText: EditText {
+    /// Where a place lies: how much of the unit the characters before it take together.
+    fn offset(&self, unit: Unit, i: u32) -> u32
+        requires { i ≤ length (Self.characters self.now) }
+        ensures { result ≡ offset_of unit (Self.characters self.now) i };
+
+    /// The place at an offset that isn't past the text's end, or the last place before it.
+    fn index(&self, unit: Unit, o: u32) -> Index
+        requires { let x = Self.characters self.now in o ≤ offset_of unit x (length x) }
+        ensures { IsIndex unit (Self.characters self.now) o result };
+}
