@@ -1,5 +1,5 @@
 //! Sets of classes as rows of bits.
-ghost use Rattle.std.specs.Prelude.{◌≡◌, ◌+◌, ◌^◌, ◌<◌, ◌≤◌, ◌↔◌, ◌⊎◌, ℕ, List, length};
+ghost use Rattle.std.specs.Prelude.{◌≡◌, ◌+◌, ◌^◌, ◌<◌, ◌≤◌, ◌↔◌, ◌⊎◌, ℕ, List, [], ◌∷◌, length};
 ghost use Rattle.std.specs.Prelude.{IfOk, slice_index};
 ghost use Rattle.std.specs.List.{flat_map};
 ghost use Rattle.std.specs.Rc.{rc_slice_items};
@@ -13,14 +13,15 @@ use crate::word_row::WordRow;
 use std::alloc::{AllocError, Global};
 use std::marker::Model;
 use std::rc::RcSlice;
+use std::slice;
 
 /// A set of classes as a row of bits, one bit for each class of a `Layout`. An operation on two
 /// sets takes a step for 64 classes. Contracts see the set as its words (`ClassBits`), and by
 /// `HasMember` whether it has the class that begins at a code point.
 ///
 /// The words are the set's own, or stand in chunks that it shares with other sets: a set that a
-/// `ClassShelf` keeps has chunks, and one that an operation makes has words of its own. The other
-/// operand is read piece by piece, in whichever form it is.
+/// `ClassShelf` keeps has chunks, or its one word without further memory, and one that an operation
+/// makes has words of its own. The other operand is read piece by piece, in whichever form it is.
 #[derive(Debug, Drop)]
 pub struct ClassSet {
     /// How many words, all 0, stand before those that are kept.
@@ -36,6 +37,8 @@ enum Words {
     Own(Vec<u64>),
     /// In chunks, one after another, each of which many sets may share.
     Shared(RcSlice<RcSlice<u64>>),
+    /// The one word.
+    One(u64),
 }
 
 impl Model for ClassSet {
@@ -97,6 +100,15 @@ impl ClassSet {
         Ok(ClassSet { from, words })
     }
 
+    /// The set with one word that has this number.
+    pub(crate) fn of_word(from: usize, word: u64) -> ClassSet
+        requires { from < 2 ^ 58 }
+        ensures { result ≡ record { from = from; words = word ∷ [] } }
+    {
+        let words = Words::One(word);
+        ClassSet { from, words }
+    }
+
     /// How many words, all 0, are left out in front.
     pub(crate) fn from(&self) -> usize
         ensures { result ≡ self.now.from }
@@ -112,6 +124,7 @@ impl ClassSet {
         let count = match &self.words {
             Words::Own(words) => words.len(),
             Words::Shared(chunks) => words_in(chunks.as_slice()),
+            Words::One(_) => 1,
         };
         self.from + count
     }
@@ -130,6 +143,7 @@ impl ClassSet {
         match &self.words {
             Words::Own(words) => rest_of(words.as_slice(), place),
             Words::Shared(chunks) => rest_of_chunk(chunks.as_slice(), place),
+            Words::One(word) => rest_of(slice::from_ref(word), place),
         }
     }
 
@@ -226,7 +240,7 @@ impl ClassSet {
         ClassSet::of_row(row).copy(alloc, first.min(from), last.max(end))
     }
 
-    /// The words in a row of the set's own. Those in chunks are copied.
+    /// The words in a row of the set's own. Those of another form are copied.
     fn into_own_row(self, alloc: Global) -> Result<WordRow, AllocError>
         ensures { IfOk result (λ row. bits row ≡ self) }
     {
@@ -235,6 +249,10 @@ impl ClassSet {
         let chunks = match words {
             Words::Own(words) => return Ok(WordRow { from, words }),
             Words::Shared(chunks) => chunks,
+            Words::One(word) => {
+                let words = vec![in alloc; word]?;
+                return Ok(WordRow { from, words });
+            }
         };
         let mut words = Vec::with_capacity(alloc, count)?;
         for chunk in chunks.as_slice() {
@@ -267,6 +285,7 @@ impl Clone for ClassSet {
         let words = match &self.words {
             Words::Own(words) => Words::Own(words.clone()?),
             Words::Shared(chunks) => Words::Shared(chunks.clone()?),
+            Words::One(word) => Words::One(*word),
         };
         Ok(ClassSet {
             from: self.from,

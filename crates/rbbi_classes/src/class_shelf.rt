@@ -33,12 +33,16 @@ impl ClassShelf {
         }
     }
 
-    /// The same set in chunks of the shelf. New chunks are added to the shelf.
+    /// The same set in chunks of the shelf. New chunks are added to the shelf. A set of one word takes
+    /// no chunk.
     pub fn keep(&mut self, alloc: Global, set: &ClassSet) -> Result<ClassSet, AllocError>
         ensures { IfOk result (λ kept. kept ≡ set.now) }
     {
         let from = set.from();
         let end = set.end();
+        if end - from == 1 {
+            return Ok(ClassSet::of_word(from, set.word(from)));
+        }
         let mut chunks = Vec::with_capacity(alloc, (end - from) / CHUNK + 2)?;
         let mut place = from;
         'cuts: while place < end {
