@@ -28,6 +28,8 @@ mod searches;
 #[cfg(test)]
 mod tables;
 #[cfg(test)]
+mod units;
+#[cfg(test)]
 mod verdicts;
 #[cfg(test)]
 mod worked;
