@@ -92,7 +92,9 @@ impl Builder {
         Ok(number)
     }
 
-    /// The tree of the leaf with the number `next`.
+    /// The tree of the leaf with the number `next`. It isn't inlined into the recursive functions, which
+    /// call it, so that their frames stay small.
+    #[inline(never)]
     fn leaf(
         &mut self,
         context: &Context,
@@ -114,6 +116,7 @@ impl Builder {
     }
 
     /// The tree of a quoted sequence.
+    #[inline(never)]
     fn tree_of_word(
         &mut self,
         alloc: Global,
