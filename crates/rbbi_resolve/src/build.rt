@@ -92,9 +92,7 @@ impl Builder {
         Ok(number)
     }
 
-    /// The tree of the leaf with the number `next`. It isn't inlined into the recursive functions, which
-    /// call it, so that their frames stay small.
-    #[inline(never)]
+    /// The tree of the leaf with the number `next`.
     fn leaf(
         &mut self,
         context: &Context,
@@ -116,7 +114,6 @@ impl Builder {
     }
 
     /// The tree of a quoted sequence.
-    #[inline(never)]
     fn tree_of_word(
         &mut self,
         alloc: Global,

@@ -1,4 +1,4 @@
-//! Trees of parts. What the recursive walk calls isn't inlined into it, so that its frames stay small.
+//! Trees of parts.
 ghost use Rattle.std.specs.Prelude.{◌≡◌, List, [], ◌∷◌, map, IfOk};
 ghost use Rattle.std.specs.List.{flat_map};
 ghost use Rattle.rbbi_model.specs.Ranges.{Range};
@@ -19,7 +19,6 @@ pub(crate) fn leaf_of_set(number: u32) -> Tree
 }
 
 /// No tree: a choice of nothing.
-#[inline(never)]
 pub(crate) fn no_tree(alloc: Global) -> Tree
     ensures tree { (sets : List (List Range)) → tree_of sets result ≡ spelling.Never }
     ensures numbers { numbers_of result ≡ [] }
@@ -28,7 +27,6 @@ pub(crate) fn no_tree(alloc: Global) -> Tree
 }
 
 /// The parts, one after another. One part stands for itself.
-#[inline(never)]
 pub(crate) fn in_sequence(mut items: Vec<Tree>) -> Tree
     ensures tree { (sets : List (List Range)) → tree_of sets result
         ≡ spelling.sequence_of (map (tree_of sets) items.items) }
@@ -44,7 +42,6 @@ pub(crate) fn in_sequence(mut items: Vec<Tree>) -> Tree
 }
 
 /// One of the parts. One part stands for itself.
-#[inline(never)]
 pub(crate) fn in_choice(mut items: Vec<Tree>) -> Tree
     ensures tree { (sets : List (List Range)) → tree_of sets result
         ≡ spelling.choice_of (map (tree_of sets) items.items) }
@@ -60,7 +57,6 @@ pub(crate) fn in_choice(mut items: Vec<Tree>) -> Tree
 }
 
 /// The repetition of a part by the quantifier.
-#[inline(never)]
 pub(crate) fn repeated_tree(alloc: Global, quant: Quant, part: Tree) -> Result<Tree, AllocError>
     ensures tree { IfOk result (λ tree. (sets : List (List Range))
         → tree_of sets tree ≡ repeated quant (tree_of sets part)) }
