@@ -93,7 +93,7 @@ fn is_answered<T: UnitText, L: Ledger>(
 }
 
 /// The number of the first row, from 0, that isn't answered as it must be.
-fn first_wrong<T: UnitText + Drop, L: Ledger>(
+fn first_wrong_row<T: UnitText + Drop, L: Ledger>(
     rt: &HostRuntime,
     table: &Table,
     text: T,
@@ -114,18 +114,26 @@ fn first_wrong<T: UnitText + Drop, L: Ledger>(
     Ok(None)
 }
 
+/// The same, with a counter of its own.
+fn first_wrong<T: UnitText + Drop>(
+    rt: &HostRuntime,
+    table: &Table,
+    text: T,
+    rows: (Unit, &[Row]),
+) -> Result<Option<usize>, Fail> {
+    first_wrong_row::<T, Brand>(rt, table, text, rows, Blank::new(1))
+}
+
 #[test]
 fn asked_and_edited(rt: HostRuntime) -> Result<(), Fail> {
     let alloc = rt.alloc();
     let table = table_of(alloc, "[^b]+;")?;
     let letters = "a\u{E9}\u{1D11E}b";
     for rows in ROWS {
-        let text = PlainText::new(alloc, letters)?;
-        let wrong = first_wrong::<PlainText, Brand>(&rt, &table, text, *rows, Blank::new(1))?;
-        assert_eq!(rt; wrong, None);
-        let text = Pieces::new(alloc, letters)?;
-        let wrong = first_wrong::<Pieces, Brand>(&rt, &table, text, *rows, Blank::new(1))?;
-        assert_eq!(rt; wrong, None);
+        let in_a_list = first_wrong(&rt, &table, PlainText::new(alloc, letters)?, *rows)?;
+        assert_eq!(rt; in_a_list, None);
+        let by_pieces = first_wrong(&rt, &table, Pieces::new(alloc, letters)?, *rows)?;
+        assert_eq!(rt; by_pieces, None);
     }
     Ok(())
 }
