@@ -33,8 +33,8 @@ impl ClassShelf {
         }
     }
 
-    /// The same set in chunks of the shelf. New chunks are added to the shelf. A set of one word takes
-    /// no chunk.
+    /// The same set in chunks of the shelf. New chunks are added to the shelf. A set of one word
+    /// takes none.
     pub fn keep(&mut self, alloc: Global, set: &ClassSet) -> Result<ClassSet, AllocError>
         ensures { IfOk result (λ kept. kept ≡ set.now) }
     {
