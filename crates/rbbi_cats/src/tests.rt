@@ -13,7 +13,7 @@ use std::test::Fail;
 
 /// The categories of the rules of a short file, or why they are refused.
 fn categories_in(alloc: Global, text: &str) -> Result<Result<Categories, CatsErr>, Fail>
-    requires { length text.now < 1000 }
+    requires { length text.now < 10000 }
 {
     let end = count_characters(text);
     let tokens = lex(alloc, text)?;
