@@ -8,6 +8,3 @@ mod span;
 pub use bits::{has, insert, is_set};
 pub use combine::{intersect, meet, meet_within, unite, unite_common, unite_within};
 pub use span::{Span, span_of};
-
-#[cfg(test)]
-mod tests;

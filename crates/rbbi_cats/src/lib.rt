@@ -11,6 +11,3 @@ pub use categories::{Categories, partition};
 pub use classes::MOST_CATEGORIES;
 pub use error::CatsErr;
 pub use rbbi_table::RangeRow as CatRange;
-
-#[cfg(test)]
-mod tests;

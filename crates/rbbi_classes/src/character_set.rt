@@ -1,7 +1,7 @@
 //! Sets of characters that share their memory.
 ghost use Rattle.std.specs.Prelude.{◌≡◌, ◌↔◌, ℕ, IfOk, IsTrue};
 ghost use Rattle.std.specs.Rc.{rc_value};
-ghost use Rattle.rbbi_model.specs.Words.{IsSurrogate};
+ghost use Rattle.rbbi_model.specs.Words.{IsCharacter, IsSurrogate};
 ghost use Rattle.rbbi_model.specs.Ranges.{Has};
 ghost use Rattle.rbbi_sets.specs.Rising.{AreRising};
 ghost use Rattle.rbbi_classes.specs.CharacterSets.{characters_of};
@@ -58,13 +58,13 @@ impl CharacterSet {
     pub fn has(&self, c: u32) -> bool
         ensures { IsTrue result ↔ Has self.now c }
     {
-        !is_surrogate(c) && self.division.as_ref().has(&self.classes, c)
+        is_character(c) && self.division.as_ref().has(&self.classes, c)
     }
 }
 
-/// Whether a code point is a surrogate.
-fn is_surrogate(c: u32) -> bool
-    ensures { IsTrue result ↔ IsSurrogate c }
+/// Whether a number is that of a character: a code point that is no surrogate.
+pub fn is_character(code: u32) -> bool
+    ensures { IsTrue result ↔ IsCharacter code }
 {
-    0xD800 <= c && c <= 0xDFFF
+    code < 0xD800 || 0xDFFF < code && code <= 0x10_FFFF
 }

@@ -8,9 +8,6 @@ use std::alloc::{AllocError, Global};
 use std::collections::HashMap;
 use std::rc::RcSlice;
 
-#[cfg(test)]
-mod tests;
-
 /// How many words a chunk has, but for the first and the last one of a set.
 const CHUNK: usize = 64;
 

@@ -12,11 +12,9 @@ mod membership;
 mod operation;
 mod pairs;
 mod steps;
-#[cfg(test)]
-mod tests;
 mod word_row;
 
-pub use character_set::CharacterSet;
+pub use character_set::{CharacterSet, is_character};
 pub use class_set::ClassSet;
 pub use class_shelf::ClassShelf;
 pub use division::Division;

@@ -20,8 +20,6 @@ mod spelled;
 mod state;
 mod stretch;
 mod tag;
-#[cfg(test)]
-mod tests;
 mod text;
 mod token;
 mod words;

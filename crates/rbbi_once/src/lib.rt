@@ -6,6 +6,3 @@ mod numbered;
 
 pub use hash::mixed;
 pub use numbered::NumberedRows;
-
-#[cfg(test)]
-mod tests;

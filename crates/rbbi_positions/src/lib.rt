@@ -25,6 +25,3 @@ mod rule_marks;
 
 pub use from_rules::positions;
 pub use marks::Positions;
-
-#[cfg(test)]
-mod tests;

@@ -3,7 +3,6 @@ ghost use Rattle.std.specs.Prelude.{◌≡◌, ◌+◌, ◌*◌, ◌<◌, ◌≤
 ghost use Rattle.std.specs.Prelude.{slice_index, vec_len};
 ghost use Rattle.std.specs.List.{AllByRecursion};
 ghost use Rattle.rbbi_model.specs.Ranges.{Has};
-ghost use Rattle.rbbi_model.specs.Words.{IsCharacter};
 ghost use Rattle.rbbi_classes.specs.CharacterSets.{characters_of};
 ghost use Rattle.rbbi_classes.specs.Divisions.{IsDivision};
 ghost use Rattle.rbbi_classes.specs.Steps.{number_at};
@@ -15,7 +14,7 @@ ghost use Rattle.rbbi_positions.specs.inner.Readers.{HasEachCategory, AreReaders
 use crate::row_union::unite_row;
 use rbbi_bits::{insert, is_set};
 use rbbi_cats::Categories;
-use rbbi_classes::{ClassSet, Division};
+use rbbi_classes::{ClassSet, Division, is_character};
 use rbbi_resolve::SetList;
 use std::alloc::{AllocError, Global};
 
@@ -63,13 +62,6 @@ fn is_in(division: &Division, classes: &ClassSet, code: u32, class: usize) -> bo
     ensures { IsTrue result ↔ Has (characters_of division.now classes.now) code }
 {
     is_character(code) && is_set(classes.word(class / 64), class % 64)
-}
-
-/// Whether the number is that of a character: a code point that is no surrogate.
-fn is_character(code: u32) -> bool
-    ensures { IsTrue result ↔ IsCharacter code }
-{
-    code < 0xD800 || 0xDFFF < code && code <= 0x10_FFFF
 }
 
 /// For each category the row of the positions whose sets hold its code point. That of category 0 is

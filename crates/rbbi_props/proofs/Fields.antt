@@ -8,7 +8,8 @@ use Rattle.std.proofs.lemmas.Bool.Decides.{nat_tests}
 use Rattle.std.proofs.lemmas.List.Sums.{passes_at_first, AllPass-from_list_all, prefix_len-le-length}
 use Rattle.rbbi_model.specs.Ranges.{Range}
 use Rattle.rbbi_text.specs.Numbers.{number, at_most}
-use Rattle.rbbi_props.specs.RowLines.{code_point_of, span_of, span_between, range_of_parts, range_of, last_part, row_with, row_of_fields, trim}
+use Rattle.rbbi_text.specs.LineParts.{trim}
+use Rattle.rbbi_props.specs.RowLines.{code_point_of, span_of, span_between, range_of_parts, range_of, last_part, row_with, row_of_fields}
 use Rattle.rbbi_props.proofs.Pieces.{split_cons, split_none, split_some}
 
 -- a field with no dot

@@ -1,20 +1,12 @@
 -- The row that a line of a property file writes. 46 is `.` and 59 is `;`.
-use Rattle.std.specs.Prelude.{ℕ, ◌-◌, Bool, not, ◌&&◌, ◌==◌, nat_le, List, [], ◌∷◌, length, take, Option, Some, None, option_map, option_and_then, is_none}
+use Rattle.std.specs.Prelude.{ℕ, Bool, not, ◌&&◌, ◌==◌, nat_le, List, [], ◌∷◌, Option, Some, None, option_map, option_and_then, is_none}
 use Rattle.std.specs.Prelude.{if◌then◌else◌}
-use Rattle.std.specs.List.{suffix_len, slice_split}
+use Rattle.std.specs.List.{slice_split}
 use Rattle.rbbi_model.specs.Ranges.{Range}
 use Rattle.rbbi_text.specs.Numbers.{hexadecimal}
-use Rattle.rbbi_text.specs.LineParts.{is_blank, trim_start, before_comment, is_skipped}
+use Rattle.rbbi_text.specs.LineParts.{trim, before_comment, is_skipped}
 use Rattle.rbbi_props.specs.Rows.{Row}
 use Rattle.rbbi_props.specs.LooseForms.{loose, has_letter_or_digit}
-
--- the text without the spaces and tabs at its end
-abbrev pub trim_end : List ℕ → List ℕ
-trim_end text = take (length text - suffix_len is_blank text) text
-
--- the text without the spaces and tabs round it
-abbrev pub trim : List ℕ → List ℕ
-trim text = trim_end (trim_start text)
 
 -- the code point that a text writes: four to six hexadecimal digits, at most 10FFFF
 abbrev pub code_point_of : List ℕ → Option ℕ

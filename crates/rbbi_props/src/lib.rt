@@ -9,8 +9,6 @@ mod row;
 mod runs;
 mod single;
 mod table;
-#[cfg(test)]
-mod tests;
 mod text;
 
 pub use common::{are_alike, push_common_form};

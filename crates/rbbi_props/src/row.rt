@@ -4,9 +4,9 @@ ghost use Rattle.rbbi_sets.specs.Rising.{IsRange};
 ghost use Rattle.rbbi_props.specs.RowLines as spec;
 
 use crate::loose::{has_letter_or_digit, loose};
-use crate::text::{after_last, trim};
+use crate::text::after_last;
 use rbbi_sets::CodeRange;
-use rbbi_text::{before_byte, hexadecimal, place_or_len};
+use rbbi_text::{before_byte, hexadecimal, place_or_len, trim};
 use std::alloc::{AllocError, Global};
 use std::marker::Model;
 

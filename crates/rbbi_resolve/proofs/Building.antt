@@ -31,6 +31,7 @@ use Rattle.rbbi_resolve.specs.RuleTrees.{tree_of, numbers_of, set_at}
 use Rattle.rbbi_resolve.specs.inner.Contexts.{files_of, division_of, sets_of}
 use Rattle.rbbi_resolve.specs.inner.OwnLeaves.{StandAt, IsLawfulRow}
 use Rattle.rbbi_resolve.specs.inner.Builders.{IsSetOfLeaf, IsSetRow, StandFrom, HasLawfulLeaves, IsPart, IsBuilt, Builds, IsBuilder, Extends}
+use Rattle.rbbi_resolve.specs.inner.Builders.{AddsTree, IsJoined, JoinsFrom}
 
 -- one of several that follow one another, and a choice of several
 abbrev pub sequence_meaning : List Meaning → Meaning
@@ -305,62 +306,113 @@ goes_further context leaves a b d x y =
       builder = y.builder;
     }
 
--- the trees of parts so far, and the parts and leaves that are left
+-- the trees of parts so far, behind those that stood there before, and the parts and leaves that are left
 pub record AreBuilding (context : Context) (leaves : FileLeaves) (start : Builder) (from : ℕ) (whole : List Meaning) (all : List (Option model.SetTree))
-    (now : Builder) (next : ℕ) (ts : List Tree) (left : List Meaning) (own : List (Option model.SetTree)) : Type 0 where
+    (before : List Tree) (now : Builder) (next : ℕ) (trees : List Tree) (left : List Meaning) (own : List (Option model.SetTree)) : Type 0 where
   pub goes : Extends context leaves start now
   pub done : List Meaning
   pub every : done ++ left ≡ whole
+  pub ts : List Tree
+  pub are : trees ≡ before ++ ts
   pub parts : AreBuilt (files_of context) (length (sets_of context start.rows.items)) (sets_of context now.rows.items) done ts
   pub stand : StandFrom context leaves next own
   pub moved : next + length own ≡ from + length all
 
 -- before the first part
 pub building_start : (context : Context) (leaves : FileLeaves) (start : Builder) (next : ℕ) (whole : List Meaning) (all : List (Option model.SetTree))
-    (ts : List Tree) → IsBuilder context leaves start → ts ≡ [] → StandFrom context leaves next all →
-    AreBuilding context leaves start next whole all start next ts whole all
-building_start context leaves start next whole all ts builder none stand =
+    (trees : List Tree) → IsBuilder context leaves start → StandFrom context leaves next all →
+    AreBuilding context leaves start next whole all trees start next trees whole all
+building_start context leaves start next whole all trees builder stand =
     record {
       goes = goes_nowhere context leaves start builder;
       done = [];
       every = refl;
-      parts = subst (AreBuilt (files_of context) (length (sets_of context start.rows.items)) (sets_of context start.rows.items) []) (sym none)
-          (record { each = tt; fresh = λ k low high. absurd (omega arith) });
+      ts = [];
+      are = sym (append-nil trees);
+      parts = record { each = tt; fresh = λ k low high. absurd (omega arith) };
       stand = stand;
       moved = refl;
     }
 
 -- one part more
 pub building_turn : (context : Context) (leaves : FileLeaves) (start : Builder) (from : ℕ) (whole : List Meaning) (all : List (Option model.SetTree))
-    (now later : Builder) (next next' : ℕ) (ts ts' : List Tree) (t : Tree) (m : Meaning) (left : List Meaning) (own rest : List (Option model.SetTree)) →
-    AreBuilding context leaves start from whole all now next ts (m ∷ left) (own ++ rest) → Extends context leaves now later →
-    next' ≡ next + length own → Builds context now later m t → ts' ≡ ts ++ t ∷ [] →
-    AreBuilding context leaves start from whole all later next' ts' left rest
-building_turn context leaves start from whole all now later next next' ts ts' t m left own rest here on moved built put =
+    (before : List Tree) (now later : Builder) (next next' : ℕ) (trees trees' : List Tree) (m : Meaning) (left : List Meaning)
+    (own rest : List (Option model.SetTree)) →
+    AreBuilding context leaves start from whole all before now next trees (m ∷ left) (own ++ rest) → Extends context leaves now later →
+    next' ≡ next + length own → AddsTree context now later m trees trees' →
+    AreBuilding context leaves start from whole all before later next' trees' left rest
+building_turn context leaves start from whole all before now later next next' trees trees' m left own rest here on moved added =
     let files = files_of context in
     let sets = sets_of context now.rows.items in
     let old = length (sets_of context start.rows.items) in
-    let pushed = push_built files old sets on.more here.done ts m t here.parts
-    (subst (λ ss. IsBuilt files (length sets) ss m t) on.is built) in
+    let pushed = push_built files old sets on.more here.done here.ts m added.tree here.parts
+    (subst (λ ss. IsBuilt files (length sets) ss m added.tree) on.is added.built) in
     record {
       goes = goes_further context leaves start now later here.goes on;
       done = here.done ++ m ∷ [];
       every = append_assoc here.done (m ∷ []) left ∙ here.every;
-      parts = subst (λ ss. AreBuilt files old ss (here.done ++ m ∷ []) ts') (sym on.is)
-          (subst (AreBuilt files old (sets ++ on.more) (here.done ++ m ∷ [])) (sym put) pushed);
+      ts = here.ts ++ added.tree ∷ [];
+      are = added.is ∙ ap (λ ts. ts ++ added.tree ∷ []) here.are ∙ append_assoc before here.ts (added.tree ∷ []);
+      parts = subst (λ ss. AreBuilt files old ss (here.done ++ m ∷ []) (here.ts ++ added.tree ∷ [])) (sym on.is) pushed;
       stand = subst (λ n. StandFrom context leaves n rest) (sym moved)
           (stand_parts (IsSetRow files (division_of context)) leaves.rows.items next own rest here.stand).1;
       moved = let l = length-append own rest in let a = here.moved in omega arith;
     }
 
 -- after the last part
-pub building_end : (context : Context) (leaves : FileLeaves) (start : Builder) (from : ℕ) (whole : List Meaning) (all : List (Option model.SetTree))
-    (now : Builder) (next : ℕ) (ts : List Tree) (left : List Meaning) (own : List (Option model.SetTree)) →
-    AreBuilding context leaves start from whole all now next ts left own → left ≡ [] →
-    AreBuilt (files_of context) (length (sets_of context start.rows.items)) (sets_of context now.rows.items) whole ts
-building_end context leaves start from whole all now next ts left own here none =
-    subst (λ ms. AreBuilt (files_of context) (length (sets_of context start.rows.items)) (sets_of context now.rows.items) ms ts)
+building_end : (context : Context) (leaves : FileLeaves) (start : Builder) (from : ℕ) (whole : List Meaning) (all : List (Option model.SetTree))
+    (before : List Tree) (now : Builder) (next : ℕ) (trees : List Tree) (left : List Meaning) (own : List (Option model.SetTree)) →
+    (here : AreBuilding context leaves start from whole all before now next trees left own) → left ≡ [] →
+    AreBuilt (files_of context) (length (sets_of context start.rows.items)) (sets_of context now.rows.items) whole here.ts
+building_end context leaves start from whole all before now next trees left own here none =
+    subst (λ ms. AreBuilt (files_of context) (length (sets_of context start.rows.items)) (sets_of context now.rows.items) ms here.ts)
     (sym (append-nil here.done) ∙ subst (λ ms. here.done ++ ms ≡ whole) none here.every) here.parts
+
+-- their choice, and their sequence
+pub choice_added : (context : Context) (leaves : FileLeaves) (start : Builder) (from : ℕ) (whole : List Meaning) (all : List (Option model.SetTree))
+    (before : List Tree) (now : Builder) (next : ℕ) (trees later : List Tree) (left : List Meaning) (own : List (Option model.SetTree)) (first : ℕ) →
+    AreBuilding context leaves start from whole all before now next trees left own → left ≡ [] → first ≡ length before →
+    JoinsFrom spelling.choice_of first trees later → AddsTree context start now (choice_meaning whole) before later
+choice_added context leaves start from whole all before now next trees later left own first here none behind joins =
+    let j = joins before here.ts behind here.are in
+    record {
+      tree = j.tree;
+      is = j.is;
+      built = choice_built (files_of context) _ _ whole here.ts j.tree
+          (building_end context leaves start from whole all before now next trees left own here none) j.stands j.numbers;
+    }
+
+pub sequence_added : (context : Context) (leaves : FileLeaves) (start : Builder) (from : ℕ) (whole : List Meaning) (all : List (Option model.SetTree))
+    (before : List Tree) (now : Builder) (next : ℕ) (trees later : List Tree) (left : List Meaning) (own : List (Option model.SetTree)) (first : ℕ) →
+    AreBuilding context leaves start from whole all before now next trees left own → left ≡ [] → first ≡ length before →
+    JoinsFrom spelling.sequence_of first trees later → AddsTree context start now (sequence_meaning whole) before later
+sequence_added context leaves start from whole all before now next trees later left own first here none behind joins =
+    let j = joins before here.ts behind here.are in
+    record {
+      tree = j.tree;
+      is = j.is;
+      built = sequence_built (files_of context) _ _ whole here.ts j.tree
+          (building_end context leaves start from whole all before now next trees left own here none) j.stands j.numbers;
+    }
+
+-- the repetition of a part that was added, and no tree
+pub repeated_added : (context : Context) (start now : Builder) (quant : Quant) (m : Meaning) (before given later : List Tree) →
+    AddsTree context start now m before given →
+    ((front : List Tree) (part : Tree) → given ≡ front ++ part ∷ [] →
+    IsJoined (λ parts. trees.repeated quant (spelling.sequence_of parts)) front (part ∷ []) later) →
+    AddsTree context start now (repeated quant m) before later
+repeated_added context start now quant m before given later a repeats =
+    let j = repeats before a.tree a.is in
+    record {
+      tree = j.tree;
+      is = j.is;
+      built = repeated_built (files_of context) quant _ _ m a.tree j.tree a.built j.stands (j.numbers ∙ append-nil (numbers_of a.tree));
+    }
+
+pub never_added : (context : Context) (start : Builder) (before later : List Tree) → IsJoined spelling.choice_of before [] later →
+    AddsTree context start start Never before later
+never_added context start before later j =
+    record { tree = j.tree; is = j.is; built = never_built (files_of context) (sets_of context start.rows.items) j.tree j.stands j.numbers }
 
 slice_get_set : {A : Type 0} (xs : List A) (i j : ℕ) (x y : A) → slice_get (set xs i x) j ≡ Some y → ((j ≡ i) × (x ≡ y)) ⊎ (slice_get xs j ≡ Some y)
 slice_get_set [] i j x y e = inr e

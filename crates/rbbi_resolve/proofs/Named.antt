@@ -55,11 +55,10 @@ one_fault least true place kind = refl
 one_fault least false place kind = refl
 
 -- what is noted of a property in a set
-pub property_noted : (context : contexts.Context) (files : List File) (least : Option Fault) (place : ℕ) (join : Join) (negated : Bool) (word : List ℕ)
+pub property_noted : (context : contexts.Context) (files : List File) (least : Option Fault) (place : ℕ) (negated : Bool) (word : List ℕ)
     (value : Option (List ℕ)) (unknown : Bool) → context.files ≡ files → unknown ≡ is_none (property_test files word value) →
-    noted least (faults_where unknown place kinds.UnknownProperty) ≡ noted_parts context least (parts_of_part (joined place join
-    (set_property negated word value)))
-property_noted context files least place join negated word value unknown same is =
+    noted least (faults_where unknown place kinds.UnknownProperty) ≡ noted_parts context least (Within place (set_property negated word value) ∷ [])
+property_noted context files least place negated word value unknown same is =
     ap (λ b. noted least (faults_where b place kinds.UnknownProperty)) (is ∙ ap (λ f. is_none (property_test f word value)) (sym same))
     ∙ one_fault least (is_none (property_test context.files word value)) place kinds.UnknownProperty
 

@@ -1,5 +1,5 @@
 -- The value of a set, one part after another.
-use Rattle.std.proofs.Common.{◌≡◌, ℕ, ◌+◌, ◌<◌, ◌≤◌, ◌↔◌, true, false, Option, None, Some, option_map, List, map, length}
+use Rattle.std.proofs.Common.{◌≡◌, ℕ, ◌+◌, ◌<◌, ◌≤◌, Option, Some, option_map, List, map, length}
 use Rattle.std.proofs.Common.{drop, get_or, sym, refl, ap, ◌∙◌, subst}
 use Rattle.std.proofs.lemmas.List.{drop_all}
 use Rattle.rbbi_model.specs.SetTrees as model
@@ -96,19 +96,3 @@ folding_gives files bounds context before s items i value result least of all fo
           (subst (λ v. IsClassValue files bounds (option_map (signed (out-SetExpr s).negated) v) result) e.whole (signs e.so_far e.value_so_far)),
       e.noted ∙ ap (λ t. noted_parts context before (parts_of_set t)) (sym (set_is s)),
     )
-
--- the others, and the same
-pub signs : (files : List File) (bounds : List ℕ) (tree : Option model.SetTree) (set turned : ClassBits) → IsClassValue files bounds tree (Some set) →
-    ((c : ℕ) → HasMember bounds turned c ↔ ((c ≤ 0x10FFFF) × ¬ HasMember bounds set c)) →
-    IsClassValue files bounds (option_map (signed true) tree) (Some turned)
-signs files bounds None set turned is members = absurd is
-signs files bounds (Some tree) set turned is members =
-    λ c first. (
-      λ h. let both = (members c).0 h in (both.0, λ there. both.1 ((is c first).1 there)),
-      λ both. (members c).1 (both.0, λ h. both.1 ((is c first).0 h)),
-    )
-
-pub stays : (files : List File) (bounds : List ℕ) (tree : Option model.SetTree) (set : ClassBits) → IsClassValue files bounds tree (Some set) →
-    IsClassValue files bounds (option_map (signed false) tree) (Some set)
-stays files bounds None set is = absurd is
-stays files bounds (Some tree) set is = is

@@ -12,12 +12,13 @@ ghost use Rattle.rbbi_resolve.specs.inner.Contexts.{context_of, division_of};
 ghost use Rattle.rbbi_resolve.specs.inner.OwnLeaves.{leaves_of_expr, leaves_of_seq, leaves_of_item};
 ghost use Rattle.rbbi_resolve.specs.inner.OwnLeaves.{leaves_of_atom, IsLawfulRow};
 ghost use Rattle.rbbi_resolve.specs.inner.Builders.{StandFrom, Builds, IsBuilder, IsAssigned};
+ghost use Rattle.rbbi_resolve.specs.inner.Builders.{AddsTree};
 ghost use Rattle.rbbi_resolve.specs.inner.Builders.{Extends, IsReady};
 
 use crate::context::Context;
 use crate::rules::Tree;
 use crate::summary::count_of;
-use crate::tree::{in_choice, in_sequence, leaf_of_set, no_tree, repeated_tree};
+use crate::tree::{add_no_tree, in_choice, in_sequence, leaf_of_set, repeat_last};
 use rbbi_classes::ClassSet;
 use rbbi_text::Word;
 use rbbi_tree::{Atom, Expr, Item, Seq, Statement, Statements};
@@ -92,80 +93,228 @@ impl Builder {
         Ok(number)
     }
 
-    /// The tree of the leaf with the number `next`.
-    fn leaf(
+    /// Adds the tree of the leaf with the number `next` to `trees`.
+    #[inline(never)]
+    fn add_leaf(
         &mut self,
         context: &Context,
         leaves: &FileLeaves,
         next: &mut usize,
-    ) -> Result<Tree, AllocError>
+        trees: &mut Vec<Tree>,
+    ) -> Result<(), AllocError>
         requires builder { IsBuilder context.now leaves.now self.old }
         requires stand { (value : Option model.SetTree)
             × StandFrom context.now leaves.now next.old (value ∷ []) }
         ensures on { OnOk result (Extends context.now leaves.now self.old self.new) }
         ensures moved { OnOk result (next.new ≡ next.old + 1) }
-        ensures built { IfOk result (λ tree. (value : Option model.SetTree)
+        ensures added { OnOk result ((value : Option model.SetTree)
             → StandFrom context.now leaves.now next.old (value ∷ [])
-            → Builds context.now self.old self.new (leaf_of value) tree) }
+            → AddsTree context.now self.old self.new (leaf_of value) trees.old.items
+            trees.new.items) }
     {
         let number = self.number_of(context, leaves, *next)?;
         *next += 1;
-        Ok(leaf_of_set(number))
+        trees.push(leaf_of_set(number))?;
+        Ok(())
     }
 
-    /// The tree of a quoted sequence.
-    fn tree_of_word(
+    /// Adds the tree of a quoted sequence.
+    #[inline(never)]
+    fn add_word(
         &mut self,
-        alloc: Global,
         context: &Context,
         leaves: &FileLeaves,
         next: &mut usize,
+        trees: &mut Vec<Tree>,
         word: &Word,
-    ) -> Result<Tree, AllocError>
+    ) -> Result<(), AllocError>
         requires builder { IsBuilder context.now leaves.now self.old }
         requires stand { StandFrom context.now leaves.now next.old
             (map (λ c. Some (model.Character c)) word.now) }
         ensures on { OnOk result (Extends context.now leaves.now self.old self.new) }
         ensures moved { OnOk result (next.new ≡ next.old + length word.now) }
-        ensures built { IfOk result (Builds context.now self.old self.new (word_of word.now)) }
+        ensures added { OnOk result (AddsTree context.now self.old self.new (word_of word.now)
+            trees.old.items trees.new.items) }
     {
-        let mut items = Vec::new(alloc);
+        let first = trees.len();
         for _ in 0..count_of(word) {
-            let part = self.leaf(context, leaves, next)?;
-            items.push(part)?;
+            self.add_leaf(context, leaves, next, trees)?;
         }
-        Ok(in_sequence(items))
+        in_sequence(trees, first)?;
+        Ok(())
     }
 
-    /// The tree of the expression that the statement with the number `limit` assigns.
+    /// Adds the tree of the expression that the statement with the number `limit` assigns.
     #[cycle(build)]
-    fn definition(
+    fn add_definition(
         &mut self,
         alloc: Global,
         context: &Context,
         leaves: &FileLeaves,
-    ) -> Result<Tree, AllocError>
+        trees: &mut Vec<Tree>,
+    ) -> Result<(), AllocError>
         requires ready { IsReady context.now leaves.now }
         requires builder { IsBuilder context.now leaves.now self.old }
         requires inside { context.now.limit < length context.now.statements.now }
         ensures on { OnOk result (Extends context.now leaves.now self.old self.new) }
-        ensures built { IfOk result (λ tree. (expr : ExprTree)
+        ensures added { OnOk result ((expr : ExprTree)
             → IsAssigned (statement_trees context.now.statements.now) context.now.limit expr
-            → Builds context.now self.old self.new
-            (meaning_of_expr (context_of context.now) expr) tree) }
+            → AddsTree context.now self.old self.new
+            (meaning_of_expr (context_of context.now) expr) trees.old.items trees.new.items) }
     {
         match assigned(context.statements, context.limit) {
             Some(expr) => {
                 let mut next = leaves.firsts[context.limit];
-                let tree = self.tree_of_expr(alloc, context, leaves, &mut next, expr)?;
-                Ok(tree)
+                self.add_expr(alloc, context, leaves, &mut next, trees, expr)?;
+                Ok(())
             }
-            None => Ok(no_tree(alloc)),
+            None => Ok(()),
+        }
+    }
+
+    /// Adds the tree of an expression whose leaves have the numbers from `next` on.
+    ///
+    /// Trees are handed on in a list, and what takes them from there isn't inlined, so that the
+    /// frames of this walk stay small: it goes as deep as the highest rule.
+    #[cycle(build)]
+    fn add_expr(
+        &mut self,
+        alloc: Global,
+        context: &Context,
+        leaves: &FileLeaves,
+        next: &mut usize,
+        trees: &mut Vec<Tree>,
+        expr: &Expr,
+    ) -> Result<(), AllocError>
+        requires ready { IsReady context.now leaves.now }
+        requires builder { IsBuilder context.now leaves.now self.old }
+        requires stand { StandFrom context.now leaves.now next.old
+            (leaves_of_expr (context_of context.now) (expr_tree expr.now)) }
+        ensures on { OnOk result (Extends context.now leaves.now self.old self.new) }
+        ensures moved { OnOk result (next.new ≡ next.old
+            + length (leaves_of_expr (context_of context.now) (expr_tree expr.now))) }
+        ensures added { OnOk result (AddsTree context.now self.old self.new
+            (meaning_of_expr (context_of context.now) (expr_tree expr.now)) trees.old.items
+            trees.new.items) }
+    {
+        let first = trees.len();
+        for seq in &expr.items {
+            self.add_seq(alloc, context, leaves, next, trees, seq)?;
+        }
+        in_choice(trees, first)?;
+        Ok(())
+    }
+
+    /// Adds the tree of a sequence.
+    #[cycle(build)]
+    fn add_seq(
+        &mut self,
+        alloc: Global,
+        context: &Context,
+        leaves: &FileLeaves,
+        next: &mut usize,
+        trees: &mut Vec<Tree>,
+        seq: &Seq,
+    ) -> Result<(), AllocError>
+        requires ready { IsReady context.now leaves.now }
+        requires builder { IsBuilder context.now leaves.now self.old }
+        requires stand { StandFrom context.now leaves.now next.old
+            (leaves_of_seq (context_of context.now) (seq_tree seq.now)) }
+        ensures on { OnOk result (Extends context.now leaves.now self.old self.new) }
+        ensures moved { OnOk result (next.new ≡ next.old
+            + length (leaves_of_seq (context_of context.now) (seq_tree seq.now))) }
+        ensures added { OnOk result (AddsTree context.now self.old self.new
+            (meaning_of_seq (context_of context.now) (seq_tree seq.now)) trees.old.items
+            trees.new.items) }
+    {
+        let first = trees.len();
+        for item in &seq.items {
+            self.add_item(alloc, context, leaves, next, trees, item)?;
+        }
+        in_sequence(trees, first)?;
+        Ok(())
+    }
+
+    /// Adds the tree of an item.
+    #[cycle(build)]
+    fn add_item(
+        &mut self,
+        alloc: Global,
+        context: &Context,
+        leaves: &FileLeaves,
+        next: &mut usize,
+        trees: &mut Vec<Tree>,
+        item: &Item,
+    ) -> Result<(), AllocError>
+        requires ready { IsReady context.now leaves.now }
+        requires builder { IsBuilder context.now leaves.now self.old }
+        requires stand { StandFrom context.now leaves.now next.old
+            (leaves_of_item (context_of context.now) (item_tree item.now)) }
+        ensures on { OnOk result (Extends context.now leaves.now self.old self.new) }
+        ensures moved { OnOk result (next.new ≡ next.old
+            + length (leaves_of_item (context_of context.now) (item_tree item.now))) }
+        ensures added { OnOk result (AddsTree context.now self.old self.new
+            (meaning_of_item (context_of context.now) (item_tree item.now)) trees.old.items
+            trees.new.items) }
+    {
+        self.add_atom(alloc, context, leaves, next, trees, &item.atom)?;
+        repeat_last(alloc, item.quant, trees)?;
+        Ok(())
+    }
+
+    /// Adds the tree of an atom.
+    #[cycle(build)]
+    fn add_atom(
+        &mut self,
+        alloc: Global,
+        context: &Context,
+        leaves: &FileLeaves,
+        next: &mut usize,
+        trees: &mut Vec<Tree>,
+        atom: &Atom,
+    ) -> Result<(), AllocError>
+        requires ready { IsReady context.now leaves.now }
+        requires builder { IsBuilder context.now leaves.now self.old }
+        requires stand { StandFrom context.now leaves.now next.old
+            (leaves_of_atom (context_of context.now) (atom_tree atom.now)) }
+        ensures on { OnOk result (Extends context.now leaves.now self.old self.new) }
+        ensures moved { OnOk result (next.new ≡ next.old
+            + length (leaves_of_atom (context_of context.now) (atom_tree atom.now))) }
+        ensures added { OnOk result (AddsTree context.now self.old self.new
+            (meaning_of_atom (context_of context.now) (atom_tree atom.now)) trees.old.items
+            trees.new.items) }
+    {
+        match atom {
+            Atom::Char { .. } | Atom::Any | Atom::Prop { .. } | Atom::Set(_) => {
+                self.add_leaf(context, leaves, next, trees)?;
+                Ok(())
+            }
+            Atom::Quoted(word) => {
+                self.add_word(context, leaves, next, trees, word)?;
+                Ok(())
+            }
+            Atom::Name(name) => match context.variable(name) {
+                Some(variable) => {
+                    let inner = Context {
+                        limit: variable.statement,
+                        ..*context
+                    };
+                    self.add_definition(alloc, &inner, leaves, trees)?;
+                    Ok(())
+                }
+                None => {
+                    add_no_tree(alloc, trees)?;
+                    Ok(())
+                }
+            },
+            Atom::Group(inner) => {
+                self.add_expr(alloc, context, leaves, next, trees, inner)?;
+                Ok(())
+            }
         }
     }
 
     /// The tree of an expression whose leaves have the numbers from `next` on.
-    #[cycle(build)]
     pub(crate) fn tree_of_expr(
         &mut self,
         alloc: Global,
@@ -184,111 +333,11 @@ impl Builder {
         ensures built { IfOk result (Builds context.now self.old self.new
             (meaning_of_expr (context_of context.now) (expr_tree expr.now))) }
     {
-        let mut items = Vec::new(alloc);
-        for seq in &expr.items {
-            let part = self.tree_of_seq(alloc, context, leaves, next, seq)?;
-            items.push(part)?;
-        }
-        Ok(in_choice(items))
-    }
-
-    /// The tree of a sequence.
-    #[cycle(build)]
-    fn tree_of_seq(
-        &mut self,
-        alloc: Global,
-        context: &Context,
-        leaves: &FileLeaves,
-        next: &mut usize,
-        seq: &Seq,
-    ) -> Result<Tree, AllocError>
-        requires ready { IsReady context.now leaves.now }
-        requires builder { IsBuilder context.now leaves.now self.old }
-        requires stand { StandFrom context.now leaves.now next.old
-            (leaves_of_seq (context_of context.now) (seq_tree seq.now)) }
-        ensures on { OnOk result (Extends context.now leaves.now self.old self.new) }
-        ensures moved { OnOk result (next.new ≡ next.old
-            + length (leaves_of_seq (context_of context.now) (seq_tree seq.now))) }
-        ensures built { IfOk result (Builds context.now self.old self.new
-            (meaning_of_seq (context_of context.now) (seq_tree seq.now))) }
-    {
-        let mut items = Vec::new(alloc);
-        for item in &seq.items {
-            let part = self.tree_of_item(alloc, context, leaves, next, item)?;
-            items.push(part)?;
-        }
-        Ok(in_sequence(items))
-    }
-
-    /// The tree of an item.
-    #[cycle(build)]
-    fn tree_of_item(
-        &mut self,
-        alloc: Global,
-        context: &Context,
-        leaves: &FileLeaves,
-        next: &mut usize,
-        item: &Item,
-    ) -> Result<Tree, AllocError>
-        requires ready { IsReady context.now leaves.now }
-        requires builder { IsBuilder context.now leaves.now self.old }
-        requires stand { StandFrom context.now leaves.now next.old
-            (leaves_of_item (context_of context.now) (item_tree item.now)) }
-        ensures on { OnOk result (Extends context.now leaves.now self.old self.new) }
-        ensures moved { OnOk result (next.new ≡ next.old
-            + length (leaves_of_item (context_of context.now) (item_tree item.now))) }
-        ensures built { IfOk result (Builds context.now self.old self.new
-            (meaning_of_item (context_of context.now) (item_tree item.now))) }
-    {
-        let part = self.tree_of_atom(alloc, context, leaves, next, &item.atom)?;
-        let tree = repeated_tree(alloc, item.quant, part)?;
-        Ok(tree)
-    }
-
-    /// The tree of an atom.
-    #[cycle(build)]
-    fn tree_of_atom(
-        &mut self,
-        alloc: Global,
-        context: &Context,
-        leaves: &FileLeaves,
-        next: &mut usize,
-        atom: &Atom,
-    ) -> Result<Tree, AllocError>
-        requires ready { IsReady context.now leaves.now }
-        requires builder { IsBuilder context.now leaves.now self.old }
-        requires stand { StandFrom context.now leaves.now next.old
-            (leaves_of_atom (context_of context.now) (atom_tree atom.now)) }
-        ensures on { OnOk result (Extends context.now leaves.now self.old self.new) }
-        ensures moved { OnOk result (next.new ≡ next.old
-            + length (leaves_of_atom (context_of context.now) (atom_tree atom.now))) }
-        ensures built { IfOk result (Builds context.now self.old self.new
-            (meaning_of_atom (context_of context.now) (atom_tree atom.now))) }
-    {
-        match atom {
-            Atom::Char { .. } | Atom::Any | Atom::Prop { .. } | Atom::Set(_) => {
-                let tree = self.leaf(context, leaves, next)?;
-                Ok(tree)
-            }
-            Atom::Quoted(word) => {
-                let tree = self.tree_of_word(alloc, context, leaves, next, word)?;
-                Ok(tree)
-            }
-            Atom::Name(name) => match context.variable(name) {
-                Some(variable) => {
-                    let inner = Context {
-                        limit: variable.statement,
-                        ..*context
-                    };
-                    let tree = self.definition(alloc, &inner, leaves)?;
-                    Ok(tree)
-                }
-                None => Ok(no_tree(alloc)),
-            },
-            Atom::Group(inner) => {
-                let tree = self.tree_of_expr(alloc, context, leaves, next, inner)?;
-                Ok(tree)
-            }
+        let mut trees = Vec::new(alloc);
+        self.add_expr(alloc, context, leaves, next, &mut trees, expr)?;
+        match trees.pop() {
+            Some(tree) => Ok(tree),
+            None => unreachable!(),
         }
     }
 }

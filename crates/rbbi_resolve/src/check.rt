@@ -175,13 +175,11 @@ fn check_atom(
             name,
             value,
         } => {
-            let set = check_property(alloc, context, least, place, *negated, name, value)?;
-            leaves.add(alloc, &set)?;
+            check_property(alloc, context, least, leaves, place, *negated, name, value)?;
             Ok(Summary::leaf())
         }
         Atom::Set(set) => {
-            let value = check_set(alloc, context, least, place, set)?;
-            leaves.add(alloc, &value)?;
+            check_set(alloc, context, least, leaves, place, set)?;
             Ok(Summary::leaf())
         }
         Atom::Group(inner) => {
@@ -222,56 +220,60 @@ fn summary_of(kind: &Kind) -> Summary
     }
 }
 
-/// The value of a property that stands as an atom. Notes that it is unknown or has no character.
+/// Adds the leaf of a property. Notes that it is unknown or has no character.
 #[inline(never)]
 fn check_property(
     alloc: Global,
     context: &Context,
     least: &mut Option<Fault>,
+    leaves: &mut Leaves,
     place: u32,
     negated: bool,
     name: &Word,
     value: &Option<Word>,
-) -> Result<Option<ClassSet>, AllocError>
+) -> Result<(), AllocError>
     requires context { IsContext context.now }
     requires covered { IfSome
         (value_of_property (files_of context.now) negated name.now value.now)
         (Respects (files_of context.now) (stand_of context.now)) }
     ensures noted { OnOk result (least.new ≡ noted_parts (context_of context.now) least.old
         (Outside place (property_atom negated name.now value.now) ∷ [])) }
-    ensures value { IfOk result (λ set. IsClassValue (files_of context.now) (bounds_of context.now)
-        (value_of_property (files_of context.now) negated name.now value.now) set) }
+    ensures rows { OnOk result (AddsRows context.now
+        (value_of_property (files_of context.now) negated name.now value.now ∷ [])
+        leaves.old.rows.items leaves.new.rows.items) }
 {
     let set = value_of_property(alloc, context, negated, name, value)?;
     note_where(least, set.is_none(), place, FaultKind::UnknownProperty);
     let is_empty = is_empty_set(context.classes.division.as_ref(), &set);
     note_where(least, is_empty, place, FaultKind::EmptySet);
-    Ok(set)
+    leaves.add(alloc, &set)?;
+    Ok(())
 }
 
-/// The value of a set that stands as an atom. Notes the faults in it, and that it has no
-/// character.
+/// Adds the leaf of a set. Notes the faults in it, and that it has no character.
 #[inline(never)]
 fn check_set(
     alloc: Global,
     context: &Context,
     least: &mut Option<Fault>,
+    leaves: &mut Leaves,
     place: u32,
     set: &SetExpr,
-) -> Result<Option<ClassSet>, AllocError>
+) -> Result<(), AllocError>
     requires context { IsContext context.now }
     requires covered { SetRespects (files_of context.now) (stand_of context.now)
         (set_tree set.now) }
     ensures noted { OnOk result (least.new ≡ noted_parts (context_of context.now) least.old
         (parts_of_set (set_tree set.now) ++ Outside place (set_atom (set_tree set.now)) ∷ [])) }
-    ensures value { IfOk result (λ value. IsClassValue (files_of context.now)
-        (bounds_of context.now) (value_of_set (files_of context.now)
-        (value_of_name (context_of context.now)) (set_tree set.now)) value) }
+    ensures rows { OnOk result (AddsRows context.now (value_of_set (files_of context.now)
+        (value_of_name (context_of context.now)) (set_tree set.now) ∷ [])
+        leaves.old.rows.items leaves.new.rows.items) }
 {
     let value = value_of_set(alloc, context, least, set)?;
     let is_empty = is_empty_set(context.classes.division.as_ref(), &value);
     note_where(least, is_empty, place, FaultKind::EmptySet);
-    Ok(value)
+    leaves.add(alloc, &value)?;
+    Ok(())
 }
 
 /// Whether a set of classes has a value without characters.

@@ -25,8 +25,6 @@ mod rules;
 mod set_value;
 mod summary;
 mod switches;
-#[cfg(test)]
-mod tests;
 mod tree;
 mod variables;
 

@@ -3,7 +3,7 @@ ghost use Rattle.std.specs.Prelude.{◌≡◌, ℕ, nat_lt, List, Option, [], �
 ghost use Rattle.std.specs.Prelude.{IfOk, OnOk, option_map};
 ghost use Rattle.rbbi_model.specs.SetTrees as model;
 ghost use Rattle.rbbi_props.specs.Rows.{File};
-ghost use Rattle.rbbi_tree.specs.Trees.{joined, set_name};
+ghost use Rattle.rbbi_tree.specs.Trees.{joined, set_name, set_property};
 ghost use Rattle.rbbi_tree.specs.Values.{set_tree, set_item_tree};
 ghost use Rattle.rbbi_tree.specs.declared.syntax.Join as trees;
 ghost use Rattle.rbbi_resolve.specs.SetValues.{joined_to, signed, value_of_set, value_of_item};
@@ -28,10 +28,6 @@ use rbbi_tree::{Join, SetExpr, SetItem};
 use std::alloc::{AllocError, Global};
 
 /// The value of a set; None if a part of it has none. Notes the faults of its parts.
-///
-/// What it calls for a part isn't inlined, so that its frame stays small: 64 open brackets are to
-/// take less than 64 KiB of stack.
-#[cycle(sets)]
 pub(crate) fn value_of_set(
     alloc: Global,
     context: &Context,
@@ -47,71 +43,115 @@ pub(crate) fn value_of_set(
         (context_of context.now) least.old
         (parts_of_set (set_tree set.now))) }
 {
-    let mut whole = Some(ClassSet::empty(alloc));
-    for part in &set.parts.items {
-        let item = value_of_item(alloc, context, least, part.place, &part.item)?;
-        whole = join(alloc, whole, part.join, item)?;
-    }
-    let value = with_sign(alloc, context.layout(), set.negated, whole)?;
+    let mut value = None;
+    find_set(alloc, context, least, set, &mut value)?;
     Ok(value)
 }
 
-/// The value of an item of a set, if it has one. Notes its faults.
+/// Finds the value of a set.
+///
+/// Values are handed on behind a reference, and what finds the value of a part isn't inlined, so
+/// that the frames of this walk stay small: it goes as deep as brackets are open.
 #[cycle(sets)]
-fn value_of_item(
+fn find_set(
+    alloc: Global,
+    context: &Context,
+    least: &mut Option<Fault>,
+    set: &SetExpr,
+    value: &mut Option<ClassSet>,
+) -> Result<(), AllocError>
+    requires { IsContext context.now }
+    ensures value { OnOk result (IsClassValue (files_of context.now) (bounds_of context.now)
+        (value_of_set (files_of context.now) (value_of_name (context_of context.now))
+        (set_tree set.now)) value.new) }
+    ensures noted { OnOk result (least.new ≡ noted_parts (context_of context.now) least.old
+        (parts_of_set (set_tree set.now))) }
+{
+    *value = Some(ClassSet::empty(alloc));
+    for part in &set.parts.items {
+        let mut item = None;
+        find_item(alloc, context, least, part.place, &part.item, &mut item)?;
+        join(alloc, value, part.join, &mut item)?;
+    }
+    add_sign(alloc, context.layout(), set.negated, value)?;
+    Ok(())
+}
+
+/// Finds the value of an item of a set, if it has one. Notes its faults.
+#[cycle(sets)]
+fn find_item(
     alloc: Global,
     context: &Context,
     least: &mut Option<Fault>,
     place: u32,
     item: &SetItem,
-) -> Result<Option<ClassSet>, AllocError>
+    value: &mut Option<ClassSet>,
+) -> Result<(), AllocError>
     requires { IsContext context.now }
-    ensures value { IfOk result (λ value. IsClassValue (files_of context.now)
-        (bounds_of context.now)
+    ensures value { OnOk result (IsClassValue (files_of context.now) (bounds_of context.now)
         (value_of_item (files_of context.now) (value_of_name (context_of context.now))
-        (set_item_tree item.now)) value) }
+        (set_item_tree item.now)) value.new) }
     ensures noted { OnOk result ((join : trees.Join) → least.new ≡ noted_parts
         (context_of context.now) least.old
         (parts_of_part (joined place join (set_item_tree item.now)))) }
 {
     match item {
         SetItem::Char(c) => {
-            let code = *c as u32;
-            let value = ClassSet::range(alloc, context.layout(), code, code)?;
-            Ok(Some(value))
+            find_character(alloc, context.layout(), *c, value)?;
+            Ok(())
         }
         SetItem::Range(first, last) => {
-            let value = value_of_range(alloc, context.layout(), least, place, *first, *last)?;
-            Ok(value)
+            find_range(alloc, context.layout(), least, place, *first, *last, value)?;
+            Ok(())
         }
-        SetItem::Name(name) => value_of_variable(context, least, place, name),
+        SetItem::Name(name) => {
+            find_variable(context, least, place, name, value)?;
+            Ok(())
+        }
         SetItem::Prop {
             negated,
             name,
-            value,
+            value: word,
         } => {
-            let found = value_of_property(alloc, context, *negated, name, value)?;
-            note_where(least, found.is_none(), place, FaultKind::UnknownProperty);
-            Ok(found)
+            find_property(alloc, context, least, place, *negated, name, word, value)?;
+            Ok(())
         }
         SetItem::Set(inner) => {
-            let value = value_of_set(alloc, context, least, inner)?;
-            Ok(value)
+            find_set(alloc, context, least, inner, value)?;
+            Ok(())
         }
     }
 }
 
-/// The value of a range; notes a fault if its first character is greater than its last.
-fn value_of_range(
+/// Finds the value of a character.
+#[inline(never)]
+fn find_character(
+    alloc: Global,
+    layout: &Layout,
+    c: char,
+    value: &mut Option<ClassSet>,
+) -> Result<(), AllocError>
+    ensures { OnOk result ((files : List File) →
+        IsClassValue files layout.now (Some (model.Character c)) value.new) }
+{
+    let code = c as u32;
+    *value = Some(ClassSet::range(alloc, layout, code, code)?);
+    Ok(())
+}
+
+/// Finds the value of a range; notes a fault if its first character is greater than its last.
+#[inline(never)]
+fn find_range(
     alloc: Global,
     layout: &Layout,
     least: &mut Option<Fault>,
     place: u32,
     first: char,
     last: char,
-) -> Result<Option<ClassSet>, AllocError>
-    ensures value { IfOk result (λ value. (files : List File) →
-        IsClassValue files layout.now (value_of_range first last) value) }
+    value: &mut Option<ClassSet>,
+) -> Result<(), AllocError>
+    ensures value { OnOk result ((files : List File) →
+        IsClassValue files layout.now (value_of_range first last) value.new) }
     ensures noted { OnOk result (least.new ≡ noted least.old
         (faults_where (nat_lt last first) place kinds.BadRange)) }
 {
@@ -119,39 +159,70 @@ fn value_of_range(
     let high = last as u32;
     note_where(least, high < low, place, FaultKind::BadRange);
     if high < low {
-        return Ok(None);
+        *value = None;
+        return Ok(());
     }
-    let set = ClassSet::range(alloc, layout, low, high)?;
-    Ok(Some(set))
+    *value = Some(ClassSet::range(alloc, layout, low, high)?);
+    Ok(())
 }
 
-/// The value of a name in a set; notes a fault if it has none.
-fn value_of_variable(
+/// Finds the value of a name in a set; notes a fault if it has none.
+#[inline(never)]
+fn find_variable(
     context: &Context,
     least: &mut Option<Fault>,
     place: u32,
     name: &Word,
-) -> Result<Option<ClassSet>, AllocError>
+    value: &mut Option<ClassSet>,
+) -> Result<(), AllocError>
     requires { IsContext context.now }
-    ensures value { IfOk result (λ value. IsClassValue (files_of context.now)
-        (bounds_of context.now)
-        (value_of_name (context_of context.now) name.now) value) }
+    ensures value { OnOk result (IsClassValue (files_of context.now) (bounds_of context.now)
+        (value_of_name (context_of context.now) name.now) value.new) }
     ensures noted { OnOk result (least.new ≡ noted_parts (context_of context.now) least.old
         (Within place (set_name name.now) ∷ [])) }
 {
     match context.variable(name) {
         Some(variable) => match &variable.kind {
-            Kind::Set(value) => copy_of(value),
+            Kind::Set(set) => {
+                *value = copy_of(set)?;
+                Ok(())
+            }
             Kind::Expression(_) => {
                 note(least, place, FaultKind::NotASet);
-                Ok(None)
+                *value = None;
+                Ok(())
             }
         },
         None => {
             note(least, place, FaultKind::Undefined);
-            Ok(None)
+            *value = None;
+            Ok(())
         }
     }
+}
+
+/// Finds the value of a property in a set; notes a fault if it is unknown.
+#[inline(never)]
+fn find_property(
+    alloc: Global,
+    context: &Context,
+    least: &mut Option<Fault>,
+    place: u32,
+    negated: bool,
+    name: &Word,
+    word: &Option<Word>,
+    value: &mut Option<ClassSet>,
+) -> Result<(), AllocError>
+    requires { IsContext context.now }
+    ensures value { OnOk result (IsClassValue (files_of context.now) (bounds_of context.now)
+        (value_of_property (files_of context.now) negated name.now word.now) value.new) }
+    ensures noted { OnOk result (least.new ≡ noted_parts (context_of context.now) least.old
+        (Within place (set_property negated name.now word.now) ∷ [])) }
+{
+    let found = value_of_property(alloc, context, negated, name, word)?;
+    note_where(least, found.is_none(), place, FaultKind::UnknownProperty);
+    *value = found;
+    Ok(())
 }
 
 /// The set that a variable keeps, if there is one, with the same chunks.
@@ -190,24 +261,24 @@ pub(crate) fn value_of_property(
     }
 }
 
-/// `left join item`; None if either has no value.
+/// Joins an item with what stands to its left, which has no value then if either has none.
 #[inline(never)]
 fn join(
     alloc: Global,
-    left: Option<ClassSet>,
+    left: &mut Option<ClassSet>,
     join: Join,
-    item: Option<ClassSet>,
-) -> Result<Option<ClassSet>, AllocError>
-    ensures { IfOk result (λ whole. (files : List File) (bounds : List ℕ)
-        (left_tree item_tree : Option model.SetTree) → IsClassValue files bounds left_tree left
-        → IsClassValue files bounds item_tree item
-        → IsClassValue files bounds (joined_to join item_tree left_tree) whole) }
+    item: &mut Option<ClassSet>,
+) -> Result<(), AllocError>
+    ensures { OnOk result ((files : List File) (bounds : List ℕ)
+        (left_tree item_tree : Option model.SetTree) → IsClassValue files bounds left_tree left.old
+        → IsClassValue files bounds item_tree item.old
+        → IsClassValue files bounds (joined_to join item_tree left_tree) left.new) }
 {
-    let (Some(left), Some(item)) = (left, item) else {
-        return Ok(None);
+    let (Some(whole), Some(part)) = (left.take(), item.take()) else {
+        return Ok(());
     };
-    let whole = join_sets(alloc, left, join, item)?;
-    Ok(Some(whole))
+    *left = Some(join_sets(alloc, whole, join, part)?);
+    Ok(())
 }
 
 /// `left join item`.
@@ -239,24 +310,24 @@ fn join_sets(
     }
 }
 
-/// The set, or its complement if `negated`.
+/// Makes a set its complement if `negated`.
 #[inline(never)]
-fn with_sign(
+fn add_sign(
     alloc: Global,
     layout: &Layout,
     negated: bool,
-    set: Option<ClassSet>,
-) -> Result<Option<ClassSet>, AllocError>
-    ensures { IfOk result (λ whole. (files : List File) (tree : Option model.SetTree)
-        → IsClassValue files layout.now tree set
-        → IsClassValue files layout.now (option_map (signed negated) tree) whole) }
+    set: &mut Option<ClassSet>,
+) -> Result<(), AllocError>
+    ensures { OnOk result ((files : List File) (tree : Option model.SetTree)
+        → IsClassValue files layout.now tree set.old
+        → IsClassValue files layout.now (option_map (signed negated) tree) set.new) }
 {
-    let Some(whole) = set else {
-        return Ok(None);
-    };
-    if negated {
-        let others = whole.negate(alloc, layout)?;
-        return Ok(Some(others));
+    if !negated {
+        return Ok(());
     }
-    Ok(Some(whole))
+    let Some(whole) = set.take() else {
+        return Ok(());
+    };
+    *set = Some(whole.negate(alloc, layout)?);
+    Ok(())
 }

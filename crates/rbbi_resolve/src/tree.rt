@@ -1,9 +1,11 @@
 //! Trees of parts.
-ghost use Rattle.std.specs.Prelude.{◌≡◌, List, [], ◌∷◌, map, IfOk};
+ghost use Rattle.std.specs.Prelude.{◌≡◌, ◌<◌, ◌≤◌, List, [], ◌∷◌, ◌++◌, map, OnOk};
+ghost use Rattle.std.specs.Prelude.{vec_len};
 ghost use Rattle.std.specs.List.{flat_map};
 ghost use Rattle.rbbi_model.specs.Ranges.{Range};
 ghost use Rattle.rbbi_model.specs.Spelling as spelling;
 ghost use Rattle.rbbi_resolve.specs.RuleTrees.{tree_of, numbers_of, set_at, repeated};
+ghost use Rattle.rbbi_resolve.specs.inner.Builders.{IsJoined, JoinsFrom};
 
 use crate::rules::{Tree, Trees};
 use rbbi_tree::Quant;
@@ -18,52 +20,84 @@ pub(crate) fn leaf_of_set(number: u32) -> Tree
     Tree::Leaf(number)
 }
 
-/// No tree: a choice of nothing.
-pub(crate) fn no_tree(alloc: Global) -> Tree
-    ensures tree { (sets : List (List Range)) → tree_of sets result ≡ spelling.Never }
-    ensures numbers { numbers_of result ≡ [] }
-{
-    in_choice(Vec::new(alloc))
-}
-
-/// The parts, one after another. One part stands for itself.
-pub(crate) fn in_sequence(mut items: Vec<Tree>) -> Tree
+/// Parts that follow one another.
+fn sequence(items: Vec<Tree>) -> Tree
     ensures tree { (sets : List (List Range)) → tree_of sets result
         ≡ spelling.sequence_of (map (tree_of sets) items.items) }
     ensures numbers { numbers_of result ≡ flat_map numbers_of items.items }
 {
-    if items.len() != 1 {
-        return Tree::Seq(Trees { items });
-    }
-    match items.pop() {
-        Some(only) => only,
-        None => Tree::Seq(Trees { items }),
-    }
+    Tree::Seq(Trees { items })
 }
 
-/// One of the parts. One part stands for itself.
-pub(crate) fn in_choice(mut items: Vec<Tree>) -> Tree
+/// One of the parts; no tree if there is none.
+fn choice(items: Vec<Tree>) -> Tree
     ensures tree { (sets : List (List Range)) → tree_of sets result
         ≡ spelling.choice_of (map (tree_of sets) items.items) }
     ensures numbers { numbers_of result ≡ flat_map numbers_of items.items }
 {
-    if items.len() != 1 {
-        return Tree::Alt(Trees { items });
-    }
-    match items.pop() {
-        Some(only) => only,
-        None => Tree::Alt(Trees { items }),
-    }
+    Tree::Alt(Trees { items })
 }
 
-/// The repetition of a part by the quantifier.
-pub(crate) fn repeated_tree(alloc: Global, quant: Quant, part: Tree) -> Result<Tree, AllocError>
-    ensures tree { IfOk result (λ tree. (sets : List (List Range))
-        → tree_of sets tree ≡ repeated quant (tree_of sets part)) }
-    ensures numbers { IfOk result (λ tree. numbers_of tree ≡ numbers_of part) }
+/// Adds no tree, as a choice of nothing.
+#[inline(never)]
+pub(crate) fn add_no_tree(alloc: Global, trees: &mut Vec<Tree>) -> Result<(), AllocError>
+    ensures { OnOk result (IsJoined spelling.choice_of trees.old.items [] trees.new.items) }
+{
+    let none = choice(Vec::new(alloc));
+    trees.push(none)?;
+    Ok(())
+}
+
+/// Makes one tree of the trees behind the first ones: they follow one another. One stays as it is.
+#[inline(never)]
+pub(crate) fn in_sequence(trees: &mut Vec<Tree>, first: usize) -> Result<(), AllocError>
+    requires { first ≤ vec_len trees.old }
+    ensures { OnOk result (JoinsFrom spelling.sequence_of first trees.old.items trees.new.items) }
+{
+    if trees.len() - first == 1 {
+        return Ok(());
+    }
+    let items = trees.split_off(first)?;
+    trees.push(sequence(items))?;
+    Ok(())
+}
+
+/// Makes one tree of the trees behind the first ones: one of them. One stays as it is.
+#[inline(never)]
+pub(crate) fn in_choice(trees: &mut Vec<Tree>, first: usize) -> Result<(), AllocError>
+    requires { first ≤ vec_len trees.old }
+    ensures { OnOk result (JoinsFrom spelling.choice_of first trees.old.items trees.new.items) }
+{
+    if trees.len() - first == 1 {
+        return Ok(());
+    }
+    let items = trees.split_off(first)?;
+    trees.push(choice(items))?;
+    Ok(())
+}
+
+/// Puts the repetition by the quantifier in the place of the last tree.
+#[inline(never)]
+pub(crate) fn repeat_last(
+    alloc: Global,
+    quant: Quant,
+    trees: &mut Vec<Tree>,
+) -> Result<(), AllocError>
+    requires { 0 < vec_len trees.old }
+    ensures { OnOk result ((before : List Tree) (part : Tree)
+        → trees.old.items ≡ before ++ part ∷ []
+        → IsJoined (λ parts. repeated quant (spelling.sequence_of parts)) before (part ∷ [])
+        trees.new.items) }
 {
     match quant {
-        Quant::Once => Ok(part),
-        Quant::Star | Quant::Plus | Quant::Quest => Ok(Tree::Rep(quant, Box::new(alloc, part)?)),
+        Quant::Once => Ok(()),
+        Quant::Star | Quant::Plus | Quant::Quest => {
+            let Some(part) = trees.pop() else {
+                unreachable!()
+            };
+            let part = Box::new(alloc, part)?;
+            trees.push(Tree::Rep(quant, part))?;
+            Ok(())
+        }
     }
 }

@@ -6,8 +6,6 @@ mod laws;
 mod range;
 mod set;
 mod sweep;
-#[cfg(test)]
-mod tests;
 
 pub use laws::members_determine;
 pub use range::CodeRange;

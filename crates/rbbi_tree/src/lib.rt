@@ -10,8 +10,6 @@ mod level;
 mod parser;
 mod set_level;
 mod syntax;
-#[cfg(test)]
-mod tests;
 
 pub use error::TreeErr;
 pub use file::parse;

@@ -1,6 +1,7 @@
 -- The trees that the code builds, and the sets of their leaves.
-use Rattle.std.specs.Prelude.{◌≡◌, ℕ, ◌<◌, ◌≤◌, Option, Some, None, List, ◌++◌, length, slice_get, slice_index, Contains}
-use Rattle.std.specs.List.{AllByRecursion}
+use Rattle.std.specs.Prelude.{◌≡◌, ℕ, ◌<◌, ◌≤◌, Option, Some, None, List, [], ◌∷◌, ◌++◌, map, length, slice_get, slice_index}
+use Rattle.std.specs.Prelude.{Contains}
+use Rattle.std.specs.List.{AllByRecursion, flat_map}
 use Rattle.rbbi_model.specs.Ranges.{Range}
 use Rattle.rbbi_model.specs.SetTrees as model
 use Rattle.rbbi_model.specs.Spelling as spelling
@@ -59,6 +60,23 @@ pub record IsBuilt (files : List File) (old : ℕ) (sets : List (List Range)) (m
 abbrev pub Builds : Context → Builder → Builder → Meaning → Tree → Type 0
 Builds context before after meaning tree =
     IsBuilt (files_of context) (length (sets_of context before.rows.items)) (sets_of context after.rows.items) meaning tree
+
+-- a tree was added, which stands for the meaning
+pub record AddsTree (context : Context) (before after : Builder) (meaning : Meaning) (old new : List Tree) : Type 0 where
+  pub tree : Tree
+  pub is : new ≡ old ++ tree ∷ []
+  pub built : Builds context before after meaning tree
+
+-- a tree made of parts stands behind the others
+pub record IsJoined (make : List spelling.Tree → spelling.Tree) (before parts trees : List Tree) : Type 0 where
+  pub tree : Tree
+  pub is : trees ≡ before ++ tree ∷ []
+  pub stands : (sets : List (List Range)) → tree_of sets tree ≡ make (map (tree_of sets) parts)
+  pub numbers : numbers_of tree ≡ flat_map numbers_of parts
+
+-- the trees behind the first ones became one
+abbrev pub JoinsFrom : (List spelling.Tree → spelling.Tree) → ℕ → List Tree → List Tree → Type 0
+JoinsFrom make first old new = (before parts : List Tree) → first ≡ length before → old ≡ before ++ parts → IsJoined make before parts new
 
 -- the statement with this number assigns the expression
 pub record IsAssigned (statements : List StatementTree) (number : ℕ) (expr : ExprTree) : Type 0 where

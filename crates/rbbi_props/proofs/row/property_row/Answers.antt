@@ -3,7 +3,8 @@ use Rattle.std.proofs.Common.{◌≡◌, ℕ, ◌+◌, ◌-◌, ◌<◌, List, e
 use Rattle.std.specs.List.{before_first, after_first, position_or_len, slice_split}
 use Rattle.std.proofs.lemmas.List.{take_rest}
 use Rattle.std.proofs.lemmas.Result.{IfOk-weaker}
-use Rattle.rbbi_props.specs.RowLines.{property_row, row_of_fields, row_with, range_of, trim, last_part}
+use Rattle.rbbi_text.specs.LineParts.{trim}
+use Rattle.rbbi_props.specs.RowLines.{property_row, row_of_fields, row_with, range_of, last_part}
 use Rattle.rbbi_props.proofs.Fields.{row_of_fields-one, row_of_fields-more}
 use Rattle.rbbi_props.proofs.row.property_row.Goals as goal
 

@@ -18,7 +18,7 @@ use Rattle.rbbi_resolve.proofs.ItemTrees.{atom_of_property, atom_of_set, atom_of
 use Rattle.rbbi_resolve.specs.SetValues.{value_of_set, value_of_property}
 use Rattle.rbbi_resolve.specs.Contexts.{value_of_name}
 use Rattle.rbbi_resolve.proofs.Kept.{files_stay}
-use Rattle.rbbi_resolve.proofs.Adding.{IsAdding, no_rows, one_row, adding_turn, property_letter, set_letter}
+use Rattle.rbbi_resolve.proofs.Adding.{IsAdding, no_rows, adding_turn}
 use Rattle.rbbi_resolve.proofs.Counting.{expr_turn, seq_turn, expr_gives, seq_gives, repeated_sums, expr_by_items, seq_by_items, exprs_left, seqs_left}
 use Rattle.rbbi_resolve.proofs.Weights.{size_of_expr, size_of_seq, size_of_item, size_of_atom, smaller_seq, smaller_item, smaller_atom}
 use Rattle.rbbi_resolve.proofs.Covering.{covered_seq, covered_item, covered_atom, covered_alone, covered_left}
@@ -238,38 +238,26 @@ check_atom-returns-in_ok-whole-in-Group-clause-counts t c =
     let e : atom_tree c.args.atom.now ≡ group (expr_tree c.in-Group.inner) = let i = c.in-Group.is in ap atom_tree i ∙ atom_of_group c.in-Group.inner in
     subst (λ a. Summarizes c.higher.result (meaning_of_atom k a) (height_of_atom k a)) (sym e) (c.higher.ensures _ _ _ c.in_ok-whole-in-Group.ensures.counts)
 
-pub check_atom-returns-in_ok-add-in-Prop-clause-rows : goal.check_atom-returns-in_ok-add-in-Prop-clause-rows
-check_atom-returns-in_ok-add-in-Prop-clause-rows t c =
+pub check_atom-returns-in_ok-check_property-in-Prop-clause-rows : goal.check_atom-returns-in_ok-check_property-in-Prop-clause-rows
+check_atom-returns-in_ok-check_property-in-Prop-clause-rows t c =
     let context = c.args.context.now in
     let files = files_of context in
     let p = c.in-Prop in
     let e : atom_tree c.args.atom.now ≡ property p.negated p.name p.value = let i = p.is in ap atom_tree i ∙ atom_of_property p.negated p.name p.value in
-    let value = value_of_property files p.negated p.name p.value in
     let old = c.args.leaves.now.rows.items in
-    let new = c.add.new.self.rows.items in
+    let new = c.check_property.new.leaves.rows.items in
     atom_rows context (atom_tree c.args.atom.now) _ old new e
     (subst (λ f. AddsRows context (value_of_property f p.negated p.name p.value ∷ []) old new) (sym (files_stay files _ _))
-    (one_row context value c.in_ok-set-in-Prop.set old new c.in_ok-add-in-Prop.ensures
-    (record {
-      own = c.in_ok-set-in-Prop.ensures.value;
-      respects = atom_covered context c.args.place (atom_tree c.args.atom.now) _ e c.requires.covered;
-      letter = property_letter files p.negated p.name p.value;
-    })))
+    c.in_ok-check_property-in-Prop.ensures.rows)
 
-pub check_atom-returns-in_ok-add-in-Set-clause-rows : goal.check_atom-returns-in_ok-add-in-Set-clause-rows
-check_atom-returns-in_ok-add-in-Set-clause-rows t c =
+pub check_atom-returns-in_ok-check_set-in-Set-clause-rows : goal.check_atom-returns-in_ok-check_set-in-Set-clause-rows
+check_atom-returns-in_ok-check_set-in-Set-clause-rows t c =
     let context = c.args.context.now in
     let files = files_of context in
     let named = value_of_name (context_of context) in
     let s = set_tree c.in-Set.set in
     let e : atom_tree c.args.atom.now ≡ set s = let i = c.in-Set.is in ap atom_tree i ∙ atom_of_set c.in-Set.set in
     let old = c.args.leaves.now.rows.items in
-    let new = c.add-in-Set.new.self.rows.items in
+    let new = c.check_set.new.leaves.rows.items in
     atom_rows context (atom_tree c.args.atom.now) _ old new e
-    (subst (λ f. AddsRows context (value_of_set f named s ∷ []) old new) (sym (files_stay files _ _))
-    (one_row context (value_of_set files named s) c.in_ok-value-in-Set.value old new c.in_ok-add-in-Set.ensures
-    (record {
-      own = c.in_ok-value-in-Set.ensures.value;
-      respects = atom_covered context c.args.place (atom_tree c.args.atom.now) _ e c.requires.covered named c.requires.context.respects;
-      letter = set_letter files named s;
-    })))
+    (subst (λ f. AddsRows context (value_of_set f named s ∷ []) old new) (sym (files_stay files _ _)) c.in_ok-check_set-in-Set.ensures.rows)

@@ -1,6 +1,15 @@
-use Rattle.rbbi_resolve.specs.declared.rules.Tree.TheViews.{roll-Trees}
-use Rattle.rbbi_resolve.proofs.TreeValues.{numbers_of_sequence}
+use Rattle.std.proofs.Common.{◌++◌, ◌∷◌, [], refl, ap, ◌∙◌, arith}
+use Rattle.rbbi_model.specs.Spelling as spelling
+use Rattle.rbbi_resolve.proofs.Joining.{joined_alone, joined_behind}
 use Rattle.rbbi_resolve.proofs.tree.in_sequence.Goals as goal
 
-pub returns-then-len-ne1-clause-numbers : goal.returns-then-len-ne1-clause-numbers
-returns-then-len-ne1-clause-numbers c = numbers_of_sequence (roll-Trees (record { items = c.args.items }))
+pub returns-then-len-first-eq1 : goal.returns-then-len-first-eq1
+returns-then-len-first-eq1 c = λ before parts long is.
+    let one = c.if-len-first-eq1.true in
+    joined_alone spelling.sequence_of (λ t. refl) before parts _ is (omega (arith, c.args.trees.now.ok.0, c.len.ensures))
+
+pub returns : goal.returns
+returns c =
+    joined_behind spelling.sequence_of c.args.first c.args.trees.now.items c.in_ok-items.items.items _ c.sequence.result
+    (c.in_ok-push.ensures.items ∙ ap (λ ts. ts ++ c.sequence.result ∷ []) c.in_ok-items.ensures.items) c.in_ok-items.ensures.tail c.sequence.ensures.tree
+    c.sequence.ensures.numbers

@@ -1,23 +1,23 @@
 use Rattle.std.proofs.Common.{◌≡◌, ◌+◌, ◌<◌, ◌∷◌, map, drop, length, slice_index, sym, refl, ap, ◌∙◌, subst, arith, rules}
 use Rattle.std.proofs.lemmas.Grind.{get_or_default_zero}
-use Rattle.std.proofs.lemmas.List.{drop_more, drop_all, length-map}
+use Rattle.std.proofs.lemmas.List.{drop_more, drop_all, length-map, length-append}
 use Rattle.rbbi_tree.specs.Trees.{expr_of, seq_of, name, quoted}
 use Rattle.rbbi_tree.specs.Values.{statement_trees, expr_tree, seq_tree, item_tree, atom_tree, item_tree_out}
+use Rattle.rbbi_resolve.specs.declared.rules.Tree.{Tree}
 use Rattle.rbbi_resolve.specs.Expressions.{meaning_of_expr, meaning_of_seq, meaning_of_item, meaning_of_atom}
-use Rattle.rbbi_resolve.specs.inner.Contexts.{context_of, files_of, division_of, sets_of}
+use Rattle.rbbi_resolve.specs.inner.Contexts.{context_of, files_of, division_of}
 use Rattle.rbbi_resolve.specs.inner.OwnLeaves.{leaves_of_expr, leaves_of_seq, leaves_of_item, leaves_of_atom}
-use Rattle.rbbi_resolve.specs.inner.Builders.{IsSetRow, StandFrom, Builds}
+use Rattle.rbbi_resolve.specs.inner.Builders.{IsSetRow, StandFrom, AddsTree}
 use Rattle.rbbi_resolve.proofs.Weights.{weight, weight_more, weight_le, size_of_expr, size_of_seq, size_of_item, size_of_atom, smaller_seq, smaller_item}
 use Rattle.rbbi_resolve.proofs.Counting.{expr_by_items, seq_by_items, exprs_left, seqs_left}
 use Rattle.rbbi_resolve.proofs.ItemTrees.{atom_of_quoted, atom_of_name}
-use Rattle.rbbi_resolve.proofs.Building.{AreBuilding, stand_parts, never_built, repeated_built, choice_built, sequence_built, building_start, building_turn}
-use Rattle.rbbi_resolve.proofs.Building.{building_end}
+use Rattle.rbbi_resolve.proofs.Building.{AreBuilding, stand_parts, never_added, repeated_added, choice_added, sequence_added, building_start, building_turn}
 use Rattle.rbbi_resolve.proofs.Meant.{named, unnamed, expr_means, seq_means, ready_before}
 use Rattle.rbbi_resolve.proofs.LeafAtoms.{leaf_atom}
 use Rattle.rbbi_resolve.proofs.build.Builder.+build.Goals as goal
 
-pub definition-tree_of_expr-requires : goal.definition-tree_of_expr-requires
-definition-tree_of_expr-requires t c =
+pub add_definition-add_expr-requires : goal.add_definition-add_expr-requires
+add_definition-add_expr-requires t c =
     let context = c.args.context.now in
     let T = statement_trees context.statements.now in
     let e = expr_tree c.in-Some.expr.now in
@@ -32,27 +32,27 @@ definition-tree_of_expr-requires t c =
     let stand = subst (λ n. StandFrom context c.args.leaves.now n (leaves_of_expr (context_of context) e)) (sym first) (ready.stand context.limit _ at) in
     search rules
 
-pub definition-returns-in_ok-tree-in-Some-clause-built : goal.definition-returns-in_ok-tree-in-Some-clause-built
-definition-returns-in_ok-tree-in-Some-clause-built t c = λ expr is.
+pub add_definition-returns-in_ok-add_expr-in-Some-clause-added : goal.add_definition-returns-in_ok-add_expr-in-Some-clause-added
+add_definition-returns-in_ok-add_expr-in-Some-clause-added t c = λ expr is.
     let context = c.args.context.now in
     let at = c.in-Some.ensures.some.at in
     let other = is.at in
     let eq : expr_tree c.in-Some.expr.now ≡ expr = cc in
-    subst (λ x. Builds context c.args.self.now c.tree_of_expr.new.self (meaning_of_expr (context_of context) x) c.in_ok-tree-in-Some.tree) eq
-    c.in_ok-tree-in-Some.ensures.built
+    subst (λ x. AddsTree context c.args.self.now c.add_expr.new.self (meaning_of_expr (context_of context) x) c.args.trees.now.items
+    c.add_expr.new.trees.items) eq c.in_ok-add_expr-in-Some.ensures.added
 
-pub definition-returns-in-None-clause-built : goal.definition-returns-in-None-clause-built
-definition-returns-in-None-clause-built t c = λ expr is. absurd (c.in-None.ensures.none expr is)
+pub add_definition-returns-in-None-clause-added : goal.add_definition-returns-in-None-clause-added
+add_definition-returns-in-None-clause-added t c = λ expr is. absurd (c.in-None.ensures.none expr is)
 
-pub tree_of_expr-loop-seq-init : goal.tree_of_expr-loop-seq-init
-tree_of_expr-loop-seq-init t c =
+pub add_expr-loop-seq-init : goal.add_expr-loop-seq-init
+add_expr-loop-seq-init t c =
     let context = c.args.context.now in
     let tree = expr_by_items c.args.expr.now _ c.deref-seq-items.ensures.value in
-    building_start context c.args.leaves.now c.args.self.now c.args.next.now _ _ _ c.requires.builder c.new-items.ensures.items
+    building_start context c.args.leaves.now c.args.self.now c.args.next.now _ _ _ c.requires.builder
     (subst (λ x. StandFrom context c.args.leaves.now c.args.next.now (leaves_of_expr (context_of context) x)) tree c.requires.stand)
 
-pub tree_of_expr-tree_of_seq-requires : goal.tree_of_expr-tree_of_seq-requires
-tree_of_expr-tree_of_seq-requires t c =
+pub add_expr-add_seq-requires : goal.add_expr-add_seq-requires
+add_expr-add_seq-requires t c =
     let context = c.args.context.now in
     let T = statement_trees context.statements.now in
     let k = context_of context in
@@ -71,8 +71,8 @@ tree_of_expr-tree_of_seq-requires t c =
     (subst (λ x. StandFrom context c.args.leaves.now l.next (leaves_of_expr k x)) (exprs_left xs l.seq-index p inside c.seq-item.is) l.invariant.stand)).0 in
     search rules
 
-pub tree_of_expr-loop-seq-preserved : goal.tree_of_expr-loop-seq-preserved
-tree_of_expr-loop-seq-preserved t c =
+pub add_expr-loop-seq-preserved : goal.add_expr-loop-seq-preserved
+add_expr-loop-seq-preserved t c =
     let context = c.args.context.now in
     let k = context_of context in
     let l = c.loop-seq in
@@ -81,13 +81,13 @@ tree_of_expr-loop-seq-preserved t c =
     let ds : drop l.seq-index xs ≡ p ∷ drop (l.seq-index + 1) xs = drop_more xs l.seq-index p (omega arith)
     ∙ ap (λ q. q ∷ drop (l.seq-index + 1) xs) (sym c.seq-item.is) in
     let here = subst (λ ys. AreBuilding context c.args.leaves.now c.args.self.now c.args.next.now (map (meaning_of_seq k) (map seq_tree xs))
-    (leaves_of_expr k (expr_of (map seq_tree xs))) l.self l.next l.items.items (map (meaning_of_seq k) (map seq_tree ys))
+    (leaves_of_expr k (expr_of (map seq_tree xs))) c.args.trees.now.items l.self l.next l.trees.items (map (meaning_of_seq k) (map seq_tree ys))
     (leaves_of_expr k (expr_of (map seq_tree ys)))) ds l.invariant in
     building_turn context c.args.leaves.now _ _ _ _ _ _ _ _ _ _ _ (meaning_of_seq k (seq_tree p)) _ (leaves_of_seq k (seq_tree p)) _ here
-    c.in_ok-part.ensures.on c.in_ok-part.ensures.moved c.in_ok-part.ensures.built c.in_ok-push.ensures.items
+    c.in_ok-add_seq.ensures.on c.in_ok-add_seq.ensures.moved c.in_ok-add_seq.ensures.added
 
-pub tree_of_expr-returns-clause-moved : goal.tree_of_expr-returns-clause-moved
-tree_of_expr-returns-clause-moved t c =
+pub add_expr-returns-clause-moved : goal.add_expr-returns-clause-moved
+add_expr-returns-clause-moved t c =
     let k = context_of c.args.context.now in
     let none = drop_all c.loop-seq.seq-index c.deref-seq-items.result.now (omega arith) in
     omega (
@@ -97,28 +97,26 @@ tree_of_expr-returns-clause-moved t c =
       ap (λ x. length (leaves_of_expr k x)) (expr_by_items c.args.expr.now _ c.deref-seq-items.ensures.value),
     )
 
-pub tree_of_expr-returns-clause-built : goal.tree_of_expr-returns-clause-built
-tree_of_expr-returns-clause-built t c =
+pub add_expr-returns-clause-added : goal.add_expr-returns-clause-added
+add_expr-returns-clause-added t c =
     let context = c.args.context.now in
     let k = context_of context in
     let l = c.loop-seq in
     let xs = c.deref-seq-items.result.now in
     let none = ap (λ ys. map (meaning_of_seq k) (map seq_tree ys)) (drop_all l.seq-index xs (omega arith)) in
     let eq = sym (expr_means k (map seq_tree xs)) ∙ ap (meaning_of_expr k) (sym (expr_by_items c.args.expr.now _ c.deref-seq-items.ensures.value)) in
-    subst (λ m. Builds context c.args.self.now l.self m c.in_choice.result) eq
-    (choice_built (files_of context) _ _ _ l.items.items c.in_choice.result
-    (building_end context c.args.leaves.now _ _ _ _ _ _ _ _ _ l.invariant none) c.in_choice.ensures.tree
-    c.in_choice.ensures.numbers)
+    subst (λ m. AddsTree context c.args.self.now l.self m c.args.trees.now.items c.in_choice.new.trees.items) eq
+    (choice_added context c.args.leaves.now _ _ _ _ _ _ _ _ _ _ _ c.len-first.result l.invariant none (omega arith) c.in_ok-in_choice.ensures)
 
-pub tree_of_seq-loop-item-init : goal.tree_of_seq-loop-item-init
-tree_of_seq-loop-item-init t c =
+pub add_seq-loop-item-init : goal.add_seq-loop-item-init
+add_seq-loop-item-init t c =
     let context = c.args.context.now in
     let tree = seq_by_items c.args.seq.now _ c.deref-item-items.ensures.value in
-    building_start context c.args.leaves.now c.args.self.now c.args.next.now _ _ _ c.requires.builder c.new-items.ensures.items
+    building_start context c.args.leaves.now c.args.self.now c.args.next.now _ _ _ c.requires.builder
     (subst (λ x. StandFrom context c.args.leaves.now c.args.next.now (leaves_of_seq (context_of context) x)) tree c.requires.stand)
 
-pub tree_of_seq-tree_of_item-requires : goal.tree_of_seq-tree_of_item-requires
-tree_of_seq-tree_of_item-requires t c =
+pub add_seq-add_item-requires : goal.add_seq-add_item-requires
+add_seq-add_item-requires t c =
     let context = c.args.context.now in
     let T = statement_trees context.statements.now in
     let k = context_of context in
@@ -137,8 +135,8 @@ tree_of_seq-tree_of_item-requires t c =
     (subst (λ x. StandFrom context c.args.leaves.now l.next (leaves_of_seq k x)) (seqs_left xs l.item-index p inside c.item-item.is) l.invariant.stand)).0 in
     search rules
 
-pub tree_of_seq-loop-item-preserved : goal.tree_of_seq-loop-item-preserved
-tree_of_seq-loop-item-preserved t c =
+pub add_seq-loop-item-preserved : goal.add_seq-loop-item-preserved
+add_seq-loop-item-preserved t c =
     let context = c.args.context.now in
     let k = context_of context in
     let l = c.loop-item in
@@ -147,13 +145,13 @@ tree_of_seq-loop-item-preserved t c =
     let ds : drop l.item-index xs ≡ p ∷ drop (l.item-index + 1) xs = drop_more xs l.item-index p (omega arith)
     ∙ ap (λ q. q ∷ drop (l.item-index + 1) xs) (sym c.item-item.is) in
     let here = subst (λ ys. AreBuilding context c.args.leaves.now c.args.self.now c.args.next.now (map (meaning_of_item k) (map item_tree xs))
-    (leaves_of_seq k (seq_of (map item_tree xs))) l.self l.next l.items.items (map (meaning_of_item k) (map item_tree ys))
+    (leaves_of_seq k (seq_of (map item_tree xs))) c.args.trees.now.items l.self l.next l.trees.items (map (meaning_of_item k) (map item_tree ys))
     (leaves_of_seq k (seq_of (map item_tree ys)))) ds l.invariant in
     building_turn context c.args.leaves.now _ _ _ _ _ _ _ _ _ _ _ (meaning_of_item k (item_tree p)) _ (leaves_of_item k (item_tree p)) _ here
-    c.in_ok-part.ensures.on c.in_ok-part.ensures.moved c.in_ok-part.ensures.built c.in_ok-push.ensures.items
+    c.in_ok-add_item.ensures.on c.in_ok-add_item.ensures.moved c.in_ok-add_item.ensures.added
 
-pub tree_of_seq-returns-clause-moved : goal.tree_of_seq-returns-clause-moved
-tree_of_seq-returns-clause-moved t c =
+pub add_seq-returns-clause-moved : goal.add_seq-returns-clause-moved
+add_seq-returns-clause-moved t c =
     let k = context_of c.args.context.now in
     let none = drop_all c.loop-item.item-index c.deref-item-items.result.now (omega arith) in
     omega (
@@ -163,30 +161,34 @@ tree_of_seq-returns-clause-moved t c =
       ap (λ x. length (leaves_of_seq k x)) (seq_by_items c.args.seq.now _ c.deref-item-items.ensures.value),
     )
 
-pub tree_of_seq-returns-clause-built : goal.tree_of_seq-returns-clause-built
-tree_of_seq-returns-clause-built t c =
+pub add_seq-returns-clause-added : goal.add_seq-returns-clause-added
+add_seq-returns-clause-added t c =
     let context = c.args.context.now in
     let k = context_of context in
     let l = c.loop-item in
     let xs = c.deref-item-items.result.now in
     let none = ap (λ ys. map (meaning_of_item k) (map item_tree ys)) (drop_all l.item-index xs (omega arith)) in
     let eq = sym (seq_means k (map item_tree xs)) ∙ ap (meaning_of_seq k) (sym (seq_by_items c.args.seq.now _ c.deref-item-items.ensures.value)) in
-    subst (λ m. Builds context c.args.self.now l.self m c.in_sequence.result) eq
-    (sequence_built (files_of context) _ _ _ l.items.items c.in_sequence.result
-    (building_end context c.args.leaves.now _ _ _ _ _ _ _ _ _ l.invariant none) c.in_sequence.ensures.tree
-    c.in_sequence.ensures.numbers)
+    subst (λ m. AddsTree context c.args.self.now l.self m c.args.trees.now.items c.in_sequence.new.trees.items) eq
+    (sequence_added context c.args.leaves.now _ _ _ _ _ _ _ _ _ _ _ c.len-first.result l.invariant none (omega arith) c.in_ok-in_sequence.ensures)
 
-pub tree_of_item-returns-clause-built : goal.tree_of_item-returns-clause-built
-tree_of_item-returns-clause-built t c =
+pub add_item-repeat_last-requires : goal.add_item-repeat_last-requires
+add_item-repeat_last-requires t c =
+    let a = c.in_ok-add_atom.ensures.added in
+    omega (arith, ap length a.is, length-append {A = Tree}, c.add_atom.new.trees.ok.0)
+
+pub add_item-returns-clause-added : goal.add_item-returns-clause-added
+add_item-returns-clause-added t c =
     let context = c.args.context.now in
     let k = context_of context in
     let i = c.args.item.now in
-    subst (λ x. Builds context c.args.self.now c.tree_of_atom.new.self (meaning_of_item k x) c.in_ok-tree.tree) (sym (item_tree_out i))
-    (repeated_built (files_of context) i.quant _ _ (meaning_of_atom k (atom_tree i.atom)) c.in_ok-part.part c.in_ok-tree.tree c.in_ok-part.ensures.built
-    c.in_ok-tree.ensures.tree c.in_ok-tree.ensures.numbers)
+    subst (λ x. AddsTree context c.args.self.now c.add_atom.new.self (meaning_of_item k x) c.args.trees.now.items c.repeat_last.new.trees.items)
+    (sym (item_tree_out i))
+    (repeated_added context c.args.self.now c.add_atom.new.self i.quant (meaning_of_atom k (atom_tree i.atom)) _ _ _ c.in_ok-add_atom.ensures.added
+    c.in_ok-repeat_last.ensures)
 
-pub tree_of_atom-definition-requires : goal.tree_of_atom-definition-requires
-tree_of_atom-definition-requires t c =
+pub add_atom-add_definition-requires : goal.add_atom-add_definition-requires
+add_atom-add_definition-requires t c =
     let context = c.args.context.now in
     let T = statement_trees context.statements.now in
     let v = c.in-Some.variable.now in
@@ -200,37 +202,38 @@ tree_of_atom-definition-requires t c =
     let inside : v.statement < length context.statements.now = n.inside in
     search rules
 
-pub tree_of_atom-leaf-requires-clause-stand : goal.tree_of_atom-leaf-requires-clause-stand
-tree_of_atom-leaf-requires-clause-stand t c =
+pub add_atom-add_leaf-requires-clause-stand : goal.add_atom-add_leaf-requires-clause-stand
+add_atom-add_leaf-requires-clause-stand t c =
     let l = leaf_atom (context_of c.args.context.now) c.args.atom.now c.in-Char.is in
     (l.0, subst (StandFrom c.args.context.now c.args.leaves.now c.args.next.now) l.1 c.requires.stand)
 
-pub tree_of_atom-returns-in_ok-tree-in-Char-clause-built : goal.tree_of_atom-returns-in_ok-tree-in-Char-clause-built
-tree_of_atom-returns-in_ok-tree-in-Char-clause-built t c =
+pub add_atom-returns-in_ok-add_leaf-in-Char-clause-added : goal.add_atom-returns-in_ok-add_leaf-in-Char-clause-added
+add_atom-returns-in_ok-add_leaf-in-Char-clause-added t c =
     let context = c.args.context.now in
     let l = leaf_atom (context_of context) c.args.atom.now c.in-Char.is in
-    subst (λ m. Builds context c.args.self.now c.leaf.new.self m c.in_ok-tree-in-Char.tree) (sym l.2)
-    (c.in_ok-tree-in-Char.ensures.built l.0 (subst (StandFrom context c.args.leaves.now c.args.next.now) l.1 c.requires.stand))
+    subst (λ m. AddsTree context c.args.self.now c.add_leaf.new.self m c.args.trees.now.items c.add_leaf.new.trees.items) (sym l.2)
+    (c.in_ok-add_leaf-in-Char.ensures.added l.0 (subst (StandFrom context c.args.leaves.now c.args.next.now) l.1 c.requires.stand))
 
-pub tree_of_atom-returns-in_ok-tree-in-Quoted-clause-moved : goal.tree_of_atom-returns-in_ok-tree-in-Quoted-clause-moved
-tree_of_atom-returns-in_ok-tree-in-Quoted-clause-moved t c =
+pub add_atom-returns-in_ok-add_word-in-Quoted-clause-moved : goal.add_atom-returns-in_ok-add_word-in-Quoted-clause-moved
+add_atom-returns-in_ok-add_word-in-Quoted-clause-moved t c =
     let k = context_of c.args.context.now in
     let e : atom_tree c.args.atom.now ≡ quoted c.in-Quoted.word = let i = c.in-Quoted.is in ap atom_tree i ∙ atom_of_quoted c.in-Quoted.word in
     let long : length (leaves_of_atom k (quoted c.in-Quoted.word)) ≡ length c.in-Quoted.word = simp length-map in
-    c.in_ok-tree-in-Quoted.ensures.moved ∙ ap (λ n. c.args.next.now + n) (sym long) ∙ ap (λ a. c.args.next.now + length (leaves_of_atom k a)) (sym e)
+    c.in_ok-add_word-in-Quoted.ensures.moved ∙ ap (λ n. c.args.next.now + n) (sym long) ∙ ap (λ a. c.args.next.now + length (leaves_of_atom k a)) (sym e)
 
-pub tree_of_atom-returns-in_ok-tree-in-Some-clause-built : goal.tree_of_atom-returns-in_ok-tree-in-Some-clause-built
-tree_of_atom-returns-in_ok-tree-in-Some-clause-built t c =
+pub add_atom-returns-in_ok-add_definition-in-Some-clause-added : goal.add_atom-returns-in_ok-add_definition-in-Some-clause-added
+add_atom-returns-in_ok-add_definition-in-Some-clause-added t c =
     let context = c.args.context.now in
     let n = named context c.args.leaves.now c.in-Name.name c.in-Some.variable.now c.requires.ready c.in-Some.ensures in
     let e : atom_tree c.args.atom.now ≡ name c.in-Name.name = let i = c.in-Name.is in ap atom_tree i ∙ atom_of_name c.in-Name.name in
-    subst (λ m. Builds context c.args.self.now c.definition.new.self m c.in_ok-tree-in-Some.tree)
-    (sym (ap (meaning_of_atom (context_of context)) e ∙ n.means)) (c.in_ok-tree-in-Some.ensures.built n.expr n.assigned)
+    let own = c.in_ok-add_definition-in-Some.ensures.added n.expr n.assigned in
+    subst (λ m. AddsTree context c.args.self.now c.add_definition.new.self m c.args.trees.now.items c.add_definition.new.trees.items)
+    (sym (ap (meaning_of_atom (context_of context)) e ∙ n.means)) (record { tree = own.tree; is = own.is; built = own.built })
 
-pub tree_of_atom-returns-in-None-clause-built : goal.tree_of_atom-returns-in-None-clause-built
-tree_of_atom-returns-in-None-clause-built t c =
+pub add_atom-returns-in_ok-add_no_tree-in-None-clause-added : goal.add_atom-returns-in_ok-add_no_tree-in-None-clause-added
+add_atom-returns-in_ok-add_no_tree-in-None-clause-added t c =
     let context = c.args.context.now in
     let never = unnamed context c.args.leaves.now c.in-Name.name c.requires.ready c.in-None.ensures in
     let e : atom_tree c.args.atom.now ≡ name c.in-Name.name = let i = c.in-Name.is in ap atom_tree i ∙ atom_of_name c.in-Name.name in
-    subst (λ m. Builds context c.args.self.now c.args.self.now m c.no_tree.result) (sym (ap (meaning_of_atom (context_of context)) e ∙ never))
-    (never_built (files_of context) (sets_of context c.args.self.now.rows.items) c.no_tree.result c.no_tree.ensures.tree c.no_tree.ensures.numbers)
+    subst (λ m. AddsTree context c.args.self.now c.args.self.now m c.args.trees.now.items c.add_no_tree.new.trees.items)
+    (sym (ap (meaning_of_atom (context_of context)) e ∙ never)) (never_added context c.args.self.now _ _ c.in_ok-add_no_tree-in-None.ensures)
