@@ -1,5 +1,6 @@
 pub mod Truth
 pub mod RangeLemmas
+pub mod KindLemmas
 pub mod ListLemmas
 pub mod NoteLemmas
 pub mod TargetLemmas
@@ -8,6 +9,8 @@ pub mod MoveLemmas
 pub mod RowLemmas
 pub mod PairLemmas
 pub mod FrontLemmas
+pub mod ShortLemmas
 pub mod SearchLemmas
 pub mod StepLemmas
+pub mod ShortSearchLemmas
 pub mod PartLemmas

@@ -14,8 +14,10 @@ use Rattle.rbbi_model.specs.SafePairs.{stored_bit}
 use Rattle.rbbi_model.specs.ValidTables.{AreValidRanges, AreValidLists, AreValidRows, AreFronted, AreValidSafePairs, IsValidTable}
 use Rattle.rbbi_table.specs.Parts.{HasFittingParts, rows_of}
 use Rattle.rbbi_table.specs.Pairs.{ArePairsOf}
-use Rattle.rbbi_table.specs.Blocks.{AreBlocks}
-use Rattle.rbbi_table.specs.Kept.{AreMoves, IsKept}
+use Rattle.rbbi_table.specs.Blocks.{AreBlocks, in_block}
+use Rattle.rbbi_table.specs.Kept.{AreMoves, IsWholeKept}
+use Rattle.rbbi_table.specs.Short.{short_stride, AreShortMoves, AreNear}
+use Rattle.rbbi_model.proofs.Categories.{category_within}
 use Rattle.rbbi_model.proofs.Bits.{has_bit_is}
 
 pub all_bytes : (bytes : List ℕ) → ((i : ℕ) → get_or bytes i 0 < 256) → AllByRecursion (λ byte. byte < 256) bytes
@@ -45,18 +47,42 @@ valid_table {table} {bytes} fitting checked same =
       safe = record { exactly = own.pairs.exactly; filling = own.pairs.filling };
     }
 
-pub kept_of : {table : Table} {numbers kept moves : List ℕ} → IsValidTable table → AreBlocks table.ranges numbers kept →
-    AreMoves (rows_of table.categories table.rows table.cells []) moves → IsKept table numbers kept moves
-kept_of valid blocks own = record {
+moves_kept : {table : Table} {moves : List ℕ} → AreMoves (rows_of table.categories table.rows table.cells []) moves → AreMoves table moves
+moves_kept own = record {
+  all = own.all;
+  rows = λ row short.
+      let has = own.rows row short in
+      record { each = has.each; fronts = has.fronts; list = has.list; accept = has.accept };
+}
+
+short_kept : {table : Table} {moves : List ℕ} → table.slashes ≡ 0 → AreShortMoves (rows_of table.categories table.rows table.cells []) moves →
+    AreShortMoves table moves
+short_kept none own = record {
+  none = none;
+  all = own.all;
+  small = own.small;
+  rows = λ row short.
+      let has = own.rows row short in
+      record { list = has.list; each = has.each; kinds = has.kinds };
+}
+
+pub kept_of : {table : Table} {numbers kept moves short near : List ℕ} {start : ℕ} → IsValidTable table → AreBlocks table.ranges numbers kept →
+    (length short ≡ 0 → AreMoves (rows_of table.categories table.rows table.cells []) moves) →
+    (0 < length short → (table.slashes ≡ 0) × AreShortMoves (rows_of table.categories table.rows table.cells []) short) →
+    AreNear numbers kept near → start ≡ short_stride table → IsWholeKept table numbers kept moves short near start
+kept_of valid blocks moves short near start = record {
   valid = valid;
   in_blocks = blocks;
-  in_moves = record {
-    all = own.all;
-    rows = λ row short.
-        let has = own.rows row short in
-        record { each = has.each; fronts = has.fronts; list = has.list; accept = has.accept };
-  };
+  in_moves = λ none. moves_kept (moves none);
+  in_short = λ some. record { valid = valid; in_blocks = blocks; in_moves = short_kept (short some).0 (short some).1; in_near = near };
+  start_is = start;
 }
+
+-- the blocks give each code point one of the categories
+pub near_within : (table : Table) (numbers kept : List ℕ) → AreValidRanges table.categories table.ranges → AreBlocks table.ranges numbers kept → (c : ℕ) →
+    c < 131072 → in_block numbers kept c < table.categories
+near_within table numbers kept ranges blocks c low =
+    subst (λ n. n < table.categories) (sym (blocks.same c (omega (arith, low)))) (category_within table.categories table.ranges c ranges)
 
 same_bit : (m n k : ℕ) → has_bit m k ≡ has_bit n k → bit_at m k ≡ bit_at n k
 same_bit m n k is =

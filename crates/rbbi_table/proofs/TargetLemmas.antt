@@ -1,12 +1,10 @@
 -- The rows that the first open rows lead to, and the rows that are gathered.
-use Rattle.std.proofs.Common.{◌≡◌, ℕ, suc, zero, ◌+◌, ◌<◌, ◌≤◌, Bool, true, false, cond, List, [], ◌∷◌, ◌++◌, length, get_or, set}
-use Rattle.std.proofs.Common.{replicate, slice_index, sym, refl, ap, ◌∙◌, subst, ⊎_elim, arith}
-use Rattle.std.specs.List.{count_by}
-use Rattle.std.proofs.lemmas.Bool.{cases_eq, false≢true}
-use Rattle.std.proofs.lemmas.List.{get_or-set_other, get_or_append_left, get_or_push, length_push, length-set, get_or-replicate}
-use Rattle.std.proofs.lemmas.List.{length-replicate}
+use Rattle.std.proofs.Common.{◌≡◌, ℕ, ◌+◌, ◌<◌, Bool, true, false, cond, List, [], ◌∷◌, ◌++◌, length, get_or, set}
+use Rattle.std.proofs.Common.{slice_index, sym, refl, ap, ◌∙◌, ⊎_elim, arith}
+use Rattle.std.proofs.lemmas.Bool.{cases_eq}
+use Rattle.std.proofs.lemmas.List.{get_or-set_other, get_or_append_left, get_or_push, length_push, length-set}
 use Rattle.std.proofs.lemmas.List.Sums.{sum_by-set}
-use Rattle.rbbi_model.specs.Tables.{Table, step, accept_of}
+use Rattle.rbbi_model.specs.Tables.{Table, step}
 use Rattle.rbbi_model.specs.SafePairs.{IsOpen}
 use Rattle.rbbi_table.specs.inner.Targets.{IsGathered, AddsTarget}
 

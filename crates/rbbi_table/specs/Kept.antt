@@ -4,6 +4,7 @@ use Rattle.std.specs.Prelude.{if◌then◌else◌, ◌==◌, nat_le}
 use Rattle.rbbi_model.specs.Tables.{Table, RowHead, head_of, accept_of, fronts_of, list_of, step}
 use Rattle.rbbi_model.specs.ValidTables.{IsValidTable}
 use Rattle.rbbi_table.specs.Blocks.{AreBlocks}
+use Rattle.rbbi_table.specs.Short.{short_stride, IsShortKept}
 
 -- how many numbers of the flat list belong to a row
 abbrev pub stride : Table → ℕ
@@ -43,3 +44,11 @@ pub record IsKept (table : Table) (numbers kept moves : List ℕ) : Type 0 where
   pub valid : IsValidTable table
   pub in_blocks : AreBlocks table.ranges numbers kept
   pub in_moves : AreMoves table moves
+
+-- The table is valid, and what is kept beside it is its own: the rows in the short list, or if that is empty in the other.
+pub record IsWholeKept (table : Table) (numbers kept moves short near : List ℕ) (start : ℕ) : Type 0 where
+  pub valid : IsValidTable table
+  pub in_blocks : AreBlocks table.ranges numbers kept
+  pub in_moves : length short ≡ 0 → AreMoves table moves
+  pub in_short : 0 < length short → IsShortKept table numbers kept short near
+  pub start_is : start ≡ short_stride table

@@ -4,4 +4,6 @@ pub mod Answers
 pub mod Pairs
 pub mod Blocks
 pub mod Kept
+pub mod Kinds
+pub mod Short
 pub mod inner

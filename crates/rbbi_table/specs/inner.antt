@@ -4,3 +4,4 @@ pub mod Fronts
 pub mod Targets
 pub mod Ranges
 pub mod Moves
+pub mod Searching

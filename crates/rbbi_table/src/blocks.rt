@@ -11,7 +11,7 @@ use crate::limits::LAST_CODE_POINT;
 use std::alloc::{AllocError, Global};
 
 /// How many code points a block has.
-const BLOCK: usize = 256;
+pub(crate) const BLOCK: usize = 256;
 
 /// How many blocks the code points have.
 const BLOCKS: usize = (LAST_CODE_POINT as usize + 1) / BLOCK;

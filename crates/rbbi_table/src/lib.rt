@@ -9,6 +9,7 @@ mod blocks;
 mod error;
 mod fronts;
 mod gather;
+mod kinds;
 mod limits;
 mod list;
 mod lists;
@@ -19,6 +20,8 @@ mod ranges;
 mod rows;
 mod safe;
 mod search;
+mod short;
+mod short_search;
 mod table;
 #[cfg(test)]
 mod tests;

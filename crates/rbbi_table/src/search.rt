@@ -7,6 +7,7 @@ ghost use Rattle.rbbi_table.specs.Kept.{IsKept};
 use crate::blocks::look_up;
 use crate::marks::note;
 use crate::moves::{ACCEPT, FRONTS, HEAD, LIST};
+use crate::short_search::short_search;
 use crate::{Blocks, Marks, Parts, Table};
 use rbbi_text::{Chars, Steps};
 use std::sync::ledger::Ledger;
@@ -25,7 +26,7 @@ pub struct Found {
 
 /// The longest match, or if none was seen, one character with list 0. `end` is the place at which a
 /// rule ended last, or `s` if none did.
-fn longest(s: u32, end: u32, status: u16, look: u32) -> Found
+pub(crate) fn longest(s: u32, end: u32, status: u16, look: u32) -> Found
     requires { s < 2 ^ 31 }
     ensures at { result.at ≡ (if nat_lt s end then end else s + 1) }
     ensures status { result.status ≡ (if nat_lt s end then status else 0) }
@@ -47,6 +48,7 @@ fn longest(s: u32, end: u32, status: u16, look: u32) -> Found
 }
 
 /// The search of `Table::next`, over the lists that it reads.
+#[inline(never)]
 fn search<T: Chars, L: Ledger>(
     parts: &Parts,
     blocks: &Blocks,
@@ -110,6 +112,7 @@ impl Table {
     /// its front ended. Otherwise it is the last place at which a rule ended, or comes after one
     /// character (ICU User Guide, "Break Rules"). Each character from `s` to the look end is read
     /// once, and no memory is taken.
+    #[inline]
     pub fn next<T: Chars, L: Ledger>(
         &self,
         text: &T,
@@ -127,6 +130,19 @@ impl Table {
             (length (T.characters text.now)) - s) }
         ensures fit { marks.new ≡ marks.old }
     {
+        if !self.short.moves.is_empty() {
+            return short_search(
+                &self.parts,
+                &self.blocks.numbers,
+                &self.blocks.categories,
+                &self.short.near,
+                &self.short.moves,
+                self.short.start,
+                text,
+                s,
+                steps,
+            );
+        }
         search(
             &self.parts,
             &self.blocks,

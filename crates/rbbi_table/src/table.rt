@@ -16,6 +16,7 @@ use crate::parts::copied;
 use crate::ranges::are_valid_ranges;
 use crate::rows::are_valid_rows;
 use crate::safe::{are_same, safe_pairs};
+use crate::short::{Short, short_of};
 use crate::{Blocks, Parts, RangeRow, RowHead, TableErr};
 use std::alloc::Global;
 use std::marker::Model;
@@ -23,12 +24,13 @@ use std::marker::Model;
 /// A valid table. Contracts see it as a `Table` of `rbbi_model`, by its parts.
 ///
 /// Beside the parts it keeps the categories of all code points in blocks, and the rows in one flat
-/// list for the loop of a search.
+/// list for the loop of a search: a short one if the table has no look-ahead rules and isn't large.
 #[derive(Debug, Drop)]
 pub struct Table {
     pub(crate) parts: Parts,
     pub(crate) blocks: Blocks,
     pub(crate) moves: Vec<u32>,
+    pub(crate) short: Short,
 }
 
 impl Model for Table {
@@ -37,12 +39,13 @@ impl Model for Table {
     ghost Value = { Table };
 
     ghost use Rattle.rbbi_table.specs.Parts.{table_of};
-    ghost use Rattle.rbbi_table.specs.Kept.{IsKept};
+    ghost use Rattle.rbbi_table.specs.Kept.{IsWholeKept};
 
     ghost view = { λ table. table_of table.parts };
 
-    ghost invariant = { λ table. IsKept (table_of table.parts) table.blocks.numbers.items
-        table.blocks.categories.items table.moves.items };
+    ghost invariant = { λ table. IsWholeKept (table_of table.parts) table.blocks.numbers.items
+        table.blocks.categories.items table.moves.items
+        table.short.moves.items table.short.near.items table.short.start };
 }
 
 impl Table {
@@ -76,12 +79,19 @@ impl Table {
             return Err(TableErr::BadSafe);
         }
         let blocks = Blocks::new(alloc, parts.ranges.as_slice())?;
-        let moves = moves_of(alloc, parts.categories, rows, cells)?;
+        let (slashes, categories) = (parts.slashes, parts.categories);
+        let short = short_of(alloc, slashes, categories, rows, cells, &blocks)?;
+        let moves = if short.moves.is_empty() {
+            moves_of(alloc, categories, rows, cells)?
+        } else {
+            Vec::new(alloc)
+        };
         let parts = copied(alloc, parts)?;
         Ok(Table {
             parts,
             blocks,
             moves,
+            short,
         })
     }
 

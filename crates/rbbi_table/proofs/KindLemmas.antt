@@ -1,0 +1,52 @@
+-- Kinds of moves.
+use Rattle.std.proofs.Common.{◌≡◌, ℕ, ◌<◌, Bool, true, false, cond, ltb, List, refl, sym, ap, ◌∙◌, subst, arith}
+use Rattle.std.proofs.Math.Bool.{not, beq}
+use Rattle.rbbi_model.specs.Tables.{RowHead}
+use Rattle.rbbi_table.specs.Kinds.{next_of, ends_plainly, AreKinds}
+
+plain_few : (b : Bool) (n : ℕ) → n ≡ cond b 2 3 → n < 4
+plain_few true n is = omega (arith, is)
+plain_few false n is = omega (arith, is)
+
+plain_ends : (b : Bool) (n : ℕ) → n ≡ cond b 2 3 → ltb n 3 ≡ b
+plain_ends true n is = ap (λ k. ltb k 3) is
+plain_ends false n is = ap (λ k. ltb k 3) is
+
+plain_large : (b : Bool) (n : ℕ) → n ≡ cond b 2 3 → 1 < n
+plain_large true n is = omega (arith, is)
+plain_large false n is = omega (arith, is)
+
+-- where all moves are of kind 2 or 3
+pub plain_kinds : {categories : ℕ} {rows : List RowHead} {cells : List ℕ} {row : ℕ} (kind : ℕ → ℕ) →
+    ((k : ℕ) → k < categories → kind k ≡ cond (ends_plainly rows (next_of categories cells row k)) 2 3) → AreKinds categories rows cells kind row
+plain_kinds {categories} {rows} {cells} {row} kind is k short =
+    let ends : Bool = ends_plainly rows (next_of categories cells row k) in
+    record {
+      few = plain_few ends (kind k) (is k short);
+      ends = plain_ends ends (kind k) (is k short);
+      forgets = λ zero. absurd (omega (arith, plain_large ends (kind k) (is k short), zero));
+      stays = λ one. absurd (omega (arith, plain_large ends (kind k) (is k short), one));
+    }
+
+-- kinds that are the same for each category
+pub same_kinds : {categories : ℕ} {rows : List RowHead} {cells : List ℕ} {row : ℕ} (kind kind' : ℕ → ℕ) →
+    ((k : ℕ) → k < categories → kind' k ≡ kind k) → AreKinds categories rows cells kind row → AreKinds categories rows cells kind' row
+same_kinds {categories} {rows} {cells} {row} kind kind' same are k short =
+    let own = are k short in
+    record {
+      few = subst (λ n. n < 4) (sym (same k short)) own.few;
+      ends = ap (λ n. ltb n 3) (same k short) ∙ own.ends;
+      forgets = λ zero d low.
+          let like = own.forgets (sym (same k short) ∙ zero) d low in
+          record {
+            forgets = λ is. like.forgets (sym (same d low) ∙ is);
+            stays = λ is. like.stays (sym (same d low) ∙ is);
+          };
+      stays = λ one. own.stays (sym (same k short) ∙ one);
+    }
+
+pub same_answers : (a b : Bool) → not (beq a b) ≡ false → a ≡ b
+same_answers true true is = refl
+same_answers false false is = refl
+same_answers true false is = cc
+same_answers false true is = cc
