@@ -11,6 +11,7 @@ mod forms;
 mod limits;
 mod pieces;
 mod run;
+mod units;
 
 use rbbi_io::{MemFiles, MemSink};
 use rbbi_text::Steps;
@@ -174,6 +175,14 @@ fn replies(rt: HostRuntime) -> Result<(), Fail> {
 #[test]
 fn replies_by_table(rt: HostRuntime) -> Result<(), Fail> {
     assert_eq!(rt; first_wrong(&rt, run::BY_TABLE)?, None);
+    Ok(())
+}
+
+#[test]
+fn other_units(rt: HostRuntime) -> Result<(), Fail> {
+    for table in units::UNITS {
+        assert_eq!(rt; first_wrong(&rt, *table)?, None, "of {}", table.0);
+    }
     Ok(())
 }
 

@@ -1,17 +1,19 @@
 -- The words of options: where the first `=` of one stands, and that words begin with one row of options alone.
-use Rattle.std.proofs.Common.{◌≡◌, ◌≢◌, ◌≤◌, ◌+◌, ℕ, suc, Bool, true, false, not, cond, eqb, ◌&&◌, List, [], ◌∷◌, ◌++◌, length, take, drop, refl, sym}
+use Rattle.std.proofs.Common.{◌≡◌, ◌≢◌, ◌≤◌, ◌+◌, ℕ, suc, Bool, true, false, not, cond, eqb, ◌&&◌, List, [], ◌∷◌, ◌++◌, length, take, drop, get_or, refl, sym}
 use Rattle.std.proofs.Common.{ap, ◌∙◌, subst, arith}
-use Rattle.std.specs.Prelude.{codes}
+use Rattle.std.specs.Prelude.{codes, bytes_eq, if◌then◌else◌, Option, Some, None}
 use Rattle.std.specs.Char.{is_ascii_alphanumeric}
 use Rattle.std.specs.List.{list_any, list_all, flat_map, AllByRecursion, position_or_len, before_first, after_first}
-use Rattle.std.proofs.lemmas.Bool.{false≢true}
+use Rattle.std.proofs.lemmas.Bool.{false≢true, eq-eqb}
 use Rattle.std.proofs.lemmas.Bool.Decides.{Decides-eqb}
 use Rattle.std.proofs.lemmas.List.{length-append, length-drop, append_assoc, append-nil, drop-drop}
 use Rattle.std.proofs.lemmas.Grind.{flat_map-append}
+use Rattle.rbbi_model.specs.declared.unit.Unit.{Unit as TextUnit}
+use Rattle.rbbi_model.specs.declared.unit.Unit.TheVariants.{Chars, Utf8, Utf16}
 use Rattle.rbbi_command.specs.declared.words.setting.Property.{Property}
 use Rattle.rbbi_command.specs.declared.words.setting.Setting.{Setting}
-use Rattle.rbbi_command.specs.declared.words.setting.Setting.TheVariants.{HandIn, IgnoreDictionary, ByTable}
-use Rattle.rbbi_command.specs.Settings.{is_property_name_byte, IsSetting, spelled, BeginsWithoutOption, BeginWithSettings}
+use Rattle.rbbi_command.specs.declared.words.setting.Setting.TheVariants.{HandIn, IgnoreDictionary, ByTable, CountIn}
+use Rattle.rbbi_command.specs.Settings.{is_property_name_byte, IsSetting, unit_word, spelled, BeginsWithoutOption, BeginWithSettings}
 
 -- both sides of a test hold
 pub and_both : (a b : Bool) → a && b ≡ true → (a ≡ true) × (b ≡ true)
@@ -83,29 +85,60 @@ same_property p q form form' word =
     let file = sym (file_is w p form refl (after_first (λ b. eqb b 61) w) refl) ∙ file_is w q form' word (after_first (λ b. eqb b 61) w) refl in
     λ i. record { name = name i; file = file i }
 
+-- the unit of a word
+abbrev unit_at : List ℕ → Option TextUnit
+unit_at word =
+    if bytes_eq word (codes "chars") then Some Chars
+    else (if bytes_eq word (codes "utf8") then Some Utf8 else (if bytes_eq word (codes "utf16") then Some Utf16 else None))
+
+named_unit : (u : TextUnit) → unit_at (unit_word u) ≡ Some u
+named_unit Chars = refl
+named_unit Utf8 = refl
+named_unit Utf16 = refl
+
+-- a word is that of one unit alone
+same_unit : (u v : TextUnit) → unit_word u ≡ unit_word v → u ≡ v
+same_unit u v same = let both = sym (named_unit u) ∙ ap unit_at same ∙ named_unit v in cc
+
+-- the third byte of the first word, which tells options apart
+third : (w v : List (List ℕ)) → w ≡ v → get_or (get_or w 0 []) 2 0 ≡ get_or (get_or v 0 []) 2 0
+third w v same = ap (λ x. get_or (get_or x 0 []) 2 0) same
+
+differ : (m n : ℕ) → eqb m n ≡ false → m ≡ n → ⊥
+differ m n apart same = false≢true (sym apart ∙ eq-eqb m n same)
+
 -- words begin with one option alone
 pub same_setting : (s t : Setting) (more others : List (List ℕ)) → IsSetting s → IsSetting t → spelled s ++ more ≡ spelled t ++ others → s ≡ t
 same_setting (HandIn p) (HandIn q) more others form form' same = ap HandIn (same_property p q form form' cc)
 same_setting (HandIn p) IgnoreDictionary more others form form' same = absurd cc
 same_setting (HandIn p) ByTable more others form form' same = absurd cc
+same_setting (HandIn p) (CountIn u) more others form form' same = absurd (differ 112 117 refl (third _ _ same))
 same_setting IgnoreDictionary (HandIn p) more others form form' same = absurd cc
 same_setting IgnoreDictionary IgnoreDictionary more others form form' same = refl
 same_setting IgnoreDictionary ByTable more others form form' same = absurd cc
+same_setting IgnoreDictionary (CountIn u) more others form form' same = absurd (differ 105 117 refl (third _ _ same))
 same_setting ByTable (HandIn p) more others form form' same = absurd cc
 same_setting ByTable IgnoreDictionary more others form form' same = absurd cc
 same_setting ByTable ByTable more others form form' same = refl
+same_setting ByTable (CountIn u) more others form form' same = absurd (differ 116 117 refl (third _ _ same))
+same_setting (CountIn u) (HandIn p) more others form form' same = absurd (differ 117 112 refl (third _ _ same))
+same_setting (CountIn u) IgnoreDictionary more others form form' same = absurd (differ 117 105 refl (third _ _ same))
+same_setting (CountIn u) ByTable more others form form' same = absurd (differ 117 116 refl (third _ _ same))
+same_setting (CountIn u) (CountIn v) more others form form' same = ap CountIn (same_unit u v (ap (λ (w : List (List ℕ)). get_or w 1 []) same))
 
 -- an option begins as an option does
 option_begins : (s : Setting) (more : List (List ℕ)) → BeginsWithoutOption (spelled s ++ more) → ⊥
 option_begins (HandIn p) more none = none (codes "prop", refl)
 option_begins IgnoreDictionary more none = none (codes "ignore-dictionary", refl)
 option_begins ByTable more none = none (codes "table", refl)
+option_begins (CountIn u) more none = none (codes "units", refl)
 
 -- what stands behind the same option
 behind_option : (s : Setting) (more others : List (List ℕ)) → spelled s ++ more ≡ spelled s ++ others → more ≡ others
 behind_option (HandIn p) more others same = cc
 behind_option IgnoreDictionary more others same = cc
 behind_option ByTable more others same = cc
+behind_option (CountIn u) more others same = ap (drop 2) same
 
 -- options that words begin with are among those of any other reading of them
 pub further_settings : (ss ts : List Setting) (w v : List (List ℕ)) → AllByRecursion IsSetting ss → AllByRecursion IsSetting ts → BeginsWithoutOption v
@@ -170,6 +203,7 @@ pub some_words : (s : Setting) → 1 ≤ length (spelled s)
 some_words (HandIn p) = omega arith
 some_words IgnoreDictionary = omega arith
 some_words ByTable = omega arith
+some_words (CountIn u) = omega arith
 
 -- an option is no longer than the words that it begins
 pub words_left : (words behind : List (List ℕ)) (s : Setting) (at : ℕ) → at ≤ length words → behind ≡ drop at words

@@ -1,13 +1,15 @@
 -- The options between the word of a command and its first operand.
-use Rattle.std.specs.Prelude.{◌≡◌, ◌≢◌, ℕ, Bool, true, false, not, ◌&&◌, ◌||◌, ◌==◌, nat_le, if◌then◌else◌, List, [], ◌∷◌, ◌++◌, length, codes, count_by}
-use Rattle.std.specs.Prelude.{filter_map, Option, Some, None}
+use Rattle.std.specs.Prelude.{◌≡◌, ◌≢◌, ℕ, ◌-◌, Bool, true, false, not, ◌&&◌, ◌||◌, ◌==◌, nat_le, if◌then◌else◌, List, [], ◌∷◌, ◌++◌, length, codes, count_by}
+use Rattle.std.specs.Prelude.{filter_map, fold, Option, Some, None, unwrap_or}
 use Rattle.std.specs.List.{list_any, list_all, flat_map, AllByRecursion}
 use Rattle.std.specs.Char.{is_ascii_alphanumeric}
+use Rattle.rbbi_model.specs.declared.unit.Unit.{Unit as TextUnit}
+use Rattle.rbbi_model.specs.declared.unit.Unit.TheVariants.{Chars, Utf8, Utf16}
 use Rattle.rbbi_command.specs.declared.words.setting.Property.{Property}
 use Rattle.rbbi_command.specs.declared.words.setting.Setting.{Setting}
-use Rattle.rbbi_command.specs.declared.words.setting.Setting.TheVariants.{HandIn, IgnoreDictionary, ByTable}
+use Rattle.rbbi_command.specs.declared.words.setting.Setting.TheVariants.{HandIn, IgnoreDictionary, ByTable, CountIn}
 use Rattle.rbbi_command.specs.declared.words.command.Takes.{Takes}
-use Rattle.rbbi_command.specs.declared.words.command.Takes.TheVariants.{NoOptions, RuleOptions, RuleOptionsOrTable}
+use Rattle.rbbi_command.specs.declared.words.command.Takes.TheVariants.{NoOptions, RuleOptions, RuleOptionsOrTable, RuleOptionsOrTableAndUnit}
 
 -- whether a byte may stand in the name of a property: a letter, a digit, a space, `_` or `-`
 abbrev pub is_property_name_byte : ℕ → Bool
@@ -22,62 +24,103 @@ abbrev pub IsSetting : Setting → Type 0
 IsSetting (HandIn property) = (is_property_name property.name ≡ true) × (property.file ≢ [])
 IsSetting IgnoreDictionary = Unit {0}
 IsSetting ByTable = Unit {0}
+IsSetting (CountIn unit) = Unit {0}
+
+-- the word of a unit
+abbrev pub unit_word : TextUnit → List ℕ
+unit_word Chars = codes "chars"
+unit_word Utf8 = codes "utf8"
+unit_word Utf16 = codes "utf16"
 
 -- the words of an option. The name of a property has no `=`, so the first one ends it.
 abbrev pub spelled : Setting → List (List ℕ)
 spelled (HandIn property) = codes "--prop" ∷ (property.name ++ 61 ∷ property.file) ∷ []
 spelled IgnoreDictionary = codes "--ignore-dictionary" ∷ []
 spelled ByTable = codes "--table" ∷ []
+spelled (CountIn unit) = codes "--units" ∷ unit_word unit ∷ []
 
 -- whether the option hands in a property file
 abbrev pub is_property : Setting → Bool
 is_property (HandIn property) = true
 is_property IgnoreDictionary = false
 is_property ByTable = false
+is_property (CountIn unit) = false
 
 -- the property file that an option hands in
 abbrev pub property_of : Setting → Option Property
 property_of (HandIn property) = Some property
 property_of IgnoreDictionary = None
 property_of ByTable = None
+property_of (CountIn unit) = None
 
 -- whether the option lets `$dictionary` be a variable like others
 abbrev pub is_ignoring : Setting → Bool
 is_ignoring (HandIn property) = false
 is_ignoring IgnoreDictionary = true
 is_ignoring ByTable = false
+is_ignoring (CountIn unit) = false
 
 -- whether the option says that the first operand is a table file
 abbrev pub is_by_table : Setting → Bool
 is_by_table (HandIn property) = false
 is_by_table IgnoreDictionary = false
 is_by_table ByTable = true
+is_by_table (CountIn unit) = false
 
 -- whether one of the options says that the first operand is a table file
 abbrev pub are_by_table : List Setting → Bool
 are_by_table settings = list_any is_by_table settings
 
--- what options come to: the property files that are handed in, whether `$dictionary` is a variable like others, and whether the first
--- operand is a table file
+-- whether the option names a unit
+abbrev pub is_unit : Setting → Bool
+is_unit (HandIn property) = false
+is_unit IgnoreDictionary = false
+is_unit ByTable = false
+is_unit (CountIn unit) = true
+
+-- the unit that an option names
+abbrev pub unit_in : Setting → Option TextUnit
+unit_in (HandIn property) = None
+unit_in IgnoreDictionary = None
+unit_in ByTable = None
+unit_in (CountIn unit) = Some unit
+
+-- the unit that the options name, or characters where none does
+abbrev pub unit_of : List Setting → TextUnit
+unit_of settings = fold (λ unit setting. unwrap_or (unit_in setting) unit) Chars settings
+
+-- what options come to: the property files that are handed in, whether `$dictionary` is a variable like others, whether the first operand
+-- is a table file, and the unit of places, numbers and lengths
 pub record Options : Type 0 where
   pub properties : List Property
   pub ignored : Bool
   pub by_table : Bool
+  pub unit : TextUnit
 
 abbrev pub options_of : List Setting → Options
 options_of settings =
-    record { properties = filter_map property_of settings; ignored = list_any is_ignoring settings; by_table = are_by_table settings }
+    record {
+      properties = filter_map property_of settings;
+      ignored = list_any is_ignoring settings;
+      by_table = are_by_table settings;
+      unit = unit_of settings;
+    }
 
 -- whether there are at most 16 property files, and `$dictionary` is ignored once at most
 abbrev pub are_few : List Setting → Bool
 are_few settings = nat_le (count_by is_property settings) 16 && nat_le (count_by is_ignoring settings) 1
 
--- Whether a command that takes such options takes these: none; those on rule files; or also the one that says that there is a table,
--- which stands alone.
+-- Whether the options say by what boundaries come: a table file, and then of the others the unit alone may be there; or rules.
+abbrev pub are_basis : List Setting → Bool
+are_basis settings = if are_by_table settings then length settings - count_by is_unit settings == 1 else are_few settings
+
+-- Whether a command that takes such options takes these: none; those on rule files; or also the one that says that there is a table; or
+-- one on the unit besides.
 abbrev pub are_taken : Takes → List Setting → Bool
 are_taken NoOptions settings = length settings == 0
-are_taken RuleOptions settings = not (are_by_table settings) && are_few settings
-are_taken RuleOptionsOrTable settings = if are_by_table settings then length settings == 1 else are_few settings
+are_taken RuleOptions settings = not (are_by_table settings) && are_few settings && (count_by is_unit settings == 0)
+are_taken RuleOptionsOrTable settings = are_basis settings && (count_by is_unit settings == 0)
+are_taken RuleOptionsOrTableAndUnit settings = are_basis settings && nat_le (count_by is_unit settings) 1
 
 -- the word begins as an option does
 abbrev pub IsOption : List ℕ → Type 0

@@ -1,5 +1,6 @@
--- The boundaries by a table cover the text.
-use Rattle.std.proofs.Common.{◌≡◌, ℕ, zero, suc, ◌+◌, ◌<◌, ◌≤◌, ltb, List, [], ◌∷◌, length, refl, arith}
+-- The boundaries by a table cover the text, and boundaries that cover a text lie within it.
+use Rattle.std.proofs.Common.{◌≡◌, ℕ, zero, suc, ◌+◌, ◌<◌, ◌≤◌, ltb, List, [], ◌∷◌, length, refl, subst, arith}
+use Rattle.std.specs.List.{AllByRecursion}
 use Rattle.std.proofs.lemmas.Bool.{cond_both, ltb-true, ltb-false}
 use Rattle.rbbi_model.specs.Lists.{IsRising}
 use Rattle.rbbi_model.specs.Boundaries.{Boundary, start}
@@ -32,3 +33,13 @@ table_covers table x =
       rise = follow_rise (next_boundary table x) (length x) (λ s short. found_lies table x s short) (length x) start;
       reach = follow_reach (next_boundary table x) (length x) (λ s short. found_lies table x s short) (length x) start (omega arith) (omega arith);
     }
+
+-- no boundary lies behind the last
+pub none_past_end : (bs : List Boundary) → IsRising (places bs) → AllByRecursion (λ b. b.at ≤ end_of bs) bs
+none_past_end [] rising = tt
+none_past_end (b ∷ []) rising = (omega arith, tt)
+none_past_end (b ∷ c ∷ bs) rising =
+    let further = none_past_end (c ∷ bs) rising.1 in (omega (arith, rising.0, further.0), further)
+
+pub cover_within : (n : ℕ) (bs : List Boundary) → CoverText n bs → AllByRecursion (λ b. b.at ≤ n) bs
+cover_within n bs covers = subst (λ m. AllByRecursion (λ b. b.at ≤ m) bs) covers.reach (none_past_end bs covers.rise)

@@ -31,3 +31,4 @@ pub mod SearchesAlike
 pub mod Bits
 pub mod ListingCosts
 pub mod Measured
+pub mod ByCharacters

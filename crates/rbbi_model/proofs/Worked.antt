@@ -3,11 +3,13 @@ use Rattle.std.proofs.Common.{◌≡◌, ℕ, ◌*◌, true, false, if◌then◌
 use Rattle.std.specs.Prelude.{codes}
 use Rattle.std.specs.Fmt.{digits}
 use lib.Utf8.{encode}
+use Rattle.rbbi_model.specs.declared.unit.Unit.TheVariants.{Chars, Utf8, Utf16}
 use Rattle.rbbi_model.specs.Boundaries.{Boundary}
 use Rattle.rbbi_model.specs.Tables.{Table}
 use Rattle.rbbi_model.specs.Searches.{search_end, look_end, found, table_boundaries}
 use Rattle.rbbi_model.specs.Answers.{Characters, Last, Next, Previous, Following, Preceding, IsBoundary, Current, Status, Statuses, Breaks}
-use Rattle.rbbi_model.specs.Scripts.{Accepted, Ask, Replace, ShowText, table_replies, replies_by, edit, opened}
+use Rattle.rbbi_model.specs.Scripts.{Accepted, Ask, Replace, ShowText, replies_by, edit, opened}
+use Rattle.rbbi_model.specs.Plays.{table_replies}
 use Rattle.rbbi_model.specs.Runs.{is_anchor, Entry, Run, IsTrueRun, ShowsAfter, ShowsBefore}
 use Rattle.rbbi_model.specs.Costs.{forward_cost, tries, back_cost, script_cost}
 use Rattle.rbbi_model.specs.TableFile.{spelling, spelling1}
@@ -80,10 +82,30 @@ unfolding digits
 boundaries_of_ab = refl
 
 -- questions about the empty text
-empty_text : all_reply_lines (table_replies table_a [] (Ask Breaks ∷ Ask (Following 0) ∷ Ask (Preceding 0) ∷ Ask (IsBoundary 0) ∷ Ask Last ∷ []))
+empty_text : all_reply_lines (table_replies table_a Chars [] (Ask Breaks ∷ Ask (Following 0) ∷ Ask (Preceding 0) ∷ Ask (IsBoundary 0) ∷ Ask Last ∷ []))
     ≡ codes "0 0\ndone\ndone\nyes\n0\n"
 unfolding digits
 empty_text = refl
+
+-- `a`, U+00E9, U+1D11E and `b`: questions by bytes and by numbers of 16 bits, an edit inside of a character, and its new lengths
+abbrev four : List ℕ
+four = 0x61 ∷ 0xE9 ∷ 0x1D11E ∷ 0x62 ∷ []
+
+by_bytes : all_reply_lines (table_replies table_a Utf8 four (Ask Breaks ∷ Ask (Following 1) ∷ Ask (IsBoundary 2) ∷ Ask Current ∷ Ask (Preceding 6)
+    ∷ Replace 2 1 [] ∷ Replace 1 2 [] ∷ Replace 6 1 [] ∷ Ask Last ∷ []))
+    ≡ codes "0 0\n1 0\n3 0\n7 0\n8 0\n3\nno\n3\n3\ninside\nok 6\noutside\n6\n"
+unfolding digits
+by_bytes = refl
+
+by_utf16 : all_reply_lines (table_replies table_a Utf16 four (Ask Breaks ∷ Ask (IsBoundary 3) ∷ Ask (Following 3) ∷ Ask (Preceding 3) ∷ []))
+    ≡ codes "0 0\n1 0\n2 0\n4 0\n5 0\nno\n4\n2\n"
+unfolding digits
+by_utf16 = refl
+
+-- what is asked inside of a character costs as much as at the next place
+cost_inside : (script_cost table_a Utf8 four (Ask (IsBoundary 2) ∷ []) ≡ script_cost table_a Chars four (Ask (IsBoundary 2) ∷ [])) ×
+    (script_cost table_a Utf8 four (Ask (Preceding 4) ∷ []) ≡ script_cost table_a Chars four (Ask (Preceding 3) ∷ []))
+cost_inside = (refl, refl)
 
 abbrev bound : ℕ → ℕ → Boundary
 bound at status = record { at = at; statuses = status ∷ [] }
@@ -128,8 +150,8 @@ costs_in_abab : (forward_cost table_a abab 3 ≡ 5) × (tries table_a abab 4 ≡
 costs_in_abab = (refl, refl, refl)
 
 -- a repeated question costs nothing, but where the answer was 0 it is charged again
-cost_of_scripts : (script_cost table_a ab (Ask (Following 0) ∷ Ask (Following 0) ∷ ShowText ∷ []) ≡ 5) ×
-    (script_cost table_a ab (Ask (Preceding 1) ∷ Ask (Preceding 1) ∷ []) ≡ 2 * back_cost table_a ab 1)
+cost_of_scripts : (script_cost table_a Chars ab (Ask (Following 0) ∷ Ask (Following 0) ∷ ShowText ∷ []) ≡ 5) ×
+    (script_cost table_a Chars ab (Ask (Preceding 1) ∷ Ask (Preceding 1) ∷ []) ≡ 2 * back_cost table_a ab 1)
 cost_of_scripts = (refl, refl)
 
 -- the table of the rules `a+ / b; b;`

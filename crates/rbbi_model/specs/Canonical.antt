@@ -1,6 +1,6 @@
 -- The canonical table: of all that have the same marks after every word, the one that is written.
-use Rattle.std.specs.Prelude.{◌≡◌, ℕ, ◌+◌, ◌^◌, ◌<◌, ◌≤◌, ◌↔◌, List, length, slice_index}
-use Rattle.rbbi_model.specs.Words.{IsCodePoint, IsSurrogate, IsWord}
+use Rattle.std.specs.Prelude.{◌≡◌, ◌≢◌, ℕ, ◌+◌, ◌^◌, ◌<◌, ◌≤◌, ◌⊎◌, ◌↔◌, List, [], length, slice_index}
+use Rattle.rbbi_model.specs.Words.{IsCodePoint, IsSurrogate, IsWord, IsText}
 use Rattle.rbbi_model.specs.Tables.{Table, accept_of, fronts_of, step, row_after, category_of}
 use Rattle.rbbi_model.specs.ValidTables.{IsValidTable}
 use Rattle.rbbi_model.specs.Marks.{marks_of}
@@ -37,3 +37,16 @@ pub record IsCanonical (table canonical : Table) : Type 0 where
   pub slashes : AllowsSlashes canonical canonical.slashes
   pub few_slashes : (k : ℕ) → AllowsSlashes canonical k → canonical.slashes ≤ k
   pub two_rows : length canonical.rows ≡ 2 → (canonical.categories ≡ 1) × (step canonical 1 0 ≡ 0)
+
+-- What is asked of a table of which a canonical one is made: it is least, each category holds a code point, all surrogates are in
+-- category 0, and every row leads to row 0 after category 0, or the table has two rows.
+pub record HasCanonical (table : Table) : Type 0 where
+  pub least : IsLeast table
+  pub used : (category : ℕ) → category < table.categories → (c : ℕ) × IsCodePoint c × (category_of table.ranges c ≡ category)
+  pub surrogates : (c : ℕ) → IsSurrogate c → category_of table.ranges c ≡ 0
+  pub stops : ((row : ℕ) → row < length table.rows → step table row 0 ≡ 0) ⊎ (length table.rows ≡ 2)
+
+-- after every text that isn't empty both tables have the same marks
+abbrev pub AreMarkedAlike : Table → Table → Type 0
+AreMarkedAlike these those =
+    (w : List ℕ) → IsText w → w ≢ [] → marks_of these (row_after these w) ≡ marks_of those (row_after those w)

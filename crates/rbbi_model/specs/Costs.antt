@@ -2,13 +2,16 @@
 use Rattle.std.specs.Prelude.{ℕ, zero, suc, ◌+◌, ◌-◌, ◌*◌, min, Bool, false, not, ◌&&◌, ◌||◌, List, [], ◌∷◌, length, filter, sum_by, Option, Some, None}
 use Rattle.std.specs.Prelude.{unwrap_or, if◌then◌else◌, ◌==◌, nat_lt, nat_le}
 use Rattle.std.specs.List.{list_any}
+use Rattle.rbbi_model.specs.declared.unit.Unit.{Unit as TextUnit}
 use Rattle.rbbi_model.specs.Places.{greatest_below}
 use Rattle.rbbi_model.specs.Boundaries.{Boundary}
 use Rattle.rbbi_model.specs.Tables.{Table}
 use Rattle.rbbi_model.specs.Searches.{look_end, fresh, table_boundaries}
 use Rattle.rbbi_model.specs.Runs.{is_anchor}
 use Rattle.rbbi_model.specs.Answers.{Question, First, Last, Next, Previous, Following, Preceding, IsBoundary, Current, Status, Statuses, Breaks, Reply, Place}
-use Rattle.rbbi_model.specs.Scripts.{Command, Ask, Replace, ShowText, State, Turn, turn, opened}
+use Rattle.rbbi_model.specs.Scripts.{Command, Ask, Replace, ShowText, State, Turn, opened}
+use Rattle.rbbi_model.specs.UnitAnswers.{place_before, in_characters}
+use Rattle.rbbi_model.specs.Plays.{table_turn}
 
 -- the greatest anchor below a place, or 0
 abbrev pub anchor_below : Table → List ℕ → ℕ → ℕ
@@ -98,11 +101,12 @@ question_cost table x cursor Breaks = breaks_cost table x cursor
 abbrev pub edit_cost : ℕ
 edit_cost = 1026
 
--- the cost of a command
-abbrev pub command_cost : Table → State → Command → ℕ
-command_cost table state (Ask question) = question_cost table state.text state.cursor question
-command_cost table state (Replace at removed inserted) = edit_cost
-command_cost table state ShowText = length state.text
+-- the cost of a command, where places and lengths count the unit: that of what its question asks in characters, from the cursor's place
+abbrev pub command_cost : Table → TextUnit → State → Command → ℕ
+command_cost table unit state (Ask question) =
+    question_cost table state.text (place_before unit state.text state.cursor) (in_characters unit state.text question)
+command_cost table unit state (Replace at removed inserted) = edit_cost
+command_cost table unit state ShowText = length state.text
 
 -- the question asks the same of the same place, and its answer is kept
 abbrev pub is_same_question : Question → Question → Bool
@@ -134,7 +138,11 @@ module _ (perform : State → Command → Turn) (cost : State → Command → �
   costs_by state before (command ∷ commands) =
       charge_by state before command + costs_by (perform state command).state (Some command) commands
 
--- the cost of a script, by characters, over the text and the cursor of each moment
-abbrev pub script_cost : Table → List ℕ → List Command → ℕ
-script_cost table x commands =
-    costs_by (λ state command. turn (table_boundaries table state.text) state command) (command_cost table) (opened x) None commands
+-- The costs of commands from a state on, each over the text and the cursor of its moment. A question that repeats the one directly
+-- before it costs nothing, unless it asks for the last boundary before a place and the answer is 0.
+abbrev pub commands_cost : Table → TextUnit → State → List Command → ℕ
+commands_cost table unit state commands = costs_by (table_turn table unit) (command_cost table unit) state None commands
+
+-- the cost of a script
+abbrev pub script_cost : Table → TextUnit → List ℕ → List Command → ℕ
+script_cost table unit x commands = commands_cost table unit (opened x) commands

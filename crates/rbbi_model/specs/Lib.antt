@@ -25,4 +25,5 @@ pub mod Costs
 pub mod TableFile
 pub mod Units
 pub mod UnitAnswers
+pub mod Plays
 pub mod ReadAlike

@@ -1,10 +1,7 @@
--- Edits of a text, and the replies to the commands of a script.
+-- Edits of a text, and the replies to the commands of a script, by what an edit comes to.
 use Rattle.std.specs.Prelude.{◌≡◌, ℕ, ◌+◌, ◌-◌, List, [], ◌∷◌, ◌++◌, length, take, drop, if◌then◌else◌, nat_lt}
 use Rattle.rbbi_model.specs.Words.{IsText, most_characters}
-use Rattle.rbbi_model.specs.Rules.{Rule}
-use Rattle.rbbi_model.specs.Boundaries.{Boundary, AreBoundaries}
-use Rattle.rbbi_model.specs.Tables.{Table}
-use Rattle.rbbi_model.specs.Searches.{table_boundaries}
+use Rattle.rbbi_model.specs.Boundaries.{Boundary}
 use Rattle.rbbi_model.specs.Answers.{Question, Reply, Edited, Outside, TooLong, Characters, Answer, answer}
 
 -- the text with a word in place of so many characters from a place
@@ -74,18 +71,6 @@ module _ (edit_by : List ℕ → ℕ → ℕ → List ℕ → Edit) where
   replies_by boundaries_of state [] = []
   replies_by boundaries_of state (command ∷ commands) =
       (turn_by (boundaries_of state.text) state command).reply ∷ replies_by boundaries_of (turn_by (boundaries_of state.text) state command).state commands
-
--- the command performed, by characters
-abbrev pub turn : List Boundary → State → Command → Turn
-turn boundaries state command = turn_by edit boundaries state command
-
--- the replies to a script's commands over the boundaries by the rules
-abbrev pub AreReplies : List Rule → List ℕ → List Command → List Reply → Type 0
-AreReplies rules x commands replies = AreRepliesBy edit (AreBoundaries rules) (opened x) commands replies
-
--- the replies to a script's commands over the boundaries by a table
-abbrev pub table_replies : Table → List ℕ → List Command → List Reply
-table_replies table x commands = replies_by edit (table_boundaries table) (opened x) commands
 
 -- what the command puts into the text, if anything, is a text
 abbrev pub InsertsText : Command → Type 0

@@ -1,16 +1,12 @@
--- Questions, edits, scripts and costs where places and lengths count a unit.
-use Rattle.std.specs.Prelude.{◌≡◌, ℕ, ◌+◌, ◌-◌, List, length, Option, Some, None, unwrap_or, if◌then◌else◌, ◌==◌, nat_lt, nat_le}
+-- What a question asks in characters, and what an edit comes to, where places and lengths count a unit.
+use Rattle.std.specs.Prelude.{ℕ, ◌+◌, ◌-◌, List, length, Option, Some, None, unwrap_or, if◌then◌else◌, ◌==◌, nat_lt, nat_le}
 use Rattle.rbbi_model.specs.declared.unit.Unit.{Unit as TextUnit}
 use Rattle.rbbi_model.specs.Words.{most_characters}
 use Rattle.rbbi_model.specs.Places.{least_from, greatest_below}
-use Rattle.rbbi_model.specs.Rules.{Rule}
-use Rattle.rbbi_model.specs.Boundaries.{Boundary, AreBoundaries}
-use Rattle.rbbi_model.specs.Tables.{Table}
-use Rattle.rbbi_model.specs.Searches.{table_boundaries}
-use Rattle.rbbi_model.specs.Units.{offset_of, measured}
+use Rattle.rbbi_model.specs.Units.{offset_of}
 use Rattle.rbbi_model.specs.Answers.{Question, First, Last, Next, Previous, Following, Preceding, IsBoundary, Current, Status, Statuses, Breaks}
-use Rattle.rbbi_model.specs.Answers.{Reply, Outside, Inside, TooLong}
-use Rattle.rbbi_model.specs.Scripts.{Command, Edit, Refused, Accepted, State, Turn, splice, opened, turn_by, AreRepliesBy, replies_by}
+use Rattle.rbbi_model.specs.Answers.{Outside, Inside, TooLong}
+use Rattle.rbbi_model.specs.Scripts.{Edit, Refused, Accepted, splice}
 
 -- the greatest place that doesn't lie past the offset
 abbrev pub place_before : TextUnit → List ℕ → ℕ → ℕ

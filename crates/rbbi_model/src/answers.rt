@@ -1,4 +1,4 @@
-//! Laws of answers and of the replies to a script.
+//! Laws of answers and of the replies to a script, by any unit.
 
 ghost use Rattle.std.specs.Prelude.{◌≡◌, ℕ, List, length};
 ghost use Rattle.rbbi_model.specs.Rules.{Rule};
@@ -9,7 +9,9 @@ ghost use Rattle.rbbi_model.specs.Answers.{Question, Reply, answer};
 ghost use Rattle.std.specs.List.{AllByRecursion};
 ghost use Rattle.rbbi_model.specs.Words.{IsText};
 ghost use Rattle.rbbi_model.specs.Compiled.{GivesBoundaries};
-ghost use Rattle.rbbi_model.specs.Scripts.{Command, AreReplies, table_replies, InsertsText};
+ghost use Rattle.rbbi_model.specs.declared.unit.Unit.{Unit as TextUnit};
+ghost use Rattle.rbbi_model.specs.Scripts.{Command, InsertsText};
+ghost use Rattle.rbbi_model.specs.Plays.{AreReplies, table_replies};
 
 /// After each question the cursor is a boundary, where it was one before.
 pub fn cursor_is_a_boundary()
@@ -20,26 +22,28 @@ pub fn cursor_is_a_boundary()
 
 /// There is one reply for each command, over the boundaries by rules.
 pub fn one_reply_for_each_command()
-    ensures { (rules : List Rule) (x : List ℕ) (commands : List Command) (replies : List Reply) →
-        AreReplies rules x commands replies → length replies ≡ length commands }
+    ensures { (rules : List Rule) (unit : TextUnit) (x : List ℕ) (commands : List Command)
+        (replies : List Reply) →
+        AreReplies rules unit x commands replies → length replies ≡ length commands }
 {}
 
 /// There is one reply for each command, over the boundaries by a table.
 pub fn one_table_reply_for_each_command()
-    ensures { (table : Table) (x : List ℕ) (commands : List Command) →
-        length (table_replies table x commands) ≡ length commands }
+    ensures { (table : Table) (unit : TextUnit) (x : List ℕ) (commands : List Command) →
+        length (table_replies table unit x commands) ≡ length commands }
 {}
 
 /// The replies to a script over the boundaries by rules are determined.
 pub fn replies_are_unique()
-    ensures { (rules : List Rule) (x : List ℕ) (commands : List Command) (these those : List Reply)
-        →
-        AreReplies rules x commands these → AreReplies rules x commands those → these ≡ those }
+    ensures { (rules : List Rule) (unit : TextUnit) (x : List ℕ) (commands : List Command)
+        (these those : List Reply) → AreReplies rules unit x commands these
+        → AreReplies rules unit x commands those → these ≡ those }
 {}
 
 /// A table that gives the boundaries by rules gives the replies by them too, whatever is edited.
 pub fn table_replies_are_those_of_the_rules()
     ensures { (table : Table) (rules : List Rule) → GivesBoundaries table rules →
-        (x : List ℕ) (commands : List Command) → IsText x → AllByRecursion InsertsText commands →
-        AreReplies rules x commands (table_replies table x commands) }
+        (unit : TextUnit) (x : List ℕ) (commands : List Command) → IsText x →
+        AllByRecursion InsertsText commands →
+        AreReplies rules unit x commands (table_replies table unit x commands) }
 {}

@@ -7,6 +7,7 @@
 
 mod answers;
 mod boundaries;
+mod by_characters;
 mod compiled;
 mod costs;
 mod lines;
@@ -26,6 +27,7 @@ pub use answers::{
     replies_are_unique, table_replies_are_those_of_the_rules,
 };
 pub use boundaries::boundaries_cover_the_text;
+pub use by_characters::{boundaries_by_characters, edits_by_characters, replies_by_characters};
 pub use compiled::{marks_are_unique, same_marks_give_the_boundaries};
 pub use costs::tries_end_settled;
 pub use lines::decimal_is_the_printed_form;

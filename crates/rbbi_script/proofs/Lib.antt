@@ -6,7 +6,9 @@ pub mod Performed
 pub mod Listed
 pub mod ListingRuns
 pub mod ListingCosts
+pub mod ListingUnits
 pub mod Recalled
 pub mod Played
 pub mod OneCommand
 pub mod OneScript
+mod JoinedStatuses

@@ -1,5 +1,5 @@
 -- What listing all boundaries asks of the kept runs.
-use Rattle.std.proofs.Common.{◌≡◌, ℕ, suc, zero, List, [], ◌∷◌, ◌++◌, Result, Ok, Err, sym, refl, ap, ◌∙◌, subst}
+use Rattle.std.proofs.Common.{◌≡◌, ℕ, List, [], ◌∷◌, ◌++◌, Result, Ok, Err, sym, refl, ap, ◌∙◌, subst}
 use Rattle.std.proofs.lemmas.List.{map-append}
 use Rattle.rbbi_model.specs.Boundaries.{Boundary}
 use Rattle.rbbi_model.specs.Tables.{Table}
@@ -10,6 +10,7 @@ use Rattle.rbbi_session.specs.Questions.{Sent, sent_by}
 use Rattle.rbbi_session.specs.Asking.{Asks}
 use Rattle.rbbi_script.specs.Reading.{IsAskedOf, AreAskedOf, sent_by_nexts, ListsRuns}
 use Rattle.rbbi_script.specs.inner.Reading.{AsksNexts}
+use Rattle.rbbi_script.proofs.Recalled.{whether_sent}
 
 -- a question of a session, whose table, text and cursor are these, is asked of its runs
 pub asked_of : (table : Table) (x : List ℕ) (cursor : ℕ) (old new : Session) (question : Question) (before after : ℕ) → old.table ≡ table →
@@ -48,23 +49,17 @@ module _ (table : Table) (x : List ℕ) where
       (sym (map-append (λ (b : Boundary). sent_by x b.at Next) front (here ∷ [])) ∙ ap (sent_by_nexts x) (sym is))
       (asked_more (sent_by_nexts x front) (sent_by x here.at Next) former between now before middle after are one)
 
--- whether a place is a boundary asks the same wherever the cursor stands
-same_sent : (x : List ℕ) (c d o : ℕ) → sent_by x c (IsBoundary o) ≡ sent_by x d (IsBoundary o)
-same_sent x c d zero = refl
-same_sent x c d (suc o) = refl
-
 -- the boundaries were gone on from, and then the cursor's was asked for
-pub listing_asked : {T E : Type 0} (old now new : Session) (cursor start middle steps : ℕ) (r : Result T E) → now.state.text ≡ old.state.text →
-    now.table ≡ old.table → cursor ≡ old.state.cursor → AsksNexts old r now start middle → Asks now (IsBoundary cursor) new middle steps →
+pub listing_asked : {T E : Type 0} (old now new : Session) (start middle steps : ℕ) (r : Result T E) → now.state.text ≡ old.state.text →
+    now.table ≡ old.table → AsksNexts old r now start middle → Asks now (IsBoundary old.state.cursor) new middle steps →
     ListsRuns old r new start steps
-listing_asked old now new cursor start middle steps r text table same nexts asked = told r nexts
+listing_asked old now new start middle steps r text table nexts asked = told r nexts
   where
     one : IsAskedOf old.table old.state.text (sent_by old.state.text old.state.cursor (IsBoundary old.state.cursor)) now.runs new.runs middle steps
     one =
-        subst (λ c. IsAskedOf old.table old.state.text (sent_by old.state.text old.state.cursor (IsBoundary c)) now.runs new.runs middle steps) same
-        (subst (λ sent. IsAskedOf old.table old.state.text sent now.runs new.runs middle steps)
-        (same_sent old.state.text now.state.cursor old.state.cursor cursor)
-        (asked_of old.table old.state.text now.state.cursor now new (IsBoundary cursor) middle steps table text refl asked))
+        subst (λ sent. IsAskedOf old.table old.state.text sent now.runs new.runs middle steps)
+        (whether_sent old.state.text now.state.cursor old.state.cursor old.state.cursor)
+        (asked_of old.table old.state.text now.state.cursor now new (IsBoundary old.state.cursor) middle steps table text refl asked)
 
     told : {T E : Type 0} (r : Result T E) → AsksNexts old r now start middle → ListsRuns old r new start steps
     told (Ok done) nexts =

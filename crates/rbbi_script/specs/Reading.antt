@@ -1,20 +1,20 @@
 -- What commands read, and what they leave of the kept runs.
-use Rattle.std.specs.Prelude.{◌≡◌, ◌⊎◌, ℕ, ◌≤◌, List, [], ◌∷◌, ◌++◌, length, map, None, Result, Ok, Err}
+use Rattle.std.specs.Prelude.{◌≡◌, ◌⊎◌, ℕ, ◌≤◌, List, [], ◌∷◌, ◌++◌, map, Result, Ok, Err}
 use Rattle.rbbi_model.specs.Boundaries.{Boundary}
 use Rattle.rbbi_model.specs.Tables.{Table}
-use Rattle.rbbi_model.specs.Searches.{table_boundaries}
 use Rattle.rbbi_model.specs.Answers.{Question, Next, IsBoundary, Breaks}
-use Rattle.rbbi_model.specs.Scripts.{Command, Ask, Replace, ShowText, Edit, Refused, Accepted, State, Turn, edit, turn}
-use Rattle.rbbi_model.specs.Costs.{command_cost, costs_by}
+use Rattle.rbbi_model.specs.Scripts.{Command, Ask, Replace, ShowText, Edit, Refused, Accepted}
+use Rattle.rbbi_model.specs.Costs.{command_cost}
 use Rattle.rbbi_model.specs.Runs.{Run}
 use Rattle.rbbi_text.specs.Steps.{RisesUpTo}
 use Rattle.rbbi_session.specs.Sessions.{Session, boundaries_of}
 use Rattle.rbbi_session.specs.Questions.{Sent, sent_by, IsShown, LeavesRuns}
-use Rattle.rbbi_session.specs.Asking.{Asks, IsReadForEdit}
+use Rattle.rbbi_session.specs.UnitSessions.{UnitSession, UnitAsks, state_of}
+use Rattle.rbbi_session.specs.UnitEdits.{edit_of, UnitReadForEdit}
 
 -- the command reads at most its cost, over the text and the cursor before it
-abbrev pub IsPaid : Session → Command → ℕ → ℕ → Type 0
-IsPaid old command before after = RisesUpTo (command_cost old.table old.state command) before after
+abbrev pub IsPaid : UnitSession → Command → ℕ → ℕ → Type 0
+IsPaid old command before after = RisesUpTo (command_cost old.asked.table old.unit (state_of old) command) before after
 
 -- This was asked of the kept runs: nothing was read where a kept run showed the answer, and the runs are left as asking leaves them.
 pub record IsAskedOf (table : Table) (x : List ℕ) (sent : Sent) (former now : List Run) (before after : ℕ) : Type 0 where
@@ -47,32 +47,23 @@ ListsRuns old (Err error) new before after =
 
 -- A question reads nothing where a kept run shows its answer, and leaves of the runs what asking the session leaves. All boundaries
 -- are found by many questions, each of which does so.
-abbrev pub AsksRuns : {T E : Type 0} → Session → Question → Result T E → Session → ℕ → ℕ → Type 0
-AsksRuns old Breaks r new before after = ListsRuns old r new before after
-AsksRuns old question r new before after = Asks old question new before after
+abbrev pub AsksRuns : {T E : Type 0} → UnitSession → Question → Result T E → UnitSession → ℕ → ℕ → Type 0
+AsksRuns old Breaks r new before after = ListsRuns old.asked r new.asked before after
+AsksRuns old question r new before after = UnitAsks old question new before after
 
 -- nothing is read, and the session is as before
-abbrev pub IsUnread : Session → Session → ℕ → ℕ → Type 0
+abbrev pub IsUnread : UnitSession → UnitSession → ℕ → ℕ → Type 0
 IsUnread old new before after = (new ≡ old) × (after ≡ before)
 
 -- An accepted edit leaves of the runs what it doesn't touch. Nothing is read for a refused one, nor for one that memory doesn't suffice for.
-abbrev pub EditsRuns : {T E : Type 0} → Edit → Session → ℕ → ℕ → List ℕ → Result T E → Session → ℕ → ℕ → Type 0
+abbrev pub EditsRuns : {T E : Type 0} → Edit → UnitSession → ℕ → ℕ → List ℕ → Result T E → UnitSession → ℕ → ℕ → Type 0
 EditsRuns (Refused reply) old at removed inserted r new before after = IsUnread old new before after
-EditsRuns (Accepted text length) old at removed inserted (Ok done) new before after = IsReadForEdit old at removed inserted new before after
+EditsRuns (Accepted text length) old at removed inserted (Ok done) new before after = UnitReadForEdit old at removed inserted new before after
 EditsRuns (Accepted text length) old at removed inserted (Err error) new before after =
-    IsReadForEdit old at removed inserted new before after ⊎ IsUnread old new before after
+    UnitReadForEdit old at removed inserted new before after ⊎ IsUnread old new before after
 
 -- what the command leaves of the runs, and where it reads nothing
-abbrev pub TurnsRuns : {T E : Type 0} → Session → Command → Result T E → Session → ℕ → ℕ → Type 0
+abbrev pub TurnsRuns : {T E : Type 0} → UnitSession → Command → Result T E → UnitSession → ℕ → ℕ → Type 0
 TurnsRuns old (Ask question) r new before after = AsksRuns old question r new before after
-TurnsRuns old (Replace at removed inserted) r new before after = EditsRuns (edit old.state.text at removed inserted) old at removed inserted r new before after
+TurnsRuns old (Replace at removed inserted) r new before after = EditsRuns (edit_of old at removed inserted) old at removed inserted r new before after
 TurnsRuns old ShowText r new before after = new ≡ old
-
--- the reply to the command by a table, and the text and the cursor after it
-abbrev pub table_turn : Table → State → Command → Turn
-table_turn table state command = turn (table_boundaries table state.text) state command
-
--- The sum of the costs of the commands from a state on. A question that repeats the one directly before it costs nothing, unless it
--- asks for the last boundary before a place and the answer is 0.
-abbrev pub commands_cost : Table → State → List Command → ℕ
-commands_cost table state commands = costs_by (table_turn table) (command_cost table) state None commands

@@ -1,8 +1,8 @@
 //! A command of a script, and the list of a script's commands.
 use rbbi_text::{Values, Word};
 
-/// A command: a question, an edit, or a request for the text. Places and counts are of characters,
-/// places from 0.
+/// A command: a question, an edit, or a request for the text. Numbers count the unit of the session
+/// that performs it, places from 0.
 #[derive(Debug, Drop)]
 pub enum Command {
     /// To the first boundary.
@@ -25,7 +25,7 @@ pub enum Command {
     Preceding(u32),
     /// Whether a place is a boundary.
     Is(u32),
-    /// The text in place of `remove` characters from `at` on.
+    /// The text in place of so much of the unit from `at` on.
     Replace { at: u32, remove: u32, text: Word },
     /// All boundaries.
     Breaks,

@@ -4,6 +4,7 @@ ghost use Rattle.rbbi_model.specs.Answers.{Breaks, Characters};
 ghost use Rattle.rbbi_model.specs.Scripts.{Ask};
 ghost use Rattle.rbbi_model.specs.Costs.{listing_cost};
 ghost use Rattle.rbbi_model.specs.Lines.{escaped, reply_lines, boundary_lines};
+ghost use Rattle.rbbi_model.specs.Plays.{measured_boundaries};
 ghost use Rattle.rbbi_session.specs.Sessions.{boundaries_of, HasTrueRuns};
 ghost use Rattle.rbbi_text.specs.Appending.{Appends};
 ghost use Rattle.rbbi_script.specs.Performing.{Performs};
@@ -12,23 +13,26 @@ ghost use Rattle.rbbi_script.specs.Reading.{IsPaid};
 ghost use Rattle.rbbi_script.specs.inner.Reading.{AsksNexts};
 ghost use Rattle.rbbi_script.specs.Reading.{ListsRuns};
 
-use rbbi_session::Session;
-use rbbi_text::{Chars, EditText, Steps, append, append_boundary};
+use crate::statuses::say_bound;
+use rbbi_session::UnitSession;
+use rbbi_text::{Chars, Steps, UnitText, append};
 use std::alloc::AllocError;
 use std::sync::ledger::Ledger;
 
 /// Appends a line for each boundary, and leaves the cursor where it was.
-pub(crate) fn say_boundaries<T: EditText, L: Ledger>(
-    session: &mut Session<'_, T>,
+pub(crate) fn say_boundaries<T: UnitText, L: Ledger>(
+    session: &mut UnitSession<'_, T>,
     reply: &mut Vec<u8>,
     steps: &mut Steps<L>,
 ) -> Result<(), AllocError>
     ensures replies { Performs session.old (Ask Breaks) reply.old.items
         result session.new reply.new.items }
     ensures cost { IsPaid session.old (Ask Breaks) steps.old steps.new }
-    ensures runs { ListsRuns session.old result session.new steps.old steps.new }
-    ensures are_true { HasTrueRuns session.new }
+    ensures runs { ListsRuns session.old.asked result session.new.asked steps.old steps.new }
+    ensures are_true { HasTrueRuns session.new.asked }
 {
+    // That the cursor is a boundary is for the proof.
+    session.runs_are_true();
     let cursor = session.current();
     let said = say_each(session, reply, steps);
     session.is_boundary(cursor, steps);
@@ -36,30 +40,35 @@ pub(crate) fn say_boundaries<T: EditText, L: Ledger>(
 }
 
 /// Goes from boundary to boundary, and appends a line for each.
-fn say_each<T: EditText, L: Ledger>(
-    session: &mut Session<'_, T>,
+fn say_each<T: UnitText, L: Ledger>(
+    session: &mut UnitSession<'_, T>,
     reply: &mut Vec<u8>,
     steps: &mut Steps<L>,
 ) -> Result<(), AllocError>
-    ensures lines { Appends reply.old.items (boundary_lines (boundaries_of session.old))
+    ensures lines { Appends reply.old.items (boundary_lines (measured_boundaries
+        session.old.asked.table session.old.unit session.old.asked.state.text))
         result reply.new.items }
-    ensures text { session.new.state.text ≡ session.old.state.text }
-    ensures table { session.new.table ≡ session.old.table }
-    ensures cost { RisesUpTo (listing_cost session.old.table session.old.state.text
-        (boundaries_of session.old)) steps.old steps.new }
-    ensures runs { AsksNexts session.old result session.new steps.old steps.new }
+    ensures text { session.new.asked.state.text ≡ session.old.asked.state.text }
+    ensures table { session.new.asked.table ≡ session.old.asked.table }
+    ensures unit { session.new.unit ≡ session.old.unit }
+    ensures cost { RisesUpTo (listing_cost session.old.asked.table session.old.asked.state.text
+        (boundaries_of session.old.asked)) steps.old steps.new }
+    ensures runs { AsksNexts session.old.asked result session.new.asked steps.old steps.new }
 {
     let mut place = Some(session.first());
+    // That the cursor is a boundary is for the proof, here and after each question.
+    session.runs_are_true();
     while let Some(at) = place {
-        append_boundary(at, session.status_list(), reply)?;
+        say_bound(at, session.status_list(), reply)?;
         place = session.next(steps);
+        session.runs_are_true();
     }
     Ok(())
 }
 
 /// Appends the characters of a text, with `\n`, `\r`, `\t` and `\\` for LF, CR, tab and `\`, and
 /// LF.
-pub(crate) fn say_text<T: Chars, L: Ledger>(
+pub fn say_text<T: Chars, L: Ledger>(
     text: &T,
     reply: &mut Vec<u8>,
     steps: &mut Steps<L>,

@@ -1,6 +1,5 @@
 //! Scripts line by line, and the lines of replies.
-use crate::{Command, Commands, Said, ScriptErr, read_script, say};
-use rbbi_text::{append_boundary, append_statuses};
+use crate::{Command, Commands, Said, ScriptErr, read_script, say, say_bound, say_list};
 use std::alloc::{AllocError, Global};
 use std::process::Abort;
 use std::test::Fail;
@@ -193,9 +192,9 @@ fn lines_of_replies(rt: HostRuntime) -> Result<(), Fail> {
     says(&rt, alloc, Said::Inside, "inside")?;
     says(&rt, alloc, Said::TooLong, "toolong")?;
     let mut reply = Vec::new(alloc);
-    append_statuses(&[3, 5], &mut reply)?;
-    append_statuses(&[0], &mut reply)?;
-    append_boundary(10, &[100, 200], &mut reply)?;
+    say_list(&[3, 5], &mut reply)?;
+    say_list(&[0], &mut reply)?;
+    say_bound(10, &[100, 200], &mut reply)?;
     assert_eq!(rt; reply.as_slice(), b"3,5\n0\n10 100,200\n".as_slice());
     Ok(())
 }

@@ -7,16 +7,16 @@ use Rattle.std.proofs.lemmas.Bool.{cases_Bool, cond-true, cond-false, ltb-true, 
 use Rattle.std.proofs.lemmas.List.{take_more}
 use Rattle.rbbi_model.specs.Places.{largest}
 use Rattle.rbbi_model.specs.Boundaries.{Boundary}
-use Rattle.rbbi_model.specs.Cover.{end_of, IsPlaceOf}
+use Rattle.rbbi_model.specs.Cover.{end_of, IsPlaceOf, CoverText}
 use Rattle.rbbi_model.specs.Tables.{Table}
 use Rattle.rbbi_model.specs.Searches.{table_boundaries}
 use Rattle.rbbi_model.specs.Answers.{Last, Next, Previous, First, Following, Preceding, IsBoundary, Place, Done, Yes, No, first_place, first_after}
 use Rattle.rbbi_model.specs.Answers.{last_before, first_from, is_place_of, moved}
 use Rattle.rbbi_model.proofs.Found.{some_same, none_some}
-use Rattle.rbbi_model.proofs.Covering.{table_covers}
+use Rattle.rbbi_model.proofs.Covering.{table_covers, cover_within}
 use Rattle.rbbi_session.specs.Sessions.{Session, boundaries_of, MovesTo, Answers, test_reply}
 use Rattle.rbbi_session.proofs.Places.{all_through, first_none, last_none}
-use Rattle.rbbi_session.proofs.Rises.{none_past_end, from_is_after, place_is_told}
+use Rattle.rbbi_session.proofs.Rises.{from_is_after, place_is_told}
 
 first_holds : (test : ℕ → Bool) (bs : List Boundary) (p : ℕ) → first_place test bs ≡ Some p → test p ≡ true
 first_holds test [] p is = absurd (none_some p is)
@@ -26,7 +26,8 @@ first_holds test (b ∷ bs) p is =
     (λ fails. first_holds test bs p (sym (cond-false (test b.at) (Some b.at) (first_place test bs) fails) ∙ is))
     (cases_Bool (test b.at))
 
-first_up_to : (test : ℕ → Bool) (bs : List Boundary) (p most : ℕ) → AllByRecursion (λ b. b.at ≤ most) bs → first_place test bs ≡ Some p → p ≤ most
+-- the first boundary that passes a test, where none lies behind another place
+pub first_up_to : (test : ℕ → Bool) (bs : List Boundary) (p most : ℕ) → AllByRecursion (λ b. b.at ≤ most) bs → first_place test bs ≡ Some p → p ≤ most
 first_up_to test [] p most each is = absurd (none_some p is)
 first_up_to test (b ∷ bs) p most each is =
     ⊎_elim
@@ -40,51 +41,50 @@ place_within [] p most each here = absurd here
 place_within (b ∷ bs) p most each here =
     ⊎_elim (λ same. let low : b.at ≤ most = each.0 in omega (arith, same)) (λ later. place_within bs p most each.1 later) here
 
-module _ (table : Table) (x : List ℕ) where
-  -- no boundary lies behind the text
-  pub none_past : AllByRecursion (λ b. b.at ≤ length x) (table_boundaries table x)
-  none_past =
-      subst (λ n. AllByRecursion (λ b. b.at ≤ n) (table_boundaries table x)) (table_covers table x).reach
-      (none_past_end (table_boundaries table x) (table_covers table x).rise)
+module _ (n : ℕ) (bs : List Boundary) (covers : CoverText n bs) where
+  -- no boundary lies behind a text that they cover
+  pub none_behind : AllByRecursion (λ b. b.at ≤ n) bs
+  none_behind = cover_within n bs covers
 
-  none_after : (o : ℕ) → length x ≤ o → first_after (table_boundaries table x) o ≡ None
+  pub none_after : (o : ℕ) → n ≤ o → first_after bs o ≡ None
   none_after o end =
-      first_none (λ p. ltb o p) (table_boundaries table x)
-      (all_through (λ b. b.at ≤ length x) (λ b. ltb o b.at ≡ false) (λ b within. le-ltb o b.at (omega arith)) (table_boundaries table x) none_past)
+      first_none (λ p. ltb o p) bs (all_through (λ b. b.at ≤ n) (λ b. ltb o b.at ≡ false) (λ b within. le-ltb o b.at (omega (arith, within, end))) bs none_behind)
 
-  none_from : (o : ℕ) → length x < o → first_from (table_boundaries table x) o ≡ None
+  pub none_from : (o : ℕ) → n < o → first_from bs o ≡ None
   none_from o end =
-      first_none (λ p. leb o p) (table_boundaries table x)
-      (all_through (λ b. b.at ≤ length x) (λ b. leb o b.at ≡ false) (λ b within. lt-leb o b.at (omega arith)) (table_boundaries table x) none_past)
+      first_none (λ p. leb o p) bs (all_through (λ b. b.at ≤ n) (λ b. leb o b.at ≡ false) (λ b within. lt-leb o b.at (omega (arith, within, end))) bs none_behind)
 
-  none_at : (o : ℕ) → length x < o → is_place_of (table_boundaries table x) o ≡ false
+  pub none_at : (o : ℕ) → n < o → is_place_of bs o ≡ false
   none_at o end =
-      ap is_some (first_none (λ p. eqb p o) (table_boundaries table x)
-      (all_through (λ b. b.at ≤ length x) (λ b. eqb b.at o ≡ false) (λ b within. ne_eqb b.at o (λ same. omega arith)) (table_boundaries table x) none_past))
+      ap is_some (first_none (λ p. eqb p o) bs
+      (all_through (λ b. b.at ≤ n) (λ b. eqb b.at o ≡ false) (λ b within. ne_eqb b.at o (λ same. omega (arith, within, end, same))) bs none_behind))
 
-  none_before : last_before (table_boundaries table x) 0 ≡ None
+  pub none_before : last_before bs 0 ≡ None
   none_before =
-      last_none (λ p. ltb p 0) (table_boundaries table x)
-      (all_through (λ b. b.at ≤ length x) (λ b. ltb b.at 0 ≡ false) (λ b within. le-ltb b.at 0 (omega arith)) (table_boundaries table x) none_past)
+      last_none (λ p. ltb p 0) bs (all_through (λ b. b.at ≤ n) (λ b. ltb b.at 0 ≡ false) (λ b within. le-ltb b.at 0 (omega arith)) bs none_behind)
 
-  end_is_last : (r : ℕ) → 0 < length x → first_after (table_boundaries table x) (length x - 1) ≡ Some r → r ≡ end_of (table_boundaries table x)
+  end_is_last : (r : ℕ) → 0 < n → first_after bs (n - 1) ≡ Some r → r ≡ end_of bs
   end_is_last r some is =
-      let past : length x - 1 < r = ltb-true (length x - 1) r (first_holds (λ p. ltb (length x - 1) p) (table_boundaries table x) r is) in
-      let within : r ≤ length x = first_up_to (λ p. ltb (length x - 1) p) (table_boundaries table x) r (length x) none_past is in
-      let same : r ≡ length x = omega arith in
-      same ∙ sym (table_covers table x).reach
+      let past : n - 1 < r = ltb-true (n - 1) r (first_holds (λ p. ltb (n - 1) p) bs r is) in
+      let within : r ≤ n = first_up_to (λ p. ltb (n - 1) p) bs r n none_behind is in
+      let same : r ≡ n = omega arith in
+      same ∙ sym covers.reach
+
+-- no boundary by a table lies behind the text
+pub none_past : (table : Table) (x : List ℕ) → AllByRecursion (λ b. b.at ≤ length x) (table_boundaries table x)
+none_past table x = none_behind (length x) (table_boundaries table x) (table_covers table x)
 
 -- the last boundary
 pub answers_last : (old new : Session) (r : ℕ) → 0 < length old.state.text → first_after (boundaries_of old) (length old.state.text - 1) ≡ Some r →
     MovesTo old r new → Answers old Last (Place r) new
 answers_last old new r some first moves =
-    let is : r ≡ end_of (boundaries_of old) = end_is_last old.table old.state.text r some first in
+    let is : r ≡ end_of (boundaries_of old) = end_is_last (length old.state.text) (boundaries_of old) (table_covers old.table old.state.text) r some first in
     record { replied = ap Place is; moved = subst (λ p. MovesTo old p new) is moves }
 
 -- the cursor stays where nothing is past it
 pub answers_no_next : (old : Session) → length old.state.text ≤ old.state.cursor → Answers old Next Done old
 answers_no_next old end =
-    let none : first_after (boundaries_of old) old.state.cursor ≡ None = none_after old.table old.state.text old.state.cursor end in
+    let none : first_after (boundaries_of old) old.state.cursor ≡ None = none_after (length old.state.text) (boundaries_of old) (table_covers old.table old.state.text) old.state.cursor end in
     record {
       replied = sym (ap (λ p. (moved p old.state.cursor).reply) none);
       moved = record { table_is = refl; state_is = ap (λ p. record { text = old.state.text; cursor = (moved p old.state.cursor).cursor }) (sym none) };
@@ -93,7 +93,7 @@ answers_no_next old end =
 -- it stays where nothing is before it
 pub answers_no_previous : (old : Session) → old.state.cursor ≡ 0 → Answers old Previous Done old
 answers_no_previous old start =
-    let none : last_before (boundaries_of old) old.state.cursor ≡ None = ap (last_before (boundaries_of old)) start ∙ none_before old.table old.state.text in
+    let none : last_before (boundaries_of old) old.state.cursor ≡ None = ap (last_before (boundaries_of old)) start ∙ none_before (length old.state.text) (boundaries_of old) (table_covers old.table old.state.text) in
     record {
       replied = sym (ap (λ p. (moved p old.state.cursor).reply) none);
       moved = record { table_is = refl; state_is = ap (λ p. record { text = old.state.text; cursor = (moved p old.state.cursor).cursor }) (sym none) };
@@ -102,7 +102,7 @@ answers_no_previous old start =
 -- nothing is past the text's end
 pub answers_no_following : (old new : Session) (o r : ℕ) → length old.state.text ≤ o → Answers old Last (Place r) new → Answers old (Following o) Done new
 answers_no_following old new o r end last =
-    let none : first_after (boundaries_of old) o ≡ None = none_after old.table old.state.text o end in
+    let none : first_after (boundaries_of old) o ≡ None = none_after (length old.state.text) (boundaries_of old) (table_covers old.table old.state.text) o end in
     record {
       replied = sym (ap (λ p. (moved p (end_of (boundaries_of old))).reply) none);
       moved = subst (λ p. MovesTo old (moved p (end_of (boundaries_of old))).cursor new) (sym none) last.moved;
@@ -111,7 +111,7 @@ answers_no_following old new o r end last =
 -- nothing is before 0
 pub answers_no_preceding : (old new : Session) (o r : ℕ) → o ≡ 0 → Answers old First (Place r) new → Answers old (Preceding o) Done new
 answers_no_preceding old new o r start first =
-    let none : last_before (boundaries_of old) o ≡ None = ap (last_before (boundaries_of old)) start ∙ none_before old.table old.state.text in
+    let none : last_before (boundaries_of old) o ≡ None = ap (last_before (boundaries_of old)) start ∙ none_before (length old.state.text) (boundaries_of old) (table_covers old.table old.state.text) in
     record {
       replied = sym (ap (λ p. (moved p 0).reply) none);
       moved = subst (λ p. MovesTo old (moved p 0).cursor new) (sym none) first.moved;
@@ -120,8 +120,8 @@ answers_no_preceding old new o r start first =
 -- what lies behind the text is no boundary
 pub answers_behind : (old new : Session) (o r : ℕ) → length old.state.text < o → Answers old Last (Place r) new → Answers old (IsBoundary o) No new
 answers_behind old new o r end last = record {
-  replied = ap (λ is. cond is Yes No) (sym (none_at old.table old.state.text o end));
-  moved = subst (λ p. MovesTo old (unwrap_or p (end_of (boundaries_of old))) new) (sym (none_from old.table old.state.text o end)) last.moved;
+  replied = ap (λ is. cond is Yes No) (sym (none_at (length old.state.text) (boundaries_of old) (table_covers old.table old.state.text) o end));
+  moved = subst (λ p. MovesTo old (unwrap_or p (end_of (boundaries_of old))) new) (sym (none_from (length old.state.text) (boundaries_of old) (table_covers old.table old.state.text) o end)) last.moved;
 }
 
 -- the first boundary past the place before it tells whether a place is one

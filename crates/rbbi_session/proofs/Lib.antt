@@ -6,3 +6,4 @@ pub mod Stepping
 mod Asked
 pub mod UnitAnswering
 pub mod UnitEditing
+pub mod UnitCursors

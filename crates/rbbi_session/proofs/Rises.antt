@@ -12,13 +12,6 @@ use Rattle.rbbi_model.proofs.Found.{some_same, none_some}
 pub use Rattle.rbbi_cache.proofs.Reached.{rises_before, rises_after, rising_right}
 use Rattle.rbbi_session.proofs.Places.{all_through, first_none, first_same}
 
--- no boundary lies behind the last
-pub none_past_end : (bs : List Boundary) → IsRising (places bs) → AllByRecursion (λ b. b.at ≤ end_of bs) bs
-none_past_end [] rising = tt
-none_past_end (b ∷ []) rising = (omega arith, tt)
-none_past_end (b ∷ c ∷ bs) rising =
-    let further = none_past_end (c ∷ bs) rising.1 in (omega (arith, rising.0, further.0), further)
-
 -- the first boundary that isn't before a place past 0 is the first past the place before it
 pub from_is_after : (bs : List Boundary) (o : ℕ) → 1 ≤ o → first_from bs o ≡ first_after bs (o - 1)
 from_is_after bs o some =

@@ -78,11 +78,11 @@ stands_at old now at come = of come.front come.rest come.whole come.stands
     }
 
 -- the place of the first boundary, if there is one
-abbrev place_of : List Boundary → Option ℕ
+abbrev pub place_of : List Boundary → Option ℕ
 place_of [] = None
 place_of (b ∷ bs) = Some b.at
 
-place_is : (place other : Option ℕ) (cursor : ℕ) → place_reply place ≡ (moved other cursor).reply → place ≡ other
+pub place_is : (place other : Option ℕ) (cursor : ℕ) → place_reply place ≡ (moved other cursor).reply → place ≡ other
 place_is None None cursor is = refl
 place_is None (Some p) cursor is = cc
 place_is (Some p) None cursor is = cc
@@ -93,7 +93,7 @@ next_place low [] later = refl
 next_place low (c ∷ rest) later = first_takes (λ p. ltb low p) c rest (lt-ltb low c.at later.0)
 
 -- the first boundary past one of them is the next of the list
-first_is_next : (front : List Boundary) (b : Boundary) (rest : List Boundary) → IsRising (places (front ++ b ∷ rest)) →
+pub first_is_next : (front : List Boundary) (b : Boundary) (rest : List Boundary) → IsRising (places (front ++ b ∷ rest)) →
     first_after (front ++ b ∷ rest) b.at ≡ place_of rest
 first_is_next front b rest rising =
     first_skips (λ p. ltb b.at p) front (b ∷ rest) (all_through (λ c. c.at < b.at) (λ c. ltb b.at c.at ≡ false) (λ c less. le-ltb b.at c.at (omega arith))
@@ -106,22 +106,22 @@ abbrev pub left_of : ℕ → Option ℕ → ℕ
 left_of len None = 0
 left_of len (Some at) = len + 1 - at
 
-later_within : (front rest : List Boundary) (most : ℕ) → AllByRecursion (λ b. b.at ≤ most) (front ++ rest) → AllByRecursion (λ b. b.at ≤ most) rest
+pub later_within : (front rest : List Boundary) (most : ℕ) → AllByRecursion (λ b. b.at ≤ most) (front ++ rest) → AllByRecursion (λ b. b.at ≤ most) rest
 later_within [] rest most each = each
 later_within (b ∷ front) rest most each = later_within front rest most each.1
 
-falls : (len at : ℕ) (rest : List Boundary) → at ≤ len → AllByRecursion (λ b. at < b.at) rest → left_of len (place_of rest) < len + 1 - at
+pub falls : (len at : ℕ) (rest : List Boundary) → at ≤ len → AllByRecursion (λ b. at < b.at) rest → left_of len (place_of rest) < len + 1 - at
 falls len at [] within later = omega arith
 falls len at (b ∷ rest) within later = let past : at < b.at = later.0 in omega arith
 
-stands_next : (cursor other : ℕ) (rest : List Boundary) (place : Option ℕ) → place ≡ place_of rest → cursor ≡ unwrap_or place other →
+pub stands_next : (cursor other : ℕ) (rest : List Boundary) (place : Option ℕ) → place ≡ place_of rest → cursor ≡ unwrap_or place other →
     StandsBefore cursor place rest
 stands_next cursor other [] None is stands = refl
 stands_next cursor other [] (Some p) is stands = cc
 stands_next cursor other (b ∷ rest) None is stands = cc
 stands_next cursor other (b ∷ rest) (Some p) is stands = let same : b.at ≡ p = cc in (same, stands)
 
-moved_cursor : (place : Option ℕ) (cursor : ℕ) → (moved place cursor).cursor ≡ unwrap_or place cursor
+pub moved_cursor : (place : Option ℕ) (cursor : ℕ) → (moved place cursor).cursor ≡ unwrap_or place cursor
 moved_cursor None cursor = refl
 moved_cursor (Some p) cursor = refl
 

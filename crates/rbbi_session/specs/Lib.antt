@@ -5,4 +5,5 @@ pub mod Asking
 pub mod UnitSessions
 pub mod UnitErrors
 pub mod UnitEdits
+pub mod Pausing
 pub mod inner

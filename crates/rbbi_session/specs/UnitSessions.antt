@@ -5,6 +5,7 @@ use Rattle.rbbi_model.specs.Tables.{Table}
 use Rattle.rbbi_model.specs.Answers.{Question, Reply, Answer, answer}
 use Rattle.rbbi_model.specs.Units.{offset_of, measured}
 use Rattle.rbbi_model.specs.UnitAnswers.{in_characters}
+use Rattle.rbbi_model.specs.Scripts.{State}
 use Rattle.rbbi_session.specs.Sessions.{Session, IsOpened, boundaries_of}
 use Rattle.rbbi_session.specs.Asking.{Asks}
 
@@ -16,6 +17,10 @@ pub record UnitSession : Type 0 where
 -- where a place of the session's text lies in its unit
 abbrev pub offset_in : UnitSession → ℕ → ℕ
 offset_in session place = offset_of session.unit session.asked.state.text place
+
+-- the text of the moment, and the offset of the cursor
+abbrev pub state_of : UnitSession → State
+state_of session = record { text = session.asked.state.text; cursor = offset_in session session.asked.state.cursor }
 
 -- the answer to the question by the boundaries of the session's text, with offsets for places, from the offset of its cursor
 abbrev pub unit_answer_of : UnitSession → Question → Answer

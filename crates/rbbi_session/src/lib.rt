@@ -5,10 +5,12 @@
 #![tactic(auto)]
 
 mod boundary;
+mod paused;
 mod session;
 mod unit_error;
 mod unit_session;
 
-pub use session::Session;
+pub use paused::Paused;
+pub use session::{Session, character_count};
 pub use unit_error::UnitEditErr;
 pub use unit_session::UnitSession;

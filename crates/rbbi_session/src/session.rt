@@ -26,12 +26,12 @@ use std::sync::ledger::Ledger;
 /// `replace` takes memory.
 #[derive(Drop)]
 pub struct Session<'a, T: EditText> {
-    table: &'a Table,
-    text: T,
+    pub(crate) table: &'a Table,
+    pub(crate) text: T,
     /// The boundary at the cursor.
-    here: Boundary,
+    pub(crate) here: Boundary,
     /// Boundaries that were found.
-    cache: Cache,
+    pub(crate) cache: Cache,
 }
 
 impl<'a, T: EditText> Model for Session<'a, T> {
@@ -224,7 +224,7 @@ impl<'a, T: EditText> Session<'a, T> {
         // That the text is short enough for the cache is known of its length.
         let _short = self.text.len();
         self.text.replace(at, remove, insert)?;
-        let inserted = count(insert);
+        let inserted = character_count(insert);
         self.cache
             .edited(self.table, &self.text, at, remove, inserted, steps);
         self.here = start(self.table);
@@ -274,7 +274,7 @@ impl<'a, T: EditText> Session<'a, T> {
 }
 
 /// The number of characters of a string, at most 2^32 - 1.
-fn count(text: &str) -> u32
+pub fn character_count(text: &str) -> u32
     requires { length (chars text.now) < 2 ^ 32 }
     ensures { result ≡ length (chars text.now) }
 {

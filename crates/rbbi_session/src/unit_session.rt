@@ -1,16 +1,19 @@
 //! A session whose places count a unit.
 ghost use Rattle.std.specs.Prelude.{◌≡◌, ◌+◌, ◌<◌, ◌≤◌, length, chars, IfOk, MatchOption};
 ghost use Rattle.std.specs.Prelude.{if◌then◌else◌, nat_lt};
+ghost use Rattle.rbbi_model.specs.Cover.{IsPlaceOf};
 ghost use Rattle.rbbi_model.specs.Answers.{Place, Largest, AllOf};
 ghost use Rattle.rbbi_model.specs.Answers as question;
 ghost use Rattle.rbbi_model.specs.UnitAnswers.{place_before};
-ghost use Rattle.rbbi_session.specs.Sessions.{place_reply, test_reply, HasTrueRuns};
+ghost use Rattle.rbbi_session.specs.Sessions.{boundaries_of, place_reply, test_reply};
+ghost use Rattle.rbbi_session.specs.Sessions.{HasTrueRuns};
 ghost use Rattle.rbbi_session.specs.UnitSessions.{offset_in, unit_answer_of, IsOpenedBy};
 ghost use Rattle.rbbi_session.specs.UnitSessions.{UnitAnswers, UnitAsks};
 ghost use Rattle.rbbi_session.specs.UnitEdits.{UnitEditAnswers, UnitEditReads};
+ghost use Rattle.rbbi_session.specs.Pausing.{IsPausedBy, IsPaused, resumed};
 ghost use Rattle.rbbi_session.specs.inner.UnitPlaces.{IsPlaceUpTo, IsPlaceFrom};
 
-use crate::{Session, UnitEditErr};
+use crate::{Paused, Session, UnitEditErr};
 use rbbi_table::Table;
 use rbbi_text::{EditErr, Index, Steps, Unit, UnitText};
 use std::alloc::{AllocError, Global};
@@ -47,12 +50,33 @@ impl<'a, T: UnitText + Drop> UnitSession<'a, T> {
         ensures { IfOk result (λ session.
             IsOpenedBy unit table.now (T.characters text) session) }
     {
+        let mut text = text;
+        text.make_ready(unit);
         let asked = Session::open(alloc, table, text)?;
         Ok(UnitSession { asked, unit })
     }
 }
 
 impl<'a, T: UnitText> UnitSession<'a, T> {
+    /// Lets go of the table. It takes no memory.
+    pub fn pause(self) -> Paused<T>
+        ensures { IsPaused self.entry.asked result }
+    {
+        let UnitSession { asked, unit: _ } = self;
+        asked.pause()
+    }
+
+    /// Goes on with the table that a session was paused by, by this unit. It takes no memory.
+    pub fn resume(table: &'a Table, paused: Paused<T>, unit: Unit) -> UnitSession<'a, T>
+        requires { IsPausedBy table.now paused }
+        ensures { result ≡ record { unit = unit; asked = resumed table.now paused } }
+    {
+        UnitSession {
+            asked: Session::resume(table, paused),
+            unit,
+        }
+    }
+
     /// Goes to the first boundary, which is 0.
     pub fn first(&mut self) -> u32
         ensures answers { UnitAnswers self.old question.First (Place result) self.new }
@@ -167,6 +191,17 @@ impl<'a, T: UnitText> UnitSession<'a, T> {
         ensures { T.characters result.now ≡ self.now.asked.state.text }
     {
         self.asked.text()
+    }
+
+    /// That each kept run is true of the text as it is now, and the cursor is a boundary. Callers'
+    /// proofs don't see what a session keeps to itself, and this call shows it to them at any
+    /// moment; it does nothing when it runs.
+    pub fn runs_are_true(&self)
+        ensures are_true { HasTrueRuns self.now.asked }
+        ensures stands { IsPlaceOf (boundaries_of self.now.asked) self.now.asked.state.cursor }
+    {
+        let _here = self.asked.current();
+        self.asked.runs_are_true();
     }
 
     /// The length of the text in the unit.

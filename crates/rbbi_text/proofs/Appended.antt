@@ -1,12 +1,9 @@
 -- Fronts of lines that were appended.
-use Rattle.std.proofs.Common.{◌≡◌, ℕ, suc, ◌<◌, length, take, drop, get_or, List, [], ◌∷◌, ◌++◌, Result, Ok, Err, ap, sym, ◌∙◌, append_assoc, append-nil}
+use Rattle.std.proofs.Common.{◌≡◌, ℕ, suc, ◌<◌, length, take, drop, get_or, List, [], ◌∷◌, ◌++◌, Result, Ok, Err, ap, sym, ◌∙◌, append_assoc}
 use Rattle.std.proofs.Common.{drop-cons, arith}
-use Rattle.std.specs.Prelude.{decimal}
 use Rattle.std.specs.List.{flat_map}
 use Rattle.std.proofs.lemmas.List.{take-append-drop}
 use Rattle.std.proofs.lemmas.Grind.{flat_map-append}
-use Rattle.rbbi_model.specs.Lines.{joined_statuses}
-use Rattle.rbbi_text.specs.inner.Appending.{next_status}
 use Rattle.rbbi_text.specs.Appending.{AppendsFront, Appends}
 
 -- the first of several parts was not appended whole
@@ -35,23 +32,9 @@ appends_then old first second line middle new (Ok done) m e h =
     h ∙ ap (λ x. x ++ second) m ∙ append_assoc old first second ∙ ap (λ x. old ++ x) (sym e)
 appends_then old first second line middle new (Err error) m e h = front_later old first second line middle new m e h
 
--- the first status, and the others behind commas
-pub joined_is : (status : ℕ) (statuses : List ℕ) → joined_statuses (status ∷ statuses) ≡ decimal status ++ flat_map next_status statuses
-joined_is status [] = sym (append-nil (decimal status))
-joined_is status (next ∷ statuses) = ap (λ x. decimal status ++ 44 ∷ x) (joined_is next statuses)
-
-pub joined_first : (list : List ℕ) → 0 < length list → joined_statuses list ≡ decimal (get_or list 0 0) ++ flat_map next_status (drop 1 list)
-joined_first [] l = absurd (omega arith)
-joined_first (status ∷ statuses) l = joined_is status statuses
-
 -- what is written of the numbers before one, of the one, and of those behind it
 pub flat_parts : (f : ℕ → List ℕ) (ns : List ℕ) (i d : ℕ) → i < length ns → flat_map f ns ≡ flat_map f (take i ns) ++
     (f (get_or ns i d) ++ flat_map f (drop (suc i) ns))
 flat_parts f ns i d l =
     ap (flat_map f) (sym (take-append-drop i ns) ∙ ap (λ x. take i ns ++ x) (drop-cons ns i d l))
     ∙ flat_map-append f (take i ns) (get_or ns i d ∷ drop (suc i) ns)
-
--- the statuses before one, the one, and those behind it
-pub others_parts : (statuses : List ℕ) (i d : ℕ) → i < length statuses → flat_map next_status statuses ≡ flat_map next_status (take i statuses) ++
-    (next_status (get_or statuses i d) ++ flat_map next_status (drop (suc i) statuses))
-others_parts statuses i d l = flat_parts next_status statuses i d l

@@ -7,7 +7,7 @@ use Rattle.std.proofs.Math.Utf8.{scalar, scalar_cases}
 use Rattle.std.proofs.lemmas.Str.{scalars-chars}
 use Rattle.rbbi_model.specs.Words.{IsCharacter, IsText}
 
-IsCharacter-from_scalar : (c : ℕ) → scalar c ≡ true → IsCharacter c
+pub IsCharacter-from_scalar : (c : ℕ) → scalar c ≡ true → IsCharacter c
 IsCharacter-from_scalar c e =
     ⊎_elim
     (λ (h : c < 55296). (omega arith, λ s. omega (arith, s.0)))

@@ -5,4 +5,4 @@ pub mod Lines
 pub mod LineValues
 pub mod Pushed
 pub mod Appended
-pub mod MarkLemmas
+pub mod MilestoneLemmas

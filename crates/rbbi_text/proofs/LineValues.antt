@@ -92,7 +92,7 @@ module _ {V : Type 0} (IsLine : List ℕ → ℕ → Line V → Type 0) where
     same_value v w line number one other = let e : Writes v ≡ Writes w = same line number _ _ one other in cc
 
     -- lines write one list of values at most
-    same_values : (lines : List (List ℕ)) (before : ℕ) (these those : List V) → AreValues IsLine lines before these → AreValues IsLine lines before those →
+    pub same_values : (lines : List (List ℕ)) (before : ℕ) (these those : List V) → AreValues IsLine lines before these → AreValues IsLine lines before those →
         these ≡ those
     same_values [] before these those none none' = none ∙ sym none'
     same_values (line ∷ lines) before these those (inl (skipped, rest)) (inl (skipped', rest')) = same_values lines (before + 1) these those rest rest'
@@ -105,7 +105,7 @@ module _ {V : Type 0} (IsLine : List ℕ → ℕ → Line V → Type 0) where
         ∙ ap (λ vs. v' ∷ vs) (same_values lines (before + 1) others others' rest rest') ∙ sym is'
 
     -- among lines that write values none is bad
-    none_bad : (before : List (List ℕ)) (line : List ℕ) (after : List (List ℕ)) (start number : ℕ) (values : List V)
+    pub none_bad : (before : List (List ℕ)) (line : List ℕ) (after : List (List ℕ)) (start number : ℕ) (values : List V)
         → AreValues IsLine (before ++ line ∷ after) start values → number ≡ start + length before + 1 → IsLine line number Bad → ⊥
     none_bad [] line after start number values (inl (skipped, rest)) counted bad =
         let here : number ≡ start + 1 = omega (arith, counted) in
@@ -119,7 +119,7 @@ module _ {V : Type 0} (IsLine : List ℕ → ℕ → Line V → Type 0) where
         none_bad before line after (start + 1) number others rest (omega (arith, counted)) bad
 
     -- the lines before a line, of which those before it and one more are taken
-    behind : (before before' : List (List ℕ)) (line line' : List ℕ) (after after' : List (List ℕ)) → before ++ line ∷ after ≡ before' ++ line' ∷ after' →
+    pub behind : (before before' : List (List ℕ)) (line line' : List ℕ) (after after' : List (List ℕ)) → before ++ line ∷ after ≡ before' ++ line' ∷ after' →
         length before + 1 ≤ length before' → (between : List (List ℕ)) × (before' ≡ before ++ line ∷ between)
     behind [] [] line line' after after' e less = absurd (omega (arith, less))
     behind [] (m ∷ before') line line' after after' e less =

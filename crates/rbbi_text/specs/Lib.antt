@@ -8,7 +8,7 @@ pub mod Errors
 pub mod Steps
 pub mod Appending
 pub mod Cuts
-pub mod Marks
+pub mod Milestones
 pub mod Weighed
 pub mod Indexes
 pub mod inner

@@ -1,6 +1,5 @@
 -- What only this crate's own code and proofs cite. Nothing that is promised rests on it.
 pub mod Answers
 pub mod Cuts
-pub mod Appending
 pub mod LineValues
-pub mod Marks
+pub mod Fits

@@ -54,3 +54,21 @@ pub fn trim_start(text: &[u8]) -> &[u8]
     }
     &text[start..]
 }
+
+/// The text without the spaces and tabs at its end.
+fn trim_end(text: &[u8]) -> &[u8]
+    ensures { result.now ≡ spec.trim_end text.now }
+{
+    let mut end = text.len();
+    while end > 0 && is_blank(text[end - 1]) {
+        end -= 1;
+    }
+    &text[..end]
+}
+
+/// The text without the spaces and tabs round it.
+pub fn trim(text: &[u8]) -> &[u8]
+    ensures { result.now ≡ spec.trim text.now }
+{
+    trim_end(trim_start(text))
+}

@@ -3,7 +3,7 @@ ghost use Rattle.std.specs.Prelude.{◌≡◌, ◌<◌, ◌^◌, ℕ, sum_by};
 ghost use Rattle.rbbi_model.specs.declared.unit.Unit.{Unit as TextUnit};
 ghost use Rattle.rbbi_model.specs.declared.unit.Unit.TheVariants.{Utf8, Utf16};
 ghost use Rattle.rbbi_model.specs.Units.{size_of};
-ghost use Rattle.rbbi_text.specs.inner.Marks.{IsFit};
+ghost use Rattle.rbbi_text.specs.inner.Fits.{IsFit};
 
 use crate::Unit;
 
@@ -51,7 +51,7 @@ fn utf16_size(code: u32) -> u32
 }
 
 /// How much of the unit the items take together.
-#[tactic(auto, using(crate::proofs::MarkLemmas::total_more))]
+#[tactic(auto, using(crate::proofs::MilestoneLemmas::total_more))]
 pub(crate) fn total<T: Measure>(items: &[T], unit: Unit) -> u32
     requires { sum_by (T.weight unit) items.now < 2 ^ 32 }
     ensures { result ≡ sum_by (T.weight unit) items.now }
@@ -71,7 +71,7 @@ pub(crate) struct Fit {
 }
 
 /// How many of the items, from the first on, take at most so much of the unit together.
-#[tactic(auto, using(crate::proofs::MarkLemmas::total_more))]
+#[tactic(auto, using(crate::proofs::MilestoneLemmas::total_more))]
 pub(crate) fn fit_in<T: Measure>(items: &[T], unit: Unit, most: u32) -> Fit
     ensures { IsFit (T.weight unit) items.now most result.count result.units }
 {

@@ -1,12 +1,13 @@
 //! The pieces that a text is cut into.
 ghost use Rattle.std.specs.Prelude.{◌≡◌, ◌+◌, ◌≤◌, ◌<◌, ◌++◌, length, take, drop, slice_index};
 ghost use Rattle.std.specs.Prelude.{IfOk, OnOk, OnErr, MatchOption, MatchBool, [], ◌∷◌, chars};
-ghost use Rattle.std.specs.Prelude.{◌-◌};
+ghost use Rattle.std.specs.Prelude.{◌-◌, ◌^◌, sum_by};
 ghost use Rattle.std.specs.List.{AllByRecursion, splice};
 ghost use Rattle.rbbi_model.specs.Words.{most_characters};
 ghost use Rattle.rbbi_model.specs.Spelling.{joined};
 ghost use Rattle.rbbi_text.specs.Cuts.{IsFilled, AreFilled, ArePieces};
 ghost use Rattle.rbbi_text.specs.inner.Cuts.{AreSoFar, HaveRoom};
+ghost use Rattle.rbbi_model.specs.Units.{size_of};
 ghost use Rattle.rbbi_text.specs.Weighed.{weight_of};
 
 use crate::Unit;
@@ -26,10 +27,9 @@ pub(crate) const QUARTER: usize = 256;
 #[derive(Drop)]
 pub(crate) struct Piece {
     items: Vec<char>,
-    /// How many bytes they take in UTF-8.
-    utf8: u32,
-    /// How many numbers of 16 bits they take in UTF-16.
-    utf16: u32,
+    /// How much of a unit they take, and the unit.
+    size: u32,
+    unit: Unit,
 }
 
 impl Model for Piece {
@@ -40,30 +40,47 @@ impl Model for Piece {
 
     ghost view = { λ piece. piece.items.items };
 
-    ghost invariant = { λ piece. AreWeighed piece.items.items piece.utf8 piece.utf16 };
+    ghost invariant = { λ piece. AreWeighed piece.items.items piece.unit piece.size };
 }
 
 impl Measure for Piece {
     ghost weight = { weight_of };
 
     fn units(&self, unit: Unit) -> u32 {
-        match unit {
-            Unit::Chars => self.items.len() as u32,
-            Unit::Utf8 => self.utf8,
-            Unit::Utf16 => self.utf16,
+        match (self.unit, unit) {
+            (Unit::Utf8, Unit::Utf8) | (Unit::Utf16, Unit::Utf16) => self.size,
+            _ => taken(&self.items, unit),
         }
     }
 }
 
+/// How much of a unit these characters take together.
+fn taken(items: &[char], unit: Unit) -> u32
+    requires { sum_by (size_of unit) items.now < 2 ^ 32 }
+    ensures { result ≡ sum_by (size_of unit) items.now }
+{
+    match unit {
+        Unit::Chars => items.len() as u32,
+        Unit::Utf8 | Unit::Utf16 => total(items, unit),
+    }
+}
+
 impl Piece {
-    /// The piece of these characters.
-    fn of(items: Vec<char>) -> Piece
+    /// The piece of these characters, ready for a unit.
+    fn of(items: Vec<char>, unit: Unit) -> Piece
         requires { length items.items ≤ 1024 }
         ensures { result ≡ items.items }
     {
-        let utf8 = total(&items, Unit::Utf8);
-        let utf16 = total(&items, Unit::Utf16);
-        Piece { items, utf8, utf16 }
+        let size = taken(&items, unit);
+        Piece { items, size, unit }
+    }
+
+    /// Makes the piece ready for a unit.
+    pub(crate) fn count_in(&mut self, unit: Unit)
+        ensures { self.new ≡ self.old }
+    {
+        self.size = taken(&self.items, unit);
+        self.unit = unit;
     }
 
     /// Puts the characters of a string in place of those from one place to another. It takes all
@@ -76,23 +93,21 @@ impl Piece {
         ensures err { OnErr result (self.new ≡ self.old) }
     {
         let behind = self.items.len() - end;
-        let gone = &self.items[start..end];
-        let (gone_utf8, gone_utf16) = (total(gone, Unit::Utf8), total(gone, Unit::Utf16));
+        let gone = taken(&self.items[start..end], self.unit);
         put(&mut self.items, start, end, text)?;
         let new = &self.items[start..self.items.len() - behind];
-        self.utf8 = self.utf8 - gone_utf8 + total(new, Unit::Utf8);
-        self.utf16 = self.utf16 - gone_utf16 + total(new, Unit::Utf16);
+        self.size = self.size - gone + taken(new, self.unit);
         Ok(())
     }
 
-    /// A piece of these characters, with room for as many as a piece may have.
-    fn copied(alloc: Global, characters: &[char]) -> Result<Piece, AllocError>
+    /// A piece of these characters, with room for as many as a piece may have, ready for a unit.
+    fn copied(alloc: Global, characters: &[char], unit: Unit) -> Result<Piece, AllocError>
         requires { length characters.now ≤ 1024 }
         ensures { IfOk result (λ piece. piece ≡ characters.now) }
     {
         let mut items = Vec::with_capacity(alloc, FULL)?;
         items.extend_from_slice(characters)?;
-        Ok(Piece::of(items))
+        Ok(Piece::of(items, unit))
     }
 
     /// The number of characters.
@@ -103,6 +118,7 @@ impl Piece {
     }
 
     /// The character with this number, from 0.
+    #[inline(always)]
     pub(crate) fn get(&self, i: usize) -> char
         requires { i < length self.now }
         ensures { result ≡ slice_index self.now i }
@@ -134,12 +150,17 @@ impl Piece {
     }
 }
 
-/// Adds a piece of these characters.
-fn push_piece(alloc: Global, pieces: &mut Vec<Piece>, characters: &[char]) -> Result<(), AllocError>
+/// Adds a piece of these characters, ready for a unit.
+fn push_piece(
+    alloc: Global,
+    pieces: &mut Vec<Piece>,
+    characters: &[char],
+    unit: Unit,
+) -> Result<(), AllocError>
     requires { length characters.now ≤ 1024 }
     ensures { OnOk result (pieces.new.items ≡ pieces.old.items ++ characters.now ∷ []) }
 {
-    pieces.push(Piece::copied(alloc, characters)?)?;
+    pieces.push(Piece::copied(alloc, characters, unit)?)?;
     Ok(())
 }
 
@@ -157,9 +178,10 @@ fn next_size(rest: usize) -> usize
     }
 }
 
-/// The characters cut into pieces: full ones, but for the last two, which share what is left.
+/// The characters cut into pieces: full ones, but for the last two, which share what is left. The
+/// pieces are ready for a unit.
 #[tactic(auto, using(crate::proofs::CutLemmas::pushed))]
-pub(crate) fn cut(alloc: Global, characters: &[char]) -> Result<Vec<Piece>, AllocError>
+pub(crate) fn cut(alloc: Global, characters: &[char], unit: Unit) -> Result<Vec<Piece>, AllocError>
     ensures same { IfOk result (λ pieces. joined pieces.items ≡ characters.now) }
     ensures some { IfOk result (λ pieces. 1 ≤ length pieces.items) }
     ensures filled { IfOk result (λ pieces. AreFilled pieces.items) }
@@ -170,10 +192,10 @@ pub(crate) fn cut(alloc: Global, characters: &[char]) -> Result<Vec<Piece>, Allo
     let mut rest = characters;
     while rest.len() > FULL {
         let (front, back) = rest.split_at(next_size(rest.len()));
-        push_piece(alloc, &mut pieces, front)?;
+        push_piece(alloc, &mut pieces, front, unit)?;
         rest = back;
     }
-    push_piece(alloc, &mut pieces, rest)?;
+    push_piece(alloc, &mut pieces, rest, unit)?;
     Ok(pieces)
 }
 
@@ -198,7 +220,7 @@ fn make_room(
     }
     let empty = Vec::with_capacity(alloc, FULL)?;
     let full = mem::replace(latest, empty);
-    pieces.push(Piece::of(full))?;
+    pieces.push(Piece::of(full, Unit::Chars))?;
     Ok(true)
 }
 
@@ -218,6 +240,6 @@ pub(crate) fn pieces_of(alloc: Global, text: &str) -> Result<Option<Vec<Piece>>,
         }
         latest.push(c)?;
     }
-    pieces.push(Piece::of(latest))?;
+    pieces.push(Piece::of(latest, Unit::Chars))?;
     Ok(Some(pieces))
 }

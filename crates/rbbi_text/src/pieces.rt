@@ -10,13 +10,13 @@ ghost use Rattle.rbbi_text.specs.Cuts.{ArePieces};
 ghost use Rattle.rbbi_text.specs.inner.Cuts.{AreWholeCut, IsMiddle, shifted, pieces_with};
 ghost use Rattle.rbbi_text.specs.inner.Cuts.{starts_with_new, edited_piece};
 ghost use Rattle.rbbi_model.specs.Units.{offset_of};
-ghost use Rattle.rbbi_text.specs.Marks.{AreMarks, AreMarked};
+ghost use Rattle.rbbi_text.specs.Milestones.{AreMilestones};
 ghost use Rattle.rbbi_text.specs.Weighed.{weight_of};
 ghost use Rattle.rbbi_text.specs.Indexes.{IsIndex};
 ghost use Rattle.rbbi_text.specs.Answers.{TakesText, ReadsText};
 
-use crate::marks::{Marks, before, find, shift_marks};
 use crate::measure::{Measure, fit_in, total};
+use crate::milestones::{Milestones, before, find, shift_milestones};
 use crate::piece::{FULL, Piece, QUARTER, cut, pieces_of};
 use crate::places::{character, locate, push_starts, shift};
 use crate::plain::{added, put};
@@ -39,8 +39,8 @@ pub struct Pieces {
     starts: Vec<u32>,
     /// The number of characters.
     len: u32,
-    /// Where each 64th piece starts in UTF-8 and in UTF-16.
-    marks: Marks,
+    /// Where each 64th piece starts in the unit for which the text is ready.
+    milestones: Milestones,
     /// Where the memory of further pieces comes from.
     alloc: Global,
 }
@@ -49,7 +49,7 @@ impl Model for Pieces {
     ghost use Rattle.std.specs.Prelude.{List, ℕ};
     ghost use Rattle.rbbi_model.specs.Spelling.{joined};
     ghost use Rattle.rbbi_text.specs.Cuts.{AreCut};
-    ghost use Rattle.rbbi_text.specs.Marks.{AreMarked};
+    ghost use Rattle.rbbi_text.specs.Milestones.{AreMilestones};
     ghost use Rattle.rbbi_text.specs.Weighed.{weight_of};
 
     ghost Value = { List ℕ };
@@ -57,7 +57,8 @@ impl Model for Pieces {
     ghost view = { λ text. joined text.pieces.items };
 
     ghost invariant = { λ text. AreCut text.pieces.items text.starts.items text.len
-        × AreMarked weight_of text.pieces.items text.marks.utf8.items text.marks.utf16.items };
+        × AreMilestones (weight_of text.milestones.unit) text.pieces.items
+        text.milestones.sums.items };
 }
 
 /// It writes the type's name and none of the characters, which only `char_at` gives.
@@ -74,12 +75,12 @@ fn text_of(alloc: Global, pieces: Vec<Piece>) -> Result<Pieces, AllocError>
 {
     let mut starts = Vec::with_capacity(alloc, pieces.len())?;
     let len = push_starts(&mut starts, 0, &pieces)?;
-    let marks = Marks::of(alloc, &pieces);
+    let milestones = Milestones::none(alloc);
     Ok(Pieces {
         pieces,
         starts,
         len,
-        marks,
+        milestones,
         alloc,
     })
 }
@@ -120,6 +121,7 @@ impl Chars for Pieces {
         self.len
     }
 
+    #[inline]
     fn char_at<L: Ledger>(&self, i: u32, steps: &mut Steps<L>) -> char {
         steps.tick();
         character(&self.pieces, &self.starts, i as usize)
@@ -132,7 +134,7 @@ impl Chars for Pieces {
 fn edit_piece(
     pieces: &mut Vec<Piece>,
     starts: &mut Vec<u32>,
-    marks: &mut Marks,
+    milestones: &mut Milestones,
     first: usize,
     from: usize,
     remove: u32,
@@ -149,27 +151,25 @@ fn edit_piece(
         → remove ≤ slice_index starts.old.items k }
     requires small { (k : ℕ) → first + 1 ≤ k → k < length starts.old.items
         → slice_index starts.old.items k + added < 2 ^ 32 }
-    requires marked { AreMarked weight_of pieces.old.items
-        marks.old.utf8.items marks.old.utf16.items }
+    requires milestones { AreMilestones (weight_of milestones.old.unit) pieces.old.items
+        milestones.old.sums.items }
     requires short { length (joined pieces.old.items) ≤ most_characters }
     ensures pieces { OnOk result (pieces.new.items ≡ slice_set pieces.old.items first
         (edited_piece pieces.old.items first from remove (chars insert.now))) }
     ensures starts { OnOk result (starts.new.items ≡ take (first + 1) starts.old.items
         ++ shifted remove added (drop (first + 1) starts.old.items)) }
-    ensures marks { OnOk result (AreMarked weight_of pieces.new.items
-        marks.new.utf8.items marks.new.utf16.items) }
+    ensures milestones { OnOk result (AreMilestones (weight_of milestones.new.unit)
+        pieces.new.items milestones.new.sums.items) }
     ensures err { OnErr result (pieces.new.items ≡ pieces.old.items) }
     ensures err_starts { OnErr result (starts.new.items ≡ starts.old.items) }
-    ensures err_marks { OnErr result (marks.new ≡ marks.old) }
+    ensures err_milestones { OnErr result (milestones.new ≡ milestones.old) }
 {
-    let old_utf8 = pieces[first].units(Unit::Utf8);
-    let old_utf16 = pieces[first].units(Unit::Utf16);
+    let unit = milestones.unit;
+    let old = pieces[first].units(unit);
     pieces[first].put(from, from + remove as usize, insert)?;
     shift(starts, first + 1, remove, added);
-    let new_utf8 = pieces[first].units(Unit::Utf8);
-    let new_utf16 = pieces[first].units(Unit::Utf16);
-    shift_marks(&mut marks.utf8, first, old_utf8, new_utf8);
-    shift_marks(&mut marks.utf16, first, old_utf16, new_utf16);
+    let new = pieces[first].units(unit);
+    shift_milestones(&mut milestones.sums, first, old, new);
     Ok(())
 }
 
@@ -330,7 +330,7 @@ fn edit(
     alloc: Global,
     pieces: &mut Vec<Piece>,
     starts: &mut Vec<u32>,
-    marks: &mut Marks,
+    milestones: &mut Milestones,
     place: usize,
     remove: u32,
     insert: &str,
@@ -340,32 +340,34 @@ fn edit(
     requires inside { place + remove ≤ length (joined pieces.old.items) }
     requires added { added ≡ length (chars insert.now) }
     requires few { length (joined pieces.old.items) - remove + added ≤ most_characters }
-    requires marked { AreMarked weight_of pieces.old.items
-        marks.old.utf8.items marks.old.utf16.items }
+    requires milestones { AreMilestones (weight_of milestones.old.unit) pieces.old.items
+        milestones.old.sums.items }
     ensures cut { OnOk result (AreWholeCut pieces.new.items starts.new.items) }
     ensures text { OnOk result (joined pieces.new.items
         ≡ splice (joined pieces.old.items) place remove (chars insert.now)) }
-    ensures marks { OnOk result (AreMarked weight_of pieces.new.items
-        marks.new.utf8.items marks.new.utf16.items) }
+    ensures milestones { OnOk result (AreMilestones (weight_of milestones.new.unit)
+        pieces.new.items milestones.new.sums.items) }
     ensures err { OnErr result (pieces.new.items ≡ pieces.old.items) }
     ensures err_starts { OnErr result (starts.new.items ≡ starts.old.items) }
-    ensures err_marks { OnErr result (marks.new ≡ marks.old) }
+    ensures err_milestones { OnErr result (milestones.new ≡ milestones.old) }
 {
     let first = locate(pieces, starts, place);
     let from = place - starts[first] as usize;
     let size = pieces[first].len();
     let behind = pieces.len() - first - 1;
     if fits(size, from, remove as usize, added as usize, behind) {
-        edit_piece(pieces, starts, marks, first, from, remove, insert, added)?;
+        edit_piece(
+            pieces, starts, milestones, first, from, remove, insert, added,
+        )?;
         return Ok(());
     }
     let end = place + remove as usize;
     let front = pieces[first].before(from);
     let middle = make_middle(alloc, pieces, starts, front, insert, end)?;
-    let new = cut(alloc, &middle.characters)?;
+    let new = cut(alloc, &middle.characters, milestones.unit)?;
     let new_starts = starts_with(alloc, starts, first, middle.past, &new, remove, added)?;
     put_pieces(pieces, starts, first, middle.past, new, new_starts)?;
-    marks.renew(pieces, first);
+    milestones.renew(pieces, first);
     Ok(())
 }
 
@@ -376,7 +378,7 @@ impl EditText for Pieces {
             self.alloc,
             &mut self.pieces,
             &mut self.starts,
-            &mut self.marks,
+            &mut self.milestones,
             at as usize,
             remove,
             insert,
@@ -387,25 +389,25 @@ impl EditText for Pieces {
     }
 }
 
-/// Where a place of the pieces lies in a unit, by its marks.
-fn offset_in(pieces: &[Piece], starts: &[u32], marks: &[u32], unit: Unit, place: usize) -> u32
+/// Where a place of the pieces lies in a unit, by its milestones.
+fn offset_in(pieces: &[Piece], starts: &[u32], sums: &[u32], unit: Unit, place: usize) -> u32
     requires cut { AreWholeCut pieces.now starts.now }
-    requires marks { AreMarks (weight_of unit) pieces.now marks.now }
+    requires sums { AreMilestones (weight_of unit) pieces.now sums.now }
     requires inside { place ≤ length (joined pieces.now) }
     ensures { result ≡ offset_of unit (joined pieces.now) place }
 {
     let piece = locate(pieces, starts, place);
     let front = pieces[piece].before(place - starts[piece] as usize);
-    before(pieces, marks, unit, piece) + total(front, unit)
+    before(pieces, sums, unit, piece) + total(front, unit)
 }
 
-/// The place at an offset in a unit, by its marks, or the last place before it.
-fn index_in(pieces: &[Piece], starts: &[u32], marks: &[u32], unit: Unit, o: u32) -> Index
+/// The place at an offset in a unit, by its milestones, or the last place before it.
+fn index_in(pieces: &[Piece], starts: &[u32], sums: &[u32], unit: Unit, o: u32) -> Index
     requires cut { AreWholeCut pieces.now starts.now }
-    requires marks { AreMarks (weight_of unit) pieces.now marks.now }
+    requires sums { AreMilestones (weight_of unit) pieces.now sums.now }
     ensures { IsIndex unit (joined pieces.now) o result }
 {
-    let front = find(pieces, marks, unit, o);
+    let front = find(pieces, sums, unit, o);
     if front.count == pieces.len() {
         let last = front.count - 1;
         return Index {
@@ -420,21 +422,44 @@ fn index_in(pieces: &[Piece], starts: &[u32], marks: &[u32], unit: Unit, o: u32)
     }
 }
 
+/// Makes the pieces ready for a unit.
+fn count_in(pieces: &mut Vec<Piece>, unit: Unit)
+    ensures { pieces.new.items ≡ pieces.old.items }
+{
+    for i in 0..pieces.len() {
+        pieces[i].count_in(unit);
+    }
+}
+
 impl UnitText for Pieces {
     fn offset(&self, unit: Unit, i: u32) -> u32 {
         let place = i as usize;
         match unit {
             Unit::Chars => i,
-            Unit::Utf8 => offset_in(&self.pieces, &self.starts, &self.marks.utf8, unit, place),
-            Unit::Utf16 => offset_in(&self.pieces, &self.starts, &self.marks.utf16, unit, place),
+            Unit::Utf8 | Unit::Utf16 => {
+                let sums = self.milestones.sums_in(unit);
+                offset_in(&self.pieces, &self.starts, sums, unit, place)
+            }
+        }
+    }
+
+    fn make_ready(&mut self, unit: Unit) {
+        match unit {
+            Unit::Chars => {}
+            Unit::Utf8 | Unit::Utf16 => {
+                count_in(&mut self.pieces, unit);
+                self.milestones.make(&self.pieces, unit);
+            }
         }
     }
 
     fn index(&self, unit: Unit, o: u32) -> Index {
         match unit {
             Unit::Chars => Index { at: o, whole: true },
-            Unit::Utf8 => index_in(&self.pieces, &self.starts, &self.marks.utf8, unit, o),
-            Unit::Utf16 => index_in(&self.pieces, &self.starts, &self.marks.utf16, unit, o),
+            Unit::Utf8 | Unit::Utf16 => {
+                let sums = self.milestones.sums_in(unit);
+                index_in(&self.pieces, &self.starts, sums, unit, o)
+            }
         }
     }
 }

@@ -8,16 +8,32 @@ ghost use Rattle.rbbi_text.specs.inner.Cuts.{shifted, IsIn, IsFound, AreWholeCut
 use crate::piece::{FULL, Piece};
 use std::alloc::AllocError;
 
-/// The number of the piece that a place is in.
-///
-/// It begins at the piece in which the place would be if all were full, and goes on by twice as
-/// many each time until it is past the place; then it halves what lies between.
+/// The number of the piece that a place is in: mostly the one in which it would be if all were full,
+/// by one test.
+#[inline(always)]
 pub(crate) fn find(starts: &[u32], place: usize) -> usize
     requires some { 0 < length starts.now }
     requires full { slice_index starts.now (min (place / 1024) (length starts.now - 1)) ≤ place }
     ensures { IsIn starts.now result place }
 {
-    let mut low = (place / FULL).min(starts.len() - 1);
+    let guess = (place / FULL).min(starts.len() - 1);
+    if guess + 1 >= starts.len() || starts[guess + 1] as usize > place {
+        return guess;
+    }
+    find_behind(starts, guess, place)
+}
+
+/// The number of the piece that a place is in, which is this one or one behind it.
+///
+/// It goes on by twice as many each time until it is past the place; then it halves what lies
+/// between.
+#[inline(never)]
+fn find_behind(starts: &[u32], from: usize, place: usize) -> usize
+    requires within { from < length starts.now }
+    requires begins { slice_index starts.now from ≤ place }
+    ensures { IsIn starts.now result place }
+{
+    let mut low = from;
     let mut step = 1;
     while step < starts.len() - low && starts[low + step] as usize <= place {
         low += step;
@@ -82,6 +98,7 @@ pub(crate) fn shift(starts: &mut Vec<u32>, from: usize, removed: u32, added: u32
 }
 
 /// What is found of a place: the number of the piece that it is in.
+#[inline(always)]
 pub(crate) fn locate(pieces: &[Piece], starts: &[u32], place: usize) -> usize
     requires cut { AreWholeCut pieces.now starts.now }
     requires inside { place ≤ length (joined pieces.now) }
@@ -92,6 +109,7 @@ pub(crate) fn locate(pieces: &[Piece], starts: &[u32], place: usize) -> usize
 }
 
 /// The character at a place.
+#[inline(always)]
 pub(crate) fn character(pieces: &[Piece], starts: &[u32], place: usize) -> char
     requires cut { AreWholeCut pieces.now starts.now }
     requires inside { place < length (joined pieces.now) }

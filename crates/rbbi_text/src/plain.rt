@@ -1,6 +1,8 @@
 //! A text in one flat list.
 ghost use Rattle.std.specs.Prelude.{
   ◌≡◌,
+  ◌+◌,
+  ◌^◌,
   ◌<◌,
   ◌≤◌,
   IfOk,
@@ -16,11 +18,12 @@ ghost use Rattle.rbbi_text.specs.Bytes.{most_bytes};
 ghost use Rattle.rbbi_text.specs.Texts.{IsShortText};
 ghost use Rattle.rbbi_text.specs.Answers.{TakesText, ReadsText};
 ghost use Rattle.rbbi_text.specs.inner.Answers.{TellsAdded};
-ghost use Rattle.rbbi_model.specs.Units.{size_of};
-ghost use Rattle.rbbi_text.specs.Marks.{AreMarks};
+ghost use Rattle.rbbi_model.specs.Units.{size_of, offset_of};
+ghost use Rattle.rbbi_text.specs.Milestones.{AreMilestones};
 ghost use Rattle.rbbi_text.specs.Indexes.{IsIndex};
 
-use crate::marks::{Marks, before, find};
+use crate::measure::total;
+use crate::milestones::{Milestones, before, find};
 use crate::{Chars, EditErr, EditText, Index, Raw, RawErr, Steps, TextErr, Unit, UnitText};
 use std::alloc::{AllocError, Global};
 use std::fmt;
@@ -35,25 +38,27 @@ pub(crate) const MOST_CHARACTERS: usize = 16_777_216;
 /// It takes four bytes a character. A character is found in one step, and a change copies all that
 /// stands behind it.
 ///
-/// Marks by which places are found in UTF-8 and in UTF-16 take an eighth of a byte a character.
+/// Milestones by which places are found in UTF-8 or in UTF-16 take a sixteenth of a byte a character,
+/// once the text is made ready for that unit.
 #[derive(Drop)]
 pub struct PlainText {
     items: Vec<char>,
-    marks: Marks,
+    milestones: Milestones,
 }
 
 impl Model for PlainText {
     ghost use Rattle.std.specs.Prelude.{List, ℕ};
     ghost use Rattle.rbbi_model.specs.Units.{size_of};
     ghost use Rattle.rbbi_text.specs.Texts.{IsShortText};
-    ghost use Rattle.rbbi_text.specs.Marks.{AreMarked};
+    ghost use Rattle.rbbi_text.specs.Milestones.{AreMilestones};
 
     ghost Value = { List ℕ };
 
     ghost view = { λ text. text.items.items };
 
     ghost invariant = { λ text. IsShortText text.items.items
-        × AreMarked size_of text.items.items text.marks.utf8.items text.marks.utf16.items };
+        × AreMilestones (size_of text.milestones.unit) text.items.items
+        text.milestones.sums.items };
 }
 
 /// It writes the type's name and none of the characters, which only `char_at` gives.
@@ -81,12 +86,12 @@ fn decoded(alloc: Global, text: &str) -> Result<Option<Vec<char>>, AllocError>
 }
 
 /// The text of these characters.
-fn marked(alloc: Global, items: Vec<char>) -> PlainText
+fn text_of(alloc: Global, items: Vec<char>) -> PlainText
     requires { IsShortText items.items }
     ensures { result ≡ items.items }
 {
-    let marks = Marks::of(alloc, &items);
-    PlainText { items, marks }
+    let milestones = Milestones::none(alloc);
+    PlainText { items, milestones }
 }
 
 impl PlainText {
@@ -97,7 +102,7 @@ impl PlainText {
         ensures { TakesText (chars text.now) result }
     {
         match decoded(alloc, text)? {
-            Some(items) => Ok(marked(alloc, items)),
+            Some(items) => Ok(text_of(alloc, items)),
             None => Err(TextErr::TooManyChars),
         }
     }
@@ -112,8 +117,24 @@ impl PlainText {
         ensures { ReadsText raw.now result }
     {
         match decoded(alloc, raw.text()?)? {
-            Some(items) => Ok(marked(alloc, items)),
+            Some(items) => Ok(text_of(alloc, items)),
             None => Err(RawErr::TooManyChars),
+        }
+    }
+}
+
+impl PlainText {
+    /// How much of a unit the characters from one place to another take together. It gives none of
+    /// them, and goes over them once.
+    pub fn units_between(&self, unit: Unit, from: u32, to: u32) -> u32
+        requires forward { from ≤ to }
+        requires within { to ≤ length self.now }
+        ensures sum { offset_of unit self.now from + result ≡ offset_of unit self.now to }
+        ensures small { offset_of unit self.now to < 2 ^ 32 }
+    {
+        match unit {
+            Unit::Chars => to - from,
+            Unit::Utf8 | Unit::Utf16 => total(&self.items[from as usize..to as usize], unit),
         }
     }
 }
@@ -169,7 +190,7 @@ impl EditText for PlainText {
         let _added = added(self.items.len(), at, remove, insert)?;
         let start = at as usize;
         put(&mut self.items, start, start + remove as usize, insert)?;
-        self.marks.renew(&self.items, start);
+        self.milestones.renew(&self.items, start);
         Ok(())
     }
 }
@@ -178,27 +199,38 @@ impl UnitText for PlainText {
     fn offset(&self, unit: Unit, i: u32) -> u32 {
         match unit {
             Unit::Chars => i,
-            Unit::Utf8 => before(&self.items, &self.marks.utf8, unit, i as usize),
-            Unit::Utf16 => before(&self.items, &self.marks.utf16, unit, i as usize),
+            Unit::Utf8 | Unit::Utf16 => {
+                let sums = self.milestones.sums_in(unit);
+                before(&self.items, sums, unit, i as usize)
+            }
+        }
+    }
+
+    fn make_ready(&mut self, unit: Unit) {
+        match unit {
+            Unit::Chars => {}
+            Unit::Utf8 | Unit::Utf16 => self.milestones.make(&self.items, unit),
         }
     }
 
     fn index(&self, unit: Unit, o: u32) -> Index {
         match unit {
             Unit::Chars => Index { at: o, whole: true },
-            Unit::Utf8 => index_in(&self.items, &self.marks.utf8, unit, o),
-            Unit::Utf16 => index_in(&self.items, &self.marks.utf16, unit, o),
+            Unit::Utf8 | Unit::Utf16 => {
+                let sums = self.milestones.sums_in(unit);
+                index_in(&self.items, sums, unit, o)
+            }
         }
     }
 }
 
-/// The place at an offset of the characters, by their marks, or the last place before it.
-fn index_in(items: &[char], marks: &[u32], unit: Unit, o: u32) -> Index
-    requires marks { AreMarks (size_of unit) items.now marks.now }
+/// The place at an offset of the characters, by their milestones, or the last place before it.
+fn index_in(items: &[char], sums: &[u32], unit: Unit, o: u32) -> Index
+    requires sums { AreMilestones (size_of unit) items.now sums.now }
     requires short { length items.now ≤ most_characters }
     ensures { IsIndex unit items.now o result }
 {
-    let fit = find(items, marks, unit, o);
+    let fit = find(items, sums, unit, o);
     Index {
         at: fit.count as u32,
         whole: fit.units == o,

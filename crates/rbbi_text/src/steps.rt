@@ -2,6 +2,7 @@
 ghost use Rattle.std.specs.Prelude.{◌≡◌, ◌+◌, ◌<◌};
 
 use std::marker::Model;
+use std::rt::Memory;
 use std::sync::ledger::{Blank, Book, Ledger, Share};
 
 /// How many characters and bytes were read. It takes no bytes, and counting does nothing at run
@@ -29,7 +30,20 @@ impl<L: Ledger> Steps<L> {
     /// the counter that it is passed. A function that makes a counter is generic over the ledger
     /// and takes the blank, with these clauses as its own. Who calls it passes the ledger `Brand`
     /// and a `Blank::new(1)`, and picks the blank's name and parts for the ledger.
-    pub fn new(_runtime: &HostRuntime, blank: Blank) -> Steps<L>
+    pub fn new(runtime: &HostRuntime, blank: Blank) -> Steps<L>
+        requires name { blank.name ≡ L.name }
+        requires parts { blank.parts ≡ L.parts }
+        requires some { 0 < blank.parts }
+        ensures { result ≡ 0 }
+    {
+        Steps::exported(runtime.memory(), blank)
+    }
+
+    /// A counter that stands at 0, on a new ledger, as `new` makes it.
+    ///
+    /// It takes the right to ask for memory, which `main`, tests and functions that C calls are
+    /// given, and no library is.
+    pub fn exported(_memory: Memory, blank: Blank) -> Steps<L>
         requires name { blank.name ≡ L.name }
         requires parts { blank.parts ≡ L.parts }
         requires some { 0 < blank.parts }

@@ -350,24 +350,39 @@ fn check_units<T: UnitText>(rt: &impl Abort, text: &T) {
 fn places_in_units(rt: HostRuntime) -> Result<(), Fail> {
     let alloc = rt.alloc();
     let text = "\u{feff}e\u{301}\r\u{1d11e}b";
-    check_units(&rt, &PlainText::new(alloc, text)?);
-    check_units(&rt, &Pieces::new(alloc, text)?);
+    let mut plain = PlainText::new(alloc, text)?;
+    let mut pieces = Pieces::new(alloc, text)?;
+    for unit in [Unit::Chars, Unit::Utf8, Unit::Utf16] {
+        plain.make_ready(unit);
+        check_units(&rt, &plain);
+        pieces.make_ready(unit);
+        check_units(&rt, &pieces);
+    }
     Ok(())
 }
 
-/// Whether the end of each third character of `a`, U+00E9, U+1D11E in turn lies where it must, up
-/// to this many thirds, where so much was put in front.
-fn thirds<T: UnitText>(text: &T, count: u32, front: (u32, u32, u32)) -> bool
-    requires count { count < 100000 }
-    requires front { (front.0 < 1000) × (front.1 < 1000) × (front.2 < 1000) }
+/// How much so many times `a`, U+00E9 and U+1D11E take.
+fn thirds_take(unit: Unit, count: u32) -> u32
+    requires { count < 100000 }
+    ensures { result < 1000000 }
 {
-    for k in 0..count {
-        let at = front.0 + 3 * k;
-        let index = Some(Index { at, whole: true });
-        if index_at(text, Unit::Utf8, front.1 + 7 * k) != index
-            || offset_at(text, Unit::Utf8, at) != Some(front.1 + 7 * k)
-            || index_at(text, Unit::Utf16, front.2 + 4 * k) != index
-            || offset_at(text, Unit::Utf16, at) != Some(front.2 + 4 * k)
+    match unit {
+        Unit::Chars => 3 * count,
+        Unit::Utf8 => 7 * count,
+        Unit::Utf16 => 4 * count,
+    }
+}
+
+/// Whether the end of each 45th character of `a`, U+00E9, U+1D11E in turn lies where it must, in a
+/// text of 90,000 of them, where so many characters that take so much of the unit were put in front.
+fn thirds<T: UnitText>(text: &T, unit: Unit, front: (u32, u32)) -> bool
+    requires { (front.0 < 1000) × (front.1 < 1000) }
+{
+    for k in 0..2001 {
+        let at = front.0 + 45 * k;
+        let offset = front.1 + thirds_take(unit, 15 * k);
+        if index_at(text, unit, offset) != Some(Index { at, whole: true })
+            || offset_at(text, unit, at) != Some(offset)
         {
             return false;
         }
@@ -375,23 +390,44 @@ fn thirds<T: UnitText>(text: &T, count: u32, front: (u32, u32, u32)) -> bool
     true
 }
 
-/// A long text, at first and after edits at its start.
-fn check_long<T: UnitText>(rt: &impl Abort, text: &mut T) {
-    assert!(rt; thirds(text, 30_001, (0, 0, 0)));
+/// A long text that is ready for a unit, at first and after edits at its start, behind which so
+/// much stands in front.
+fn check_long<T: UnitText>(rt: &impl Abort, text: &mut T, unit: Unit, one: u32, two: u32)
+    requires { (one < 1000) × (two < 1000) }
+{
+    text.make_ready(unit);
+    assert!(rt; thirds(text, unit, (0, 0)));
     assert_eq!(rt; edited(text, 0, 0, "\u{1d11e}"), "Ok");
-    assert!(rt; thirds(text, 30_001, (1, 4, 2)));
+    assert!(rt; thirds(text, unit, (1, one)));
     assert_eq!(rt; edited(text, 0, 1, "\u{e9}b"), "Ok");
-    assert!(rt; thirds(text, 30_001, (2, 3, 2)));
+    assert!(rt; thirds(text, unit, (2, two)));
 }
 
-#[test]
-fn places_in_long_texts(rt: HostRuntime) -> Result<(), Fail> {
-    let alloc = rt.alloc();
+/// A text of 90,000 characters.
+fn long_string(alloc: Global) -> Result<String, AllocError> {
     let mut string = String::new(alloc);
     for _ in 0..30_000 {
         string.push_str("a\u{e9}\u{1d11e}")?;
     }
-    check_long(&rt, &mut PlainText::new(alloc, &string)?);
-    check_long(&rt, &mut Pieces::new(alloc, &string)?);
+    Ok(string)
+}
+
+#[test]
+fn places_in_long_plain_texts(rt: HostRuntime) -> Result<(), Fail> {
+    let alloc = rt.alloc();
+    let string = long_string(alloc)?;
+    check_long(&rt, &mut PlainText::new(alloc, &string)?, Unit::Chars, 1, 2);
+    check_long(&rt, &mut PlainText::new(alloc, &string)?, Unit::Utf8, 4, 3);
+    check_long(&rt, &mut PlainText::new(alloc, &string)?, Unit::Utf16, 2, 2);
+    Ok(())
+}
+
+#[test]
+fn places_in_long_pieces(rt: HostRuntime) -> Result<(), Fail> {
+    let alloc = rt.alloc();
+    let string = long_string(alloc)?;
+    check_long(&rt, &mut Pieces::new(alloc, &string)?, Unit::Chars, 1, 2);
+    check_long(&rt, &mut Pieces::new(alloc, &string)?, Unit::Utf8, 4, 3);
+    check_long(&rt, &mut Pieces::new(alloc, &string)?, Unit::Utf16, 2, 2);
     Ok(())
 }

@@ -14,13 +14,18 @@ pub struct Index {
     pub whole: bool,
 }
 
-/// A text that knows where its places lie in each unit. Neither call takes memory or gives a
-/// character.
+/// A text that knows where its places lie in each unit. `offset` and `index` take no memory, and no
+/// call gives a character.
 pub trait UnitText: EditText {
     /// Where a place lies: how much of the unit the characters before it take together.
     fn offset(&self, unit: Unit, i: u32) -> u32
         requires { i ≤ length (Self.characters self.now) }
         ensures { result ≡ offset_of unit (Self.characters self.now) i };
+
+    /// Makes the text ready to find places in a unit without long walks over it, as far as memory
+    /// suffices. Places are right without it, and after edits too. In characters it does nothing.
+    fn make_ready(&mut self, unit: Unit)
+        ensures { Self.characters self.new ≡ Self.characters self.old };
 
     /// The place at an offset that isn't past the text's end, or the last place before it.
     fn index(&self, unit: Unit, o: u32) -> Index

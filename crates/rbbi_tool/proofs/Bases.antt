@@ -13,7 +13,8 @@ use Rattle.rbbi_command.specs.Inputs.{Inputs}
 use Rattle.rbbi_command.specs.declared.refusal.Refusal.{Refusal}
 use Rattle.rbbi_command.specs.Stages.{Stage, followed_by, gives}
 use Rattle.rbbi_tool.specs.inner.Stages.{Meets, Serves}
-use Rattle.rbbi_tool.specs.Basis.{limits_stage, compiled_stage, table_stage, basis_by}
+use Rattle.rbbi_props.specs.Rows.{File}
+use Rattle.rbbi_tool.specs.Basis.{limits_stage, compiled_stage, compiled_bytes_stage, MakesTable, table_stage, basis_by}
 use Rattle.rbbi_tool.specs.Basis.{Basis, ByRules, ByTable, IsTableOf, AreBoundariesBy}
 
 -- a table of the rules that a stage passes with
@@ -22,6 +23,12 @@ pub rules_serve : (stage : Stage (List Rule)) (rules : List Rule) (result : Resu
     → Serves IsCompiled (followed_by stage (λ rules. followed_by (limits_stage rules) (λ _. gives rules))) result
 rules_serve stage rules (Ok table) mean met compiled = (rules, (rules, mean, (tt, met, refl)), compiled)
 rules_serve stage rules (Err r) mean met compiled = ⊎_elim inl (λ is. inr (inr (rules, mean, inl is))) met
+
+-- the same for a caller that has the rule file in memory
+pub served_makes : (files : List File) (ignored : Bool) (bytes : List ℕ) (result : Result Table Refusal)
+    → Serves IsCompiled (compiled_bytes_stage files ignored bytes) result → MakesTable files ignored bytes result
+served_makes files ignored bytes (Ok table) served = served
+served_makes files ignored bytes (Err r) served = served
 
 module _ (options : Options) (inputs : Inputs) where
   -- boundaries come by a table of the rules of a rule file

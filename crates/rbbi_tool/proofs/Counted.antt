@@ -2,6 +2,7 @@
 use Rattle.std.proofs.Common.{◌≡◌, ℕ, ◌+◌, ◌<◌, ◌≤◌, List, [], ◌∷◌, length, take, get_or, refl, ap, ◌∙◌, subst, inl, inr, ⊎_elim, arith}
 use Rattle.std.specs.Prelude.{◌⊎◌, sum_by, Option, IfSome}
 use Rattle.std.proofs.lemmas.List.Sums.{sum_by-append, sum_by-cons, sum_by_more, sum_by-take-le}
+use Rattle.rbbi_model.specs.declared.unit.Unit.{Unit as TextUnit}
 use Rattle.rbbi_model.specs.Tables.{Table}
 use Rattle.rbbi_model.specs.Scripts as model
 use Rattle.rbbi_model.specs.Costs.{script_cost, breaks_cost}
@@ -61,9 +62,9 @@ module _ (basis : Stage Basis) (text : Stage (List ℕ)) (bytes before between a
     reads = rises_twice bytes (breaks_cost table x 0) before between after paid cost;
   })
 
-  pub replies_read : (script : Stage (List model.Command)) (commands : List model.Command) → script.passes commands
-      → RisesUpTo (script_cost table x commands) between after → RisesUpTo bytes before after ⊎ ReadsForScript basis text script bytes before after
-  replies_read script commands script_is cost = inr (record {
+  pub replies_read : (script : Stage (List model.Command)) (unit : TextUnit) (commands : List model.Command) → script.passes commands
+      → RisesUpTo (script_cost table unit x commands) between after → RisesUpTo bytes before after ⊎ ReadsForScript basis text script unit bytes before after
+  replies_read script unit commands script_is cost = inr (record {
     by = by;
     table = table;
     x = x;
@@ -72,7 +73,7 @@ module _ (basis : Stage Basis) (text : Stage (List ℕ)) (bytes before between a
     table_is = table_is;
     text_is = text_is;
     script_is = script_is;
-    reads = rises_twice bytes (script_cost table x commands) before between after paid cost;
+    reads = rises_twice bytes (script_cost table unit x commands) before between after paid cost;
   })
 
 -- where nothing is read, nothing is over the bound
@@ -150,7 +151,8 @@ reads_further Run request inputs few many before after less reads =
       table_is = r.table_is;
       text_is = r.text_is;
       script_is = r.script_is;
-      reads = rises_further (few + script_cost r.table r.x r.commands) (many + script_cost r.table r.x r.commands) before after r.reads (omega (arith, less));
+      reads = rises_further (few + script_cost r.table request.options.unit r.x r.commands) (many + script_cost r.table request.options.unit r.x r.commands)
+          before after r.reads (omega (arith, less));
     }))
     reads
 

@@ -1,7 +1,9 @@
--- The lines of the boundaries that searches find, one after another.
+-- The lines of the boundaries that searches find, one after another, with their places in a unit.
 use Rattle.std.proofs.Common.{◌≡◌, ℕ, zero, suc, ◌+◌, ◌-◌, ◌<◌, ◌≤◌, List, [], ◌∷◌, ◌++◌, length, cond, sym, refl, ap, ◌∙◌, arith, Option}
 use Rattle.std.proofs.lemmas.Bool.{lt-ltb, le-ltb}
+use Rattle.rbbi_model.specs.declared.unit.Unit.{Unit as TextUnit}
 use Rattle.rbbi_model.specs.Boundaries.{Boundary, start}
+use Rattle.rbbi_model.specs.Units.{offset_of, measured}
 use Rattle.rbbi_model.specs.Lines.{boundary_line, boundary_lines}
 use Rattle.rbbi_model.specs.Tables.{Table}
 use Rattle.rbbi_model.specs.Searches.{next_boundary, follow_by, table_boundaries}
@@ -31,52 +33,60 @@ ends table x (suc most) at past =
     let next : Boundary = next_boundary table x at in
     ap (λ t. cond t (next ∷ follow_by (next_boundary table x) (length x) most next) []) (le-ltb at (length x) past)
 
+-- the lines of boundaries, and a boundary, with places in the unit
+abbrev pub lines_in : TextUnit → List ℕ → List Boundary → List ℕ
+lines_in unit x boundaries = boundary_lines (measured unit x boundaries)
+
+abbrev pub measured_one : TextUnit → List ℕ → Boundary → Boundary
+measured_one unit x boundary = record { at = offset_of unit x boundary.at; statuses = boundary.statuses }
+
 -- The lines of the boundaries up to a place were made, those that follow it are the rest, and a front of them was put.
-pub record AreListedTo (table : Table) (x : List ℕ) (before now : Option (List ℕ)) (waiting : List ℕ) (at : ℕ) : Type 0 where
+pub record AreListedTo (table : Table) (unit : TextUnit) (x : List ℕ) (before now : Option (List ℕ)) (waiting : List ℕ) (at : ℕ) : Type 0 where
   pub within : at ≤ length x
   pub most : ℕ
   pub enough : length x ≤ at + most
-  pub put : IsPutTo (boundary_lines (table_boundaries table x)) (boundary_lines (following table x most at)) before now waiting
+  pub put : IsPutTo (lines_in unit x (table_boundaries table x)) (lines_in unit x (following table x most at)) before now waiting
 
 -- the text's start is listed
-pub listed_start : (table : Table) (x : List ℕ) (taken : Option (List ℕ)) (waiting : List ℕ) → waiting ≡ [] ++ boundary_line start
-    → AreListedTo table x taken taken waiting 0
-listed_start table x taken waiting is =
-    let rest : List ℕ = boundary_lines (following table x (length x) 0) in
+pub listed_start : (table : Table) (unit : TextUnit) (x : List ℕ) (taken : Option (List ℕ)) (waiting : List ℕ) → waiting ≡ [] ++ boundary_line start
+    → AreListedTo table unit x taken taken waiting 0
+listed_start table unit x taken waiting is =
+    let rest : List ℕ = lines_in unit x (following table x (length x) 0) in
     record {
       within = omega arith;
       most = length x;
       enough = omega arith;
-      put = put_none (boundary_lines (table_boundaries table x)) rest taken waiting
-          (ap (λ bs. boundary_line start ++ boundary_lines bs) (by_place table x (length x) start) ∙ ap (λ l. l ++ rest) (sym is));
+      put = put_none (lines_in unit x (table_boundaries table x)) rest taken waiting
+          (ap (λ bs. boundary_line start ++ lines_in unit x bs) (by_place table x (length x) start) ∙ ap (λ l. l ++ rest) (sym is));
     }
 
 -- one boundary more is listed
-pub listed_more : (table : Table) (x : List ℕ) (before now : Option (List ℕ)) (waiting made : List ℕ) (at next : ℕ)
-    → AreListedTo table x before now waiting at → at < length x
+pub listed_more : (table : Table) (unit : TextUnit) (x : List ℕ) (before now : Option (List ℕ)) (waiting made : List ℕ) (at next : ℕ)
+    → AreListedTo table unit x before now waiting at → at < length x
     → (at < (next_boundary table x at).at) × ((next_boundary table x at).at ≤ length x)
-    → next ≡ (next_boundary table x at).at → made ≡ waiting ++ boundary_line (next_boundary table x at) → AreListedTo table x before now made next
-listed_more table x before now waiting made at next so_far inside past is pushed = by_most so_far.most so_far.enough so_far.put
+    → next ≡ (next_boundary table x at).at → made ≡ waiting ++ boundary_line (measured_one unit x (next_boundary table x at))
+    → AreListedTo table unit x before now made next
+listed_more table unit x before now waiting made at next so_far inside past is pushed = by_most so_far.most so_far.enough so_far.put
   where
     by_most : (most : ℕ) → length x ≤ at + most
-        → IsPutTo (boundary_lines (table_boundaries table x)) (boundary_lines (following table x most at)) before now waiting
-        → AreListedTo table x before now made next
+        → IsPutTo (lines_in unit x (table_boundaries table x)) (lines_in unit x (following table x most at)) before now waiting
+        → AreListedTo table unit x before now made next
     by_most zero enough put = absurd (omega arith)
     by_most (suc most) enough put =
-        let line : List ℕ = boundary_line (next_boundary table x at) in
+        let line : List ℕ = boundary_line (measured_one unit x (next_boundary table x at)) in
         record {
           within = omega (arith, past.1);
           most = most;
           enough = omega (arith, past.0);
-          put = put_more (boundary_lines (table_boundaries table x)) (boundary_lines (following table x (suc most) at)) before now waiting put
-              line (boundary_lines (following table x most next)) made
-              (ap boundary_lines (follows table x most at inside) ∙ ap (λ n. line ++ boundary_lines (following table x most n)) (sym is)) pushed;
+          put = put_more (lines_in unit x (table_boundaries table x)) (lines_in unit x (following table x (suc most) at)) before now waiting put
+              line (lines_in unit x (following table x most next)) made
+              (ap (lines_in unit x) (follows table x most at inside) ∙ ap (λ n. line ++ lines_in unit x (following table x most n)) (sym is)) pushed;
         }
 
 -- some of the lines were put
-pub listed_flushed : (table : Table) (x : List ℕ) (before between now : Option (List ℕ)) (waiting left : List ℕ) (at : ℕ)
-    → AreListedTo table x before between waiting at → IsBuffered between now waiting left → AreListedTo table x before now left at
-listed_flushed table x before between now waiting left at so_far more = record {
+pub listed_flushed : (table : Table) (unit : TextUnit) (x : List ℕ) (before between now : Option (List ℕ)) (waiting left : List ℕ) (at : ℕ)
+    → AreListedTo table unit x before between waiting at → IsBuffered between now waiting left → AreListedTo table unit x before now left at
+listed_flushed table unit x before between now waiting left at so_far more = record {
   within = so_far.within;
   most = so_far.most;
   enough = so_far.enough;
@@ -84,7 +94,8 @@ listed_flushed table x before between now waiting left at so_far more = record {
 }
 
 -- at the text's end all are listed
-pub all_listed : (table : Table) (x : List ℕ) (before between now : Option (List ℕ)) (waiting : List ℕ) (at : ℕ)
-    → AreListedTo table x before between waiting at → length x ≤ at → Takes between now waiting → Takes before now (boundary_lines (table_boundaries table x))
-all_listed table x before between now waiting at so_far past more =
-    put_end _ _ before between waiting so_far.put (ap boundary_lines (ends table x so_far.most at past)) now more
+pub all_listed : (table : Table) (unit : TextUnit) (x : List ℕ) (before between now : Option (List ℕ)) (waiting : List ℕ) (at : ℕ)
+    → AreListedTo table unit x before between waiting at → length x ≤ at → Takes between now waiting
+    → Takes before now (lines_in unit x (table_boundaries table x))
+all_listed table unit x before between now waiting at so_far past more =
+    put_end _ _ before between waiting so_far.put (ap (lines_in unit x) (ends table x so_far.most at past)) now more

@@ -7,7 +7,9 @@ use Rattle.rbbi_model.specs.Rules.{Rule}
 use Rattle.rbbi_model.specs.Boundaries.{Boundary, AreBoundaries}
 use Rattle.rbbi_model.specs.Lines.{boundary_lines, all_reply_lines}
 use Rattle.rbbi_model.specs.Answers.{Reply}
-use Rattle.rbbi_model.specs.Scripts.{AreReplies}
+use Rattle.rbbi_model.specs.declared.unit.Unit.{Unit as TextUnit}
+use Rattle.rbbi_model.specs.Units.{measured}
+use Rattle.rbbi_model.specs.Plays.{AreReplies}
 use Rattle.rbbi_model.specs.Scripts as scripts
 use Rattle.rbbi_model.specs.Tables.{Table}
 use Rattle.rbbi_lex.specs.declared.token.Token.{Token}
@@ -92,8 +94,8 @@ pub record Laws : Type 0 where
   pub answers : (bytes : List ℕ) (one other : Result Table FileErr) → ReadsTable bytes one → ReadsTable bytes other → one ≢ Err file.Memory
       → other ≢ Err file.Memory → one ≡ other
   pub boundaries : (rules : List Rule) (x : List ℕ) (these those : List Boundary) → AreBoundaries rules x these → AreBoundaries rules x those → these ≡ those
-  pub replies : (rules : List Rule) (x : List ℕ) (commands : List scripts.Command) (these those : List Reply) → AreReplies rules x commands these
-      → AreReplies rules x commands those → these ≡ those
+  pub replies : (rules : List Rule) (unit : TextUnit) (x : List ℕ) (commands : List scripts.Command) (these those : List Reply)
+      → AreReplies rules unit x commands these → AreReplies rules unit x commands those → these ≡ those
   pub scripts : HaveOneScript
   pub summaries : (rules : List Rule) (count : ℕ) (one other : Summary) → IsSummary (AreBoundaries rules) count one
       → IsSummary (AreBoundaries rules) count other → one ≡ other
@@ -336,22 +338,25 @@ module _ (laws : Laws) where
   same_boundaries (ByRules rules) x these those are are' = laws.boundaries rules x these those are are'
   same_boundaries (ByTable table) x these those are are' = are ∙ sym are'
 
-  boundaries_determined : (basis : Basis) (x : List ℕ) → IsDeterministic Outcome (boundaries_stage basis x)
-  boundaries_determined basis x = record {
-    value = λ o p (bs, are, is) (cs, are', is'). is ∙ ap (λ list. printed (boundary_lines list)) (same_boundaries basis x bs cs are are') ∙ sym is';
+  boundaries_determined : (basis : Basis) (unit : TextUnit) (x : List ℕ) → IsDeterministic Outcome (boundaries_stage basis unit x)
+  boundaries_determined basis unit x = record {
+    value = λ o p (bs, are, is) (cs, are', is').
+        is ∙ ap (λ list. printed (boundary_lines (measured unit x list))) (same_boundaries basis x bs cs are are') ∙ sym is';
     refusal = λ r s is is'. absurd is;
     apart = λ o r is is'. is';
   }
 
   -- replies are determined
-  same_replies : (basis : Basis) (x : List ℕ) (commands : List scripts.Command) (these those : List Reply) → AreRepliesFrom basis x commands these
-      → AreRepliesFrom basis x commands those → these ≡ those
-  same_replies (ByRules rules) x commands these those are are' = laws.replies rules x commands these those are are'
-  same_replies (ByTable table) x commands these those are are' = are ∙ sym are'
+  same_replies : (basis : Basis) (unit : TextUnit) (x : List ℕ) (commands : List scripts.Command) (these those : List Reply)
+      → AreRepliesFrom basis unit x commands these → AreRepliesFrom basis unit x commands those → these ≡ those
+  same_replies (ByRules rules) unit x commands these those are are' = laws.replies rules unit x commands these those are are'
+  same_replies (ByTable table) unit x commands these those are are' = are ∙ sym are'
 
-  replies_determined : (basis : Basis) (x : List ℕ) (commands : List scripts.Command) → IsDeterministic Outcome (replies_stage basis x commands)
-  replies_determined basis x commands = record {
-    value = λ o p (rs, are, is) (ss, are', is'). is ∙ ap (λ list. printed (all_reply_lines list)) (same_replies basis x commands rs ss are are') ∙ sym is';
+  replies_determined : (basis : Basis) (unit : TextUnit) (x : List ℕ) (commands : List scripts.Command)
+      → IsDeterministic Outcome (replies_stage basis unit x commands)
+  replies_determined basis unit x commands = record {
+    value = λ o p (rs, are, is) (ss, are', is').
+        is ∙ ap (λ list. printed (all_reply_lines list)) (same_replies basis unit x commands rs ss are are') ∙ sym is';
     refusal = λ r s is is'. absurd is;
     apart = λ o r is is'. is';
   }
@@ -409,17 +414,19 @@ module _ (laws : Laws) where
   command_settled Run request inputs =
       let text = text_stage inputs.text in
       let script = script_stage inputs.script in
-      by_basis request.options inputs (λ basis. followed_by text (λ x. followed_by script (replies_stage basis x)))
-      (λ basis. determined_both text (λ x. followed_by script (replies_stage basis x)) (text_determined inputs.text)
-      (λ x. determined_both script (replies_stage basis x) (script_determined laws.scripts inputs.script) (replies_determined basis x)))
+      let unit = request.options.unit in
+      by_basis request.options inputs (λ basis. followed_by text (λ x. followed_by script (replies_stage basis unit x)))
+      (λ basis. determined_both text (λ x. followed_by script (replies_stage basis unit x)) (text_determined inputs.text)
+      (λ x. determined_both script (replies_stage basis unit x) (script_determined laws.scripts inputs.script) (replies_determined basis unit x)))
   command_settled Conform request inputs =
       let tests = tests_stage inputs.tests in
       by_basis request.options inputs (λ basis. followed_by tests (verdicts_stage basis))
       (λ basis. determined_both tests (verdicts_stage basis) (tests_determined laws.tests inputs.tests) (verdicts_determined basis))
   command_settled Breaks request inputs =
       let text = text_stage inputs.text in
-      by_basis request.options inputs (λ basis. followed_by text (boundaries_stage basis))
-      (λ basis. determined_both text (boundaries_stage basis) (text_determined inputs.text) (boundaries_determined basis))
+      let unit = request.options.unit in
+      by_basis request.options inputs (λ basis. followed_by text (boundaries_stage basis unit))
+      (λ basis. determined_both text (boundaries_stage basis unit) (text_determined inputs.text) (boundaries_determined basis unit))
   command_settled Demo request inputs =
       let word : List ℕ = nth request.operands 0 in
       settled AreAlike (command_stage Demo request inputs) alike

@@ -1,5 +1,5 @@
 -- What the boundaries of a text come by: the rules of a rule file, or a table.
-use Rattle.std.specs.Prelude.{◌≡◌, ◌≢◌, ℕ, Bool, true, false, Err, List, [], codes, Option, Some, None}
+use Rattle.std.specs.Prelude.{◌≡◌, ◌≢◌, ◌⊎◌, ℕ, Bool, true, false, Result, Ok, Err, List, [], codes, Option, Some, None}
 use Rattle.rbbi_model.specs.Rules.{Rule}
 use Rattle.rbbi_model.specs.Boundaries.{Boundary, AreBoundaries}
 use Rattle.rbbi_model.specs.Tables.{Table}
@@ -22,9 +22,10 @@ use Rattle.rbbi_command.specs.declared.refusal.Subject.TheVariants as subject
 use Rattle.rbbi_command.specs.declared.refusal.Place.{Place}
 use Rattle.rbbi_command.specs.declared.refusal.Place.TheVariants.{Whole, Byte}
 use Rattle.rbbi_command.specs.declared.refusal.Refusal.{Refusal}
-use Rattle.rbbi_command.specs.declared.refusal.Refusal.TheVariants.{Fault}
+use Rattle.rbbi_command.specs.declared.refusal.Refusal.TheVariants.{Fault, Memory}
 use Rattle.rbbi_command.specs.Stages.{Stage, followed_by, gives}
-use Rattle.rbbi_tool.specs.Rules.{rules_stage, rules_of_text_stage}
+use Rattle.rbbi_props.specs.Rows.{File}
+use Rattle.rbbi_tool.specs.Rules.{rules_stage, rule_bytes_stage, rules_of_text_stage}
 
 -- there are at most 1,000 categories, category 0 counted, or more
 abbrev pub categories_stage : List Rule → Stage (Unit {0})
@@ -55,6 +56,15 @@ compiled_stage options inputs = followed_by (rules_stage options inputs) (λ rul
 -- the rules of a text that has a table, without property files
 abbrev pub compiled_text_stage : List ℕ → Stage (List Rule)
 compiled_text_stage x = followed_by (rules_of_text_stage [] false x) (λ rules. followed_by (limits_stage rules) (λ _. gives rules))
+
+-- the rules of the bytes of a rule file that has a table, with these property files
+abbrev pub compiled_bytes_stage : List File → Bool → List ℕ → Stage (List Rule)
+compiled_bytes_stage files ignored bytes = followed_by (rule_bytes_stage files ignored bytes) (λ rules. followed_by (limits_stage rules) (λ _. gives rules))
+
+-- A table of the rules of these bytes, or their first fault. Want of memory tells nothing.
+abbrev pub MakesTable : List File → Bool → List ℕ → Result Table Refusal → Type 0
+MakesTable files ignored bytes (Ok table) = (rules : List Rule) × (compiled_bytes_stage files ignored bytes).passes rules × IsCompiled table rules
+MakesTable files ignored bytes (Err refusal) = (refusal ≡ Memory) ⊎ (compiled_bytes_stage files ignored bytes).refuses refusal
 
 -- the place of a fault of a table file
 abbrev pub table_place : Option ℕ → Place

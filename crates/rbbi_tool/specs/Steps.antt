@@ -1,5 +1,6 @@
 -- How much a run of the program reads: characters of its text, and bytes of its other files.
 use Rattle.std.specs.Prelude.{◌⊎◌, ℕ, ◌+◌, List, length, sum_by}
+use Rattle.rbbi_model.specs.declared.unit.Unit.{Unit as TextUnit}
 use Rattle.rbbi_model.specs.Tables.{Table}
 use Rattle.rbbi_model.specs.Scripts as model
 use Rattle.rbbi_model.specs.Costs.{script_cost, breaks_cost}
@@ -35,8 +36,9 @@ pub record ReadsForBreaks (basis : Stage Basis) (text : Stage (List ℕ)) (bytes
   pub text_is : text.passes x
   pub reads : RisesUpTo (bytes + breaks_cost table x 0) before after
 
--- There are a table, a text and commands: so many bytes are read, and what the commands cost over the text.
-pub record ReadsForScript (basis : Stage Basis) (text : Stage (List ℕ)) (script : Stage (List model.Command)) (bytes before after : ℕ) : Type 0 where
+-- There are a table, a text and commands: so many bytes are read, and what the commands cost over the text, in the unit.
+pub record ReadsForScript (basis : Stage Basis) (text : Stage (List ℕ)) (script : Stage (List model.Command)) (unit : TextUnit) (bytes before after : ℕ) :
+    Type 0 where
   pub by : Basis
   pub table : Table
   pub x : List ℕ
@@ -45,7 +47,7 @@ pub record ReadsForScript (basis : Stage Basis) (text : Stage (List ℕ)) (scrip
   pub table_is : IsTableOf table by
   pub text_is : text.passes x
   pub script_is : script.passes commands
-  pub reads : RisesUpTo (bytes + script_cost table x commands) before after
+  pub reads : RisesUpTo (bytes + script_cost table unit x commands) before after
 
 -- What a command reads, given its files: at most so many bytes, or also what it costs to answer, where it comes to that. Of the
 -- other commands nothing is said.
@@ -54,7 +56,7 @@ CommandReads Breaks request inputs bytes before after =
     RisesUpTo bytes before after ⊎ ReadsForBreaks (basis_stage request.options inputs) (text_stage inputs.text) bytes before after
 CommandReads Run request inputs bytes before after =
     RisesUpTo bytes before after
-    ⊎ ReadsForScript (basis_stage request.options inputs) (text_stage inputs.text) (script_stage inputs.script) bytes before after
+    ⊎ ReadsForScript (basis_stage request.options inputs) (text_stage inputs.text) (script_stage inputs.script) request.options.unit bytes before after
 CommandReads command request inputs bytes before after = Unit {0}
 
 -- what a request reads over files that hold this

@@ -22,3 +22,4 @@ mod texts;
 pub use in_memory::rbbi_in_memory;
 pub use laws::outcomes_are_unique;
 pub use program::rbbi;
+pub use tables::table_of_rules;

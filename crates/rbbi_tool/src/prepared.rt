@@ -3,7 +3,7 @@
 use rbbi_command::Output;
 use rbbi_script::Commands;
 use rbbi_table::Table;
-use rbbi_text::{Pieces, PlainText};
+use rbbi_text::{Pieces, PlainText, Unit};
 
 /// What a request comes to, which determines all that is written.
 #[derive(Drop)]
@@ -17,8 +17,8 @@ pub(crate) enum Prepared {
 /// Lines that are made while they go out.
 #[derive(Drop)]
 pub(crate) enum Lines {
-    /// Those of all boundaries of a text by a table.
-    Boundaries(Table, PlainText),
-    /// Those of the replies to the commands of a script, over a text, by a table.
-    Replies(Table, Pieces, Commands),
+    /// Those of all boundaries of a text by a table, with their places in a unit.
+    Boundaries(Table, PlainText, Unit),
+    /// Those of the replies to the commands of a script, over a text, by a table, in a unit.
+    Replies(Table, Pieces, Unit, Commands),
 }

@@ -126,7 +126,24 @@ pub(crate) fn rules_of_text(
 {
     let tokens = tokens_of(alloc, text)?;
     let statements = statements_of(alloc, text, &tokens)?;
+    drop(tokens);
     meaning_of(alloc, text, &statements, props, ignored)
+}
+
+/// The rules of the bytes of a rule file, with property files that were read. Its fault is the first
+/// of its bytes, its tokens, its grammar and its meaning.
+pub(crate) fn rules_of_bytes(
+    alloc: Global,
+    bytes: &[u8],
+    props: &PropTable,
+    ignored: bool,
+) -> Result<Rules, Refusal>
+    requires { length bytes.now ≤ most_bytes }
+    ensures exact { Meets rules_of (spec.rule_bytes_stage props.now ignored bytes.now) result }
+    ensures lawful { IfOk result (λ rules. AreLawful (rules_of rules)) }
+{
+    let text = text_of(alloc, bytes)?;
+    rules_of_text(alloc, text, props, ignored)
 }
 
 /// The rules of a rule file. Its fault is the first of the property files, of its bytes, its
@@ -145,6 +162,5 @@ pub(crate) fn rules_from<L: Ledger>(
         steps.old steps.new }
 {
     let props = properties_of(alloc, options, inputs, steps)?;
-    let text = text_of(alloc, inputs.rules.bytes(steps))?;
-    rules_of_text(alloc, text, &props, options.ignored)
+    rules_of_bytes(alloc, inputs.rules.bytes(steps), &props, options.ignored)
 }

@@ -10,9 +10,10 @@ ghost use Rattle.rbbi_tool.specs.inner.Stages.{Meets, Serves};
 ghost use Rattle.rbbi_command.specs.Requests.{options_in};
 ghost use Rattle.rbbi_command.specs.Inputs.{inputs_in, AreShort};
 ghost use Rattle.rbbi_tool.specs.inner.Steps.{basis_bytes};
+ghost use Rattle.rbbi_tool.specs.Basis.{MakesTable};
 ghost use Rattle.rbbi_tool.specs.Basis as spec;
 
-use crate::rules::{rules_from, rules_of_text};
+use crate::rules::{rules_from, rules_of_bytes, rules_of_text};
 use rbbi_cats::{Categories, CatsErr};
 use rbbi_command::{Inputs, Options, Place, Refusal, Subject, fault};
 use rbbi_dfa::BuildErr;
@@ -66,6 +67,24 @@ pub(crate) fn table_of(alloc: Global, rules: &Rules) -> Result<Table, Refusal>
 {
     let cats = categories_of(alloc, rules)?;
     built(alloc, rules, &cats)
+}
+
+/// The table of the bytes of a rule file, with property files that were read, for a caller that has
+/// them in memory. Where `ignored` holds, `$dictionary` is.
+///
+/// Refuses the first fault of the bytes, the tokens, the grammar, the meaning, the number of
+/// categories and the size of the table, or want of memory.
+pub fn table_of_rules(
+    alloc: Global,
+    bytes: &[u8],
+    props: &PropTable,
+    ignored: bool,
+) -> Result<Table, Refusal>
+    requires { length bytes.now ≤ most_bytes }
+    ensures { MakesTable props.now ignored bytes.now result }
+{
+    let rules = rules_of_bytes(alloc, bytes, props, ignored)?;
+    table_of(alloc, &rules)
 }
 
 /// The table of the rules of a text, without property files.

@@ -33,6 +33,8 @@ pub(crate) enum Takes {
     RuleOptions,
     /// Those on rule files; or the one that says that the first operand is a table file.
     RuleOptionsOrTable,
+    /// These, and the unit of places beside them.
+    RuleOptionsOrTableAndUnit,
 }
 
 /// What an operand of a command is.
@@ -53,7 +55,8 @@ impl Command {
     {
         match self {
             Command::Check | Command::Compile => Takes::RuleOptions,
-            Command::Breaks | Command::Run | Command::Conform => Takes::RuleOptionsOrTable,
+            Command::Breaks | Command::Run => Takes::RuleOptionsOrTableAndUnit,
+            Command::Conform => Takes::RuleOptionsOrTable,
             Command::Upgrade | Command::Demo => Takes::NoOptions,
         }
     }

@@ -6,6 +6,7 @@ ghost use Rattle.rbbi_command.specs.Requests.{options_in};
 
 use super::command::Takes;
 use super::setting::{Property, Setting};
+use rbbi_text::Unit;
 use std::alloc::{AllocError, Global};
 
 /// The most property files that may be handed in.
@@ -20,6 +21,8 @@ pub struct Options {
     pub ignored: bool,
     /// Whether the first operand is a table file.
     pub by_table: bool,
+    /// The unit of places, numbers and lengths.
+    pub unit: Unit,
 }
 
 fn are_by_table(settings: &[Setting]) -> bool
@@ -52,11 +55,36 @@ fn count_ignoring(settings: &[Setting]) -> usize
         .count()
 }
 
+fn count_units(settings: &[Setting]) -> usize
+    ensures { result ≡ count_by spec.is_unit settings.now }
+{
+    settings.iter().filter(|setting| setting.is_unit()).count()
+}
+
+/// The unit that the options name, or characters.
+fn unit_of(settings: &[Setting]) -> Unit
+    ensures { result ≡ spec.unit_of settings.now }
+{
+    settings.iter().fold(Unit::Chars, |unit, setting| setting.unit().unwrap_or(unit))
+}
+
 /// Whether there are at most 16 property files, and `$dictionary` is ignored once at most.
 fn are_few(settings: &[Setting]) -> bool
     ensures { result ≡ spec.are_few settings.now }
 {
     count_properties(settings) <= MOST_PROPERTIES && count_ignoring(settings) <= 1
+}
+
+/// Whether the options say by what boundaries come: a table file, and then of the others the unit
+/// alone may be there; or rules.
+fn are_basis(settings: &[Setting]) -> bool
+    ensures { result ≡ spec.are_basis settings.now }
+{
+    if are_by_table(settings) {
+        settings.len().saturating_sub(count_units(settings)) == 1
+    } else {
+        are_few(settings)
+    }
 }
 
 /// Whether a command that takes such options takes these.
@@ -65,14 +93,11 @@ pub(super) fn are_taken(takes: Takes, settings: &[Setting]) -> bool
 {
     match takes {
         Takes::NoOptions => settings.is_empty(),
-        Takes::RuleOptions => !are_by_table(settings) && are_few(settings),
-        Takes::RuleOptionsOrTable => {
-            if are_by_table(settings) {
-                settings.len() == 1
-            } else {
-                are_few(settings)
-            }
+        Takes::RuleOptions => {
+            !are_by_table(settings) && are_few(settings) && count_units(settings) == 0
         }
+        Takes::RuleOptionsOrTable => are_basis(settings) && count_units(settings) == 0,
+        Takes::RuleOptionsOrTableAndUnit => are_basis(settings) && count_units(settings) <= 1,
     }
 }
 
@@ -82,6 +107,7 @@ pub(super) fn options_of(alloc: Global, settings: Vec<Setting>) -> Result<Option
 {
     let ignored = ignores_dictionary(&settings);
     let by_table = are_by_table(&settings);
+    let unit = unit_of(&settings);
     let properties = settings
         .into_iter()
         .filter_map(|setting| setting.into_property())
@@ -90,5 +116,6 @@ pub(super) fn options_of(alloc: Global, settings: Vec<Setting>) -> Result<Option
         properties,
         ignored,
         by_table,
+        unit,
     })
 }

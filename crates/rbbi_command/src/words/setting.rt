@@ -6,9 +6,11 @@ ghost use Rattle.std.specs.Char.{is_ascii_alphanumeric};
 ghost use Rattle.std.specs.String.{string_bytes};
 ghost use Rattle.rbbi_command.specs.declared.words.setting.Property.{Property};
 ghost use Rattle.rbbi_command.specs.declared.words.setting.Setting.{Setting};
+ghost use Rattle.rbbi_model.specs.declared.unit.Unit.{Unit as TextUnit};
 ghost use Rattle.rbbi_command.specs.Settings as spec;
 
 use crate::Name;
+use rbbi_text::Unit;
 use std::alloc::{AllocError, Global};
 
 /// A property file that is handed in.
@@ -29,6 +31,8 @@ pub(super) enum Setting {
     IgnoreDictionary,
     /// Take the first operand as a table file.
     ByTable,
+    /// Count places, numbers and lengths in a unit.
+    CountIn(Unit),
 }
 
 impl Setting {
@@ -37,7 +41,7 @@ impl Setting {
         ensures { result ≡ length (spec.spelled self.now) }
     {
         match self {
-            Setting::HandIn(_) => 2,
+            Setting::HandIn(_) | Setting::CountIn(_) => 2,
             Setting::IgnoreDictionary | Setting::ByTable => 1,
         }
     }
@@ -48,7 +52,7 @@ impl Setting {
     {
         match self {
             Setting::HandIn(_) => true,
-            Setting::IgnoreDictionary | Setting::ByTable => false,
+            Setting::IgnoreDictionary | Setting::ByTable | Setting::CountIn(_) => false,
         }
     }
 
@@ -58,7 +62,7 @@ impl Setting {
     {
         match self {
             Setting::HandIn(property) => Some(property),
-            Setting::IgnoreDictionary | Setting::ByTable => None,
+            Setting::IgnoreDictionary | Setting::ByTable | Setting::CountIn(_) => None,
         }
     }
 
@@ -68,7 +72,7 @@ impl Setting {
     {
         match self {
             Setting::IgnoreDictionary => true,
-            Setting::HandIn(_) | Setting::ByTable => false,
+            Setting::HandIn(_) | Setting::ByTable | Setting::CountIn(_) => false,
         }
     }
 
@@ -78,7 +82,27 @@ impl Setting {
     {
         match self {
             Setting::ByTable => true,
-            Setting::HandIn(_) | Setting::IgnoreDictionary => false,
+            Setting::HandIn(_) | Setting::IgnoreDictionary | Setting::CountIn(_) => false,
+        }
+    }
+
+    /// Whether it names a unit.
+    pub(super) fn is_unit(&self) -> bool
+        ensures { result ≡ spec.is_unit self.now }
+    {
+        match self {
+            Setting::CountIn(_) => true,
+            Setting::HandIn(_) | Setting::IgnoreDictionary | Setting::ByTable => false,
+        }
+    }
+
+    /// The unit that it names.
+    pub(super) fn unit(&self) -> Option<Unit>
+        ensures { result ≡ spec.unit_in self.now }
+    {
+        match self {
+            Setting::CountIn(unit) => Some(*unit),
+            Setting::HandIn(_) | Setting::IgnoreDictionary | Setting::ByTable => None,
         }
     }
 }
@@ -131,6 +155,20 @@ fn property_of(alloc: Global, word: &str) -> Result<Option<Setting>, AllocError>
     Ok(Some(Setting::HandIn(Property { name, file })))
 }
 
+/// The option on the unit that a word names, where it names one.
+fn unit_of(word: &str) -> Option<Setting>
+    ensures { MatchOption result ((unit : TextUnit) → word.now ≢ spec.unit_word unit)
+        (λ setting. spec.IsSetting setting
+        × (spec.spelled setting ≡ codes "--units" ∷ word.now ∷ [])) }
+{
+    match word {
+        "chars" => Some(Setting::CountIn(Unit::Chars)),
+        "utf8" => Some(Setting::CountIn(Unit::Utf8)),
+        "utf16" => Some(Setting::CountIn(Unit::Utf16)),
+        _ => None,
+    }
+}
+
 /// The option that these words begin with, where they begin with one.
 fn setting_of(alloc: Global, words: &[String]) -> Result<Option<Setting>, AllocError>
     ensures { IfOk result (λ found. MatchOption found
@@ -147,6 +185,10 @@ fn setting_of(alloc: Global, words: &[String]) -> Result<Option<Setting>, AllocE
         "--table" => Ok(Some(Setting::ByTable)),
         "--prop" => match more.first() {
             Some(word) => property_of(alloc, word.as_str()),
+            None => Ok(None),
+        },
+        "--units" => match more.first() {
+            Some(word) => Ok(unit_of(word.as_str())),
             None => Ok(None),
         },
         _ => Ok(None),

@@ -1,8 +1,7 @@
 -- What a request comes to before anything is written: all that is written of it, and what is read while it is made.
 use Rattle.std.specs.Prelude.{ℕ, List, map, Result, Ok, Err}
 use Rattle.rbbi_model.specs.Lines.{boundary_lines, all_reply_lines}
-use Rattle.rbbi_model.specs.Searches.{table_boundaries}
-use Rattle.rbbi_model.specs.Scripts.{table_replies}
+use Rattle.rbbi_model.specs.Plays.{measured_boundaries, table_replies}
 use Rattle.rbbi_model.specs.Costs.{breaks_cost, script_cost}
 use Rattle.rbbi_text.specs.Steps.{RisesUpTo}
 use Rattle.rbbi_script.specs.Meaning.{meaning}
@@ -15,13 +14,13 @@ use Rattle.rbbi_tool.specs.declared.prepared.Prepared.TheVariants.{Ready, Waitin
 
 -- the bytes of the lines
 abbrev pub bytes_of : Lines → List ℕ
-bytes_of (Boundaries table x) = boundary_lines (table_boundaries table x)
-bytes_of (Replies table x commands) = all_reply_lines (table_replies table x (map meaning commands))
+bytes_of (Boundaries table x unit) = boundary_lines (measured_boundaries table unit x)
+bytes_of (Replies table x unit commands) = all_reply_lines (table_replies table unit x (map meaning commands))
 
 -- how much of the text is read while the lines are made
 abbrev pub cost_of : Lines → ℕ
-cost_of (Boundaries table x) = breaks_cost table x 0
-cost_of (Replies table x commands) = script_cost table x (map meaning commands)
+cost_of (Boundaries table x unit) = breaks_cost table x 0
+cost_of (Replies table x unit commands) = script_cost table unit x (map meaning commands)
 
 -- all that is written
 abbrev pub outcome_of : Prepared → Outcome

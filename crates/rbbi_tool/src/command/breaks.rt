@@ -19,7 +19,8 @@ use rbbi_text::Steps;
 use std::alloc::Global;
 use std::sync::ledger::Ledger;
 
-/// The boundaries of a text file by a rule file or a table file, a line for each.
+/// The boundaries of a text file by a rule file or a table file, a line for each, with its place in
+/// the unit that the options name.
 pub(crate) fn breaks<L: Ledger>(
     alloc: Global,
     options: &Options,
@@ -37,5 +38,5 @@ pub(crate) fn breaks<L: Ledger>(
     let table = table_from(alloc, options, inputs, steps)?;
     let text = text_of(alloc, &inputs.text)?;
     rbbi_model::same_marks_give_the_boundaries();
-    Ok(Prepared::Waiting(Lines::Boundaries(table, text)))
+    Ok(Prepared::Waiting(Lines::Boundaries(table, text, options.unit)))
 }

@@ -21,7 +21,8 @@ use rbbi_text::Steps;
 use std::alloc::Global;
 use std::sync::ledger::Ledger;
 
-/// The replies to a script over a text file, by a rule file or a table file.
+/// The replies to a script over a text file, by a rule file or a table file, in the unit that the
+/// options name.
 pub(crate) fn run<L: Ledger>(
     alloc: Global,
     options: &Options,
@@ -34,7 +35,8 @@ pub(crate) fn run<L: Ledger>(
     ensures steps { let bytes = given_bytes (inputs_in inputs.now) in
         ReadsByEnd (rest_after result) (λ before end. RisesUpTo bytes before end
         ⊎ ReadsForScript (basis_stage (options_in options.now) (inputs_in inputs.now))
-        (text_stage inputs.now.text) (script_stage inputs.now.script) bytes before end)
+        (text_stage inputs.now.text) (script_stage inputs.now.script) options.now.unit bytes
+        before end)
         steps.old steps.new }
 {
     let table = table_from(alloc, options, inputs, steps)?;
@@ -42,5 +44,5 @@ pub(crate) fn run<L: Ledger>(
     let commands = commands_of(alloc, &inputs.script, steps)?;
     rbbi_model::same_marks_give_the_boundaries();
     rbbi_model::table_replies_are_those_of_the_rules();
-    Ok(Prepared::Waiting(Lines::Replies(table, text, commands)))
+    Ok(Prepared::Waiting(Lines::Replies(table, text, options.unit, commands)))
 }

@@ -1,13 +1,13 @@
 use Rattle.std.proofs.Common.{ℕ, suc, ◌<◌, List, length, map, take, drop, sym, subst, arith}
 use Rattle.std.proofs.lemmas.Result.{err_from_is_err_and}
 use Rattle.rbbi_model.specs.Lines.{all_reply_lines}
-use Rattle.rbbi_session.specs.Sessions.{Session}
+use Rattle.rbbi_model.specs.Costs.{commands_cost}
+use Rattle.rbbi_session.specs.UnitSessions.{UnitSession, state_of}
 use Rattle.rbbi_script.specs.declared.command.Command.{Command}
 use Rattle.rbbi_script.specs.Meaning.{meaning}
 use Rattle.rbbi_text.specs.Appending.{AppendsFront}
 use Rattle.rbbi_script.specs.Performing.{replies_of}
 use Rattle.rbbi_text.specs.Steps.{RisesUpTo}
-use Rattle.rbbi_script.specs.Reading.{commands_cost}
 use Rattle.rbbi_script.proofs.Performed.{broken_off, mapped_parts, mapped_more}
 use Rattle.rbbi_script.proofs.Played.{ArePaid, one_more_paid, all_paid}
 use Rattle.rbbi_script.proofs.performing.play.Goals as goal
@@ -15,7 +15,7 @@ use Rattle.rbbi_script.proofs.performing.play.Goals as goal
 pub returns-in_err-perform-clause-replies : goal.returns-in_err-perform-clause-replies
 returns-in_err-perform-clause-replies g c =
     let told = err_from_is_err_and c.from_residual.result c.from_residual.ensures.1 in
-    let old : Session = c.args.session.now in
+    let old : UnitSession = c.args.session.now in
     let commands : List Command = c.args.commands.now in
     let i : ℕ = c.loop-i.i in
     let within : c.loop-i.i < length c.args.commands.now = omega (arith, c.loop-i-test.true, c.len-i-end.ensures) in
@@ -39,11 +39,12 @@ returns-in_err-perform-clause-replies g c =
 
 pub returns-in_err-perform-clause-cost : goal.returns-in_err-perform-clause-cost
 returns-in_err-perform-clause-cost g c =
-    let old : Session = c.args.session.now in
+    let old : UnitSession = c.args.session.now in
     let commands : List Command = c.args.commands.now in
     let i : ℕ = c.loop-i.i in
     let within : c.loop-i.i < length c.args.commands.now = omega (arith, c.loop-i-test.true, c.len-i-end.ensures) in
-    subst (λ cs. RisesUpTo (commands_cost c.args.session.now.table c.args.session.now.state cs) c.args.steps.now c.perform.new.steps)
+    subst (λ cs. RisesUpTo (commands_cost c.args.session.now.asked.table c.args.session.now.unit (state_of c.args.session.now) cs) c.args.steps.now
+    c.perform.new.steps)
     (mapped_parts meaning commands i c.get.result.now within c.get.ensures)
     (all_paid old (map meaning (take i commands)) c.args.replies.now.items c.loop-i.session c.loop-i.replies.items c.args.steps.now c.loop-i.steps
     c.loop-i.invariant (meaning c.get.result.now) c.perform.new.session c.perform.new.steps c.perform.result (map meaning (drop (suc i) commands))
@@ -51,7 +52,7 @@ returns-in_err-perform-clause-cost g c =
 
 pub loop-i-preserved : goal.loop-i-preserved
 loop-i-preserved g c =
-    let old : Session = c.args.session.now in
+    let old : UnitSession = c.args.session.now in
     let commands : List Command = c.args.commands.now in
     let i : ℕ = c.loop-i.i in
     let within : c.loop-i.i < length c.args.commands.now = omega (arith, c.loop-i-test.true, c.len-i-end.ensures) in

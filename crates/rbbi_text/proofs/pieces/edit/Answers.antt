@@ -1,12 +1,12 @@
-use Rattle.std.proofs.Common.{◌≡◌, ℕ, ◌+◌, ◌-◌, ◌<◌, ◌≤◌, List, [], ◌++◌, length, get_or, take, drop, ap, ◌∙◌, chars, subst, arith, length-take}
+use Rattle.std.proofs.Common.{◌≡◌, ℕ, ◌+◌, ◌-◌, ◌<◌, ◌≤◌, List, [], ◌++◌, length, get_or, take, drop, ap, sym, ◌∙◌, chars, subst, arith, length-take}
 use Rattle.rbbi_model.specs.Words.{most_characters}
 use Rattle.rbbi_model.specs.Spelling.{joined}
 use Rattle.rbbi_text.specs.inner.Cuts.{shifted, starts_with_new}
-use Rattle.rbbi_text.specs.Marks.{AreMarked}
+use Rattle.rbbi_text.specs.Milestones.{AreMilestones}
 use Rattle.rbbi_text.specs.Weighed.{weight_of}
 use Rattle.rbbi_text.proofs.Characters.{IsText-chars}
 use Rattle.rbbi_text.proofs.CutLemmas.{is_read, middle_read, behind_start, small_start, found_end, middle_short, edit_one, edit_many}
-use Rattle.rbbi_text.proofs.MarkLemmas.{pieces_small, marked_kept}
+use Rattle.rbbi_text.proofs.MilestoneLemmas.{pieces_small, renewed_kept}
 use Rattle.rbbi_text.proofs.pieces.edit.Goals as goal
 
 pub fits-requires-clause-size : goal.fits-requires-clause-size
@@ -53,7 +53,7 @@ returns-then-fits c =
     (λ more. omega (arith, size, c.if-fits.ensures.2 (omega (arith, more, c.len.ensures, c.args.pieces.now.ok.0)), c.requires.added))
     c.in_ok-edit_piece.ensures.pieces
     (c.in_ok-edit_piece.ensures.starts ∙ ap (λ (n : ℕ). take (first + 1) starts ++ shifted c.args.remove n (drop (first + 1) starts)) c.requires.added) in
-    record { cut = made.0; text = made.1; marks = c.in_ok-edit_piece.ensures.marks; err = tt; err_starts = tt; err_marks = tt }
+    record { cut = made.0; text = made.1; milestones = c.in_ok-edit_piece.ensures.milestones; err = tt; err_starts = tt; err_milestones = tt }
 
 pub starts_with-requires-clause-few : goal.starts_with-requires-clause-few
 starts_with-requires-clause-few c =
@@ -134,10 +134,11 @@ returns c =
     record {
       cut = made.0;
       text = made.1;
-      marks = subst (λ l. AreMarked weight_of l c.renew.new.self.utf8.items c.renew.new.self.utf16.items) c.deref-8.ensures.value c.renew.ensures;
+      milestones = subst (λ u. AreMilestones (weight_of u) c.put_pieces.new.pieces.items c.renew.new.self.sums.items) (sym c.renew.ensures.unit)
+          (subst (λ l. AreMilestones (weight_of c.args.milestones.now.unit) l c.renew.new.self.sums.items) c.deref-8.ensures.value c.renew.ensures.are);
       err = tt;
       err_starts = tt;
-      err_marks = tt;
+      err_milestones = tt;
     }
 
 pub renew-requires-clause-small : goal.renew-requires-clause-small
@@ -163,13 +164,14 @@ renew-requires-clause-small c =
     (λ enough. c.in_ok-new.ensures.all (omega (arith, enough, ap length c.deref-5.ensures.value)))
     c.in_ok-put_pieces.ensures.pieces (c.in_ok-put_pieces.ensures.starts ∙ starts_are) in
     let long = ap (λ l. length (joined l)) c.deref-8.ensures.value in
-    λ unit. omega (arith, pieces_small unit c.deref-8.result.now (omega (arith, long, made.0.whole.text.1)))
+    omega (arith, pieces_small c.args.milestones.now.unit c.deref-8.result.now (omega (arith, long, made.0.whole.text.1)))
 
 pub renew-requires-clause-kept : goal.renew-requires-clause-kept
 renew-requires-clause-kept c =
     let ps : List (List ℕ) = c.args.pieces.now.items in
     let first : ℕ = c.locate-first.result in
     let past : ℕ = c.in_ok-middle.middle.past in
-    marked_kept weight_of ps c.deref-8.result.now (c.in_ok-new.new.items ++ drop past ps) c.args.marks.now.utf8.items c.args.marks.now.utf16.items first
-    c.requires.marked (omega (arith, c.locate-first.ensures.within, ap length c.deref.ensures.value))
+    renewed_kept (weight_of c.args.milestones.now.unit) ps c.deref-8.result.now (c.in_ok-new.new.items ++ drop past ps)
+    c.args.milestones.now.sums.items first
+    c.requires.milestones (omega (arith, c.locate-first.ensures.within, ap length c.deref.ensures.value))
     (c.deref-8.ensures.value ∙ c.in_ok-put_pieces.ensures.pieces)

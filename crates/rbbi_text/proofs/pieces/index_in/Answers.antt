@@ -1,7 +1,7 @@
 use Rattle.std.proofs.Common.{◌≡◌, ℕ, ◌-◌, ◌<◌, List, [], length, get_or, ap, ◌∙◌, arith}
 use Rattle.std.proofs.lemmas.List.{get_or_read}
 use Rattle.rbbi_text.proofs.CutLemmas.{filled_small}
-use Rattle.rbbi_text.proofs.MarkLemmas.{starts_long, end_small, whole_index, inside_index}
+use Rattle.rbbi_text.proofs.MilestoneLemmas.{starts_long, end_small, whole_index, inside_index}
 use Rattle.rbbi_text.proofs.pieces.index_in.Goals as goal
 
 pub bounds-starts-last : goal.bounds-starts-last

@@ -3,7 +3,7 @@ use Rattle.std.proofs.lemmas.List.{get_or_read}
 use Rattle.std.proofs.lemmas.List.Sums.{sum_by-take-le}
 use Rattle.rbbi_model.specs.Units.{size_of}
 use Rattle.rbbi_model.specs.Spelling.{joined}
-use Rattle.rbbi_text.proofs.MarkLemmas.{pieces_small, text_small, offset_found}
+use Rattle.rbbi_text.proofs.MilestoneLemmas.{pieces_small, text_small, offset_found}
 use Rattle.rbbi_text.proofs.pieces.offset_in.Goals as goal
 
 pub before-requires-clause-small : goal.before-requires-clause-small

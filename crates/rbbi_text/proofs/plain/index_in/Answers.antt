@@ -1,4 +1,4 @@
-use Rattle.rbbi_text.proofs.MarkLemmas.{index_is}
+use Rattle.rbbi_text.proofs.MilestoneLemmas.{index_is}
 use Rattle.rbbi_text.proofs.plain.index_in.Goals as goal
 
 pub returns : goal.returns

@@ -1,20 +1,22 @@
-use Rattle.std.proofs.Common.{◌≡◌, ◌<◌, ◌++◌, length, sym, ap, ◌∙◌, subst, arith, rules}
+use Rattle.std.proofs.Common.{◌≡◌, ◌+◌, ◌<◌, ◌++◌, length, refl, sym, ap, ◌∙◌, subst, arith, rules}
 use Rattle.std.proofs.lemmas.Result.{err_from_is_err_and}
 use Rattle.rbbi_model.specs.Boundaries.{start}
 use Rattle.rbbi_model.specs.Lines.{boundary_line}
 use Rattle.rbbi_model.specs.Tables.{statuses_of}
 use Rattle.rbbi_model.specs.Searches.{next_boundary}
+use Rattle.rbbi_model.specs.Units.{offset_of}
 use Rattle.rbbi_io.specs.Sinks.{Takes, TakesFront}
 use Rattle.rbbi_session.proofs.Reaching.{found_within}
 use Rattle.rbbi_tool.proofs.Emitting.{put_refused, put_stays}
-use Rattle.rbbi_tool.proofs.Listing.{listed_start, listed_more, listed_flushed, all_listed}
+use Rattle.rbbi_tool.proofs.Listing.{measured_one, listed_start, listed_more, listed_flushed, all_listed}
 use Rattle.rbbi_tool.proofs.Searched.{searched_none, searched_more, all_searched}
 use Rattle.rbbi_tool.proofs.emission.put_boundaries.Goals as goal
 
 pub loop-at-init : goal.loop-at-init
 loop-at-init g c = record {
-  listed = listed_start c.args.table.now c.args.text.now _ c.append_boundary.new.out.items
-      (c.in_ok-append_boundary.ensures ∙ ap (λ l. l ++ boundary_line start) c.new-made.ensures.items);
+  listed = listed_start c.args.table.now c.args.unit c.args.text.now _ c.say_bound.new.reply.items
+      (c.in_ok-say_bound.ensures ∙ ap (λ l. l ++ boundary_line start) c.new-made.ensures.items);
+  offset_is = refl;
   faults = search rules;
   fit = c.in_ok-marks.ensures;
   read = searched_none c.args.table.now c.args.text.now c.args.steps.now;
@@ -25,21 +27,33 @@ status_list-requires g c =
     subst (λ n. n < length c.args.table.now.lists) (sym c.next-found.ensures.status)
     (found_within c.args.table.now c.valid.ensures c.args.text.now c.loop-at.at)
 
+-- what the next search finds, in the text
+pub units_between-offset-requires : goal.units_between-offset-requires
+units_between-offset-requires g c =
+    let inside : c.loop-at.at < length c.args.text.now = omega (arith, c.loop-at-test.true, c.len.ensures.exact) in
+    let past = c.next_boundary_is_past_the_start.ensures c.args.table.now c.args.text.now c.loop-at.at inside in
+    record { forward = omega (arith, past.0, c.next-found.ensures.at); within = omega (arith, past.1, c.next-found.ensures.at) }
+
 pub loop-at-preserved : goal.loop-at-preserved
 loop-at-preserved g c =
     let table = c.args.table.now in
+    let unit = c.args.unit in
     let x = c.args.text.now in
     let inside : c.loop-at.at < length x = omega (arith, c.loop-at-test.true, c.len.ensures.exact) in
     let past = c.next_boundary_is_past_the_start.ensures table x c.loop-at.at inside in
-    let found : record { at = c.next-found.result.at; statuses = c.status_list.result.now } ≡ next_boundary table x c.loop-at.at = λ i. record {
-      at = c.next-found.ensures.at i;
+    let offset_is : c.loop-at.offset + c.units_between-offset.result ≡ offset_of unit x c.next-found.result.at =
+    ap (λ n. n + c.units_between-offset.result) c.loop-at.invariant.offset_is ∙ c.units_between-offset.ensures.sum in
+    let found : record { at = c.loop-at.offset + c.units_between-offset.result; statuses = c.status_list.result.now }
+    ≡ measured_one unit x (next_boundary table x c.loop-at.at) = λ i. record {
+      at = (offset_is ∙ ap (offset_of unit x) c.next-found.ensures.at) i;
       statuses = (c.status_list.ensures ∙ ap (statuses_of table) c.next-found.ensures.status) i;
     } in
     record {
-      listed = listed_flushed _ _ _ _ _ _ _ _
-          (listed_more table x _ _ _ _ c.loop-at.at c.next-found.result.at c.loop-at.invariant.listed inside past c.next-found.ensures.at
-          (c.in_ok-append_boundary-2.ensures ∙ ap (λ b. c.loop-at.made.items ++ boundary_line b) found))
+      listed = listed_flushed _ _ _ _ _ _ _ _ _
+          (listed_more table unit x _ _ _ _ c.loop-at.at c.next-found.result.at c.loop-at.invariant.listed inside past c.next-found.ensures.at
+          (c.in_ok-say_bound-2.ensures ∙ ap (λ b. c.loop-at.made.items ++ boundary_line b) found))
           c.in_ok-put_when_full.ensures.ok;
+      offset_is = offset_is;
       faults = search rules;
       fit = c.next-found.ensures.fit ∙ c.loop-at.invariant.fit;
       read = searched_more table x c.loop-at.at c.next-found.result.at c.args.steps.now c.loop-at.steps c.next-found.new.steps c.valid.ensures
@@ -47,24 +61,28 @@ loop-at-preserved g c =
           c.next-found.ensures.read;
     }
 
-pub returns-in_err-append_boundary-2-clause-err : goal.returns-in_err-append_boundary-2-clause-err
-returns-in_err-append_boundary-2-clause-err g c =
-    let told = err_from_is_err_and c.from_residual-in_err-append_boundary-2.result c.from_residual-in_err-append_boundary-2.ensures.1 in
+pub returns-in_err-say_bound-2-clause-err : goal.returns-in_err-say_bound-2-clause-err
+returns-in_err-say_bound-2-clause-err g c =
+    let told = err_from_is_err_and c.from_residual-in_err-say_bound-2.result c.from_residual-in_err-say_bound-2.ensures.1 in
     rw told.1 (put_stays _ _ _ _ _ c.loop-at.invariant.listed.put)
 
 pub returns-in_err-put_when_full-clause-err : goal.returns-in_err-put_when_full-clause-err
 returns-in_err-put_when_full-clause-err g c =
     let table = c.args.table.now in
+    let unit = c.args.unit in
     let x = c.args.text.now in
     let inside : c.loop-at.at < length x = omega (arith, c.loop-at-test.true, c.len.ensures.exact) in
     let past = c.next_boundary_is_past_the_start.ensures table x c.loop-at.at inside in
-    let found : record { at = c.next-found.result.at; statuses = c.status_list.result.now } ≡ next_boundary table x c.loop-at.at = λ i. record {
-      at = c.next-found.ensures.at i;
+    let offset_is : c.loop-at.offset + c.units_between-offset.result ≡ offset_of unit x c.next-found.result.at =
+    ap (λ n. n + c.units_between-offset.result) c.loop-at.invariant.offset_is ∙ c.units_between-offset.ensures.sum in
+    let found : record { at = c.loop-at.offset + c.units_between-offset.result; statuses = c.status_list.result.now }
+    ≡ measured_one unit x (next_boundary table x c.loop-at.at) = λ i. record {
+      at = (offset_is ∙ ap (offset_of unit x) c.next-found.ensures.at) i;
       statuses = (c.status_list.ensures ∙ ap (statuses_of table) c.next-found.ensures.status) i;
     } in
     let told = err_from_is_err_and c.from_residual-in_err-put_when_full.result c.from_residual-in_err-put_when_full.ensures.1 in
-    let listed = listed_more table x _ _ _ _ c.loop-at.at c.next-found.result.at c.loop-at.invariant.listed inside past c.next-found.ensures.at
-    (c.in_ok-append_boundary-2.ensures ∙ ap (λ b. c.loop-at.made.items ++ boundary_line b) found) in
+    let listed = listed_more table unit x _ _ _ _ c.loop-at.at c.next-found.result.at c.loop-at.invariant.listed inside past c.next-found.ensures.at
+    (c.in_ok-say_bound-2.ensures ∙ ap (λ b. c.loop-at.made.items ++ boundary_line b) found) in
     rw told.1 (put_refused _ _ _ _ _ listed.put _ c.in_err-put_when_full.ensures.err)
 
 pub returns-in_err-put_when_full-clause-steps : goal.returns-in_err-put_when_full-clause-steps
@@ -77,8 +95,8 @@ returns-in_err-put_when_full-clause-steps g c =
     c.anchors_are_stored.ensures c.anchors_lead_to_the_boundaries.ensures c.loop-at.invariant.read inside
     (c.next_boundary_is_past_the_start.ensures table x c.loop-at.at inside).0 c.next-found.ensures.at c.next-found.ensures.read)
 
-pub returns-in_err-append_boundary-2-clause-steps : goal.returns-in_err-append_boundary-2-clause-steps
-returns-in_err-append_boundary-2-clause-steps g c =
+pub returns-in_err-say_bound-2-clause-steps : goal.returns-in_err-say_bound-2-clause-steps
+returns-in_err-say_bound-2-clause-steps g c =
     let table = c.args.table.now in
     let x = c.args.text.now in
     let inside : c.loop-at.at < length x = omega (arith, c.loop-at-test.true, c.len.ensures.exact) in
@@ -95,7 +113,7 @@ returns-in_err-put_all-clause-err g c =
 
 pub returns-clause-ok : goal.returns-clause-ok
 returns-clause-ok g c =
-    all_listed _ _ _ _ _ _ _ c.loop-at.invariant.listed (omega (arith, c.loop-at-test.false, c.len.ensures.exact))
+    all_listed _ _ _ _ _ _ _ _ c.loop-at.invariant.listed (omega (arith, c.loop-at-test.false, c.len.ensures.exact))
     (subst (λ w. Takes (g.K.Sink.taken c.loop-at.out) (g.K.Sink.taken c.put_all.new.out) w) c.deref.ensures.value c.in_ok-put_all.ensures.ok)
 
 pub returns-clause-steps : goal.returns-clause-steps

@@ -3,11 +3,11 @@ use Rattle.std.proofs.lemmas.List.{drop_all}
 use Rattle.std.proofs.lemmas.Result.{err_from_is_err_and}
 use Rattle.rbbi_model.specs.Lines.{all_reply_lines}
 use Rattle.rbbi_model.specs.Scripts as model
-use Rattle.rbbi_session.specs.Sessions.{Session}
+use Rattle.rbbi_model.specs.Costs.{commands_cost}
+use Rattle.rbbi_session.specs.UnitSessions.{UnitSession, state_of}
 use Rattle.rbbi_script.specs.declared.command.Command.{Command}
 use Rattle.rbbi_script.specs.Meaning.{meaning}
 use Rattle.rbbi_script.specs.Performing.{replies_of}
-use Rattle.rbbi_script.specs.Reading.{commands_cost}
 use Rattle.rbbi_script.proofs.Performed.{mapped_parts, mapped_more}
 use Rattle.rbbi_script.proofs.Played.{all_paid}
 use Rattle.rbbi_text.specs.Steps.{RisesUpTo}
@@ -18,7 +18,7 @@ use Rattle.rbbi_tool.proofs.emission.put_replies.Goals as goal
 
 pub loop-i-init : goal.loop-i-init
 loop-i-init g c =
-    let old : Session = c.args.session.now in
+    let old : UnitSession = c.args.session.now in
     let commands : List model.Command = map meaning c.args.commands.now in
     record {
       replied = subst (λ m. AreReplied old (all_reply_lines (replies_of old commands)) [] commands old (g.K.Sink.taken c.args.out.now)
@@ -29,7 +29,7 @@ loop-i-init g c =
 
 pub loop-i-preserved : goal.loop-i-preserved
 loop-i-preserved g c =
-    let old : Session = c.args.session.now in
+    let old : UnitSession = c.args.session.now in
     let commands : List Command = c.args.commands.now in
     let i : ℕ = c.loop-i.i in
     let within : c.loop-i.i < length c.args.commands.now = omega (arith, c.loop-i-test.true, c.len-i-end.ensures) in
@@ -70,7 +70,8 @@ returns-in_err-perform-clause-cost g c =
     let commands : List Command = c.args.commands.now in
     let i : ℕ = c.loop-i.i in
     let within : c.loop-i.i < length c.args.commands.now = omega (arith, c.loop-i-test.true, c.len-i-end.ensures) in
-    subst (λ cs. RisesUpTo (commands_cost c.args.session.now.table c.args.session.now.state cs) c.args.steps.now c.perform.new.steps)
+    subst (λ cs. RisesUpTo (commands_cost c.args.session.now.asked.table c.args.session.now.unit (state_of c.args.session.now) cs) c.args.steps.now
+    c.perform.new.steps)
     (mapped_parts meaning commands i c.get.result.now within c.get.ensures)
     (all_paid _ (map meaning (take i commands)) _ _ _ _ _ c.loop-i.invariant.replied.paid (meaning c.get.result.now) c.perform.new.session
     c.perform.new.steps c.perform.result (map meaning (drop (suc i) commands)) c.perform.ensures.cost c.perform.ensures.runs)
@@ -80,7 +81,8 @@ returns-in_err-put_when_full-clause-cost g c =
     let commands : List Command = c.args.commands.now in
     let i : ℕ = c.loop-i.i in
     let within : c.loop-i.i < length c.args.commands.now = omega (arith, c.loop-i-test.true, c.len-i-end.ensures) in
-    subst (λ cs. RisesUpTo (commands_cost c.args.session.now.table c.args.session.now.state cs) c.args.steps.now c.perform.new.steps)
+    subst (λ cs. RisesUpTo (commands_cost c.args.session.now.asked.table c.args.session.now.unit (state_of c.args.session.now) cs) c.args.steps.now
+    c.perform.new.steps)
     (mapped_parts meaning commands i c.get.result.now within c.get.ensures)
     (all_paid _ (map meaning (take i commands)) _ _ _ _ _ c.loop-i.invariant.replied.paid (meaning c.get.result.now) c.perform.new.session
     c.perform.new.steps c.perform.result (map meaning (drop (suc i) commands)) c.perform.ensures.cost c.perform.ensures.runs)

@@ -7,7 +7,7 @@ edited-requires g c = record {
   edited = record {
     within = c.in_ok-replace.ensures.0;
     characters = _;
-    many = sym c.count-inserted.ensures;
+    many = sym c.character_count-inserted.ensures;
     spliced = c.in_ok-replace.ensures.2;
   };
   small = c.len-short.ensures.most;

@@ -1,6 +1,6 @@
 use Rattle.std.proofs.Common.{inl, inr, ⊎_elim, map, refl, arith}
 use Rattle.std.proofs.lemmas.Result.{err_from_is_err_and}
-use Rattle.rbbi_model.specs.Scripts.{table_replies}
+use Rattle.rbbi_model.specs.Plays.{table_replies}
 use Rattle.rbbi_script.specs.Meaning.{meaning}
 use Rattle.rbbi_tool.proofs.Bases.{gives_them}
 use Rattle.rbbi_tool.proofs.Replies.{replies_given}
@@ -25,6 +25,7 @@ pub returns-clause-exact : goal.returns-clause-exact
 returns-clause-exact g c =
     let basis = c.in_ok-table.ensures.table in
     let table = c.in_ok-table.table in
+    let unit = c.args.options.now.unit in
     let x = c.in_ok-text.text in
     let commands = map meaning c.in_ok-commands.commands in (
       basis.0,
@@ -36,8 +37,8 @@ returns-clause-exact g c =
           commands,
           c.in_ok-commands.ensures.exact,
           (
-            table_replies table x commands,
-            replies_given basis.0 table x commands c.table_replies_are_those_of_the_rules.ensures
+            table_replies table unit x commands,
+            replies_given basis.0 table unit x commands c.table_replies_are_those_of_the_rules.ensures
                 (gives_them c.same_marks_give_the_boundaries.ensures basis.0 table basis.2) c.in_ok-text.ensures.text c.in_ok-commands.ensures.inserts,
             refl,
           ),
@@ -72,4 +73,4 @@ returns-clause-steps g c =
     λ end more.
     replies_read _ _ _ _ c.commands_of.new.steps end basis.0 _ _ basis.1 basis.2 c.in_ok-text.ensures.exact
     (rises_further _ (given_bytes (inputs_in c.args.inputs.now)) _ _
-    (rises_by _ _ _ c.table_from.new.steps _ c.table_from.ensures.steps c.commands_of.ensures.steps) (omega arith)) _ _ c.in_ok-commands.ensures.exact more
+    (rises_by _ _ _ c.table_from.new.steps _ c.table_from.ensures.steps c.commands_of.ensures.steps) (omega arith)) _ _ _ c.in_ok-commands.ensures.exact more
