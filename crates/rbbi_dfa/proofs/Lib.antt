@@ -35,4 +35,5 @@ pub mod Finishing
 pub mod Building
 pub mod NeededRows
 pub mod SameCounts
+pub mod Surrogates
 pub mod LookAheads

@@ -1,9 +1,8 @@
 -- A least table for rules has more than so many rows exactly where the rules need so many beside row 0.
 use Rattle.std.proofs.Common.{◌≡◌, ◌≢◌, ℕ, zero, suc, ◌+◌, ◌-◌, ◌<◌, ◌≤◌, List, [], ◌∷◌, length, get_or, refl, ap, sym, ◌∙◌, subst, arith}
-use Rattle.rbbi_model.specs.Words.{IsWord, IsCodePoint}
+use Rattle.rbbi_model.specs.Words.{IsWord, IsCodePoint, IsSurrogate}
 use Rattle.rbbi_model.specs.Ranges.{Range, Has}
-use Rattle.rbbi_model.specs.Spelling.{Leaf}
-use Rattle.rbbi_model.specs.Rules.{Rule, IsLawfulTree, AreLawful}
+use Rattle.rbbi_model.specs.Rules.{Rule, AreLawful}
 use Rattle.rbbi_model.specs.LeafSets.{all_sets}
 use Rattle.rbbi_model.specs.Tables.{Table, category_of, head_of, statuses_of, row_along, row_after}
 use Rattle.rbbi_model.specs.ValidTables.{IsWay, IsPlain}
@@ -18,20 +17,12 @@ use Rattle.rbbi_dfa.proofs.Lists.{le_from_choices}
 use Rattle.rbbi_dfa.proofs.WordRows.{WordOf, HasRowsOfWords, row_of-within, Needs-from_words, not_stop, rows_apart}
 use Rattle.rbbi_dfa.proofs.Compiling.{HaveCategoriesBelow-from_valid, first_zero}
 
--- the first code point that stands for no character
-abbrev surrogate : ℕ
-surrogate = 0xD800
-
 -- no leaf's set holds a surrogate
-abbrev IsWithout : List Range → Type 0
-IsWithout set = ¬ Has set surrogate
-
-leaf_without : (set : List Range) → IsLawfulTree (Leaf set) → IsWithout set
-leaf_without set lawful has = (lawful.1 surrogate has).1 (omega arith, omega arith)
-
-unread : (rules : List Rule) → AreLawful rules → ¬ IsRead rules surrogate
-unread rules lawful (k, set, below, is, has) =
-    subst IsWithout is (all_at IsWithout (all_sets rules) k set below (each_set IsWithout leaf_without rules lawful.each)) has
+pub unread : (rules : List Rule) → AreLawful rules → (c : ℕ) → IsSurrogate c → ¬ IsRead rules c
+unread rules lawful c surrogate (k, set, below, is, has) =
+    let IsWithout : List Range → Type 0 = λ set. ¬ Has set c in
+    subst IsWithout is
+    (all_at IsWithout (all_sets rules) k set below (each_set IsWithout (λ set of_leaf has. (of_leaf.1 c has).1 surrogate) rules lawful.each)) has
 
 module _ (table : Table) (rules : List Rule) (has : HasRows table) (same : HasSameMarks table rules) where
   pub plain_marks : (row : ℕ) → IsPlain (head_of table row) → marks_of table row ≡ no_marks
@@ -75,7 +66,9 @@ module _ (table : Table) (rules : List Rule) (has : HasRows table) (same : HasSa
   module _ (lawful : AreLawful rules) (least : IsLeast table) (classes : AreClasses rules table.categories table.ranges) where
     -- each category is that of a code point
     pub used : (category : ℕ) → category < table.categories → (c : ℕ) × (IsCodePoint c × (category_of table.ranges c ≡ category))
-    used zero h = (surrogate, (omega arith, (classes.none surrogate (omega arith)).1 (unread rules lawful)))
+    used zero h =
+        let surrogate : ℕ = 0xD800 in
+        (surrogate, (omega arith, (classes.none surrogate (omega arith)).1 (unread rules lawful surrogate (omega arith, omega arith))))
     used (suc category) h = let c = classes.used (suc category) (omega arith) h in (c.0, (c.1, c.2))
 
     pub word_of : (way : List ℕ) → IsWay table way → WordOf table.ranges way

@@ -1,6 +1,7 @@
 //! Laws of compiled tables.
 ghost use Rattle.rbbi_dfa.specs.NeededRows.{RowsAreNeeded, ValidTablesHaveRows};
 ghost use Rattle.rbbi_dfa.specs.SameCounts.{CompiledTablesHaveSameCounts};
+ghost use Rattle.rbbi_dfa.specs.HaveCanonical.{CompiledTablesHaveCanonical};
 
 use rbbi_model::marks_are_unique;
 
@@ -18,6 +19,14 @@ pub fn rows_are_needed()
 /// rows, status lists, look-ahead rules and safe pairs, so that one line tells each of them.
 pub fn compiled_tables_have_same_counts()
     ensures { CompiledTablesHaveSameCounts }
+{
+    marks_are_unique();
+}
+
+/// Each table that is compiled from lawful rules meets what is asked of a table of which a canonical
+/// one is made: it is least, each category holds a code point, and surrogates lead to row 0.
+pub fn compiled_tables_have_canonical()
+    ensures { CompiledTablesHaveCanonical }
 {
     marks_are_unique();
 }

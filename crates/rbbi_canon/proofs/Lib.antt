@@ -1,0 +1,14 @@
+pub mod Rows
+pub mod Ordered
+pub mod RangeLists
+pub mod Unique
+pub mod Marked
+pub mod Sets
+pub mod Connecting
+pub mod Leading
+pub mod Searching
+pub mod ColumnsKept
+pub mod Orders
+pub mod Joining
+pub mod Walking
+pub mod Canonizing

@@ -1,0 +1,137 @@
+-- An order of numbers, each once, and one more number in it.
+use Rattle.std.proofs.Common.{◌≡◌, ◌≢◌, ◌⊎◌, ℕ, zero, suc, ◌+◌, ◌-◌, ◌<◌, ◌≤◌, Bool, true, false, ◌||◌, eqb, List, [], ◌∷◌, ◌++◌, length, get_or, set, refl}
+use Rattle.std.proofs.Common.{ap, sym, ◌∙◌, subst, inl, inr, ⊎_elim, arith}
+use Rattle.std.specs.List.{AllByRecursion, list_any}
+use Rattle.std.proofs.lemmas.Bool.{cases_Bool, cases_lt, cases_eq, eq-eqb, eqb-true, ne_eqb, false≢true}
+use Rattle.std.proofs.lemmas.List.{get_or_append_left, get_or_push, length_push, get_or-set_same, get_or-set_other, length-set}
+use Rattle.std.proofs.lemmas.Map.Keys.{IsDistinct-from_apart}
+use Rattle.std.proofs.lemmas.Map.Steps.{length-le_from_distinct_below, le-length_from_below}
+use Rattle.rbbi_model.proofs.Lists.{all_by_index}
+use Rattle.rbbi_canon.specs.inner.Numberings.{IsIndexed, KeepsOrAdds}
+
+-- no number stands at two places
+abbrev pub AreOnce : List ℕ → Type 0
+AreOnce xs = (j k : ℕ) → j < length xs → k < length xs → get_or xs j 0 ≡ get_or xs k 0 → j ≡ k
+
+each_member : (P : ℕ → Type 0) (xs : List ℕ) → AllByRecursion P xs → (q : ℕ) → list_any (eqb q) xs ≡ true → P q
+each_member P [] all q member = absurd (false≢true member)
+each_member P (x ∷ xs) all q member =
+    ⊎_elim
+    (λ here. subst P (sym (eqb-true q x here)) all.0)
+    (λ other. each_member P xs all.1 q (ap (λ b. b || list_any (eqb q) xs) (sym other) ∙ member))
+    (cases_Bool (eqb q x))
+
+-- numbers below a bound, each once, are no more than the bound
+pub few_once : (xs : List ℕ) (bound : ℕ) → AreOnce xs → ((k : ℕ) → k < length xs → get_or xs k 0 < bound) → length xs ≤ bound
+few_once xs bound once below =
+    length-le_from_distinct_below xs bound
+    (IsDistinct-from_apart eqb xs (λ i j d less short.
+    ne_eqb (get_or xs i d) (get_or xs j d) (λ same. omega (
+      arith,
+      less,
+      once i j (omega (arith, less, short)) short
+          (at_default i d (omega (arith, less, short)) ∙ same ∙ sym (at_default j d short)),
+    ))))
+    (each_member (λ x. x < bound) xs (all_by_index (λ x. x < bound) 0 xs below))
+  where
+    default : (xs : List ℕ) (i d : ℕ) → i < length xs → get_or xs i 0 ≡ get_or xs i d
+    default [] i d short = absurd (omega (arith, short))
+    default (x ∷ xs) zero d short = refl
+    default (x ∷ xs) (suc i) d short = default xs i d (omega (arith, short))
+
+    at_default : (i d : ℕ) → i < length xs → get_or xs i 0 ≡ get_or xs i d
+    at_default i d short = default xs i d short
+
+is_member : (xs : List ℕ) (k : ℕ) → k < length xs → list_any (eqb (get_or xs k 0)) xs ≡ true
+is_member [] k short = absurd (omega (arith, short))
+is_member (x ∷ xs) zero short = ap (λ b. b || list_any (eqb x) xs) (eq-eqb x x refl)
+is_member (x ∷ xs) (suc k) short =
+    let q : ℕ = get_or xs k 0 in
+    ⊎_elim
+    (λ here. ap (λ b. b || list_any (eqb q) xs) here)
+    (λ other. ap (λ b. b || list_any (eqb q) xs) other ∙ is_member xs k (omega (arith, short)))
+    (cases_Bool (eqb q x))
+
+-- a list that has each number below a bound is as long
+pub long_with_all : (xs : List ℕ) (bound : ℕ) → ((q : ℕ) → q < bound → (k : ℕ) × (k < length xs) × (get_or xs k 0 ≡ q)) → bound ≤ length xs
+long_with_all xs bound all =
+    le-length_from_below xs bound
+    (λ q low. let at = all q low in subst (λ n. list_any (eqb n) xs ≡ true) at.2 (is_member xs at.0 at.1))
+
+module _ (order places : List ℕ) (h : IsIndexed order places) where
+  pub indexed_once : AreOnce order
+  indexed_once j k low low' same = omega (arith, (h.each j low).1, (h.each k low').1, ap (λ n. get_or places n 0) same)
+
+  pub indexed_few : length order ≤ length places
+  indexed_few = few_once order (length places) indexed_once (λ k low. (h.each k low).0)
+
+  -- one more number that wasn't met
+  pub indexed_more : (number : ℕ) → number < length places → get_or places number 0 ≡ 0 →
+      IsIndexed (order ++ number ∷ []) (set places number (length order + 1))
+  indexed_more number low unmet =
+      let more : List ℕ = order ++ number ∷ [] in
+      let places' : List ℕ = set places number (length order + 1) in
+      let long : length more ≡ length order + 1 = length_push order number in
+      let all : length places' ≡ length places = length-set places number (length order + 1) in
+      let old : (k : ℕ) → k < length order → get_or more k 0 ≡ get_or order k 0 = λ k short. get_or_append_left order (number ∷ []) 0 k short in
+      let last : get_or more (length order) 0 ≡ number = get_or_push order number 0 (length order) refl in
+      let here : get_or places' number 0 ≡ length order + 1 = get_or-set_same places number (length order + 1) 0 low in
+      let other : (n : ℕ) → n ≢ number → get_or places' n 0 ≡ get_or places n 0 = λ n apart. get_or-set_other places number n (length order + 1) 0 apart in
+      record {
+        few = omega (arith, all, h.few);
+        each = λ k short.
+            ⊎_elim
+            (λ less.
+            let was = h.each k less in
+            let apart : get_or order k 0 ≢ number = λ same. omega (arith, was.1, ap (λ n. get_or places n 0) same, unmet) in (
+              omega (arith, old k less, was.0, all),
+              ap (λ n. get_or places' n 0) (old k less) ∙ other (get_or order k 0) apart ∙ was.1,
+            ))
+            (λ most.
+            let end : k ≡ length order = omega (arith, most, short, long) in
+            let is : get_or more k 0 ≡ number = ap (λ n. get_or more n 0) end ∙ last in
+            (omega (arith, is, low, all), ap (λ n. get_or places' n 0) is ∙ here ∙ ap (λ n. n + 1) (sym end)))
+            (cases_lt k (length order));
+        only = λ n short some.
+            ⊎_elim
+            (λ same.
+            let is : get_or places' n 0 ≡ length order + 1 = ap (λ m. get_or places' m 0) same ∙ here in
+            (omega (arith, is, long), ap (λ m. get_or more m 0) (let e : get_or places' n 0 - 1 ≡ length order = omega (arith, is) in e) ∙ last ∙ sym same))
+            (λ apart.
+            let is = other n apart in
+            let was = h.only n (omega (arith, short, all)) (λ zero'. some (is ∙ zero')) in (
+              omega (arith, is, was.0, long),
+              ap (λ m. get_or more (m - 1) 0) is
+                  ∙ old (get_or places n 0 - 1) (let e : get_or places n 0 - 1 < length order = omega (arith, was.0, is, some) in e) ∙ was.1,
+            ))
+            (cases_eq n number);
+      }
+
+-- An order that stays, or has one more number: that at this place.
+pub record Grows (old new : List ℕ) (place : ℕ) : Type 0 where
+  pub more : length old ≤ length new
+  pub old_at : (k : ℕ) → k < length old → get_or new k 0 ≡ get_or old k 0
+  pub only : (k : ℕ) → k < length new → (k < length old) ⊎ (k ≡ place)
+  pub up_to : place ≤ length old
+
+pub grows : (old new : List ℕ) (number place : ℕ) → KeepsOrAdds old number new → AreOnce new → place < length new → get_or new place 0 ≡ number →
+    Grows old new place
+grows old new number place keeps once low is =
+    ⊎_elim
+    (λ same. record {
+      more = omega (arith, ap length same);
+      old_at = λ k short. ap (λ (l : List ℕ). get_or l k 0) same;
+      only = λ k short. inl (subst (λ (l : List ℕ). k < length l) same short);
+      up_to = let e : place < length old = subst (λ (l : List ℕ). place < length l) same low in omega (arith, e);
+    })
+    (λ adds.
+    let long : length new ≡ length old + 1 = ap length adds ∙ length_push old number in
+    let last : get_or new (length old) 0 ≡ number = ap (λ (l : List ℕ). get_or l (length old) 0) adds ∙ get_or_push old number 0 (length old) refl in
+    let end : place ≡ length old = once place (length old) low (omega (arith, long)) (is ∙ sym last) in
+    record {
+      more = omega (arith, long);
+      old_at = λ k short. ap (λ (l : List ℕ). get_or l k 0) adds ∙ get_or_append_left old (number ∷ []) 0 k short;
+      only = λ k short. ⊎_elim (λ less. inl less) (λ most. inr (omega (arith, most, short, long, end))) (cases_lt k (length old));
+      up_to = omega (arith, end);
+    })
+    keeps

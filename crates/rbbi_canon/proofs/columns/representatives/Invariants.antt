@@ -1,0 +1,5 @@
+use Rattle.rbbi_canon.proofs.ColumnsKept.{AreKept}
+use Rattle.rbbi_canon.proofs.columns.representatives.Given as goal
+
+abbrev pub invariant-loop-category : goal.invariant-loop-category
+invariant-loop-category l = AreKept l.grid l.category l.kept l.firsts.items l.found.items
