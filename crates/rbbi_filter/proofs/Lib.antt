@@ -1,0 +1,11 @@
+pub mod Sifting
+pub mod Neighbours
+pub mod Passing
+pub mod Covering
+pub mod Answering
+pub mod Filtering
+pub mod Listed
+pub mod ListingCosts
+pub mod Turning
+pub mod PairLines
+pub mod OneReading

@@ -1,0 +1,30 @@
+-- What stands between a text and its boundaries as they are told.
+use Rattle.std.specs.Prelude.{◌≡◌, ℕ, List}
+use Rattle.rbbi_model.specs.Rules.{Rule}
+use Rattle.rbbi_model.specs.Boundaries.{Boundary, AreBoundaries}
+use Rattle.rbbi_model.specs.Tables.{Table}
+use Rattle.rbbi_model.specs.Searches.{table_boundaries}
+use Rattle.rbbi_filter.specs.Abbreviations.{kept}
+use Rattle.rbbi_filter.specs.declared.filter.Filter.{Filter}
+use Rattle.rbbi_filter.specs.declared.filter.Filter.TheVariants.{Suppressing, Turning}
+use Rattle.rbbi_filter.specs.declared.pair.Pair.{Pair}
+use Rattle.rbbi_filter.specs.Pairs.{turned}
+
+-- the text in which boundaries are looked for
+abbrev pub searched : Filter → List ℕ → List ℕ
+searched (Suppressing list) x = x
+searched (Turning pairs) x = turned pairs x
+
+-- those of its boundaries that are told
+abbrev pub told : Filter → List ℕ → List Boundary → List Boundary
+told (Suppressing list) x boundaries = kept list x boundaries
+told (Turning pairs) x boundaries = boundaries
+
+-- the boundaries of the text by the table, through the filter
+abbrev pub boundaries_through : Filter → Table → List ℕ → List Boundary
+boundaries_through filter table x = told filter x (table_boundaries table (searched filter x))
+
+-- these are the boundaries of the text by the rules, through the filter
+abbrev pub AreBoundariesThrough : Filter → List Rule → List ℕ → List Boundary → Type 0
+AreBoundariesThrough filter rules x boundaries =
+    (all : List Boundary) × AreBoundaries rules (searched filter x) all × (boundaries ≡ told filter x all)

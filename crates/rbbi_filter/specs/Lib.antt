@@ -1,0 +1,10 @@
+pub mod Abbreviations
+pub mod AbbreviationFiles
+pub mod Pairs
+pub mod PairFiles
+pub mod Filters
+pub mod FilterCosts
+pub mod FilterSessions
+pub mod Performing
+pub mod Laws
+pub mod inner

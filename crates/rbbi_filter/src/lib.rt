@@ -1,0 +1,38 @@
+//! Sessions through a filter: abbreviations behind which no boundary is told, or pairs by which
+//! characters are turned before boundaries are looked for.
+//!
+//! [`Abbreviations`] are read from a file, a line each. A [`Filtered`] answers as a session does,
+//! but leaves out each boundary before which one of them stands. A [`Tailoring`] is read from a file
+//! of pairs. A [`Mapped`] is a text with its characters turned, and a [`Tailored`] answers as a
+//! session over that does.
+#![tactic(auto)]
+
+mod abbreviation;
+mod char_map;
+mod filter;
+mod filtered;
+mod laws;
+mod listing;
+mod mapped;
+mod pair;
+mod performing;
+mod predicate;
+mod questions;
+mod tailored;
+mod tailoring;
+mod walk;
+mod window;
+
+pub use abbreviation::{AbbrErr, Abbreviations};
+pub use char_map::{ByPairs, CharMap};
+pub use filter::Filter;
+pub use filtered::Filtered;
+pub use laws::{one_abbreviations, one_tailoring, turned_splices};
+pub use mapped::Mapped;
+pub use pair::Pair;
+pub use performing::{perform_filtered, perform_tailored, perform_through};
+pub use predicate::{ByList, Predicate};
+pub use tailored::Tailored;
+pub use tailoring::{TailorErr, Tailoring};
+pub use walk::Walk;
+pub use window::is_suppressed;

@@ -1,0 +1,111 @@
+//! Commands performed by a session through a filter.
+ghost use Rattle.std.specs.Prelude.{◌≡◌};
+ghost use Rattle.rbbi_model.specs.Scripts as model;
+ghost use Rattle.rbbi_script.specs.Meaning.{meaning};
+ghost use Rattle.rbbi_filter.specs.FilterSessions.{HasTrueRuns};
+ghost use Rattle.rbbi_filter.specs.Performing.{Performs, IsPaid};
+
+use crate::listing::say_boundaries;
+use crate::questions::{first, following, is_boundary, last, next, preceding, previous, status};
+use crate::walk::Walk;
+use crate::{CharMap, Filtered, Predicate, Tailored};
+use rbbi_script::{Command, Said, place_said, say, say_list, say_text, test_said};
+use rbbi_text::{Chars, EditErr, EditText, Steps, Word};
+use std::alloc::AllocError;
+use std::sync::ledger::Ledger;
+
+/// Performs a command by a session that leaves out boundaries, and appends the lines of its reply,
+/// as `rbbi_script::perform` does. Places and lengths are in characters.
+///
+/// After the refusal a front of the reply was appended. Text and cursor are as after the command,
+/// or, where an edit was refused for memory, as before it. Refused or not, the command reads at
+/// most its cost, and the session's runs are true of its text.
+pub fn perform_filtered<T: EditText, P: Predicate, L: Ledger>(
+    session: &mut Filtered<'_, T, P>,
+    command: &Command,
+    reply: &mut Vec<u8>,
+    steps: &mut Steps<L>,
+) -> Result<(), AllocError>
+    ensures replies { Performs session.old (meaning command.now) reply.old.items
+        result session.new reply.new.items }
+    ensures cost { IsPaid session.old (meaning command.now) steps.old steps.new }
+    ensures are_true { HasTrueRuns session.new }
+{
+    let said = perform_through(session, command, reply, steps);
+    session.runs_are_true();
+    said
+}
+
+/// Performs a command by a session that turns characters, and appends the lines of its reply, as
+/// `rbbi_script::perform` does. Places and lengths are in characters, and the reply to `text` is the
+/// text as it is.
+///
+/// After the refusal a front of the reply was appended. Text and cursor are as after the command,
+/// or, where an edit was refused for memory, as before it. Refused or not, the command reads at
+/// most its cost, and the session's runs are true of its text as it is turned.
+pub fn perform_tailored<T: EditText, G: CharMap, L: Ledger>(
+    session: &mut Tailored<'_, T, G>,
+    command: &Command,
+    reply: &mut Vec<u8>,
+    steps: &mut Steps<L>,
+) -> Result<(), AllocError>
+    ensures replies { Performs session.old (meaning command.now) reply.old.items
+        result session.new reply.new.items }
+    ensures cost { IsPaid session.old (meaning command.now) steps.old steps.new }
+    ensures are_true { HasTrueRuns session.new }
+{
+    let said = perform_through(session, command, reply, steps);
+    session.runs_are_true();
+    said
+}
+
+/// Performs a command by a session through a filter, and appends the lines of its reply, as the two
+/// above do.
+pub fn perform_through<W: Walk, L: Ledger>(
+    session: &mut W,
+    command: &Command,
+    reply: &mut Vec<u8>,
+    steps: &mut Steps<L>,
+) -> Result<(), AllocError>
+    ensures replies { Performs (W.session session.old) (meaning command.now) reply.old.items
+        result (W.session session.new) reply.new.items }
+    ensures cost { IsPaid (W.session session.old) (meaning command.now) steps.old steps.new }
+{
+    match command {
+        Command::First => say(Said::Place(first(session)), reply),
+        Command::Last => say(Said::Place(last(session, steps)), reply),
+        Command::Next => say(place_said(next(session, steps)), reply),
+        Command::Previous => say(place_said(previous(session, steps)), reply),
+        Command::Current => say(Said::Place(session.current()), reply),
+        Command::Status => say(Said::Number(status(session)), reply),
+        Command::Statuses => say_list(session.status_list(), reply),
+        Command::Following(place) => say(place_said(following(session, *place, steps)), reply),
+        Command::Preceding(place) => say(place_said(preceding(session, *place, steps)), reply),
+        Command::Is(place) => say(test_said(is_boundary(session, *place, steps)), reply),
+        Command::Replace { at, remove, text } => edit(session, *at, *remove, text, reply, steps),
+        Command::Breaks => say_boundaries(session, reply, steps),
+        Command::Text => say_text(session.text(), reply, steps),
+    }
+}
+
+/// Performs an edit.
+fn edit<W: Walk, L: Ledger>(
+    session: &mut W,
+    at: u32,
+    remove: u32,
+    text: &Word,
+    reply: &mut Vec<u8>,
+    steps: &mut Steps<L>,
+) -> Result<(), AllocError>
+    ensures replies { Performs (W.session session.old) (model.Replace at remove text.now)
+        reply.old.items result (W.session session.new) reply.new.items }
+    ensures cost { IsPaid (W.session session.old) (model.Replace at remove text.now)
+        steps.old steps.new }
+{
+    match session.replace(at, remove, text.as_str(), steps) {
+        Ok(()) => say(Said::Edited(session.text().len()), reply),
+        Err(EditErr::Outside) => say(Said::Outside, reply),
+        Err(EditErr::TooLong) => say(Said::TooLong, reply),
+        Err(EditErr::Memory) => Err(AllocError),
+    }
+}
