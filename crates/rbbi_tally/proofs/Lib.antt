@@ -1,0 +1,16 @@
+pub mod SegmentLists
+pub mod Edited
+pub mod Boundaries
+pub mod Counted
+pub mod PieceLists
+pub mod Skipping
+pub mod Values
+pub mod Totals
+pub mod Replacing
+pub mod Filling
+pub mod Opening
+pub mod SearchingAgain
+pub mod Committing
+pub mod Joining
+pub mod Copying
+pub mod Shifting

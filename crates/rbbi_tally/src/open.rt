@@ -1,0 +1,93 @@
+//! All segments of a text.
+ghost use Rattle.std.specs.Prelude.{◌≡◌, ◌+◌, ◌≤◌, ◌<◌, ◌++◌, [], ℕ, length, IfOk, slice_index};
+ghost use Rattle.rbbi_model.specs.Words.{most_characters};
+ghost use Rattle.rbbi_text.specs.Steps.{RisesUpTo};
+ghost use Rattle.rbbi_tally.specs.Costs.{opening_cost};
+ghost use Rattle.rbbi_tally.specs.inner.Segments.{AreSegments};
+ghost use Rattle.rbbi_tally.specs.inner.Pieces.{segments_in, IsPiece};
+ghost use Rattle.rbbi_tally.specs.inner.Counting.{IsRecounted};
+ghost use Rattle.rbbi_tally.specs.inner.Tallied.{IsTallied};
+ghost use Rattle.rbbi_tally.specs.inner.Opening.{FillsPiece, ReadsPiece};
+
+use crate::piece::{FILLED, FULL, Piece};
+use crate::search::search_from;
+use rbbi_table::{Marks, Table};
+use rbbi_text::{Chars, Steps};
+use std::alloc::{AllocError, Global};
+use std::sync::ledger::Ledger;
+
+/// The segments of a text by pieces, how many have each status list, and scratch space of searches.
+#[derive(Drop)]
+pub(crate) struct Opened {
+    pub(crate) pieces: Vec<Piece>,
+    pub(crate) counts: Vec<u32>,
+    pub(crate) marks: Marks,
+}
+
+/// A piece, and the boundary behind it.
+#[derive(Drop)]
+struct Filled {
+    piece: Piece,
+    next: u32,
+}
+
+/// Searches from a boundary on, until a piece is filled or the text ends.
+fn fill<T: Chars, L: Ledger>(
+    alloc: Global,
+    table: &Table,
+    text: &T,
+    start: u32,
+    counts: &mut [u32],
+    marks: &mut Marks,
+    steps: &mut Steps<L>,
+) -> Result<Filled, AllocError>
+    requires within { start < length (T.characters text.now) }
+    requires fit { marks.old ≡ table.now.slashes }
+    requires lists { length counts.old ≡ length table.now.lists }
+    requires few { (list : ℕ) → list < length counts.old →
+        slice_index counts.old list ≤ start }
+    ensures filled { IfOk result (λ filled. FillsPiece table.now (T.characters text.now) start
+        filled.piece filled.next counts.old counts.new steps.old steps.new) }
+    ensures err { ReadsPiece result steps.old steps.new }
+    ensures fit { marks.new ≡ marks.old }
+{
+    let len = text.len();
+    let mut items = Vec::with_capacity(alloc, FULL)?;
+    let mut place = start;
+    while place < len && items.len() < FILLED {
+        place = search_from(table, text, place, start, &mut items, counts, marks, steps);
+    }
+    Ok(Filled {
+        piece: Piece::new(start, items),
+        next: place,
+    })
+}
+
+/// Searches from each boundary of the text.
+pub(crate) fn segments_of<T: Chars, L: Ledger>(
+    alloc: Global,
+    table: &Table,
+    text: &T,
+    steps: &mut Steps<L>,
+) -> Result<Opened, AllocError>
+    ensures opened { IfOk result (λ opened. IsTallied table.now (T.characters text.now)
+        opened.pieces.items opened.counts.items opened.marks) }
+    ensures reads { RisesUpTo (opening_cost table.now (T.characters text.now))
+        steps.old steps.new }
+{
+    let len = text.len();
+    let mut marks = Marks::new(alloc, table)?;
+    let mut counts = vec![in alloc; 0; table.lists() as usize]?;
+    let mut pieces = Vec::new(alloc);
+    let mut place = 0;
+    while place < len {
+        let filled = fill(alloc, table, text, place, &mut counts, &mut marks, steps)?;
+        pieces.push(filled.piece)?;
+        place = filled.next;
+    }
+    Ok(Opened {
+        pieces,
+        counts,
+        marks,
+    })
+}

@@ -1,0 +1,182 @@
+//! A text with the counts of its segments.
+ghost use Rattle.std.specs.Prelude.{◌≡◌, ◌+◌, ◌≤◌, ◌<◌, length, chars, IfOk};
+ghost use Rattle.rbbi_text.specs.Steps.{RisesUpTo};
+ghost use Rattle.rbbi_tally.specs.Counts.{count, segment_count, AreCounts};
+ghost use Rattle.rbbi_tally.specs.Costs.{opening_cost};
+ghost use Rattle.rbbi_tally.specs.Tallies.{boundaries_of, EditAnswers, EditReads};
+
+use crate::commit::commit;
+use crate::counts::{Counts, count_of, total, values_of};
+use crate::edit::{Edit, inserted_by};
+use crate::open::{Opened, segments_of};
+use crate::piece::Piece;
+use crate::search::search_again;
+use crate::spot::{first_reaching, place_at};
+use rbbi_table::{Marks, Table};
+use rbbi_text::{EditErr, EditText, Steps};
+use std::alloc::{AllocError, Global};
+use std::marker::Model;
+use std::sync::ledger::Ledger;
+
+/// A text with a table of break rules, and how many of its segments have each status. A segment
+/// lies between two neighbouring boundaries, and has the statuses of the later one.
+///
+/// The boundaries are kept by pieces of at most 2,048, each with its status list and with how far
+/// the search from there looked. So an edit searches from the first boundary whose search looked
+/// past the edit's place, up to where the boundaries are old ones moved. It moves the segments of
+/// the pieces that it touches, and one number for each piece behind. It takes eight bytes a
+/// boundary, and room for 512 further ones with each 1,536.
+#[derive(Drop)]
+pub struct Tally<'a, T: EditText> {
+    table: &'a Table,
+    text: T,
+    pieces: Vec<Piece>,
+    /// How many segments have each status list.
+    counts: Vec<u32>,
+    /// Scratch space of searches.
+    marks: Marks,
+    /// Where the memory of further pieces comes from.
+    alloc: Global,
+}
+
+impl<'a, T: EditText> Model for Tally<'a, T> {
+    ghost use Rattle.rbbi_tally.specs.Tallies.{Tally};
+
+    ghost Value = { Tally };
+
+    ghost use Rattle.rbbi_tally.specs.inner.Tallied.{IsTallied};
+
+    ghost view = { λ tally. record {
+      table = tally.table.now;
+      text = T.characters tally.text;
+    } };
+
+    ghost invariant = { λ tally. IsTallied tally.table.now (T.characters tally.text)
+        tally.pieces.items tally.counts.items tally.marks };
+}
+
+impl<'a, T: EditText + Drop> Tally<'a, T> {
+    /// The counts of a text. After the refusal the text is dropped.
+    ///
+    /// It searches from each boundary once, and so reads each character about once.
+    pub fn open<L: Ledger>(
+        alloc: Global,
+        table: &'a Table,
+        text: T,
+        steps: &mut Steps<L>,
+    ) -> Result<Tally<'a, T>, AllocError>
+        ensures opened { IfOk result (λ tally. (tally.table ≡ table.now)
+            × (tally.text ≡ T.characters text)) }
+        ensures reads { RisesUpTo (opening_cost table.now (T.characters text))
+            steps.old steps.new }
+    {
+        let opened = segments_of(alloc, table, &text, steps)?;
+        let Opened {
+            pieces,
+            counts,
+            marks,
+        } = opened;
+        Ok(Tally {
+            table,
+            text,
+            pieces,
+            counts,
+            marks,
+            alloc,
+        })
+    }
+}
+
+impl<'a, T: EditText> Tally<'a, T> {
+    /// Puts the characters of `insert` in place of `remove` characters from `at` on, and counts
+    /// anew what that touches.
+    ///
+    /// Refuses `Outside` if the text has fewer than `at + remove` characters, and otherwise
+    /// `TooLong` if it would have more than 16,777,216 characters. After a refusal, also for
+    /// memory, text and counts are as before, and nothing was read. All memory that can be refused
+    /// is taken before the text is edited: room for all boundaries that the new text can have.
+    pub fn replace<L: Ledger>(
+        &mut self,
+        at: u32,
+        remove: u32,
+        insert: &str,
+        steps: &mut Steps<L>,
+    ) -> Result<(), EditErr>
+        ensures edited { EditAnswers self.old at remove (chars insert.now) result self.new }
+        ensures reads { EditReads self.old at remove (chars insert.now) result
+            steps.old steps.new }
+    {
+        self.table.valid();
+        let end = self.text.len();
+        let inserted = inserted_by(end, at, remove, insert)?;
+        let edit = Edit {
+            at,
+            removed: remove,
+            inserted,
+        };
+        let first = first_reaching(&self.pieces, at);
+        let start = place_at(&self.pieces, first, end);
+        // From `start` on the new text has at most one boundary a character, and one more.
+        let mut items = Vec::with_capacity(self.alloc, (end - remove + inserted - start) as usize)?;
+        self.pieces.reserve(1)?;
+        self.text.replace(at, remove, insert)?;
+        let met = search_again(
+            self.table,
+            &self.text,
+            &self.pieces,
+            first,
+            start,
+            edit,
+            end,
+            &mut items,
+            &mut self.counts,
+            &mut self.marks,
+            steps,
+        );
+        commit(
+            self.alloc,
+            &mut self.pieces,
+            items,
+            start,
+            first,
+            met.spot,
+            edit,
+        );
+        Ok(())
+    }
+
+    /// How many segments the text has: the number of its boundaries less 1.
+    pub fn segments(&self) -> u32
+        ensures { result ≡ segment_count (boundaries_of self.now) }
+    {
+        self.table.valid();
+        let _short = self.text.len();
+        total(&self.counts)
+    }
+
+    /// How many segments have a value as the largest of their statuses.
+    pub fn count(&self, value: u32) -> u32
+        ensures { result ≡ count (boundaries_of self.now) value }
+    {
+        self.table.valid();
+        let _short = self.text.len();
+        count_of(self.table, &self.counts, value)
+    }
+
+    /// The values that some segment has as the largest of its statuses, by rising values, each with
+    /// the number of these segments.
+    pub fn each(&self, alloc: Global) -> Result<Counts, AllocError>
+        ensures { IfOk result (λ counts. AreCounts (boundaries_of self.now) counts.items) }
+    {
+        self.table.valid();
+        let _short = self.text.len();
+        values_of(alloc, self.table, &self.counts)
+    }
+
+    /// The text as it is now.
+    pub fn text(&self) -> &T
+        ensures { T.characters result.now ≡ self.now.text }
+    {
+        &self.text
+    }
+}
