@@ -1,0 +1,22 @@
+# Completion of rbbi for bash: source this file, or put it as `rbbi` into
+# ~/.local/share/bash-completion/completions.
+_rbbi() {
+    local word=${COMP_WORDS[COMP_CWORD]} options
+    COMPREPLY=()
+    if [ "$COMP_CWORD" -eq 1 ]; then
+        COMPREPLY=($(compgen -W 'check compile upgrade breaks run conform demo' -- "$word"))
+        return
+    fi
+    case ${COMP_WORDS[1]} in
+    check | compile) options='--prop --ignore-dictionary' ;;
+    breaks | run | conform) options='--prop --ignore-dictionary --table' ;;
+    upgrade) options= ;;
+    *) return ;;
+    esac
+    case $word in
+    --*) COMPREPLY=($(compgen -W "$options" -- "$word")) ;;
+    =) compopt -o filenames && COMPREPLY=($(compgen -f)) ;;
+    *) compopt -o filenames && COMPREPLY=($(compgen -f -- "$word")) ;;
+    esac
+}
+complete -F _rbbi rbbi

@@ -1,0 +1,58 @@
+-- Bytes that are made and put bit by bit: of all that were made a front was put, and the others wait.
+use Rattle.std.proofs.Common.{◌≡◌, ℕ, ◌-◌, ◌+◌, ◌<◌, ◌≤◌, List, [], ◌∷◌, ◌++◌, length, take, drop, get_or, Option, Some, None, refl, sym, ap, ◌∙◌, append_assoc, append-nil, arith}
+use Rattle.std.specs.List.{flat_map, slice_range}
+use Rattle.std.proofs.lemmas.List.{take_more, flat_map_more, get_or-drop, length-drop}
+use Rattle.rbbi_io.specs.Sinks.{Takes, IsBuffered}
+use Rattle.rbbi_io.proofs.Puts.{Takes-both}
+
+-- a sink that isn't called takes nothing
+takes_nothing : (taken : Option (List ℕ)) → Takes taken taken []
+takes_nothing None = refl
+takes_nothing (Some bytes) = ap Some (sym (append-nil bytes))
+
+-- all that was made waits
+pub waits : (taken : Option (List ℕ)) (made waiting : List ℕ) → waiting ≡ made → IsBuffered taken taken made waiting
+waits taken made waiting is = record { flushed = []; taken = takes_nothing taken; parts = sym is }
+
+-- more was made, and waits
+pub more_waits : (before now : Option (List ℕ)) (made waiting bytes left : List ℕ) → IsBuffered before now made waiting → left ≡ waiting ++ bytes
+    → IsBuffered before now (made ++ bytes) left
+more_waits before now made waiting bytes left so_far is = record {
+  flushed = so_far.flushed;
+  taken = so_far.taken;
+  parts = ap (λ l. l ++ bytes) so_far.parts ∙ append_assoc so_far.flushed waiting bytes ∙ ap (λ l. so_far.flushed ++ l) (sym is);
+}
+
+-- some of what waits was put
+pub more_is_put : (before between now : Option (List ℕ)) (made waiting left : List ℕ) → IsBuffered before between made waiting
+    → IsBuffered between now waiting left → IsBuffered before now made left
+more_is_put before between now made waiting left so_far more = record {
+  flushed = so_far.flushed ++ more.flushed;
+  taken = Takes-both before between now so_far.flushed more.flushed so_far.taken more.taken;
+  parts = so_far.parts ∙ ap (λ l. so_far.flushed ++ l) more.parts ∙ sym (append_assoc so_far.flushed more.flushed left);
+}
+
+-- more was made and put bit by bit
+pub more_is_made : (before between now : Option (List ℕ)) (made waiting bytes left : List ℕ) → IsBuffered before between made waiting
+    → IsBuffered between now (waiting ++ bytes) left → IsBuffered before now (made ++ bytes) left
+more_is_made before between now made waiting bytes left so_far more =
+    more_is_put before between now (made ++ bytes) (waiting ++ bytes) left (more_waits before between made waiting bytes (waiting ++ bytes) so_far refl) more
+
+-- a quote and the characters of a piece, as each is written, and one character more
+pub quoted_more : (f : ℕ → List ℕ) (x : List ℕ) (start i c : ℕ) (made : List ℕ) → start ≤ i → i < length x → c ≡ get_or x i 0
+    → (made ++ 34 ∷ flat_map f (slice_range x start i)) ++ f c ≡ made ++ 34 ∷ flat_map f (slice_range x start (i + 1))
+quoted_more f x start i c made first inside is =
+    let n : ℕ = i - start in
+    let count : i + 1 - start ≡ n + 1 = omega arith in
+    let place : start + n ≡ i = omega arith in
+    let within : n < length (drop start x) = omega (arith, length-drop start x) in
+    let here : get_or (drop start x) n 0 ≡ c = get_or-drop start x n 0 ∙ ap (λ k. get_or x k 0) place ∙ sym is in
+    let piece : slice_range x start (i + 1) ≡ slice_range x start i ++ c ∷ [] =
+    ap (λ k. take k (drop start x)) count ∙ take_more (drop start x) n 0 within ∙ ap (λ d. take n (drop start x) ++ d ∷ []) here in
+    append_assoc made (34 ∷ flat_map f (slice_range x start i)) (f c)
+    ∙ ap (λ l. made ++ 34 ∷ l) (flat_map_more f [] (slice_range x start i) c ∙ ap (flat_map f) (sym piece))
+
+-- three parts behind what was made
+pub three_parts : (made first second third : List ℕ) → ((made ++ first) ++ second) ++ third ≡ made ++ ((first ++ second) ++ third)
+three_parts made first second third =
+    append_assoc (made ++ first) second third ∙ append_assoc made first (second ++ third) ∙ ap (λ l. made ++ l) (sym (append_assoc first second third))

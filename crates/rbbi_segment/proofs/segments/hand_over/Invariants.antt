@@ -1,0 +1,16 @@
+use Rattle.std.proofs.Common.{◌≡◌, ◌≤◌, ◌-◌, length}
+use Rattle.rbbi_segment.proofs.Handed.{AreHandedTo}
+use Rattle.rbbi_segment.proofs.segments.hand_over.Given as goal
+
+-- the segments before this place were handed over, and there is space for the searches
+abbrev pub invariant-loop-at : goal.invariant-loop-at
+invariant-loop-at g l = record {
+  within : l.at ≤ length (g.T.Chars.characters l.text);
+  fit : l.marks ≡ l.table.slashes;
+  handed : AreHandedTo g.V.Receive.takes l.table (g.T.Chars.characters l.text) l.initial.receiver (g.K.Sink.taken l.initial.out) l.receiver
+      (g.K.Sink.taken l.out) l.at;
+}
+
+-- the characters that are left
+abbrev pub decreases-loop-at : goal.decreases-loop-at
+decreases-loop-at g l = length (g.T.Chars.characters l.text) - l.at

@@ -1,0 +1,42 @@
+-- The segments of a text by a table, and what takes them one after the other.
+use Rattle.std.specs.Prelude.{ℕ, List, [], ◌∷◌, ◌++◌, Option}
+use Rattle.rbbi_model.specs.Places.{largest}
+use Rattle.rbbi_model.specs.Boundaries.{Boundary}
+use Rattle.rbbi_model.specs.Tables.{Table}
+use Rattle.rbbi_model.specs.Searches.{table_boundaries}
+use Rattle.rbbi_segment.specs.declared.segments.Segment.{Segment}
+
+-- from a place to a boundary, with the largest status there
+abbrev pub segment_to : ℕ → Boundary → Segment
+segment_to start boundary = record { start = start; end = boundary.at; status = largest boundary.statuses }
+
+-- the segments from a place to the boundaries that follow it
+abbrev pub segments_from : ℕ → List Boundary → List Segment
+segments_from start [] = []
+segments_from start (next ∷ others) = segment_to start next ∷ segments_from next.at others
+
+-- the segments between boundaries that follow one another
+abbrev pub segments_between : List Boundary → List Segment
+segments_between [] = []
+segments_between (first ∷ others) = segments_from first.at others
+
+-- the segments of the text by the table
+abbrev pub segments : Table → List ℕ → List Segment
+segments table x = segments_between (table_boundaries table x)
+
+-- A receiver took these segments of the text, one after the other and no others. `takes` says what taking one does to it and to what the
+-- sink has taken.
+pub data AreTaken {V : Type 0} (takes : V → Option (List ℕ) → List ℕ → Segment → V → Option (List ℕ) → Type 0) (x : List ℕ) (first : V) (before : Option (List ℕ)) :
+    List Segment → V → Option (List ℕ) → Type 0 where
+  NoneTaken : AreTaken takes x first before [] first before
+  OneMore : (taken : List Segment) (segment : Segment) (receiver next : V) (between now : Option (List ℕ)) →
+      AreTaken takes x first before taken receiver between → takes receiver between x segment next now →
+      AreTaken takes x first before (taken ++ segment ∷ []) next now
+
+-- the receiver took all of these segments in turn, and then put what was left
+pub record TakesAll {V : Type 0} (takes : V → Option (List ℕ) → List ℕ → Segment → V → Option (List ℕ) → Type 0) (ends : V → Option (List ℕ) → Option (List ℕ) → Type 0)
+    (x : List ℕ) (all : List Segment) (first : V) (before now : Option (List ℕ)) : Type 0 where
+  pub last : V
+  pub between : Option (List ℕ)
+  pub taken : AreTaken takes x first before all last between
+  pub ended : ends last between now

@@ -1,0 +1,128 @@
+//! Characters as they are printed: those that would do something to a terminal as escapes.
+ghost use Rattle.std.specs.Prelude.{◌≡◌, ◌++◌, OnOk, encode_utf8};
+ghost use Rattle.rbbi_segment.specs.Escapes as spec;
+
+use rbbi_text::append;
+use std::alloc::AllocError;
+
+/// In what a character stands.
+#[derive(Clone, Copy)]
+pub(crate) enum Within {
+    /// In no quotes, as a name of a file.
+    Nothing,
+    /// In quotes, with `\u{HHHH}`.
+    Quotes,
+    /// In a string of JSON.
+    Json,
+}
+
+/// Whether quotes and backslashes are escaped here.
+fn is_quoted(within: Within) -> bool
+    ensures { result ≡ spec.is_quoted within }
+{
+    match within {
+        Within::Nothing => false,
+        Within::Quotes => true,
+        Within::Json => true,
+    }
+}
+
+/// The hexadecimal digit of a number's last four bits.
+fn digit(number: u32) -> u8
+    ensures { result ≡ spec.hex_digit number }
+{
+    let last = (number % 16) as u8;
+    if last < 10 { 48 + last } else { 87 + last }
+}
+
+/// Whether a number is one of those from the first to the last.
+fn is_from(first: u32, last: u32, number: u32) -> bool
+    ensures { result ≡ spec.is_from first last number }
+{
+    first <= number && number <= last
+}
+
+/// Whether a character isn't printed as it is: a control character, a line or paragraph separator,
+/// or one that turns the direction of what follows.
+pub(crate) fn is_hidden(c: char) -> bool
+    ensures { result ≡ spec.is_hidden c }
+{
+    let code = c as u32;
+    code < 0x20
+        || is_from(0x7F, 0x9F, code)
+        || code == 0x61C
+        || is_from(0x200E, 0x200F, code)
+        || is_from(0x2028, 0x202E, code)
+        || is_from(0x2066, 0x2069, code)
+}
+
+/// Appends the last sixteen bits of a number in hexadecimal.
+fn append_digits(number: u32, out: &mut Vec<u8>) -> Result<(), AllocError>
+    ensures { OnOk result (out.new.items ≡ out.old.items ++ spec.four_digits number) }
+{
+    let digits = [
+        digit(number / 4096),
+        digit(number / 256),
+        digit(number / 16),
+        digit(number),
+    ];
+    append(&digits, out)
+}
+
+/// Appends the escape of a hidden character, which is below U+10000.
+fn append_hidden(c: char, within: Within, out: &mut Vec<u8>) -> Result<(), AllocError>
+    ensures { OnOk result (out.new.items ≡ out.old.items ++ spec.escape_of within c) }
+{
+    match within {
+        Within::Json => {
+            append(b"\\u", out)?;
+            append_digits(c as u32, out)
+        }
+        Within::Nothing | Within::Quotes => {
+            append(b"\\u{", out)?;
+            append_digits(c as u32, out)?;
+            append(b"}", out)
+        }
+    }
+}
+
+/// Appends a character, or the escape of it. Quotes and backslashes are escaped in quotes.
+pub(crate) fn append_character(c: char, within: Within, out: &mut Vec<u8>) -> Result<(), AllocError>
+    ensures { OnOk result (out.new.items ≡ out.old.items ++ spec.shown within c) }
+{
+    if c == '\n' {
+        return append(b"\\n", out);
+    }
+    if c == '\r' {
+        return append(b"\\r", out);
+    }
+    if c == '\t' {
+        return append(b"\\t", out);
+    }
+    if is_quoted(within) && c == '"' {
+        return append(b"\\\"", out);
+    }
+    if is_quoted(within) && c == '\\' {
+        return append(b"\\\\", out);
+    }
+    if is_hidden(c) {
+        return append_hidden(c, within, out);
+    }
+    append_plain(c, out)
+}
+
+/// Appends a character in UTF-8.
+pub(crate) fn append_plain(c: char, out: &mut Vec<u8>) -> Result<(), AllocError>
+    ensures { OnOk result (out.new.items ≡ out.old.items ++ encode_utf8 c) }
+{
+    let mut bytes = [0; 4];
+    append(c.encode_utf8(&mut bytes).as_bytes(), out)
+}
+
+/// Appends a name that stands in no quotes.
+pub(crate) fn append_name(name: &str, out: &mut Vec<u8>) -> Result<(), AllocError> {
+    for c in name.chars() {
+        append_character(c, Within::Nothing, out)?;
+    }
+    Ok(())
+}

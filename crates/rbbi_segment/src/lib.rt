@@ -1,0 +1,28 @@
+//! The program `segment`, for people: the graphemes, words, sentences or lines of a text.
+//!
+//! `arguments` reads the words of the command line, `program` goes through a run, `segments` hands
+//! the segments over, and `quoted`, `marked` and `tally` have what each format makes of them.
+#![tactic(auto)]
+
+mod arguments;
+mod basis;
+mod built_in;
+mod colors;
+mod escapes;
+mod failure;
+mod fault_texts;
+mod faults;
+mod marked;
+mod only;
+mod options;
+mod program;
+mod quoted;
+mod reading;
+mod rules;
+mod segments;
+mod source;
+mod tables;
+mod tally;
+
+pub use colors::Surroundings;
+pub use program::segment;

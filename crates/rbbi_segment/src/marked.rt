@@ -1,0 +1,59 @@
+//! The text with a mark where a segment begins or ends.
+ghost use Rattle.std.specs.Prelude.{◌<◌, ◌≤◌, length};
+
+use crate::colors::{Color, Colors};
+use crate::escapes::append_plain;
+use crate::only::Statuses;
+use crate::segments::{Receive, Segment};
+use rbbi_io::{Sink, WriteErr, put_all, put_when_full};
+use rbbi_text::{Chars, Steps, UnitText, append};
+use std::alloc::AllocError;
+use std::sync::ledger::Ledger;
+
+/// Puts the characters of all segments, and a `|` where one of the statuses that are asked for
+/// begins or ends.
+#[derive(Drop)]
+pub(crate) struct Marked {
+    pub(crate) only: Statuses,
+    pub(crate) colors: Colors,
+    /// Whether the segment before was one of those.
+    pub(crate) was_asked_for: bool,
+    /// The bytes that wait.
+    pub(crate) made: Vec<u8>,
+}
+
+impl Marked {
+    /// Appends a mark.
+    fn append_mark(&mut self) -> Result<(), AllocError> {
+        self.colors.append(Color::Mark, b"|", &mut self.made)
+    }
+}
+
+impl Receive for Marked {
+    fn take<T: UnitText, K: Sink, L: Ledger>(
+        &mut self,
+        text: &T,
+        segment: Segment,
+        out: &mut K,
+        steps: &mut Steps<L>,
+    ) -> Result<(), WriteErr> {
+        let is_asked_for = self.only.has(segment.status);
+        if is_asked_for || self.was_asked_for {
+            self.append_mark()?;
+        }
+        self.was_asked_for = is_asked_for;
+        for i in segment.start..segment.end {
+            append_plain(text.char_at(i, steps), &mut self.made)?;
+            put_when_full(out, &mut self.made)?;
+        }
+        Ok(())
+    }
+
+    fn end<K: Sink>(&mut self, out: &mut K) -> Result<(), WriteErr> {
+        if self.was_asked_for {
+            self.append_mark()?;
+        }
+        append(b"\n", &mut self.made)?;
+        put_all(out, &self.made)
+    }
+}

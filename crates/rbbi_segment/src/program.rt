@@ -1,0 +1,151 @@
+//! A run of the program.
+ghost use Rattle.std.specs.Prelude.{OnOk};
+ghost use Rattle.rbbi_io.specs.Sinks.{Takes};
+ghost use Rattle.rbbi_segment.specs.Lines.{lines};
+ghost use Rattle.rbbi_segment.specs.Segments.{segments};
+
+use crate::arguments::request_of;
+use crate::basis::table_of;
+use crate::colors::{Colors, Surroundings};
+use crate::failure::{Failure, IS_REFUSED};
+use crate::marked::Marked;
+use crate::options::{Format, Request, Task};
+use crate::quoted::{Quoted, Style};
+use crate::reading::read_text;
+use crate::segments::hand_over;
+use crate::tally::Tally;
+use rbbi_io::{Files, Sink, WriteErr, put_all};
+use rbbi_table::Table;
+use rbbi_text::{PlainText, Steps, UnitText};
+use std::alloc::Global;
+use std::collections::BTreeMap;
+use std::io::Read;
+use std::sync::ledger::Ledger;
+
+/// Puts a line for each segment of a text by a table whose status is asked for.
+fn put_lines<T: UnitText, K: Sink, L: Ledger>(
+    alloc: Global,
+    style: Style,
+    table: &Table,
+    text: &T,
+    out: &mut K,
+    steps: &mut Steps<L>,
+) -> Result<(), WriteErr>
+    ensures { OnOk result (Takes (K.taken out.old) (K.taken out.new) (lines style
+        (T.characters text.now) (segments table.now (T.characters text.now)))) }
+{
+    let made = Vec::new(alloc);
+    let mut receiver = Quoted { style, made };
+    hand_over(alloc, table, text, &mut receiver, out, steps)
+}
+
+/// Puts the segments of a text by a table, in the format that is asked for.
+fn put_segments<K: Sink, L: Ledger>(
+    alloc: Global,
+    request: &Request<'_>,
+    table: &Table,
+    text: &PlainText,
+    colors: Colors,
+    out: &mut K,
+    steps: &mut Steps<L>,
+) -> Result<(), WriteErr> {
+    let only = request.only;
+    match request.format {
+        Format::Text | Format::Json => {
+            let style = Style {
+                is_json: request.format == Format::Json,
+                unit: request.unit,
+                only,
+                colors,
+            };
+            put_lines(alloc, style, table, text, out, steps)
+        }
+        Format::Marked => {
+            let mut receiver = Marked {
+                only,
+                colors,
+                was_asked_for: false,
+                made: Vec::new(alloc),
+            };
+            hand_over(alloc, table, text, &mut receiver, out, steps)
+        }
+        Format::Count => {
+            let counts = BTreeMap::new(alloc);
+            let made = Vec::new(alloc);
+            let mut receiver = Tally { only, counts, made };
+            hand_over(alloc, table, text, &mut receiver, out, steps)
+        }
+    }
+}
+
+/// Does what a request asks for.
+fn perform<F: Files, R: Read, K: Sink, L: Ledger>(
+    alloc: Global,
+    request: &Request<'_>,
+    surroundings: Surroundings,
+    files: &mut F,
+    input: &mut R,
+    out: &mut K,
+    steps: &mut Steps<L>,
+) -> Result<(), Failure> {
+    let no_color = surroundings.no_color;
+    let faults = Colors::new(request.color, surroundings.errors_are_on_terminal, no_color);
+    let table = table_of(alloc, request, faults, files, input, steps)?;
+    let Task::Segment(name) = request.task else {
+        return Ok(());
+    };
+    let text = read_text(alloc, name, faults, files, input)?;
+    let colors = Colors::new(request.color, surroundings.output_is_terminal, no_color);
+    put_segments(alloc, request, &table, &text, colors, out, steps)?;
+    Ok(())
+}
+
+/// Puts a message as far as can be, and answers the status.
+fn tell<K: Sink>(status: u8, message: &[u8], errors: &mut K) -> u8 {
+    let _ = put_all(errors, message);
+    status
+}
+
+/// Tells why a run ended early, and answers the exit status.
+fn tell_failure<K: Sink, E: Sink>(failure: Failure, out: &mut K, errors: &mut E) -> u8 {
+    match failure {
+        Failure::Shown(text) => match put_all(out, &text) {
+            Ok(()) => 0,
+            Err(_) => tell(
+                IS_REFUSED,
+                b"segment: the output can't be written\n",
+                errors,
+            ),
+        },
+        Failure::Told(status, message) => tell(status, &message, errors),
+        Failure::Unwritten => tell(
+            IS_REFUSED,
+            b"segment: the output can't be written\n",
+            errors,
+        ),
+        Failure::Memory => tell(IS_REFUSED, b"segment: memory ran out\n", errors),
+    }
+}
+
+/// Runs the program on the words behind its name, and answers the exit status: 0 where all is done,
+/// 1 where the rule file has a fault, and 2 where the words are wrong, a file can't be read or used,
+/// the output can't be written, or memory runs out.
+pub fn segment<F: Files, R: Read, K: Sink, E: Sink, L: Ledger>(
+    alloc: Global,
+    words: &Vec<String>,
+    surroundings: Surroundings,
+    files: &mut F,
+    input: &mut R,
+    out: &mut K,
+    errors: &mut E,
+    steps: &mut Steps<L>,
+) -> u8 {
+    let request = match request_of(alloc, words) {
+        Ok(request) => request,
+        Err(failure) => return tell_failure(failure, out, errors),
+    };
+    match perform(alloc, &request, surroundings, files, input, out, steps) {
+        Ok(()) => 0,
+        Err(failure) => tell_failure(failure, out, errors),
+    }
+}

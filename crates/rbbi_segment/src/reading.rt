@@ -1,0 +1,66 @@
+//! From names to what the files hold.
+ghost use Rattle.std.specs.Prelude.{◌≤◌, length, IfOk};
+ghost use Rattle.rbbi_text.specs.Bytes.{most_bytes};
+
+use crate::colors::Colors;
+use crate::failure::{Failure, IS_REFUSED};
+use crate::faults::{Place, fault_of};
+use rbbi_io::{Files, ReadErr, read_at_most};
+use rbbi_text::{PlainText, Raw, RawErr};
+use std::alloc::Global;
+use std::io::Read;
+
+/// The most bytes of a rule file.
+pub(crate) const RULES_LIMIT: u64 = 1_048_576;
+
+/// The most bytes of a property file.
+pub(crate) const PROPERTIES_LIMIT: u64 = 8_388_608;
+
+/// The most bytes of a table file.
+pub(crate) const TABLE_LIMIT: u64 = 100_663_296;
+
+/// The most bytes of a text.
+const TEXT_LIMIT: u64 = 67_108_864;
+
+/// All bytes of the file of this name, at most `limit`, or of the standard input if it is `-`.
+pub(crate) fn read<F: Files, R: Read>(
+    alloc: Global,
+    name: &str,
+    limit: u64,
+    colors: Colors,
+    files: &mut F,
+    input: &mut R,
+) -> Result<Raw, Failure>
+    ensures { IfOk result (λ bytes. length bytes ≤ limit) }
+{
+    let bytes = if name == "-" {
+        read_at_most(alloc, input, limit)
+    } else {
+        files.read(alloc, name, limit)
+    };
+    let label = match bytes {
+        Ok(bytes) => return Ok(bytes),
+        Err(ReadErr::Failed) => "Unreadable",
+        Err(ReadErr::TooLong) => "TooLong",
+        Err(ReadErr::Memory) => return Err(Failure::Memory),
+    };
+    Err(fault_of(alloc, IS_REFUSED, name, label, Place::Whole, colors))
+}
+
+/// The text of a file.
+pub(crate) fn read_text<F: Files, R: Read>(
+    alloc: Global,
+    name: &str,
+    colors: Colors,
+    files: &mut F,
+    input: &mut R,
+) -> Result<PlainText, Failure> {
+    let bytes = read(alloc, name, TEXT_LIMIT, colors, files, input)?;
+    let (label, place) = match PlainText::from_raw(alloc, &bytes) {
+        Ok(text) => return Ok(text),
+        Err(RawErr::NotUtf8(at)) => ("NotUtf8", Place::Byte(at)),
+        Err(RawErr::TooManyChars) => ("TooManyChars", Place::Whole),
+        Err(RawErr::Memory) => return Err(Failure::Memory),
+    };
+    Err(fault_of(alloc, IS_REFUSED, name, label, place, colors))
+}

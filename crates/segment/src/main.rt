@@ -1,0 +1,62 @@
+//! The program `segment`: the graphemes, words, sentences or lines of a text, over the system's files.
+#![tactic(auto)]
+
+ghost use Rattle.std.specs.Prelude.{◌≡◌, ◌<◌};
+
+#[cfg(test)]
+mod tests;
+
+use rbbi_io::{RealFiles, RealSink, words};
+use rbbi_segment::{Surroundings, segment};
+use rbbi_text::Steps;
+use std::env;
+use std::io::IsTerminal;
+use std::marker::Brand;
+use std::process::ExitCode;
+use std::sync::ledger::{Blank, Ledger};
+
+/// What the program is run in.
+fn surroundings(rt: &HostRuntime) -> Surroundings {
+    let no_color = match env::var(rt, "NO_COLOR") {
+        Ok(value) => !value.as_str().is_empty(),
+        Err(_) => false,
+    };
+    Surroundings {
+        output_is_terminal: rt.stdout().is_terminal(),
+        errors_are_on_terminal: rt.stderr().is_terminal(),
+        no_color,
+    }
+}
+
+/// Runs the program with a counter of its own. It counts nothing at run time.
+fn run<L: Ledger>(rt: &HostRuntime, words: &Vec<String>, blank: Blank) -> u8
+    requires name { blank.name ≡ L.name }
+    requires parts { blank.parts ≡ L.parts }
+    requires some { 0 < blank.parts }
+{
+    let mut files = RealFiles::new(rt);
+    let mut input = rt.stdin();
+    let mut out = RealSink::new(rt.stdout());
+    let mut errors = RealSink::new(rt.stderr());
+    let mut steps = Steps::<L>::new(rt, blank);
+    segment(
+        rt.alloc(),
+        words,
+        surroundings(rt),
+        &mut files,
+        &mut input,
+        &mut out,
+        &mut errors,
+        &mut steps,
+    )
+}
+
+fn main(rt: HostRuntime) -> ExitCode {
+    match words(&rt) {
+        Ok(words) => ExitCode::from(run::<Brand>(&rt, &words, Blank::new(1))),
+        Err(_) => {
+            let _ = eprintln!(rt; "segment: the system doesn't give the words, or one isn't UTF-8");
+            ExitCode::from(2)
+        }
+    }
+}

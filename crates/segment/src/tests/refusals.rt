@@ -1,0 +1,136 @@
+//! Runs that are refused.
+
+use crate::tests::Row;
+
+/// The files that there are.
+pub(crate) const FILES: &[(&str, &[u8])] = &[
+    ("syntax", b"# one\r\n\t\xE6\x97\xA5 [a-[b]];\r\n"),
+    ("open", b"(a"),
+    ("name\n", b"$x = $y; a;"),
+    ("bytes", b"a;\xFF"),
+    ("many", b"[[a-z]{1};"),
+    ("rows", b"0061 ; A\n\n0062\n"),
+    ("a", b"a;"),
+    ("dictionary", b"$dictionary = [a]; a;"),
+    ("table", b"RBBITBL\x02"),
+];
+
+pub(crate) const ROWS: &[Row] = &[
+    // A wide character takes two columns, and a tab stays one.
+    (
+        "--check~syntax",
+        b"",
+        1,
+        "",
+        "syntax:2:7: error: Syntax: no rule file goes on like this\n\
+         \t\u{65E5} [a-[b]];\n\
+         \t      ^\n\
+         Behind a character a - makes a range; to take a set away write [[a]-[b]].\n",
+    ),
+    (
+        "--check~open",
+        b"",
+        1,
+        "",
+        "open:1:3: error: Syntax: no rule file goes on like this\n(a\n  ^\n\
+         The file ends within a statement: close its brackets, and end it with ;.\n",
+    ),
+    (
+        "--check~name\n",
+        b"",
+        1,
+        "",
+        "name\\n:1:6: error: Undefined: no earlier statement assigns this name\n\
+         $x = $y; a;\n     ^\n\
+         Assign it further up, as $name = [a-z];, and spell it there in the same way.\n",
+    ),
+    (
+        "--color~always~--rules~many",
+        b"",
+        1,
+        "",
+        "many:1:7: \x1B[1;31merror\x1B[0m: BadChar: nothing begins with this character here\n\
+         [[a-z]{1};\n      \x1B[1;31m^\x1B[0m\n\
+         Write it with a backslash or in quotes, as \\- or '-'; a set is [..], and in one { and } \
+         are \\{ and \\}.\n",
+    ),
+    (
+        "--check~bytes",
+        b"",
+        1,
+        "",
+        "bytes: error: NotUtf8: the file isn't UTF-8, at byte 2\nSave it as UTF-8.\n",
+    ),
+    (
+        "--check~dictionary",
+        b"",
+        1,
+        "",
+        "dictionary:1:1: error: Dictionary: dictionaries aren't supported\n\
+         $dictionary = [a]; a;\n^\n\
+         Take the assignment away, or give --ignore-dictionary, by which it is one like any other.\n",
+    ),
+    (
+        "--check~a~--prop~R=rows",
+        b"",
+        2,
+        "",
+        "rows:3: error: BadRow: this is no row of a property file\n\
+         A row is a code point or a range, and a value, as 0041..005A ; ALetter.\n",
+    ),
+    (
+        "none",
+        b"",
+        2,
+        "",
+        "none: error: Unreadable: the file can't be read\n\
+         Look whether it is there, and whether you may read it.\n",
+    ),
+    (
+        "--rules~a~-",
+        b"a\xE9",
+        2,
+        "",
+        "-: error: NotUtf8: the file isn't UTF-8, at byte 1\nSave it as UTF-8.\n",
+    ),
+    (
+        "--table~table~a",
+        b"",
+        2,
+        "",
+        "table: error: Short: the table file ends before its parts do, at byte 8\n\
+         Make it anew by rbbi compile RULES TABLE.\n",
+    ),
+    (
+        "--only~7..x",
+        b"",
+        2,
+        "",
+        "error: --only wants a status or a range of them, as 100, 100.. or 100..200\n",
+    ),
+    (
+        "--rules~a~--prop~R",
+        b"",
+        2,
+        "",
+        "error: --prop wants NAME=FILE, as WB=WordBreakProperty.txt\n",
+    ),
+    (
+        "--by~letter",
+        b"",
+        2,
+        "",
+        "error: invalid value 'letter' for '--by <KIND>'\n  \
+         [possible values: grapheme, word, sentence, line]\n\n\
+         For more information, try '--help'.\n",
+    ),
+    (
+        "--check~a~--by~word",
+        b"",
+        2,
+        "",
+        "error: the argument '--check <RULES>' cannot be used with '--by <KIND>'\n\n\
+         Usage: segment --check <RULES> [FILE]\n\n\
+         For more information, try '--help'.\n",
+    ),
+];
