@@ -1,0 +1,151 @@
+/*
+ * Plays a script as `rbbi run` does, through the C library: driver RULES TEXT SCRIPT UNIT. Places
+ * count UNIT, one of chars, utf8 and utf16. Of the edits only `replace` is known, without escapes.
+ */
+#include <rbbi.h>
+#include <stdio.h>
+#include <stdlib.h>
+#include <string.h>
+
+static char *bytes_of(const char *name, size_t *length) {
+    FILE *file = fopen(name, "rb");
+    if (!file || fseek(file, 0, SEEK_END) != 0) {
+        fprintf(stderr, "driver: %s can't be read\n", name);
+        exit(2);
+    }
+    size_t size = (size_t)ftell(file);
+    char *bytes = malloc(size + 1);
+    rewind(file);
+    if (!bytes || fread(bytes, 1, size, file) != size) {
+        exit(2);
+    }
+    bytes[size] = 0;
+    fclose(file);
+    *length = size;
+    return bytes;
+}
+
+static void must(int answer, const char *what) {
+    if (answer > RBBI_DONE) {
+        fprintf(stderr, "driver: %s: %s\n", what, rbbi_message(answer));
+        exit(2);
+    }
+}
+
+static void place(int answer, const uint32_t *told) {
+    must(answer, "question");
+    if (answer == RBBI_DONE) {
+        puts("done");
+    } else {
+        printf("%u\n", *told);
+    }
+}
+
+static void edited(rbbi_session *session, int answer) {
+    uint32_t length;
+    switch (answer) {
+    case RBBI_OK:
+        must(rbbi_session_length(session, &length), "length");
+        printf("ok %u\n", length);
+        break;
+    case RBBI_OUTSIDE:
+        puts("outside");
+        break;
+    case RBBI_INSIDE:
+        puts("inside");
+        break;
+    case RBBI_TOO_LONG:
+        puts("toolong");
+        break;
+    default:
+        must(answer, "edit");
+    }
+}
+
+static void statuses(rbbi_session *session) {
+    uint32_t room[2], *all = room;
+    size_t count, size = 2;
+    int answer = rbbi_session_statuses(session, all, size, &count);
+    if (answer == RBBI_ROOM) {
+        all = malloc(count * sizeof *all);
+        answer = rbbi_session_statuses(session, all, count, &count);
+    }
+    must(answer, "statuses");
+    for (size_t i = 0; i < count; i++) {
+        printf("%s%u", i ? "," : "", all[i]);
+    }
+    puts("");
+    if (all != room) {
+        free(all);
+    }
+}
+
+static void play(rbbi_session *session, char *line) {
+    uint32_t told = 0, a, b;
+    int at;
+    if (sscanf(line, "following %u", &a) == 1) {
+        place(rbbi_session_following(session, a, &told), &told);
+    } else if (sscanf(line, "preceding %u", &a) == 1) {
+        place(rbbi_session_preceding(session, a, &told), &told);
+    } else if (sscanf(line, "is %u", &a) == 1) {
+        must(rbbi_session_is_boundary(session, a, &told), "is");
+        puts(told ? "yes" : "no");
+    } else if (strcmp(line, "first") == 0) {
+        place(rbbi_session_first(session, &told), &told);
+    } else if (strcmp(line, "last") == 0) {
+        place(rbbi_session_last(session, &told), &told);
+    } else if (strcmp(line, "next") == 0) {
+        place(rbbi_session_next(session, &told), &told);
+    } else if (strcmp(line, "previous") == 0) {
+        place(rbbi_session_previous(session, &told), &told);
+    } else if (strcmp(line, "current") == 0) {
+        place(rbbi_session_current(session, &told), &told);
+    } else if (strcmp(line, "status") == 0) {
+        place(rbbi_session_status(session, &told), &told);
+    } else if (strcmp(line, "statuses") == 0) {
+        statuses(session);
+    } else if (sscanf(line, "replace %u %u%n", &a, &b, &at) == 2) {
+        char *insert = line[at] == ' ' ? line + at + 1 : line + at;
+        edited(session, rbbi_session_replace(session, a, b, insert, strlen(insert)));
+    } else {
+        fprintf(stderr, "driver: %s\n", line);
+        exit(2);
+    }
+}
+
+int main(int count, char **words) {
+    if (count != 5) {
+        return 2;
+    }
+    int unit = strcmp(words[4], "chars") == 0 ? RBBI_CHARS
+               : strcmp(words[4], "utf8") == 0 ? RBBI_UTF8
+                                               : RBBI_UTF16;
+    size_t length;
+    char *rules = bytes_of(words[1], &length);
+    rbbi_table table = RBBI_INIT, loaded = RBBI_INIT;
+    rbbi_fault fault;
+    if (rbbi_table_compile(&table, NULL, rules, length, 0, &fault) == RBBI_FAULT) {
+        fprintf(stderr, "driver: %u:%u: %s\n", fault.line, fault.column, fault.name);
+        return 2;
+    }
+    /* The table goes through a table file. */
+    rbbi_table_write(&table, NULL, 0, &length);
+    char *file = malloc(length);
+    must(rbbi_table_write(&table, file, length, &length), "write");
+    must(rbbi_table_load(&loaded, file, length, &fault), "load");
+    rbbi_table_close(&table);
+    free(file);
+    char *text = bytes_of(words[2], &length);
+    rbbi_session session = RBBI_INIT;
+    must(rbbi_session_open(&session, &loaded, text, length, unit), "open");
+    rbbi_table_close(&loaded);
+    char *script = bytes_of(words[3], &length);
+    for (char *line = strtok(script, "\n"); line; line = strtok(NULL, "\n")) {
+        play(&session, line);
+    }
+    rbbi_session_close(&session);
+    free(rules);
+    free(text);
+    free(script);
+    return 0;
+}

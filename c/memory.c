@@ -1,0 +1,87 @@
+/*
+ * Each allocation refused in turn: a call answers RBBI_MEMORY, leaves what there was, and does its work
+ * when it is made again. Linked with -Wl,--wrap=malloc,--wrap=realloc over the static library.
+ */
+#include <rbbi.h>
+#include <stdio.h>
+#include <stdlib.h>
+#include <string.h>
+
+void *__real_malloc(size_t size);
+void *__real_realloc(void *block, size_t size);
+
+/* How many allocations there are up to the one that is refused; 0 after it. */
+static long left;
+
+static int refused(void) {
+    return left > 0 && --left == 0;
+}
+
+void *__wrap_malloc(size_t size) {
+    return refused() ? NULL : __real_malloc(size);
+}
+
+void *__wrap_realloc(void *block, size_t size) {
+    return refused() ? NULL : __real_realloc(block, size);
+}
+
+static int wrong;
+
+/* What an answer is: done, want of memory, or wrong. */
+static int is_done(int answer, int line) {
+    if (answer != RBBI_OK && answer != RBBI_MEMORY) {
+        printf("line %d: %d\n", line, answer);
+        wrong = 1;
+    }
+    return answer == RBBI_OK;
+}
+
+/* Makes a call, and once more where memory was wanting: then no allocation is refused. */
+#define DONE(call)                                                                                 \
+    if (!is_done(call, __LINE__) && !is_done(call, __LINE__)) {                                    \
+        wrong = 1;                                                                                 \
+    }
+
+static int place_of(rbbi_session *session, uint32_t from) {
+    uint32_t place = 0;
+    int answer = rbbi_session_following(session, from, &place);
+    return answer == RBBI_OK ? (int)place : -answer;
+}
+
+int main(void) {
+    const char *rules = "[a-z]+{200}; [0-9]+([.][0-9]+)?{100}; \\p{X=Y}; .;";
+    char text[3000], insert[2000], file[1000];
+    size_t length;
+    memset(text, 'a', sizeof text);
+    memset(insert, '1', sizeof insert);
+    int most = 0;
+    do {
+        left = ++most;
+        rbbi_files files = RBBI_INIT;
+        rbbi_table table = RBBI_INIT, loaded = RBBI_INIT, other = RBBI_INIT;
+        rbbi_session session = RBBI_INIT;
+        DONE(rbbi_files_open(&files));
+        DONE(rbbi_files_add(&files, "X", "0021 ; Y\n", 9, NULL));
+        DONE(rbbi_table_compile(&table, &files, rules, strlen(rules), 0, NULL));
+        DONE(rbbi_table_write(&table, file, sizeof file, &length));
+        DONE(rbbi_table_load(&loaded, file, length, NULL));
+        DONE(rbbi_table_share(&other, &loaded));
+        DONE(rbbi_session_open(&session, &other, text, sizeof text, RBBI_UTF8));
+        wrong |= place_of(&session, 5) != 3000;
+        int answer = rbbi_session_replace(&session, 1000, 5, insert, sizeof insert);
+        if (answer == RBBI_MEMORY) {
+            wrong |= place_of(&session, 5) != 3000;
+        }
+        if (!is_done(answer, __LINE__)) {
+            DONE(rbbi_session_replace(&session, 1000, 5, insert, sizeof insert));
+        }
+        wrong |= place_of(&session, 5) != 1000 || place_of(&session, 1000) != 3000;
+        rbbi_files_close(&files);
+        rbbi_table_close(&table);
+        rbbi_table_close(&loaded);
+        rbbi_table_close(&other);
+        rbbi_session_close(&session);
+    } while (left == 0 && !wrong);
+    printf("memory %s, %d allocations refused in turn\n", wrong ? "differs" : "is told", most - 1);
+    return wrong;
+}

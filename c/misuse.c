@@ -1,0 +1,103 @@
+/* Misuse that can be seen is an answer, and leaves what there is: the status is 1 where one differs. */
+#include <rbbi.h>
+#include <stdio.h>
+#include <string.h>
+
+static int wrong;
+
+static void is(int line, int answer, int wanted) {
+    if (answer != wanted) {
+        printf("line %d: %d, and not %d\n", line, answer, wanted);
+        wrong = 1;
+    }
+}
+
+#define IS(answer, wanted) is(__LINE__, answer, wanted)
+
+int main(void) {
+    const char *rules = "[a-z]+; [0-9]+{100}; .;", *text = "ab 12";
+    rbbi_files files = RBBI_INIT;
+    rbbi_table table = RBBI_INIT, other = RBBI_INIT;
+    rbbi_session session = RBBI_INIT, second = RBBI_INIT;
+    rbbi_fault fault;
+    uint32_t told = 77;
+    size_t count;
+
+    /* NULL */
+    IS(rbbi_files_open(NULL), RBBI_NULL);
+    IS(rbbi_table_compile(NULL, NULL, rules, strlen(rules), 0, NULL), RBBI_NULL);
+    IS(rbbi_table_compile(&table, NULL, NULL, 3, 0, NULL), RBBI_NULL);
+    IS(rbbi_session_open(&session, NULL, text, 5, RBBI_UTF8), RBBI_NULL);
+    IS(rbbi_session_next(NULL, &told), RBBI_NULL);
+    IS(rbbi_session_next(&session, NULL), RBBI_NULL);
+    rbbi_table_close(NULL);
+    rbbi_session_close(NULL);
+
+    /* handles that hold nothing */
+    IS(rbbi_session_next(&session, &told), RBBI_HANDLE);
+    IS(told == 77, 1);
+    IS(rbbi_session_open(&session, &table, text, 5, RBBI_UTF8), RBBI_HANDLE);
+    IS(rbbi_files_add(&files, "X", "", 0, NULL), RBBI_HANDLE);
+    rbbi_session_close(&session);
+
+    /* faults */
+    IS(rbbi_table_compile(&table, NULL, "a;\n$;", 5, 0, &fault), RBBI_FAULT);
+    printf("%u:%u: %s\n", fault.line, fault.column, fault.name);
+    IS(rbbi_table_compile(&table, NULL, "\xff", 1, 0, &fault), RBBI_FAULT);
+    printf("%u: %s\n", fault.byte, fault.name);
+    IS(rbbi_table_load(&table, "RBBI", 4, &fault), RBBI_FAULT);
+    printf("%s\n", fault.name);
+    IS(rbbi_table_named(&table, NULL), RBBI_NULL);
+    IS(rbbi_table_named(&table, "words"), RBBI_NAME);
+    IS(rbbi_table_named(&other, "line"), RBBI_OK);
+    IS(rbbi_table_named(&other, "word"), RBBI_HANDLE);
+    rbbi_table_close(&other);
+    IS(rbbi_files_open(&files), RBBI_OK);
+    IS(rbbi_files_open(&files), RBBI_HANDLE);
+    IS(rbbi_files_add(&files, "X", "0061 ; Y\nno\n", 12, &fault), RBBI_FAULT);
+    printf("%u: %s\n", fault.line, fault.name);
+    IS(rbbi_files_add(&files, "\xff", "", 0, &fault), RBBI_NOT_UTF8);
+    IS(rbbi_files_add(&files, "X", "0061 ; Y\n", 9, &fault), RBBI_OK);
+    IS(rbbi_table_compile(&other, &files, "\\p{X=Y};", 8, 0, &fault), RBBI_OK);
+    rbbi_table_close(&other);
+
+    /* what holds something, and another kind */
+    IS(rbbi_table_compile(&table, NULL, rules, strlen(rules), 0, &fault), RBBI_OK);
+    IS(rbbi_table_compile(&table, NULL, rules, strlen(rules), 0, &fault), RBBI_HANDLE);
+    IS(rbbi_table_share(&other, &table), RBBI_OK);
+    IS(rbbi_table_share(&other, &table), RBBI_HANDLE);
+    IS(rbbi_session_next((rbbi_session *)&table, &told), RBBI_HANDLE);
+    IS(rbbi_session_open(&session, &table, text, 5, 3), RBBI_UNIT);
+    IS(rbbi_session_open(&session, &table, text, 5, -1), RBBI_UNIT);
+    IS(rbbi_session_open(&session, &table, "\xc3(", 2, RBBI_UTF8), RBBI_NOT_UTF8);
+    IS(rbbi_session_open(&session, &table, text, 5, RBBI_UTF16), RBBI_OK);
+    IS(rbbi_session_open(&session, &table, text, 5, RBBI_UTF16), RBBI_HANDLE);
+    IS(rbbi_session_open(&second, (rbbi_table *)&session, text, 5, RBBI_UTF16), RBBI_HANDLE);
+    IS(rbbi_session_open(&second, &other, NULL, 0, RBBI_CHARS), RBBI_OK);
+    rbbi_table_close(&table);
+    rbbi_table_close(&other);
+    rbbi_table_close(&other);
+
+    /* questions and edits */
+    IS(rbbi_session_next(&second, &told), RBBI_DONE);
+    IS(told == 77, 1);
+    IS(rbbi_session_next(&session, &told), RBBI_OK);
+    IS(told == 2, 1);
+    IS(rbbi_session_following(&session, 4000000000u, &told), RBBI_DONE);
+    IS(rbbi_session_replace(&session, 4, 2, "", 0), RBBI_OUTSIDE);
+    IS(rbbi_session_replace(&session, 5, 0, "\xf0\x9f\x98\x80", 4), RBBI_OK);
+    IS(rbbi_session_replace(&session, 6, 0, "x", 1), RBBI_INSIDE);
+    IS(rbbi_session_replace(&session, 0, 0, "\xf0\x9f", 2), RBBI_NOT_UTF8);
+    IS(rbbi_session_replace(&session, 0, 0, NULL, 1), RBBI_NULL);
+    IS(rbbi_session_length(&session, &told), RBBI_OK);
+    IS(told == 7, 1);
+    IS(rbbi_session_statuses(&session, NULL, 0, &count), RBBI_ROOM);
+    IS(count == 1, 1);
+    rbbi_session_close(&session);
+    rbbi_session_close(&session);
+    rbbi_session_close(&second);
+    rbbi_files_close(&files);
+    IS(rbbi_session_next(&session, &told), RBBI_HANDLE);
+    printf("misuse %s\n", wrong ? "differs" : "is told");
+    return wrong;
+}

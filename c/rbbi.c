@@ -1,0 +1,233 @@
+/*
+ * The calls of include/rbbi.h over those that the crate rbbi_c exports.
+ *
+ * Contracts see a reference that C passes as one that isn't NULL. So what is tested here, and
+ * nothing else, is that no pointer is NULL. A `Memory` takes no bytes, and is passed as nothing.
+ */
+#include "rbbi.h"
+
+#include <stdbool.h>
+#include <string.h>
+
+/* Where the proved side tells a fault. */
+typedef struct {
+    size_t label;
+    uint32_t row, column, byte;
+} told;
+
+uint32_t rbbi_c_properties(rbbi_files *);
+uint32_t rbbi_c_properties_add(rbbi_files *, const uint8_t *, size_t, const uint8_t *, size_t,
+                               told *, uint8_t *, size_t);
+uint32_t rbbi_c_table_compile(rbbi_files *, const uint8_t *, size_t, bool, rbbi_table *, told *,
+                              uint8_t *, size_t);
+uint32_t rbbi_c_table_load(const uint8_t *, size_t, rbbi_table *, told *, uint8_t *, size_t);
+uint32_t rbbi_c_table_share(rbbi_table *, rbbi_table *);
+uint32_t rbbi_c_table_write(rbbi_table *, uint8_t *, size_t, size_t *);
+uint32_t rbbi_c_open(rbbi_table *, const uint8_t *, size_t, uint32_t, rbbi_session *);
+uint32_t rbbi_c_replace(rbbi_session *, uint32_t, uint32_t, const uint8_t *, size_t);
+uint32_t rbbi_c_length(rbbi_session *, uint32_t *);
+uint32_t rbbi_c_statuses(rbbi_session *, uint32_t *, size_t, size_t *);
+uint32_t rbbi_c_first(rbbi_session *, uint32_t *);
+uint32_t rbbi_c_last(rbbi_session *, uint32_t *);
+uint32_t rbbi_c_next(rbbi_session *, uint32_t *);
+uint32_t rbbi_c_previous(rbbi_session *, uint32_t *);
+uint32_t rbbi_c_following(rbbi_session *, uint32_t, uint32_t *);
+uint32_t rbbi_c_preceding(rbbi_session *, uint32_t, uint32_t *);
+uint32_t rbbi_c_is_boundary(rbbi_session *, uint32_t, uint32_t *);
+uint32_t rbbi_c_current(rbbi_session *, uint32_t *);
+uint32_t rbbi_c_status(rbbi_session *, uint32_t *);
+void rbbi_c_close(void *);
+
+/* The tables that are in the library, as bin/build-c writes them; the last has no name. */
+extern const struct rbbi_built_in {
+    const char *name;
+    const unsigned char *bytes;
+    size_t length;
+} rbbi_built_in[];
+
+/* A slice of no items needs a pointer too. */
+static uint32_t nothing[1];
+
+static const uint8_t *from(const void *bytes) {
+    return bytes ? bytes : (const uint8_t *)nothing;
+}
+
+const char *rbbi_message(int answer) {
+    static const char *const messages[] = {
+        "done",
+        "there is no such boundary",
+        "a pointer is NULL",
+        "the handle holds nothing of this kind, or a handle to be opened holds something",
+        "the unit is none of the three",
+        "the edit reaches past the end of the text",
+        "the edit begins or ends inside of a character",
+        "the text or the file is too long",
+        "the bytes are not UTF-8",
+        "memory ran out",
+        "the room is too small",
+        "there is a fault in the rules, the property file or the table file",
+        "the library has no table of this name",
+    };
+    if (answer < 0 || answer >= (int)(sizeof messages / sizeof *messages)) {
+        return "this is no answer of rbbi";
+    }
+    return messages[answer];
+}
+
+/* Passes a fault on as its name, ended by a zero, and its place. */
+static int pass(uint32_t answer, const told *at, rbbi_fault *fault) {
+    if (answer == RBBI_FAULT && fault) {
+        size_t last = sizeof fault->name - 1;
+        fault->name[at->label < last ? at->label : last] = 0;
+        fault->line = at->row;
+        fault->column = at->column;
+        fault->byte = at->byte;
+    }
+    return (int)answer;
+}
+
+int rbbi_files_open(rbbi_files *files) {
+    return files ? (int)rbbi_c_properties(files) : RBBI_NULL;
+}
+
+int rbbi_files_add(rbbi_files *files, const char *property, const void *bytes, size_t length,
+                   rbbi_fault *fault) {
+    if (!files || !property || (!bytes && length)) {
+        return RBBI_NULL;
+    }
+    told at = {0, 0, 0, 0};
+    rbbi_fault other;
+    uint8_t *name = (uint8_t *)(fault ? fault->name : other.name);
+    return pass(rbbi_c_properties_add(files, (const uint8_t *)property, strlen(property),
+                                      from(bytes), length, &at, name, sizeof other.name - 1),
+                &at, fault);
+}
+
+void rbbi_files_close(rbbi_files *files) {
+    if (files) {
+        rbbi_c_close(files);
+    }
+}
+
+int rbbi_table_compile(rbbi_table *table, rbbi_files *files, const void *rules, size_t length,
+                       int ignore_dictionary, rbbi_fault *fault) {
+    if (!table || (!rules && length)) {
+        return RBBI_NULL;
+    }
+    told at = {0, 0, 0, 0};
+    rbbi_fault other;
+    rbbi_files none = RBBI_INIT;
+    uint8_t *name = (uint8_t *)(fault ? fault->name : other.name);
+    return pass(rbbi_c_table_compile(files ? files : &none, from(rules), length,
+                                     ignore_dictionary != 0, table, &at, name,
+                                     sizeof other.name - 1),
+                &at, fault);
+}
+
+int rbbi_table_load(rbbi_table *table, const void *bytes, size_t length, rbbi_fault *fault) {
+    if (!table || (!bytes && length)) {
+        return RBBI_NULL;
+    }
+    told at = {0, 0, 0, 0};
+    rbbi_fault other;
+    uint8_t *name = (uint8_t *)(fault ? fault->name : other.name);
+    return pass(rbbi_c_table_load(from(bytes), length, table, &at, name, sizeof other.name - 1),
+                &at, fault);
+}
+
+int rbbi_table_named(rbbi_table *table, const char *name) {
+    if (!table || !name) {
+        return RBBI_NULL;
+    }
+    const struct rbbi_built_in *found = rbbi_built_in;
+    while (found->name && strcmp(found->name, name) != 0) {
+        found++;
+    }
+    return found->name ? rbbi_table_load(table, found->bytes, found->length, NULL) : RBBI_NAME;
+}
+
+int rbbi_table_share(rbbi_table *other, rbbi_table *table) {
+    return other && table ? (int)rbbi_c_table_share(table, other) : RBBI_NULL;
+}
+
+int rbbi_table_write(rbbi_table *table, void *room, size_t size, size_t *length) {
+    if (!table || (!room && size) || !length) {
+        return RBBI_NULL;
+    }
+    return (int)rbbi_c_table_write(table, room ? room : (void *)nothing, size, length);
+}
+
+void rbbi_table_close(rbbi_table *table) {
+    if (table) {
+        rbbi_c_close(table);
+    }
+}
+
+int rbbi_session_open(rbbi_session *session, rbbi_table *table, const char *text, size_t length,
+                      int unit) {
+    if (!session || !table || (!text && length)) {
+        return RBBI_NULL;
+    }
+    return (int)rbbi_c_open(table, from(text), length, (uint32_t)unit, session);
+}
+
+void rbbi_session_close(rbbi_session *session) {
+    if (session) {
+        rbbi_c_close(session);
+    }
+}
+
+int rbbi_session_replace(rbbi_session *session, uint32_t at, uint32_t remove, const char *insert,
+                         size_t length) {
+    if (!session || (!insert && length)) {
+        return RBBI_NULL;
+    }
+    return (int)rbbi_c_replace(session, at, remove, from(insert), length);
+}
+
+int rbbi_session_length(rbbi_session *session, uint32_t *length) {
+    return session && length ? (int)rbbi_c_length(session, length) : RBBI_NULL;
+}
+
+int rbbi_session_first(rbbi_session *session, uint32_t *place) {
+    return session && place ? (int)rbbi_c_first(session, place) : RBBI_NULL;
+}
+
+int rbbi_session_last(rbbi_session *session, uint32_t *place) {
+    return session && place ? (int)rbbi_c_last(session, place) : RBBI_NULL;
+}
+
+int rbbi_session_next(rbbi_session *session, uint32_t *place) {
+    return session && place ? (int)rbbi_c_next(session, place) : RBBI_NULL;
+}
+
+int rbbi_session_previous(rbbi_session *session, uint32_t *place) {
+    return session && place ? (int)rbbi_c_previous(session, place) : RBBI_NULL;
+}
+
+int rbbi_session_following(rbbi_session *session, uint32_t from, uint32_t *place) {
+    return session && place ? (int)rbbi_c_following(session, from, place) : RBBI_NULL;
+}
+
+int rbbi_session_preceding(rbbi_session *session, uint32_t from, uint32_t *place) {
+    return session && place ? (int)rbbi_c_preceding(session, from, place) : RBBI_NULL;
+}
+
+int rbbi_session_is_boundary(rbbi_session *session, uint32_t at, uint32_t *is) {
+    return session && is ? (int)rbbi_c_is_boundary(session, at, is) : RBBI_NULL;
+}
+
+int rbbi_session_current(rbbi_session *session, uint32_t *place) {
+    return session && place ? (int)rbbi_c_current(session, place) : RBBI_NULL;
+}
+
+int rbbi_session_status(rbbi_session *session, uint32_t *status) {
+    return session && status ? (int)rbbi_c_status(session, status) : RBBI_NULL;
+}
+
+int rbbi_session_statuses(rbbi_session *session, uint32_t *room, size_t size, size_t *count) {
+    if (!session || (!room && size) || !count) {
+        return RBBI_NULL;
+    }
+    return (int)rbbi_c_statuses(session, room ? room : nothing, size, count);
+}

@@ -1,0 +1,28 @@
+-- The session that a desk keeps between two calls is the one that was paused.
+use Rattle.std.proofs.Common.{◌≡◌, ℕ, List, sym, ap, subst, Result, Ok, Err}
+use Rattle.rbbi_model.specs.declared.unit.Unit.{Unit as TextUnit}
+use Rattle.rbbi_model.specs.Tables.{Table}
+use Rattle.rbbi_session.specs.UnitSessions.{UnitSession}
+use Rattle.rbbi_session.specs.UnitEdits.{UnitEditAnswers}
+use Rattle.rbbi_session.specs.declared.unit_error.UnitEditErr.{UnitEditErr}
+use Rattle.rbbi_session.specs.declared.unit_error.UnitEditErr.TheVariants.{Outside, Inside, TooLong, Memory}
+use Rattle.rbbi_session.specs.Pausing.{Paused, IsPaused, resumed}
+
+pub resumed-session : (unit : TextUnit) (table : Table) (paused : Paused) (session : UnitSession) → session.unit ≡ unit → session.asked.table ≡ table → IsPaused session.asked paused
+    → record { unit = unit; asked = resumed table paused } ≡ session
+resumed-session unit table paused session of_unit of_table kept =
+    λ i. record { unit = sym of_unit i; asked = record { table = sym of_table i; state = kept.state_is i; runs = kept.runs_are i } }
+
+-- an edit leaves the unit and the table
+pub edited-keeps : {T : Type 0} (old : UnitSession) (at removed : ℕ) (inserted : List ℕ) (result : Result T UnitEditErr) (new : UnitSession)
+    → UnitEditAnswers old at removed inserted result new → (new.unit ≡ old.unit) × (new.asked.table ≡ old.asked.table)
+edited-keeps old at removed inserted (Ok done) new is = (is.unit_is, is.table_is)
+edited-keeps old at removed inserted (Err Outside) new is = (ap (λ (s : UnitSession). s.unit) is.1, ap (λ (s : UnitSession). s.asked.table) is.1)
+edited-keeps old at removed inserted (Err Inside) new is = (ap (λ (s : UnitSession). s.unit) is.1, ap (λ (s : UnitSession). s.asked.table) is.1)
+edited-keeps old at removed inserted (Err TooLong) new is = (ap (λ (s : UnitSession). s.unit) is.1, ap (λ (s : UnitSession). s.asked.table) is.1)
+edited-keeps old at removed inserted (Err Memory) new is = (ap (λ (s : UnitSession). s.unit) is, ap (λ (s : UnitSession). s.asked.table) is)
+
+-- a session goes on as it was paused
+pub resumed-as : {table now : Table} {session : UnitSession} (unit : TextUnit) (paused : Paused) → now ≡ table → session ≡ record { unit = unit; asked = resumed now paused }
+    → session ≡ record { unit = unit; asked = resumed table paused }
+resumed-as {session = session} unit paused same is = subst (λ (t : Table). session ≡ record { unit = unit; asked = resumed t paused }) same is

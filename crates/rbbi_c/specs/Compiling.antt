@@ -1,0 +1,93 @@
+-- What calls that read property files and compile rules answer.
+use Rattle.std.specs.Prelude.{◌≡◌, ℕ, ◌<◌, ◌⊎◌, Bool, List, [], ◌∷◌, ◌++◌, length, Option, None, Some, Ok, IsUtf8, MatchOption}
+use Rattle.rbbi_model.specs.Tables.{Table as BreakTable}
+use Rattle.rbbi_text.specs.Bytes.{most_bytes}
+use Rattle.rbbi_props.specs.Rows.{File}
+use Rattle.rbbi_props.specs.Files.{named_file}
+use Rattle.rbbi_props.specs.Refusals.{HasRowsAlone, IsCause, label_of as property_label}
+use Rattle.rbbi_props.specs.declared.error.PropErr.{PropErr}
+use Rattle.rbbi_props.specs.declared.error.PropErr.TheVariants as property
+use Rattle.rbbi_command.specs.declared.refusal.Place.{Place}
+use Rattle.rbbi_command.specs.declared.refusal.Place.TheVariants.{Byte, Row}
+use Rattle.rbbi_command.specs.declared.refusal.Subject.{Subject}
+use Rattle.rbbi_command.specs.declared.refusal.Refusal.TheVariants.{Fault}
+use Rattle.rbbi_tool.specs.Basis.{MakesTable, compiled_bytes_stage}
+use Rattle.rbbi_c.specs.Calls.{IsNoText, IsWrongHandle}
+use Rattle.rbbi_c.specs.Faults.{Told, IsTold}
+use Rattle.rbbi_c.specs.Holding.{files_in, HoldsSomething}
+use Rattle.rbbi_c.specs.Tables.{MakesThrough}
+use Rattle.rbbi_c.specs.declared.held.Held.{Held}
+use Rattle.rbbi_c.specs.declared.held.Held.TheVariants.{Properties}
+
+-- the place of a fault of a property file
+abbrev pub IsPlaced : PropErr → Place → Type 0
+IsPlaced (property.NotUtf8 at) place = place ≡ Byte at
+IsPlaced (property.BadRow row) place = place ≡ Row row
+IsPlaced property.Memory place = ⊥
+
+-- The file is refused for a cause that is told.
+pub record TellsPropertyFault (bytes : List ℕ) (before after : Told) : Type 0 where
+  pub error : PropErr
+  pub cause : IsCause error bytes
+  pub place : Place
+  pub placed : IsPlaced error place
+  pub told : IsTold (property_label error) place before after
+
+-- what adding a property file answers, and the files after it
+abbrev pub IsAdded : List File → List ℕ → List ℕ → ℕ → Told → Told → List File → Type 0
+IsAdded old name bytes code before after new =
+    ((code ≡ 0) × IsUtf8 bytes × HasRowsAlone bytes × (new ≡ old ++ named_file name bytes ∷ []) × (after ≡ before))
+    ⊎ ((new ≡ old) × (((code ≡ 9) × (after ≡ before)) ⊎ ((code ≡ 11) × TellsPropertyFault bytes before after)))
+
+-- the table is compiled from the rules of the bytes, and no fault is told
+abbrev pub IsCompiledFrom : List File → Bool → List ℕ → Told → Told → BreakTable → Type 0
+IsCompiledFrom files ignored bytes before after table = MakesTable files ignored bytes (Ok table) × (after ≡ before)
+
+-- the rules of the bytes have a fault, the first of which is told
+pub record TellsRuleFault (files : List File) (ignored : Bool) (bytes : List ℕ) (before after : Told) : Type 0 where
+  pub subject : Subject
+  pub label : List ℕ
+  pub place : Place
+  pub refused : (compiled_bytes_stage files ignored bytes).refuses (Fault subject label place)
+  pub told : IsTold label place before after
+
+-- why no table is compiled
+abbrev pub IsNotCompiled : List File → Bool → List ℕ → Told → Told → ℕ → Type 0
+IsNotCompiled files ignored bytes before after code =
+    ((code ≡ 9) × (after ≡ before)) ⊎ ((code ≡ 11) × TellsRuleFault files ignored bytes before after)
+
+-- the property files in a handle: none where it holds nothing
+abbrev pub files_of : Option Held → Option (List File)
+files_of None = Some []
+files_of (Some held) = files_in (Some held)
+
+-- more bytes than a rule file may have
+abbrev pub IsTooLong : List ℕ → Type 0
+IsTooLong bytes = 1048576 < length bytes
+
+-- compiling a rule file with the property files of a handle
+abbrev pub IsCompiledBy : Option Held → Bool → List ℕ → Told → Told → BreakTable → Type 0
+IsCompiledBy files ignored bytes before after table =
+    MatchOption (files_of files) ⊥ (λ list. IsCompiledFrom list ignored bytes before after table)
+
+abbrev pub IsNotCompiledBy : Option Held → Bool → List ℕ → Told → Told → ℕ → Type 0
+IsNotCompiledBy files ignored bytes before after code =
+    ((code ≡ 7) × IsTooLong bytes × (after ≡ before))
+    ⊎ MatchOption (files_of files) ((code ≡ 3) × (after ≡ before)) (λ list. IsNotCompiled list ignored bytes before after code)
+
+abbrev pub CompilesThrough : Option Held → Bool → List ℕ → Told → Told → Option Held → ℕ → Option Held → Type 0
+CompilesThrough files ignored bytes before after =
+    MakesThrough (IsCompiledBy files ignored bytes before after) (λ code. IsNotCompiledBy files ignored bytes before after code ⊎ ((code ≡ 9) × (after ≡ before)))
+    before after
+
+-- an empty list of property files
+abbrev pub StartsFiles : Option Held → ℕ → Option Held → Type 0
+StartsFiles old code now =
+    ((code ≡ 0) × (old ≡ None) × (now ≡ Some (Properties []))) ⊎ ((now ≡ old) × (((code ≡ 3) × HoldsSomething old) ⊎ (code ≡ 9)))
+
+-- One more property file. Its name and its bytes are looked at first.
+abbrev pub AddsThrough : Option Held → List ℕ → List ℕ → Told → Told → ℕ → Option Held → Type 0
+AddsThrough held name bytes before after code now =
+    ((now ≡ held) × (after ≡ before) × (IsNoText name code ⊎ ((code ≡ 7) × (most_bytes < length bytes))))
+    ⊎ MatchOption (files_in held) (IsWrongHandle held code now × (after ≡ before))
+    (λ old. (new : List File) × (now ≡ Some (Properties new)) × IsAdded old name bytes code before after new)

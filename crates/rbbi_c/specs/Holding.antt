@@ -1,0 +1,36 @@
+-- What a handle holds.
+use Rattle.std.specs.Prelude.{List, Option, None, Some}
+use Rattle.rbbi_model.specs.Tables.{Table as BreakTable}
+use Rattle.rbbi_props.specs.Rows.{File}
+use Rattle.rbbi_session.specs.UnitSessions.{UnitSession}
+use Rattle.rbbi_c.specs.declared.held.Held.{Held}
+use Rattle.rbbi_c.specs.declared.held.Held.TheVariants.{Lent, Properties, Table, Session}
+
+-- the session that it holds
+abbrev pub session_in : Option Held → Option UnitSession
+session_in None = None
+session_in (Some Lent) = None
+session_in (Some (Properties files)) = None
+session_in (Some (Table table)) = None
+session_in (Some (Session session)) = Some session
+
+-- the table that it holds
+abbrev pub table_in : Option Held → Option BreakTable
+table_in None = None
+table_in (Some Lent) = None
+table_in (Some (Properties files)) = None
+table_in (Some (Table table)) = Some table
+table_in (Some (Session session)) = None
+
+-- the property files that it holds
+abbrev pub files_in : Option Held → Option (List File)
+files_in None = None
+files_in (Some Lent) = None
+files_in (Some (Properties files)) = Some files
+files_in (Some (Table table)) = None
+files_in (Some (Session session)) = None
+
+-- it holds something
+abbrev pub HoldsSomething : Option Held → Type 0
+HoldsSomething None = ⊥
+HoldsSomething (Some held) = Unit {0}

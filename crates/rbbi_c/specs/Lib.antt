@@ -1,0 +1,10 @@
+pub mod Owning
+pub mod Asking
+pub mod Holding
+pub mod Calls
+pub mod Copying
+pub mod Reading
+pub mod Opening
+pub mod Faults
+pub mod Tables
+pub mod Compiling

@@ -1,0 +1,64 @@
+//! Questions to a session, and what they answer.
+ghost use Rattle.rbbi_c.specs.Asking.{question_of, IsAnswered};
+ghost use Rattle.std.specs.Prelude.{◌≡◌};
+ghost use Rattle.rbbi_c.specs.Asking.{told_of};
+ghost use Rattle.rbbi_session.specs.Sessions.{place_reply};
+
+use rbbi_session::UnitSession;
+use rbbi_text::{Pieces, Steps};
+use std::sync::ledger::Ledger;
+
+/// A question to a session.
+#[derive(Clone, Copy, Debug)]
+pub(crate) enum Ask {
+    First,
+    Last,
+    Next,
+    Previous,
+    Following(u32),
+    Preceding(u32),
+    IsBoundary(u32),
+    Current,
+    Status,
+}
+
+/// What is told of a reply: a number, or that there is no such boundary.
+#[derive(Clone, Copy, Debug)]
+pub(crate) enum Told {
+    Number(u32),
+    Done,
+}
+
+/// What is told of a place that was found, or not.
+fn found(place: Option<u32>) -> Told
+    ensures { result ≡ told_of (place_reply place) }
+{
+    match place {
+        Some(place) => Told::Number(place),
+        None => Told::Done,
+    }
+}
+
+/// Asks a session.
+pub(crate) fn answered<L: Ledger>(
+    session: &mut UnitSession<'_, Pieces>,
+    asked: Ask,
+    steps: &mut Steps<L>,
+) -> Told
+    ensures { IsAnswered session.old (question_of asked) result session.new }
+{
+    match asked {
+        Ask::First => Told::Number(session.first()),
+        Ask::Last => Told::Number(session.last(steps)),
+        Ask::Next => found(session.next(steps)),
+        Ask::Previous => found(session.previous(steps)),
+        Ask::Following(o) => found(session.following(o, steps)),
+        Ask::Preceding(o) => found(session.preceding(o, steps)),
+        Ask::IsBoundary(o) => {
+            let is = session.is_boundary(o, steps);
+            Told::Number(if is { 1 } else { 0 })
+        }
+        Ask::Current => Told::Number(session.current()),
+        Ask::Status => Told::Number(session.status()),
+    }
+}

@@ -1,0 +1,146 @@
+//! A session that owns its table.
+ghost use Rattle.std.specs.Prelude.{◌≡◌, length, IfOk, chars};
+ghost use Rattle.rbbi_c.specs.Asking.{question_of, IsAnswered};
+ghost use Rattle.rbbi_session.specs.UnitSessions.{IsOpenedBy, offset_in};
+ghost use Rattle.rbbi_session.specs.UnitEdits.{UnitEditAnswers};
+ghost use Rattle.rbbi_c.specs.Reading.{AreListed};
+
+use crate::asking::{Ask, Told, answered};
+use crate::copying::copy_front;
+use crate::shared::SharedTable;
+use rbbi_session::{Paused, UnitEditErr, UnitSession};
+use rbbi_text::{Pieces, Steps, Unit};
+use std::alloc::{AllocError, Global};
+use std::marker::Model;
+use std::sync::ledger::Ledger;
+
+/// A session by a unit that owns its table with others, and so may be kept by C. A contract sees it
+/// as a [`UnitSession`].
+#[derive(Drop)]
+pub struct Desk {
+    table: SharedTable,
+    unit: Unit,
+    paused: Paused<Pieces>,
+}
+
+impl Model for Desk {
+    ghost use Rattle.rbbi_session.specs.UnitSessions.{UnitSession};
+    ghost use Rattle.rbbi_session.specs.Pausing.{IsPausedBy, resumed};
+
+    ghost Value = { UnitSession };
+
+    ghost view = { λ desk. record { unit = desk.unit; asked = resumed desk.table desk.paused } };
+
+    ghost invariant = { λ desk. IsPausedBy desk.table desk.paused };
+}
+
+impl Desk {
+    /// A session over a text, with the cursor at 0.
+    pub(crate) fn open(
+        alloc: Global,
+        table: SharedTable,
+        text: Pieces,
+        unit: Unit,
+    ) -> Result<Desk, AllocError>
+        ensures { IfOk result (λ desk. IsOpenedBy unit table text desk) }
+    {
+        let session = UnitSession::open(alloc, table.table(), text, unit)?;
+        let paused = session.pause();
+        Ok(Desk {
+            table,
+            unit,
+            paused,
+        })
+    }
+
+    /// What a question answers, and the session after it.
+    pub(crate) fn ask<L: Ledger>(self, asked: Ask, steps: &mut Steps<L>) -> (Desk, Told)
+        ensures { IsAnswered self (question_of asked) result.1 result.0 }
+    {
+        let Desk {
+            table,
+            unit,
+            paused,
+        } = self;
+        let mut session = UnitSession::resume(table.table(), paused, unit);
+        let told = answered(&mut session, asked, steps);
+        let paused = session.pause();
+        let desk = Desk {
+            table,
+            unit,
+            paused,
+        };
+        (desk, told)
+    }
+
+    /// What an edit answers, and the session after it.
+    pub(crate) fn replace<L: Ledger>(
+        self,
+        at: u32,
+        remove: u32,
+        insert: &str,
+        steps: &mut Steps<L>,
+    ) -> (Desk, Result<(), UnitEditErr>)
+        ensures { UnitEditAnswers self at remove (chars insert.now) result.1 result.0 }
+    {
+        let Desk {
+            table,
+            unit,
+            paused,
+        } = self;
+        let mut session = UnitSession::resume(table.table(), paused, unit);
+        let edited = session.replace(at, remove, insert, steps);
+        let paused = session.pause();
+        let desk = Desk {
+            table,
+            unit,
+            paused,
+        };
+        (desk, edited)
+    }
+
+    /// The length of the text in the unit, and the session as it was.
+    pub(crate) fn length(self) -> (Desk, u32)
+        ensures length { result.1 ≡ offset_in self (length self.asked.state.text) }
+        ensures same { result.0 ≡ self }
+    {
+        let Desk {
+            table,
+            unit,
+            paused,
+        } = self;
+        let session = UnitSession::resume(table.table(), paused, unit);
+        let length = session.units();
+        let paused = session.pause();
+        let desk = Desk {
+            table,
+            unit,
+            paused,
+        };
+        (desk, length)
+    }
+
+    /// Writes the statuses at the cursor, as many as there is room for. How many there are, and the
+    /// session as it was.
+    pub(crate) fn statuses(self, room: &mut [u32]) -> (Desk, usize)
+        ensures listed { AreListed self room.old room.new result.1 }
+        ensures same { result.0 ≡ self }
+    {
+        let Desk {
+            table,
+            unit,
+            paused,
+        } = self;
+        let session = UnitSession::resume(table.table(), paused, unit);
+        let list = session.status_list();
+        copy_front(list, room);
+        let count = list.len();
+        let paused = session.pause();
+        let desk = Desk {
+            table,
+            unit,
+            paused,
+        };
+        (desk, count)
+    }
+}

@@ -1,0 +1,17 @@
+//! What a handle holds.
+use crate::desk::Desk;
+use crate::shared::SharedTable;
+use rbbi_props::PropTable;
+
+/// What a handle holds.
+#[derive(Drop)]
+pub enum Held {
+    /// Nothing, while a call works on what was held.
+    Lent,
+    /// Property files that were read.
+    Properties(PropTable),
+    /// A table.
+    Table(SharedTable),
+    /// A session.
+    Session(Desk),
+}

@@ -1,0 +1,33 @@
+//! The engine behind a C interface.
+#![tactic(auto)]
+
+mod answering;
+mod asking;
+mod codes;
+mod compiling;
+mod copying;
+mod desk;
+mod faults;
+mod handle;
+mod held;
+mod lending;
+mod loading;
+mod loose;
+mod opening;
+mod questions;
+mod rules;
+mod sessions;
+mod shared;
+mod tables;
+#[cfg(test)]
+mod tests;
+
+pub use faults::Fault;
+pub use handle::Handle;
+pub use questions::{
+    rbbi_c_current, rbbi_c_first, rbbi_c_following, rbbi_c_is_boundary, rbbi_c_last, rbbi_c_next,
+    rbbi_c_preceding, rbbi_c_previous, rbbi_c_status,
+};
+pub use rules::{rbbi_c_properties, rbbi_c_properties_add, rbbi_c_table_compile};
+pub use sessions::{rbbi_c_close, rbbi_c_length, rbbi_c_open, rbbi_c_replace, rbbi_c_statuses};
+pub use tables::{rbbi_c_table_load, rbbi_c_table_share, rbbi_c_table_write};

@@ -1,0 +1,57 @@
+"""Counts the words of each document of a folder, document by document.
+
+    corpus.py TABLE FOLDER [WORKERS]
+
+TABLE is a table file, or the name of a table that is in the library, as word. A word is a segment whose end has a status other than 0, as for letters, digits
+and ideographs by the rules of UAX #29. With WORKERS the documents are mapped over so many processes
+by Dask, each of which loads the table once; without, all is done in this one. What is written is the
+same: a line for each document, by name, with its number of characters and of words.
+"""
+import os
+import sys
+
+from rbbi import Table
+
+TABLES = {}
+
+
+def table_of(name):
+    """The table of a file or of a name, loaded once in a process."""
+    if name not in TABLES:
+        if os.path.exists(name):
+            with open(name, 'rb') as file:
+                TABLES[name] = Table.load(file.read())
+        else:
+            TABLES[name] = Table.named(name)
+    return TABLES[name]
+
+
+def counted(table, name):
+    """The name of a document, its number of characters, and its number of words."""
+    with open(name, 'rb') as file:
+        text = file.read()
+    with table_of(table).session(text) as session:
+        words = sum(1 for segment in session if segment.status)
+        return os.path.basename(name), len(session), words
+
+
+def mapped(table, names, workers):
+    """The counts of each document, by Dask's processes."""
+    from dask.distributed import Client, LocalCluster
+    with LocalCluster(n_workers=workers, threads_per_worker=1, dashboard_address=None) as cluster:
+        with Client(cluster) as client:
+            return client.gather(client.map(counted, [table] * len(names), names, pure=False))
+
+
+def main():
+    table, folder = sys.argv[1], os.path.abspath(sys.argv[2])
+    table = os.path.abspath(table) if os.path.exists(table) else table
+    workers = int(sys.argv[3]) if len(sys.argv) > 3 else 0
+    names = sorted(entry.path for entry in os.scandir(folder) if entry.is_file())
+    lines = mapped(table, names, workers) if workers else [counted(table, n) for n in names]
+    for name, characters, words in lines:
+        print(name, characters, words)
+
+
+if __name__ == '__main__':
+    main()

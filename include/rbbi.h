@@ -1,0 +1,191 @@
+/*
+ * rbbi: text boundaries (characters, words, sentences, lines) by break rules, found again while the
+ * text is edited. The engine is proved; docs/c.md leads from nothing to the words of a buffer.
+ *
+ * HANDLES. A table, a session and a list of property files are each held by a handle: a struct of
+ * one pointer that you own, on the stack or in a struct of yours. A handle begins as all zero:
+ *
+ *     rbbi_table table = RBBI_INIT;
+ *
+ * A call that opens puts something into a handle that holds nothing, and answers RBBI_HANDLE, and
+ * leaves the handle as it is, where it holds something already. The close calls free what a handle
+ * holds and make it all zero again; closing a handle that holds nothing does nothing. What no call
+ * can see, and you must not do: pass the address of a struct that was never set, copy a handle and
+ * use or close both copies, write to what is inside, or pass one address for two parameters.
+ *
+ * OWNERSHIP. A session keeps the table that it was opened with: tables are counted. So a table's
+ * handle may be closed while sessions go on with the table, in any order. Texts, rules, files and
+ * names that you pass are copied or read within the call, and stay yours. Nothing that is handed to
+ * you has to be freed, but for handles, which are closed.
+ *
+ * THREADS. Each call has to have the handles that it is passed to itself. So a session is used by one
+ * thread at a time, and so is a table's handle: give each thread a handle of its own, by
+ * rbbi_table_share, and all of them share one table in memory. Handles may move from thread to
+ * thread, under a lock or over a start or join of a thread. There is no state but in handles.
+ *
+ * UNITS. All places, numbers and lengths of a session count the unit that it was opened in: bytes of
+ * UTF-8, numbers of 16 bits of UTF-16, or characters (code points). They begin at 0. A text has at
+ * most 16,777,216 characters.
+ *
+ * ANSWERS. Each call but the close calls answers an int: RBBI_OK, RBBI_DONE, or an error. An error
+ * leaves every handle and every number as it was. No call ends the process, writes or reads a file,
+ * or waits. No question takes memory: only opening, editing, compiling, loading and writing do.
+ */
+#ifndef RBBI_H
+#define RBBI_H
+
+#include <stddef.h>
+#include <stdint.h>
+
+#ifdef __cplusplus
+extern "C" {
+#endif
+
+/* A list of property files, a table and a session. */
+typedef struct rbbi_files {
+    void *held;
+} rbbi_files;
+
+typedef struct rbbi_table {
+    void *held;
+} rbbi_table;
+
+typedef struct rbbi_session {
+    void *held;
+} rbbi_session;
+
+/* A handle that holds nothing. */
+/* clang-format off */
+#define RBBI_INIT { NULL }
+/* clang-format on */
+
+/* What calls answer. */
+enum {
+    RBBI_OK = 0,       /* done */
+    RBBI_DONE = 1,     /* done, and there is no such boundary; the number isn't written */
+    RBBI_NULL = 2,     /* a pointer is NULL that may not be */
+    RBBI_HANDLE = 3,   /* the handle holds nothing, or something of another kind; of a call that
+                          opens: it holds something already */
+    RBBI_UNIT = 4,     /* the unit is none of the three */
+    RBBI_OUTSIDE = 5,  /* the edit reaches past the end of the text */
+    RBBI_INSIDE = 6,   /* the edit begins or ends inside of a character */
+    RBBI_TOO_LONG = 7, /* a text would have more than 16,777,216 characters; a text, a table or a
+                          property file has more than 100,663,296 bytes, or a rule file more than
+                          1,048,576 */
+    RBBI_NOT_UTF8 = 8, /* the bytes of a text or a name are not UTF-8 */
+    RBBI_MEMORY = 9,   /* memory ran out */
+    RBBI_ROOM = 10,    /* the room is too small; its front is written, and the length is told */
+    RBBI_FAULT = 11,   /* rules, a property file or a table file have a fault, which is told */
+    RBBI_NAME = 12     /* the library has no table of this name */
+};
+
+/* The units of places, numbers and lengths. */
+enum {
+    RBBI_CHARS = 0, /* characters: code points */
+    RBBI_UTF8 = 1,  /* bytes of UTF-8 */
+    RBBI_UTF16 = 2  /* numbers of 16 bits of UTF-16 */
+};
+
+/* A fault of rules, a property file or a table file, as RBBI_FAULT tells it. docs/rules.md and
+   docs/formats.md have all names. */
+typedef struct rbbi_fault {
+    char name[40];   /* its name, as "UnknownName", ended by a zero */
+    uint32_t line;   /* its line, from 1, or 0 where it has none */
+    uint32_t column; /* its column, in characters from 1, or 0 where it has none */
+    uint32_t byte;   /* its byte, from 0, or UINT32_MAX where it has none */
+} rbbi_fault;
+
+/* A sentence that says what an answer is. */
+const char *rbbi_message(int answer);
+
+/* ---- property files: what \p{NAME=VALUE} of rules stands for, beside what is built in ---- */
+
+/* Starts a list of property files. */
+int rbbi_files_open(rbbi_files *files);
+
+/* Adds the rows of a file of the Unicode Character Database, or of its form, under the name of its
+   property, as "WB". RBBI_FAULT tells "NotUtf8" with the byte, or "BadRow" with the line. `fault`
+   may be NULL. */
+int rbbi_files_add(rbbi_files *files, const char *property, const void *bytes, size_t length,
+                   rbbi_fault *fault);
+
+void rbbi_files_close(rbbi_files *files);
+
+/* ---- tables ---- */
+
+/* Compiles the rules of a rule file in UTF-8. `files` may be NULL: then there are no property files.
+   Where `ignore_dictionary` isn't 0, $dictionary is ignored. RBBI_FAULT tells the first fault with
+   its line and column, or with neither where the table would be too large; `fault` may be NULL. */
+int rbbi_table_compile(rbbi_table *table, rbbi_files *files, const void *rules, size_t length,
+                       int ignore_dictionary, rbbi_fault *fault);
+
+/* Loads the table of a table file. RBBI_FAULT tells the first fault of bytes that are none, and its
+   byte where it has one; `fault` may be NULL. A damaged file is refused or is a valid table. */
+int rbbi_table_load(rbbi_table *table, const void *bytes, size_t length, rbbi_fault *fault);
+
+/* Loads a table that is in the library: "grapheme", "word" or "sentence" of UAX #29, or "line" of
+   UAX #14, over Unicode 15.0. */
+int rbbi_table_named(rbbi_table *table, const char *name);
+
+/* Makes `other` one more handle of the table. */
+int rbbi_table_share(rbbi_table *other, rbbi_table *table);
+
+/* Writes the table's file into `room`, of `size` bytes, and its length to `length`. RBBI_ROOM: the
+   file is longer; `length` has its length. `room` may be NULL where `size` is 0. */
+int rbbi_table_write(rbbi_table *table, void *room, size_t size, size_t *length);
+
+void rbbi_table_close(rbbi_table *table);
+
+/* ---- sessions ---- */
+
+/* Opens a session over a text in UTF-8, with places in `unit`. The cursor is at 0. `text` may be
+   NULL where `length`, in bytes, is 0. */
+int rbbi_session_open(rbbi_session *session, rbbi_table *table, const char *text, size_t length,
+                      int unit);
+
+void rbbi_session_close(rbbi_session *session);
+
+/* Puts the `length` bytes of UTF-8 at `insert` in place of `remove` units from `at` on, and the
+   cursor at 0. It costs what the edit touches, and not what the text has. */
+int rbbi_session_replace(rbbi_session *session, uint32_t at, uint32_t remove, const char *insert,
+                         size_t length);
+
+/* The length of the text. */
+int rbbi_session_length(rbbi_session *session, uint32_t *length);
+
+/* ---- questions: each answers as a scan of the whole text as it is gives it, and moves the cursor to
+   the boundary that is told; RBBI_DONE where there is none ---- */
+
+/* The first boundary, which is 0, and the last, which is the length. */
+int rbbi_session_first(rbbi_session *session, uint32_t *place);
+int rbbi_session_last(rbbi_session *session, uint32_t *place);
+
+/* The boundary behind the cursor, and before it. After RBBI_DONE the cursor is where it was: at the
+   end of the text, or at 0. */
+int rbbi_session_next(rbbi_session *session, uint32_t *place);
+int rbbi_session_previous(rbbi_session *session, uint32_t *place);
+
+/* The first boundary past `from`, and the last one before it. `from` may be inside of a character,
+   or past the end of the text. After RBBI_DONE the cursor is at the end, or at 0. */
+int rbbi_session_following(rbbi_session *session, uint32_t from, uint32_t *place);
+int rbbi_session_preceding(rbbi_session *session, uint32_t from, uint32_t *place);
+
+/* Whether `at` is a boundary: 1 or 0. The cursor goes to the first boundary that isn't before `at`,
+   or to the end of the text. */
+int rbbi_session_is_boundary(rbbi_session *session, uint32_t at, uint32_t *is);
+
+/* Where the cursor is. */
+int rbbi_session_current(rbbi_session *session, uint32_t *place);
+
+/* The greatest status of the boundary at the cursor. */
+int rbbi_session_status(rbbi_session *session, uint32_t *status);
+
+/* The statuses of the boundary at the cursor, which rise, into `room` of `size` numbers, and how
+   many there are to `count`. RBBI_ROOM: there are more. `room` may be NULL where `size` is 0. */
+int rbbi_session_statuses(rbbi_session *session, uint32_t *room, size_t size, size_t *count);
+
+#ifdef __cplusplus
+}
+#endif
+
+#endif
