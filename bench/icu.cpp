@@ -2,6 +2,7 @@
 //
 //   icu compile RULES ROUNDS       milliseconds for compiling the rules once
 //   icu scan RULES TEXT ROUNDS     boundaries, and seconds for finding all of them once
+//   icu questions RULES TEXT SCRIPT ROUNDS     questions, and seconds for asking all of them once
 //   icu breaks RULES TEXT          a line `PLACE STATUS,..` for each boundary, as `rbbi breaks` has it
 //
 // RULES is in ICU's own syntax, and both files are UTF-8. A time is the least of ROUNDS rounds.
@@ -88,6 +89,32 @@ static void print_boundaries(RuleBasedBreakIterator &breaks, const UnicodeString
     std::fwrite(out.data(), 1, out.size(), stdout);
 }
 
+// A question of a script: `following`, `preceding` or `is`, and a place in UTF-16 units.
+struct Question {
+    char kind;
+    int32_t place;
+};
+
+static std::vector<Question> read_questions(const char *name) {
+    std::ifstream file(name);
+    std::vector<Question> questions;
+    std::string word;
+    int32_t place;
+    while (file >> word >> place) questions.push_back({word[0], place});
+    return questions;
+}
+
+// Asks all questions, and gives a sum of the answers, so that none is left out.
+static int64_t ask(RuleBasedBreakIterator &breaks, const std::vector<Question> &questions) {
+    int64_t sum = 0;
+    for (const Question &question : questions) {
+        if (question.kind == 'f') sum += breaks.following(question.place);
+        else if (question.kind == 'p') sum += breaks.preceding(question.place);
+        else sum += breaks.isBoundary(question.place);
+    }
+    return sum;
+}
+
 int main(int count, char **words) {
     std::string command = count > 2 ? words[1] : "";
     if (command == "compile" && count == 4) {
@@ -107,6 +134,18 @@ int main(int count, char **words) {
         std::printf("%lld %.6f\n", static_cast<long long>(found), passed);
         return 0;
     }
+    if (command == "questions" && count == 6) {
+        auto breaks = compile(read_file(words[2]));
+        UnicodeString text = read_file(words[3]);
+        std::vector<Question> questions = read_questions(words[4]);
+        volatile int64_t sum = 0;
+        double passed = least_seconds(std::atoi(words[5]), [&] {
+            breaks->setText(text);
+            sum = ask(*breaks, questions);
+        });
+        std::printf("%zu %.6f\n", questions.size(), passed);
+        return 0;
+    }
     if (command == "breaks" && count == 4) {
         auto breaks = compile(read_file(words[2]));
         UnicodeString text = read_file(words[3]);
@@ -114,6 +153,7 @@ int main(int count, char **words) {
         print_boundaries(*breaks, text);
         return 0;
     }
-    std::fprintf(stderr, "usage: icu compile RULES ROUNDS | scan RULES TEXT ROUNDS | breaks RULES TEXT\n");
+    std::fprintf(stderr, "usage: icu compile RULES ROUNDS | scan RULES TEXT ROUNDS"
+                         " | questions RULES TEXT SCRIPT ROUNDS | breaks RULES TEXT\n");
     return 2;
 }

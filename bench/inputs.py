@@ -413,6 +413,36 @@ def edit_script(size, edits, asked):
     return '\n'.join(lines) + '\n'
 
 
+# A character of one, two, three and four bytes.
+OF_SIZE = {1: 'x', 2: '\u00E9', 3: '\u0E01', 4: '\U0001D11E'}
+
+
+def unit_script(path, count, edits):
+    """Questions at random bytes of a text, each with an edit before it where `edits` says so. An edit
+    puts a character in place of one of as many bytes, so that all characters begin where they began."""
+    with open(path, 'rb') as file:
+        text = file.read()
+    source = random.Random(f'units {len(text)}')
+    lines = []
+    for _ in range(count):
+        if edits:
+            place = source.randrange(len(text))
+            while text[place] & 0xC0 == 0x80:
+                place -= 1
+            size = 1 + (text[place] >= 0xC0) + (text[place] >= 0xE0) + (text[place] >= 0xF0)
+            lines.append(f'replace {place} {size} {OF_SIZE[size]}')
+        lines.append(f'following {source.randrange(len(text))}')
+    return '\n'.join(lines) + '\n'
+
+
+def question_script(size, count, number):
+    """Questions at random places of a text of `size` characters: `following`, `preceding` and `is` in
+    turn. Scripts of two numbers have other places."""
+    source = random.Random(f'questions {size} {number}')
+    words = itertools.cycle(('following', 'preceding', 'is'))
+    return ''.join(f'{next(words)} {source.randrange(1, size)}\n' for _ in range(count))
+
+
 def write_file(folder, name, text):
     path = os.path.join(folder, name)
     with open(path, 'w', encoding='utf-8', newline='') as file:

@@ -1,4 +1,5 @@
 """The lines of the table, in groups: what is measured, and the target of each line that has one."""
+import math
 import os
 import subprocess
 
@@ -155,6 +156,7 @@ def loop(bench):
         passed = bench.seconds(['run', path, text, many]) - bench.seconds(['run', path, text, few])
         line.rate = rate_text(10 * bench.sizes[-1] / max(passed, 1e-9))
     yield line
+    yield pieces(bench)
 
 
 def segment(bench, path, text):
@@ -181,6 +183,42 @@ def bare_rate(bench, table, text):
         return None
     run = subprocess.run([bench.bare, table, text, '5'], stdout=subprocess.PIPE, check=False)
     return bench.sizes[-1] / float(run.stdout.split()[1]) if run.returncode == 0 else None
+
+
+def pieces(bench):
+    """`Table::next` over one long segment of a text by pieces, against the same text in one list."""
+    text = inputs.make_text(bench.folder, 'letters', bench.sizes[-1])
+    line = Line('words.rules, letters by pieces: `Table::next` over one long segment, alone',
+                target='0.5 of one list')
+    table = table_file(bench, 'words')
+    line.verdict = bench.lacking_part(['nexts', table, '0', text])
+    if not line.verdict:
+        one, by_pieces = (least_round(bench, ['nexts', table], [text] + more)[0]
+                          for more in ([], ['pieces']))
+        line.rate = rate_text(bench.sizes[-1] / by_pieces)
+        times = one / by_pieces
+        line.verdict = 'met' if times >= 0.5 else f'{times:.2f} of one list'
+    return line
+
+
+def table_file(bench, name):
+    """The path of the table of one of the repository's rule files, which is compiled anew."""
+    path, props, _ = bench.rules(name)
+    table = os.path.join(bench.folder, f'{name}.table')
+    bench.lacking(['compile'] + props + [path, table])
+    return table
+
+
+def least_round(bench, words, behind, beside=None):
+    """The seconds of one round of a call, by eleven rounds less one, and the least of another command's
+    second number. Both are run five times, in turn."""
+    few, many, other = [math.inf] * 3
+    for _ in range(5):
+        few = min(few, measure([bench.parts] + words + ['1'] + behind).seconds)
+        many = min(many, measure([bench.parts] + words + ['11'] + behind).seconds)
+        if beside:
+            other = min(other, bench.icu_answer(beside)[1])
+    return max((many - few) / 10, 1e-9), other
 
 
 def sessions(bench):
@@ -210,7 +248,95 @@ def sessions(bench):
     yield line
 
 
+def units(bench):
+    """`breaks` by bytes of UTF-8 and by numbers of 16 bits over `breaks` by characters, and what a
+    question costs by bytes, and one with an edit before it."""
+    for name, kind in (('words', 'letters'), ('words', 'scripts'), ('word', 'scripts'),
+                       ('grapheme', 'emoji')):
+        path, props, _ = bench.rules(name)
+        for unit in ('utf8', 'utf16'):
+            line = Line(f'`breaks --units {unit}` over `breaks`, {name}.rules, {kind}, '
+                        f'{bench.sizes[-1] // 1_000_000} M',
+                        bench.lacking(['breaks', '--units', unit] + props + [path, bench.tiny()]),
+                        target='1.2 times')
+            if not line.time:
+                behind = props + [path, inputs.make_text(bench.folder, kind, bench.sizes[-1])]
+                counted = bench.seconds(['breaks', '--units', unit] + behind)
+                alone = bench.seconds(['breaks'] + behind)
+                line.time, line.verdict = f'{counted / alone:.2f} times', verdict(counted / alone, 1.2)
+            yield line
+    path, _, _ = bench.rules('words')
+    words = ['run', '--units', 'utf8', path]
+    lacking = bench.lacking(words + [bench.tiny(), bench.file('one.script', 'next\n')])
+    for edits, target in ((False, None), (True, 30e-6)):
+        for size in (ONE_MILLION, TWELVE_MILLION):
+            does = 'a replaced character and a question' if edits else 'a question'
+            line = Line(f'`run --units utf8`, words.rules, scripts, {size // 1_000_000} M: {does}',
+                        lacking,
+                        target=time_text(target) if target and size == TWELVE_MILLION else '')
+            if not lacking:
+                text = inputs.make_text(bench.folder, 'scripts', size)
+                few, many = (bench.file(f'units-{count}', inputs.unit_script(text, count, edits))
+                             for count in (1000, 21000))
+                passed = (bench.seconds(words + [text, many])
+                          - bench.seconds(words + [text, few])) / 20000
+                line.time = time_text(passed)
+                line.verdict = verdict(passed, target) if line.target else ''
+            yield line
+
+
+def questions(bench):
+    """100,000 questions at random places, beside ICU's, in two scripts, since one has at most 1 MiB. The
+    text has characters of one UTF-16 unit alone, so that both ask at the same places. Reading the
+    scripts and printing the replies are in our time."""
+    path, props, theirs = bench.rules('word')
+    size, count = bench.sizes[-1], 50_000
+    one = bench.file('questions-one', inputs.question_script(size, 1, 0))
+    scripts = [bench.file(f'questions-{number}', inputs.question_script(size, count, number))
+               for number in (1, 2)]
+    words = ['run'] + props + [path]
+    line = Line(f'`run`, word.rules, prose, {size // 1_000_000} M: a question at a random place',
+                bench.lacking(words + [bench.tiny(), bench.file('one.script', 'next\n')]))
+    if not line.time:
+        text = inputs.make_text(bench.folder, 'prose', size)
+        start = bench.seconds(words + [text, one])
+        passed = sum(bench.seconds(words + [text, script]) - start for script in scripts) / (2 * count)
+        line.time = time_text(passed)
+        if bench.icu:
+            asked = sum(bench.icu_answer(['questions', theirs, text, script, '3'])[1]
+                        for script in scripts) / (2 * count)
+            line.icu, line.ratio = time_text(asked), f'{asked / passed:.2f}'
+    yield line
+
+
 def nexts(bench):
+    """`Table::next` from boundary to boundary, beside ICU's `next`: the four rule files on each text, in
+    memory."""
+    ratios = []
+    for name in ('grapheme', 'word', 'sentence', 'line'):
+        _, _, theirs = bench.rules(name)
+        table = table_file(bench, name)
+        for kind in inputs.TEXTS:
+            text = inputs.make_text(bench.folder, kind, ONE_MILLION)
+            line = Line(f'`Table::next`, {name}.rules, {kind}, 1 M', target='3 times ICU')
+            line.verdict = bench.lacking_part(['nexts', table, '0', text])
+            if not line.verdict:
+                beside = ['scan', theirs, text, '1'] if bench.icu else None
+                ours, icu = least_round(bench, ['nexts', table], [text], beside)
+                line.rate = rate_text(ONE_MILLION / ours)
+                if bench.icu:
+                    ratios.append(icu / ours)
+                    line.icu, line.ratio = rate_text(ONE_MILLION / icu), f'{icu / ours:.2f}'
+                    line.verdict = 'met' if icu / ours >= 3 else f'{icu / ours:.2f} times'
+            yield line
+    if ratios:
+        mean = math.exp(sum(map(math.log, ratios)) / len(ratios))
+        yield Line('the geometric mean of these', ratio=f'{mean:.2f}', target='4 times ICU',
+                   verdict='met' if mean >= 4 else f'{mean:.2f} times')
+    yield from far(bench)
+
+
+def far(bench):
     """`next` through flags, of which no pair of categories is safe: the time grows as the count."""
     path, props, _ = bench.rules('grapheme')
     few, many = (bench.file(f'next-{count}', 'next\n' * count) for count in (100_000, 200_000))
@@ -294,5 +420,8 @@ def scanning(bench):
     return line
 
 
-GROUPS = [start, texts, printing, compiling, front, limits, tables, loop, sessions, nexts, tests, demo,
-          parts]
+GROUPS = [start, texts, printing, compiling, front, limits, tables, loop, sessions, questions, units,
+          nexts, tests, demo, parts]
+
+# The groups that want the program of single calls.
+OF_PARTS = [loop, nexts, parts]

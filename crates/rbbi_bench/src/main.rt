@@ -10,7 +10,7 @@ ghost use Rattle.rbbi_text.specs.Bytes.{most_bytes};
 mod parts;
 mod rules;
 
-use parts::{measure_categories, measure_places, measure_positions, measure_scan};
+use parts::{measure_categories, measure_nexts, measure_places, measure_positions, measure_scan};
 use rbbi_io::{Files, RealFiles, words};
 use rbbi_text::{MOST_BYTES, Raw, Steps};
 use std::alloc::Global;
@@ -50,6 +50,11 @@ fn run<L: Ledger>(rt: &HostRuntime, words: &Vec<String>, blank: Blank) -> Option
         "places" => {
             let edits = words.get(3)?.as_str().parse::<u32>().ok()?;
             measure_places(alloc, &file, rounds, edits, &mut steps)
+        }
+        "nexts" => {
+            let text = read(alloc, &mut files, words.get(3)?.as_str())?;
+            let by_pieces = words.len() > 4;
+            measure_nexts(alloc, &file, &text, by_pieces, rounds, &mut steps)
         }
         "scan" => {
             let text = read(alloc, &mut files, words.get(3)?.as_str())?;

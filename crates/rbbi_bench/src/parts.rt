@@ -5,6 +5,7 @@ ghost use Rattle.rbbi_text.specs.Bytes.{most_bytes};
 
 use crate::rules::{categories_of, rules_of, table_of};
 use rbbi_cats::partition;
+use rbbi_file::read_table;
 use rbbi_positions::positions;
 use rbbi_table::{Marks, Table};
 use rbbi_text::{Chars, EditText, Pieces, PlainText, Raw, Steps};
@@ -42,9 +43,9 @@ pub(crate) fn measure_positions(alloc: Global, bytes: &[u8], rounds: u32) -> Opt
 }
 
 /// How many boundaries a text has, by searches from one to the next.
-fn count_boundaries<L: Ledger>(
+fn count_boundaries<T: Chars, L: Ledger>(
     table: &Table,
-    text: &PlainText,
+    text: &T,
     marks: &mut Marks,
     steps: &mut Steps<L>,
 ) -> u64
@@ -63,10 +64,10 @@ fn count_boundaries<L: Ledger>(
 }
 
 /// How many boundaries a text has, found so many times.
-fn count_again<L: Ledger>(
+fn count_again<T: Chars, L: Ledger>(
     alloc: Global,
     table: &Table,
-    text: &PlainText,
+    text: &T,
     rounds: u32,
     steps: &mut Steps<L>,
 ) -> Option<u64> {
@@ -93,6 +94,34 @@ pub(crate) fn measure_scan<L: Ledger>(
     requires text { length text.now ≤ most_bytes }
 {
     let table = table_of(alloc, file.bytes(steps))?;
+    let Ok(text) = PlainText::from_raw(alloc, text) else {
+        return None;
+    };
+    count_again(alloc, &table, &text, rounds, steps)
+}
+
+/// All boundaries of a text by the table of a table file, which is read once, and how many there
+/// are. The text is in one list, or by pieces.
+pub(crate) fn measure_nexts<L: Ledger>(
+    alloc: Global,
+    file: &Raw,
+    text: &Raw,
+    by_pieces: bool,
+    rounds: u32,
+    steps: &mut Steps<L>,
+) -> Option<u64>
+    requires table { length file.now ≤ most_bytes }
+    requires text { length text.now ≤ most_bytes }
+{
+    let Ok(table) = read_table(alloc, file.bytes(steps)) else {
+        return None;
+    };
+    if by_pieces {
+        let Ok(text) = Pieces::from_raw(alloc, text) else {
+            return None;
+        };
+        return count_again(alloc, &table, &text, rounds, steps);
+    }
     let Ok(text) = PlainText::from_raw(alloc, text) else {
         return None;
     };
