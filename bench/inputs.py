@@ -417,21 +417,21 @@ def edit_script(size, edits, asked):
 OF_SIZE = {1: 'x', 2: '\u00E9', 3: '\u0E01', 4: '\U0001D11E'}
 
 
-def unit_script(path, count, edits):
-    """Questions at random bytes of a text, each with an edit before it where `edits` says so. An edit
-    puts a character in place of one of as many bytes, so that all characters begin where they began."""
-    with open(path, 'rb') as file:
+def unit_script(path, count, edits, unit):
+    """Questions at random places of a text, in characters or in bytes, each with an edit before it where
+    `edits` says so. An edit puts a character in place of one of as many bytes, so that all characters
+    begin where they began."""
+    with open(path, encoding='utf-8') as file:
         text = file.read()
+    size = {'chars': lambda c: 1, 'utf8': lambda c: len(c.encode())}[unit]
+    starts = [0, *itertools.accumulate(size(c) for c in text)]
     source = random.Random(f'units {len(text)}')
     lines = []
     for _ in range(count):
         if edits:
             place = source.randrange(len(text))
-            while text[place] & 0xC0 == 0x80:
-                place -= 1
-            size = 1 + (text[place] >= 0xC0) + (text[place] >= 0xE0) + (text[place] >= 0xF0)
-            lines.append(f'replace {place} {size} {OF_SIZE[size]}')
-        lines.append(f'following {source.randrange(len(text))}')
+            lines.append(f'replace {starts[place]} {size(text[place])} {OF_SIZE[len(text[place].encode())]}')
+        lines.append(f'following {starts[source.randrange(len(text))]}')
     return '\n'.join(lines) + '\n'
 
 

@@ -9,6 +9,9 @@ from measure import Result, held, measure
 
 ONE_MILLION, TWELVE_MILLION = inputs.SIZES.values()
 
+# How many questions are asked by units, without edits and with one before each: a script has at most 1 MiB.
+UNIT_QUESTIONS = {False: 51_000, True: 21_000}
+
 
 def start(bench):
     yield Line('start and end of the program, with no words', time_text(bench.seconds([])))
@@ -265,24 +268,44 @@ def units(bench):
                 alone = bench.seconds(['breaks'] + behind)
                 line.time, line.verdict = f'{counted / alone:.2f} times', verdict(counted / alone, 1.2)
             yield line
+    for edits in (False, True):
+        yield from by_bytes(bench, edits)
+
+
+def by_bytes(bench, edits):
+    """What a question costs by bytes of UTF-8 and by characters, with an edit before it where `edits`
+    says so."""
     path, _, _ = bench.rules('words')
-    words = ['run', '--units', 'utf8', path]
-    lacking = bench.lacking(words + [bench.tiny(), bench.file('one.script', 'next\n')])
-    for edits, target in ((False, None), (True, 30e-6)):
-        for size in (ONE_MILLION, TWELVE_MILLION):
-            does = 'a replaced character and a question' if edits else 'a question'
-            line = Line(f'`run --units utf8`, words.rules, scripts, {size // 1_000_000} M: {does}',
-                        lacking,
-                        target=time_text(target) if target and size == TWELVE_MILLION else '')
+    does = 'a replaced character and a question' if edits else 'a question'
+    lacking = bench.lacking(['run', '--units', 'utf8', path, bench.tiny(),
+                             bench.file('one.script', 'next\n')])
+    each = {}
+    for size in (ONE_MILLION, TWELVE_MILLION):
+        for unit in ('chars', 'utf8'):
+            line = Line(f'`run --units {unit}`, words.rules, scripts, {size // 1_000_000} M: {does}',
+                        lacking, target='3 times that by characters' if unit == 'utf8' else '')
             if not lacking:
-                text = inputs.make_text(bench.folder, 'scripts', size)
-                few, many = (bench.file(f'units-{count}', inputs.unit_script(text, count, edits))
-                             for count in (1000, 21000))
-                passed = (bench.seconds(words + [text, many])
-                          - bench.seconds(words + [text, few])) / 20000
+                passed = each[size, unit] = unit_seconds(bench, ['run', '--units', unit, path], size,
+                                                         unit, edits)
                 line.time = time_text(passed)
-                line.verdict = verdict(passed, target) if line.target else ''
+                if unit == 'utf8':
+                    times = passed / each[size, 'chars']
+                    line.verdict = ('met' if times <= 3 else 'missed') + f': {times:.1f} times'
             yield line
+    line = Line(f'`--units utf8`, {does}, in 12 M over the same in 1 M', lacking, target='2 times')
+    if not lacking:
+        times = each[TWELVE_MILLION, 'utf8'] / each[ONE_MILLION, 'utf8']
+        line.time, line.verdict = f'{times:.1f} times', verdict(times, 2)
+    yield line
+
+
+def unit_seconds(bench, words, size, unit, edits):
+    """The seconds of one question, by the difference of two scripts."""
+    text = inputs.make_text(bench.folder, 'scripts', size)
+    few, many = (bench.file(f'units-{count}', inputs.unit_script(text, count, edits, unit))
+                 for count in (1000, UNIT_QUESTIONS[edits]))
+    passed = bench.seconds(words + [text, many]) - bench.seconds(words + [text, few])
+    return max(passed / (UNIT_QUESTIONS[edits] - 1000), 1e-9)
 
 
 def questions(bench):
