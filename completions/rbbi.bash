@@ -4,11 +4,11 @@ _rbbi() {
     local word=${COMP_WORDS[COMP_CWORD]} options
     COMPREPLY=()
     if [ "$COMP_CWORD" -eq 1 ]; then
-        COMPREPLY=($(compgen -W 'check compile upgrade breaks run conform demo' -- "$word"))
+        COMPREPLY=($(compgen -W 'check compile same upgrade breaks run conform demo' -- "$word"))
         return
     fi
     case ${COMP_WORDS[1]} in
-    check | compile) options='--prop --ignore-dictionary' ;;
+    check | compile | same) options='--prop --ignore-dictionary' ;;
     breaks | run | conform) options='--prop --ignore-dictionary --table' ;;
     upgrade) options= ;;
     *) return ;;

@@ -11,6 +11,7 @@ mod forms;
 mod limits;
 mod pieces;
 mod run;
+mod same;
 mod units;
 
 use rbbi_io::{MemFiles, MemSink};
@@ -145,6 +146,12 @@ fn rule_faults(rt: HostRuntime) -> Result<(), Fail> {
 #[test]
 fn compiled_tables(rt: HostRuntime) -> Result<(), Fail> {
     assert_eq!(rt; first_wrong(&rt, compile::TABLES)?, None);
+    Ok(())
+}
+
+#[test]
+fn compared_rules(rt: HostRuntime) -> Result<(), Fail> {
+    assert_eq!(rt; first_wrong(&rt, same::COMPARED)?, None);
     Ok(())
 }
 

@@ -2,7 +2,7 @@
 use Rattle.std.proofs.Common.{◌≡◌, ◌≢◌, ℕ, Bool, false, List, [], ◌∷◌, length, Option, None, Some, refl, sym, ap, ◌∙◌, subst}
 use Rattle.std.specs.Prelude.{codes, bytes_eq, if◌then◌else◌}
 use Rattle.rbbi_command.specs.declared.words.command.Command.{Command}
-use Rattle.rbbi_command.specs.declared.words.command.Command.TheVariants.{Check, Compile, Upgrade, Breaks, Run, Conform, Demo}
+use Rattle.rbbi_command.specs.declared.words.command.Command.TheVariants.{Check, Compile, Upgrade, Same, Breaks, Run, Conform, Demo}
 use Rattle.rbbi_command.specs.declared.words.setting.Setting.{Setting}
 use Rattle.rbbi_command.specs.Settings.{options_of, are_taken, are_by_table, BeginWithSettings}
 use Rattle.rbbi_command.specs.Words.{Request, IsCommandLine, AreNoForm, name_of, taken_by, operands_of, AllFit}
@@ -14,14 +14,16 @@ command_at word =
     if bytes_eq word (codes "check") then Some Check
     else (if bytes_eq word (codes "compile") then Some Compile
     else (if bytes_eq word (codes "upgrade") then Some Upgrade
+    else (if bytes_eq word (codes "same") then Some Same
     else (if bytes_eq word (codes "breaks") then Some Breaks
     else (if bytes_eq word (codes "run") then Some Run
-    else (if bytes_eq word (codes "conform") then Some Conform else (if bytes_eq word (codes "demo") then Some Demo else None))))))
+    else (if bytes_eq word (codes "conform") then Some Conform else (if bytes_eq word (codes "demo") then Some Demo else None)))))))
 
 named : (command : Command) → command_at (name_of command) ≡ Some command
 named Check = refl
 named Compile = refl
 named Upgrade = refl
+named Same = refl
 named Breaks = refl
 named Run = refl
 named Conform = refl

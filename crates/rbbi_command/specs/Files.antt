@@ -8,7 +8,7 @@ use Rattle.rbbi_command.specs.declared.files.Role.{Role}
 use Rattle.rbbi_command.specs.declared.files.Role.TheVariants as role
 use Rattle.rbbi_command.specs.declared.files.Source.{Source}
 use Rattle.rbbi_command.specs.declared.refusal.Subject.{Subject}
-use Rattle.rbbi_command.specs.declared.refusal.Subject.TheVariants.{Rules, Table, File}
+use Rattle.rbbi_command.specs.declared.refusal.Subject.TheVariants.{Rules, OtherRules, Table, File}
 use Rattle.rbbi_command.specs.declared.refusal.Place.TheVariants.{Whole}
 use Rattle.rbbi_command.specs.declared.refusal.Refusal.{Refusal}
 use Rattle.rbbi_command.specs.declared.refusal.Refusal.TheVariants.{Fault}
@@ -19,6 +19,7 @@ use Rattle.rbbi_command.specs.Words.{Request, operands_of}
 abbrev pub limit_of : Role → ℕ
 limit_of role.Property = 8388608
 limit_of role.Rules = 1048576
+limit_of role.OtherRules = 1048576
 limit_of role.Table = most_bytes
 limit_of role.Text = 67108864
 limit_of role.Script = 1048576
@@ -28,6 +29,7 @@ limit_of role.Tests = 16777216
 abbrev pub subject_of : Role → List ℕ → Subject
 subject_of role.Property name = File name
 subject_of role.Rules name = Rules
+subject_of role.OtherRules name = OtherRules
 subject_of role.Table name = Table
 subject_of role.Text name = File name
 subject_of role.Script name = File name

@@ -12,6 +12,7 @@ use Rattle.rbbi_command.specs.declared.inputs.Inputs as code
 pub record Inputs : Type 0 where
   pub properties : List (List ℕ)
   pub rules : List ℕ
+  pub other_rules : List ℕ
   pub table : List ℕ
   pub text : Input
   pub script : Input
@@ -23,6 +24,7 @@ inputs_in inputs =
     record {
       properties = inputs.properties.items;
       rules = inputs.rules;
+      other_rules = inputs.other_rules;
       table = inputs.table;
       text = inputs.text;
       script = inputs.script;
@@ -32,12 +34,14 @@ inputs_in inputs =
 -- no file is read yet
 abbrev pub no_inputs : Inputs
 no_inputs =
-    let none : Input = record { name = []; bytes = [] } in record { properties = []; rules = []; table = []; text = none; script = none; tests = none }
+    let none : Input = record { name = []; bytes = [] } in
+    record { properties = []; rules = []; other_rules = []; table = []; text = none; script = none; tests = none }
 
 -- the inputs with a file of this role, this name and these bytes
 abbrev pub put : Role → List ℕ → List ℕ → Inputs → Inputs
 put role.Property name bytes inputs = record inputs { properties = inputs.properties ++ bytes ∷ [] }
 put role.Rules name bytes inputs = record inputs { rules = bytes }
+put role.OtherRules name bytes inputs = record inputs { other_rules = bytes }
 put role.Table name bytes inputs = record inputs { table = bytes }
 put role.Text name bytes inputs = record inputs { text = record { name = name; bytes = bytes } }
 put role.Script name bytes inputs = record inputs { script = record { name = name; bytes = bytes } }
@@ -56,6 +60,7 @@ inputs_of held sources = with_files held no_inputs sources
 pub record AreShort (inputs : Inputs) : Type 0 where
   pub properties : AllByRecursion (λ bytes. length bytes ≤ most_bytes) inputs.properties
   pub rules : length inputs.rules ≤ most_bytes
+  pub other_rules : length inputs.other_rules ≤ most_bytes
   pub table : length inputs.table ≤ most_bytes
   pub text : length inputs.text.bytes ≤ most_bytes
   pub script : length inputs.script.bytes ≤ most_bytes

@@ -1,8 +1,8 @@
 -- What ends a run before its output: its exit status and its line.
-use Rattle.std.specs.Prelude.{ℕ, List, [], Option, None}
+use Rattle.std.specs.Prelude.{ℕ, List, [], Option, None, codes}
 use Rattle.rbbi_model.specs.Lines.{usage_line, unread_line, fault_line, fault_line_at, fault_line_in, fault_line_within, rules_name, table_name}
 use Rattle.rbbi_command.specs.declared.refusal.Subject.{Subject}
-use Rattle.rbbi_command.specs.declared.refusal.Subject.TheVariants.{Rules, Table, File}
+use Rattle.rbbi_command.specs.declared.refusal.Subject.TheVariants.{Rules, OtherRules, Table, File}
 use Rattle.rbbi_command.specs.declared.refusal.Place.{Place}
 use Rattle.rbbi_command.specs.declared.refusal.Place.TheVariants.{Whole, Byte, Row, Within}
 use Rattle.rbbi_command.specs.declared.refusal.Refusal.{Refusal}
@@ -26,12 +26,14 @@ printed bytes = record { status = 0; bytes = bytes; file = None }
 -- the name under which a file's faults are told
 abbrev pub printed_name : Subject → List ℕ
 printed_name Rules = rules_name
+printed_name OtherRules = codes "rules2"
 printed_name Table = table_name
 printed_name (File name) = name
 
 -- the status of a file's faults
 abbrev pub status_of_subject : Subject → ℕ
 status_of_subject Rules = 3
+status_of_subject OtherRules = 3
 status_of_subject Table = 4
 status_of_subject (File name) = 5
 

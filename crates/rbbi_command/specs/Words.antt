@@ -1,12 +1,12 @@
 -- The forms of the command line.
 use Rattle.std.specs.Prelude.{◌≡◌, Bool, true, false, List, [], ◌∷◌, ℕ, length, codes}
 use Rattle.rbbi_command.specs.declared.words.command.Command.{Command}
-use Rattle.rbbi_command.specs.declared.words.command.Command.TheVariants.{Check, Compile, Upgrade, Breaks, Run, Conform, Demo}
+use Rattle.rbbi_command.specs.declared.words.command.Command.TheVariants.{Check, Compile, Upgrade, Same, Breaks, Run, Conform, Demo}
 use Rattle.rbbi_command.specs.declared.words.command.Takes.{Takes}
 use Rattle.rbbi_command.specs.declared.words.command.Takes.TheVariants.{NoOptions, RuleOptions, RuleOptionsOrTable, RuleOptionsOrTableAndUnit}
 use Rattle.rbbi_command.specs.declared.words.command.Operand.{Operand}
 use Rattle.rbbi_command.specs.declared.words.command.Operand.TheVariants.{Read, Written, Count}
-use Rattle.rbbi_command.specs.declared.files.Role.TheVariants.{Rules, Table, Text, Script, Tests}
+use Rattle.rbbi_command.specs.declared.files.Role.TheVariants.{Rules, OtherRules, Table, Text, Script, Tests}
 use Rattle.rbbi_command.specs.declared.words.setting.Setting.{Setting}
 use Rattle.rbbi_command.specs.Counts.{IsCount}
 use Rattle.rbbi_command.specs.Settings.{Options, options_of, are_taken, BeginWithSettings}
@@ -16,6 +16,7 @@ abbrev pub name_of : Command → List ℕ
 name_of Check = codes "check"
 name_of Compile = codes "compile"
 name_of Upgrade = codes "upgrade"
+name_of Same = codes "same"
 name_of Breaks = codes "breaks"
 name_of Run = codes "run"
 name_of Conform = codes "conform"
@@ -26,6 +27,7 @@ abbrev pub taken_by : Command → Takes
 taken_by Check = RuleOptions
 taken_by Compile = RuleOptions
 taken_by Upgrade = NoOptions
+taken_by Same = RuleOptions
 taken_by Breaks = RuleOptionsOrTableAndUnit
 taken_by Run = RuleOptionsOrTableAndUnit
 taken_by Conform = RuleOptionsOrTable
@@ -36,6 +38,7 @@ abbrev pub operands_of : Command → Bool → List Operand
 operands_of Check by_table = Read Rules ∷ []
 operands_of Compile by_table = Read Rules ∷ Written ∷ []
 operands_of Upgrade by_table = Read Table ∷ Written ∷ []
+operands_of Same by_table = Read Rules ∷ Read OtherRules ∷ []
 operands_of Breaks false = Read Rules ∷ Read Text ∷ []
 operands_of Breaks true = Read Table ∷ Read Text ∷ []
 operands_of Run false = Read Rules ∷ Read Text ∷ Read Script ∷ []

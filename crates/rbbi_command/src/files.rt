@@ -14,8 +14,10 @@ use std::alloc::{AllocError, Global};
 pub enum Role {
     /// A property file.
     Property,
-    /// The rule file.
+    /// The rule file, or the first of two.
     Rules,
+    /// The second rule file.
+    OtherRules,
     /// The table file.
     Table,
     /// The text.
@@ -40,7 +42,7 @@ impl Role {
     {
         match self {
             Role::Property => 8_388_608,
-            Role::Rules => 1_048_576,
+            Role::Rules | Role::OtherRules => 1_048_576,
             Role::Table => MOST_BYTES as u64,
             Role::Text => 67_108_864,
             Role::Script => 1_048_576,
@@ -54,6 +56,7 @@ impl Role {
     {
         match self {
             Role::Rules => Ok(Subject::Rules),
+            Role::OtherRules => Ok(Subject::OtherRules),
             Role::Table => Ok(Subject::Table),
             Role::Property | Role::Text | Role::Script | Role::Tests => Ok(Subject::File(Name::new(
                 alloc, name,

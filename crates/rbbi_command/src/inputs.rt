@@ -23,8 +23,10 @@ pub struct Input {
 pub struct Inputs {
     /// The property files, in order.
     pub properties: Vec<Raw>,
-    /// The rule file.
+    /// The rule file, or the first of two.
     pub rules: Raw,
+    /// The second rule file.
+    pub other_rules: Raw,
     /// The table file.
     pub table: Raw,
     /// The text.
@@ -60,6 +62,7 @@ impl Inputs {
         Ok(Inputs {
             properties: Vec::new(alloc),
             rules: Raw::new(Vec::new(alloc)),
+            other_rules: Raw::new(Vec::new(alloc)),
             table: Raw::new(Vec::new(alloc)),
             text: Input::none(alloc)?,
             script: Input::none(alloc)?,
@@ -76,6 +79,7 @@ impl Inputs {
         match source.role {
             Role::Property => self.properties.push(bytes)?,
             Role::Rules => self.rules = bytes,
+            Role::OtherRules => self.other_rules = bytes,
             Role::Table => self.table = bytes,
             Role::Text => self.text = Input::new(alloc, name, bytes)?,
             Role::Script => self.script = Input::new(alloc, name, bytes)?,

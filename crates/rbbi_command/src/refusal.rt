@@ -11,8 +11,10 @@ use std::alloc::{AllocError, AllocFailed, Global};
 /// The file that a fault is told of.
 #[derive(Debug, Drop)]
 pub enum Subject {
-    /// The rule file.
+    /// The rule file, or the first of two.
     Rules,
+    /// The second rule file.
+    OtherRules,
     /// The table file.
     Table,
     /// A file that is told by its name.
@@ -72,6 +74,7 @@ impl Subject {
     {
         match self {
             Subject::Rules => "rules",
+            Subject::OtherRules => "rules2",
             Subject::Table => "table",
             Subject::File(name) => name.as_str(),
         }
@@ -82,7 +85,7 @@ impl Subject {
         ensures { result ≡ spec.status_of_subject self.now }
     {
         match self {
-            Subject::Rules => 3,
+            Subject::Rules | Subject::OtherRules => 3,
             Subject::Table => 4,
             Subject::File(_) => 5,
         }

@@ -1,9 +1,9 @@
 -- What is told of the output of a command.
-use Rattle.std.proofs.Common.{◌≡◌, ◌<◌, ◌≤◌, ℕ, zero, suc, List, [], ◌∷◌, length, sym, ap, ◌∙◌, subst, refl, arith}
+use Rattle.std.proofs.Common.{◌≡◌, ◌<◌, ◌≤◌, inl, inr, ℕ, zero, suc, List, [], ◌∷◌, length, sym, ap, ◌∙◌, subst, refl, arith}
 use Rattle.std.specs.Prelude.{Some, IfSome, slice_get, if◌then◌else◌, ◌==◌}
 use Rattle.std.proofs.lemmas.Bool.{cond_both}
 use Rattle.rbbi_command.specs.declared.words.command.Command.{Command}
-use Rattle.rbbi_command.specs.declared.words.command.Command.TheVariants.{Check, Compile, Upgrade, Breaks, Run, Conform, Demo}
+use Rattle.rbbi_command.specs.declared.words.command.Command.TheVariants.{Check, Compile, Upgrade, Same, Breaks, Run, Conform, Demo}
 use Rattle.rbbi_command.specs.declared.words.command.Operand.{Operand}
 use Rattle.rbbi_command.specs.declared.words.command.Operand.TheVariants.{Read, Written}
 use Rattle.rbbi_command.specs.declared.files.Role.TheVariants.{Rules, Table}
@@ -49,6 +49,10 @@ command_told Compile request inputs outcome is count (rules, passed, told) =
 command_told Upgrade request inputs outcome is count (table, passed, told) =
     told_of request outcome _ told
     (record { status = omega arith; file = second_is_written request (Read Table) (ap (λ c. operands_of c request.options.by_table) is) count })
+command_told Same request inputs outcome is count (u, passed, (rules, mean, (others, mean', inl (agree, told)))) =
+    told_of request outcome _ told (record { status = omega arith; file = tt })
+command_told Same request inputs outcome is count (u, passed, (rules, mean, (others, mean', inr (w, differ, told)))) =
+    told_of request outcome _ told (record { status = omega arith; file = tt })
 command_told Breaks request inputs outcome is count (basis, passed, (x, taken, (boundaries, are, told))) =
     told_of request outcome _ told (record { status = omega arith; file = tt })
 command_told Run request inputs outcome is count (basis, passed, (x, taken, (commands, read, (replies, are, told)))) =

@@ -8,7 +8,7 @@ use Rattle.rbbi_model.specs.Scripts as model
 use Rattle.rbbi_model.specs.Costs.{script_cost, breaks_cost}
 use Rattle.rbbi_text.specs.Steps.{RisesUpTo}
 use Rattle.rbbi_command.specs.declared.words.command.Command.{Command}
-use Rattle.rbbi_command.specs.declared.words.command.Command.TheVariants.{Check, Compile, Upgrade, Breaks, Run, Conform, Demo}
+use Rattle.rbbi_command.specs.declared.words.command.Command.TheVariants.{Check, Compile, Upgrade, Same, Breaks, Run, Conform, Demo}
 use Rattle.rbbi_command.specs.declared.files.Role.{Role}
 use Rattle.rbbi_command.specs.declared.files.Role.TheVariants as role
 use Rattle.rbbi_command.specs.declared.files.Source.{Source}
@@ -81,6 +81,7 @@ command_reads_none : (command : Command) (request : Request) (inputs : Inputs) (
     → CommandReads command request inputs bytes before after
 command_reads_none Check request inputs bytes before after none = tt
 command_reads_none Upgrade request inputs bytes before after none = tt
+command_reads_none Same request inputs bytes before after none = tt
 command_reads_none Compile request inputs bytes before after none = tt
 command_reads_none Breaks request inputs bytes before after none = inl (rises_further 0 bytes before after none (omega arith))
 command_reads_none Run request inputs bytes before after none = inl (rises_further 0 bytes before after none (omega arith))
@@ -98,6 +99,7 @@ reads_none contents request steps =
 put_counted : (role : Role) (name bytes : List ℕ) (inputs : Inputs) → given_bytes (put role name bytes inputs) ≤ given_bytes inputs + counted role bytes
 put_counted role.Property name bytes inputs = omega (arith, sum_by-append length inputs.properties (bytes ∷ []), sum_by-cons length bytes [])
 put_counted role.Rules name bytes inputs = omega arith
+put_counted role.OtherRules name bytes inputs = omega arith
 put_counted role.Table name bytes inputs = omega arith
 put_counted role.Text name bytes inputs = omega arith
 put_counted role.Script name bytes inputs = omega arith
@@ -125,6 +127,7 @@ reads_further : (command : Command) (request : Request) (inputs : Inputs) (few m
     → CommandReads command request inputs few before after → CommandReads command request inputs many before after
 reads_further Check request inputs few many before after less reads = tt
 reads_further Upgrade request inputs few many before after less reads = tt
+reads_further Same request inputs few many before after less reads = tt
 reads_further Compile request inputs few many before after less reads = tt
 reads_further Conform request inputs few many before after less reads = tt
 reads_further Demo request inputs few many before after less reads = tt

@@ -2,10 +2,11 @@
 use Rattle.std.proofs.Common.{◌≡◌, ◌≢◌, refl, ℕ, Bool, true, false, Option, List, [], ◌∷◌, sym, subst, inl, inr}
 use Rattle.rbbi_model.specs.Rules.{Rule}
 use Rattle.rbbi_command.specs.declared.words.command.Command.{Command}
-use Rattle.rbbi_command.specs.declared.words.command.Command.TheVariants.{Check, Compile, Upgrade, Breaks, Run, Conform, Demo}
+use Rattle.rbbi_command.specs.declared.words.command.Command.TheVariants.{Check, Compile, Upgrade, Same, Breaks, Run, Conform, Demo}
 use Rattle.rbbi_command.specs.declared.words.setting.Property.{Property}
 use Rattle.rbbi_command.specs.declared.inputs.Input.{Input}
 use Rattle.rbbi_command.specs.declared.refusal.Subject.{Subject}
+use Rattle.rbbi_command.specs.declared.refusal.Subject.TheVariants as subject
 use Rattle.rbbi_command.specs.declared.refusal.Place.{Place}
 use Rattle.rbbi_command.specs.declared.refusal.Refusal.{Refusal}
 use Rattle.rbbi_command.specs.declared.refusal.Refusal.TheVariants.{Usage, Unread, Fault, Memory}
@@ -14,12 +15,14 @@ use Rattle.rbbi_command.specs.Words.{Request}
 use Rattle.rbbi_command.specs.Settings.{Options}
 use Rattle.rbbi_command.specs.Inputs.{Inputs}
 use Rattle.rbbi_tool.specs.Texts.{text_stage}
-use Rattle.rbbi_tool.specs.Properties.{properties_stage}
-use Rattle.rbbi_tool.specs.Rules.{IsTold, rules_stage}
+use Rattle.rbbi_tool.specs.Properties.{properties_stage, property_files}
+use Rattle.rbbi_tool.specs.Rules.{IsTold, rule_bytes_stage, rules_stage}
 use Rattle.rbbi_text.specs.declared.error.LinesErr.{LinesErr}
 use Rattle.rbbi_text.specs.declared.error.LinesErr.TheVariants as lines
 use Rattle.rbbi_tool.specs.Scripts.{lines_fault}
-use Rattle.rbbi_tool.specs.Basis.{limits_stage, compiled_stage, compiled_text_stage, basis_by}
+use Rattle.rbbi_props.specs.Rows.{File}
+use Rattle.rbbi_tool.specs.Basis.{limits_stage, compiled_stage, compiled_bytes_stage, compiled_text_stage, basis_by}
+use Rattle.rbbi_tool.specs.Command.Same.{told_of_second, as_second, rule_files_stage}
 use Rattle.rbbi_tool.specs.Program.{command_stage}
 
 -- a fault of a file ends the run
@@ -50,12 +53,16 @@ properties_fault (p ∷ properties) (b ∷ handed) r (inl (inr (u, utf8, (line, 
 properties_fault (p ∷ properties) (b ∷ handed) r (inr (u, passed, is)) = properties_fault properties handed r is
 
 -- rule files
+bytes_fault : (files : List File) (ignored : Bool) (bytes : List ℕ) → Faults (rule_bytes_stage files ignored bytes)
+bytes_fault files ignored bytes r (inl (at, wrong, is)) = is_fault _ _ _ r is
+bytes_fault files ignored bytes r (inr (x, text, inl is)) = told_fault _ _ _ x r is
+bytes_fault files ignored bytes r (inr (x, text, inr (tokens, are, inl is))) = told_fault _ _ _ x r is
+bytes_fault files ignored bytes r (inr (x, text, inr (tokens, are, inr (statements, read, is)))) = told_fault _ _ _ x r is
+
 rules_fault : (options : Options) (inputs : Inputs) → Faults (rules_stage options inputs)
 rules_fault options inputs r (inl is) = properties_fault options.properties inputs.properties r is
-rules_fault options inputs r (inr (u, passed, inl (at, wrong, is))) = is_fault _ _ _ r is
-rules_fault options inputs r (inr (u, passed, inr (x, text, inl is))) = told_fault _ _ _ x r is
-rules_fault options inputs r (inr (u, passed, inr (x, text, inr (tokens, are, inl is)))) = told_fault _ _ _ x r is
-rules_fault options inputs r (inr (u, passed, inr (x, text, inr (tokens, are, inr (statements, read, is))))) = told_fault _ _ _ x r is
+rules_fault options inputs r (inr (u, passed, is)) =
+    bytes_fault (property_files options.properties inputs.properties) options.ignored inputs.rules r is
 
 limits_fault : (rules : List Rule) → Faults (limits_stage rules)
 limits_fault rules r (inl is) = is_fault _ _ _ r is.1
@@ -65,6 +72,31 @@ compiled_fault : (options : Options) (inputs : Inputs) → Faults (compiled_stag
 compiled_fault options inputs r (inl is) = rules_fault options inputs r is
 compiled_fault options inputs r (inr (rules, mean, inl is)) = limits_fault rules r is
 compiled_fault options inputs r (inr (rules, mean, inr (u, few, never))) = absurd never
+
+compiled_bytes_fault : (files : List File) (ignored : Bool) (bytes : List ℕ) → Faults (compiled_bytes_stage files ignored bytes)
+compiled_bytes_fault files ignored bytes r (inl is) = bytes_fault files ignored bytes r is
+compiled_bytes_fault files ignored bytes r (inr (rules, mean, inl is)) = limits_fault rules r is
+compiled_bytes_fault files ignored bytes r (inr (rules, mean, inr (u, few, never))) = absurd never
+
+-- faults that are told of the second rule file
+second_is_fault : (r : Refusal) → IsFault r → IsFault (told_of_second r)
+unfolding IsFault
+second_is_fault Usage is = is
+second_is_fault (Unread name) is = is
+second_is_fault (Fault subject.Rules label place) is = tt
+second_is_fault (Fault subject.OtherRules label place) is = tt
+second_is_fault (Fault subject.Table label place) is = tt
+second_is_fault (Fault (subject.File name) label place) is = tt
+second_is_fault Memory is = is
+
+second_fault : {A : Type 0} (stage : Stage A) → Faults stage → Faults (as_second stage)
+second_fault stage each r (told, refuses, is) = subst IsFault (sym is) (second_is_fault told (each told refuses))
+
+rule_files_fault : (files : List File) (ignored : Bool) (inputs : Inputs) → Faults (rule_files_stage files ignored inputs)
+rule_files_fault files ignored inputs r (inl is) = compiled_bytes_fault files ignored inputs.rules r is
+rule_files_fault files ignored inputs r (inr (rules, mean, inl is)) =
+    second_fault (compiled_bytes_stage files ignored inputs.other_rules) (compiled_bytes_fault files ignored inputs.other_rules) r is
+rule_files_fault files ignored inputs r (inr (rules, mean, inr (others, mean', never))) = absurd never
 
 -- the text of built-in rules
 compiled_text_fault : (x : List ℕ) → Faults (compiled_text_stage x)
@@ -101,6 +133,9 @@ command_fault Compile request inputs r (inl is) = compiled_fault request.options
 command_fault Compile request inputs r (inr (rules, mean, never)) = absurd never
 command_fault Upgrade request inputs r (inl is) = is_fault _ _ _ r is.is
 command_fault Upgrade request inputs r (inr (table, passed, never)) = absurd never
+command_fault Same request inputs r (inl is) = properties_fault request.options.properties inputs.properties r is
+command_fault Same request inputs r (inr (u, passed, is)) =
+    rule_files_fault (property_files request.options.properties inputs.properties) request.options.ignored inputs r is
 command_fault Breaks request inputs r (inl is) = basis_fault request.options.by_table request.options inputs r is
 command_fault Breaks request inputs r (inr (basis, passed, inl is)) = text_fault inputs.text r is
 command_fault Breaks request inputs r (inr (basis, passed, inr (x, taken, never))) = absurd never

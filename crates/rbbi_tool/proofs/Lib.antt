@@ -13,6 +13,8 @@ pub mod Faults
 pub mod Runs
 pub mod LeastFaults
 pub mod OneReading
+pub mod SameMarks
+pub mod RuleFiles
 pub mod OneOutcome
 pub mod Searched
 pub mod Counted

@@ -12,6 +12,7 @@ use Rattle.rbbi_model.specs.Units.{measured}
 use Rattle.rbbi_model.specs.Plays.{AreReplies}
 use Rattle.rbbi_model.specs.Scripts as scripts
 use Rattle.rbbi_model.specs.Tables.{Table}
+use Rattle.rbbi_model.specs.Marks.{Marks, AreMarks}
 use Rattle.rbbi_lex.specs.declared.token.Token.{Token}
 use Rattle.rbbi_lex.specs.declared.error.LexErr.{LexErr}
 use Rattle.rbbi_lex.specs.declared.error.LexErr.TheVariants as lexing
@@ -31,7 +32,8 @@ use Rattle.rbbi_dfa.specs.declared.error.BuildErr.{BuildErr}
 use Rattle.rbbi_dfa.specs.declared.error.BuildErr.TheVariants as build
 use Rattle.rbbi_dfa.specs.Refusals as builder
 use Rattle.rbbi_dfa.specs.Builds.{BuildsTable, IsWithinLimits}
-use Rattle.rbbi_dfa.specs.SameCounts.{CompiledTablesHaveSameCounts}
+use Rattle.rbbi_dfa.specs.HaveCanonical.{CompiledTablesHaveCanonical}
+use Rattle.rbbi_canon.specs.Laws.{CanonicalTablesTellMarks}
 use Rattle.rbbi_file.specs.declared.error.FileErr.{FileErr}
 use Rattle.rbbi_file.specs.declared.error.FileErr.TheVariants as file
 use Rattle.rbbi_file.specs.Errors as reader
@@ -43,7 +45,7 @@ use Rattle.rbbi_conform.specs.Laws.{HaveOneTestList, HasOneVerdict}
 use Rattle.rbbi_demo.specs.declared.summary.Summary.{Summary}
 use Rattle.rbbi_demo.specs.Summaries.{IsSummary}
 use Rattle.rbbi_command.specs.declared.words.command.Command.{Command}
-use Rattle.rbbi_command.specs.declared.words.command.Command.TheVariants.{Check, Compile, Upgrade, Breaks, Run, Conform, Demo}
+use Rattle.rbbi_command.specs.declared.words.command.Command.TheVariants.{Check, Compile, Upgrade, Same, Breaks, Run, Conform, Demo}
 use Rattle.rbbi_command.specs.declared.words.setting.Property.{Property}
 use Rattle.rbbi_command.specs.declared.inputs.Input.{Input}
 use Rattle.rbbi_command.specs.declared.files.Source.{Source}
@@ -62,23 +64,25 @@ use Rattle.rbbi_tool.specs.Properties.{rows_stage, property_stage, properties_st
 use Rattle.rbbi_tool.specs.Rules.{IsTold, fault_at, rule_text_stage, tokens_stage, statements_stage, meaning_stage, rules_of_text_stage, rule_bytes_stage}
 use Rattle.rbbi_tool.specs.Rules.{rules_stage}
 use Rattle.rbbi_tool.specs.Basis.{categories_stage, sizes_stage, limits_stage, compiled_stage, table_place, table_stage}
-use Rattle.rbbi_tool.specs.Basis.{compiled_text_stage}
+use Rattle.rbbi_tool.specs.Basis.{compiled_bytes_stage, compiled_text_stage}
 use Rattle.rbbi_tool.specs.Basis.{Basis, ByRules, ByTable, AreBoundariesBy, basis_by, basis_stage}
 use Rattle.rbbi_command.specs.Settings.{Options}
 use Rattle.rbbi_command.specs.Inputs.{Inputs, inputs_of}
 use Rattle.rbbi_tool.specs.Command.Check.{counts_line}
 use Rattle.rbbi_tool.specs.Command.Compile.{table_outcome, TellsTable}
+use Rattle.rbbi_tool.specs.Command.Same.{IsComparison, comparison_stage, told_of_second, as_second, rule_files_stage}
 use Rattle.rbbi_tool.specs.Command.Breaks.{boundaries_stage}
 use Rattle.rbbi_tool.specs.Command.Run.{AreRepliesFrom, replies_stage}
 use Rattle.rbbi_tool.specs.Command.Conform.{told_verdicts, verdicts_stage}
 use Rattle.rbbi_tool.specs.Command.Demo.{demo_rules, number_stage, summary_line, summary_stage}
 use Rattle.rbbi_tool.specs.Scripts.{script_stage, tests_stage}
 use Rattle.rbbi_tool.specs.Program.{nth, words_stage, command_stage, request_stage, run_stage, IsOutcome}
-use Rattle.rbbi_tool.specs.Causes.{TellOneTable}
+use Rattle.rbbi_tool.specs.Causes.{TellOneDifference}
 use Rattle.rbbi_command.proofs.Forms.{same_request}
 use Rattle.rbbi_tool.proofs.StageLemmas.{IsSettled, settled, determined_both, settled_both}
 use Rattle.rbbi_tool.proofs.OneReading.{script_determined, tests_determined, same_verdicts}
 use Rattle.rbbi_tool.proofs.LeastFaults.{same_fault, meaning_excludes}
+use Rattle.rbbi_tool.proofs.SameMarks.{never_both, same_canonical}
 
 -- what the lower crates state of tokens, faults, readings and boundaries
 pub record Laws : Type 0 where
@@ -101,11 +105,13 @@ pub record Laws : Type 0 where
       → IsSummary (AreBoundaries rules) count other → one ≡ other
   pub tests : HaveOneTestList
   pub verdicts : (boundaries : List Boundary) (test : Test) → HasOneVerdict boundaries test
-  pub counts : CompiledTablesHaveSameCounts
+  pub marks : (rules : List Rule) (w : List ℕ) (these those : Marks) → AreMarks rules w these → AreMarks rules w those → these ≡ those
+  pub have_canonical : CompiledTablesHaveCanonical
+  pub canonical : CanonicalTablesTellMarks
 
--- outcomes are the same, or both tell a table of the same rules
+-- outcomes are the same, or both tell that the same rules differ
 abbrev AreAlike : Outcome → Outcome → Type 0
-AreAlike one other = (one ≡ other) ⊎ TellOneTable one other
+AreAlike one other = (one ≡ other) ⊎ TellOneDifference one other
 
 alike : (one other : Outcome) → one ≡ other → AreAlike one other
 alike one other same = inl same
@@ -177,6 +183,14 @@ properties_determined (p ∷ properties) (b ∷ handed) =
 -- a stage that gives one value is determined
 gives_determined : {A : Type 0} (a : A) → IsDeterministic A (gives a)
 gives_determined a = record { value = λ b c is is'. is ∙ sym is'; refusal = λ r s is is'. absurd is; apart = λ b r is is'. is' }
+
+-- a stage whose faults are told of the second rule file is determined where it is
+second_determined : {A : Type 0} (stage : Stage A) → IsDeterministic A stage → IsDeterministic A (as_second stage)
+second_determined stage is = record {
+  value = is.value;
+  refusal = λ r s (t, refuses, told) (t', refuses', told'). told ∙ ap told_of_second (is.refusal t t' refuses refuses') ∙ sym told';
+  apart = λ a r passes (t, refuses, told). is.apart a t passes refuses;
+}
 
 -- the limits on tables are passed or not
 limit_twice : (rules : List Rule) (e f : BuildErr) → BuildsTable rules (Err e) → BuildsTable rules (Err f) → e ≢ build.Memory → f ≢ build.Memory → e ≡ f
@@ -284,21 +298,21 @@ module _ (laws : Laws) where
       determined_both (tokens_stage x) (λ ts. followed_by (statements_stage x ts) (meaning_stage files ignored x)) (tokens_determined x)
       (λ ts. determined_both (statements_stage x ts) (meaning_stage files ignored x) (statements_determined x ts) (meaning_determined files ignored x))
 
-  rules_determined : (options : Options) (inputs : Inputs) → IsDeterministic (List Rule) (rules_stage options inputs)
-  rules_determined options inputs =
-      let ignored = options.ignored in
-      let files : List rows.File = property_files options.properties inputs.properties in
-      determined_both (properties_stage options.properties inputs.properties) (λ _. rule_bytes_stage files ignored inputs.rules)
-      (properties_determined options.properties inputs.properties)
-      (λ _.
-      determined_both (rule_text_stage inputs.rules) (rules_of_text_stage files ignored)
+  rule_bytes_determined : (files : List rows.File) (ignored : Bool) (bytes : List ℕ) → IsDeterministic (List Rule) (rule_bytes_stage files ignored bytes)
+  rule_bytes_determined files ignored bytes =
+      determined_both (rule_text_stage bytes) (rules_of_text_stage files ignored)
       (record {
         value = λ x y is is'. is.1 ∙ sym is'.1;
-        refusal = not_utf8_once subject.Rules inputs.rules;
-        apart = λ x r is (at, wrong, told).
-            wrong.not_utf8 is.0;
+        refusal = not_utf8_once subject.Rules bytes;
+        apart = λ x r is (at, wrong, told). wrong.not_utf8 is.0;
       })
-      (rule_text_determined files ignored))
+      (rule_text_determined files ignored)
+
+  rules_determined : (options : Options) (inputs : Inputs) → IsDeterministic (List Rule) (rules_stage options inputs)
+  rules_determined options inputs =
+      let files : List rows.File = property_files options.properties inputs.properties in
+      determined_both (properties_stage options.properties inputs.properties) (λ _. rule_bytes_stage files options.ignored inputs.rules)
+      (properties_determined options.properties inputs.properties) (λ _. rule_bytes_determined files options.ignored inputs.rules)
 
   -- what the table of rules comes to is determined
   table_of_determined : (stage : Stage (List Rule)) → IsDeterministic (List Rule) stage
@@ -309,6 +323,11 @@ module _ (laws : Laws) where
 
   compiled_determined : (options : Options) (inputs : Inputs) → IsDeterministic (List Rule) (compiled_stage options inputs)
   compiled_determined options inputs = table_of_determined (rules_stage options inputs) (rules_determined options inputs)
+
+  compiled_bytes_determined : (files : List rows.File) (ignored : Bool) (bytes : List ℕ)
+      → IsDeterministic (List Rule) (compiled_bytes_stage files ignored bytes)
+  compiled_bytes_determined files ignored bytes =
+      table_of_determined (rule_bytes_stage files ignored bytes) (rule_bytes_determined files ignored bytes)
 
   -- what a table file comes to is determined
   err_same : (e f : FileErr) → (let this : Result Table FileErr = Err e in this) ≡ Err f → e ≡ f
@@ -389,18 +408,46 @@ module _ (laws : Laws) where
     apart = λ o r is is'. is';
   }
 
-  -- all tables of rules are told alike
-  told_alike : (rules : List Rule) (name : List ℕ) (one other : Outcome) → TellsTable rules name one → TellsTable rules name other → AreAlike one other
-  told_alike rules name one other is is' =
-      let counts = laws.counts is.table is'.table rules is.lawful is.compiled is'.compiled in
+  -- one table of rules is told
+  same_table : (rules : List Rule) (name : List ℕ) (one other : Outcome) → TellsTable rules name one → TellsTable rules name other → one ≡ other
+  same_table rules name one other is is' =
+      is.is
+      ∙ ap (table_outcome name)
+      (same_canonical laws.marks laws.have_canonical laws.canonical rules is.table is'.table is.canonical is'.canonical is.lawful is.compiled is'.compiled
+      is.made is'.made)
+      ∙ sym is'.is
+
+  -- rules have the same marks or differ, and of texts after which they do any may be told
+  compared_alike : (rules others : List Rule) (one other : Outcome) → IsComparison rules others one → IsComparison rules others other → AreAlike one other
+  compared_alike rules others one other (inl (same, is)) (inl (same', is')) = inl (is ∙ sym is')
+  compared_alike rules others one other (inl (same, is)) (inr (w, apart, is')) = absurd (never_both laws.marks rules others w same apart)
+  compared_alike rules others one other (inr (w, apart, is)) (inl (same, is')) = absurd (never_both laws.marks rules others w same apart)
+  compared_alike rules others one other (inr (w, apart, is)) (inr (w', apart', is')) =
       inr (record {
         rules = rules;
-        name = name;
+        other_rules = others;
+        text = w;
+        other_text = w';
+        differ = apart;
+        differ_too = apart';
         is = is;
         is_other = is';
-        same_status = ap (λ (o : Outcome). o.status) is.is ∙ sym (ap (λ (o : Outcome). o.status) is'.is);
-        same_line = ap (λ (o : Outcome). o.bytes) is.is ∙ counts.line ∙ sym (ap (λ (o : Outcome). o.bytes) is'.is);
       })
+
+  comparison_settled : (rules others : List Rule) → IsSettled Outcome AreAlike (comparison_stage rules others)
+  comparison_settled rules others =
+      record { value = compared_alike rules others; refusal = λ r s is is'. absurd is; apart = λ o r is is'. is' }
+
+  -- two rule files are settled
+  rule_files_settled : (files : List rows.File) (ignored : Bool) (inputs : Inputs) → IsSettled Outcome AreAlike (rule_files_stage files ignored inputs)
+  rule_files_settled files ignored inputs =
+      let second = as_second (compiled_bytes_stage files ignored inputs.other_rules) in
+      settled_both (compiled_bytes_stage files ignored inputs.rules) (λ rules. followed_by second (comparison_stage rules)) AreAlike
+      (compiled_bytes_determined files ignored inputs.rules)
+      (λ rules mean.
+      settled_both second (comparison_stage rules) AreAlike
+      (second_determined (compiled_bytes_stage files ignored inputs.other_rules) (compiled_bytes_determined files ignored inputs.other_rules))
+      (λ others mean'. comparison_settled rules others))
 
   -- what comes by a basis is determined
   by_basis : (options : Options) (inputs : Inputs) (next : Basis → Stage Outcome) → ((basis : Basis) → IsDeterministic Outcome (next basis))
@@ -442,14 +489,18 @@ module _ (laws : Laws) where
       (determined_both (table_stage inputs.table) (λ table. gives (table_outcome (nth request.operands 1) table)) (table_determined inputs.table)
       (λ table. gives_determined (table_outcome (nth request.operands 1) table)))
   command_settled Compile request inputs =
-      settled_both (compiled_stage request.options inputs)
-      (λ rules. record { passes = TellsTable rules (nth request.operands 1); refuses = λ _. ⊥ }) AreAlike
-      (compiled_determined request.options inputs)
-      (λ rules mean. record {
-        value = told_alike rules (nth request.operands 1);
+      settled AreAlike (command_stage Compile request inputs) alike
+      (determined_both (compiled_stage request.options inputs)
+      (λ rules. record { passes = TellsTable rules (nth request.operands 1); refuses = λ _. ⊥ }) (compiled_determined request.options inputs)
+      (λ rules. record {
+        value = same_table rules (nth request.operands 1);
         refusal = λ r s is is'. absurd is;
         apart = λ o r is is'. is';
-      })
+      }))
+  command_settled Same request inputs =
+      let files : List rows.File = property_files request.options.properties inputs.properties in
+      settled_both (properties_stage request.options.properties inputs.properties) (λ _. rule_files_stage files request.options.ignored inputs) AreAlike
+      (properties_determined request.options.properties inputs.properties) (λ _ passed. rule_files_settled files request.options.ignored inputs)
 
   -- a run over files that tell what they hold is settled
   run_settled : (words : List (List ℕ)) (held : List ℕ → List ℕ) → IsSettled Outcome AreAlike (run_stage words held)

@@ -7,7 +7,7 @@ use Rattle.rbbi_io.specs.Answers.{WhereTold}
 use Rattle.rbbi_io.specs.Sinks.{Takes, TakesFront}
 use Rattle.rbbi_command.specs.declared.files.Source.{Source}
 use Rattle.rbbi_command.specs.declared.refusal.Subject.{Subject}
-use Rattle.rbbi_command.specs.declared.refusal.Subject.TheVariants.{Rules, Table, File}
+use Rattle.rbbi_command.specs.declared.refusal.Subject.TheVariants.{Rules, OtherRules, Table, File}
 use Rattle.rbbi_command.specs.declared.refusal.Refusal.{Refusal}
 use Rattle.rbbi_command.specs.declared.refusal.Refusal.TheVariants.{Usage, Unread, Fault, Memory}
 use Rattle.rbbi_tool.specs.inner.Stages.{Meets}
@@ -113,6 +113,7 @@ held_more (Some held) (Some held') Q R q more = more held held' q
 -- the status of a fault
 fault_low : (subject : Subject) → (3 ≤ status_of_subject subject) × (status_of_subject subject ≤ 5)
 fault_low Rules = (omega arith, omega arith)
+fault_low OtherRules = (omega arith, omega arith)
 fault_low Table = (omega arith, omega arith)
 fault_low (File name) = (omega arith, omega arith)
 

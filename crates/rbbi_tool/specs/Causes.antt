@@ -10,7 +10,7 @@ use Rattle.rbbi_command.specs.Refusals.{Outcome}
 use Rattle.rbbi_command.specs.Words.{Request, IsCommandLine, operands_of}
 use Rattle.rbbi_command.specs.Files.{sources_of}
 use Rattle.rbbi_command.specs.Reads.{FailsToRead}
-use Rattle.rbbi_tool.specs.Command.Compile.{TellsTable}
+use Rattle.rbbi_tool.specs.Command.Same.{DifferAfter, told_difference}
 use Rattle.rbbi_tool.specs.Program.{IsOutcome}
 use Rattle.rbbi_command.specs.Delivery.{HoldsFile}
 
@@ -99,17 +99,18 @@ abbrev pub TakesFailedRead : List (List ℕ) → Option (List ℕ → List ℕ) 
 TakesFailedRead words contents before now taken taken' =
     (line : List ℕ) × TellsFailedRead words contents before now line × Takes taken taken' line
 
--- Both tell a table that is compiled from the same rules, perhaps not the same one. Their status and their line are the same, and each
--- writes its table under the same name.
-pub record TellOneTable (one other : Outcome) : Type 0 where
+-- Both tell that the same rules differ, each by a text after which they have different marks.
+pub record TellOneDifference (one other : Outcome) : Type 0 where
   pub rules : List Rule
-  pub name : List ℕ
-  pub is : TellsTable rules name one
-  pub is_other : TellsTable rules name other
-  pub same_status : one.status ≡ other.status
-  pub same_line : one.bytes ≡ other.bytes
+  pub other_rules : List Rule
+  pub text : List ℕ
+  pub other_text : List ℕ
+  pub differ : DifferAfter rules other_rules text
+  pub differ_too : DifferAfter rules other_rules other_text
+  pub is : one ≡ told_difference text
+  pub is_other : other ≡ told_difference other_text
 
--- two outcomes are the same, or both tell a table that is compiled from the same rules
+-- two outcomes are the same, or both tell that the same rules differ
 abbrev pub HasOneOutcome : List (List ℕ) → (List ℕ → List ℕ) → Type 0
 HasOneOutcome words held =
-    (one other : Outcome) → IsOutcome words held one → IsOutcome words held other → (one ≡ other) ⊎ TellOneTable one other
+    (one other : Outcome) → IsOutcome words held one → IsOutcome words held other → (one ≡ other) ⊎ TellOneDifference one other

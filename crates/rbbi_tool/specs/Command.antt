@@ -2,6 +2,7 @@
 pub mod Check
 pub mod Compile
 pub mod Upgrade
+pub mod Same
 pub mod Breaks
 pub mod Run
 pub mod Conform

@@ -6,5 +6,6 @@ pub mod Scripts
 pub mod Command
 pub mod Program
 pub mod Causes
+pub mod Laws
 pub mod Steps
 pub mod inner

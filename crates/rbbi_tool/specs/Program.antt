@@ -1,7 +1,7 @@
 -- What a run of the program answers, where the files tell what they hold: the exit status, and what is written.
 use Rattle.std.specs.Prelude.{◌≡◌, ◌⊎◌, ℕ, List, [], slice_index_or}
 use Rattle.rbbi_command.specs.declared.words.command.Command.{Command}
-use Rattle.rbbi_command.specs.declared.words.command.Command.TheVariants.{Check, Compile, Upgrade, Breaks, Run, Conform, Demo}
+use Rattle.rbbi_command.specs.declared.words.command.Command.TheVariants.{Check, Compile, Upgrade, Same, Breaks, Run, Conform, Demo}
 use Rattle.rbbi_command.specs.declared.refusal.Refusal.{Refusal}
 use Rattle.rbbi_command.specs.declared.refusal.Refusal.TheVariants.{Usage}
 use Rattle.rbbi_command.specs.Stages.{Stage, followed_by}
@@ -12,6 +12,7 @@ use Rattle.rbbi_command.specs.Inputs.{Inputs, inputs_of}
 use Rattle.rbbi_tool.specs.Command.Check.{check_stage}
 use Rattle.rbbi_tool.specs.Command.Compile.{compile_stage}
 use Rattle.rbbi_tool.specs.Command.Upgrade.{upgrade_stage}
+use Rattle.rbbi_tool.specs.Command.Same.{same_stage}
 use Rattle.rbbi_tool.specs.Command.Breaks.{breaks_stage}
 use Rattle.rbbi_tool.specs.Command.Run.{play_stage}
 use Rattle.rbbi_tool.specs.Command.Conform.{conform_stage}
@@ -30,6 +31,7 @@ abbrev pub command_stage : Command → Request → Inputs → Stage Outcome
 command_stage Check request inputs = check_stage request.options inputs
 command_stage Compile request inputs = compile_stage request.options inputs (nth request.operands 1)
 command_stage Upgrade request inputs = upgrade_stage inputs (nth request.operands 1)
+command_stage Same request inputs = same_stage request.options inputs
 command_stage Breaks request inputs = breaks_stage request.options inputs
 command_stage Run request inputs = play_stage request.options inputs
 command_stage Conform request inputs = conform_stage request.options inputs

@@ -1,6 +1,7 @@
 -- What only this crate's own code and proofs cite. Nothing that is promised rests on it.
 pub mod Stages
 pub mod Judging
+pub mod Comparing
 pub mod Causes
 pub mod Steps
 pub mod Prepared

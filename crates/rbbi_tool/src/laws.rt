@@ -2,10 +2,11 @@
 //! contract.
 ghost use Rattle.std.specs.Prelude.{ℕ, List};
 ghost use Rattle.rbbi_tool.specs.Causes.{HasOneOutcome};
+ghost use Rattle.rbbi_tool.specs.Laws.{FilesTellMarks};
 
 /// To words over files that tell what they hold there is one outcome: one status, one text, and one
-/// file. Of `compile` the status, the line and the name of the file are one, and the file is that
-/// of some table compiled from the rules.
+/// file. Where `same` tells that two rule files differ, the status is one, and the text may be any
+/// after which they do.
 pub fn outcomes_are_unique()
     ensures { (words : List (List ℕ)) (held : List ℕ → List ℕ) → HasOneOutcome words held }
 {
@@ -24,5 +25,18 @@ pub fn outcomes_are_unique()
     rbbi_demo::summaries_are_unique();
     rbbi_conform::one_tests();
     rbbi_conform::one_verdict();
-    rbbi_dfa::compiled_tables_have_same_counts();
+    rbbi_model::marks_are_unique();
+    rbbi_dfa::compiled_tables_have_canonical();
+    rbbi_canon::canonical_tables_tell_marks();
+}
+
+/// The files that `compile` writes of two rule files hold the same bytes exactly where `same` tells
+/// that they are the same: where both have the same marks after every text that isn't empty.
+pub fn files_tell_marks()
+    ensures { FilesTellMarks }
+{
+    rbbi_model::marks_are_unique();
+    rbbi_file::spellings_tell_the_table();
+    rbbi_dfa::compiled_tables_have_canonical();
+    rbbi_canon::canonical_tables_tell_marks();
 }

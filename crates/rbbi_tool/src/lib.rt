@@ -20,6 +20,6 @@ mod tables;
 mod texts;
 
 pub use in_memory::rbbi_in_memory;
-pub use laws::outcomes_are_unique;
+pub use laws::{files_tell_marks, outcomes_are_unique};
 pub use program::rbbi;
 pub use tables::table_of_rules;

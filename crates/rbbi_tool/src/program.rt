@@ -74,9 +74,9 @@ fn told(alloc: Global, ended: Result<Prepared, Refusal>) -> Result<Prepared, All
 /// | status | comes | what is written |
 /// |---|---|---|
 /// | 0 | all is done | what the command tells |
-/// | 1 | all is done, and a test of `conform` differs | what the command tells |
+/// | 1 | all is done, and a test of `conform` or the marks of `same` differ | what the command tells |
 /// | 2 | the words are of no stated form | how to call the program |
-/// | 3 | the rule file is too long, isn't UTF-8 or has a fault | the fault |
+/// | 3 | a rule file is too long, isn't UTF-8 or has a fault | the fault |
 /// | 4 | the table file is too long, or no spelling of a valid table | the fault |
 /// | 5 | another file is too long, isn't UTF-8, has too many characters or a bad line | the fault |
 /// | 6 | a read of a file failed | the file |
@@ -84,10 +84,11 @@ fn told(alloc: Global, ended: Result<Prepared, Refusal>) -> Result<Prepared, All
 /// | 8 | memory ran out | a front of what was to be written |
 ///
 /// The words are looked at first, then the files are read in the order of the words; then come the
-/// property files, then the rule file or the table file, then the text, and then the script or the
-/// tests. A file that the command writes is written before anything goes out, so where the write
-/// fails, nothing goes out. The lines of `breaks` and `run` go out while they are made, as soon as
-/// 65,536 bytes or more wait. After a put or a write that is refused there is no further call.
+/// property files, then the rule file or the table file, for `same` the second rule file, then the
+/// text, and then the script or the tests. A file that the command writes is written before anything
+/// goes out, so where the write fails, nothing goes out. The lines of `breaks` and `run` go out while
+/// they are made, as soon as 65,536 bytes or more wait. After a put or a write that is refused there
+/// is no further call.
 pub fn rbbi<F: Files, K: Sink, L: Ledger>(
     alloc: Global,
     words: &Vec<String>,

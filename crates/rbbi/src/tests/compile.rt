@@ -38,6 +38,11 @@ pub(super) const TABLES: Table = (
             "categories 2 rows 3 lists 1 slashes 0 safe 4\n",
         ),
         (
+            &[b"(a|b)(a|b)*;"],
+            0,
+            "categories 2 rows 3 lists 1 slashes 0 safe 4\n",
+        ),
+        (
             &[b"(a|b)*a(a|b)(a|b)(a|b)(a|b)(a|b)(a|b)(a|b)(a|b)(a|b)(a|b);"],
             0,
             "categories 3 rows 2049 lists 1 slashes 0 safe 5\n",
@@ -93,6 +98,17 @@ fn files(rt: HostRuntime) -> Result<(), Fail> {
     assert_eq!(rt; out.calls(), 0);
     assert!(rt; holds(&files, "r.txt", b"a;"));
     assert!(rt; holds(&files, "x.txt", b"x"));
+    Ok(())
+}
+
+/// Rules with the same marks have the same table file, byte for byte.
+#[test]
+fn canonical_files(rt: HostRuntime) -> Result<(), Fail> {
+    let mut files = files_of(&rt, &[("a.txt", b"[a-b]+;"), ("b.txt", b"(a|b)(a|b)*;")])?;
+    run_words(&rt, "compile a.txt a.tbl", &mut files)?;
+    run_words(&rt, "compile b.txt b.tbl", &mut files)?;
+    assert!(rt; files.get("a.tbl").is_some());
+    assert_eq!(rt; files.get("a.tbl"), files.get("b.tbl"));
     Ok(())
 }
 

@@ -14,6 +14,9 @@ pub enum Command {
     Compile,
     /// Write the table of a table file anew, in the newest version.
     Upgrade,
+    /// Tell whether two rule files have the same marks after every text, or a text after which they
+    /// differ.
+    Same,
     /// Tell the boundaries of a text.
     Breaks,
     /// Reply to the commands of a script over a text.
@@ -54,7 +57,7 @@ impl Command {
         ensures { result ≡ spec.taken_by self }
     {
         match self {
-            Command::Check | Command::Compile => Takes::RuleOptions,
+            Command::Check | Command::Compile | Command::Same => Takes::RuleOptions,
             Command::Breaks | Command::Run => Takes::RuleOptionsOrTableAndUnit,
             Command::Conform => Takes::RuleOptionsOrTable,
             Command::Upgrade | Command::Demo => Takes::NoOptions,
@@ -69,6 +72,7 @@ impl Command {
             (Command::Check, _) => &[Operand::Read(Role::Rules)],
             (Command::Compile, _) => &[Operand::Read(Role::Rules), Operand::Written],
             (Command::Upgrade, _) => &[Operand::Read(Role::Table), Operand::Written],
+            (Command::Same, _) => &[Operand::Read(Role::Rules), Operand::Read(Role::OtherRules)],
             (Command::Breaks, false) => &[Operand::Read(Role::Rules), Operand::Read(Role::Text)],
             (Command::Breaks, true) => &[Operand::Read(Role::Table), Operand::Read(Role::Text)],
             (Command::Run, false) => &[
@@ -97,6 +101,7 @@ pub(crate) fn command_of(word: &str) -> Option<Command>
         "check" => Some(Command::Check),
         "compile" => Some(Command::Compile),
         "upgrade" => Some(Command::Upgrade),
+        "same" => Some(Command::Same),
         "breaks" => Some(Command::Breaks),
         "run" => Some(Command::Run),
         "conform" => Some(Command::Conform),

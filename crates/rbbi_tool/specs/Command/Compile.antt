@@ -4,6 +4,7 @@ use Rattle.rbbi_model.specs.Rules.{Rule, AreLawful}
 use Rattle.rbbi_model.specs.Lines.{compile_line}
 use Rattle.rbbi_model.specs.Tables.{Table}
 use Rattle.rbbi_model.specs.Compiled.{IsCompiled}
+use Rattle.rbbi_model.specs.Canonical.{IsCanonical}
 use Rattle.rbbi_model.specs.TableFile.{spelling}
 use Rattle.rbbi_command.specs.Settings.{Options}
 use Rattle.rbbi_command.specs.Inputs.{Inputs}
@@ -15,13 +16,15 @@ use Rattle.rbbi_tool.specs.Basis.{compiled_stage}
 abbrev pub table_outcome : List ℕ → Table → Outcome
 table_outcome name table = record { status = 0; bytes = compile_line table; file = Some (record { name = name; bytes = spelling table }) }
 
--- A table is compiled from the rules, which are lawful: its file is written under the name, and its numbers are told. The numbers of
--- its rows but the first two are free.
+-- A table is compiled from the rules, which are lawful: the file of its canonical table is written under the name, and the numbers of that
+-- one are told.
 pub record TellsTable (rules : List Rule) (name : List ℕ) (outcome : Outcome) : Type 0 where
   pub lawful : AreLawful rules
   pub table : Table
   pub compiled : IsCompiled table rules
-  pub is : outcome ≡ table_outcome name table
+  pub canonical : Table
+  pub made : IsCanonical table canonical
+  pub is : outcome ≡ table_outcome name canonical
 
 -- the table file of a rule file, under this name
 abbrev pub compile_stage : Options → Inputs → List ℕ → Stage Outcome

@@ -63,7 +63,8 @@ pub(super) fn table_output(alloc: Global, table: &Table, name: &str) -> Result<O
     })
 }
 
-/// The table file of a rule file, under this name, and the line of the table's numbers.
+/// The file of the canonical table of a rule file, under this name, and the line of that table's
+/// numbers.
 pub(crate) fn compile<L: Ledger>(
     alloc: Global,
     options: &Options,
@@ -78,6 +79,8 @@ pub(crate) fn compile<L: Ledger>(
 {
     let rules = rules_from(alloc, options, inputs, steps)?;
     let table = table_of(alloc, &rules)?;
-    let output = table_output(alloc, &table, name)?;
+    rbbi_dfa::compiled_tables_have_canonical();
+    let canonical = rbbi_canon::canonical(alloc, &table)?;
+    let output = table_output(alloc, &canonical, name)?;
     Ok(Prepared::Ready(output))
 }

@@ -19,5 +19,7 @@ returns c =
       summaries = c.summaries_are_unique.ensures;
       tests = c.one_tests.ensures;
       verdicts = c.one_verdict.ensures;
-      counts = c.compiled_tables_have_same_counts.ensures;
+      marks = c.marks_are_unique.ensures;
+      have_canonical = c.compiled_tables_have_canonical.ensures;
+      canonical = c.canonical_tables_tell_marks.ensures;
     })

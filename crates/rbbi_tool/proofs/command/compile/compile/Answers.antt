@@ -13,6 +13,15 @@ returns-in_err-table g c =
     let p = err_from_is_err_and c.from_residual-in_err-table.result c.from_residual-in_err-table.ensures.1 in
     rw (p.1, p.2) (⊎_elim inl (λ is. inr (inl (inr (rules_of c.in_ok-rules.rules, c.in_ok-rules.ensures.exact, inl is)))) c.in_err-table.ensures.exact)
 
+pub canonical-requires : goal.canonical-requires
+canonical-requires g c =
+    c.compiled_tables_have_canonical.ensures c.in_ok-table.table (rules_of c.in_ok-rules.rules) c.in_ok-rules.ensures.lawful c.in_ok-table.ensures.compiled
+
+pub returns-in_err-output : goal.returns-in_err-output
+returns-in_err-output g c =
+    let p = err_from_is_err_and c.from_residual-in_err-output.result c.from_residual-in_err-output.ensures.1 in
+    rw (p.1, p.2) (inl refl)
+
 pub returns : goal.returns
 returns g c =
     let rules = rules_of c.in_ok-rules.rules in (
@@ -22,6 +31,8 @@ returns g c =
         lawful = c.in_ok-rules.ensures.lawful;
         table = c.in_ok-table.table;
         compiled = c.in_ok-table.ensures.compiled;
+        canonical = c.in_ok-canonical.canonical;
+        made = c.in_ok-canonical.ensures;
         is = c.in_ok-output.ensures;
       },
     )
