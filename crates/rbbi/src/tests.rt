@@ -11,6 +11,7 @@ mod forms;
 mod limits;
 mod pieces;
 mod run;
+mod tally;
 mod units;
 
 use rbbi_io::{MemFiles, MemSink};
@@ -175,6 +176,14 @@ fn replies(rt: HostRuntime) -> Result<(), Fail> {
 #[test]
 fn replies_by_table(rt: HostRuntime) -> Result<(), Fail> {
     assert_eq!(rt; first_wrong(&rt, run::BY_TABLE)?, None);
+    Ok(())
+}
+
+#[test]
+fn counts_under_edits(rt: HostRuntime) -> Result<(), Fail> {
+    for table in tally::TALLIES {
+        assert_eq!(rt; first_wrong(&rt, *table)?, None, "of {}", table.0);
+    }
     Ok(())
 }
 

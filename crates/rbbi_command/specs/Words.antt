@@ -1,7 +1,7 @@
 -- The forms of the command line.
 use Rattle.std.specs.Prelude.{◌≡◌, Bool, true, false, List, [], ◌∷◌, ℕ, length, codes}
 use Rattle.rbbi_command.specs.declared.words.command.Command.{Command}
-use Rattle.rbbi_command.specs.declared.words.command.Command.TheVariants.{Check, Compile, Upgrade, Breaks, Run, Conform, Demo}
+use Rattle.rbbi_command.specs.declared.words.command.Command.TheVariants.{Check, Compile, Upgrade, Breaks, Run, Conform, Tally, Demo}
 use Rattle.rbbi_command.specs.declared.words.command.Takes.{Takes}
 use Rattle.rbbi_command.specs.declared.words.command.Takes.TheVariants.{NoOptions, RuleOptions, RuleOptionsOrTable, RuleOptionsOrTableAndUnit}
 use Rattle.rbbi_command.specs.declared.words.command.Operand.{Operand}
@@ -19,6 +19,7 @@ name_of Upgrade = codes "upgrade"
 name_of Breaks = codes "breaks"
 name_of Run = codes "run"
 name_of Conform = codes "conform"
+name_of Tally = codes "tally"
 name_of Demo = codes "demo"
 
 -- which options a command takes
@@ -29,6 +30,7 @@ taken_by Upgrade = NoOptions
 taken_by Breaks = RuleOptionsOrTableAndUnit
 taken_by Run = RuleOptionsOrTableAndUnit
 taken_by Conform = RuleOptionsOrTable
+taken_by Tally = RuleOptionsOrTable
 taken_by Demo = NoOptions
 
 -- what each operand of a command is, in order, where the first is a table file or isn't
@@ -42,6 +44,8 @@ operands_of Run false = Read Rules ∷ Read Text ∷ Read Script ∷ []
 operands_of Run true = Read Table ∷ Read Text ∷ Read Script ∷ []
 operands_of Conform false = Read Rules ∷ Read Tests ∷ []
 operands_of Conform true = Read Table ∷ Read Tests ∷ []
+operands_of Tally false = Read Rules ∷ Read Text ∷ Read Script ∷ []
+operands_of Tally true = Read Table ∷ Read Text ∷ Read Script ∷ []
 operands_of Demo by_table = Count ∷ []
 
 -- the word is of the operand's form: any word names a file

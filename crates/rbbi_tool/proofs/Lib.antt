@@ -4,6 +4,8 @@ pub mod Handing
 pub mod Emitting
 pub mod Listing
 pub mod Replying
+pub mod Saying
+pub mod Telling
 pub mod Numbers
 pub mod Bases
 pub mod Verdicts
@@ -13,6 +15,8 @@ pub mod Faults
 pub mod Runs
 pub mod LeastFaults
 pub mod OneReading
+pub mod CountLists
+pub mod Tallied
 pub mod OneOutcome
 pub mod Searched
 pub mod Counted

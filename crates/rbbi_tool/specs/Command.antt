@@ -5,4 +5,5 @@ pub mod Upgrade
 pub mod Breaks
 pub mod Run
 pub mod Conform
+pub mod Tally
 pub mod Demo

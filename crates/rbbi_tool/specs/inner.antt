@@ -3,4 +3,5 @@ pub mod Stages
 pub mod Judging
 pub mod Causes
 pub mod Steps
+pub mod Tallying
 pub mod Prepared

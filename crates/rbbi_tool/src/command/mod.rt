@@ -6,6 +6,7 @@ mod compile;
 mod conform;
 mod demo;
 mod run;
+mod tally;
 mod upgrade;
 
 pub(crate) use breaks::breaks;
@@ -14,4 +15,5 @@ pub(crate) use compile::compile;
 pub(crate) use conform::conform;
 pub(crate) use demo::demo;
 pub(crate) use run::run;
+pub(crate) use tally::tally;
 pub(crate) use upgrade::upgrade;
