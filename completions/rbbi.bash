@@ -4,12 +4,12 @@ _rbbi() {
     local word=${COMP_WORDS[COMP_CWORD]} options
     COMPREPLY=()
     if [ "$COMP_CWORD" -eq 1 ]; then
-        COMPREPLY=($(compgen -W 'check compile same upgrade breaks run conform demo' -- "$word"))
+        COMPREPLY=($(compgen -W 'check compile same upgrade breaks run conform tally demo' -- "$word"))
         return
     fi
     case ${COMP_WORDS[1]} in
     check | compile | same) options='--prop --ignore-dictionary' ;;
-    breaks | run | conform) options='--prop --ignore-dictionary --table' ;;
+    breaks | run | conform | tally) options='--prop --ignore-dictionary --table' ;;
     upgrade) options= ;;
     *) return ;;
     esac

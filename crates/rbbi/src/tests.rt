@@ -12,6 +12,7 @@ mod limits;
 mod pieces;
 mod run;
 mod same;
+mod tally;
 mod units;
 
 use rbbi_io::{MemFiles, MemSink};
@@ -182,6 +183,14 @@ fn replies(rt: HostRuntime) -> Result<(), Fail> {
 #[test]
 fn replies_by_table(rt: HostRuntime) -> Result<(), Fail> {
     assert_eq!(rt; first_wrong(&rt, run::BY_TABLE)?, None);
+    Ok(())
+}
+
+#[test]
+fn counts_under_edits(rt: HostRuntime) -> Result<(), Fail> {
+    for table in tally::TALLIES {
+        assert_eq!(rt; first_wrong(&rt, *table)?, None, "of {}", table.0);
+    }
     Ok(())
 }
 

@@ -2,7 +2,7 @@
 use Rattle.std.proofs.Common.{◌≡◌, ◌≢◌, ℕ, Bool, false, List, [], ◌∷◌, length, Option, None, Some, refl, sym, ap, ◌∙◌, subst}
 use Rattle.std.specs.Prelude.{codes, bytes_eq, if◌then◌else◌}
 use Rattle.rbbi_command.specs.declared.words.command.Command.{Command}
-use Rattle.rbbi_command.specs.declared.words.command.Command.TheVariants.{Check, Compile, Upgrade, Same, Breaks, Run, Conform, Demo}
+use Rattle.rbbi_command.specs.declared.words.command.Command.TheVariants.{Check, Compile, Upgrade, Same, Breaks, Run, Conform, Tally, Demo}
 use Rattle.rbbi_command.specs.declared.words.setting.Setting.{Setting}
 use Rattle.rbbi_command.specs.Settings.{options_of, are_taken, are_by_table, BeginWithSettings}
 use Rattle.rbbi_command.specs.Words.{Request, IsCommandLine, AreNoForm, name_of, taken_by, operands_of, AllFit}
@@ -17,7 +17,8 @@ command_at word =
     else (if bytes_eq word (codes "same") then Some Same
     else (if bytes_eq word (codes "breaks") then Some Breaks
     else (if bytes_eq word (codes "run") then Some Run
-    else (if bytes_eq word (codes "conform") then Some Conform else (if bytes_eq word (codes "demo") then Some Demo else None)))))))
+    else (if bytes_eq word (codes "conform") then Some Conform
+    else (if bytes_eq word (codes "tally") then Some Tally else (if bytes_eq word (codes "demo") then Some Demo else None))))))))
 
 named : (command : Command) → command_at (name_of command) ≡ Some command
 named Check = refl
@@ -27,6 +28,7 @@ named Same = refl
 named Breaks = refl
 named Run = refl
 named Conform = refl
+named Tally = refl
 named Demo = refl
 
 -- a word is that of one command alone

@@ -1,7 +1,7 @@
 -- The forms of the command line.
 use Rattle.std.specs.Prelude.{◌≡◌, Bool, true, false, List, [], ◌∷◌, ℕ, length, codes}
 use Rattle.rbbi_command.specs.declared.words.command.Command.{Command}
-use Rattle.rbbi_command.specs.declared.words.command.Command.TheVariants.{Check, Compile, Upgrade, Same, Breaks, Run, Conform, Demo}
+use Rattle.rbbi_command.specs.declared.words.command.Command.TheVariants.{Check, Compile, Upgrade, Same, Breaks, Run, Conform, Tally, Demo}
 use Rattle.rbbi_command.specs.declared.words.command.Takes.{Takes}
 use Rattle.rbbi_command.specs.declared.words.command.Takes.TheVariants.{NoOptions, RuleOptions, RuleOptionsOrTable, RuleOptionsOrTableAndUnit}
 use Rattle.rbbi_command.specs.declared.words.command.Operand.{Operand}
@@ -20,6 +20,7 @@ name_of Same = codes "same"
 name_of Breaks = codes "breaks"
 name_of Run = codes "run"
 name_of Conform = codes "conform"
+name_of Tally = codes "tally"
 name_of Demo = codes "demo"
 
 -- which options a command takes
@@ -31,6 +32,7 @@ taken_by Same = RuleOptions
 taken_by Breaks = RuleOptionsOrTableAndUnit
 taken_by Run = RuleOptionsOrTableAndUnit
 taken_by Conform = RuleOptionsOrTable
+taken_by Tally = RuleOptionsOrTable
 taken_by Demo = NoOptions
 
 -- what each operand of a command is, in order, where the first is a table file or isn't
@@ -45,6 +47,8 @@ operands_of Run false = Read Rules ∷ Read Text ∷ Read Script ∷ []
 operands_of Run true = Read Table ∷ Read Text ∷ Read Script ∷ []
 operands_of Conform false = Read Rules ∷ Read Tests ∷ []
 operands_of Conform true = Read Table ∷ Read Tests ∷ []
+operands_of Tally false = Read Rules ∷ Read Text ∷ Read Script ∷ []
+operands_of Tally true = Read Table ∷ Read Text ∷ Read Script ∷ []
 operands_of Demo by_table = Count ∷ []
 
 -- the word is of the operand's form: any word names a file

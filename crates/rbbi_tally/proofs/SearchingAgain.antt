@@ -1,6 +1,7 @@
 -- One step of searching again: what is skipped, what is found, and where the old and the new segments can't meet yet.
-use Rattle.std.proofs.Common.{◌≡◌, ℕ, ◌+◌, ◌-◌, ◌<◌, ◌≤◌, ◌++◌, ◌∷◌, [], List, length, get_or, sym, ap, ◌∙◌, subst, ⊎_elim, arith, append_assoc}
+use Rattle.std.proofs.Common.{◌≡◌, ◌≢◌, MatchBool, eqb, ℕ, ◌+◌, ◌-◌, ◌<◌, ◌≤◌, ◌++◌, ◌∷◌, [], Bool, true, false, List, length, get_or, sym, ap, ◌∙◌, subst, ⊎_elim, arith, append_assoc}
 use Rattle.std.specs.List.{AllByRecursion}
+use Rattle.std.proofs.lemmas.Bool.{MatchBool-at_true, MatchBool-at_false, both_ways, cases_lt, cases_Bool, eqb-true, eqb-false}
 use Rattle.std.proofs.lemmas.List.{append-nil}
 use Rattle.rbbi_model.specs.Words.{most_characters}
 use Rattle.rbbi_model.specs.Lists.{Member, IsRising}
@@ -12,7 +13,7 @@ use Rattle.rbbi_model.proofs.Rising.{rising_tail, not_less_than_first}
 use Rattle.rbbi_tally.specs.declared.edit.Edit.{Edit}
 use Rattle.rbbi_tally.specs.inner.Segments.{Segment, segment_at, AreSegments, place_of}
 use Rattle.rbbi_tally.specs.inner.Counting.{IsRecounted, AreCounted}
-use Rattle.rbbi_tally.specs.inner.Searching.{places_to, IsSkipped, IsMet, AreFound}
+use Rattle.rbbi_tally.specs.inner.Searching.{places_to, IsSkipped, IsGoneTo, IsMet, AreFound, AreMet}
 use Rattle.rbbi_tally.proofs.SegmentLists.{segments_push, segments_go_on}
 use Rattle.rbbi_tally.proofs.Counted.{counted_on, recounted_on, count_few}
 
@@ -39,6 +40,14 @@ not_there (s ∷ gone) rest end p rise passed before here =
     (λ later. not_there gone rest end p (rising_tail s.at (places_to (gone ++ rest) end) rise) passed.1 before later)
     here
 
+-- whether two places are the same, where the one is told
+pub told_at : (a b p : ℕ) → a ≡ b → MatchBool (eqb a p) (b ≡ p) (b ≢ p)
+told_at a b p same =
+    ⊎_elim
+    (λ is. subst (λ k. MatchBool k (b ≡ p) (b ≢ p)) (sym is) (sym same ∙ eqb-true a p is))
+    (λ differ. subst (λ k. MatchBool k (b ≡ p) (b ≢ p)) (sym differ) (λ is. eqb-false a p differ (same ∙ is)))
+    (cases_Bool (eqb a p))
+
 module _ (table : Table) (y : List ℕ) (edit : Edit) (start : ℕ) (old : List Segment) (end : ℕ) where
   -- the next search may begin
   pub record IsReady (found : List Segment) (place : ℕ) (rest : List Segment) (before after : List ℕ) : Type 0 where
@@ -51,7 +60,7 @@ module _ (table : Table) (y : List ℕ) (edit : Edit) (start : ℕ) (old : List 
   counted_now found place rest before after counted are =
       counted_on are.gone rest found before after (subst (λ l. AreCounted l before) are.parted counted) are.counted
 
-  pub skipped_found : (found : List Segment) (place : ℕ) (rest rest' : List Segment) (before mid after : List ℕ) → edit.at + edit.inserted ≤ place →
+  skipped_found : (found : List Segment) (place : ℕ) (rest rest' : List Segment) (before mid after : List ℕ) → edit.at + edit.inserted ≤ place →
       AreFound table y edit start old end found place rest before mid → IsSkipped (place - edit.inserted + edit.removed) rest rest' mid after →
       AreFound table y edit start old end found place rest' before after
   skipped_found found place rest rest' before mid after behind are skipped =
@@ -70,13 +79,13 @@ module _ (table : Table) (y : List ℕ) (edit : Edit) (start : ℕ) (old : List 
             (recounted_on are.gone gone found [] before mid after are.counted skipped.are_passed.counted);
       }
 
-  pub ready_before : (found : List Segment) (place : ℕ) (rest : List Segment) (before after : List ℕ) → length y + edit.removed ≡ end + edit.inserted →
+  ready_before : (found : List Segment) (place : ℕ) (rest : List Segment) (before after : List ℕ) → length y + edit.removed ≡ end + edit.inserted →
       edit.at + edit.removed ≤ end → place < edit.at + edit.inserted → AreFound table y edit start old end found place rest before after →
       IsReady found place rest before after
   ready_before found place rest before after long within less are =
       record { are_found = are; not_met = λ met. omega (arith, met.behind); short = omega arith }
 
-  pub ready_behind : (found : List Segment) (place : ℕ) (rest rest' : List Segment) (before mid after : List ℕ) →
+  ready_behind : (found : List Segment) (place : ℕ) (rest rest' : List Segment) (before mid after : List ℕ) →
       length y + edit.removed ≡ end + edit.inserted → place ≤ length y → IsRising (places_to old end) → edit.at + edit.inserted ≤ place →
       AreFound table y edit start old end found place rest before mid → IsSkipped (place - edit.inserted + edit.removed) rest rest' mid after →
       (place_of rest' end ≡ place - edit.inserted + edit.removed → ⊥) → IsReady found place rest' before after
@@ -93,6 +102,36 @@ module _ (table : Table) (y : List ℕ) (edit : Edit) (start : ℕ) (old : List 
         not_met = λ met. not_there now.gone rest' end p rise' passed past (subst (λ l. Member (places_to l end) p) now.parted met.old_place);
         short = omega (arith, past, first_up_to rest' end (rising_places_right now.gone rest' end rise'));
       }
+
+  -- what the search has come to at a place
+  module _ (found : List Segment) (place : ℕ) (rest rest' : List Segment) (before mid after : List ℕ) (meets : Bool)
+      (long : length y + edit.removed ≡ end + edit.inserted) (within : edit.at + edit.removed ≤ end) (up_to : place ≤ length y)
+      (rise : IsRising (places_to old end)) (are : AreFound table y edit start old end found place rest before mid)
+      (gone : IsGoneTo edit end place meets rest rest' mid after) where
+    pub gone_ready : meets ≡ false → IsReady found place rest' before after
+    gone_ready none =
+        ⊎_elim
+        (λ less.
+        let still = gone.near less in
+        subst (λ k. IsReady found place rest' before k) (sym still.2)
+        (subst (λ r. IsReady found place r before mid) (sym still.1) (ready_before found place rest before mid long within less are)))
+        (λ behind.
+        let skipped = gone.behind behind in
+        ready_behind found place rest rest' before mid after long up_to rise behind are skipped.0 (MatchBool-at_false _ _ none skipped.1))
+        (cases_lt place (edit.at + edit.inserted))
+
+    pub gone_met : meets ≡ true → AreMet table y edit start old end found place rest' before after
+    gone_met here =
+        ⊎_elim
+        (λ less. let still = gone.near less in absurd (both_ways meets still.0 here))
+        (λ behind.
+        let skipped = gone.behind behind in
+        record {
+          are_found = skipped_found found place rest rest' before mid after behind are skipped.0;
+          behind = behind;
+          meets = MatchBool-at_true _ _ here skipped.1;
+        })
+        (cases_lt place (edit.at + edit.inserted))
 
   pub ready_room : (found : List Segment) (place : ℕ) (rest : List Segment) (before after : List ℕ) → IsReady found place rest before after →
       length found + start < length y

@@ -9,7 +9,7 @@ ghost use Rattle.rbbi_tally.specs.inner.Segments.{segment_at, AreSegments};
 ghost use Rattle.rbbi_tally.specs.inner.Pieces.{segments_by, segments_from, ArePieces, IsSpot};
 ghost use Rattle.rbbi_tally.specs.inner.Pieces.{IsUpTo};
 ghost use Rattle.rbbi_tally.specs.inner.Counting.{IsRecounted, AreCounted};
-ghost use Rattle.rbbi_tally.specs.inner.Searching.{AreMet, places_to, reads_of};
+ghost use Rattle.rbbi_tally.specs.inner.Searching.{AreMet, IsGoneTo, places_to, reads_of};
 
 use crate::edit::Edit;
 use crate::kept::Kept;
@@ -66,6 +66,35 @@ pub(crate) struct Met {
     pub(crate) spot: Spot,
 }
 
+/// Goes on to a place of the new text. Behind the edit the old segments before it are taken from
+/// the counts, and it is told whether an old segment begins there.
+fn meets(
+    pieces: &[Piece],
+    counts: &mut [u32],
+    spot: &mut Spot,
+    place: u32,
+    edit: Edit,
+    end: u32,
+) -> bool
+    requires pieces { ArePieces pieces.now }
+    requires spot { IsSpot pieces.now spot.old }
+    requires counted { AreCounted (segments_from pieces.now spot.old) counts.old }
+    requires within { edit.at + edit.removed ≤ end }
+    requires reach { place + edit.removed ≤ end + edit.inserted }
+    requires small { edit.at + edit.inserted < 2 ^ 32 }
+    ensures spot { IsSpot pieces.now spot.new }
+    ensures order { IsUpTo spot.old spot.new }
+    ensures gone_to { IsGoneTo edit end place result (segments_from pieces.now spot.old)
+        (segments_from pieces.now spot.new) counts.old counts.new }
+{
+    if place < edit.at + edit.inserted {
+        return false;
+    }
+    let old = place - edit.inserted + edit.removed;
+    *spot = skip(pieces, counts, *spot, old);
+    place_at(pieces, *spot, end) == old
+}
+
 /// Searches the new text from a boundary on, until a place behind the edit is an old boundary
 /// moved. It keeps and counts what it finds, and takes from the counts the old segments from
 /// `first` up to where they meet. `end` is the length of the old text.
@@ -110,12 +139,8 @@ pub(crate) fn search_again<T: Chars, L: Ledger>(
     let mut place = start;
     let mut spot = first;
     loop {
-        if place >= edit.at + edit.inserted {
-            let old = place - edit.inserted + edit.removed;
-            spot = skip(pieces, counts, spot, old);
-            if place_at(pieces, spot, end) == old {
-                return Met { place, spot };
-            }
+        if meets(pieces, counts, &mut spot, place, edit, end) {
+            return Met { place, spot };
         }
         place = search_from(table, text, place, start, items, counts, marks, steps);
     }

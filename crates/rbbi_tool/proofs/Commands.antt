@@ -3,7 +3,7 @@ use Rattle.std.proofs.Common.{◌≡◌, ◌<◌, ◌≤◌, inl, inr, ℕ, zero
 use Rattle.std.specs.Prelude.{Some, IfSome, slice_get, if◌then◌else◌, ◌==◌}
 use Rattle.std.proofs.lemmas.Bool.{cond_both}
 use Rattle.rbbi_command.specs.declared.words.command.Command.{Command}
-use Rattle.rbbi_command.specs.declared.words.command.Command.TheVariants.{Check, Compile, Upgrade, Same, Breaks, Run, Conform, Demo}
+use Rattle.rbbi_command.specs.declared.words.command.Command.TheVariants.{Check, Compile, Upgrade, Same, Breaks, Run, Conform, Tally, Demo}
 use Rattle.rbbi_command.specs.declared.words.command.Operand.{Operand}
 use Rattle.rbbi_command.specs.declared.words.command.Operand.TheVariants.{Read, Written}
 use Rattle.rbbi_command.specs.declared.files.Role.TheVariants.{Rules, Table}
@@ -57,6 +57,8 @@ command_told Breaks request inputs outcome is count (basis, passed, (x, taken, (
     told_of request outcome _ told (record { status = omega arith; file = tt })
 command_told Run request inputs outcome is count (basis, passed, (x, taken, (commands, read, (replies, are, told)))) =
     told_of request outcome _ told (record { status = omega arith; file = tt })
+command_told Tally request inputs outcome is count (basis, passed, (x, taken, (commands, read, tell))) =
+    told_of request outcome _ tell.is (record { status = omega arith; file = tt })
 command_told Demo request inputs outcome is count (number, written, (rules, passed, told)) =
     told_of request outcome _ told.is (record { status = omega arith; file = tt })
 command_told Conform request inputs outcome is count (basis, passed, (tests, read, (verdicts, are, told))) =

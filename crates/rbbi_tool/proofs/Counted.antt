@@ -2,13 +2,12 @@
 use Rattle.std.proofs.Common.{◌≡◌, ℕ, ◌+◌, ◌<◌, ◌≤◌, List, [], ◌∷◌, length, take, get_or, refl, ap, ◌∙◌, subst, inl, inr, ⊎_elim, arith}
 use Rattle.std.specs.Prelude.{◌⊎◌, sum_by, Option, IfSome}
 use Rattle.std.proofs.lemmas.List.Sums.{sum_by-append, sum_by-cons, sum_by_more, sum_by-take-le}
-use Rattle.rbbi_model.specs.declared.unit.Unit.{Unit as TextUnit}
 use Rattle.rbbi_model.specs.Tables.{Table}
 use Rattle.rbbi_model.specs.Scripts as model
 use Rattle.rbbi_model.specs.Costs.{script_cost, breaks_cost}
 use Rattle.rbbi_text.specs.Steps.{RisesUpTo}
 use Rattle.rbbi_command.specs.declared.words.command.Command.{Command}
-use Rattle.rbbi_command.specs.declared.words.command.Command.TheVariants.{Check, Compile, Upgrade, Same, Breaks, Run, Conform, Demo}
+use Rattle.rbbi_command.specs.declared.words.command.Command.TheVariants.{Check, Compile, Upgrade, Same, Breaks, Run, Conform, Tally, Demo}
 use Rattle.rbbi_command.specs.declared.files.Role.{Role}
 use Rattle.rbbi_command.specs.declared.files.Role.TheVariants as role
 use Rattle.rbbi_command.specs.declared.files.Source.{Source}
@@ -17,8 +16,10 @@ use Rattle.rbbi_command.specs.Words.{Request, IsCommandLine}
 use Rattle.rbbi_command.specs.Files.{sources_of}
 use Rattle.rbbi_command.specs.Inputs.{Inputs, no_inputs, put, with_files, inputs_of}
 use Rattle.rbbi_command.specs.Reads.{MakesSomeReads, AreRead}
-use Rattle.rbbi_tool.specs.Basis.{Basis, IsTableOf}
-use Rattle.rbbi_tool.specs.Steps.{counted, named_bytes, ReadsForBreaks, ReadsForScript, CommandReads, RequestReads}
+use Rattle.rbbi_tool.specs.Texts.{text_stage}
+use Rattle.rbbi_tool.specs.Scripts.{script_stage}
+use Rattle.rbbi_tool.specs.Basis.{Basis, IsTableOf, basis_stage}
+use Rattle.rbbi_tool.specs.Steps.{counted, named_bytes, ReadsForBreaks, ReadsForScript, tally_cost, CommandReads, RequestReads}
 use Rattle.rbbi_tool.specs.inner.Steps.{given_bytes, ReadsInOrder}
 use Rattle.rbbi_tool.specs.inner.Prepared.{ReadsByEnd}
 use Rattle.rbbi_command.proofs.Forms.{same_request}
@@ -62,9 +63,10 @@ module _ (basis : Stage Basis) (text : Stage (List ℕ)) (bytes before between a
     reads = rises_twice bytes (breaks_cost table x 0) before between after paid cost;
   })
 
-  pub replies_read : (script : Stage (List model.Command)) (unit : TextUnit) (commands : List model.Command) → script.passes commands
-      → RisesUpTo (script_cost table unit x commands) between after → RisesUpTo bytes before after ⊎ ReadsForScript basis text script unit bytes before after
-  replies_read script unit commands script_is cost = inr (record {
+  pub replies_read : (script : Stage (List model.Command)) (cost_of : Table → List ℕ → List model.Command → ℕ) (commands : List model.Command)
+      → script.passes commands → RisesUpTo (cost_of table x commands) between after
+      → RisesUpTo bytes before after ⊎ ReadsForScript basis text script cost_of bytes before after
+  replies_read script cost_of commands script_is cost = inr (record {
     by = by;
     table = table;
     x = x;
@@ -73,7 +75,7 @@ module _ (basis : Stage Basis) (text : Stage (List ℕ)) (bytes before between a
     table_is = table_is;
     text_is = text_is;
     script_is = script_is;
-    reads = rises_twice bytes (script_cost table unit x commands) before between after paid cost;
+    reads = rises_twice bytes (cost_of table x commands) before between after paid cost;
   })
 
 -- where nothing is read, nothing is over the bound
@@ -85,6 +87,7 @@ command_reads_none Same request inputs bytes before after none = tt
 command_reads_none Compile request inputs bytes before after none = tt
 command_reads_none Breaks request inputs bytes before after none = inl (rises_further 0 bytes before after none (omega arith))
 command_reads_none Run request inputs bytes before after none = inl (rises_further 0 bytes before after none (omega arith))
+command_reads_none Tally request inputs bytes before after none = inl (rises_further 0 bytes before after none (omega arith))
 command_reads_none Conform request inputs bytes before after none = tt
 command_reads_none Demo request inputs bytes before after none = tt
 
@@ -122,6 +125,24 @@ module _ (held : List ℕ → List ℕ) where
   given_named : (request : Request) → given_bytes (inputs_of held (sources_of request)) ≤ named_bytes held request
   given_named request = omega (arith, files_counted (sources_of request) no_inputs)
 
+-- a script reads no more than may be
+script_further : (basis : Stage Basis) (text : Stage (List ℕ)) (script : Stage (List model.Command)) (cost_of : Table → List ℕ → List model.Command → ℕ)
+    (few many before after : ℕ) → few ≤ many → RisesUpTo few before after ⊎ ReadsForScript basis text script cost_of few before after
+    → RisesUpTo many before after ⊎ ReadsForScript basis text script cost_of many before after
+script_further basis text script cost_of few many before after less =
+    ⊎_elim (λ paid. inl (rises_further few many before after paid less))
+    (λ r. inr (record {
+      by = r.by;
+      table = r.table;
+      x = r.x;
+      commands = r.commands;
+      passes = r.passes;
+      table_is = r.table_is;
+      text_is = r.text_is;
+      script_is = r.script_is;
+      reads = rises_further (few + cost_of r.table r.x r.commands) (many + cost_of r.table r.x r.commands) before after r.reads (omega (arith, less));
+    }))
+
 -- a command reads no more than may be
 reads_further : (command : Command) (request : Request) (inputs : Inputs) (few many before after : ℕ) → few ≤ many
     → CommandReads command request inputs few before after → CommandReads command request inputs many before after
@@ -144,20 +165,10 @@ reads_further Breaks request inputs few many before after less reads =
     }))
     reads
 reads_further Run request inputs few many before after less reads =
-    ⊎_elim (λ paid. inl (rises_further few many before after paid less))
-    (λ r. inr (record {
-      by = r.by;
-      table = r.table;
-      x = r.x;
-      commands = r.commands;
-      passes = r.passes;
-      table_is = r.table_is;
-      text_is = r.text_is;
-      script_is = r.script_is;
-      reads = rises_further (few + script_cost r.table request.options.unit r.x r.commands) (many + script_cost r.table request.options.unit r.x r.commands)
-          before after r.reads (omega (arith, less));
-    }))
-    reads
+    script_further (basis_stage request.options inputs) (text_stage inputs.text) (script_stage inputs.script) (λ table. script_cost table request.options.unit)
+    few many before after less reads
+reads_further Tally request inputs few many before after less reads =
+    script_further (basis_stage request.options inputs) (text_stage inputs.text) (script_stage inputs.script) tally_cost few many before after less reads
 
 -- no file is read
 pub reads_nothing : (words : List (List ℕ)) (contents : Option (List ℕ → List ℕ)) (reads : List ℕ → ℕ) (steps : ℕ)

@@ -2,7 +2,7 @@
 use Rattle.std.proofs.Common.{◌≡◌, ◌≢◌, refl, ℕ, Bool, true, false, Option, List, [], ◌∷◌, sym, subst, inl, inr}
 use Rattle.rbbi_model.specs.Rules.{Rule}
 use Rattle.rbbi_command.specs.declared.words.command.Command.{Command}
-use Rattle.rbbi_command.specs.declared.words.command.Command.TheVariants.{Check, Compile, Upgrade, Same, Breaks, Run, Conform, Demo}
+use Rattle.rbbi_command.specs.declared.words.command.Command.TheVariants.{Check, Compile, Upgrade, Same, Breaks, Run, Conform, Tally, Demo}
 use Rattle.rbbi_command.specs.declared.words.setting.Property.{Property}
 use Rattle.rbbi_command.specs.declared.inputs.Input.{Input}
 use Rattle.rbbi_command.specs.declared.refusal.Subject.{Subject}
@@ -143,6 +143,10 @@ command_fault Run request inputs r (inl is) = basis_fault request.options.by_tab
 command_fault Run request inputs r (inr (basis, passed, inl is)) = text_fault inputs.text r is
 command_fault Run request inputs r (inr (basis, passed, inr (x, taken, inl is))) = lines_fault_is _ is.error r is.not_memory is.is
 command_fault Run request inputs r (inr (basis, passed, inr (x, taken, inr (commands, read, never)))) = absurd never
+command_fault Tally request inputs r (inl is) = basis_fault request.options.by_table request.options inputs r is
+command_fault Tally request inputs r (inr (basis, passed, inl is)) = text_fault inputs.text r is
+command_fault Tally request inputs r (inr (basis, passed, inr (x, taken, inl is))) = lines_fault_is _ is.error r is.not_memory is.is
+command_fault Tally request inputs r (inr (basis, passed, inr (x, taken, inr (commands, read, never)))) = absurd never
 command_fault Conform request inputs r (inl is) = basis_fault request.options.by_table request.options inputs r is
 command_fault Conform request inputs r (inr (basis, passed, inl is)) = lines_fault_is _ is.error r is.not_memory is.is
 command_fault Conform request inputs r (inr (basis, passed, inr (tests, read, never))) = absurd never

@@ -4,6 +4,8 @@ pub mod Handing
 pub mod Emitting
 pub mod Listing
 pub mod Replying
+pub mod Saying
+pub mod Telling
 pub mod Numbers
 pub mod Bases
 pub mod Verdicts
@@ -15,6 +17,8 @@ pub mod LeastFaults
 pub mod OneReading
 pub mod SameMarks
 pub mod RuleFiles
+pub mod CountLists
+pub mod Tallied
 pub mod OneOutcome
 pub mod Searched
 pub mod Counted

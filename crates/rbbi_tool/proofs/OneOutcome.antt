@@ -45,7 +45,7 @@ use Rattle.rbbi_conform.specs.Laws.{HaveOneTestList, HasOneVerdict}
 use Rattle.rbbi_demo.specs.declared.summary.Summary.{Summary}
 use Rattle.rbbi_demo.specs.Summaries.{IsSummary}
 use Rattle.rbbi_command.specs.declared.words.command.Command.{Command}
-use Rattle.rbbi_command.specs.declared.words.command.Command.TheVariants.{Check, Compile, Upgrade, Same, Breaks, Run, Conform, Demo}
+use Rattle.rbbi_command.specs.declared.words.command.Command.TheVariants.{Check, Compile, Upgrade, Same, Breaks, Run, Conform, Tally, Demo}
 use Rattle.rbbi_command.specs.declared.words.setting.Property.{Property}
 use Rattle.rbbi_command.specs.declared.inputs.Input.{Input}
 use Rattle.rbbi_command.specs.declared.files.Source.{Source}
@@ -74,6 +74,7 @@ use Rattle.rbbi_tool.specs.Command.Same.{IsComparison, comparison_stage, told_of
 use Rattle.rbbi_tool.specs.Command.Breaks.{boundaries_stage}
 use Rattle.rbbi_tool.specs.Command.Run.{AreRepliesFrom, replies_stage}
 use Rattle.rbbi_tool.specs.Command.Conform.{told_verdicts, verdicts_stage}
+use Rattle.rbbi_tool.specs.Command.Tally.{counts_stage}
 use Rattle.rbbi_tool.specs.Command.Demo.{demo_rules, number_stage, summary_line, summary_stage}
 use Rattle.rbbi_tool.specs.Scripts.{script_stage, tests_stage}
 use Rattle.rbbi_tool.specs.Program.{nth, words_stage, command_stage, request_stage, run_stage, IsOutcome}
@@ -81,6 +82,7 @@ use Rattle.rbbi_tool.specs.Causes.{TellOneDifference}
 use Rattle.rbbi_command.proofs.Forms.{same_request}
 use Rattle.rbbi_tool.proofs.StageLemmas.{IsSettled, settled, determined_both, settled_both}
 use Rattle.rbbi_tool.proofs.OneReading.{script_determined, tests_determined, same_verdicts}
+use Rattle.rbbi_tool.proofs.Tallied.{tally_determined}
 use Rattle.rbbi_tool.proofs.LeastFaults.{same_fault, meaning_excludes}
 use Rattle.rbbi_tool.proofs.SameMarks.{never_both, same_canonical}
 
@@ -465,6 +467,12 @@ module _ (laws : Laws) where
       by_basis request.options inputs (λ basis. followed_by text (λ x. followed_by script (replies_stage basis unit x)))
       (λ basis. determined_both text (λ x. followed_by script (replies_stage basis unit x)) (text_determined inputs.text)
       (λ x. determined_both script (replies_stage basis unit x) (script_determined laws.scripts inputs.script) (replies_determined basis unit x)))
+  command_settled Tally request inputs =
+      let text = text_stage inputs.text in
+      let script = script_stage inputs.script in
+      by_basis request.options inputs (λ basis. followed_by text (λ x. followed_by script (counts_stage basis x)))
+      (λ basis. determined_both text (λ x. followed_by script (counts_stage basis x)) (text_determined inputs.text)
+      (λ x. determined_both script (counts_stage basis x) (script_determined laws.scripts inputs.script) (tally_determined basis (same_boundaries basis) x)))
   command_settled Conform request inputs =
       let tests = tests_stage inputs.tests in
       by_basis request.options inputs (λ basis. followed_by tests (verdicts_stage basis))

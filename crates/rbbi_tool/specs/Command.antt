@@ -6,4 +6,5 @@ pub mod Same
 pub mod Breaks
 pub mod Run
 pub mod Conform
+pub mod Tally
 pub mod Demo

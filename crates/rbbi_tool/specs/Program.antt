@@ -1,7 +1,7 @@
 -- What a run of the program answers, where the files tell what they hold: the exit status, and what is written.
 use Rattle.std.specs.Prelude.{◌≡◌, ◌⊎◌, ℕ, List, [], slice_index_or}
 use Rattle.rbbi_command.specs.declared.words.command.Command.{Command}
-use Rattle.rbbi_command.specs.declared.words.command.Command.TheVariants.{Check, Compile, Upgrade, Same, Breaks, Run, Conform, Demo}
+use Rattle.rbbi_command.specs.declared.words.command.Command.TheVariants.{Check, Compile, Upgrade, Same, Breaks, Run, Conform, Tally, Demo}
 use Rattle.rbbi_command.specs.declared.refusal.Refusal.{Refusal}
 use Rattle.rbbi_command.specs.declared.refusal.Refusal.TheVariants.{Usage}
 use Rattle.rbbi_command.specs.Stages.{Stage, followed_by}
@@ -16,6 +16,7 @@ use Rattle.rbbi_tool.specs.Command.Same.{same_stage}
 use Rattle.rbbi_tool.specs.Command.Breaks.{breaks_stage}
 use Rattle.rbbi_tool.specs.Command.Run.{play_stage}
 use Rattle.rbbi_tool.specs.Command.Conform.{conform_stage}
+use Rattle.rbbi_tool.specs.Command.Tally.{tally_stage}
 use Rattle.rbbi_tool.specs.Command.Demo.{demo_stage}
 
 -- what the words ask for
@@ -35,6 +36,7 @@ command_stage Same request inputs = same_stage request.options inputs
 command_stage Breaks request inputs = breaks_stage request.options inputs
 command_stage Run request inputs = play_stage request.options inputs
 command_stage Conform request inputs = conform_stage request.options inputs
+command_stage Tally request inputs = tally_stage request.options inputs
 command_stage Demo request inputs = demo_stage (nth request.operands 0)
 
 -- what a request is answered over files that hold this: first whether a file is too long, in the order of the words

@@ -1,12 +1,12 @@
 -- How much a run of the program reads: characters of its text, and bytes of its other files.
-use Rattle.std.specs.Prelude.{◌⊎◌, ℕ, ◌+◌, List, length, sum_by}
-use Rattle.rbbi_model.specs.declared.unit.Unit.{Unit as TextUnit}
+use Rattle.std.specs.Prelude.{◌⊎◌, ℕ, ◌+◌, List, [], ◌∷◌, length, sum_by}
 use Rattle.rbbi_model.specs.Tables.{Table}
 use Rattle.rbbi_model.specs.Scripts as model
 use Rattle.rbbi_model.specs.Costs.{script_cost, breaks_cost}
 use Rattle.rbbi_text.specs.Steps.{RisesUpTo}
+use Rattle.rbbi_tally.specs.Costs.{opening_cost, tally_edit_cost}
 use Rattle.rbbi_command.specs.declared.words.command.Command.{Command}
-use Rattle.rbbi_command.specs.declared.words.command.Command.TheVariants.{Breaks, Run}
+use Rattle.rbbi_command.specs.declared.words.command.Command.TheVariants.{Breaks, Run, Tally}
 use Rattle.rbbi_command.specs.declared.files.Role.{Role}
 use Rattle.rbbi_command.specs.declared.files.Role.TheVariants.{Text}
 use Rattle.rbbi_command.specs.Stages.{Stage}
@@ -16,6 +16,7 @@ use Rattle.rbbi_command.specs.Inputs.{Inputs, inputs_of}
 use Rattle.rbbi_tool.specs.Texts.{text_stage}
 use Rattle.rbbi_tool.specs.Scripts.{script_stage}
 use Rattle.rbbi_tool.specs.Basis.{Basis, IsTableOf, basis_stage}
+use Rattle.rbbi_tool.specs.Command.Tally.{text_after}
 
 -- the bytes of a file that count: all, but none of a text, whose characters count as they are read
 abbrev pub counted : Role → List ℕ → ℕ
@@ -36,9 +37,9 @@ pub record ReadsForBreaks (basis : Stage Basis) (text : Stage (List ℕ)) (bytes
   pub text_is : text.passes x
   pub reads : RisesUpTo (bytes + breaks_cost table x 0) before after
 
--- There are a table, a text and commands: so many bytes are read, and what the commands cost over the text, in the unit.
-pub record ReadsForScript (basis : Stage Basis) (text : Stage (List ℕ)) (script : Stage (List model.Command)) (unit : TextUnit) (bytes before after : ℕ) :
-    Type 0 where
+-- There are a table, a text and commands: so many bytes are read, and what the commands cost over the text.
+pub record ReadsForScript (basis : Stage Basis) (text : Stage (List ℕ)) (script : Stage (List model.Command))
+    (cost : Table → List ℕ → List model.Command → ℕ) (bytes before after : ℕ) : Type 0 where
   pub by : Basis
   pub table : Table
   pub x : List ℕ
@@ -47,7 +48,27 @@ pub record ReadsForScript (basis : Stage Basis) (text : Stage (List ℕ)) (scrip
   pub table_is : IsTableOf table by
   pub text_is : text.passes x
   pub script_is : script.passes commands
-  pub reads : RisesUpTo (bytes + script_cost table unit x commands) before after
+  pub reads : RisesUpTo (bytes + cost table x commands) before after
+
+-- what an edit costs that comes to this: nothing where it is refused
+abbrev pub cost_where_accepted : model.Edit → ℕ → ℕ
+cost_where_accepted (model.Refused reply) cost = 0
+cost_where_accepted (model.Accepted text length) cost = cost
+
+-- the cost of keeping the counts under a command, and under commands
+abbrev pub counting_cost : Table → List ℕ → model.Command → ℕ
+counting_cost table x (model.Ask question) = 0
+counting_cost table x (model.Replace at removed inserted) =
+    cost_where_accepted (model.edit x at removed inserted) (tally_edit_cost table x at removed inserted)
+counting_cost table x model.ShowText = 0
+
+abbrev pub countings_cost : Table → List ℕ → List model.Command → ℕ
+countings_cost table x [] = 0
+countings_cost table x (command ∷ commands) = counting_cost table x command + countings_cost table (text_after x command) commands
+
+-- the cost of counting the text's segments, and of keeping the counts under the commands
+abbrev pub tally_cost : Table → List ℕ → List model.Command → ℕ
+tally_cost table x commands = opening_cost table x + countings_cost table x commands
 
 -- What a command reads, given its files: at most so many bytes, or also what it costs to answer, where it comes to that. Of the
 -- other commands nothing is said.
@@ -56,7 +77,11 @@ CommandReads Breaks request inputs bytes before after =
     RisesUpTo bytes before after ⊎ ReadsForBreaks (basis_stage request.options inputs) (text_stage inputs.text) bytes before after
 CommandReads Run request inputs bytes before after =
     RisesUpTo bytes before after
-    ⊎ ReadsForScript (basis_stage request.options inputs) (text_stage inputs.text) (script_stage inputs.script) request.options.unit bytes before after
+    ⊎ ReadsForScript (basis_stage request.options inputs) (text_stage inputs.text) (script_stage inputs.script)
+    (λ table. script_cost table request.options.unit) bytes before after
+CommandReads Tally request inputs bytes before after =
+    RisesUpTo bytes before after
+    ⊎ ReadsForScript (basis_stage request.options inputs) (text_stage inputs.text) (script_stage inputs.script) tally_cost bytes before after
 CommandReads command request inputs bytes before after = Unit {0}
 
 -- what a request reads over files that hold this

@@ -4,4 +4,5 @@ pub mod Judging
 pub mod Comparing
 pub mod Causes
 pub mod Steps
+pub mod Tallying
 pub mod Prepared

@@ -16,6 +16,7 @@ ghost use Rattle.rbbi_command.specs.Delivery.{EachHoldsOrIsOutputFile};
 ghost use Rattle.rbbi_tool.specs.inner.Prepared.{bytes_of, cost_of, outcome_of, rest_of};
 
 use crate::prepared::{Lines, Prepared};
+use crate::tallying::put_tally;
 use rbbi_command::deliver;
 use rbbi_io::{Files, Sink, WriteErr, put_all, put_when_full};
 use rbbi_script::{Commands, perform, say_bound};
@@ -131,6 +132,9 @@ fn put_lines<K: Sink, L: Ledger>(
         }
         Lines::Replies(table, text, unit, commands) => {
             put_replies_over(alloc, &table, text, unit, &commands, out, steps)
+        }
+        Lines::Counts(table, text, commands) => {
+            put_tally(alloc, &table, text, &commands, out, steps)
         }
     }
 }

@@ -17,6 +17,7 @@ mod properties;
 mod rules;
 mod scripts;
 mod tables;
+mod tallying;
 mod texts;
 
 pub use in_memory::rbbi_in_memory;

@@ -10,7 +10,7 @@ ghost use Rattle.rbbi_tool.specs.Program.{nth, command_stage};
 ghost use Rattle.rbbi_tool.specs.Steps.{CommandReads};
 ghost use Rattle.rbbi_tool.specs.inner.Steps.{given_bytes};
 
-use crate::command::{breaks, check, compile, conform, demo, run, same, upgrade};
+use crate::command::{breaks, check, compile, conform, demo, run, same, tally, upgrade};
 use crate::prepared::Prepared;
 use rbbi_command::{Command, Inputs, Refusal, Request};
 use rbbi_text::Steps;
@@ -54,6 +54,7 @@ pub(crate) fn prepare<L: Ledger>(
         Command::Breaks => breaks(alloc, options, inputs, steps),
         Command::Run => run(alloc, options, inputs, steps),
         Command::Conform => conform(alloc, options, inputs, steps),
+        Command::Tally => tally(alloc, options, inputs, steps),
         Command::Demo => demo(alloc, word(operands, 0), steps),
     }
 }

@@ -21,4 +21,6 @@ pub(crate) enum Lines {
     Boundaries(Table, PlainText, Unit),
     /// Those of the replies to the commands of a script, over a text, by a table, in a unit.
     Replies(Table, Pieces, Unit, Commands),
+    /// Those of the counts of a text by a table, before and after the edits of a script.
+    Counts(Table, Pieces, Commands),
 }

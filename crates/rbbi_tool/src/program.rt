@@ -86,9 +86,9 @@ fn told(alloc: Global, ended: Result<Prepared, Refusal>) -> Result<Prepared, All
 /// The words are looked at first, then the files are read in the order of the words; then come the
 /// property files, then the rule file or the table file, for `same` the second rule file, then the
 /// text, and then the script or the tests. A file that the command writes is written before anything
-/// goes out, so where the write fails, nothing goes out. The lines of `breaks` and `run` go out while
-/// they are made, as soon as 65,536 bytes or more wait. After a put or a write that is refused there
-/// is no further call.
+/// goes out, so where the write fails, nothing goes out. The lines of `breaks`, `run` and `tally` go
+/// out while they are made, as soon as 65,536 bytes or more wait. After a put or a write that is
+/// refused there is no further call.
 pub fn rbbi<F: Files, K: Sink, L: Ledger>(
     alloc: Global,
     words: &Vec<String>,
@@ -114,7 +114,8 @@ pub fn rbbi<F: Files, K: Sink, L: Ledger>(
         (F.failed_reads files.old) (F.failed_reads files.new)) }
 
     // Of a text only the characters count that are read. Its lines are made within what the
-    // boundaries or the commands cost; beside that, the bytes of the other files are read once.
+    // boundaries, the commands or the counts cost; beside that, the bytes of the other files are
+    // read once.
     ensures steps { (request : Request) → IsCommandLine (map string_bytes words.now.items) request
         → IfSome (F.contents files.old)
         (λ held. RequestReads request held steps.old steps.new) }

@@ -23,6 +23,8 @@ pub enum Command {
     Run,
     /// Compare the boundaries of tests with their marks.
     Conform,
+    /// Tell how many segments of a text have each status, and again after each edit of a script.
+    Tally,
     /// Tell what comes of a session over a text that is drawn.
     Demo,
 }
@@ -59,7 +61,7 @@ impl Command {
         match self {
             Command::Check | Command::Compile | Command::Same => Takes::RuleOptions,
             Command::Breaks | Command::Run => Takes::RuleOptionsOrTableAndUnit,
-            Command::Conform => Takes::RuleOptionsOrTable,
+            Command::Conform | Command::Tally => Takes::RuleOptionsOrTable,
             Command::Upgrade | Command::Demo => Takes::NoOptions,
         }
     }
@@ -75,12 +77,12 @@ impl Command {
             (Command::Same, _) => &[Operand::Read(Role::Rules), Operand::Read(Role::OtherRules)],
             (Command::Breaks, false) => &[Operand::Read(Role::Rules), Operand::Read(Role::Text)],
             (Command::Breaks, true) => &[Operand::Read(Role::Table), Operand::Read(Role::Text)],
-            (Command::Run, false) => &[
+            (Command::Run | Command::Tally, false) => &[
                 Operand::Read(Role::Rules),
                 Operand::Read(Role::Text),
                 Operand::Read(Role::Script),
             ],
-            (Command::Run, true) => &[
+            (Command::Run | Command::Tally, true) => &[
                 Operand::Read(Role::Table),
                 Operand::Read(Role::Text),
                 Operand::Read(Role::Script),
@@ -105,6 +107,7 @@ pub(crate) fn command_of(word: &str) -> Option<Command>
         "breaks" => Some(Command::Breaks),
         "run" => Some(Command::Run),
         "conform" => Some(Command::Conform),
+        "tally" => Some(Command::Tally),
         "demo" => Some(Command::Demo),
         _ => None,
     }

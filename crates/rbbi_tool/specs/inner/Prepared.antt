@@ -8,19 +8,23 @@ use Rattle.rbbi_script.specs.Meaning.{meaning}
 use Rattle.rbbi_command.specs.Refusals.{Outcome, printed}
 use Rattle.rbbi_command.specs.declared.refusal.Refusal.{Refusal}
 use Rattle.rbbi_tool.specs.declared.prepared.Lines.{Lines}
-use Rattle.rbbi_tool.specs.declared.prepared.Lines.TheVariants.{Boundaries, Replies}
+use Rattle.rbbi_tool.specs.declared.prepared.Lines.TheVariants.{Boundaries, Replies, Counts}
 use Rattle.rbbi_tool.specs.declared.prepared.Prepared.{Prepared}
 use Rattle.rbbi_tool.specs.declared.prepared.Prepared.TheVariants.{Ready, Waiting}
+use Rattle.rbbi_tool.specs.Steps.{tally_cost}
+use Rattle.rbbi_tool.specs.inner.Tallying.{tally_lines}
 
 -- the bytes of the lines
 abbrev pub bytes_of : Lines → List ℕ
 bytes_of (Boundaries table x unit) = boundary_lines (measured_boundaries table unit x)
 bytes_of (Replies table x unit commands) = all_reply_lines (table_replies table unit x (map meaning commands))
+bytes_of (Counts table x commands) = tally_lines table x (map meaning commands)
 
 -- how much of the text is read while the lines are made
 abbrev pub cost_of : Lines → ℕ
 cost_of (Boundaries table x unit) = breaks_cost table x 0
 cost_of (Replies table x unit commands) = script_cost table unit x (map meaning commands)
+cost_of (Counts table x commands) = tally_cost table x (map meaning commands)
 
 -- all that is written
 abbrev pub outcome_of : Prepared → Outcome

@@ -7,6 +7,7 @@ mod conform;
 mod demo;
 mod run;
 mod same;
+mod tally;
 mod upgrade;
 
 pub(crate) use breaks::breaks;
@@ -16,4 +17,5 @@ pub(crate) use conform::conform;
 pub(crate) use demo::demo;
 pub(crate) use run::run;
 pub(crate) use same::same;
+pub(crate) use tally::tally;
 pub(crate) use upgrade::upgrade;

@@ -1,5 +1,6 @@
 //! The command `run`.
 ghost use Rattle.std.specs.Prelude.{◌⊎◌};
+ghost use Rattle.rbbi_model.specs.Costs.{script_cost};
 ghost use Rattle.rbbi_text.specs.Steps.{RisesUpTo};
 ghost use Rattle.rbbi_tool.specs.inner.Stages.{Meets};
 ghost use Rattle.rbbi_tool.specs.inner.Prepared.{answer_of, rest_after, ReadsByEnd};
@@ -35,8 +36,8 @@ pub(crate) fn run<L: Ledger>(
     ensures steps { let bytes = given_bytes (inputs_in inputs.now) in
         ReadsByEnd (rest_after result) (λ before end. RisesUpTo bytes before end
         ⊎ ReadsForScript (basis_stage (options_in options.now) (inputs_in inputs.now))
-        (text_stage inputs.now.text) (script_stage inputs.now.script) options.now.unit bytes
-        before end)
+        (text_stage inputs.now.text) (script_stage inputs.now.script)
+        (λ table. script_cost table options.now.unit) bytes before end)
         steps.old steps.new }
 {
     let table = table_from(alloc, options, inputs, steps)?;

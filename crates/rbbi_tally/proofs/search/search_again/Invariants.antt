@@ -4,8 +4,8 @@ use Rattle.rbbi_tally.specs.inner.Searching.{AreFound, reads_of}
 use Rattle.rbbi_tally.proofs.search.search_again.Given as goal
 
 -- what is found so far, and what is gone
-abbrev pub invariant-loop-place : goal.invariant-loop-place
-invariant-loop-place g l =
+abbrev pub invariant-loop-edit : goal.invariant-loop-edit
+invariant-loop-edit g l =
     record {
       is_spot : IsSpot l.pieces l.spot;
       order : IsUpTo l.fn.first l.spot;
@@ -17,5 +17,5 @@ invariant-loop-place g l =
       fit : l.marks ≡ l.table.slashes;
     }
 
-abbrev pub decreases-loop-place : goal.decreases-loop-place
-decreases-loop-place g l = length (g.T.Chars.characters l.text) - l.place
+abbrev pub decreases-loop-edit : goal.decreases-loop-edit
+decreases-loop-edit g l = length (g.T.Chars.characters l.text) - l.place

@@ -18,3 +18,13 @@ pub returns-in-Replies-clause-err : goal.returns-in-Replies-clause-err
 returns-in-Replies-clause-err g c =
     subst (λ l. OnErr c.put_replies_over.result (TakesFront (g.K.Sink.taken c.args.out.now) (g.K.Sink.taken c.put_replies_over.new.out) (bytes_of l)))
     (sym c.in-Replies.is) c.put_replies_over.ensures.err
+
+pub returns-in-Counts-clause-ok : goal.returns-in-Counts-clause-ok
+returns-in-Counts-clause-ok g c =
+    subst (λ l. OnOk c.put_tally.result (Takes (g.K.Sink.taken c.args.out.now) (g.K.Sink.taken c.put_tally.new.out) (bytes_of l)))
+    (sym c.in-Counts.is) c.put_tally.ensures.ok
+
+pub returns-in-Counts-clause-err : goal.returns-in-Counts-clause-err
+returns-in-Counts-clause-err g c =
+    subst (λ l. OnErr c.put_tally.result (TakesFront (g.K.Sink.taken c.args.out.now) (g.K.Sink.taken c.put_tally.new.out) (bytes_of l)))
+    (sym c.in-Counts.is) c.put_tally.ensures.err

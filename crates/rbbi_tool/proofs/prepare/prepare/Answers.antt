@@ -54,3 +54,9 @@ returns-in-Run-clause-steps g c =
     let inputs = inputs_in c.args.inputs.now in
     subst (λ k. ReadsByEnd (rest_after c.run.result) (CommandReads k (asked_by c.args.request.now) inputs (given_bytes inputs))
     c.args.steps.now c.run.new.steps) (sym c.in-Run.is) c.run.ensures.steps
+
+pub returns-in-Tally-clause-steps : goal.returns-in-Tally-clause-steps
+returns-in-Tally-clause-steps g c =
+    let inputs = inputs_in c.args.inputs.now in
+    subst (λ k. ReadsByEnd (rest_after c.tally.result) (CommandReads k (asked_by c.args.request.now) inputs (given_bytes inputs))
+    c.args.steps.now c.tally.new.steps) (sym c.in-Tally.is) c.tally.ensures.steps

@@ -1,6 +1,7 @@
 use Rattle.std.proofs.Common.{inl, inr, ⊎_elim, map, refl, arith}
 use Rattle.std.proofs.lemmas.Result.{err_from_is_err_and}
 use Rattle.rbbi_model.specs.Plays.{table_replies}
+use Rattle.rbbi_model.specs.Costs.{script_cost}
 use Rattle.rbbi_script.specs.Meaning.{meaning}
 use Rattle.rbbi_tool.proofs.Bases.{gives_them}
 use Rattle.rbbi_tool.proofs.Replies.{replies_given}
@@ -73,4 +74,5 @@ returns-clause-steps g c =
     λ end more.
     replies_read _ _ _ _ c.commands_of.new.steps end basis.0 _ _ basis.1 basis.2 c.in_ok-text.ensures.exact
     (rises_further _ (given_bytes (inputs_in c.args.inputs.now)) _ _
-    (rises_by _ _ _ c.table_from.new.steps _ c.table_from.ensures.steps c.commands_of.ensures.steps) (omega arith)) _ _ _ c.in_ok-commands.ensures.exact more
+    (rises_by _ _ _ c.table_from.new.steps _ c.table_from.ensures.steps c.commands_of.ensures.steps) (omega arith)) _ (λ table. script_cost table c.args.options.now.unit) _
+    c.in_ok-commands.ensures.exact more

@@ -1,0 +1,46 @@
+//! The command `tally`.
+ghost use Rattle.std.specs.Prelude.{◌⊎◌};
+ghost use Rattle.rbbi_text.specs.Steps.{RisesUpTo};
+ghost use Rattle.rbbi_tool.specs.inner.Stages.{Meets};
+ghost use Rattle.rbbi_tool.specs.inner.Prepared.{answer_of, rest_after, ReadsByEnd};
+ghost use Rattle.rbbi_command.specs.Requests.{options_in};
+ghost use Rattle.rbbi_command.specs.Inputs.{inputs_in, AreShort};
+ghost use Rattle.rbbi_tool.specs.Texts.{text_stage};
+ghost use Rattle.rbbi_tool.specs.Scripts.{script_stage};
+ghost use Rattle.rbbi_tool.specs.Basis.{basis_stage};
+ghost use Rattle.rbbi_tool.specs.Command.Tally.{tally_stage};
+ghost use Rattle.rbbi_tool.specs.Steps.{ReadsForScript, tally_cost};
+ghost use Rattle.rbbi_tool.specs.inner.Steps.{given_bytes};
+
+use crate::prepared::{Lines, Prepared};
+use crate::scripts::commands_of;
+use crate::tables::table_from;
+use crate::texts::pieces_of;
+use rbbi_command::{Inputs, Options, Refusal};
+use rbbi_text::Steps;
+use std::alloc::Global;
+use std::sync::ledger::Ledger;
+
+/// The counts of the segments of a text file by a rule file or a table file, and the replies to the
+/// edits of a script, each with the counts after it.
+pub(crate) fn tally<L: Ledger>(
+    alloc: Global,
+    options: &Options,
+    inputs: &Inputs,
+    steps: &mut Steps<L>,
+) -> Result<Prepared, Refusal>
+    requires { AreShort (inputs_in inputs.now) }
+    ensures exact { Meets (λ output. output)
+        (tally_stage (options_in options.now) (inputs_in inputs.now)) (answer_of result) }
+    ensures steps { let bytes = given_bytes (inputs_in inputs.now) in
+        ReadsByEnd (rest_after result) (λ before end. RisesUpTo bytes before end
+        ⊎ ReadsForScript (basis_stage (options_in options.now) (inputs_in inputs.now))
+        (text_stage inputs.now.text) (script_stage inputs.now.script) tally_cost bytes before end)
+        steps.old steps.new }
+{
+    let table = table_from(alloc, options, inputs, steps)?;
+    let text = pieces_of(alloc, &inputs.text)?;
+    let commands = commands_of(alloc, &inputs.script, steps)?;
+    rbbi_model::same_marks_give_the_boundaries();
+    Ok(Prepared::Waiting(Lines::Counts(table, text, commands)))
+}
