@@ -11,6 +11,7 @@ use Rattle.rbbi_command.specs.declared.inputs.Inputs as code
 -- The bytes of the property files, in order, and what each other file holds. A file that a request doesn't name is empty.
 pub record Inputs : Type 0 where
   pub properties : List (List ℕ)
+  pub filter : Input
   pub rules : List ℕ
   pub table : List ℕ
   pub text : Input
@@ -22,6 +23,7 @@ abbrev pub inputs_in : code.Inputs → Inputs
 inputs_in inputs =
     record {
       properties = inputs.properties.items;
+      filter = inputs.filter;
       rules = inputs.rules;
       table = inputs.table;
       text = inputs.text;
@@ -32,11 +34,13 @@ inputs_in inputs =
 -- no file is read yet
 abbrev pub no_inputs : Inputs
 no_inputs =
-    let none : Input = record { name = []; bytes = [] } in record { properties = []; rules = []; table = []; text = none; script = none; tests = none }
+    let none : Input = record { name = []; bytes = [] } in
+    record { properties = []; filter = none; rules = []; table = []; text = none; script = none; tests = none }
 
 -- the inputs with a file of this role, this name and these bytes
 abbrev pub put : Role → List ℕ → List ℕ → Inputs → Inputs
 put role.Property name bytes inputs = record inputs { properties = inputs.properties ++ bytes ∷ [] }
+put role.Filter name bytes inputs = record inputs { filter = record { name = name; bytes = bytes } }
 put role.Rules name bytes inputs = record inputs { rules = bytes }
 put role.Table name bytes inputs = record inputs { table = bytes }
 put role.Text name bytes inputs = record inputs { text = record { name = name; bytes = bytes } }
@@ -55,6 +59,7 @@ inputs_of held sources = with_files held no_inputs sources
 -- none has more bytes than are read at once
 pub record AreShort (inputs : Inputs) : Type 0 where
   pub properties : AllByRecursion (λ bytes. length bytes ≤ most_bytes) inputs.properties
+  pub filter : length inputs.filter.bytes ≤ most_bytes
   pub rules : length inputs.rules ≤ most_bytes
   pub table : length inputs.table ≤ most_bytes
   pub text : length inputs.text.bytes ≤ most_bytes

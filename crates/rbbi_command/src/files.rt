@@ -14,6 +14,8 @@ use std::alloc::{AllocError, Global};
 pub enum Role {
     /// A property file.
     Property,
+    /// A filter file.
+    Filter,
     /// The rule file.
     Rules,
     /// The table file.
@@ -40,6 +42,7 @@ impl Role {
     {
         match self {
             Role::Property => 8_388_608,
+            Role::Filter => 65_536,
             Role::Rules => 1_048_576,
             Role::Table => MOST_BYTES as u64,
             Role::Text => 67_108_864,
@@ -55,9 +58,9 @@ impl Role {
         match self {
             Role::Rules => Ok(Subject::Rules),
             Role::Table => Ok(Subject::Table),
-            Role::Property | Role::Text | Role::Script | Role::Tests => Ok(Subject::File(Name::new(
-                alloc, name,
-            )?)),
+            Role::Property | Role::Filter | Role::Text | Role::Script | Role::Tests => {
+                Ok(Subject::File(Name::new(alloc, name)?))
+            }
         }
     }
 }

@@ -23,6 +23,8 @@ pub struct Input {
 pub struct Inputs {
     /// The property files, in order.
     pub properties: Vec<Raw>,
+    /// The filter file.
+    pub filter: Input,
     /// The rule file.
     pub rules: Raw,
     /// The table file.
@@ -59,6 +61,7 @@ impl Inputs {
     {
         Ok(Inputs {
             properties: Vec::new(alloc),
+            filter: Input::none(alloc)?,
             rules: Raw::new(Vec::new(alloc)),
             table: Raw::new(Vec::new(alloc)),
             text: Input::none(alloc)?,
@@ -75,6 +78,7 @@ impl Inputs {
         let name = source.name.as_str();
         match source.role {
             Role::Property => self.properties.push(bytes)?,
+            Role::Filter => self.filter = Input::new(alloc, name, bytes)?,
             Role::Rules => self.rules = bytes,
             Role::Table => self.table = bytes,
             Role::Text => self.text = Input::new(alloc, name, bytes)?,

@@ -16,6 +16,7 @@ ghost use Rattle.rbbi_command.specs.Delivery.{EachHoldsOrIsOutputFile};
 ghost use Rattle.rbbi_tool.specs.inner.Prepared.{bytes_of, cost_of, outcome_of, rest_of};
 
 use crate::prepared::{Lines, Prepared};
+use crate::told_emission::{put_boundaries_through, put_replies_through};
 use rbbi_command::deliver;
 use rbbi_io::{Files, Sink, WriteErr, put_all, put_when_full};
 use rbbi_script::{Commands, perform, say_bound};
@@ -131,6 +132,12 @@ fn put_lines<K: Sink, L: Ledger>(
         }
         Lines::Replies(table, text, unit, commands) => {
             put_replies_over(alloc, &table, text, unit, &commands, out, steps)
+        }
+        Lines::ToldBoundaries(table, text, filter) => {
+            put_boundaries_through(alloc, &table, text, &filter, out, steps)
+        }
+        Lines::ToldReplies(table, text, filter, commands) => {
+            put_replies_through(alloc, &table, text, &filter, &commands, out, steps)
         }
     }
 }

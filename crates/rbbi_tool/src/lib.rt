@@ -7,6 +7,7 @@
 
 mod command;
 mod emission;
+mod filters;
 mod in_memory;
 mod laws;
 mod position;
@@ -18,6 +19,7 @@ mod rules;
 mod scripts;
 mod tables;
 mod texts;
+mod told_emission;
 
 pub use in_memory::rbbi_in_memory;
 pub use laws::outcomes_are_unique;

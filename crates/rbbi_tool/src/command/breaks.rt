@@ -1,5 +1,5 @@
 //! The command `breaks`.
-ghost use Rattle.std.specs.Prelude.{◌⊎◌};
+ghost use Rattle.std.specs.Prelude.{◌⊎◌, None};
 ghost use Rattle.rbbi_text.specs.Steps.{RisesUpTo};
 ghost use Rattle.rbbi_tool.specs.inner.Stages.{Meets};
 ghost use Rattle.rbbi_tool.specs.inner.Prepared.{answer_of, rest_after, ReadsByEnd};
@@ -7,7 +7,7 @@ ghost use Rattle.rbbi_command.specs.Requests.{options_in};
 ghost use Rattle.rbbi_command.specs.Inputs.{inputs_in, AreShort};
 ghost use Rattle.rbbi_tool.specs.Texts.{text_stage};
 ghost use Rattle.rbbi_tool.specs.Basis.{basis_stage};
-ghost use Rattle.rbbi_tool.specs.Command.Breaks.{breaks_stage};
+ghost use Rattle.rbbi_tool.specs.Command.Breaks.{breaks_by};
 ghost use Rattle.rbbi_tool.specs.Steps.{ReadsForBreaks};
 ghost use Rattle.rbbi_tool.specs.inner.Steps.{given_bytes};
 
@@ -29,7 +29,7 @@ pub(crate) fn breaks<L: Ledger>(
 ) -> Result<Prepared, Refusal>
     requires { AreShort (inputs_in inputs.now) }
     ensures exact { Meets (λ output. output)
-        (breaks_stage (options_in options.now) (inputs_in inputs.now)) (answer_of result) }
+        (breaks_by None (options_in options.now) (inputs_in inputs.now)) (answer_of result) }
     ensures steps { let bytes = given_bytes (inputs_in inputs.now) in
         ReadsByEnd (rest_after result) (λ before end. RisesUpTo bytes before end
         ⊎ ReadsForBreaks (basis_stage (options_in options.now) (inputs_in inputs.now))

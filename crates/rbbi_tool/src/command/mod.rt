@@ -6,6 +6,7 @@ mod compile;
 mod conform;
 mod demo;
 mod run;
+mod told;
 mod upgrade;
 
 pub(crate) use breaks::breaks;
@@ -14,4 +15,5 @@ pub(crate) use compile::compile;
 pub(crate) use conform::conform;
 pub(crate) use demo::demo;
 pub(crate) use run::run;
+pub(crate) use told::{told_breaks, told_run};
 pub(crate) use upgrade::upgrade;

@@ -1,5 +1,5 @@
 //! The command `run`.
-ghost use Rattle.std.specs.Prelude.{◌⊎◌};
+ghost use Rattle.std.specs.Prelude.{◌⊎◌, None};
 ghost use Rattle.rbbi_text.specs.Steps.{RisesUpTo};
 ghost use Rattle.rbbi_tool.specs.inner.Stages.{Meets};
 ghost use Rattle.rbbi_tool.specs.inner.Prepared.{answer_of, rest_after, ReadsByEnd};
@@ -8,7 +8,7 @@ ghost use Rattle.rbbi_command.specs.Inputs.{inputs_in, AreShort};
 ghost use Rattle.rbbi_tool.specs.Texts.{text_stage};
 ghost use Rattle.rbbi_tool.specs.Scripts.{script_stage};
 ghost use Rattle.rbbi_tool.specs.Basis.{basis_stage};
-ghost use Rattle.rbbi_tool.specs.Command.Run.{play_stage};
+ghost use Rattle.rbbi_tool.specs.Command.Run.{play_by};
 ghost use Rattle.rbbi_tool.specs.Steps.{ReadsForScript};
 ghost use Rattle.rbbi_tool.specs.inner.Steps.{given_bytes};
 
@@ -31,7 +31,7 @@ pub(crate) fn run<L: Ledger>(
 ) -> Result<Prepared, Refusal>
     requires { AreShort (inputs_in inputs.now) }
     ensures exact { Meets (λ output. output)
-        (play_stage (options_in options.now) (inputs_in inputs.now)) (answer_of result) }
+        (play_by None (options_in options.now) (inputs_in inputs.now)) (answer_of result) }
     ensures steps { let bytes = given_bytes (inputs_in inputs.now) in
         ReadsByEnd (rest_after result) (λ before end. RisesUpTo bytes before end
         ⊎ ReadsForScript (basis_stage (options_in options.now) (inputs_in inputs.now))

@@ -1,0 +1,72 @@
+//! The commands `breaks` and `run` through a filter.
+ghost use Rattle.std.specs.Prelude.{◌⊎◌, Some};
+ghost use Rattle.rbbi_text.specs.Steps.{RisesUpTo};
+ghost use Rattle.rbbi_tool.specs.inner.Stages.{Meets};
+ghost use Rattle.rbbi_tool.specs.inner.Prepared.{answer_of, rest_after, ReadsByEnd};
+ghost use Rattle.rbbi_command.specs.Requests.{options_in};
+ghost use Rattle.rbbi_command.specs.Inputs.{inputs_in, AreShort};
+ghost use Rattle.rbbi_tool.specs.Command.Breaks.{breaks_by};
+ghost use Rattle.rbbi_tool.specs.Command.Run.{play_by};
+ghost use Rattle.rbbi_tool.specs.Steps.{BreaksReads, RunReads};
+ghost use Rattle.rbbi_tool.specs.inner.Steps.{given_bytes};
+
+use crate::filters::filtered_from;
+use crate::prepared::{Lines, Prepared};
+use crate::scripts::commands_of;
+use crate::texts::{pieces_of, text_of};
+use rbbi_command::{FilterKind, Inputs, Options, Refusal};
+use rbbi_text::Steps;
+use std::alloc::Global;
+use std::sync::ledger::Ledger;
+
+/// The boundaries of a text file by a rule file or a table file that are told through a filter, a
+/// line for each.
+pub(crate) fn told_breaks<L: Ledger>(
+    alloc: Global,
+    kind: FilterKind,
+    options: &Options,
+    inputs: &Inputs,
+    steps: &mut Steps<L>,
+) -> Result<Prepared, Refusal>
+    requires { AreShort (inputs_in inputs.now) }
+    ensures exact { Meets (λ output. output)
+        (breaks_by (Some kind) (options_in options.now) (inputs_in inputs.now))
+        (answer_of result) }
+    ensures steps { let bytes = given_bytes (inputs_in inputs.now) in
+        ReadsByEnd (rest_after result) (λ before end. RisesUpTo bytes before end
+        ⊎ BreaksReads (Some kind) (options_in options.now) (inputs_in inputs.now) bytes before end)
+        steps.old steps.new }
+{
+    let filtered = filtered_from(alloc, kind, options, inputs, steps)?;
+    let text = text_of(alloc, &inputs.text)?;
+    filtered.filter.searches_texts();
+    rbbi_model::same_marks_give_the_boundaries();
+    let lines = Lines::ToldBoundaries(filtered.table, text, filtered.filter);
+    Ok(Prepared::Waiting(lines))
+}
+
+/// The replies to a script over a text file, by the boundaries by a rule file or a table file that
+/// are told through a filter.
+pub(crate) fn told_run<L: Ledger>(
+    alloc: Global,
+    kind: FilterKind,
+    options: &Options,
+    inputs: &Inputs,
+    steps: &mut Steps<L>,
+) -> Result<Prepared, Refusal>
+    requires { AreShort (inputs_in inputs.now) }
+    ensures exact { Meets (λ output. output)
+        (play_by (Some kind) (options_in options.now) (inputs_in inputs.now)) (answer_of result) }
+    ensures steps { let bytes = given_bytes (inputs_in inputs.now) in
+        ReadsByEnd (rest_after result) (λ before end. RisesUpTo bytes before end
+        ⊎ RunReads (Some kind) (options_in options.now) (inputs_in inputs.now) bytes before end)
+        steps.old steps.new }
+{
+    let filtered = filtered_from(alloc, kind, options, inputs, steps)?;
+    let text = pieces_of(alloc, &inputs.text)?;
+    let commands = commands_of(alloc, &inputs.script, steps)?;
+    filtered.filter.searches_texts();
+    rbbi_model::same_marks_give_the_boundaries();
+    let lines = Lines::ToldReplies(filtered.table, text, filtered.filter, commands);
+    Ok(Prepared::Waiting(lines))
+}
