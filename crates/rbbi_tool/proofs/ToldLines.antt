@@ -1,20 +1,24 @@
 -- Boundaries that a session tells, and replies of one, as their lines go out in pieces.
-use Rattle.std.proofs.Common.{◌≡◌, ℕ, ◌+◌, ◌-◌, ◌<◌, ◌≤◌, List, [], ◌∷◌, ◌++◌, Option, Some, None, length, refl, sym, ap, ◌∙◌, subst, append_assoc, append-nil, arith}
+use Rattle.std.proofs.Common.{◌≡◌, ℕ, ◌+◌, ◌-◌, ◌<◌, ◌≤◌, List, [], ◌∷◌, ◌++◌, Option, Some, None, length, refl, sym, ap, ◌∙◌, subst}
+use Rattle.std.proofs.Common.{append_assoc, arith}
 use Rattle.std.proofs.lemmas.Grind.{flat_map-append}
-use Rattle.rbbi_model.specs.Boundaries.{Boundary}
 use Rattle.rbbi_model.specs.Cover.{IsPlaceOf}
 use Rattle.rbbi_model.specs.Answers.{First, Next, Breaks, Place, statuses_at}
-use Rattle.rbbi_model.specs.Scripts.{Command}
+use Rattle.rbbi_model.specs.Tables.{Table}
+use Rattle.rbbi_model.specs.Scripts.{Command, opened}
 use Rattle.rbbi_model.specs.Lines.{boundary_line, boundary_lines, reply_lines, all_reply_lines}
 use Rattle.rbbi_text.specs.Steps.{RisesUpTo}
 use Rattle.rbbi_io.specs.Sinks.{Takes, IsBuffered}
 use Rattle.rbbi_session.specs.Sessions.{place_reply}
 use Rattle.rbbi_session.proofs.Stepping.{left_of}
 use Rattle.rbbi_filter.specs.FilterCosts.{question_through, commands_through}
-use Rattle.rbbi_filter.specs.FilterSessions.{FilterSession, boundaries_of, Answers, Asks}
+use Rattle.rbbi_filter.specs.declared.filter.Filter.{Filter}
+use Rattle.rbbi_filter.specs.Filters.{boundaries_through}
+use Rattle.rbbi_filter.specs.FilterSessions.{FilterSession, boundaries_of, IsOpened, Answers, Asks}
 use Rattle.rbbi_filter.specs.Performing.{turn_of, IsPerformed, IsPaid}
 use Rattle.rbbi_filter.proofs.Listed.{IsListed, listed_start, listed_further, listed_paid}
 use Rattle.rbbi_filter.proofs.ListingCosts.{listing_pays}
+use Rattle.rbbi_tool.specs.Filters.{replies_through}
 use Rattle.rbbi_tool.specs.inner.Filters.{replies_of}
 use Rattle.rbbi_tool.proofs.Emitting.{IsPutTo, put_none, put_more, put_flushed, put_end}
 
@@ -160,3 +164,21 @@ pub all_paid : (old : FilterSession) (commands others : List Command) (session :
     → RisesUpTo (commands_through old.filter old.table old.state commands) start steps
 all_paid old commands others session before now waiting start steps so_far =
     record { more = so_far.more; cost = omega (arith, so_far.cost) }
+
+-- what a session tells that was opened, and its replies
+module _ (filter other : Filter) (table : Table) (x : List ℕ) (session : FilterSession) (opened_is : IsOpened filter table x session) (same : other ≡ filter)
+    (table' : Table) (table_is : table ≡ table') (x' : List ℕ) (x_is : x ≡ x') where
+  state_is : session.state ≡ opened x'
+  state_is = opened_is.state_is ∙ ap opened x_is
+
+  pub opened_boundaries : boundaries_of session ≡ boundaries_through other table' x'
+  opened_boundaries =
+      ap (λ f. boundaries_through f session.table session.state.text) (opened_is.filter_is ∙ sym same)
+      ∙ ap (λ t. boundaries_through other t session.state.text) (opened_is.table_is ∙ table_is)
+      ∙ ap (λ s. boundaries_through other table' s.text) state_is
+
+  pub opened_replies : (commands : List Command) → replies_of session commands ≡ replies_through other table' (opened x') commands
+  opened_replies commands =
+      ap (λ f. replies_through f session.table session.state commands) (opened_is.filter_is ∙ sym same)
+      ∙ ap (λ t. replies_through other t session.state commands) (opened_is.table_is ∙ table_is)
+      ∙ ap (λ s. replies_through other table' s commands) state_is

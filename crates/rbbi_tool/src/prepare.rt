@@ -10,7 +10,7 @@ ghost use Rattle.rbbi_tool.specs.Program.{nth, command_stage};
 ghost use Rattle.rbbi_tool.specs.Steps.{CommandReads};
 ghost use Rattle.rbbi_tool.specs.inner.Steps.{given_bytes};
 
-use crate::command::{breaks, check, compile, conform, demo, run, told_breaks, told_run, upgrade};
+use crate::command::{breaks, check, compile, conform, demo, run, upgrade};
 use crate::prepared::Prepared;
 use rbbi_command::{Command, Inputs, Refusal, Request};
 use rbbi_text::Steps;
@@ -50,14 +50,8 @@ pub(crate) fn prepare<L: Ledger>(
         Command::Check => check(alloc, options, inputs, steps),
         Command::Compile => compile(alloc, options, inputs, word(operands, 1), steps),
         Command::Upgrade => upgrade(alloc, inputs, word(operands, 1), steps),
-        Command::Breaks => match options.filter {
-            None => breaks(alloc, options, inputs, steps),
-            Some(kind) => told_breaks(alloc, kind, options, inputs, steps),
-        },
-        Command::Run => match options.filter {
-            None => run(alloc, options, inputs, steps),
-            Some(kind) => told_run(alloc, kind, options, inputs, steps),
-        },
+        Command::Breaks => breaks(alloc, options, inputs, steps),
+        Command::Run => run(alloc, options, inputs, steps),
         Command::Conform => conform(alloc, options, inputs, steps),
         Command::Demo => demo(alloc, word(operands, 0), steps),
     }

@@ -4,7 +4,7 @@ ghost use Rattle.std.specs.Prelude.{◌≡◌, ◌<◌};
 
 use crate::draws::Draws;
 use crate::questions::{Boundary, Question, answer_on};
-use crate::rescans::{boundaries, spliced, status_at};
+use crate::rescans::{boundaries, status_at};
 use crate::tables::table_of;
 use rbbi_filter::{
     Abbreviations, ByList, ByPairs, Filtered, Tailored, Tailoring, Walk, perform_through,
@@ -59,11 +59,11 @@ const FILTERS: &[(&str, &[char], Plain, &str)] = &[
 ];
 
 /// The number of scripts of each filter, of the commands of each, and of characters at first.
-const SCRIPTS: u64 = 3;
+const SCRIPTS: u64 = 2;
 
-const COMMANDS: u32 = 120;
+const COMMANDS: u32 = 100;
 
-const LENGTH: u32 = 200;
+const LENGTH: u32 = 150;
 
 /// A line of a script, without its end.
 fn drawn_line(alloc: Global, draws: &mut Draws, alphabet: &[char]) -> Result<String, AllocError> {
@@ -116,28 +116,28 @@ fn ends(letters: &str, list: &[&str]) -> bool {
     })
 }
 
-/// The letters with the first of each pair in place of the second.
-fn turned(alloc: Global, letters: &str, pairs: &[(char, char)]) -> Result<String, AllocError> {
+/// The letters, each as the second of the pair whose first it is.
+fn turned(alloc: Global, letters: &[char], pairs: &[(char, char)]) -> Result<String, AllocError> {
     let mut text = String::new(alloc);
-    for letter in letters.chars() {
-        let pair = pairs.iter().find(|pair| pair.0 == letter);
-        text.push(pair.map_or(letter, |pair| pair.1))?;
+    for letter in letters {
+        let pair = pairs.iter().find(|pair| pair.0 == *letter);
+        text.push(pair.map_or(*letter, |pair| pair.1))?;
     }
     Ok(text)
 }
 
-/// The letters before a place, at most 64.
-fn window(alloc: Global, letters: &str, at: u32) -> Result<String, AllocError> {
-    let start = at.saturating_sub(64);
-    let mut text = String::new(alloc);
-    for letter in letters
-        .chars()
-        .skip(start as usize)
-        .take((at - start) as usize)
-    {
-        text.push(letter)?;
+/// Whether the place lies within the letters, and one of these ends the at most 64 before it.
+fn is_hidden(
+    alloc: Global,
+    letters: &[char],
+    at: usize,
+    list: &[&str],
+) -> Result<bool, AllocError> {
+    if at == 0 || at >= letters.len() {
+        return Ok(false);
     }
-    Ok(text)
+    let before = turned(alloc, &letters[at.saturating_sub(64)..at], &[])?;
+    Ok(ends(before.as_str(), list))
 }
 
 /// A text and a cursor, of which all boundaries are found anew for each command.
@@ -145,7 +145,7 @@ fn window(alloc: Global, letters: &str, at: u32) -> Result<String, AllocError> {
 struct Model<'a> {
     table: &'a Table,
     plain: Plain,
-    letters: String,
+    letters: Vec<char>,
     cursor: u32,
 }
 
@@ -154,28 +154,21 @@ fn told<L: Ledger>(
     alloc: Global,
     model: &Model<'_>,
     steps: &mut Steps<L>,
-) -> Result<(Vec<Boundary>, u32), AllocError> {
-    let letters = model.letters.as_str();
-    match model.plain {
-        Plain::Turning(pairs) => {
-            let searched = turned(alloc, letters, pairs)?;
-            let text = PlainText::new(alloc, searched.as_str())?;
-            let all = boundaries(alloc, model.table, &text, steps)?;
-            Ok((all, text.len()))
-        }
-        Plain::Hiding(list) => {
-            let text = PlainText::new(alloc, letters)?;
-            let mut told = Vec::new(alloc);
-            for boundary in boundaries(alloc, model.table, &text, steps)? {
-                let at = boundary.at;
-                let inside = at > 0 && at < text.len();
-                if !(inside && ends(window(alloc, letters, at)?.as_str(), list)) {
-                    told.push(boundary)?;
-                }
-            }
-            Ok((told, text.len()))
+) -> Result<(Vec<Boundary>, u32), Fail> {
+    let letters = &model.letters;
+    let (list, pairs): (&[&str], &[(char, char)]) = match model.plain {
+        Plain::Hiding(list) => (list, &[]),
+        Plain::Turning(pairs) => (&[], pairs),
+    };
+    let searched = turned(alloc, letters, pairs)?;
+    let text = PlainText::new(alloc, searched.as_str())?;
+    let mut told = Vec::new(alloc);
+    for boundary in boundaries(alloc, model.table, &text, steps)? {
+        if !is_hidden(alloc, letters, boundary.at as usize, list)? {
+            told.push(boundary)?;
         }
     }
+    Ok((told, text.len()))
 }
 
 /// The statuses of a list, joined.
@@ -240,17 +233,22 @@ fn answer(
 fn edit(
     alloc: Global,
     model: &mut Model<'_>,
-    len: u32,
     at: u32,
     remove: u32,
     insert: &str,
 ) -> Result<String, AllocError> {
-    if u64::from(at) + u64::from(remove) > u64::from(len) {
+    let (at, end) = (at as usize, at as usize + remove as usize);
+    if end > model.letters.len() {
         return String::from_str(alloc, "outside\n");
     }
-    model.letters = spliced(alloc, model.letters.as_str(), at, remove, insert)?;
+    let mut letters: Vec<char> = Vec::from_slice(alloc, &model.letters[..at])?;
+    for letter in insert.chars() {
+        letters.push(letter)?;
+    }
+    letters.extend_from_slice(&model.letters[end..])?;
+    let count = letters.len();
+    model.letters = letters;
     model.cursor = 0;
-    let count = model.letters.chars().count();
     format!(in alloc; "ok {count}\n")
 }
 
@@ -260,16 +258,16 @@ fn reply<L: Ledger>(
     model: &mut Model<'_>,
     command: &Command,
     steps: &mut Steps<L>,
-) -> Result<String, AllocError> {
+) -> Result<String, Fail> {
     let (told, len) = told(alloc, model, steps)?;
     if let Some(question) = question_of(command) {
-        return answer(alloc, model, &told, len, question);
+        return Ok(answer(alloc, model, &told, len, question)?);
     }
     match command {
         Command::Replace { at, remove, text } => {
-            edit(alloc, model, len, *at, *remove, text.as_str())
+            Ok(edit(alloc, model, *at, *remove, text.as_str())?)
         }
-        Command::Breaks => lines(alloc, model.table, &told),
+        Command::Breaks => Ok(lines(alloc, model.table, &told)?),
         _ => {
             let mut line = statuses(alloc, model.table, status_at(&told, model.cursor))?;
             line.push('\n')?;
@@ -322,7 +320,7 @@ fn first_other_of_script<L: Ledger>(
     let mut model = Model {
         table,
         plain,
-        letters,
+        letters: letters.chars().collect(alloc)?,
         cursor: 0,
     };
     match plain {

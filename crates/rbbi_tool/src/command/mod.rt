@@ -6,7 +6,6 @@ mod compile;
 mod conform;
 mod demo;
 mod run;
-mod told;
 mod upgrade;
 
 pub(crate) use breaks::breaks;
@@ -15,5 +14,4 @@ pub(crate) use compile::compile;
 pub(crate) use conform::conform;
 pub(crate) use demo::demo;
 pub(crate) use run::run;
-pub(crate) use told::{told_breaks, told_run};
 pub(crate) use upgrade::upgrade;

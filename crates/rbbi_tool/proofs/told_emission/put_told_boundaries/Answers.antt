@@ -53,19 +53,19 @@ returns-in_err-put_all-clause-err g c =
 
 pub returns-in_err-put_when_full-clause-steps : goal.returns-in_err-put_when_full-clause-steps
 returns-in_err-put_when_full-clause-steps g c =
-    told_paid _ _ _ _ _ _ _ _ c.loop-place.invariant.told c.current-_here.result c.current-_here.ensures.at c.current-_here.ensures.boundary
+    told_paid _ _ _ _ _ _ _ _ c.loop-place.invariant.told c.current-here.result c.current-here.ensures.at c.current-here.ensures.boundary
 
 pub returns-in_err-say_bound-clause-steps : goal.returns-in_err-say_bound-clause-steps
 returns-in_err-say_bound-clause-steps g c =
-    told_paid _ _ _ _ _ _ _ _ c.loop-place.invariant.told c.current-_here.result c.current-_here.ensures.at c.current-_here.ensures.boundary
+    told_paid _ _ _ _ _ _ _ _ c.loop-place.invariant.told c.current-here.result c.current-here.ensures.at c.current-here.ensures.boundary
 
 pub returns-in_err-put_all-clause-steps : goal.returns-in_err-put_all-clause-steps
 returns-in_err-put_all-clause-steps g c =
-    told_paid _ _ _ _ _ _ _ _ c.loop-place.invariant.told c.current-_here.result c.current-_here.ensures.at c.current-_here.ensures.boundary
+    told_paid _ _ _ _ _ _ _ _ c.loop-place.invariant.told c.current-here.result c.current-here.ensures.at c.current-here.ensures.boundary
 
 pub returns-clause-steps : goal.returns-clause-steps
 returns-clause-steps g c =
-    told_paid _ _ _ _ _ _ _ _ c.loop-place.invariant.told c.current-_here.result c.current-_here.ensures.at c.current-_here.ensures.boundary
+    told_paid _ _ _ _ _ _ _ _ c.loop-place.invariant.told c.current-here.result c.current-here.ensures.at c.current-here.ensures.boundary
 
 pub returns-clause-ok : goal.returns-clause-ok
 returns-clause-ok g c =
@@ -73,5 +73,5 @@ returns-clause-ok g c =
     let now = g.W.Walk.session c.loop-place.session in
     all_told old now _ _ _ _ _ _
     (subst (λ p. AreToldTo old now p (g.K.Sink.taken c.args.out.now) (g.K.Sink.taken c.loop-place.out) c.loop-place.made.items c.args.steps.now
-    c.loop-place.steps) c.in-None.is c.loop-place.invariant.told)
+    c.loop-place.steps) c.in_default.is c.loop-place.invariant.told)
     (subst (λ w. Takes (g.K.Sink.taken c.loop-place.out) (g.K.Sink.taken c.put_all.new.out) w) c.deref.ensures.value c.in_ok-put_all.ensures.ok)
