@@ -435,6 +435,17 @@ def unit_script(path, count, edits, unit):
     return '\n'.join(lines) + '\n'
 
 
+def abbreviations(count):
+    """A file of so many abbreviations: words of the prose, each with a full stop."""
+    words = some_words(random.Random('prose 0'), LATIN_MANY, 3000, 1, 11)
+    return ''.join(f'{word}.\n' for word in list(dict.fromkeys(words))[10:10 + count])
+
+
+def pairs(count):
+    """A file of so many pairs: letters past ASCII, each turned into a letter of ASCII."""
+    return ''.join(f'{0x100 + number:04X} ; {0x61 + number % 26:04X}\n' for number in range(count))
+
+
 def question_script(size, count, number):
     """Questions at random places of a text of `size` characters: `following`, `preceding` and `is` in
     turn. Scripts of two numbers have other places."""

@@ -308,6 +308,46 @@ def unit_seconds(bench, words, size, unit, edits):
     return max(passed / (UNIT_QUESTIONS[edits] - 1000), 1e-9)
 
 
+def filters(bench):
+    """`breaks` through 200 abbreviations and through 200 pairs over `breaks`, and what a question costs
+    through them, by the length of the text."""
+    path, props, _ = bench.rules('sentence')
+    files = {'--suppress': (bench.file('filter.abbreviations', inputs.abbreviations(200)), 1.5),
+             '--tailor': (bench.file('filter.pairs', inputs.pairs(200)), 1 / 0.6)}
+    for option, (file, target) in files.items():
+        line = Line(f'`breaks {option}` over `breaks`, sentence.rules, prose, '
+                    f'{bench.sizes[-1] // 1_000_000} M', target=f'{target:.2f} times')
+        line.time = bench.lacking(['breaks', option, file] + props + [path, bench.tiny()])
+        if not line.time:
+            behind = props + [path, inputs.make_text(bench.folder, 'prose', bench.sizes[-1])]
+            through = bench.seconds(['breaks', option, file] + behind)
+            times = through / bench.seconds(['breaks'] + behind)
+            line.time, line.verdict = f'{times:.2f} times', verdict(times, target)
+        yield line
+    for option, (file, _) in files.items():
+        yield from filtered_questions(bench, option, ['run', option, file] + props + [path])
+
+
+def filtered_questions(bench, option, words):
+    """A question at a random place, through a filter."""
+    each, lacking = {}, bench.lacking(words + [bench.tiny(), bench.file('one.script', 'next\n')])
+    for size in (ONE_MILLION, TWELVE_MILLION):
+        line = Line(f'`run {option}`, sentence.rules, prose, {size // 1_000_000} M: a question', lacking)
+        if not lacking:
+            text = inputs.make_text(bench.folder, 'prose', size)
+            few, many = (bench.file(f'filter-{count}', inputs.question_script(size, count, 0))
+                         for count in (1000, 21000))
+            passed = (bench.seconds(words + [text, many]) - bench.seconds(words + [text, few])) / 20000
+            each[size] = max(passed, 1e-9)
+            line.time = time_text(passed)
+        yield line
+    line = Line('such a question in 12 M over one in 1 M', lacking, target='2 times')
+    if not lacking:
+        times = each[TWELVE_MILLION] / each[ONE_MILLION]
+        line.time, line.verdict = f'{times:.1f} times', verdict(times, 2)
+    yield line
+
+
 def questions(bench):
     """100,000 questions at random places, beside ICU's, in two scripts, since one has at most 1 MiB. The
     text has characters of one UTF-16 unit alone, so that both ask at the same places. Reading the
@@ -444,7 +484,7 @@ def scanning(bench):
 
 
 GROUPS = [start, texts, printing, compiling, front, limits, tables, loop, sessions, questions, units,
-          nexts, tests, demo, parts]
+          filters, nexts, tests, demo, parts]
 
 # The groups that want the program of single calls.
 OF_PARTS = [loop, nexts, parts]

@@ -9,10 +9,15 @@ _rbbi() {
     fi
     case ${COMP_WORDS[1]} in
     check | compile | same) options='--prop --ignore-dictionary' ;;
-    breaks | run | conform | tally) options='--prop --ignore-dictionary --table' ;;
+    breaks | run) options='--prop --ignore-dictionary --table --units --suppress --tailor' ;;
+    conform | tally) options='--prop --ignore-dictionary --table' ;;
     upgrade) options= ;;
     *) return ;;
     esac
+    if [ "${COMP_WORDS[COMP_CWORD - 1]}" = --units ]; then
+        COMPREPLY=($(compgen -W 'chars utf8 utf16' -- "$word"))
+        return
+    fi
     case $word in
     --*) COMPREPLY=($(compgen -W "$options" -- "$word")) ;;
     =) compopt -o filenames && COMPREPLY=($(compgen -f)) ;;

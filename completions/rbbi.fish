@@ -13,3 +13,7 @@ complete -c rbbi -n "__fish_seen_subcommand_from $with_rules" -l prop -r -F -d '
 complete -c rbbi -n "__fish_seen_subcommand_from $with_rules" -l ignore-dictionary \
     -d 'Take an assignment to $dictionary as any other'
 complete -c rbbi -n '__fish_seen_subcommand_from breaks run conform tally' -l table -d 'The first operand is a table file'
+set -l told '__fish_seen_subcommand_from breaks run'
+complete -c rbbi -n $told -l units -x -a 'chars utf8 utf16' -d 'What places and lengths count'
+complete -c rbbi -n $told -l suppress -r -F -d 'Tell no boundary behind an abbreviation of this file'
+complete -c rbbi -n $told -l tailor -r -F -d 'Break characters as others that this file names'

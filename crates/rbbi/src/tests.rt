@@ -7,6 +7,7 @@ mod compile;
 mod conform;
 mod demo;
 mod faults;
+mod filters;
 mod forms;
 mod limits;
 mod pieces;
@@ -203,8 +204,16 @@ fn other_units(rt: HostRuntime) -> Result<(), Fail> {
 }
 
 #[test]
+fn through_filters(rt: HostRuntime) -> Result<(), Fail> {
+    for table in filters::FILTERS {
+        assert_eq!(rt; first_wrong(&rt, *table)?, None, "of {}", table.0);
+    }
+    Ok(())
+}
+
+#[test]
 fn rows(rt: HostRuntime) -> Result<(), Fail> {
-    for rows in [demo::SUMMARIES, forms::OPTIONS] {
+    for rows in [demo::SUMMARIES, forms::OPTIONS, filters::ORDER] {
         for (words, held, status, output) in rows {
             let mut files = files_of(&rt, held)?;
             assert!(rt;

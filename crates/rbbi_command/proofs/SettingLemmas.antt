@@ -12,7 +12,7 @@ use Rattle.rbbi_model.specs.declared.unit.Unit.{Unit as TextUnit}
 use Rattle.rbbi_model.specs.declared.unit.Unit.TheVariants.{Chars, Utf8, Utf16}
 use Rattle.rbbi_command.specs.declared.words.setting.Property.{Property}
 use Rattle.rbbi_command.specs.declared.words.setting.Setting.{Setting}
-use Rattle.rbbi_command.specs.declared.words.setting.Setting.TheVariants.{HandIn, IgnoreDictionary, ByTable, CountIn}
+use Rattle.rbbi_command.specs.declared.words.setting.Setting.TheVariants.{HandIn, IgnoreDictionary, ByTable, CountIn, Suppress, Tailor}
 use Rattle.rbbi_command.specs.Settings.{is_property_name_byte, IsSetting, unit_word, spelled, BeginsWithoutOption, BeginWithSettings}
 
 -- both sides of a test hold
@@ -100,31 +100,49 @@ named_unit Utf16 = refl
 same_unit : (u v : TextUnit) → unit_word u ≡ unit_word v → u ≡ v
 same_unit u v same = let both = sym (named_unit u) ∙ ap unit_at same ∙ named_unit v in cc
 
--- the third byte of the first word, which tells options apart
-third : (w v : List (List ℕ)) → w ≡ v → get_or (get_or w 0 []) 2 0 ≡ get_or (get_or v 0 []) 2 0
-third w v same = ap (λ x. get_or (get_or x 0 []) 2 0) same
+-- which option a first word tells
+abbrev number_at : List ℕ → ℕ
+number_at word =
+    if bytes_eq word (codes "--prop") then 0
+    else (if bytes_eq word (codes "--ignore-dictionary") then 1
+    else (if bytes_eq word (codes "--table") then 2
+    else (if bytes_eq word (codes "--units") then 3 else (if bytes_eq word (codes "--suppress") then 4 else 5))))
+
+abbrev number_of : Setting → ℕ
+number_of (HandIn property) = 0
+number_of IgnoreDictionary = 1
+number_of ByTable = 2
+number_of (CountIn unit) = 3
+number_of (Suppress file) = 4
+number_of (Tailor file) = 5
+
+numbered : (s : Setting) (more : List (List ℕ)) → number_at (get_or (spelled s ++ more) 0 []) ≡ number_of s
+numbered (HandIn p) more = refl
+numbered IgnoreDictionary more = refl
+numbered ByTable more = refl
+numbered (CountIn u) more = refl
+numbered (Suppress f) more = refl
+numbered (Tailor f) more = refl
 
 differ : (m n : ℕ) → eqb m n ≡ false → m ≡ n → ⊥
 differ m n apart same = false≢true (sym apart ∙ eq-eqb m n same)
 
+-- options of different first words begin no words together
+other_word : (s t : Setting) (more others : List (List ℕ)) → eqb (number_of s) (number_of t) ≡ false → spelled s ++ more ≡ spelled t ++ others → s ≡ t
+other_word s t more others apart same =
+    absurd
+    (differ (number_of s) (number_of t) apart
+    (sym (numbered s more) ∙ ap (λ (w : List (List ℕ)). number_at (get_or w 0 [])) same ∙ numbered t others))
+
 -- words begin with one option alone
 pub same_setting : (s t : Setting) (more others : List (List ℕ)) → IsSetting s → IsSetting t → spelled s ++ more ≡ spelled t ++ others → s ≡ t
 same_setting (HandIn p) (HandIn q) more others form form' same = ap HandIn (same_property p q form form' cc)
-same_setting (HandIn p) IgnoreDictionary more others form form' same = absurd cc
-same_setting (HandIn p) ByTable more others form form' same = absurd cc
-same_setting (HandIn p) (CountIn u) more others form form' same = absurd (differ 112 117 refl (third _ _ same))
-same_setting IgnoreDictionary (HandIn p) more others form form' same = absurd cc
 same_setting IgnoreDictionary IgnoreDictionary more others form form' same = refl
-same_setting IgnoreDictionary ByTable more others form form' same = absurd cc
-same_setting IgnoreDictionary (CountIn u) more others form form' same = absurd (differ 105 117 refl (third _ _ same))
-same_setting ByTable (HandIn p) more others form form' same = absurd cc
-same_setting ByTable IgnoreDictionary more others form form' same = absurd cc
 same_setting ByTable ByTable more others form form' same = refl
-same_setting ByTable (CountIn u) more others form form' same = absurd (differ 116 117 refl (third _ _ same))
-same_setting (CountIn u) (HandIn p) more others form form' same = absurd (differ 117 112 refl (third _ _ same))
-same_setting (CountIn u) IgnoreDictionary more others form form' same = absurd (differ 117 105 refl (third _ _ same))
-same_setting (CountIn u) ByTable more others form form' same = absurd (differ 117 116 refl (third _ _ same))
 same_setting (CountIn u) (CountIn v) more others form form' same = ap CountIn (same_unit u v (ap (λ (w : List (List ℕ)). get_or w 1 []) same))
+same_setting (Suppress f) (Suppress g) more others form form' same = ap Suppress (ap (λ (w : List (List ℕ)). get_or w 1 []) same)
+same_setting (Tailor f) (Tailor g) more others form form' same = ap Tailor (ap (λ (w : List (List ℕ)). get_or w 1 []) same)
+same_setting s t more others form form' same = other_word s t more others refl same
 
 -- an option begins as an option does
 option_begins : (s : Setting) (more : List (List ℕ)) → BeginsWithoutOption (spelled s ++ more) → ⊥
@@ -132,6 +150,8 @@ option_begins (HandIn p) more none = none (codes "prop", refl)
 option_begins IgnoreDictionary more none = none (codes "ignore-dictionary", refl)
 option_begins ByTable more none = none (codes "table", refl)
 option_begins (CountIn u) more none = none (codes "units", refl)
+option_begins (Suppress f) more none = none (codes "suppress", refl)
+option_begins (Tailor f) more none = none (codes "tailor", refl)
 
 -- what stands behind the same option
 behind_option : (s : Setting) (more others : List (List ℕ)) → spelled s ++ more ≡ spelled s ++ others → more ≡ others
@@ -139,6 +159,8 @@ behind_option (HandIn p) more others same = cc
 behind_option IgnoreDictionary more others same = cc
 behind_option ByTable more others same = cc
 behind_option (CountIn u) more others same = ap (drop 2) same
+behind_option (Suppress f) more others same = ap (drop 2) same
+behind_option (Tailor f) more others same = ap (drop 2) same
 
 -- options that words begin with are among those of any other reading of them
 pub further_settings : (ss ts : List Setting) (w v : List (List ℕ)) → AllByRecursion IsSetting ss → AllByRecursion IsSetting ts → BeginsWithoutOption v
@@ -204,6 +226,8 @@ some_words (HandIn p) = omega arith
 some_words IgnoreDictionary = omega arith
 some_words ByTable = omega arith
 some_words (CountIn u) = omega arith
+some_words (Suppress f) = omega arith
+some_words (Tailor f) = omega arith
 
 -- an option is no longer than the words that it begins
 pub words_left : (words behind : List (List ℕ)) (s : Setting) (at : ℕ) → at ≤ length words → behind ≡ drop at words

@@ -1,7 +1,6 @@
 -- The files that words name to be read, each with its limit.
-use Rattle.std.specs.Prelude.{◌≡◌, ◌<◌, ◌≤◌, ℕ, List, [], ◌∷◌, ◌++◌, length, map, codes}
+use Rattle.std.specs.Prelude.{◌≡◌, ◌<◌, ◌≤◌, ℕ, List, [], ◌∷◌, ◌++◌, length, codes}
 use Rattle.rbbi_text.specs.Bytes.{most_bytes}
-use Rattle.rbbi_command.specs.declared.words.setting.Property.{Property}
 use Rattle.rbbi_command.specs.declared.words.command.Operand.{Operand}
 use Rattle.rbbi_command.specs.declared.words.command.Operand.TheVariants.{Read, Written, Count}
 use Rattle.rbbi_command.specs.declared.files.Role.{Role}
@@ -18,6 +17,7 @@ use Rattle.rbbi_command.specs.Words.{Request, operands_of}
 -- the most bytes that a file in this role may have
 abbrev pub limit_of : Role → ℕ
 limit_of role.Property = 8388608
+limit_of role.Filter = 65536
 limit_of role.Rules = 1048576
 limit_of role.OtherRules = 1048576
 limit_of role.Table = most_bytes
@@ -28,16 +28,13 @@ limit_of role.Tests = 16777216
 -- what the faults of a file are told of
 abbrev pub subject_of : Role → List ℕ → Subject
 subject_of role.Property name = File name
+subject_of role.Filter name = File name
 subject_of role.Rules name = Rules
 subject_of role.OtherRules name = OtherRules
 subject_of role.Table name = Table
 subject_of role.Text name = File name
 subject_of role.Script name = File name
 subject_of role.Tests name = File name
-
--- the property file
-abbrev pub property_source : Property → Source
-property_source property = record { role = role.Property; name = property.file }
 
 -- the file of an operand, where it is read
 abbrev pub operand_source : Operand → List ℕ → List Source
@@ -54,7 +51,7 @@ operand_sources (operand ∷ operands) (name ∷ names) = operand_source operand
 -- the files that a request names to be read, in the order of the words
 abbrev pub sources_of : Request → List Source
 sources_of request =
-    map property_source request.options.properties ++ operand_sources (operands_of request.command request.options.by_table) request.operands
+    request.options.files ++ operand_sources (operands_of request.command request.options.by_table) request.operands
 
 -- the file is too long
 abbrev pub too_long : Source → Refusal

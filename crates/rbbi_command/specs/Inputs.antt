@@ -11,6 +11,7 @@ use Rattle.rbbi_command.specs.declared.inputs.Inputs as code
 -- The bytes of the property files, in order, and what each other file holds. A file that a request doesn't name is empty.
 pub record Inputs : Type 0 where
   pub properties : List (List ℕ)
+  pub filter : Input
   pub rules : List ℕ
   pub other_rules : List ℕ
   pub table : List ℕ
@@ -23,6 +24,7 @@ abbrev pub inputs_in : code.Inputs → Inputs
 inputs_in inputs =
     record {
       properties = inputs.properties.items;
+      filter = inputs.filter;
       rules = inputs.rules;
       other_rules = inputs.other_rules;
       table = inputs.table;
@@ -35,11 +37,12 @@ inputs_in inputs =
 abbrev pub no_inputs : Inputs
 no_inputs =
     let none : Input = record { name = []; bytes = [] } in
-    record { properties = []; rules = []; other_rules = []; table = []; text = none; script = none; tests = none }
+    record { properties = []; filter = none; rules = []; other_rules = []; table = []; text = none; script = none; tests = none }
 
 -- the inputs with a file of this role, this name and these bytes
 abbrev pub put : Role → List ℕ → List ℕ → Inputs → Inputs
 put role.Property name bytes inputs = record inputs { properties = inputs.properties ++ bytes ∷ [] }
+put role.Filter name bytes inputs = record inputs { filter = record { name = name; bytes = bytes } }
 put role.Rules name bytes inputs = record inputs { rules = bytes }
 put role.OtherRules name bytes inputs = record inputs { other_rules = bytes }
 put role.Table name bytes inputs = record inputs { table = bytes }
@@ -59,6 +62,7 @@ inputs_of held sources = with_files held no_inputs sources
 -- none has more bytes than are read at once
 pub record AreShort (inputs : Inputs) : Type 0 where
   pub properties : AllByRecursion (λ bytes. length bytes ≤ most_bytes) inputs.properties
+  pub filter : length inputs.filter.bytes ≤ most_bytes
   pub rules : length inputs.rules ≤ most_bytes
   pub other_rules : length inputs.other_rules ≤ most_bytes
   pub table : length inputs.table ≤ most_bytes

@@ -9,7 +9,14 @@ use Rattle.rbbi_command.specs.Words.{Request}
 -- the options of the code
 abbrev pub options_in : settings.Options → Options
 options_in options =
-    record { properties = options.properties.items; ignored = options.ignored; by_table = options.by_table; unit = options.unit }
+    record {
+      files = options.files.items;
+      properties = options.properties.items;
+      ignored = options.ignored;
+      by_table = options.by_table;
+      unit = options.unit;
+      filter = options.filter;
+    }
 
 -- the command, what the options come to, and the bytes of the operands
 abbrev pub asked_by : code.Request → Request

@@ -1,15 +1,20 @@
 -- The options between the word of a command and its first operand.
 use Rattle.std.specs.Prelude.{◌≡◌, ◌≢◌, ℕ, ◌-◌, Bool, true, false, not, ◌&&◌, ◌||◌, ◌==◌, nat_le, if◌then◌else◌, List, [], ◌∷◌, ◌++◌, length, codes, count_by}
 use Rattle.std.specs.Prelude.{filter_map, fold, Option, Some, None, unwrap_or}
+use Rattle.std.specs.Option.{option_or}
 use Rattle.std.specs.List.{list_any, list_all, flat_map, AllByRecursion}
 use Rattle.std.specs.Char.{is_ascii_alphanumeric}
 use Rattle.rbbi_model.specs.declared.unit.Unit.{Unit as TextUnit}
 use Rattle.rbbi_model.specs.declared.unit.Unit.TheVariants.{Chars, Utf8, Utf16}
 use Rattle.rbbi_command.specs.declared.words.setting.Property.{Property}
+use Rattle.rbbi_command.specs.declared.words.setting.FilterKind.{FilterKind}
+use Rattle.rbbi_command.specs.declared.words.setting.FilterKind.TheVariants.{Abbreviations, Pairs}
 use Rattle.rbbi_command.specs.declared.words.setting.Setting.{Setting}
-use Rattle.rbbi_command.specs.declared.words.setting.Setting.TheVariants.{HandIn, IgnoreDictionary, ByTable, CountIn}
+use Rattle.rbbi_command.specs.declared.words.setting.Setting.TheVariants.{HandIn, IgnoreDictionary, ByTable, CountIn, Suppress, Tailor}
+use Rattle.rbbi_command.specs.declared.files.Role.TheVariants as role
+use Rattle.rbbi_command.specs.declared.files.Source.{Source}
 use Rattle.rbbi_command.specs.declared.words.command.Takes.{Takes}
-use Rattle.rbbi_command.specs.declared.words.command.Takes.TheVariants.{NoOptions, RuleOptions, RuleOptionsOrTable, RuleOptionsOrTableAndUnit}
+use Rattle.rbbi_command.specs.declared.words.command.Takes.TheVariants.{NoOptions, RuleOptions, RuleOptionsOrTable, RuleOptionsOrTableAndTelling}
 
 -- whether a byte may stand in the name of a property: a letter, a digit, a space, `_` or `-`
 abbrev pub is_property_name_byte : ℕ → Bool
@@ -25,6 +30,8 @@ IsSetting (HandIn property) = (is_property_name property.name ≡ true) × (prop
 IsSetting IgnoreDictionary = Unit {0}
 IsSetting ByTable = Unit {0}
 IsSetting (CountIn unit) = Unit {0}
+IsSetting (Suppress file) = Unit {0}
+IsSetting (Tailor file) = Unit {0}
 
 -- the word of a unit
 abbrev pub unit_word : TextUnit → List ℕ
@@ -38,6 +45,8 @@ spelled (HandIn property) = codes "--prop" ∷ (property.name ++ 61 ∷ property
 spelled IgnoreDictionary = codes "--ignore-dictionary" ∷ []
 spelled ByTable = codes "--table" ∷ []
 spelled (CountIn unit) = codes "--units" ∷ unit_word unit ∷ []
+spelled (Suppress file) = codes "--suppress" ∷ file ∷ []
+spelled (Tailor file) = codes "--tailor" ∷ file ∷ []
 
 -- whether the option hands in a property file
 abbrev pub is_property : Setting → Bool
@@ -45,6 +54,8 @@ is_property (HandIn property) = true
 is_property IgnoreDictionary = false
 is_property ByTable = false
 is_property (CountIn unit) = false
+is_property (Suppress file) = false
+is_property (Tailor file) = false
 
 -- the property file that an option hands in
 abbrev pub property_of : Setting → Option Property
@@ -52,6 +63,8 @@ property_of (HandIn property) = Some property
 property_of IgnoreDictionary = None
 property_of ByTable = None
 property_of (CountIn unit) = None
+property_of (Suppress file) = None
+property_of (Tailor file) = None
 
 -- whether the option lets `$dictionary` be a variable like others
 abbrev pub is_ignoring : Setting → Bool
@@ -59,6 +72,8 @@ is_ignoring (HandIn property) = false
 is_ignoring IgnoreDictionary = true
 is_ignoring ByTable = false
 is_ignoring (CountIn unit) = false
+is_ignoring (Suppress file) = false
+is_ignoring (Tailor file) = false
 
 -- whether the option says that the first operand is a table file
 abbrev pub is_by_table : Setting → Bool
@@ -66,17 +81,21 @@ is_by_table (HandIn property) = false
 is_by_table IgnoreDictionary = false
 is_by_table ByTable = true
 is_by_table (CountIn unit) = false
+is_by_table (Suppress file) = false
+is_by_table (Tailor file) = false
 
 -- whether one of the options says that the first operand is a table file
 abbrev pub are_by_table : List Setting → Bool
 are_by_table settings = list_any is_by_table settings
 
--- whether the option names a unit
-abbrev pub is_unit : Setting → Bool
-is_unit (HandIn property) = false
-is_unit IgnoreDictionary = false
-is_unit ByTable = false
-is_unit (CountIn unit) = true
+-- whether the option says how boundaries are told: in a unit, or through a filter
+abbrev pub is_telling : Setting → Bool
+is_telling (HandIn property) = false
+is_telling IgnoreDictionary = false
+is_telling ByTable = false
+is_telling (CountIn unit) = true
+is_telling (Suppress file) = true
+is_telling (Tailor file) = true
 
 -- the unit that an option names
 abbrev pub unit_in : Setting → Option TextUnit
@@ -84,43 +103,72 @@ unit_in (HandIn property) = None
 unit_in IgnoreDictionary = None
 unit_in ByTable = None
 unit_in (CountIn unit) = Some unit
+unit_in (Suppress file) = None
+unit_in (Tailor file) = None
 
 -- the unit that the options name, or characters where none does
 abbrev pub unit_of : List Setting → TextUnit
 unit_of settings = fold (λ unit setting. unwrap_or (unit_in setting) unit) Chars settings
 
--- what options come to: the property files that are handed in, whether `$dictionary` is a variable like others, whether the first operand
--- is a table file, and the unit of places, numbers and lengths
+-- what the filter file has that an option names
+abbrev pub filter_in : Setting → Option FilterKind
+filter_in (HandIn property) = None
+filter_in IgnoreDictionary = None
+filter_in ByTable = None
+filter_in (CountIn unit) = None
+filter_in (Suppress file) = Some Abbreviations
+filter_in (Tailor file) = Some Pairs
+
+-- what the filter file has that the options name, if they name one
+abbrev pub filter_of : List Setting → Option FilterKind
+filter_of settings = fold (λ filter setting. option_or (filter_in setting) filter) None settings
+
+-- the file that an option names to be read
+abbrev pub source_in : Setting → Option Source
+source_in (HandIn property) = Some (record { role = role.Property; name = property.file })
+source_in IgnoreDictionary = None
+source_in ByTable = None
+source_in (CountIn unit) = None
+source_in (Suppress file) = Some (record { role = role.Filter; name = file })
+source_in (Tailor file) = Some (record { role = role.Filter; name = file })
+
+-- what options come to: the files that they name to be read, the property files among them, whether `$dictionary` is a variable like
+-- others, whether the first operand is a table file, the unit of places, numbers and lengths, and what the filter file has, if there is one
 pub record Options : Type 0 where
+  pub files : List Source
   pub properties : List Property
   pub ignored : Bool
   pub by_table : Bool
   pub unit : TextUnit
+  pub filter : Option FilterKind
 
 abbrev pub options_of : List Setting → Options
 options_of settings =
     record {
+      files = filter_map source_in settings;
       properties = filter_map property_of settings;
       ignored = list_any is_ignoring settings;
       by_table = are_by_table settings;
       unit = unit_of settings;
+      filter = filter_of settings;
     }
 
 -- whether there are at most 16 property files, and `$dictionary` is ignored once at most
 abbrev pub are_few : List Setting → Bool
 are_few settings = nat_le (count_by is_property settings) 16 && nat_le (count_by is_ignoring settings) 1
 
--- Whether the options say by what boundaries come: a table file, and then of the others the unit alone may be there; or rules.
+-- Whether the options say by what boundaries come: a table file, and then of the others those alone may be there that say how boundaries
+-- are told; or rules.
 abbrev pub are_basis : List Setting → Bool
-are_basis settings = if are_by_table settings then length settings - count_by is_unit settings == 1 else are_few settings
+are_basis settings = if are_by_table settings then length settings - count_by is_telling settings == 1 else are_few settings
 
 -- Whether a command that takes such options takes these: none; those on rule files; or also the one that says that there is a table; or
--- one on the unit besides.
+-- one besides that says how boundaries are told.
 abbrev pub are_taken : Takes → List Setting → Bool
 are_taken NoOptions settings = length settings == 0
-are_taken RuleOptions settings = not (are_by_table settings) && are_few settings && (count_by is_unit settings == 0)
-are_taken RuleOptionsOrTable settings = are_basis settings && (count_by is_unit settings == 0)
-are_taken RuleOptionsOrTableAndUnit settings = are_basis settings && nat_le (count_by is_unit settings) 1
+are_taken RuleOptions settings = not (are_by_table settings) && are_few settings && (count_by is_telling settings == 0)
+are_taken RuleOptionsOrTable settings = are_basis settings && (count_by is_telling settings == 0)
+are_taken RuleOptionsOrTableAndTelling settings = are_basis settings && nat_le (count_by is_telling settings) 1
 
 -- the word begins as an option does
 abbrev pub IsOption : List ℕ → Type 0

@@ -3,7 +3,7 @@ use Rattle.std.specs.Prelude.{◌≡◌, Bool, true, false, List, [], ◌∷◌,
 use Rattle.rbbi_command.specs.declared.words.command.Command.{Command}
 use Rattle.rbbi_command.specs.declared.words.command.Command.TheVariants.{Check, Compile, Upgrade, Same, Breaks, Run, Conform, Tally, Demo}
 use Rattle.rbbi_command.specs.declared.words.command.Takes.{Takes}
-use Rattle.rbbi_command.specs.declared.words.command.Takes.TheVariants.{NoOptions, RuleOptions, RuleOptionsOrTable, RuleOptionsOrTableAndUnit}
+use Rattle.rbbi_command.specs.declared.words.command.Takes.TheVariants.{NoOptions, RuleOptions, RuleOptionsOrTable, RuleOptionsOrTableAndTelling}
 use Rattle.rbbi_command.specs.declared.words.command.Operand.{Operand}
 use Rattle.rbbi_command.specs.declared.words.command.Operand.TheVariants.{Read, Written, Count}
 use Rattle.rbbi_command.specs.declared.files.Role.TheVariants.{Rules, OtherRules, Table, Text, Script, Tests}
@@ -29,8 +29,8 @@ taken_by Check = RuleOptions
 taken_by Compile = RuleOptions
 taken_by Upgrade = NoOptions
 taken_by Same = RuleOptions
-taken_by Breaks = RuleOptionsOrTableAndUnit
-taken_by Run = RuleOptionsOrTableAndUnit
+taken_by Breaks = RuleOptionsOrTableAndTelling
+taken_by Run = RuleOptionsOrTableAndTelling
 taken_by Conform = RuleOptionsOrTable
 taken_by Tally = RuleOptionsOrTable
 taken_by Demo = NoOptions

@@ -14,6 +14,8 @@ use std::alloc::{AllocError, Global};
 pub enum Role {
     /// A property file.
     Property,
+    /// A filter file.
+    Filter,
     /// The rule file, or the first of two.
     Rules,
     /// The second rule file.
@@ -42,6 +44,7 @@ impl Role {
     {
         match self {
             Role::Property => 8_388_608,
+            Role::Filter => 65_536,
             Role::Rules | Role::OtherRules => 1_048_576,
             Role::Table => MOST_BYTES as u64,
             Role::Text => 67_108_864,
@@ -58,9 +61,9 @@ impl Role {
             Role::Rules => Ok(Subject::Rules),
             Role::OtherRules => Ok(Subject::OtherRules),
             Role::Table => Ok(Subject::Table),
-            Role::Property | Role::Text | Role::Script | Role::Tests => Ok(Subject::File(Name::new(
-                alloc, name,
-            )?)),
+            Role::Property | Role::Filter | Role::Text | Role::Script | Role::Tests => {
+                Ok(Subject::File(Name::new(alloc, name)?))
+            }
         }
     }
 }

@@ -23,6 +23,8 @@ pub struct Input {
 pub struct Inputs {
     /// The property files, in order.
     pub properties: Vec<Raw>,
+    /// The filter file.
+    pub filter: Input,
     /// The rule file, or the first of two.
     pub rules: Raw,
     /// The second rule file.
@@ -61,6 +63,7 @@ impl Inputs {
     {
         Ok(Inputs {
             properties: Vec::new(alloc),
+            filter: Input::none(alloc)?,
             rules: Raw::new(Vec::new(alloc)),
             other_rules: Raw::new(Vec::new(alloc)),
             table: Raw::new(Vec::new(alloc)),
@@ -78,6 +81,7 @@ impl Inputs {
         let name = source.name.as_str();
         match source.role {
             Role::Property => self.properties.push(bytes)?,
+            Role::Filter => self.filter = Input::new(alloc, name, bytes)?,
             Role::Rules => self.rules = bytes,
             Role::OtherRules => self.other_rules = bytes,
             Role::Table => self.table = bytes,

@@ -23,4 +23,4 @@ pub use name::Name;
 pub use output::{Output, Written};
 pub use refusal::{Place, Refusal, Subject, fault, file_fault};
 pub use sources::sources_of;
-pub use words::{Command, Operand, Options, Property, Request, count_of, request_of};
+pub use words::{Command, FilterKind, Operand, Options, Property, Request, count_of, request_of};

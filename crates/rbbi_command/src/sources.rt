@@ -5,18 +5,18 @@ ghost use Rattle.rbbi_command.specs.Words.{operands_of};
 ghost use Rattle.rbbi_command.specs.Requests.{asked_by};
 ghost use Rattle.rbbi_command.specs.Files as spec;
 
-use crate::{Name, Operand, Property, Request, Role, Source};
+use crate::{Name, Operand, Request, Source};
 use std::alloc::{AllocError, Global};
 
-/// The property files, in order.
-fn property_sources(alloc: Global, properties: &[Property]) -> Result<Vec<Source>, AllocError>
-    ensures { IfOk result (λ sources. sources.items ≡ map spec.property_source properties.now) }
+/// A copy of files, in order.
+fn copies(alloc: Global, files: &[Source]) -> Result<Vec<Source>, AllocError>
+    ensures { IfOk result (λ sources. sources.items ≡ files.now) }
 {
     let mut sources = Vec::new(alloc);
-    for property in properties {
-        let name = Name::new(alloc, property.file.as_str())?;
+    for file in files {
+        let name = Name::new(alloc, file.name.as_str())?;
         sources.push(Source {
-            role: Role::Property,
+            role: file.role,
             name,
         })?;
     }
@@ -63,7 +63,7 @@ pub fn sources_of(alloc: Global, request: &Request) -> Result<Vec<Source>, Alloc
         ≡ length (operands_of request.now.command request.now.options.by_table) }
     ensures { IfOk result (λ sources. sources.items ≡ spec.sources_of (asked_by request.now)) }
 {
-    let mut sources = property_sources(alloc, &request.options.properties)?;
+    let mut sources = copies(alloc, &request.options.files)?;
     let operands = request.command.operands(request.options.by_table);
     add_operands(&mut sources, alloc, operands, request.operands)?;
     Ok(sources)

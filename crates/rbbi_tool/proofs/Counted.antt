@@ -1,9 +1,10 @@
 -- The bytes that count of the files that a request names, and what a command reads of them.
 use Rattle.std.proofs.Common.{◌≡◌, ℕ, ◌+◌, ◌<◌, ◌≤◌, List, [], ◌∷◌, length, take, get_or, refl, ap, ◌∙◌, subst, inl, inr, ⊎_elim, arith}
-use Rattle.std.specs.Prelude.{◌⊎◌, sum_by, Option, IfSome}
+use Rattle.std.specs.Prelude.{◌⊎◌, sum_by, Option, Some, None, IfSome}
 use Rattle.std.proofs.lemmas.List.Sums.{sum_by-append, sum_by-cons, sum_by_more, sum_by-take-le}
 use Rattle.rbbi_model.specs.Tables.{Table}
 use Rattle.rbbi_model.specs.Scripts as model
+use Rattle.rbbi_model.specs.Answers as question
 use Rattle.rbbi_model.specs.Costs.{script_cost, breaks_cost}
 use Rattle.rbbi_text.specs.Steps.{RisesUpTo}
 use Rattle.rbbi_command.specs.declared.words.command.Command.{Command}
@@ -11,7 +12,10 @@ use Rattle.rbbi_command.specs.declared.words.command.Command.TheVariants.{Check,
 use Rattle.rbbi_command.specs.declared.files.Role.{Role}
 use Rattle.rbbi_command.specs.declared.files.Role.TheVariants as role
 use Rattle.rbbi_command.specs.declared.files.Source.{Source}
-use Rattle.rbbi_command.specs.Stages.{Stage}
+use Rattle.rbbi_filter.specs.FilterCosts.{commands_through}
+use Rattle.rbbi_command.specs.declared.words.setting.FilterKind.{FilterKind}
+use Rattle.rbbi_command.specs.Settings.{Options}
+use Rattle.rbbi_command.specs.Stages.{Stage, gives}
 use Rattle.rbbi_command.specs.Words.{Request, IsCommandLine}
 use Rattle.rbbi_command.specs.Files.{sources_of}
 use Rattle.rbbi_command.specs.Inputs.{Inputs, no_inputs, put, with_files, inputs_of}
@@ -19,7 +23,8 @@ use Rattle.rbbi_command.specs.Reads.{MakesSomeReads, AreRead}
 use Rattle.rbbi_tool.specs.Texts.{text_stage}
 use Rattle.rbbi_tool.specs.Scripts.{script_stage}
 use Rattle.rbbi_tool.specs.Basis.{Basis, IsTableOf, basis_stage}
-use Rattle.rbbi_tool.specs.Steps.{counted, named_bytes, ReadsForBreaks, ReadsForScript, tally_cost, CommandReads, RequestReads}
+use Rattle.rbbi_tool.specs.Steps.{counted, named_bytes, ReadsForBreaks, ReadsForScript, tally_cost, CommandReads, RequestReads, ReadsThrough, BreaksReads, RunReads}
+use Rattle.rbbi_tool.specs.Filters.{FilteredBasis, filtered_stage}
 use Rattle.rbbi_tool.specs.inner.Steps.{given_bytes, ReadsInOrder}
 use Rattle.rbbi_tool.specs.inner.Prepared.{ReadsByEnd}
 use Rattle.rbbi_command.proofs.Forms.{same_request}
@@ -78,6 +83,23 @@ module _ (basis : Stage Basis) (text : Stage (List ℕ)) (bytes before between a
     reads = rises_twice bytes (cost_of table x commands) before between after paid cost;
   })
 
+-- what is read for the replies to commands through a filter
+pub told_reads : (filtered : Stage FilteredBasis) (text : Stage (List ℕ)) (script : Stage (List model.Command)) (bytes before between after : ℕ)
+    (by : FilteredBasis) (table : Table) (x : List ℕ) (commands : List model.Command) → filtered.passes by → IsTableOf table by.basis → text.passes x
+    → script.passes commands → RisesUpTo bytes before between → RisesUpTo (commands_through by.filter table (model.opened x) commands) between after
+    → RisesUpTo bytes before after ⊎ ReadsThrough filtered text script bytes before after
+told_reads filtered text script bytes before between after by table x commands passes table_is text_is script_is paid cost = inr (record {
+  by = by;
+  table = table;
+  x = x;
+  commands = commands;
+  passes = passes;
+  table_is = table_is;
+  text_is = text_is;
+  script_is = script_is;
+  reads = rises_twice bytes (commands_through by.filter table (model.opened x) commands) before between after paid cost;
+})
+
 -- where nothing is read, nothing is over the bound
 command_reads_none : (command : Command) (request : Request) (inputs : Inputs) (bytes before after : ℕ) → RisesUpTo 0 before after
     → CommandReads command request inputs bytes before after
@@ -101,6 +123,7 @@ reads_none contents request steps =
 -- a file more counts its bytes, or in place of others
 put_counted : (role : Role) (name bytes : List ℕ) (inputs : Inputs) → given_bytes (put role name bytes inputs) ≤ given_bytes inputs + counted role bytes
 put_counted role.Property name bytes inputs = omega (arith, sum_by-append length inputs.properties (bytes ∷ []), sum_by-cons length bytes [])
+put_counted role.Filter name bytes inputs = omega arith
 put_counted role.Rules name bytes inputs = omega arith
 put_counted role.OtherRules name bytes inputs = omega arith
 put_counted role.Table name bytes inputs = omega arith
@@ -127,11 +150,11 @@ module _ (held : List ℕ → List ℕ) where
 
 -- a script reads no more than may be
 script_further : (basis : Stage Basis) (text : Stage (List ℕ)) (script : Stage (List model.Command)) (cost_of : Table → List ℕ → List model.Command → ℕ)
-    (few many before after : ℕ) → few ≤ many → RisesUpTo few before after ⊎ ReadsForScript basis text script cost_of few before after
-    → RisesUpTo many before after ⊎ ReadsForScript basis text script cost_of many before after
-script_further basis text script cost_of few many before after less =
-    ⊎_elim (λ paid. inl (rises_further few many before after paid less))
-    (λ r. inr (record {
+    (few many before after : ℕ) → few ≤ many → ReadsForScript basis text script cost_of few before after
+    → ReadsForScript basis text script cost_of many before after
+script_further basis text script cost_of few many before after less r =
+    let cost : ℕ = cost_of r.table r.x r.commands in
+    record {
       by = r.by;
       table = r.table;
       x = r.x;
@@ -140,8 +163,48 @@ script_further basis text script cost_of few many before after less =
       table_is = r.table_is;
       text_is = r.text_is;
       script_is = r.script_is;
-      reads = rises_further (few + cost_of r.table r.x r.commands) (many + cost_of r.table r.x r.commands) before after r.reads (omega (arith, less));
-    }))
+      reads = rises_further (few + cost) (many + cost) before after r.reads (omega (arith, less));
+    }
+
+through_further : (filtered : Stage FilteredBasis) (text : Stage (List ℕ)) (script : Stage (List model.Command)) (few many before after : ℕ) → few ≤ many
+    → ReadsThrough filtered text script few before after → ReadsThrough filtered text script many before after
+through_further filtered text script few many before after less r =
+    let cost : ℕ = commands_through r.by.filter r.table (model.opened r.x) r.commands in
+    record {
+      by = r.by;
+      table = r.table;
+      x = r.x;
+      commands = r.commands;
+      passes = r.passes;
+      table_is = r.table_is;
+      text_is = r.text_is;
+      script_is = r.script_is;
+      reads = rises_further (few + cost) (many + cost) before after r.reads (omega (arith, less));
+    }
+
+-- answering reads no more than may be
+module _ (options : Options) (inputs : Inputs) (few many before after : ℕ) (less : few ≤ many) where
+  breaks_further : (filter : Option FilterKind) → BreaksReads filter options inputs few before after → BreaksReads filter options inputs many before after
+  breaks_further None r =
+      let cost : ℕ = breaks_cost r.table r.x 0 in
+      record {
+        by = r.by;
+        table = r.table;
+        x = r.x;
+        passes = r.passes;
+        table_is = r.table_is;
+        text_is = r.text_is;
+        reads = rises_further (few + cost) (many + cost) before after r.reads (omega (arith, less));
+      }
+  breaks_further (Some kind) r =
+      through_further (filtered_stage kind options inputs) (text_stage inputs.text) (gives (model.Ask question.Breaks ∷ [])) few many before after less r
+
+  run_further : (filter : Option FilterKind) → RunReads filter options inputs few before after → RunReads filter options inputs many before after
+  run_further None r =
+      script_further (basis_stage options inputs) (text_stage inputs.text) (script_stage inputs.script) (λ table. script_cost table options.unit) few many
+      before after less r
+  run_further (Some kind) r =
+      through_further (filtered_stage kind options inputs) (text_stage inputs.text) (script_stage inputs.script) few many before after less r
 
 -- a command reads no more than may be
 reads_further : (command : Command) (request : Request) (inputs : Inputs) (few many before after : ℕ) → few ≤ many
@@ -154,21 +217,14 @@ reads_further Conform request inputs few many before after less reads = tt
 reads_further Demo request inputs few many before after less reads = tt
 reads_further Breaks request inputs few many before after less reads =
     ⊎_elim (λ paid. inl (rises_further few many before after paid less))
-    (λ r. inr (record {
-      by = r.by;
-      table = r.table;
-      x = r.x;
-      passes = r.passes;
-      table_is = r.table_is;
-      text_is = r.text_is;
-      reads = rises_further (few + breaks_cost r.table r.x 0) (many + breaks_cost r.table r.x 0) before after r.reads (omega (arith, less));
-    }))
-    reads
+    (λ r. inr (breaks_further request.options inputs few many before after less request.options.filter r)) reads
 reads_further Run request inputs few many before after less reads =
-    script_further (basis_stage request.options inputs) (text_stage inputs.text) (script_stage inputs.script) (λ table. script_cost table request.options.unit)
-    few many before after less reads
+    ⊎_elim (λ paid. inl (rises_further few many before after paid less))
+    (λ r. inr (run_further request.options inputs few many before after less request.options.filter r)) reads
 reads_further Tally request inputs few many before after less reads =
-    script_further (basis_stage request.options inputs) (text_stage inputs.text) (script_stage inputs.script) tally_cost few many before after less reads
+    ⊎_elim (λ paid. inl (rises_further few many before after paid less))
+    (λ r. inr (script_further (basis_stage request.options inputs) (text_stage inputs.text) (script_stage inputs.script) tally_cost few many before after
+    less r)) reads
 
 -- no file is read
 pub reads_nothing : (words : List (List ℕ)) (contents : Option (List ℕ → List ℕ)) (reads : List ℕ → ℕ) (steps : ℕ)

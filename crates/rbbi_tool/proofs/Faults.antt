@@ -1,9 +1,11 @@
 -- The stages of commands refuse with faults of files alone.
-use Rattle.std.proofs.Common.{◌≡◌, ◌≢◌, refl, ℕ, Bool, true, false, Option, List, [], ◌∷◌, sym, subst, inl, inr}
+use Rattle.std.proofs.Common.{◌≡◌, ◌≢◌, refl, ℕ, Bool, true, false, Option, Some, None, List, [], ◌∷◌, sym, subst, inl, inr}
 use Rattle.rbbi_model.specs.Rules.{Rule}
 use Rattle.rbbi_command.specs.declared.words.command.Command.{Command}
 use Rattle.rbbi_command.specs.declared.words.command.Command.TheVariants.{Check, Compile, Upgrade, Same, Breaks, Run, Conform, Tally, Demo}
 use Rattle.rbbi_command.specs.declared.words.setting.Property.{Property}
+use Rattle.rbbi_command.specs.declared.words.setting.FilterKind.{FilterKind}
+use Rattle.rbbi_command.specs.declared.words.setting.FilterKind.TheVariants.{Abbreviations, Pairs}
 use Rattle.rbbi_command.specs.declared.inputs.Input.{Input}
 use Rattle.rbbi_command.specs.declared.refusal.Subject.{Subject}
 use Rattle.rbbi_command.specs.declared.refusal.Subject.TheVariants as subject
@@ -23,6 +25,9 @@ use Rattle.rbbi_tool.specs.Scripts.{lines_fault}
 use Rattle.rbbi_props.specs.Rows.{File}
 use Rattle.rbbi_tool.specs.Basis.{limits_stage, compiled_stage, compiled_bytes_stage, compiled_text_stage, basis_by}
 use Rattle.rbbi_tool.specs.Command.Same.{told_of_second, as_second, rule_files_stage}
+use Rattle.rbbi_tool.specs.Filters.{filter_stage, filtered_stage}
+use Rattle.rbbi_tool.specs.Command.Breaks.{breaks_by}
+use Rattle.rbbi_tool.specs.Command.Run.{play_by}
 use Rattle.rbbi_tool.specs.Program.{command_stage}
 
 -- a fault of a file ends the run
@@ -124,6 +129,36 @@ lines_fault_is name (lines.NotUtf8 at) r some is = is_fault _ _ _ r is
 lines_fault_is name (lines.BadLine line) r some is = is_fault _ _ _ r is
 lines_fault_is name lines.Memory r some is = absurd (some refl)
 
+-- filter files
+filter_fault : (kind : FilterKind) (file : Input) → Faults (filter_stage kind file)
+filter_fault Abbreviations file r is = lines_fault_is _ is.error r is.not_memory is.is
+filter_fault Pairs file r is = lines_fault_is _ is.error r is.not_memory is.is
+
+filtered_fault : (kind : FilterKind) (options : Options) (inputs : Inputs) → Faults (filtered_stage kind options inputs)
+filtered_fault kind options inputs r (inl is) = properties_fault options.properties inputs.properties r is
+filtered_fault kind options inputs r (inr (u, passed, inl is)) = filter_fault kind inputs.filter r is
+filtered_fault kind options inputs r (inr (u, passed, inr (filter, read, inl is))) = basis_fault options.by_table options inputs r is
+filtered_fault kind options inputs r (inr (u, passed, inr (filter, read, inr (basis, found, never)))) = absurd never
+
+-- boundaries and replies, also through a filter
+breaks_fault : (filter : Option FilterKind) (options : Options) (inputs : Inputs) → Faults (breaks_by filter options inputs)
+breaks_fault None options inputs r (inl is) = basis_fault options.by_table options inputs r is
+breaks_fault None options inputs r (inr (basis, passed, inl is)) = text_fault inputs.text r is
+breaks_fault None options inputs r (inr (basis, passed, inr (x, taken, never))) = absurd never
+breaks_fault (Some kind) options inputs r (inl is) = filtered_fault kind options inputs r is
+breaks_fault (Some kind) options inputs r (inr (filtered, passed, inl is)) = text_fault inputs.text r is
+breaks_fault (Some kind) options inputs r (inr (filtered, passed, inr (x, taken, never))) = absurd never
+
+run_fault : (filter : Option FilterKind) (options : Options) (inputs : Inputs) → Faults (play_by filter options inputs)
+run_fault None options inputs r (inl is) = basis_fault options.by_table options inputs r is
+run_fault None options inputs r (inr (basis, passed, inl is)) = text_fault inputs.text r is
+run_fault None options inputs r (inr (basis, passed, inr (x, taken, inl is))) = lines_fault_is _ is.error r is.not_memory is.is
+run_fault None options inputs r (inr (basis, passed, inr (x, taken, inr (commands, read, never)))) = absurd never
+run_fault (Some kind) options inputs r (inl is) = filtered_fault kind options inputs r is
+run_fault (Some kind) options inputs r (inr (filtered, passed, inl is)) = text_fault inputs.text r is
+run_fault (Some kind) options inputs r (inr (filtered, passed, inr (x, taken, inl is))) = lines_fault_is _ is.error r is.not_memory is.is
+run_fault (Some kind) options inputs r (inr (filtered, passed, inr (x, taken, inr (commands, read, never)))) = absurd never
+
 -- commands
 pub command_fault : (command : Command) (request : Request) (inputs : Inputs) (r : Refusal)
     → (command_stage command request inputs).refuses r → IsFault r
@@ -136,13 +171,8 @@ command_fault Upgrade request inputs r (inr (table, passed, never)) = absurd nev
 command_fault Same request inputs r (inl is) = properties_fault request.options.properties inputs.properties r is
 command_fault Same request inputs r (inr (u, passed, is)) =
     rule_files_fault (property_files request.options.properties inputs.properties) request.options.ignored inputs r is
-command_fault Breaks request inputs r (inl is) = basis_fault request.options.by_table request.options inputs r is
-command_fault Breaks request inputs r (inr (basis, passed, inl is)) = text_fault inputs.text r is
-command_fault Breaks request inputs r (inr (basis, passed, inr (x, taken, never))) = absurd never
-command_fault Run request inputs r (inl is) = basis_fault request.options.by_table request.options inputs r is
-command_fault Run request inputs r (inr (basis, passed, inl is)) = text_fault inputs.text r is
-command_fault Run request inputs r (inr (basis, passed, inr (x, taken, inl is))) = lines_fault_is _ is.error r is.not_memory is.is
-command_fault Run request inputs r (inr (basis, passed, inr (x, taken, inr (commands, read, never)))) = absurd never
+command_fault Breaks request inputs r is = breaks_fault request.options.filter request.options inputs r is
+command_fault Run request inputs r is = run_fault request.options.filter request.options inputs r is
 command_fault Tally request inputs r (inl is) = basis_fault request.options.by_table request.options inputs r is
 command_fault Tally request inputs r (inr (basis, passed, inl is)) = text_fault inputs.text r is
 command_fault Tally request inputs r (inr (basis, passed, inr (x, taken, inl is))) = lines_fault_is _ is.error r is.not_memory is.is

@@ -10,6 +10,8 @@ pub mod Numbers
 pub mod Bases
 pub mod Verdicts
 pub mod Replies
+pub mod Told
+pub mod ToldLines
 pub mod Commands
 pub mod Faults
 pub mod Runs

@@ -1,5 +1,5 @@
 -- Each stage is determined, and so is the outcome. The laws of the lower crates are handed in.
-use Rattle.std.proofs.Common.{◌≡◌, ◌≢◌, ◌⊎◌, ◌+◌, inl, inr, ⊎_elim, ℕ, Bool, true, false, List, [], ◌∷◌, length, Option, Some, is_some, sym, refl, ap, ◌∙◌}
+use Rattle.std.proofs.Common.{◌≡◌, ◌≢◌, ◌⊎◌, ◌+◌, inl, inr, ⊎_elim, ℕ, Bool, true, false, List, [], ◌∷◌, length, Option, Some, None, is_some, sym, refl, ap, ◌∙◌}
 use Rattle.std.proofs.Common.{arith}
 use Rattle.std.specs.Prelude.{codes, Result, Err, Ok}
 use Rattle.std.specs.Str.{chars}
@@ -40,6 +40,12 @@ use Rattle.rbbi_file.specs.Errors as reader
 use Rattle.rbbi_file.specs.Answers.{ReadsTable}
 use Rattle.rbbi_file.specs.Laws.{SpellOneTable}
 use Rattle.rbbi_script.specs.Laws.{HaveOneScript}
+use Rattle.rbbi_filter.specs.declared.filter.Filter.{Filter}
+use Rattle.rbbi_filter.specs.declared.filter.Filter.TheVariants.{Suppressing, Turning}
+use Rattle.rbbi_filter.specs.Filters.{searched, told, AreBoundariesThrough}
+use Rattle.rbbi_filter.specs.AbbreviationFiles.{ReadsAbbreviations}
+use Rattle.rbbi_filter.specs.PairFiles.{ReadsPairs}
+use Rattle.rbbi_filter.specs.Laws.{HaveOneAnswer}
 use Rattle.rbbi_conform.specs.Tests.{Test}
 use Rattle.rbbi_conform.specs.Laws.{HaveOneTestList, HasOneVerdict}
 use Rattle.rbbi_demo.specs.declared.summary.Summary.{Summary}
@@ -47,6 +53,8 @@ use Rattle.rbbi_demo.specs.Summaries.{IsSummary}
 use Rattle.rbbi_command.specs.declared.words.command.Command.{Command}
 use Rattle.rbbi_command.specs.declared.words.command.Command.TheVariants.{Check, Compile, Upgrade, Same, Breaks, Run, Conform, Tally, Demo}
 use Rattle.rbbi_command.specs.declared.words.setting.Property.{Property}
+use Rattle.rbbi_command.specs.declared.words.setting.FilterKind.{FilterKind}
+use Rattle.rbbi_command.specs.declared.words.setting.FilterKind.TheVariants.{Abbreviations, Pairs}
 use Rattle.rbbi_command.specs.declared.inputs.Input.{Input}
 use Rattle.rbbi_command.specs.declared.files.Source.{Source}
 use Rattle.rbbi_command.specs.declared.refusal.Subject.{Subject}
@@ -71,8 +79,9 @@ use Rattle.rbbi_command.specs.Inputs.{Inputs, inputs_of}
 use Rattle.rbbi_tool.specs.Command.Check.{counts_line}
 use Rattle.rbbi_tool.specs.Command.Compile.{table_outcome, TellsTable}
 use Rattle.rbbi_tool.specs.Command.Same.{IsComparison, comparison_stage, told_of_second, as_second, rule_files_stage}
-use Rattle.rbbi_tool.specs.Command.Breaks.{boundaries_stage}
-use Rattle.rbbi_tool.specs.Command.Run.{AreRepliesFrom, replies_stage}
+use Rattle.rbbi_tool.specs.Command.Breaks.{boundaries_stage, told_boundaries_stage, breaks_by}
+use Rattle.rbbi_tool.specs.Command.Run.{AreRepliesFrom, replies_stage, told_replies_stage, play_by}
+use Rattle.rbbi_tool.specs.Filters.{FilteredBasis, filter_stage, behind_filter, filtered_stage, AreBoundariesToldBy, AreRepliesToldBy}
 use Rattle.rbbi_tool.specs.Command.Conform.{told_verdicts, verdicts_stage}
 use Rattle.rbbi_tool.specs.Command.Tally.{counts_stage}
 use Rattle.rbbi_tool.specs.Command.Demo.{demo_rules, number_stage, summary_line, summary_stage}
@@ -81,8 +90,9 @@ use Rattle.rbbi_tool.specs.Program.{nth, words_stage, command_stage, request_sta
 use Rattle.rbbi_tool.specs.Causes.{TellOneDifference}
 use Rattle.rbbi_command.proofs.Forms.{same_request}
 use Rattle.rbbi_tool.proofs.StageLemmas.{IsSettled, settled, determined_both, settled_both}
-use Rattle.rbbi_tool.proofs.OneReading.{script_determined, tests_determined, same_verdicts}
+use Rattle.rbbi_tool.proofs.OneReading.{script_determined, tests_determined, same_verdicts, filter_determined}
 use Rattle.rbbi_tool.proofs.Tallied.{tally_determined}
+use Rattle.rbbi_model.proofs.Replies.{same_from}
 use Rattle.rbbi_tool.proofs.LeastFaults.{same_fault, meaning_excludes}
 use Rattle.rbbi_tool.proofs.SameMarks.{never_both, same_canonical}
 
@@ -103,6 +113,8 @@ pub record Laws : Type 0 where
   pub replies : (rules : List Rule) (unit : TextUnit) (x : List ℕ) (commands : List scripts.Command) (these those : List Reply)
       → AreReplies rules unit x commands these → AreReplies rules unit x commands those → these ≡ those
   pub scripts : HaveOneScript
+  pub abbreviations : HaveOneAnswer ReadsAbbreviations
+  pub pairs : HaveOneAnswer ReadsPairs
   pub summaries : (rules : List Rule) (count : ℕ) (one other : Summary) → IsSummary (AreBoundaries rules) count one
       → IsSummary (AreBoundaries rules) count other → one ≡ other
   pub tests : HaveOneTestList
@@ -382,6 +394,51 @@ module _ (laws : Laws) where
     apart = λ o r is is'. is';
   }
 
+  -- what boundaries come by behind a filter is determined
+  filter_file_determined : (kind : FilterKind) (file : Input) → IsDeterministic Filter (filter_stage kind file)
+  filter_file_determined Abbreviations file = filter_determined ReadsAbbreviations laws.abbreviations Suppressing file
+  filter_file_determined Pairs file = filter_determined ReadsPairs laws.pairs Turning file
+
+  filtered_determined : (kind : FilterKind) (options : Options) (inputs : Inputs) → IsDeterministic FilteredBasis (filtered_stage kind options inputs)
+  filtered_determined kind options inputs =
+      determined_both (properties_stage options.properties inputs.properties) (λ _. followed_by (filter_stage kind inputs.filter) (behind_filter options inputs))
+      (properties_determined options.properties inputs.properties)
+      (λ _.
+      determined_both (filter_stage kind inputs.filter) (behind_filter options inputs) (filter_file_determined kind inputs.filter)
+      (λ filter.
+      determined_both (basis_stage options inputs) (λ basis. gives (record { filter = filter; basis = basis }))
+      (basis_determined options.by_table options inputs) (λ basis. gives_determined (record { filter = filter; basis = basis }))))
+
+  -- boundaries and replies that are told are determined
+  same_told : (basis : Basis) (filter : Filter) (x : List ℕ) (these those : List Boundary) → AreBoundariesToldBy basis filter x these
+      → AreBoundariesToldBy basis filter x those → these ≡ those
+  same_told (ByRules rules) filter x these those are are' =
+      are.2 ∙ ap (told filter x) (laws.boundaries rules (searched filter x) are.0 are'.0 are.1 are'.1) ∙ sym are'.2
+  same_told (ByTable table) filter x these those are are' = are ∙ sym are'
+
+  told_boundaries_determined : (filtered : FilteredBasis) (x : List ℕ) → IsDeterministic Outcome (told_boundaries_stage filtered x)
+  told_boundaries_determined filtered x = record {
+    value = λ o p (bs, are, is) (cs, are', is').
+        is ∙ ap (λ list. printed (boundary_lines list)) (same_told filtered.basis filtered.filter x bs cs are are') ∙ sym is';
+    refusal = λ r s is is'. absurd is;
+    apart = λ o r is is'. is';
+  }
+
+  same_told_replies : (basis : Basis) (filter : Filter) (x : List ℕ) (commands : List scripts.Command) (these those : List Reply)
+      → AreRepliesToldBy basis filter x commands these → AreRepliesToldBy basis filter x commands those → these ≡ those
+  same_told_replies (ByRules rules) filter x commands these those are are' =
+      same_from scripts.edit (AreBoundariesThrough filter rules) (same_told (ByRules rules) filter) (scripts.opened x) commands these those are are'
+  same_told_replies (ByTable table) filter x commands these those are are' = are ∙ sym are'
+
+  told_replies_determined : (filtered : FilteredBasis) (x : List ℕ) (commands : List scripts.Command)
+      → IsDeterministic Outcome (told_replies_stage filtered x commands)
+  told_replies_determined filtered x commands = record {
+    value = λ o p (rs, are, is) (ss, are', is').
+        is ∙ ap (λ list. printed (all_reply_lines list)) (same_told_replies filtered.basis filtered.filter x commands rs ss are are') ∙ sym is';
+    refusal = λ r s is is'. absurd is;
+    apart = λ o r is is'. is';
+  }
+
   -- verdicts are determined
   verdicts_determined : (basis : Basis) (tests : List Test) → IsDeterministic Outcome (verdicts_stage basis tests)
   verdicts_determined basis tests = record {
@@ -458,15 +515,42 @@ module _ (laws : Laws) where
       settled AreAlike (followed_by (basis_stage options inputs) next) alike
       (determined_both (basis_stage options inputs) next (basis_determined options.by_table options inputs) each)
 
-  -- what a command answers is settled
-  command_settled : (command : Command) (request : Request) (inputs : Inputs) → IsSettled Outcome AreAlike (command_stage command request inputs)
-  command_settled Run request inputs =
+  -- what comes through a filter is settled
+  by_filter : (kind : FilterKind) (options : Options) (inputs : Inputs) (next : FilteredBasis → List ℕ → Stage Outcome)
+      → ((filtered : FilteredBasis) (x : List ℕ) → IsDeterministic Outcome (next filtered x))
+      → IsSettled Outcome AreAlike (followed_by (filtered_stage kind options inputs) (λ filtered. followed_by (text_stage inputs.text) (next filtered)))
+  by_filter kind options inputs next each =
+      settled AreAlike (followed_by (filtered_stage kind options inputs) (λ filtered. followed_by (text_stage inputs.text) (next filtered))) alike
+      (determined_both (filtered_stage kind options inputs) (λ filtered. followed_by (text_stage inputs.text) (next filtered))
+      (filtered_determined kind options inputs)
+      (λ filtered. determined_both (text_stage inputs.text) (next filtered) (text_determined inputs.text) (each filtered)))
+
+  -- boundaries and replies are settled
+  breaks_settled : (filter : Option FilterKind) (options : Options) (inputs : Inputs) → IsSettled Outcome AreAlike (breaks_by filter options inputs)
+  breaks_settled None options inputs =
+      let text = text_stage inputs.text in
+      let unit = options.unit in
+      by_basis options inputs (λ basis. followed_by text (boundaries_stage basis unit))
+      (λ basis. determined_both text (boundaries_stage basis unit) (text_determined inputs.text) (boundaries_determined basis unit))
+  breaks_settled (Some kind) options inputs = by_filter kind options inputs told_boundaries_stage told_boundaries_determined
+
+  play_settled : (filter : Option FilterKind) (options : Options) (inputs : Inputs) → IsSettled Outcome AreAlike (play_by filter options inputs)
+  play_settled None options inputs =
       let text = text_stage inputs.text in
       let script = script_stage inputs.script in
-      let unit = request.options.unit in
-      by_basis request.options inputs (λ basis. followed_by text (λ x. followed_by script (replies_stage basis unit x)))
+      let unit = options.unit in
+      by_basis options inputs (λ basis. followed_by text (λ x. followed_by script (replies_stage basis unit x)))
       (λ basis. determined_both text (λ x. followed_by script (replies_stage basis unit x)) (text_determined inputs.text)
       (λ x. determined_both script (replies_stage basis unit x) (script_determined laws.scripts inputs.script) (replies_determined basis unit x)))
+  play_settled (Some kind) options inputs =
+      let script = script_stage inputs.script in
+      by_filter kind options inputs (λ filtered x. followed_by script (told_replies_stage filtered x))
+      (λ filtered x.
+      determined_both script (told_replies_stage filtered x) (script_determined laws.scripts inputs.script) (told_replies_determined filtered x))
+
+  -- what a command answers is settled
+  command_settled : (command : Command) (request : Request) (inputs : Inputs) → IsSettled Outcome AreAlike (command_stage command request inputs)
+  command_settled Run request inputs = play_settled request.options.filter request.options inputs
   command_settled Tally request inputs =
       let text = text_stage inputs.text in
       let script = script_stage inputs.script in
@@ -477,11 +561,7 @@ module _ (laws : Laws) where
       let tests = tests_stage inputs.tests in
       by_basis request.options inputs (λ basis. followed_by tests (verdicts_stage basis))
       (λ basis. determined_both tests (verdicts_stage basis) (tests_determined laws.tests inputs.tests) (verdicts_determined basis))
-  command_settled Breaks request inputs =
-      let text = text_stage inputs.text in
-      let unit = request.options.unit in
-      by_basis request.options inputs (λ basis. followed_by text (boundaries_stage basis unit))
-      (λ basis. determined_both text (boundaries_stage basis unit) (text_determined inputs.text) (boundaries_determined basis unit))
+  command_settled Breaks request inputs = breaks_settled request.options.filter request.options inputs
   command_settled Demo request inputs =
       let word : List ℕ = nth request.operands 0 in
       settled AreAlike (command_stage Demo request inputs) alike

@@ -1,4 +1,4 @@
--- What a script and a test file come to is determined, and so are verdicts. The laws of the lower crates are handed in.
+-- What a script, a test file and a filter file come to is determined, and so are verdicts. The laws of the lower crates are handed in.
 use Rattle.std.proofs.Common.{◌≡◌, ℕ, List, [], ◌∷◌, map, refl, ap, sym, subst, ◌∙◌}
 use Rattle.std.specs.Prelude.{Result, Ok, Err}
 use Rattle.rbbi_model.specs.Boundaries.{Boundary}
@@ -9,10 +9,13 @@ use Rattle.rbbi_conform.specs.Tests.{Test}
 use Rattle.rbbi_conform.specs.declared.verdict.Verdict.{Verdict}
 use Rattle.rbbi_conform.specs.Verdicts.{IsVerdict}
 use Rattle.rbbi_conform.specs.Laws.{HaveOneTestList, HasOneVerdict}
+use Rattle.rbbi_text.specs.declared.error.LinesErr.{LinesErr}
+use Rattle.rbbi_filter.specs.declared.filter.Filter.{Filter}
+use Rattle.rbbi_filter.specs.Laws.{HaveOneAnswer}
 use Rattle.rbbi_command.specs.declared.inputs.Input.{Input}
 use Rattle.rbbi_tool.specs.inner.Stages.{IsDeterministic}
 use Rattle.rbbi_tool.specs.Basis.{Basis, AreBoundariesBy}
-use Rattle.rbbi_tool.specs.Scripts.{lines_fault, script_stage, tests_stage}
+use Rattle.rbbi_tool.specs.Scripts.{lines_fault, TellsLinesFault, script_stage, tests_stage}
 use Rattle.rbbi_tool.specs.Command.Conform.{AreVerdictsBy}
 
 -- answers that are the same have the same value or the same error, and are of one kind
@@ -52,6 +55,23 @@ tests_determined law tests = record {
   apart = λ ts r is is'.
       no_error ts is'.error (law tests.bytes (Ok ts) (Err is'.error) is is'.refused (λ e. no_error _ _ e) (λ e. is'.not_memory (error_of _ _ e)));
 }
+
+-- what a filter file comes to is determined
+module _ {A : Type 0} (Reads : List ℕ → Result A LinesErr → Type 0) (law : HaveOneAnswer Reads) (filter_of : A → Filter) (file : Input) where
+  pub filter_determined : IsDeterministic Filter (record {
+    passes = λ filter. (value : A) × Reads file.bytes (Ok value) × (filter ≡ filter_of value);
+    refuses = TellsLinesFault (λ error. Reads file.bytes (Err error)) file.name;
+  })
+  filter_determined = record {
+    value = λ f g (a, read, is) (b, read', is').
+        is ∙ ap filter_of (value_of a b (law file.bytes (Ok a) (Ok b) read read' (λ e. no_error _ _ e) (λ e. no_error _ _ e))) ∙ sym is';
+    refusal = λ r s is is'.
+        let same = law file.bytes (Err is.error) (Err is'.error) is.refused is'.refused (λ e. is.not_memory (error_of _ _ e))
+        (λ e. is'.not_memory (error_of _ _ e)) in
+        is.is ∙ ap (lines_fault file.name) (error_of is.error is'.error same) ∙ sym is'.is;
+    apart = λ f r (a, read, is) is'.
+        no_error a is'.error (law file.bytes (Ok a) (Err is'.error) read is'.refused (λ e. no_error _ _ e) (λ e. is'.not_memory (error_of _ _ e)));
+  }
 
 -- tests have one list of verdicts, where each text has one list of boundaries
 pub same_verdicts : (basis : Basis)

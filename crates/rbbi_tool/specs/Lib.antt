@@ -3,6 +3,7 @@ pub mod Properties
 pub mod Rules
 pub mod Basis
 pub mod Scripts
+pub mod Filters
 pub mod Command
 pub mod Program
 pub mod Causes

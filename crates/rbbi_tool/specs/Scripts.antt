@@ -15,7 +15,7 @@ use Rattle.rbbi_command.specs.declared.refusal.Refusal.{Refusal}
 use Rattle.rbbi_command.specs.declared.refusal.Refusal.TheVariants.{Fault, Memory}
 use Rattle.rbbi_command.specs.Stages.{Stage}
 
--- what a fault of the script or the test file of this name tells
+-- what a fault of a file of lines of this name tells
 abbrev pub lines_fault : List ℕ → LinesErr → Refusal
 lines_fault name (lines.NotUtf8 at) = Fault (File name) (codes "NotUtf8") (Byte at)
 lines_fault name (lines.BadLine line) = Fault (File name) (codes "BadLine") (Row line)

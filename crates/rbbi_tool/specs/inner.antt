@@ -1,5 +1,6 @@
 -- What only this crate's own code and proofs cite. Nothing that is promised rests on it.
 pub mod Stages
+pub mod Filters
 pub mod Judging
 pub mod Comparing
 pub mod Causes

@@ -17,6 +17,7 @@ ghost use Rattle.rbbi_tool.specs.inner.Prepared.{bytes_of, cost_of, outcome_of, 
 
 use crate::prepared::{Lines, Prepared};
 use crate::tallying::put_tally;
+use crate::told_emission::{put_boundaries_through, put_replies_through};
 use rbbi_command::deliver;
 use rbbi_io::{Files, Sink, WriteErr, put_all, put_when_full};
 use rbbi_script::{Commands, perform, say_bound};
@@ -135,6 +136,12 @@ fn put_lines<K: Sink, L: Ledger>(
         }
         Lines::Counts(table, text, commands) => {
             put_tally(alloc, &table, text, &commands, out, steps)
+        }
+        Lines::ToldBoundaries(table, text, filter) => {
+            put_boundaries_through(alloc, &table, text, &filter, out, steps)
+        }
+        Lines::ToldReplies(table, text, filter, commands) => {
+            put_replies_through(alloc, &table, text, &filter, &commands, out, steps)
         }
     }
 }

@@ -22,6 +22,8 @@ pub fn outcomes_are_unique()
     rbbi_file::one_answer();
     rbbi_model::replies_are_unique();
     rbbi_script::one_script();
+    rbbi_filter::one_abbreviations();
+    rbbi_filter::one_tailoring();
     rbbi_demo::summaries_are_unique();
     rbbi_conform::one_tests();
     rbbi_conform::one_verdict();

@@ -7,6 +7,7 @@
 
 mod command;
 mod emission;
+mod filters;
 mod in_memory;
 mod laws;
 mod position;
@@ -19,6 +20,7 @@ mod scripts;
 mod tables;
 mod tallying;
 mod texts;
+mod told_emission;
 
 pub use in_memory::rbbi_in_memory;
 pub use laws::{files_tell_marks, outcomes_are_unique};

@@ -1,6 +1,7 @@
 //! What a request comes to, before anything is written.
 
 use rbbi_command::Output;
+use rbbi_filter::Filter;
 use rbbi_script::Commands;
 use rbbi_table::Table;
 use rbbi_text::{Pieces, PlainText, Unit};
@@ -23,4 +24,9 @@ pub(crate) enum Lines {
     Replies(Table, Pieces, Unit, Commands),
     /// Those of the counts of a text by a table, before and after the edits of a script.
     Counts(Table, Pieces, Commands),
+    /// Those of all boundaries of a text by a table that are told through a filter.
+    ToldBoundaries(Table, PlainText, Filter),
+    /// Those of the replies to the commands of a script, over a text, by the boundaries by a table
+    /// that are told through a filter.
+    ToldReplies(Table, Pieces, Filter, Commands),
 }

@@ -12,6 +12,7 @@ ghost use Rattle.rbbi_text.specs.Steps.{RisesUpTo};
 ghost use Rattle.rbbi_command.specs.Requests.{options_in};
 ghost use Rattle.rbbi_command.specs.Inputs.{inputs_in, AreShort};
 ghost use Rattle.rbbi_tool.specs.inner.Stages.{Meets};
+ghost use Rattle.rbbi_tool.specs.Properties.{properties_stage, property_files};
 ghost use Rattle.rbbi_tool.specs.Rules as spec;
 
 use crate::position::position_of;
@@ -146,6 +147,27 @@ pub(crate) fn rules_of_bytes(
     rules_of_text(alloc, text, props, ignored)
 }
 
+/// The rules of a rule file, behind property files that were read and have no fault.
+pub(crate) fn rules_behind<L: Ledger>(
+    alloc: Global,
+    options: &Options,
+    inputs: &Inputs,
+    props: &PropTable,
+    steps: &mut Steps<L>,
+) -> Result<Rules, Refusal>
+    requires short { AreShort (inputs_in inputs.now) }
+    requires passed { (properties_stage options.now.properties.items
+        inputs.now.properties.items).passes tt }
+    requires files { props.now ≡ property_files options.now.properties.items
+        inputs.now.properties.items }
+    ensures exact { Meets rules_of
+        (spec.rules_stage (options_in options.now) (inputs_in inputs.now)) result }
+    ensures lawful { IfOk result (λ rules. AreLawful (rules_of rules)) }
+    ensures steps { steps.new ≡ steps.old + length inputs.now.rules }
+{
+    rules_of_bytes(alloc, inputs.rules.bytes(steps), props, options.ignored)
+}
+
 /// The rules of a rule file. Its fault is the first of the property files, of its bytes, its
 /// tokens, its grammar and its meaning.
 pub(crate) fn rules_from<L: Ledger>(
@@ -162,5 +184,5 @@ pub(crate) fn rules_from<L: Ledger>(
         steps.old steps.new }
 {
     let props = properties_of(alloc, options, inputs, steps)?;
-    rules_of_bytes(alloc, inputs.rules.bytes(steps), &props, options.ignored)
+    rules_behind(alloc, options, inputs, &props, steps)
 }

@@ -14,8 +14,8 @@ use rbbi_text::{LinesErr, Steps};
 use std::alloc::Global;
 use std::sync::ledger::Ledger;
 
-/// What a fault of the script or the test file of this name tells, or want of memory.
-fn lines_refusal(alloc: Global, name: &str, error: LinesErr) -> Refusal
+/// What a fault of a file of lines of this name tells, or want of memory.
+pub(crate) fn lines_refusal(alloc: Global, name: &str, error: LinesErr) -> Refusal
     ensures { (result ≡ Refusal.Memory)
         ⊎ ((error ≢ LinesErr.Memory) × (result ≡ spec.lines_fault name.now error)) }
 {

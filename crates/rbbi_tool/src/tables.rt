@@ -1,6 +1,6 @@
 //! The table that the boundaries of a text come by: compiled from a rule file, or read from a table
 //! file.
-ghost use Rattle.std.specs.Prelude.{◌≤◌, length, chars, IfOk};
+ghost use Rattle.std.specs.Prelude.{◌≡◌, ◌≤◌, ◌+◌, length, chars, IfOk};
 ghost use Rattle.rbbi_text.specs.Bytes.{most_bytes};
 ghost use Rattle.rbbi_model.specs.Rules.{AreLawful};
 ghost use Rattle.rbbi_model.specs.Compiled.{AreClasses, IsCompiled};
@@ -10,10 +10,11 @@ ghost use Rattle.rbbi_tool.specs.inner.Stages.{Meets, Serves};
 ghost use Rattle.rbbi_command.specs.Requests.{options_in};
 ghost use Rattle.rbbi_command.specs.Inputs.{inputs_in, AreShort};
 ghost use Rattle.rbbi_tool.specs.inner.Steps.{basis_bytes};
+ghost use Rattle.rbbi_tool.specs.Properties.{properties_stage, property_files};
 ghost use Rattle.rbbi_tool.specs.Basis.{MakesTable};
 ghost use Rattle.rbbi_tool.specs.Basis as spec;
 
-use crate::rules::{rules_from, rules_of_bytes, rules_of_text};
+use crate::rules::{rules_behind, rules_from, rules_of_bytes, rules_of_text};
 use rbbi_cats::{Categories, CatsErr};
 use rbbi_command::{Inputs, Options, Place, Refusal, Subject, fault};
 use rbbi_dfa::BuildErr;
@@ -113,6 +114,31 @@ pub(crate) fn read(alloc: Global, bytes: &[u8]) -> Result<Table, Refusal>
             Err(fault(alloc, Subject::Table, error.label(), place))
         }
     }
+}
+
+/// The table that boundaries come by, behind property files that were read and have no fault.
+pub(crate) fn table_behind<L: Ledger>(
+    alloc: Global,
+    options: &Options,
+    inputs: &Inputs,
+    props: &PropTable,
+    steps: &mut Steps<L>,
+) -> Result<Table, Refusal>
+    requires short { AreShort (inputs_in inputs.now) }
+    requires passed { (properties_stage options.now.properties.items
+        inputs.now.properties.items).passes tt }
+    requires files { props.now ≡ property_files options.now.properties.items
+        inputs.now.properties.items }
+    ensures table { Serves spec.IsTableOf
+        (spec.basis_stage (options_in options.now) (inputs_in inputs.now)) result }
+    ensures steps { RisesUpTo (length inputs.now.rules + length inputs.now.table)
+        steps.old steps.new }
+{
+    if options.by_table {
+        return read(alloc, inputs.table.bytes(steps));
+    }
+    let rules = rules_behind(alloc, options, inputs, props, steps)?;
+    table_of(alloc, &rules)
 }
 
 /// The table that boundaries come by: read from a table file, or compiled from a rule file, whose

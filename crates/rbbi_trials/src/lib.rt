@@ -14,6 +14,8 @@ mod demonstration;
 #[cfg(test)]
 mod draws;
 #[cfg(test)]
+mod filters;
+#[cfg(test)]
 mod kept;
 #[cfg(test)]
 mod played;

@@ -48,7 +48,7 @@ pub(crate) fn boundaries<L: Ledger>(
 }
 
 /// The status list of the boundary at a place.
-fn status_at(boundaries: &[Boundary], place: u32) -> u16 {
+pub(crate) fn status_at(boundaries: &[Boundary], place: u32) -> u16 {
     let found = boundaries.iter().find(|boundary| boundary.at == place);
     found.map_or(u16::MAX, |boundary| boundary.status)
 }

@@ -38,8 +38,8 @@ pub(crate) enum Takes {
     RuleOptions,
     /// Those on rule files; or the one that says that the first operand is a table file.
     RuleOptionsOrTable,
-    /// These, and the unit of places beside them.
-    RuleOptionsOrTableAndUnit,
+    /// These, and one on how boundaries are told beside them.
+    RuleOptionsOrTableAndTelling,
 }
 
 /// What an operand of a command is.
@@ -60,7 +60,7 @@ impl Command {
     {
         match self {
             Command::Check | Command::Compile | Command::Same => Takes::RuleOptions,
-            Command::Breaks | Command::Run => Takes::RuleOptionsOrTableAndUnit,
+            Command::Breaks | Command::Run => Takes::RuleOptionsOrTableAndTelling,
             Command::Conform | Command::Tally => Takes::RuleOptionsOrTable,
             Command::Upgrade | Command::Demo => Takes::NoOptions,
         }

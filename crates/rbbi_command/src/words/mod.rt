@@ -15,7 +15,7 @@ use operand::are_fit;
 pub use operand::count_of;
 pub use options::Options;
 use options::{are_taken, options_of};
-pub use setting::Property;
+pub use setting::{FilterKind, Property};
 use setting::{behind, settings_of};
 use std::alloc::{AllocError, Global};
 

@@ -1,11 +1,12 @@
 //! What the options of a command come to.
-ghost use Rattle.std.specs.Prelude.{◌≡◌, IfOk, count_by};
+ghost use Rattle.std.specs.Prelude.{◌≡◌, IfOk, count_by, filter_map};
 ghost use Rattle.std.specs.List.{list_any};
 ghost use Rattle.rbbi_command.specs.Settings as spec;
 ghost use Rattle.rbbi_command.specs.Requests.{options_in};
 
 use super::command::Takes;
-use super::setting::{Property, Setting};
+use super::setting::{FilterKind, Property, Setting};
+use crate::Source;
 use rbbi_text::Unit;
 use std::alloc::{AllocError, Global};
 
@@ -15,6 +16,8 @@ const MOST_PROPERTIES: usize = 16;
 /// What the options of a command come to.
 #[derive(Debug, Drop)]
 pub struct Options {
+    /// The files that they name to be read, in order.
+    pub files: Vec<Source>,
     /// The property files that are handed in, in order.
     pub properties: Vec<Property>,
     /// Whether `$dictionary` is a variable like others.
@@ -23,6 +26,8 @@ pub struct Options {
     pub by_table: bool,
     /// The unit of places, numbers and lengths.
     pub unit: Unit,
+    /// What the filter file has, if there is one.
+    pub filter: Option<FilterKind>,
 }
 
 fn are_by_table(settings: &[Setting]) -> bool
@@ -55,10 +60,26 @@ fn count_ignoring(settings: &[Setting]) -> usize
         .count()
 }
 
-fn count_units(settings: &[Setting]) -> usize
-    ensures { result ≡ count_by spec.is_unit settings.now }
+fn count_tellings(settings: &[Setting]) -> usize
+    ensures { result ≡ count_by spec.is_telling settings.now }
 {
-    settings.iter().filter(|setting| setting.is_unit()).count()
+    settings
+        .iter()
+        .filter(|setting| setting.is_telling())
+        .count()
+}
+
+/// The files that the options name to be read, in order.
+fn files_of(alloc: Global, settings: &[Setting]) -> Result<Vec<Source>, AllocError>
+    ensures { IfOk result (λ files. files.items ≡ filter_map spec.source_in settings.now) }
+{
+    let mut files = Vec::new(alloc);
+    for setting in settings {
+        if let Some(file) = setting.source(alloc)? {
+            files.push(file)?;
+        }
+    }
+    Ok(files)
 }
 
 /// The unit that the options name, or characters.
@@ -68,6 +89,15 @@ fn unit_of(settings: &[Setting]) -> Unit
     settings.iter().fold(Unit::Chars, |unit, setting| setting.unit().unwrap_or(unit))
 }
 
+/// What the filter file has that the options name, if they name one.
+fn filter_of(settings: &[Setting]) -> Option<FilterKind>
+    ensures { result ≡ spec.filter_of settings.now }
+{
+    settings
+        .iter()
+        .fold(None, |filter, setting| setting.filter().or(filter))
+}
+
 /// Whether there are at most 16 property files, and `$dictionary` is ignored once at most.
 fn are_few(settings: &[Setting]) -> bool
     ensures { result ≡ spec.are_few settings.now }
@@ -75,13 +105,13 @@ fn are_few(settings: &[Setting]) -> bool
     count_properties(settings) <= MOST_PROPERTIES && count_ignoring(settings) <= 1
 }
 
-/// Whether the options say by what boundaries come: a table file, and then of the others the unit
-/// alone may be there; or rules.
+/// Whether the options say by what boundaries come: a table file, and then of the others those
+/// alone may be there that say how boundaries are told; or rules.
 fn are_basis(settings: &[Setting]) -> bool
     ensures { result ≡ spec.are_basis settings.now }
 {
     if are_by_table(settings) {
-        settings.len().saturating_sub(count_units(settings)) == 1
+        settings.len().saturating_sub(count_tellings(settings)) == 1
     } else {
         are_few(settings)
     }
@@ -94,10 +124,12 @@ pub(super) fn are_taken(takes: Takes, settings: &[Setting]) -> bool
     match takes {
         Takes::NoOptions => settings.is_empty(),
         Takes::RuleOptions => {
-            !are_by_table(settings) && are_few(settings) && count_units(settings) == 0
+            !are_by_table(settings) && are_few(settings) && count_tellings(settings) == 0
         }
-        Takes::RuleOptionsOrTable => are_basis(settings) && count_units(settings) == 0,
-        Takes::RuleOptionsOrTableAndUnit => are_basis(settings) && count_units(settings) <= 1,
+        Takes::RuleOptionsOrTable => are_basis(settings) && count_tellings(settings) == 0,
+        Takes::RuleOptionsOrTableAndTelling => {
+            are_basis(settings) && count_tellings(settings) <= 1
+        }
     }
 }
 
@@ -108,14 +140,18 @@ pub(super) fn options_of(alloc: Global, settings: Vec<Setting>) -> Result<Option
     let ignored = ignores_dictionary(&settings);
     let by_table = are_by_table(&settings);
     let unit = unit_of(&settings);
+    let filter = filter_of(&settings);
+    let files = files_of(alloc, &settings)?;
     let properties = settings
         .into_iter()
         .filter_map(|setting| setting.into_property())
         .collect(alloc)?;
     Ok(Options {
+        files,
         properties,
         ignored,
         by_table,
         unit,
+        filter,
     })
 }

@@ -9,7 +9,7 @@ ghost use Rattle.rbbi_command.specs.declared.words.setting.Setting.{Setting};
 ghost use Rattle.rbbi_model.specs.declared.unit.Unit.{Unit as TextUnit};
 ghost use Rattle.rbbi_command.specs.Settings as spec;
 
-use crate::Name;
+use crate::{Name, Role, Source};
 use rbbi_text::Unit;
 use std::alloc::{AllocError, Global};
 
@@ -20,6 +20,15 @@ pub struct Property {
     pub name: Name,
     /// The name of the file.
     pub file: Name,
+}
+
+/// What a filter file has.
+#[derive(Clone, Copy, Debug)]
+pub enum FilterKind {
+    /// Abbreviations, behind which no boundary is told.
+    Abbreviations,
+    /// Pairs, by which characters are turned before boundaries are looked for.
+    Pairs,
 }
 
 /// An option and what it takes.
@@ -33,6 +42,10 @@ pub(super) enum Setting {
     ByTable,
     /// Count places, numbers and lengths in a unit.
     CountIn(Unit),
+    /// Tell no boundary behind an abbreviation of the file with this name.
+    Suppress(Name),
+    /// Look for boundaries in the text as the pairs of the file with this name turn it.
+    Tailor(Name),
 }
 
 impl Setting {
@@ -41,8 +54,8 @@ impl Setting {
         ensures { result ≡ length (spec.spelled self.now) }
     {
         match self {
-            Setting::HandIn(_) | Setting::CountIn(_) => 2,
             Setting::IgnoreDictionary | Setting::ByTable => 1,
+            _ => 2,
         }
     }
 
@@ -50,10 +63,7 @@ impl Setting {
     pub(super) fn is_property(&self) -> bool
         ensures { result ≡ spec.is_property self.now }
     {
-        match self {
-            Setting::HandIn(_) => true,
-            Setting::IgnoreDictionary | Setting::ByTable | Setting::CountIn(_) => false,
-        }
+        matches!(self, Setting::HandIn(_))
     }
 
     /// The property file that it hands in.
@@ -62,38 +72,45 @@ impl Setting {
     {
         match self {
             Setting::HandIn(property) => Some(property),
-            Setting::IgnoreDictionary | Setting::ByTable | Setting::CountIn(_) => None,
+            _ => None,
         }
+    }
+
+    /// The file that it names to be read.
+    pub(super) fn source(&self, alloc: Global) -> Result<Option<Source>, AllocError>
+        ensures { IfOk result (λ source. source ≡ spec.source_in self.now) }
+    {
+        let (role, name) = match self {
+            Setting::HandIn(property) => (Role::Property, &property.file),
+            Setting::Suppress(file) | Setting::Tailor(file) => (Role::Filter, file),
+            _ => return Ok(None),
+        };
+        let name = Name::new(alloc, name.as_str())?;
+        Ok(Some(Source { role, name }))
     }
 
     /// Whether it lets `$dictionary` be a variable like others.
     pub(super) fn is_ignoring(&self) -> bool
         ensures { result ≡ spec.is_ignoring self.now }
     {
-        match self {
-            Setting::IgnoreDictionary => true,
-            Setting::HandIn(_) | Setting::ByTable | Setting::CountIn(_) => false,
-        }
+        matches!(self, Setting::IgnoreDictionary)
     }
 
     /// Whether it says that the first operand is a table file.
     pub(super) fn is_by_table(&self) -> bool
         ensures { result ≡ spec.is_by_table self.now }
     {
-        match self {
-            Setting::ByTable => true,
-            Setting::HandIn(_) | Setting::IgnoreDictionary | Setting::CountIn(_) => false,
-        }
+        matches!(self, Setting::ByTable)
     }
 
-    /// Whether it names a unit.
-    pub(super) fn is_unit(&self) -> bool
-        ensures { result ≡ spec.is_unit self.now }
+    /// Whether it says how boundaries are told: in a unit, or through a filter.
+    pub(super) fn is_telling(&self) -> bool
+        ensures { result ≡ spec.is_telling self.now }
     {
-        match self {
-            Setting::CountIn(_) => true,
-            Setting::HandIn(_) | Setting::IgnoreDictionary | Setting::ByTable => false,
-        }
+        matches!(
+            self,
+            Setting::CountIn(_) | Setting::Suppress(_) | Setting::Tailor(_)
+        )
     }
 
     /// The unit that it names.
@@ -102,7 +119,18 @@ impl Setting {
     {
         match self {
             Setting::CountIn(unit) => Some(*unit),
-            Setting::HandIn(_) | Setting::IgnoreDictionary | Setting::ByTable => None,
+            _ => None,
+        }
+    }
+
+    /// What the filter file has that it names.
+    pub(super) fn filter(&self) -> Option<FilterKind>
+        ensures { result ≡ spec.filter_in self.now }
+    {
+        match self {
+            Setting::Suppress(_) => Some(FilterKind::Abbreviations),
+            Setting::Tailor(_) => Some(FilterKind::Pairs),
+            _ => None,
         }
     }
 }
@@ -189,6 +217,14 @@ fn setting_of(alloc: Global, words: &[String]) -> Result<Option<Setting>, AllocE
         },
         "--units" => match more.first() {
             Some(word) => Ok(unit_of(word.as_str())),
+            None => Ok(None),
+        },
+        "--suppress" => match more.first() {
+            Some(word) => Ok(Some(Setting::Suppress(Name::new(alloc, word.as_str())?))),
+            None => Ok(None),
+        },
+        "--tailor" => match more.first() {
+            Some(word) => Ok(Some(Setting::Tailor(Name::new(alloc, word.as_str())?))),
             None => Ok(None),
         },
         _ => Ok(None),

@@ -3,12 +3,16 @@ use Rattle.std.specs.Prelude.{ℕ, List, map, Result, Ok, Err}
 use Rattle.rbbi_model.specs.Lines.{boundary_lines, all_reply_lines}
 use Rattle.rbbi_model.specs.Plays.{measured_boundaries, table_replies}
 use Rattle.rbbi_model.specs.Costs.{breaks_cost, script_cost}
+use Rattle.rbbi_model.specs.Scripts.{opened}
 use Rattle.rbbi_text.specs.Steps.{RisesUpTo}
 use Rattle.rbbi_script.specs.Meaning.{meaning}
+use Rattle.rbbi_filter.specs.Filters.{boundaries_through}
+use Rattle.rbbi_filter.specs.FilterCosts.{breaks_through, commands_through}
 use Rattle.rbbi_command.specs.Refusals.{Outcome, printed}
 use Rattle.rbbi_command.specs.declared.refusal.Refusal.{Refusal}
+use Rattle.rbbi_tool.specs.Filters.{replies_through}
 use Rattle.rbbi_tool.specs.declared.prepared.Lines.{Lines}
-use Rattle.rbbi_tool.specs.declared.prepared.Lines.TheVariants.{Boundaries, Replies, Counts}
+use Rattle.rbbi_tool.specs.declared.prepared.Lines.TheVariants.{Boundaries, Replies, Counts, ToldBoundaries, ToldReplies}
 use Rattle.rbbi_tool.specs.declared.prepared.Prepared.{Prepared}
 use Rattle.rbbi_tool.specs.declared.prepared.Prepared.TheVariants.{Ready, Waiting}
 use Rattle.rbbi_tool.specs.Steps.{tally_cost}
@@ -19,12 +23,16 @@ abbrev pub bytes_of : Lines → List ℕ
 bytes_of (Boundaries table x unit) = boundary_lines (measured_boundaries table unit x)
 bytes_of (Replies table x unit commands) = all_reply_lines (table_replies table unit x (map meaning commands))
 bytes_of (Counts table x commands) = tally_lines table x (map meaning commands)
+bytes_of (ToldBoundaries table x filter) = boundary_lines (boundaries_through filter table x)
+bytes_of (ToldReplies table x filter commands) = all_reply_lines (replies_through filter table (opened x) (map meaning commands))
 
 -- how much of the text is read while the lines are made
 abbrev pub cost_of : Lines → ℕ
 cost_of (Boundaries table x unit) = breaks_cost table x 0
 cost_of (Replies table x unit commands) = script_cost table unit x (map meaning commands)
 cost_of (Counts table x commands) = tally_cost table x (map meaning commands)
+cost_of (ToldBoundaries table x filter) = breaks_through filter table x 0
+cost_of (ToldReplies table x filter commands) = commands_through filter table (opened x) (map meaning commands)
 
 -- all that is written
 abbrev pub outcome_of : Prepared → Outcome

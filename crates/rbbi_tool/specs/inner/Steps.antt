@@ -12,9 +12,13 @@ use Rattle.rbbi_tool.specs.inner.Prepared.{ReadsByEnd}
 abbrev pub basis_bytes : Inputs → ℕ
 basis_bytes inputs = sum_by length inputs.properties + length inputs.rules + length inputs.table
 
+-- the bytes that boundaries come by behind a filter
+abbrev pub filtered_bytes : Inputs → ℕ
+filtered_bytes inputs = basis_bytes inputs + length inputs.filter.bytes
+
 -- the bytes of the files that count
 abbrev pub given_bytes : Inputs → ℕ
-given_bytes inputs = basis_bytes inputs + length inputs.script.bytes + length inputs.tests.bytes
+given_bytes inputs = filtered_bytes inputs + length inputs.script.bytes + length inputs.tests.bytes
 
 -- What a run reads, where it reads so much at most while it writes. Where the words are of no form it reads no file; else it reads the
 -- files of the request in order, and of them what the request reads.

@@ -28,3 +28,18 @@ pub returns-in-Counts-clause-err : goal.returns-in-Counts-clause-err
 returns-in-Counts-clause-err g c =
     subst (λ l. OnErr c.put_tally.result (TakesFront (g.K.Sink.taken c.args.out.now) (g.K.Sink.taken c.put_tally.new.out) (bytes_of l)))
     (sym c.in-Counts.is) c.put_tally.ensures.err
+
+pub returns-in-ToldBoundaries-clause-err : goal.returns-in-ToldBoundaries-clause-err
+returns-in-ToldBoundaries-clause-err g c =
+    subst (λ l. OnErr c.put_boundaries_through.result (TakesFront (g.K.Sink.taken c.args.out.now) (g.K.Sink.taken c.put_boundaries_through.new.out) (bytes_of l)))
+    (sym c.in-ToldBoundaries.is) c.put_boundaries_through.ensures.err
+
+pub returns-in-ToldReplies-clause-ok : goal.returns-in-ToldReplies-clause-ok
+returns-in-ToldReplies-clause-ok g c =
+    subst (λ l. OnOk c.put_replies_through.result (Takes (g.K.Sink.taken c.args.out.now) (g.K.Sink.taken c.put_replies_through.new.out) (bytes_of l)))
+    (sym c.in-ToldReplies.is) c.put_replies_through.ensures.ok
+
+pub returns-in-ToldReplies-clause-err : goal.returns-in-ToldReplies-clause-err
+returns-in-ToldReplies-clause-err g c =
+    subst (λ l. OnErr c.put_replies_through.result (TakesFront (g.K.Sink.taken c.args.out.now) (g.K.Sink.taken c.put_replies_through.new.out) (bytes_of l)))
+    (sym c.in-ToldReplies.is) c.put_replies_through.ensures.err

@@ -1,51 +1,36 @@
-use Rattle.std.proofs.Common.{inl, inr, ⊎_elim, refl, arith}
-use Rattle.std.proofs.lemmas.Result.{err_from_is_err_and}
-use Rattle.rbbi_model.specs.Searches.{table_boundaries}
+use Rattle.std.proofs.Common.{◌⊎◌, sym, subst}
+use Rattle.rbbi_text.specs.Steps.{RisesUpTo}
+use Rattle.rbbi_command.specs.Requests.{options_in}
 use Rattle.rbbi_command.specs.Inputs.{inputs_in}
+use Rattle.rbbi_tool.specs.inner.Stages.{Meets}
+use Rattle.rbbi_tool.specs.inner.Prepared.{answer_of, rest_after, ReadsByEnd}
 use Rattle.rbbi_tool.specs.inner.Steps.{given_bytes}
-use Rattle.rbbi_tool.proofs.Bases.{gives_them, boundaries_given}
-use Rattle.rbbi_tool.proofs.Counted.{rises_further, rises_twice, listing_reads}
+use Rattle.rbbi_tool.specs.Command.Breaks.{breaks_by}
+use Rattle.rbbi_tool.specs.Steps.{BreaksReads}
 use Rattle.rbbi_tool.proofs.command.breaks.breaks.Goals as goal
 
-pub returns-in_err-text-clause-exact : goal.returns-in_err-text-clause-exact
-returns-in_err-text-clause-exact g c =
-    let p = err_from_is_err_and c.from_residual-in_err-text.result c.from_residual-in_err-text.ensures.1 in
-    let basis = c.in_ok-table.ensures.table in
-    rw (p.1, p.2) (⊎_elim inl (λ is. inr (inr (basis.0, basis.1, inl is))) c.in_err-text.ensures.exact)
+pub returns-in-None-clause-exact : goal.returns-in-None-clause-exact
+returns-in-None-clause-exact g c =
+    subst (λ f. Meets (λ output. output) (breaks_by f (options_in c.args.options.now) (inputs_in c.args.inputs.now)) (answer_of c.plain_breaks.result))
+    (sym c.in-None.is) c.plain_breaks.ensures.exact
 
-pub returns-clause-exact : goal.returns-clause-exact
-returns-clause-exact g c =
-    let basis = c.in_ok-table.ensures.table in
-    let table = c.in_ok-table.table in
-    let x = c.in_ok-text.text in (
-      basis.0,
-      basis.1,
-      (
-        x,
-        c.in_ok-text.ensures.exact,
-        (
-          table_boundaries table x,
-          boundaries_given basis.0 table x (gives_them c.same_marks_give_the_boundaries.ensures basis.0 table basis.2) c.in_ok-text.ensures.text,
-          refl,
-        ),
-      ),
-    )
+pub returns-in-Some-clause-exact : goal.returns-in-Some-clause-exact
+returns-in-Some-clause-exact g c =
+    subst (λ f. Meets (λ output. output) (breaks_by f (options_in c.args.options.now) (inputs_in c.args.inputs.now)) (answer_of c.told_breaks.result))
+    (sym c.in-Some.is) c.told_breaks.ensures.exact
 
-pub returns-in_err-table-clause-steps : goal.returns-in_err-table-clause-steps
-returns-in_err-table-clause-steps g c =
-    let told = err_from_is_err_and c.from_residual.result c.from_residual.ensures.1 in
-    rw told.1
-    (λ end none. inl (rises_further _ (given_bytes (inputs_in c.args.inputs.now)) _ _ (rises_twice _ 0 _ _ end c.table_from.ensures.steps none) (omega arith)))
+pub returns-in-None-clause-steps : goal.returns-in-None-clause-steps
+returns-in-None-clause-steps g c =
+    let inputs = inputs_in c.args.inputs.now in
+    let bytes = given_bytes inputs in
+    subst (λ f. ReadsByEnd (rest_after c.plain_breaks.result)
+    (λ before end. RisesUpTo bytes before end ⊎ BreaksReads f (options_in c.args.options.now) inputs bytes before end) c.args.steps.now c.plain_breaks.new.steps)
+    (sym c.in-None.is) c.plain_breaks.ensures.steps
 
-pub returns-in_err-text-clause-steps : goal.returns-in_err-text-clause-steps
-returns-in_err-text-clause-steps g c =
-    let told = err_from_is_err_and c.from_residual-in_err-text.result c.from_residual-in_err-text.ensures.1 in
-    rw told.1
-    (λ end none. inl (rises_further _ (given_bytes (inputs_in c.args.inputs.now)) _ _ (rises_twice _ 0 _ _ end c.table_from.ensures.steps none) (omega arith)))
-
-pub returns-clause-steps : goal.returns-clause-steps
-returns-clause-steps g c =
-    let basis = c.in_ok-table.ensures.table in
-    λ end more.
-    listing_reads _ _ _ _ c.table_from.new.steps end basis.0 _ _ basis.1 basis.2 c.in_ok-text.ensures.exact
-    (rises_further _ (given_bytes (inputs_in c.args.inputs.now)) _ _ c.table_from.ensures.steps (omega arith)) more
+pub returns-in-Some-clause-steps : goal.returns-in-Some-clause-steps
+returns-in-Some-clause-steps g c =
+    let inputs = inputs_in c.args.inputs.now in
+    let bytes = given_bytes inputs in
+    subst (λ f. ReadsByEnd (rest_after c.told_breaks.result)
+    (λ before end. RisesUpTo bytes before end ⊎ BreaksReads f (options_in c.args.options.now) inputs bytes before end) c.args.steps.now c.told_breaks.new.steps)
+    (sym c.in-Some.is) c.told_breaks.ensures.steps

@@ -1,78 +1,36 @@
-use Rattle.std.proofs.Common.{inl, inr, ⊎_elim, map, refl, arith}
-use Rattle.std.proofs.lemmas.Result.{err_from_is_err_and}
-use Rattle.rbbi_model.specs.Plays.{table_replies}
-use Rattle.rbbi_model.specs.Costs.{script_cost}
-use Rattle.rbbi_script.specs.Meaning.{meaning}
-use Rattle.rbbi_tool.proofs.Bases.{gives_them}
-use Rattle.rbbi_tool.proofs.Replies.{replies_given}
-use Rattle.rbbi_tool.proofs.Counted.{rises_further, rises_by, rises_twice, replies_read}
+use Rattle.std.proofs.Common.{◌⊎◌, sym, subst}
+use Rattle.rbbi_text.specs.Steps.{RisesUpTo}
+use Rattle.rbbi_command.specs.Requests.{options_in}
 use Rattle.rbbi_command.specs.Inputs.{inputs_in}
+use Rattle.rbbi_tool.specs.inner.Stages.{Meets}
+use Rattle.rbbi_tool.specs.inner.Prepared.{answer_of, rest_after, ReadsByEnd}
 use Rattle.rbbi_tool.specs.inner.Steps.{given_bytes}
+use Rattle.rbbi_tool.specs.Command.Run.{play_by}
+use Rattle.rbbi_tool.specs.Steps.{RunReads}
 use Rattle.rbbi_tool.proofs.command.run.run.Goals as goal
 
-pub returns-in_err-text-clause-exact : goal.returns-in_err-text-clause-exact
-returns-in_err-text-clause-exact g c =
-    let p = err_from_is_err_and c.from_residual-in_err-text.result c.from_residual-in_err-text.ensures.1 in
-    let basis = c.in_ok-table.ensures.table in
-    rw (p.1, p.2) (⊎_elim inl (λ is. inr (inr (basis.0, basis.1, inl is))) c.in_err-text.ensures.exact)
+pub returns-in-None-clause-exact : goal.returns-in-None-clause-exact
+returns-in-None-clause-exact g c =
+    subst (λ f. Meets (λ output. output) (play_by f (options_in c.args.options.now) (inputs_in c.args.inputs.now)) (answer_of c.plain_run.result))
+    (sym c.in-None.is) c.plain_run.ensures.exact
 
-pub returns-in_err-commands-clause-exact : goal.returns-in_err-commands-clause-exact
-returns-in_err-commands-clause-exact g c =
-    let p = err_from_is_err_and c.from_residual-in_err-commands.result c.from_residual-in_err-commands.ensures.1 in
-    let basis = c.in_ok-table.ensures.table in
-    rw (p.1, p.2) (⊎_elim inl (λ is. inr (inr (basis.0, basis.1, inr (c.in_ok-text.text, c.in_ok-text.ensures.exact, inl is)))) c.in_err-commands.ensures.exact)
+pub returns-in-Some-clause-exact : goal.returns-in-Some-clause-exact
+returns-in-Some-clause-exact g c =
+    subst (λ f. Meets (λ output. output) (play_by f (options_in c.args.options.now) (inputs_in c.args.inputs.now)) (answer_of c.told_run.result))
+    (sym c.in-Some.is) c.told_run.ensures.exact
 
-pub returns-clause-exact : goal.returns-clause-exact
-returns-clause-exact g c =
-    let basis = c.in_ok-table.ensures.table in
-    let table = c.in_ok-table.table in
-    let unit = c.args.options.now.unit in
-    let x = c.in_ok-text.text in
-    let commands = map meaning c.in_ok-commands.commands in (
-      basis.0,
-      basis.1,
-      (
-        x,
-        c.in_ok-text.ensures.exact,
-        (
-          commands,
-          c.in_ok-commands.ensures.exact,
-          (
-            table_replies table unit x commands,
-            replies_given basis.0 table unit x commands c.table_replies_are_those_of_the_rules.ensures
-                (gives_them c.same_marks_give_the_boundaries.ensures basis.0 table basis.2) c.in_ok-text.ensures.text c.in_ok-commands.ensures.inserts,
-            refl,
-          ),
-        ),
-      ),
-    )
+pub returns-in-None-clause-steps : goal.returns-in-None-clause-steps
+returns-in-None-clause-steps g c =
+    let inputs = inputs_in c.args.inputs.now in
+    let bytes = given_bytes inputs in
+    subst (λ f. ReadsByEnd (rest_after c.plain_run.result)
+    (λ before end. RisesUpTo bytes before end ⊎ RunReads f (options_in c.args.options.now) inputs bytes before end) c.args.steps.now c.plain_run.new.steps)
+    (sym c.in-None.is) c.plain_run.ensures.steps
 
-pub returns-in_err-table-clause-steps : goal.returns-in_err-table-clause-steps
-returns-in_err-table-clause-steps g c =
-    let told = err_from_is_err_and c.from_residual.result c.from_residual.ensures.1 in
-    rw told.1
-    (λ end none. inl (rises_further _ (given_bytes (inputs_in c.args.inputs.now)) _ _ (rises_twice _ 0 _ _ end c.table_from.ensures.steps none) (omega arith)))
-
-pub returns-in_err-text-clause-steps : goal.returns-in_err-text-clause-steps
-returns-in_err-text-clause-steps g c =
-    let told = err_from_is_err_and c.from_residual-in_err-text.result c.from_residual-in_err-text.ensures.1 in
-    rw told.1
-    (λ end none. inl (rises_further _ (given_bytes (inputs_in c.args.inputs.now)) _ _ (rises_twice _ 0 _ _ end c.table_from.ensures.steps none) (omega arith)))
-
-pub returns-in_err-commands-clause-steps : goal.returns-in_err-commands-clause-steps
-returns-in_err-commands-clause-steps g c =
-    let told = err_from_is_err_and c.from_residual-in_err-commands.result c.from_residual-in_err-commands.ensures.1 in
-    rw told.1
-    (λ end none.
-    inl
-    (rises_further _ (given_bytes (inputs_in c.args.inputs.now)) _ _
-    (rises_twice _ 0 _ _ end (rises_by _ _ _ c.table_from.new.steps _ c.table_from.ensures.steps c.commands_of.ensures.steps) none) (omega arith)))
-
-pub returns-clause-steps : goal.returns-clause-steps
-returns-clause-steps g c =
-    let basis = c.in_ok-table.ensures.table in
-    λ end more.
-    replies_read _ _ _ _ c.commands_of.new.steps end basis.0 _ _ basis.1 basis.2 c.in_ok-text.ensures.exact
-    (rises_further _ (given_bytes (inputs_in c.args.inputs.now)) _ _
-    (rises_by _ _ _ c.table_from.new.steps _ c.table_from.ensures.steps c.commands_of.ensures.steps) (omega arith)) _ (λ table. script_cost table c.args.options.now.unit) _
-    c.in_ok-commands.ensures.exact more
+pub returns-in-Some-clause-steps : goal.returns-in-Some-clause-steps
+returns-in-Some-clause-steps g c =
+    let inputs = inputs_in c.args.inputs.now in
+    let bytes = given_bytes inputs in
+    subst (λ f. ReadsByEnd (rest_after c.told_run.result)
+    (λ before end. RisesUpTo bytes before end ⊎ RunReads f (options_in c.args.options.now) inputs bytes before end) c.args.steps.now c.told_run.new.steps)
+    (sym c.in-Some.is) c.told_run.ensures.steps
