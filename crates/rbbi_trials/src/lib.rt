@@ -10,6 +10,8 @@ mod costs;
 #[cfg(test)]
 mod counted;
 #[cfg(test)]
+mod counts;
+#[cfg(test)]
 mod demonstration;
 #[cfg(test)]
 mod draws;

@@ -124,14 +124,14 @@ fn is_answered<L: Ledger>(
 
 /// An edit: so many characters are taken away from a place on, and a string stands there then.
 #[derive(Drop)]
-struct Edit {
-    at: u32,
-    remove: u32,
-    insert: String,
+pub(crate) struct Edit {
+    pub(crate) at: u32,
+    pub(crate) remove: u32,
+    pub(crate) insert: String,
 }
 
 /// An edit at a place within a text of this length, at its end or past it.
-fn drawn_edit(
+pub(crate) fn drawn_edit(
     alloc: Global,
     alphabet: &[char],
     draws: &mut Draws,

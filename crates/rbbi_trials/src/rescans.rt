@@ -100,6 +100,16 @@ impl<'a> Rescans<'a> {
         })
     }
 
+    /// All boundaries of the text as it is.
+    pub(crate) fn boundaries<L: Ledger>(
+        &self,
+        alloc: Global,
+        steps: &mut Steps<L>,
+    ) -> Result<Vec<Boundary>, Fail> {
+        let text = PlainText::new(alloc, self.letters.as_str())?;
+        Ok(boundaries(alloc, self.table, &text, steps)?)
+    }
+
     /// The number of characters.
     pub(crate) fn len(&self) -> usize {
         self.letters.chars().count()
