@@ -28,11 +28,11 @@ const RULES: &[(&str, &[char])] = &[
     ),
 ];
 
-/// The number of edits by each rule file.
-const EDITS: u32 = 4000;
+/// The number of edits by each rule file, some 4,000 in all.
+const EDITS: u32 = 1334;
 
 /// The number of characters that a text has at first.
-const LENGTH: u32 = 200;
+const LENGTH: u32 = 100;
 
 /// The largest status of a boundary.
 fn largest_status(table: &Table, boundary: Boundary) -> Option<u32> {

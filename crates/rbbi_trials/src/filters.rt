@@ -20,15 +20,15 @@ use std::test::Fail;
 
 /// What stands between a text and its boundaries.
 #[derive(Clone, Copy)]
-enum Plain {
+enum Plain<'a> {
     /// No boundary is told behind one of these.
-    Hiding(&'static [&'static str]),
+    Hiding(&'a [&'a str]),
     /// The first of each pair is read as the second.
-    Turning(&'static [(char, char)]),
+    Turning(&'a [(char, char)]),
 }
 
 /// Rules, the characters of their texts, and a filter, with the bytes of its file.
-const FILTERS: &[(&str, &[char], Plain, &str)] = &[
+const FILTERS: &[(&str, &[char], Plain<'_>, &str)] = &[
     (
         "[^.]+[.]' '*; .;",
         &['M', 'r', '.', ' ', ' ', 'a', '\t'],
@@ -144,7 +144,7 @@ fn is_hidden(
 #[derive(Drop)]
 struct Model<'a> {
     table: &'a Table,
-    plain: Plain,
+    plain: Plain<'a>,
     letters: Vec<char>,
     cursor: u32,
 }
@@ -301,7 +301,7 @@ fn first_other<W: Walk, L: Ledger>(
 fn first_other_of_script<L: Ledger>(
     rt: &HostRuntime,
     table: &Table,
-    row: (&[char], Plain, &str),
+    row: (&[char], Plain<'_>, &str),
     seed: u64,
     blank: Blank,
 ) -> Result<Option<usize>, Fail>
