@@ -8,7 +8,8 @@ use Rattle.rbbi_session.specs.declared.unit_error.UnitEditErr.{UnitEditErr}
 use Rattle.rbbi_session.specs.declared.unit_error.UnitEditErr.TheVariants.{Outside, Inside, TooLong, Memory}
 use Rattle.rbbi_session.specs.Pausing.{Paused, IsPaused, resumed}
 
-pub resumed-session : (unit : TextUnit) (table : Table) (paused : Paused) (session : UnitSession) → session.unit ≡ unit → session.asked.table ≡ table → IsPaused session.asked paused
+pub resumed-session : (unit : TextUnit) (table : Table) (paused : Paused) (session : UnitSession) → session.unit ≡ unit → session.asked.table ≡ table →
+    IsPaused session.asked paused
     → record { unit = unit; asked = resumed table paused } ≡ session
 resumed-session unit table paused session of_unit of_table kept =
     λ i. record { unit = sym of_unit i; asked = record { table = sym of_table i; state = kept.state_is i; runs = kept.runs_are i } }
@@ -23,6 +24,7 @@ edited-keeps old at removed inserted (Err TooLong) new is = (ap (λ (s : UnitSes
 edited-keeps old at removed inserted (Err Memory) new is = (ap (λ (s : UnitSession). s.unit) is, ap (λ (s : UnitSession). s.asked.table) is)
 
 -- a session goes on as it was paused
-pub resumed-as : {table now : Table} {session : UnitSession} (unit : TextUnit) (paused : Paused) → now ≡ table → session ≡ record { unit = unit; asked = resumed now paused }
+pub resumed-as : {table now : Table} {session : UnitSession} (unit : TextUnit) (paused : Paused) → now ≡ table →
+    session ≡ record { unit = unit; asked = resumed now paused }
     → session ≡ record { unit = unit; asked = resumed table paused }
 resumed-as {session = session} unit paused same is = subst (λ (t : Table). session ≡ record { unit = unit; asked = resumed t paused }) same is
