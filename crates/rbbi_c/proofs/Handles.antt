@@ -19,7 +19,6 @@ use denote.Struct.Struct.{within}
 use denote.Struct.Owning.{shape}
 use Rattle.std.specs.Prelude.{Option}
 use Rattle.rbbi_c.specs.declared.held.Held.{Held}
-
 use Rattle.std_alloc.specs.Box.Ownership.{box_owns}
 use Rattle.std.proofs.GlobalToken.{dealloc_token-Testable}
 use Rattle.std.specs.declared.alloc.Global.{Global}
@@ -51,15 +50,15 @@ tested : {M : Type 1} {𝓤 : Ura M} (𝓛 : Logic 𝓤) (a : Global) (p : Ptr) 
     (box_owns token held.the_row p x)))
 tested {𝓤 = 𝓤} 𝓛 a p x = let B = sem 𝓛 (box_owns token held.the_row p x) in
     fact_use 𝓤 (Testable p) (via 𝓤 _ (snd∗ 𝓤 (sem 𝓛 (lies_at held.the_row full_share p x)) (sem 𝓛 (token (bare (lone held.the_row.mir)) p)))
-        (dealloc_token-Testable 𝓛 a (bare (lone held.the_row.mir)) p)) (guard_i 𝓤 (Testable p) B)
+    (dealloc_token-Testable 𝓛 a (bare (lone held.the_row.mir)) p)) (guard_i 𝓤 (Testable p) B)
 
 module _ {M : Type 1} {𝓤 : Ura M} {𝓛 : Logic 𝓤} {K : Type 0} {Γ : List (Item 𝓤)} {G : Goal 𝓤 𝓛.H} where
   -- a handle holds nothing and is null, or it holds a box, which may be compared with null
   pub either : K → (a : Global) (p : Ptr) (x : Option Held) → (p ≡ null_ptr → x ≡ None → Seq K 𝓛 Γ G)
       → ((b o : ℕ) (y : Held) → p ≡ block_ptr b o → x ≡ Some y → Testable (block_ptr b o) → Seq K 𝓛 (‵ (box_owns token held.the_row (block_ptr b o) y) ∷
-          Γ) G) → Seq K 𝓛 (‵ (owns p x) ∷ Γ) G
+      Γ) G) → Seq K 𝓛 (‵ (owns p x) ∷ Γ) G
   either t a p None none full = feq_l t (λ e. none e refl)
   either t a p (Some y) none full = in_a_block t p (λ q. box_owns token held.the_row q y) (fst∗ 𝓤 (never 𝓤) (sem 𝓛 (token (bare (lone held.the_row.mir))
       null_ptr))) (λ b o e.
       use1 𝓛 (given (Testable (block_ptr b o)) (‵ (box_owns token held.the_row (block_ptr b o) y))) (tested 𝓛 a (block_ptr b o) y) $
-          learn t (λ may. full b o y e refl may))
+      learn t (λ may. full b o y e refl may))

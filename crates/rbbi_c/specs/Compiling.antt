@@ -78,7 +78,7 @@ IsNotCompiledBy files ignored bytes before after code =
 abbrev pub CompilesThrough : Option Held → Bool → List ℕ → Told → Told → Option Held → ℕ → Option Held → Type 0
 CompilesThrough files ignored bytes before after =
     MakesThrough (IsCompiledBy files ignored bytes before after) (λ code. IsNotCompiledBy files ignored bytes before after code ⊎ ((code ≡ 9) × (after ≡
-        before)))
+    before)))
     before after
 
 -- an empty list of property files

@@ -16,7 +16,7 @@ returns-in-Err-Fault c =
         place = place;
         refused = fault_has_cause c.args.files.now c.args.ignored c.args.bytes.now c.in-Err-Fault.field-0-0 label place
             (subst (λ (refusal : Refusal). MakesTable c.args.files.now c.args.ignored c.args.bytes.now (Err refusal)) c.in-Err-Fault.field-0-is
-                c.in-Err-Fault.ensures);
+            c.in-Err-Fault.ensures);
         told = subst (λ (text : List ℕ). IsTold text place (told c.args.fault.now c.args.name.now) (told c.tell.new.self c.tell.new.room)) c.as_str.ensures
             (record { fault = c.tell.ensures.fault; name = c.tell.ensures.name });
       },

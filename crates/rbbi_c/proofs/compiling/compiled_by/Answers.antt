@@ -11,9 +11,9 @@ returns-in-None-clause-told c =
     let before = told c.args.fault.now c.args.name.now in let after = told c.compiled.new.fault c.compiled.new.name in
     let ignored = c.args.ignored in let rules = c.args.rules.now in
     subst (λ (held : Option Held). MatchResult c.compiled.result (IsCompiledBy held ignored rules before after) (IsNotCompiledBy held ignored rules before
-        after))
+    after))
     (sym c.in-None.ensures.held)
     (by_none ignored rules before after c.compiled.result
     (subst (λ (files : List File). MatchResult c.compiled.result (IsCompiledFrom files ignored rules before after) (IsNotCompiled files ignored rules before
-        after))
+    after))
     c.new-none.ensures c.compiled.ensures))

@@ -15,8 +15,15 @@ use Rattle.rbbi_c.proofs.held.Held.TheSendSync as sent
 
 owns_keyless : (p : Ptr) (x : Option Held) → Keyless (owns p x)
 owns_keyless p None = tt
-owns_keyless (block_ptr b o) (Some x) = (part_keyless held.the_row sent.the_send full_share x b o, frees.frees (record { memory = record { seal =
-    tt } }) (raw (lone held.the_row.mir)) (block_ptr b o))
+owns_keyless (block_ptr b o) (Some x) = (
+  part_keyless held.the_row sent.the_send full_share x b o,
+  frees.frees (record {
+    memory = record {
+      seal =
+          tt;
+    };
+  }) (raw (lone held.the_row.mir)) (block_ptr b o),
+)
 owns_keyless null_ptr (Some x) = (tt, frees.frees (record { memory = record { seal = tt } }) (raw (lone held.the_row.mir)) null_ptr)
 
 pub send : IsSend the_row

@@ -27,4 +27,4 @@ closed_spec 𝓤 𝓛 𝓜 𝓡 wired =
     sets ! (agg ! (and_then ! (lit ! tt) (no_more !))) refl (tt, (record { fits = lit< tt }, tt)) $
     returns ! (look_at ! 0 refl) $ free_all ! refl $ feq_i ! Ptr null_ptr null_ptr refl $ handle_in ! null_ptr None $
     suffices ! _ (ends_at 𝓛 f.ended stayed c y (one (ptr_val null_ptr)) (record { at = null_ptr; held = None }) tt tt) $ says ! refl $ nothing ! $ nothing ! $
-        done !))
+    done !))

@@ -39,13 +39,18 @@ into_loose_spec 𝓤 𝓛 𝓜 𝓡 wired =
     let c = f.clauses 𝓛 𝓜.mem 𝓡.returns in let 𝓣 = tables 𝓤 𝓛.H 𝓜 𝓡 𝓡.env in
     let Lr : RattleType = Loose R Z LZ ghosts in
     let hs : Stays f.ended.signature.params f.ended.kept = (stay_dropped (plain (λ _. handle.the_row)) yes, (stay_dropped (plain (λ _. Z)) yes, tt)) in
-        let W = walk_of 𝓛 f.ended hs c in
-    proved_at 𝓛 f.ended hs c 𝓜 𝓡 (Goes-dropped 𝓛 0 (plain (λ _. handle.the_row)) yes (λ κs x f. refl), (Goes-dropped 𝓛 0 (plain (λ _. Z)) yes (λ κs x f. refl),
-        tt)) f.Key.name code.function (code.unfolded 𝓤 𝓛.H 𝓜 𝓡 wired) (λ z are.
+    let W = walk_of 𝓛 f.ended hs c in
+    proved_at 𝓛 f.ended hs c 𝓜 𝓡 (
+      Goes-dropped 𝓛 0 (plain (λ _. handle.the_row)) yes (λ κs x f. refl),
+      (
+        Goes-dropped 𝓛 0 (plain (λ _. Z)) yes (λ κs x f. refl),
+        tt,
+      ),
+    ) f.Key.name code.function (code.unfolded 𝓤 𝓛.H 𝓜 𝓡 wired) (λ z are.
     let κs = z.0.0 in let v = z.0.3.0 in let a = z.0.3.1.0 in let Post : Val → SProp 𝓤 = W.post z in let Out : RattleType =
-        type_at f.ended.signature.result κs in let Run : List Val → SProp 𝓤 = λ ws. WpFn 𝓤 𝓛.H 𝓣.C 𝓣.Λ code.function ws Post in
+    type_at f.ended.signature.result κs in let Run : List Val → SProp 𝓤 = λ ws. WpFn 𝓤 𝓛.H 𝓣.C 𝓣.Λ code.function ws Post in
     qed 𝓛 ((‵ ftrue ⊛ ‵ (owns (types_at f.ended.signature.params κs) z.0.3 z.0.4)) ∷ raw ((c κs z.0.3).requires z.1) ∷ []) ∵ split ! $ drop ! $ fsplit ! $
-        handle_out ! v z.0.4.0 (λ ws. move ! (1 ∷ []) $ fsplit ! $
+    handle_out ! v z.0.4.0 (λ ws. move ! (1 ∷ []) $ fsplit ! $
     handle_tells (al R Z LZ ghosts) ! a z.0.4.1.0 (λ h ea fits. move ! (2 ∷ []) $
     either ! a v.at v.held
     (λ is none. let w = one (ptr_val null_ptr) in
