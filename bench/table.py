@@ -9,7 +9,7 @@ from measure import Result, held, measure
 
 ONE_MILLION, TWELVE_MILLION = inputs.SIZES.values()
 
-# How many questions are asked by units, without edits and with one before each: a script has at most 1 MiB.
+# How many questions are asked by units, same, tally, without edits and with one before each: a script has at most 1 MiB.
 UNIT_QUESTIONS = {False: 51_000, True: 21_000}
 
 
@@ -348,6 +348,63 @@ def filtered_questions(bench, option, words):
     yield line
 
 
+def same(bench):
+    """Two rule files told apart, or told to be the same, beside compiling each of them."""
+    table = os.path.join(bench.folder, 'limit.table')
+    make, said = inputs.LIMITS['rows']
+    path = inputs.make_rules(bench.folder, 'limit-rows', make)
+    with open(path, encoding='utf-8') as file:
+        text = file.read()
+    other = bench.file('other.rules', text[:-4] + ('\u4E00' if text[-4] != '\u4E00' else '\u4E01') + text[-3:])
+    for what, words in (('with itself', [path, path]), ('with its last letter changed', [path, other])):
+        line = Line(f'`same`, {said}, {what}, both compilings apart', bench.lacking(['same'] + words),
+                    target='1.00 s')
+        if not line.time:
+            result = bench.run(['same'] + words)
+            alone = sum(bench.seconds(['compile', word, table]) for word in words)
+            seconds = max(result.seconds - alone, 1e-6)
+            line.time, line.peak = time_text(seconds), size_text(result.peak)
+            line.verdict = verdict(seconds, 1.0)
+        yield line
+
+
+def tally(bench):
+    """What keeping counts costs an edit, the block of its counts included, and what is held for each
+    segment beside what `run` holds over the same text."""
+    path, props, _ = bench.rules('word')
+    one = bench.file('one.script', 'first\n')
+    lacking = bench.lacking(['tally'] + props + [path, bench.tiny(), one])
+    each = {}
+    for size, target in ((ONE_MILLION, None), (TWELVE_MILLION, 60e-6)):
+        line = Line(f'`tally`, word.rules, prose, {size // 1_000_000} M: a replaced character', lacking,
+                    target=time_text(target) if target else '')
+        if not lacking:
+            text = inputs.make_text(bench.folder, 'prose', size)
+            few, many = (bench.file(f'edits-{count}', inputs.edit_script(size, count, False))
+                         for count in (1000, 21000))
+            each[size] = max((bench.seconds(['tally'] + props + [path, text, many])
+                              - bench.seconds(['tally'] + props + [path, text, few])) / 20000, 1e-9)
+            line.time = time_text(each[size])
+            line.verdict = verdict(each[size], target) if target else ''
+        yield line
+    line = Line('such an edit in 12 M over one in 1 M', lacking, target='3 times')
+    if not lacking:
+        times = each[TWELVE_MILLION] / each[ONE_MILLION]
+        line.time, line.verdict = f'{times:.1f} times', verdict(times, 3)
+    yield line
+    line = Line('`tally`, word.rules, prose, 12 M: memory a segment, beside that of `run`', lacking,
+                target='12 bytes')
+    if not lacking:
+        behind = props + [path, inputs.make_text(bench.folder, 'prose', TWELVE_MILLION), one]
+        out = os.path.join(bench.folder, 'printed')
+        peaks = [measure(bench.program + [command] + behind, out).peak for command in ('run', 'tally')]
+        with open(out, encoding='utf-8') as file:
+            segments = int(file.readline().split()[1])
+        bytes_each = (peaks[1] - peaks[0]) / segments
+        line.peak, line.verdict = f'{bytes_each:.1f} bytes', verdict(bytes_each, 12)
+    yield line
+
+
 def questions(bench):
     """100,000 questions at random places, beside ICU's, in two scripts, since one has at most 1 MiB. The
     text has characters of one UTF-16 unit alone, so that both ask at the same places. Reading the
@@ -484,7 +541,7 @@ def scanning(bench):
 
 
 GROUPS = [start, texts, printing, compiling, front, limits, tables, loop, sessions, questions, units,
-          filters, nexts, tests, demo, parts]
+          filters, same, tally, nexts, tests, demo, parts]
 
 # The groups that want the program of single calls.
 OF_PARTS = [loop, nexts, parts]
