@@ -65,6 +65,9 @@ const COMMANDS: u32 = 100;
 
 const LENGTH: u32 = 150;
 
+/// The most bytes that a script or a file of a filter has here.
+const MOST_BYTES: usize = 65_536;
+
 /// A line of a script, without its end.
 fn drawn_line(alloc: Global, draws: &mut Draws, alphabet: &[char]) -> Result<String, AllocError> {
     let place = draws.below(LENGTH + 20);
@@ -315,7 +318,11 @@ fn first_other_of_script<L: Ledger>(
     let mut draws = Draws::new(seed);
     let letters = draws.text(alloc, alphabet, LENGTH)?;
     let script = drawn_script(alloc, &mut draws, alphabet)?;
-    let commands = read_script(alloc, script.as_bytes())?;
+    let (script, file) = (script.as_bytes(), file.as_bytes());
+    if script.len() > MOST_BYTES || file.len() > MOST_BYTES {
+        return Ok(Some(0));
+    }
+    let commands = read_script(alloc, script)?;
     let text = Pieces::new(alloc, letters.as_str())?;
     let mut model = Model {
         table,
@@ -325,13 +332,13 @@ fn first_other_of_script<L: Ledger>(
     };
     match plain {
         Plain::Hiding(_) => {
-            let list = Abbreviations::read(alloc, file.as_bytes())?;
+            let list = Abbreviations::read(alloc, file)?;
             let session = Session::open(alloc, table, text)?;
             let mut session = Filtered::open(session, &list, ByList::new(&list));
             first_other(alloc, &mut session, &mut model, &commands, &mut steps)
         }
         Plain::Turning(_) => {
-            let pairs = Tailoring::read(alloc, file.as_bytes())?;
+            let pairs = Tailoring::read(alloc, file)?;
             let map = ByPairs::new(&pairs);
             let mut session = Tailored::open(alloc, table, text, &pairs, map)?;
             first_other(alloc, &mut session, &mut model, &commands, &mut steps)
