@@ -349,23 +349,15 @@ def filtered_questions(bench, option, words):
 
 
 def same(bench):
-    """Two rule files told apart, or told to be the same, beside compiling each of them."""
-    table = os.path.join(bench.folder, 'limit.table')
+    """Two rule files told apart, or told to be the same. Both are compiled in it."""
     make, said = inputs.LIMITS['rows']
     path = inputs.make_rules(bench.folder, 'limit-rows', make)
     with open(path, encoding='utf-8') as file:
         text = file.read()
-    other = bench.file('other.rules', text[:-4] + ('\u4E00' if text[-4] != '\u4E00' else '\u4E01') + text[-3:])
+    last = '\u4E00' if text[-4] != '\u4E00' else '\u4E01'
+    other = bench.file('other.rules', text[:-4] + last + text[-3:])
     for what, words in (('with itself', [path, path]), ('with its last letter changed', [path, other])):
-        line = Line(f'`same`, {said}, {what}, both compilings apart', bench.lacking(['same'] + words),
-                    target='1.00 s')
-        if not line.time:
-            result = bench.run(['same'] + words)
-            alone = sum(bench.seconds(['compile', word, table]) for word in words)
-            seconds = max(result.seconds - alone, 1e-6)
-            line.time, line.peak = time_text(seconds), size_text(result.peak)
-            line.verdict = verdict(seconds, 1.0)
-        yield line
+        yield bench.below(f'`same`, {said}, {what}, compiling both', ['same'] + words, 3.0)
 
 
 def tally(bench):
