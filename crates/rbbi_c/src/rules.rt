@@ -1,4 +1,5 @@
-//! What C calls to read property files and to compile rules. `include/rbbi.h` documents these calls.
+//! What C calls to read property files and to compile rules. `include/rbbi.h` documents these
+//! calls.
 ghost use Rattle.std.specs.Prelude.{◌≡◌};
 ghost use Rattle.rbbi_c.specs.Faults.{told};
 ghost use Rattle.rbbi_c.specs.Compiling.{StartsFiles, AddsThrough, CompilesThrough};

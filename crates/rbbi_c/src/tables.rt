@@ -51,8 +51,8 @@ pub extern "C" fn rbbi_c_table_share(memory: Memory, table: &mut Handle, other: 
     keep(alloc, other, Held::Table(shared))
 }
 
-/// Writes the table file of a table, of version 2, as much of it as there is room for, and tells its
-/// length.
+/// Writes the table file of a table, of version 2, as much of it as there is room for, and tells
+/// its length.
 #[unsafe(no_mangle)]
 pub extern "C" fn rbbi_c_table_write(
     memory: Memory,

@@ -23,8 +23,9 @@ pub fn compiled_tables_have_same_counts()
     marks_are_unique();
 }
 
-/// Each table that is compiled from lawful rules meets what is asked of a table of which a canonical
-/// one is made: it is least, each category holds a code point, and surrogates lead to row 0.
+/// Each table that is compiled from lawful rules meets what is asked of a table of which a
+/// canonical one is made: it is least, each category holds a code point, and surrogates lead to row
+/// 0.
 pub fn compiled_tables_have_canonical()
     ensures { CompiledTablesHaveCanonical }
 {

@@ -2,9 +2,9 @@
 //! characters are turned before boundaries are looked for.
 //!
 //! [`Abbreviations`] are read from a file, a line each. A [`Filtered`] answers as a session does,
-//! but leaves out each boundary before which one of them stands. A [`Tailoring`] is read from a file
-//! of pairs. A [`Mapped`] is a text with its characters turned, and a [`Tailored`] answers as a
-//! session over that does.
+//! but leaves out each boundary before which one of them stands. A [`Tailoring`] is read from a
+//! file of pairs. A [`Mapped`] is a text with its characters turned, and a [`Tailored`] answers as
+//! a session over that does.
 #![tactic(auto)]
 
 mod abbreviation;

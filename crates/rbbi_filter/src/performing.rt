@@ -37,8 +37,8 @@ pub fn perform_filtered<T: EditText, P: Predicate, L: Ledger>(
 }
 
 /// Performs a command by a session that turns characters, and appends the lines of its reply, as
-/// `rbbi_script::perform` does. Places and lengths are in characters, and the reply to `text` is the
-/// text as it is.
+/// `rbbi_script::perform` does. Places and lengths are in characters, and the reply to `text` is
+/// the text as it is.
 ///
 /// After the refusal a front of the reply was appended. Text and cursor are as after the command,
 /// or, where an edit was refused for memory, as before it. Refused or not, the command reads at

@@ -24,8 +24,8 @@ use std::sync::ledger::Ledger;
 ///
 /// It keeps the text as it is, and boundaries that were found in the text as it is turned. Each
 /// answer is the one that a scan of the turned text gives, as the text is at that moment, at the
-/// costs that `rbbi_session::Session` has over the turned text. Places are in characters, from 0. No
-/// call but `open` and `replace` takes memory.
+/// costs that `rbbi_session::Session` has over the turned text. Places are in characters, from 0.
+/// No call but `open` and `replace` takes memory.
 #[derive(Drop)]
 pub struct Tailored<'a, T: EditText, G: CharMap> {
     table: &'a Table,

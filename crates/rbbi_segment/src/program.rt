@@ -128,8 +128,8 @@ fn tell_failure<K: Sink, E: Sink>(failure: Failure, out: &mut K, errors: &mut E)
 }
 
 /// Runs the program on the words behind its name, and answers the exit status: 0 where all is done,
-/// 1 where the rule file has a fault, and 2 where the words are wrong, a file can't be read or used,
-/// the output can't be written, or memory runs out.
+/// 1 where the rule file has a fault, and 2 where the words are wrong, a file can't be read or
+/// used, the output can't be written, or memory runs out.
 pub fn segment<F: Files, R: Read, K: Sink, E: Sink, L: Ledger>(
     alloc: Global,
     words: &Vec<String>,

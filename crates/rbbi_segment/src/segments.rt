@@ -20,8 +20,8 @@ pub(crate) struct Segment {
     pub(crate) status: u32,
 }
 
-/// What takes segments and puts what it makes of them. Contracts see what taking one and the end do,
-/// where the receiver says that, to the receiver and to what a sink has taken.
+/// What takes segments and puts what it makes of them. Contracts see what taking one and the end
+/// do, where the receiver says that, to the receiver and to what a sink has taken.
 pub(crate) trait Receive {
     /// What taking a segment of a text does.
     ghost takes: { Self → Option (List ℕ) → List ℕ → Segment → Self → Option (List ℕ) → Type 0 } = { λ _ _ _ _ _ _. ⊤ };

@@ -1,5 +1,5 @@
-//! The rows of a table with no look-ahead rules in numbers of 16 bits, as the loop of a search reads
-//! them.
+//! The rows of a table with no look-ahead rules in numbers of 16 bits, as the loop of a search
+//! reads them.
 ghost use Rattle.std.specs.Prelude.{◌≡◌, ℕ, ◌+◌, ◌*◌, ◌/◌, ◌^◌, ◌<◌, ◌≤◌, ◌⊎◌, [], length};
 ghost use Rattle.std.specs.Prelude.{slice_index, IfOk};
 ghost use Rattle.rbbi_table.specs.Parts.{rows_of, AreNextRows};
@@ -24,7 +24,8 @@ const NEAR: usize = 0x2_0000;
 /// What is kept beside a table with no look-ahead rules, if it isn't too large.
 #[derive(Debug, Drop)]
 pub(crate) struct Short {
-    /// Row by row the list and the moves. Nothing if the table has look-ahead rules or is too large.
+    /// Row by row the list and the moves. Nothing if the table has look-ahead rules or is too
+    /// large.
     pub(crate) moves: Vec<u16>,
     /// The categories of the first code points.
     pub(crate) near: Vec<u8>,

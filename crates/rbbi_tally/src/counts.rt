@@ -1,6 +1,6 @@
 //! How many segments have a status.
-ghost use Rattle.std.specs.Prelude.{◌≡◌, ◌+◌, ◌^◌, ◌<◌, ◌≤◌, ℕ, length, slice_index, IfOk, OnOk, sum};
-ghost use Rattle.std.specs.Prelude.{◌==◌, if◌then◌else◌};
+ghost use Rattle.std.specs.Prelude.{◌≡◌, ◌+◌, ◌^◌, ◌<◌, ◌≤◌, ℕ, length, slice_index, IfOk, OnOk};
+ghost use Rattle.std.specs.Prelude.{sum, ◌==◌, if◌then◌else◌};
 ghost use Rattle.rbbi_model.specs.Places.{largest};
 ghost use Rattle.rbbi_tally.specs.inner.Values.{count_below, sum_at, AreValues};
 

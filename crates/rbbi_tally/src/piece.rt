@@ -1,6 +1,6 @@
 //! A piece of the list of segments.
-ghost use Rattle.std.specs.Prelude.{◌≡◌, ◌+◌, ◌-◌, ◌≤◌, ◌<◌, ◌++◌, ℕ, List, length, map, take, drop};
-ghost use Rattle.std.specs.Prelude.{IsTrue, MatchBool, vec_len, vec_capacity};
+ghost use Rattle.std.specs.Prelude.{◌≡◌, ◌+◌, ◌-◌, ◌≤◌, ◌<◌, ◌++◌, ℕ, List, length, map, take};
+ghost use Rattle.std.specs.Prelude.{drop, IsTrue, MatchBool, vec_len, vec_capacity};
 ghost use Rattle.std.specs.List.{AllByRecursion};
 ghost use Rattle.rbbi_model.specs.Words.{most_characters};
 ghost use Rattle.rbbi_tally.specs.inner.Kept.{at_of};

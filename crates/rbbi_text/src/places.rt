@@ -8,8 +8,8 @@ ghost use Rattle.rbbi_text.specs.inner.Cuts.{shifted, IsIn, IsFound, AreWholeCut
 use crate::piece::{FULL, Piece};
 use std::alloc::AllocError;
 
-/// The number of the piece that a place is in: mostly the one in which it would be if all were full,
-/// by one test.
+/// The number of the piece that a place is in: mostly the one in which it would be if all were
+/// full, by one test.
 #[inline(always)]
 pub(crate) fn find(starts: &[u32], place: usize) -> usize
     requires some { 0 < length starts.now }

@@ -38,8 +38,8 @@ pub(crate) const MOST_CHARACTERS: usize = 16_777_216;
 /// It takes four bytes a character. A character is found in one step, and a change copies all that
 /// stands behind it.
 ///
-/// Milestones by which places are found in UTF-8 or in UTF-16 take a sixteenth of a byte a character,
-/// once the text is made ready for that unit.
+/// Milestones by which places are found in UTF-8 or in UTF-16 take a sixteenth of a byte a
+/// character, once the text is made ready for that unit.
 #[derive(Drop)]
 pub struct PlainText {
     items: Vec<char>,

@@ -374,7 +374,8 @@ fn thirds_take(unit: Unit, count: u32) -> u32
 }
 
 /// Whether the end of each 45th character of `a`, U+00E9, U+1D11E in turn lies where it must, in a
-/// text of 90,000 of them, where so many characters that take so much of the unit were put in front.
+/// text of 90,000 of them, where so many characters that take so much of the unit were put in
+/// front.
 fn thirds<T: UnitText>(text: &T, unit: Unit, front: (u32, u32)) -> bool
     requires { (front.0 < 1000) × (front.1 < 1000) }
 {

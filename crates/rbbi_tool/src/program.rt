@@ -84,11 +84,11 @@ fn told(alloc: Global, ended: Result<Prepared, Refusal>) -> Result<Prepared, All
 /// | 8 | memory ran out | a front of what was to be written |
 ///
 /// The words are looked at first, then the files are read in the order of the words; then come the
-/// property files, then the rule file or the table file, for `same` the second rule file, then the
-/// text, and then the script or the tests. A file that the command writes is written before anything
-/// goes out, so where the write fails, nothing goes out. The lines of `breaks`, `run` and `tally` go
-/// out while they are made, as soon as 65,536 bytes or more wait. After a put or a write that is
-/// refused there is no further call.
+/// property files, then a filter file, then the rule file or the table file, for `same` the second
+/// rule file, then the text, and then the script or the tests. A file that the command writes is
+/// written before anything goes out, so where the write fails, nothing goes out. The lines of
+/// `breaks`, `run` and `tally` go out while they are made, as soon as 65,536 bytes or more wait.
+/// After a put or a write that is refused there is no further call.
 pub fn rbbi<F: Files, K: Sink, L: Ledger>(
     alloc: Global,
     words: &Vec<String>,

@@ -131,8 +131,8 @@ pub(crate) fn rules_of_text(
     meaning_of(alloc, text, &statements, props, ignored)
 }
 
-/// The rules of the bytes of a rule file, with property files that were read. Its fault is the first
-/// of its bytes, its tokens, its grammar and its meaning.
+/// The rules of the bytes of a rule file, with property files that were read. Its fault is the
+/// first of its bytes, its tokens, its grammar and its meaning.
 pub(crate) fn rules_of_bytes(
     alloc: Global,
     bytes: &[u8],

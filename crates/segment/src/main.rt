@@ -1,4 +1,5 @@
-//! The program `segment`: the graphemes, words, sentences or lines of a text, over the system's files.
+//! The program `segment`: the graphemes, words, sentences or lines of a text, over the system's
+//! files.
 #![tactic(auto)]
 
 ghost use Rattle.std.specs.Prelude.{◌≡◌, ◌<◌};
