@@ -1,5 +1,5 @@
 -- The parts that are made of a table are those of its canonical table.
-use Rattle.std.proofs.Common.{◌≡◌, ◌≢◌, ℕ, zero, suc, ◌+◌, ◌*◌, ◌/◌, ◌%◌, ◌^◌, ◌<◌, ◌≤◌, List, [], ◌∷◌, ◌++◌, length, map, take, get_or, refl, ap, sym, ◌∙◌, subst}
+use Rattle.std.proofs.Common.{◌≡◌, ◌≢◌, ℕ, zero, suc, ◌+◌, ◌*◌, ◌/◌, ◌%◌, ◌<◌, ◌≤◌, List, [], ◌∷◌, length, map, take, get_or, refl, ap, sym, ◌∙◌, subst}
 use Rattle.std.proofs.Common.{⊎_elim, arith}
 use Rattle.std.specs.List.{AllByRecursion}
 use Rattle.std.proofs.lemmas.Bool.{cases_lt, cases_eq, cases_order}
@@ -7,11 +7,11 @@ use Rattle.std.proofs.lemmas.List.{length-map, take-map, get_or-map}
 use Rattle.std.proofs.lemmas.Nat.{mod_below, div-add-mod'}
 use Rattle.rbbi_model.specs.Words.{IsCodePoint}
 use Rattle.rbbi_model.specs.Places.{has_bit}
-use Rattle.rbbi_model.specs.Tables.{Table, CategoryRange, RowHead, category_of, empty_head, head_of, accept_of, fronts_of, list_of, statuses_of, step, row_along, row_after}
+use Rattle.rbbi_model.specs.Tables.{Table, CategoryRange, RowHead, category_of, empty_head, head_of, accept_of, fronts_of, list_of, step, row_along}
 use Rattle.rbbi_model.specs.ValidTables.{IsWay, IsValidRow, AreValidRows, AreFronted, IsValidTable}
 use Rattle.rbbi_model.specs.Marks.{Marks, marks_of}
 use Rattle.rbbi_model.specs.Compiled.{IsLeast}
-use Rattle.rbbi_model.specs.Canonical.{LeadAlike, IsCanonical, HasCanonical}
+use Rattle.rbbi_model.specs.Canonical.{LeadAlike, HasCanonical}
 use Rattle.rbbi_model.proofs.Categories.{category_within}
 use Rattle.rbbi_table.specs.Pairs.{ArePairsOf}
 use Rattle.rbbi_table.specs.Parts.{rows_of, AreNextRows}
@@ -20,7 +20,7 @@ use Rattle.rbbi_canon.specs.declared.grid.Grid.{Grid}
 use Rattle.rbbi_canon.specs.inner.Grids.{table_of_grid, cell_of, IsGridOf, LeadOnAlike, AreJoined}
 use Rattle.rbbi_canon.specs.inner.Walks.{CanBeWalked, AreWalked}
 use Rattle.rbbi_canon.specs.inner.Slashes.{AllowsAll}
-use Rattle.rbbi_canon.specs.inner.Made.{AreValidParts, ArePartsOf}
+use Rattle.rbbi_canon.specs.inner.Made.{ArePartsOf}
 use Rattle.rbbi_canon.proofs.Rows.{WordOf, next_row, along_within, few_marks, word_of, word_way}
 
 module _ (table : Table) (valid : IsValidTable table) (has : HasCanonical table) (grid : Grid) (is : IsGridOf table grid) where
@@ -315,7 +315,8 @@ module _ (table : Table) (valid : IsValidTable table) (has : HasCanonical table)
           apart = λ this that less short other.
               let low' : that < length order = omega (arith, short, many_rows) in
               let low : this < length order = omega (arith, less, low') in
-              let tell : (way : List ℕ) → IsWay table way → (marks_of table (row_along table (Was this) way) ≢ marks_of table (row_along table (Was that) way)) →
+              let tell : (way : List ℕ) → IsWay table way → (marks_of table (row_along table (Was this) way) ≢ marks_of table
+              (row_along table (Was that) way)) →
               (way : List ℕ) × IsWay Made way × (marks_of Made (row_along Made this way) ≢ marks_of Made (row_along Made that way)) =
               λ way h differ.
               let w = way_of way h in (

@@ -1,6 +1,6 @@
 -- Columns that are kept once each, and the first category of each.
-use Rattle.std.proofs.Common.{◌≡◌, ◌≢◌, ◌⊎◌, ℕ, ◌+◌, ◌<◌, ◌≤◌, List, [], ◌∷◌, ◌++◌, length, get_or, refl, ap, sym, ◌∙◌, subst, inl, inr, ⊎_elim, arith, below_more}
-use Rattle.std.proofs.lemmas.Bool.{cases_lt, cases_eq, cases_order}
+use Rattle.std.proofs.Common.{◌≡◌, ◌≢◌, ◌⊎◌, ℕ, ◌+◌, ◌<◌, ◌≤◌, List, [], ◌∷◌, ◌++◌, length, get_or, refl, ap, sym, ◌∙◌, subst, ⊎_elim, arith, below_more}
+use Rattle.std.proofs.lemmas.Bool.{cases_lt, cases_order}
 use Rattle.std.proofs.lemmas.Grind.{same_number_lists}
 use Rattle.std.proofs.lemmas.List.{get_or_append_left, get_or_push, length_push}
 use Rattle.rbbi_once.specs.NumberedRows.{listed_row, IsUnlisted, KeepsOrAdds}
@@ -147,7 +147,8 @@ module _ (grid : Grid) (category : ℕ) (kept : List (List ℕ)) (firsts found c
       let long : length kept' ≡ length kept + 1 = ap length added.0 ∙ length_push kept column in
       let end : number ≡ length kept =
       ⊎_elim
-      (λ less. absurd (added.1 number less (sym (get_or_append_left kept (column ∷ []) [] number less) ∙ sym (ap (λ (l : List (List ℕ)). listed_row l number) added.0) ∙ at)))
+      (λ less. absurd (added.1 number less (sym (get_or_append_left kept (column ∷ []) [] number less) ∙ sym
+      (ap (λ (l : List (List ℕ)). listed_row l number) added.0) ∙ at)))
       (λ most. omega (arith, most, low, long))
       (cases_lt number (length kept)) in
       ⊎_elim

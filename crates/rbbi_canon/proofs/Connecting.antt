@@ -1,9 +1,9 @@
 -- Letters connect the categories of each character, since they do so at the starts of ranges.
-use Rattle.std.proofs.Common.{◌≡◌, ◌≢◌, ◌⊎◌, ℕ, zero, suc, ◌+◌, ◌-◌, ◌<◌, ◌≤◌, Bool, cond, List, [], ◌∷◌, ◌++◌, length, get_or, refl, ap, sym, ◌∙◌, subst}
+use Rattle.std.proofs.Common.{◌≡◌, ◌⊎◌, ℕ, suc, ◌+◌, ◌-◌, ◌<◌, ◌≤◌, Bool, cond, List, [], ◌∷◌, ◌++◌, length, get_or, refl, ap, sym, ◌∙◌, subst}
 use Rattle.std.proofs.Common.{⊎_elim, arith, ltb, leb, below_more}
 use Rattle.std.proofs.lemmas.Bool.{cases_lt, cond-true, cond-false, lt-ltb, le-ltb, le-leb}
 use Rattle.std.proofs.lemmas.List.{get_or_append_left, get_or_push, length_push}
-use Rattle.rbbi_model.specs.Words.{IsCodePoint, IsSurrogate, IsCharacter}
+use Rattle.rbbi_model.specs.Words.{IsCharacter}
 use Rattle.rbbi_model.specs.Tables.{Table, CategoryRange, category_of}
 use Rattle.rbbi_model.specs.ValidTables.{AreValidRanges, IsValidTable}
 use Rattle.rbbi_model.proofs.Categories.{category_within}
@@ -14,7 +14,7 @@ use Rattle.rbbi_table.proofs.RangeLemmas.{category_held}
 use Rattle.rbbi_canon.specs.declared.letters.Letter.{Letter}
 use Rattle.rbbi_canon.specs.inner.Joins.{JoinsLabels, AreJoinedBy}
 use Rattle.rbbi_canon.specs.inner.Letters.{letter_at, IsLetter, AreLetters, start_or_end, first_character, IsConnected, StayConnected, AreLettersSoFar}
-use Rattle.rbbi_canon.proofs.Sets.{none_joined, one_more, stay, joined_now}
+use Rattle.rbbi_canon.proofs.Sets.{none_joined, one_more, stay}
 
 -- some range holds each code point
 holder_from : (range : CategoryRange) (ranges : List CategoryRange) (c : ℕ) → range.start ≤ c → (k : ℕ) × HoldsCodePoint (range ∷ ranges) k c
@@ -60,7 +60,8 @@ start_is ranges k short =
 first_between : (s c : ℕ) → s ≤ c → IsCharacter c → (s ≤ first_character s) × (first_character s ≤ c)
 first_between s c low is =
     ⊎_elim
-    (λ before. let e = cond-true (ltb s 0xD800) s (cond (ltb s 0xE000) 0xE000 (cond (leb s 0x10FFFF) s 0xE000)) (lt-ltb s 0xD800 before) in (omega (arith, e), omega (arith, e, low)))
+    (λ before. let e = cond-true (ltb s 0xD800) s (cond (ltb s 0xE000) 0xE000 (cond (leb s 0x10FFFF) s 0xE000)) (lt-ltb s 0xD800 before) in
+    (omega (arith, e), omega (arith, e, low)))
     (λ from.
     let e = cond-false (ltb s 0xD800) s (cond (ltb s 0xE000) 0xE000 (cond (leb s 0x10FFFF) s 0xE000)) (le-ltb s 0xD800 from) in
     ⊎_elim
@@ -127,7 +128,8 @@ module _ (these those : Table) (valid : IsValidTable these) (valid' : IsValidTab
         each = λ k short. below_more (λ n. IsLetter these those (letter_at more n)) (length letters)
             (λ n less. subst (IsLetter these those) (sym (before n less)) (h.each n less)) (subst (IsLetter these those) (sym last) is)
             k (omega (arith, short, long));
-        joined = subst (λ n. AreJoinedBy (these.categories + those.categories) new n (λ k. (letter_at more k).this) (λ k. these.categories + (letter_at more k).that))
+        joined = subst (λ n. AreJoinedBy (these.categories + those.categories) new n (λ k. (letter_at more k).this)
+            (λ k. these.categories + (letter_at more k).that))
             (sym long)
             (one_more (these.categories + those.categories) labels new (length letters)
             (λ k. (letter_at letters k).this) (λ k. these.categories + (letter_at letters k).that)

@@ -1,15 +1,14 @@
 -- Ranges of joined categories, one by one.
-use Rattle.std.proofs.Common.{◌≡◌, ◌≢◌, ◌⊎◌, ℕ, zero, suc, ◌+◌, ◌<◌, ◌≤◌, leb, cond, List, [], ◌∷◌, ◌++◌, length, take, get_or, refl, ap, sym, ◌∙◌, subst}
-use Rattle.std.proofs.Common.{inl, inr, ⊎_elim, arith, below_more}
+use Rattle.std.proofs.Common.{◌≡◌, ◌⊎◌, ℕ, zero, suc, ◌+◌, ◌<◌, ◌≤◌, leb, cond, List, [], ◌∷◌, ◌++◌, length, take, get_or, refl, ap, sym, ◌∙◌, subst}
+use Rattle.std.proofs.Common.{⊎_elim, arith}
 use Rattle.std.specs.List.{AllByRecursion}
 use Rattle.std.proofs.lemmas.Bool.{cases_lt, cases_eq, le-leb, lt-leb}
 use Rattle.std.proofs.lemmas.List.{take_more, take_all, get_or_append_left, get_or_push, length_push, get_or-take}
-use Rattle.rbbi_model.specs.Words.{IsCodePoint}
 use Rattle.rbbi_model.specs.Tables.{CategoryRange, category_from, category_of}
 use Rattle.rbbi_model.specs.ValidTables.{StartsAtZero, AreApart, IsWithin, AreValidRanges}
 use Rattle.rbbi_model.proofs.Categories.{category_within}
 use Rattle.rbbi_model.proofs.Lists.{all_append, all_through, all_at, all_by_index}
-use Rattle.rbbi_table.specs.inner.Ranges.{start_of, HoldsCodePoint}
+use Rattle.rbbi_table.specs.inner.Ranges.{start_of}
 use Rattle.rbbi_table.proofs.RangeLemmas.{no_range, category_held, rise_next}
 use Rattle.rbbi_canon.specs.declared.grid.Grid.{Grid}
 use Rattle.rbbi_canon.specs.inner.Grids.{LeadOnAlike, AreRepresentatives, AreJoined}
@@ -99,7 +98,8 @@ module _ (count : ℕ) (ranges : List CategoryRange) (found : List ℕ) (valid :
       length_take (suc n) [] = omega arith
       length_take (suc n) (x ∷ xs) = let e = length_take n xs in omega (arith, e)
 
-  module _ (i : ℕ) (order : List ℕ) (made : List CategoryRange) (h : AreRangesSoFar ranges found i order made) (range : CategoryRange) (short : i < length ranges)
+  module _ (i : ℕ) (order : List ℕ) (made : List CategoryRange) (h : AreRangesSoFar ranges found i order made) (range : CategoryRange)
+      (short : i < length ranges)
       (is : range ≡ get_or ranges i no_range) (more : List ℕ) (n : ℕ) (keeps : KeepsOrAdds order (get_or found range.category 0) more) (once : AreOnce more)
       (low : n < length more) (at : get_or more n 0 ≡ get_or found range.category 0) where
     grown : Grows order more n
@@ -213,7 +213,8 @@ module _ (count : ℕ) (ranges : List CategoryRange) (found : List ℕ) (valid :
         empty_ends (r ∷ front) last e = cc
 
     -- a new range
-    range_added : (new : CategoryRange) → new.start ≡ range.start → new.category ≡ n → ¬ EndsIn made n → AreRangesSoFar ranges found (i + 1) more (made ++ new ∷ [])
+    range_added : (new : CategoryRange) → new.start ≡ range.start → new.category ≡ n → ¬ EndsIn made n → AreRangesSoFar ranges found (i + 1) more
+        (made ++ new ∷ [])
     range_added new start cat other =
         let made' : List CategoryRange = made ++ new ∷ [] in
         let long : length made' ≡ length made + 1 = length_push made new in
@@ -228,7 +229,8 @@ module _ (count : ℕ) (ranges : List CategoryRange) (found : List ℕ) (valid :
           none = λ e. absurd (omega (arith, e));
           category = category made' (λ c less. category_before made 0 c new (omega (arith, less, start)))
               (λ c past. category_behind made 0 c new (omega (arith, past, start))
-              (all_through (λ (r : CategoryRange). r.start < range.start) (λ (r : CategoryRange). r.start ≤ c) (λ r less. omega (arith, less, past)) made all_below)
+              (all_through (λ (r : CategoryRange). r.start < range.start) (λ (r : CategoryRange). r.start ≤ c)
+              (λ r less. omega (arith, less, past)) made all_below)
               ∙ cat);
           starts = λ later. all_append (λ (r : CategoryRange). r.start < start_of ranges (i + 1)) made (new ∷ [])
               (all_through (λ (r : CategoryRange). r.start < range.start) (λ (r : CategoryRange). r.start < start_of ranges (i + 1))
@@ -253,7 +255,8 @@ module _ (count : ℕ) (ranges : List CategoryRange) (found : List ℕ) (valid :
               (e.0, e.1, ap (λ (r : CategoryRange). r.category) (old e.0 (omega (arith, e.1, before))) ∙ e.2))
               (λ most.
               let end : j ≡ length made = omega (arith, most, j_low, long) in
-              let is_n : (get_or made' j no_range).category ≡ n = ap (λ m. (get_or made' m no_range).category) end ∙ ap (λ (r : CategoryRange). r.category) last ∙ cat
+              let is_n : (get_or made' j no_range).category ≡ n = ap (λ m. (get_or made' m no_range).category) end ∙ ap
+              (λ (r : CategoryRange). r.category) last ∙ cat
               in
               let e = h.met k some (omega (arith, less, is_n, grown.up_to)) in
               (e.0, omega (arith, e.1, end), ap (λ (r : CategoryRange). r.category) (old e.0 e.1) ∙ e.2))

@@ -1,11 +1,11 @@
 -- Canonical tables are the same exactly where the tables that they are made of have the same marks after every text.
-use Rattle.std.proofs.Common.{◌≡◌, ◌≢◌, ◌⊎◌, ◌↔◌, ℕ, zero, suc, ◌<◌, ◌≤◌, List, [], ◌∷◌, ◌++◌, length, map, refl, ap, sym, ◌∙◌, inl, inr, ⊎_elim, arith}
+use Rattle.std.proofs.Common.{◌≡◌, ◌⊎◌, ℕ, List, [], ◌∷◌, ◌++◌, map, refl, ap, sym, ◌∙◌, inl, inr, ⊎_elim, arith}
 use Rattle.std.proofs.lemmas.Bool.{cases_lt}
 use Rattle.rbbi_model.specs.Words.{IsWord, IsText, IsCodePoint, IsCharacter, IsSurrogate}
 use Rattle.rbbi_model.specs.Tables.{Table, category_of, step, row_along, row_after}
 use Rattle.rbbi_model.specs.ValidTables.{IsValidTable}
 use Rattle.rbbi_model.specs.Marks.{no_marks, marks_of}
-use Rattle.rbbi_model.specs.Canonical.{IsCanonical, HasCanonical, AreMarkedAlike}
+use Rattle.rbbi_model.specs.Canonical.{HasCanonical, AreMarkedAlike}
 use Rattle.rbbi_model.proofs.Lists.{all_through}
 use Rattle.rbbi_canon.specs.Laws.{CanonicalTablesTellMarks}
 use Rattle.rbbi_canon.proofs.Rows.{after_append, after_within, few_marks, start_marks, stop_along, stop_marks, word_way}

@@ -1,5 +1,5 @@
 -- The rows of a valid table that words lead to.
-use Rattle.std.proofs.Common.{◌≡◌, ◌≢◌, ℕ, zero, suc, ◌+◌, ◌*◌, ◌<◌, ◌≤◌, List, [], ◌∷◌, ◌++◌, length, map, refl, ap, sym, ◌∙◌, arith}
+use Rattle.std.proofs.Common.{◌≡◌, ◌≢◌, ℕ, zero, suc, ◌+◌, ◌<◌, List, [], ◌∷◌, ◌++◌, length, map, refl, ap, sym, ◌∙◌, arith}
 use Rattle.std.proofs.lemmas.List.{map-append}
 use Rattle.rbbi_model.specs.Words.{IsWord, IsCodePoint}
 use Rattle.rbbi_model.specs.Tables.{Table, category_of, head_of, statuses_of, step, row_along, row_after}
@@ -8,7 +8,6 @@ use Rattle.rbbi_model.specs.Marks.{Marks, no_marks, marks_of}
 use Rattle.rbbi_model.specs.Compiled.{IsLeast}
 use Rattle.rbbi_model.proofs.Categories.{category_within}
 use Rattle.rbbi_model.proofs.SearchFacts.{row_along_append}
-use Rattle.rbbi_table.proofs.MoveLemmas.{row_end}
 use Rattle.std.proofs.Common.{slice_index_or}
 
 -- a word of these categories

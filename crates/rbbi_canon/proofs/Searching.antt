@@ -1,5 +1,5 @@
 -- Pairs of rows that are searched for a difference, and what it says that none is found.
-use Rattle.std.proofs.Common.{◌≡◌, ◌≢◌, ℕ, zero, suc, ◌+◌, ◌-◌, ◌<◌, ◌≤◌, cond, List, [], ◌∷◌, ◌++◌, length, map, get_or, refl, ap, sym, ◌∙◌, subst}
+use Rattle.std.proofs.Common.{◌≡◌, ℕ, zero, suc, ◌+◌, ◌-◌, ◌<◌, ◌≤◌, cond, List, [], ◌∷◌, ◌++◌, length, map, get_or, refl, ap, sym, ◌∙◌, subst}
 use Rattle.std.proofs.Common.{arith, ltb, below_more}
 use Rattle.std.proofs.lemmas.Bool.{cond-true, cond-false, lt-ltb, le-ltb}
 use Rattle.std.proofs.lemmas.List.{get_or_append_left, get_or_push, length_push}
@@ -154,7 +154,8 @@ module _ (these those : Table) (valid : IsValidTable these) (valid' : IsValidTab
             (omega (arith, all, next_row those valid' p.that (letter_at letters number).that rows.1 (letter_low' number low))) is
 
   -- letters lead from a pair to rows
-  pub follows_within : (pairs : List Pair) (next number : ℕ) (pair : Pair) → AreReached these those letters pairs → next < length pairs → pair_at pairs next ≡ pair →
+  pub follows_within : (pairs : List Pair) (next number : ℕ) (pair : Pair) → AreReached these those letters pairs → next < length pairs
+      → pair_at pairs next ≡ pair →
       number < length letters →
       (step these pair.this (letter_at letters number).this < length these.rows) × (step those pair.that (letter_at letters number).that < length those.rows)
   follows_within pairs next number pair reached low is number_low =
@@ -285,7 +286,8 @@ module _ (these those : Table) (valid : IsValidTable these) (valid' : IsValidTab
         get_or labels (step these p (category_of these.ranges c)) 0 ≡ get_or labels (Rows + step those q (category_of those.ranges c)) 0
     step_alike c is p q low low' same =
         same_only (get_or labels (step these p (category_of these.ranges c)) 0) (get_or labels (Rows + step those q (category_of those.ranges c)) 0)
-        (alike (λ n. get_or labels (step these n (category_of these.ranges c)) 0 ∷ []) (λ n. get_or labels (Rows + step those n (category_of those.ranges c)) 0 ∷ [])
+        (alike (λ n. get_or labels (step these n (category_of these.ranges c)) 0 ∷ [])
+        (λ n. get_or labels (Rows + step those n (category_of those.ranges c)) 0 ∷ [])
         (λ k short.
         are.enough (λ n. get_or labels (step these (pair_at pairs k).this n) 0 ∷ []) (λ n. get_or labels (Rows + step those (pair_at pairs k).that n) 0 ∷ [])
         (λ number number_low. ap (λ n. n ∷ []) (h.followed k number short number_low)) c is)

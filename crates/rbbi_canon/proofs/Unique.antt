@@ -5,10 +5,10 @@ use Rattle.std.proofs.lemmas.Bool.{cases_lt, cases_eq, cases_order}
 use Rattle.std.proofs.lemmas.List.{ext_get_or}
 use Rattle.std.proofs.lemmas.Nat.{div_below, mod_below, div-add-mod'}
 use Rattle.rbbi_model.specs.Words.{IsWord, IsCodePoint}
-use Rattle.rbbi_model.specs.Tables.{Table, RowHead, category_of, empty_head, head_of, list_of, statuses_of, step, row_along, row_after}
+use Rattle.rbbi_model.specs.Tables.{Table, RowHead, category_of, empty_head, head_of, list_of, step, row_along, row_after}
 use Rattle.rbbi_model.specs.ValidTables.{IsWay, IsValidTable}
 use Rattle.rbbi_model.specs.Marks.{Marks, no_marks, marks_of}
-use Rattle.rbbi_model.specs.Canonical.{AllowsSlashes, IsCanonical}
+use Rattle.rbbi_model.specs.Canonical.{IsCanonical}
 use Rattle.rbbi_model.proofs.Categories.{category_within}
 use Rattle.rbbi_model.proofs.Lists.{all_append}
 use Rattle.rbbi_model.proofs.SearchFacts.{row_along_append}
@@ -17,8 +17,8 @@ use Rattle.rbbi_table.specs.Parts.{rows_of}
 use Rattle.rbbi_table.specs.Pairs.{ArePairsOf}
 use Rattle.rbbi_table.proofs.MoveLemmas.{row_end}
 use Rattle.rbbi_table.proofs.PartLemmas.{stored_are}
-use Rattle.rbbi_canon.proofs.Rows.{WordOf, first_zero, next_row, along_within, stop_along, after_within, after_append, after_stop, along_rest, stop_marks}
-use Rattle.rbbi_canon.proofs.Rows.{start_marks, few_marks, word_of, word_to, word_way}
+use Rattle.rbbi_canon.proofs.Rows.{first_zero, next_row, stop_along, after_within, after_append, after_stop, along_rest, stop_marks}
+use Rattle.rbbi_canon.proofs.Rows.{few_marks, word_of, word_to}
 use Rattle.rbbi_canon.proofs.Ordered.{one_place, AreAmong, same_members, order_of}
 use Rattle.rbbi_canon.proofs.RangeLists.{same_ranges}
 

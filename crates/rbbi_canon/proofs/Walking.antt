@@ -1,5 +1,5 @@
 -- Rows that are numbered as they are met, cell by cell.
-use Rattle.std.proofs.Common.{◌≡◌, ◌≢◌, ℕ, zero, suc, ◌+◌, ◌*◌, ◌/◌, ◌%◌, ◌<◌, ◌≤◌, List, [], ◌∷◌, ◌++◌, length, get_or, refl, ap, sym, ◌∙◌, subst, inl, inr}
+use Rattle.std.proofs.Common.{◌≡◌, ℕ, zero, suc, ◌+◌, ◌*◌, ◌/◌, ◌%◌, ◌<◌, ◌≤◌, List, [], ◌∷◌, ◌++◌, length, get_or, refl, ap, sym, ◌∙◌, subst}
 use Rattle.std.proofs.Common.{⊎_elim, arith}
 use Rattle.std.proofs.lemmas.Bool.{cases_lt, cases_eq}
 use Rattle.std.proofs.lemmas.List.{get_or_append_left, get_or_push, length_push}
@@ -9,7 +9,7 @@ use Rattle.rbbi_model.specs.ValidTables.{IsWay}
 use Rattle.rbbi_model.specs.Canonical.{AreNumberedAsMet}
 use Rattle.rbbi_table.proofs.MoveLemmas.{row_end}
 use Rattle.rbbi_canon.specs.declared.grid.Grid.{Grid}
-use Rattle.rbbi_canon.specs.inner.Grids.{table_of_cells, table_of_grid, cell_of, LeadOnAlike}
+use Rattle.rbbi_canon.specs.inner.Grids.{table_of_cells, table_of_grid, cell_of}
 use Rattle.rbbi_canon.specs.inner.Numberings.{KeepsOrAdds}
 use Rattle.rbbi_canon.specs.inner.Walks.{CanBeWalked, AreSteps, AreWalked}
 use Rattle.rbbi_canon.proofs.Orders.{AreOnce, few_once, long_with_all, Grows, grows}
@@ -52,7 +52,8 @@ module _ (grid : Grid) (firsts : List ℕ) (can : CanBeWalked grid firsts) where
     start = start;
     steps = λ k number low place.
         let first : k ≡ 0 =
-        ⊎_elim (λ is. is) (λ other. absurd (omega (arith, place, all, row_end 0 k (length firsts) (let e : 0 < k = omega (arith, other) in e)))) (cases_eq k 0) in
+        ⊎_elim (λ is. is) (λ other. absurd (omega (arith, place, all, row_end 0 k (length firsts) (let e : 0 < k = omega (arith, other) in e))))
+        (cases_eq k 0) in
         let cell = zeros (k * length firsts + number) in (
           omega (arith, cell, two),
           ap (λ n. get_or order n 0) cell ∙ stop ∙ sym (ap (λ row. cell_of grid row (get_or firsts number 0)) (ap (λ n. get_or order n 0) first ∙ stop)
@@ -62,9 +63,11 @@ module _ (grid : Grid) (firsts : List ℕ) (can : CanBeWalked grid firsts) where
     found = λ row some short. absurd (omega (arith, some, short, two));
   }
 
-  module _ (order cells : List ℕ) (h : IsWalkedSoFar grid firsts order cells) (next i : ℕ) (at : length cells ≡ next * length firsts + i) (i_low : i < length firsts)
+  module _ (order cells : List ℕ) (h : IsWalkedSoFar grid firsts order cells) (next i : ℕ) (at : length cells ≡ next * length firsts + i)
+      (i_low : i < length firsts)
       (one : 1 ≤ next) (next_low : next < length order) (more : List ℕ) (number place : ℕ) (keeps : KeepsOrAdds order number more) (once : AreOnce more)
-      (place_low : place < length more) (place_is : get_or more place 0 ≡ number) (target : number ≡ cell_of grid (get_or order next 0) (get_or firsts i 0)) where
+      (place_low : place < length more) (place_is : get_or more place 0 ≡ number)
+      (target : number ≡ cell_of grid (get_or order next 0) (get_or firsts i 0)) where
     grown : Grows order more place
     grown = grows order more number place keeps once place_low place_is
 
@@ -93,7 +96,8 @@ module _ (grid : Grid) (firsts : List ℕ) (can : CanBeWalked grid firsts) where
         (λ less.
         let was = h.steps k n low less in
         let k_low : k < length order =
-        ⊎_elim (λ is. omega (arith, is, next_low)) (λ past. absurd (omega (arith, less, at, i_low, row_end next k (length firsts) (let e : next < k = omega (arith, past) in e))))
+        ⊎_elim (λ is. omega (arith, is, next_low))
+        (λ past. absurd (omega (arith, less, at, i_low, row_end next k (length firsts) (let e : next < k = omega (arith, past) in e))))
         (cases_lt k (next + 1)) in (
           omega (arith, old p less, was.0, grown.more),
           ap (λ m. get_or more m 0) (old p less) ∙ grown.old_at (get_or cells p 0) was.0 ∙ was.1
@@ -137,7 +141,8 @@ module _ (grid : Grid) (firsts : List ℕ) (can : CanBeWalked grid firsts) where
     }
 
   -- all rows that are met have their cells
-  module _ (order cells : List ℕ) (h : IsWalkedSoFar grid firsts order cells) (once : AreOnce order) (below : (k : ℕ) → k < length order → get_or order k 0 < grid.rows)
+  module _ (order cells : List ℕ) (h : IsWalkedSoFar grid firsts order cells) (once : AreOnce order)
+      (below : (k : ℕ) → k < length order → get_or order k 0 < grid.rows)
       (full : length cells ≡ length order * length firsts) where
     abbrev Has : ℕ → Type 0
     Has row = (k : ℕ) × (k < length order) × (get_or order k 0 ≡ row)

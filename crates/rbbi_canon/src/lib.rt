@@ -12,8 +12,6 @@ mod letters;
 mod numbering;
 mod pairs;
 mod slashes;
-#[cfg(test)]
-mod tests;
 mod union_find;
 mod walk;
 

@@ -65,19 +65,88 @@ put_short role.Property name bytes inputs s fits =
       tests = s.tests;
     }
 put_short role.Filter name bytes inputs s fits =
-    record { properties = s.properties; filter = fits; rules = s.rules; other_rules = s.other_rules; table = s.table; text = s.text; script = s.script; tests = s.tests }
+    record {
+      properties = s.properties;
+      filter = fits;
+      rules = s.rules;
+      other_rules = s.other_rules;
+      table = s.table;
+      text = s.text;
+      script =
+          s.script;
+      tests = s.tests;
+    }
 put_short role.Rules name bytes inputs s fits =
-    record { properties = s.properties; filter = s.filter; rules = fits; other_rules = s.other_rules; table = s.table; text = s.text; script = s.script; tests = s.tests }
+    record {
+      properties = s.properties;
+      filter = s.filter;
+      rules = fits;
+      other_rules = s.other_rules;
+      table = s.table;
+      text = s.text;
+      script =
+          s.script;
+      tests = s.tests;
+    }
 put_short role.OtherRules name bytes inputs s fits =
-    record { properties = s.properties; filter = s.filter; rules = s.rules; other_rules = fits; table = s.table; text = s.text; script = s.script; tests = s.tests }
+    record {
+      properties = s.properties;
+      filter = s.filter;
+      rules = s.rules;
+      other_rules = fits;
+      table = s.table;
+      text = s.text;
+      script = s.script;
+      tests = s.tests;
+    }
 put_short role.Table name bytes inputs s fits =
-    record { properties = s.properties; filter = s.filter; rules = s.rules; other_rules = s.other_rules; table = fits; text = s.text; script = s.script; tests = s.tests }
+    record {
+      properties = s.properties;
+      filter = s.filter;
+      rules = s.rules;
+      other_rules = s.other_rules;
+      table = fits;
+      text = s.text;
+      script =
+          s.script;
+      tests = s.tests;
+    }
 put_short role.Text name bytes inputs s fits =
-    record { properties = s.properties; filter = s.filter; rules = s.rules; other_rules = s.other_rules; table = s.table; text = fits; script = s.script; tests = s.tests }
+    record {
+      properties = s.properties;
+      filter = s.filter;
+      rules = s.rules;
+      other_rules = s.other_rules;
+      table = s.table;
+      text = fits;
+      script =
+          s.script;
+      tests = s.tests;
+    }
 put_short role.Script name bytes inputs s fits =
-    record { properties = s.properties; filter = s.filter; rules = s.rules; other_rules = s.other_rules; table = s.table; text = s.text; script = fits; tests = s.tests }
+    record {
+      properties = s.properties;
+      filter = s.filter;
+      rules = s.rules;
+      other_rules = s.other_rules;
+      table = s.table;
+      text = s.text;
+      script =
+          fits;
+      tests = s.tests;
+    }
 put_short role.Tests name bytes inputs s fits =
-    record { properties = s.properties; filter = s.filter; rules = s.rules; other_rules = s.other_rules; table = s.table; text = s.text; script = s.script; tests = fits }
+    record {
+      properties = s.properties;
+      filter = s.filter;
+      rules = s.rules;
+      other_rules = s.other_rules;
+      table = s.table;
+      text = s.text;
+      script =
+          s.script;
+      tests = fits;
+    }
 
 -- each file is within its limit
 lengths_pass : (held : List ℕ → List ℕ) (sources : List Source) → ((k : ℕ) (source : Source) → slice_get sources k ≡ Some source → length
@@ -118,7 +187,16 @@ none_read sources contents before writes inputs fit none =
       inside = omega arith;
       same = refl;
       short =
-          record { properties = tt; filter = omega arith; rules = omega arith; other_rules = omega arith; table = omega arith; text = omega arith; script = omega arith; tests = omega arith };
+          record {
+            properties = tt;
+            filter = omega arith;
+            rules = omega arith;
+            other_rules = omega arith;
+            table = omega arith;
+            text = omega arith;
+            script = omega arith;
+            tests = omega arith;
+          };
       told =
           always_told contents (λ held. AreReadBefore held sources before before 0 no_inputs)
           (λ held. record { inputs_are = refl; within = λ k s less. absurd (omega arith); others = λ name differs. refl });

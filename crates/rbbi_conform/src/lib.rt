@@ -8,8 +8,6 @@ mod laws;
 mod line;
 mod reader;
 mod test;
-#[cfg(test)]
-mod tests;
 mod verdict;
 
 pub use laws::{one_tests, one_verdict};

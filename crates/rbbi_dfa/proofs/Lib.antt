@@ -34,6 +34,5 @@ pub mod Compiling
 pub mod Finishing
 pub mod Building
 pub mod NeededRows
-pub mod SameCounts
 pub mod Surrogates
 pub mod LookAheads

@@ -1,5 +1,5 @@
 -- The rows that are taken from the marks of positions are those of the rules.
-use Rattle.std.proofs.Common.{◌≡◌, ℕ, ◌<◌, ◌≤◌, ◌↔◌, Bool, true, false, if◌then◌else◌, append_assoc, Option, Some, None, List, [], ◌∷◌, ◌++◌}
+use Rattle.std.proofs.Common.{◌≡◌, ℕ, ◌<◌, ◌≤◌, ◌↔◌, Bool, true, false, if◌then◌else◌, Option, Some, None, List, [], ◌∷◌, ◌++◌}
 use Rattle.std.proofs.Common.{length, get_or, sym, refl, ap, ◌∙◌, subst, ⊎_elim, arith}
 use Rattle.std.specs.Prelude.{slice_get, IsSome, unwrap_or}
 use Rattle.std.specs.Option.{option_map}
@@ -9,14 +9,14 @@ use Rattle.std.proofs.lemmas.Option.{slice_get_within, slice_get-get_or, get_or_
 use Rattle.rbbi_model.specs.Words.{IsCodePoint}
 use Rattle.rbbi_model.specs.Ranges.{Has}
 use Rattle.rbbi_model.specs.Spelling.{Tree}
-use Rattle.rbbi_model.specs.Rules.{Rule, LooksAhead, leaves_of, look_aheads, AreLawful}
+use Rattle.rbbi_model.specs.Rules.{Rule, LooksAhead, look_aheads, AreLawful}
 use Rattle.rbbi_model.specs.Tables.{CategoryRange, category_of}
 use Rattle.rbbi_model.specs.ValidTables.{AreValidRanges}
 use Rattle.rbbi_model.specs.Compiled.{AreClasses}
 use Rattle.rbbi_model.specs.Marks.{look_ahead_number}
 use Rattle.rbbi_model.specs.LeafSets.{Reads, all_sets, first_position}
 use Rattle.rbbi_model.proofs.Categories.{category_within}
-use Rattle.rbbi_positions.specs.FollowPositions.{IsSpelled, IsFrontSpelled, IsOfRule}
+use Rattle.rbbi_positions.specs.FollowPositions.{IsFrontSpelled, IsOfRule}
 use Rattle.rbbi_positions.specs.PositionMarks.{PositionMarks, followers_in, readers_in, slash_number, IsMarkedAs, ArePositions}
 use Rattle.rbbi_positions.proofs.Codes.{all_get}
 use Rattle.rbbi_positions.proofs.WalkLaws.{of_the_rule}

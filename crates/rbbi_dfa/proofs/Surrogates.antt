@@ -1,17 +1,16 @@
 -- No rule reads a surrogate, so a compiled table leads to row 0 after one, and has a canonical table.
-use Rattle.std.proofs.Common.{◌≡◌, ◌≢◌, ◌⊎◌, ℕ, zero, suc, ◌+◌, ◌-◌, ◌<◌, ◌≤◌, Option, Some, None, List, [], ◌∷◌, ◌++◌, length, map, take, drop, get_or}
+use Rattle.std.proofs.Common.{◌≡◌, ◌≢◌, ◌⊎◌, ℕ, ◌+◌, ◌-◌, ◌<◌, ◌≤◌, Option, Some, None, List, [], ◌∷◌, ◌++◌, length, map, take, drop, get_or}
 use Rattle.std.proofs.Common.{refl, ap, sym, ◌∙◌, subst, inl, inr, ⊎_elim, arith}
 use Rattle.std.specs.Prelude.{slice_range, IfSome, MatchOption}
 use Rattle.std.specs.List.{AllByRecursion}
 use Rattle.std.proofs.lemmas.Bool.{cases_lt, cases_eq, false≢true}
 use Rattle.std.proofs.lemmas.List.{get_or-take, get_or-drop, length-append, length-take, length-drop}
 use Rattle.rbbi_model.specs.Words.{IsWord, IsCodePoint, IsCharacter, IsText, IsSurrogate}
-use Rattle.rbbi_model.specs.Ranges.{Range, Has}
 use Rattle.rbbi_model.specs.Spelling.{Tree, Leaf, Empty, Never, Then, Either, Repeat, joined, Spells}
-use Rattle.rbbi_model.specs.Rules.{Rule, IsLawfulTree, IsLawfulRule, IsWordOf, IsFrontWordOf, AreLawful}
-use Rattle.rbbi_model.specs.Chains.{IsRule, IsPiece, EndsAt, Word, Chained, FrontEndsAt}
+use Rattle.rbbi_model.specs.Rules.{Rule, IsLawfulTree, IsLawfulRule, IsWordOf, AreLawful}
+use Rattle.rbbi_model.specs.Chains.{EndsAt, Word, Chained, FrontEndsAt}
 use Rattle.rbbi_model.specs.Tables.{Table, category_of, step, row_along, row_after}
-use Rattle.rbbi_model.specs.Marks.{Marks, no_marks, AreMarks, AreMarksAtEnd, HasFront, marks_of}
+use Rattle.rbbi_model.specs.Marks.{Marks, no_marks, AreMarks, AreMarksAtEnd, marks_of}
 use Rattle.rbbi_model.specs.Compiled.{IsCompiled}
 use Rattle.rbbi_model.specs.Canonical.{HasCanonical}
 use Rattle.rbbi_model.proofs.Lists.{all_append, all_at}
@@ -19,7 +18,7 @@ use Rattle.rbbi_bits.proofs.WordBits.{no_bit}
 use Rattle.rbbi_positions.proofs.Codes.{all_get}
 use Rattle.rbbi_dfa.specs.NeededRows.{HasRows}
 use Rattle.rbbi_dfa.specs.HaveCanonical.{CompiledTablesHaveCanonical}
-use Rattle.rbbi_dfa.proofs.Grouping.{stop_along, alive}
+use Rattle.rbbi_dfa.proofs.Grouping.{alive}
 use Rattle.rbbi_dfa.proofs.WordRows.{row_of-append}
 use Rattle.rbbi_dfa.proofs.NeededRows.{rows_of_words, used, word_of, word_to, leads_on, valid_tables_have_rows, unread}
 
@@ -137,7 +136,8 @@ module _ (table : Table) (rules : List Rule) (lawful : AreLawful rules) (is : Is
           let u : List ℕ = to.0 in
           let z : List ℕ = rest.0 in
           let w : List ℕ = u ++ surrogate ∷ z in
-          let category : category_of table.ranges surrogate ≡ 0 = (is.classes.none surrogate (omega arith)).1 (unread rules lawful surrogate (omega arith, omega arith)) in
+          let category : category_of table.ranges surrogate ≡ 0 = (is.classes.none surrogate (omega arith)).1
+          (unread rules lawful surrogate (omega arith, omega arith)) in
           let row_is : row_after table w ≡ row_along table next on.0 =
           row_of-append rules table table.ranges (rows_of_words table rules has_rows is.same) u (surrogate ∷ z)
           ∙ ap (λ r. row_along table (step table r (category_of table.ranges surrogate)) (map (category_of table.ranges) z)) to.1.1

@@ -1,6 +1,5 @@
 pub mod Refusals
 pub mod Builds
 pub mod NeededRows
-pub mod SameCounts
 pub mod HaveCanonical
 pub mod inner

@@ -1,6 +1,5 @@
 //! Laws of compiled tables.
 ghost use Rattle.rbbi_dfa.specs.NeededRows.{RowsAreNeeded, ValidTablesHaveRows};
-ghost use Rattle.rbbi_dfa.specs.SameCounts.{CompiledTablesHaveSameCounts};
 ghost use Rattle.rbbi_dfa.specs.HaveCanonical.{CompiledTablesHaveCanonical};
 
 use rbbi_model::marks_are_unique;
@@ -11,14 +10,6 @@ use rbbi_model::marks_are_unique;
 pub fn rows_are_needed()
     ensures needed { RowsAreNeeded }
     ensures valid { ValidTablesHaveRows }
-{
-    marks_are_unique();
-}
-
-/// All tables that are compiled from the same lawful rules have the same counts of categories,
-/// rows, status lists, look-ahead rules and safe pairs, so that one line tells each of them.
-pub fn compiled_tables_have_same_counts()
-    ensures { CompiledTablesHaveSameCounts }
 {
     marks_are_unique();
 }

@@ -12,4 +12,4 @@ mod table;
 
 pub use compile::build;
 pub use error::BuildErr;
-pub use laws::{compiled_tables_have_canonical, compiled_tables_have_same_counts, rows_are_needed};
+pub use laws::{compiled_tables_have_canonical, rows_are_needed};

@@ -7,8 +7,6 @@ mod laws;
 mod numbers;
 mod parts;
 mod read;
-#[cfg(test)]
-mod tests;
 mod write;
 
 pub use error::FileErr;

@@ -1,20 +1,19 @@
 -- Answers where places count a unit are those by characters, with offsets for places.
-use Rattle.std.proofs.Common.{◌≡◌, ℕ, zero, suc, ◌+◌, ◌-◌, ◌<◌, ◌≤◌, Bool, true, false, cond, ltb, leb, eqb, List, [], ◌∷◌, Option, Some, None}
+use Rattle.std.proofs.Common.{◌≡◌, ℕ, ◌+◌, ◌-◌, ◌<◌, ◌≤◌, Bool, true, false, cond, ltb, leb, eqb, List, [], ◌∷◌, Option, Some, None}
 use Rattle.std.proofs.Common.{length, take, map}
-use Rattle.std.proofs.Common.{get_or, sum_by, sym, refl, ap, ◌∙◌, subst, ⊎_elim, arith, inl, inr}
+use Rattle.std.proofs.Common.{get_or, sum_by, sym, refl, ap, ◌∙◌, ⊎_elim, arith}
 use Rattle.std.specs.Prelude.{option_map, unwrap_or, is_some}
 use Rattle.std.specs.List.{AllByRecursion}
-use Rattle.std.proofs.lemmas.Bool.{cases_lt, cond_both, cases_Bool, cond-true, cond-false, lt-ltb, le-ltb, ltb-true, ltb-false, leb-true, leb-false}
+use Rattle.std.proofs.lemmas.Bool.{cases_lt, cond_both, cases_Bool, cond-true, cond-false, lt-ltb, le-ltb}
 use Rattle.std.proofs.lemmas.Bool.{eq-eqb, ne_eqb}
-use Rattle.std.proofs.lemmas.Bool.{lt-leb, le-leb}
 use Rattle.std.proofs.lemmas.List.{take-take}
 use Rattle.std.proofs.lemmas.List.Sums.{sum_by_more, sum_by-take-le}
 use Rattle.rbbi_model.specs.declared.unit.Unit.{Unit as TextUnit}
 use Rattle.rbbi_model.specs.declared.unit.Unit.TheVariants.{Chars, Utf8, Utf16}
 use Rattle.rbbi_model.specs.Boundaries.{Boundary}
 use Rattle.rbbi_model.specs.Cover.{end_of}
-use Rattle.rbbi_model.specs.Units.{size_of, offset_of, measured}
-use Rattle.rbbi_model.specs.Answers.{Question, First, Last, Next, Previous, Following, Preceding, IsBoundary, Reply, Place, Done, Yes, No, Largest, AllOf}
+use Rattle.rbbi_model.specs.Units.{size_of, offset_of}
+use Rattle.rbbi_model.specs.Answers.{First, Last, Next, Previous, Following, Preceding, IsBoundary, Reply, Place, Done, Yes, No, Largest, AllOf}
 use Rattle.rbbi_model.specs.Answers.{Listed, Edited, Outside, Inside, TooLong, Characters, Answer, first_place, last_place, first_after, last_before}
 use Rattle.rbbi_model.specs.Answers.{first_from, statuses_at, moved, answer}
 use Rattle.rbbi_model.proofs.Lists.{all_through}

@@ -1,5 +1,5 @@
 -- Why a property file is refused.
-use Rattle.std.specs.Prelude.{◌≡◌, ℕ, ◌+◌, true, Option, Some, None, List, IsUtf8, codes}
+use Rattle.std.specs.Prelude.{◌≡◌, ℕ, ◌+◌, Option, Some, None, List, IsUtf8, codes}
 use Rattle.std.specs.List.{position}
 use Rattle.rbbi_text.specs.Bytes.{IsNotUtf8At, file_lines}
 use Rattle.rbbi_props.specs.declared.error.PropErr.{PropErr}

@@ -7,7 +7,7 @@ use Rattle.std.proofs.lemmas.Bool.Decides.{nat_tests}
 use Rattle.std.proofs.lemmas.List.Sums.{sum_by-cons}
 use Rattle.std.proofs.lemmas.Slice.Zip.{AllZip-long}
 use Rattle.rbbi_model.specs.Spelling as spelling
-use Rattle.rbbi_model.specs.Spelling.{Spells, joined, Star, Plus, Quest}
+use Rattle.rbbi_model.specs.Spelling.{Spells}
 use Rattle.rbbi_model.specs.Rules as model
 use Rattle.rbbi_model.specs.Rules.{IsLawfulTree, IsLawfulRule, AreLawful, look_aheads}
 use Rattle.rbbi_model.proofs.Lists.{all_append}
@@ -24,7 +24,7 @@ use Rattle.rbbi_resolve.specs.Parts.{parts_of_expr}
 use Rattle.rbbi_resolve.specs.Faults.{faults_where, faults_of_parts}
 use Rattle.rbbi_resolve.specs.Files.{RuleMeaning, initial_context, context_after, faults_of_rest, faults_at_slash, faults_of_statement, faults_from, rule_in}
 use Rattle.rbbi_resolve.specs.Files.{rules_from, active_rules}
-use Rattle.rbbi_resolve.specs.Counts.{size_fault, placed_fault, no_rules_at, too_many_rules_at, too_many_leaves_at, too_many_slashes_at, too_tall_at}
+use Rattle.rbbi_resolve.specs.Counts.{size_fault, placed_fault, no_rules_at, too_many_rules_at, too_many_leaves_at, too_many_slashes_at}
 use Rattle.rbbi_resolve.specs.Counts as counts
 use Rattle.rbbi_resolve.specs.inner.Countings.{limit_place, one, slash_of}
 use Rattle.rbbi_resolve.specs.Outcomes.{BothStand, IsRuleOf, Means}

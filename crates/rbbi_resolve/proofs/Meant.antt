@@ -17,7 +17,7 @@ use Rattle.rbbi_resolve.specs.declared.variables.Variable.{Variable}
 use Rattle.rbbi_resolve.specs.Meanings as Meanings
 use Rattle.rbbi_resolve.specs.Meanings.{Meaning, Leaf, Never}
 use Rattle.rbbi_resolve.specs.Contexts as contexts
-use Rattle.rbbi_resolve.specs.Contexts.{Set, Expression, assigned_to, variable_of}
+use Rattle.rbbi_resolve.specs.Contexts.{Set, Expression, variable_of}
 use Rattle.rbbi_resolve.specs.Expressions.{leaf_of, word_of, meaning_of_variable, meaning_of_expr, meaning_of_seq, meaning_of_item, meaning_of_atom}
 use Rattle.rbbi_resolve.specs.Expressions.{height_of_expr, set_of_variable, set_of_atom, set_of_item, set_of_expr, variable_with, variable_for}
 use Rattle.rbbi_resolve.specs.inner.Files.{context_at}

@@ -14,7 +14,7 @@ use Rattle.rbbi_resolve.specs.declared.variables.Summary.{Summary}
 use Rattle.rbbi_resolve.specs.declared.variables.Kind.{Kind}
 use Rattle.rbbi_resolve.specs.declared.variables.Kind.TheVariants as kind
 use Rattle.rbbi_resolve.specs.Contexts as contexts
-use Rattle.rbbi_resolve.specs.Contexts.{value_of_variable, value_of_name}
+use Rattle.rbbi_resolve.specs.Contexts.{value_of_name}
 use Rattle.rbbi_resolve.specs.Expressions.{meaning_of_variable, height_of_variable}
 use Rattle.rbbi_resolve.specs.inner.Contexts.{IsKindOf}
 use Rattle.rbbi_resolve.specs.SetValues.{property_test, value_of_set, value_of_property}

@@ -9,7 +9,7 @@ use Rattle.rbbi_model.specs.Plays.{measured_boundaries}
 use Rattle.rbbi_model.specs.Lines.{boundary_line, boundary_lines}
 use Rattle.rbbi_session.specs.Sessions.{Session, boundaries_of, place_reply, Answers}
 use Rattle.rbbi_session.specs.UnitSessions.{UnitSession, UnitAnswers, UnitAsks, offset_in, unit_answer_of}
-use Rattle.rbbi_session.proofs.Stepping.{StandsBefore, HasCome, StandsAt, stands_at, left_of}
+use Rattle.rbbi_session.proofs.Stepping.{StandsBefore, StandsAt, stands_at, left_of}
 use Rattle.rbbi_session.proofs.Answering.{none_past}
 use Rattle.rbbi_session.proofs.UnitAnswering.{unit_statuses}
 use Rattle.rbbi_session.proofs.UnitCursors.{GoesOnTo, asked_next, same_offset}

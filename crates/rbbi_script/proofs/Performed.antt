@@ -1,5 +1,6 @@
 -- Commands that were performed, by what the session answered and what was appended.
-use Rattle.std.proofs.Common.{◌≡◌, ℕ, List, [], ◌∷◌, ◌++◌, Some, Result, Ok, Err, length, map, take, drop, get_or, suc, ◌+◌, ◌<◌, sym, refl, ap, ◌∙◌, subst, inl}
+use Rattle.std.proofs.Common.{◌≡◌, ℕ, List, [], ◌∷◌, ◌++◌, Some, Result, Ok, Err, length, map, take, drop, get_or, suc, ◌+◌, ◌<◌, sym, refl, ap, ◌∙◌}
+use Rattle.std.proofs.Common.{subst, inl}
 use Rattle.std.proofs.Common.{append_assoc, append-nil, drop-cons}
 use Rattle.std.specs.Prelude.{slice_get}
 use Rattle.std.proofs.lemmas.List.{map-append, take-append-drop, take_more}

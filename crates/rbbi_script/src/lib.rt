@@ -17,8 +17,6 @@ mod question;
 mod reader;
 mod saying;
 mod statuses;
-#[cfg(test)]
-mod tests;
 
 pub use command::{Command, Commands};
 pub use laws::one_script;

@@ -1,5 +1,6 @@
 -- Segments that are handed over one after the other, from boundary to boundary.
-use Rattle.std.proofs.Common.{◌≡◌, ℕ, zero, suc, ◌+◌, ◌<◌, ◌≤◌, List, [], ◌∷◌, ◌++◌, length, cond, refl, sym, ap, ◌∙◌, subst, append_assoc, append-nil, arith, Option}
+use Rattle.std.proofs.Common.{◌≡◌, ℕ, zero, suc, ◌+◌, ◌<◌, ◌≤◌, List, [], ◌∷◌, ◌++◌, length, cond, refl, sym, ap, ◌∙◌, subst, append_assoc}
+use Rattle.std.proofs.Common.{append-nil, arith, Option}
 use Rattle.std.specs.Prelude.{Result, Ok, Err, OnOk}
 use Rattle.std.proofs.lemmas.Bool.{lt-ltb, le-ltb}
 use Rattle.rbbi_model.specs.Boundaries.{Boundary, start}
@@ -40,7 +41,8 @@ pub record AreHandedTo {V : Type 0} (takes : V → Option (List ℕ) → List �
   pub whole : segments table x ≡ done ++ segments_from at (following table x most at)
   pub taken : AreTaken takes x first before done receiver now
 
-module _ {V : Type 0} (takes : V → Option (List ℕ) → List ℕ → Segment → V → Option (List ℕ) → Type 0) (table : Table) (x : List ℕ) (first : V) (before : Option (List ℕ)) where
+module _ {V : Type 0} (takes : V → Option (List ℕ) → List ℕ → Segment → V → Option (List ℕ) → Type 0) (table : Table) (x : List ℕ) (first : V)
+    (before : Option (List ℕ)) where
   -- nothing is taken at the text's start
   pub handed_start : AreHandedTo takes table x first before first before 0
   handed_start = record {
@@ -52,7 +54,8 @@ module _ {V : Type 0} (takes : V → Option (List ℕ) → List ℕ → Segment 
   }
 
   -- one segment more is taken
-  pub handed_more : (receiver next : V) (between now : Option (List ℕ)) (at : ℕ) (segment : Segment) → AreHandedTo takes table x first before receiver between at
+  pub handed_more : (receiver next : V) (between now : Option (List ℕ)) (at : ℕ) (segment : Segment) → AreHandedTo takes table x first before receiver
+      between at
       → at < length x → at < (next_boundary table x at).at → segment ≡ segment_to at (next_boundary table x at) → takes receiver between x segment next now
       → AreHandedTo takes table x first before next now segment.end
   handed_more receiver next between now at segment so_far inside past is takes_it = by_most so_far.most so_far.enough so_far.whole

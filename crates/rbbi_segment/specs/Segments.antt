@@ -26,7 +26,8 @@ segments table x = segments_between (table_boundaries table x)
 
 -- A receiver took these segments of the text, one after the other and no others. `takes` says what taking one does to it and to what the
 -- sink has taken.
-pub data AreTaken {V : Type 0} (takes : V → Option (List ℕ) → List ℕ → Segment → V → Option (List ℕ) → Type 0) (x : List ℕ) (first : V) (before : Option (List ℕ)) :
+pub data AreTaken {V : Type 0} (takes : V → Option (List ℕ) → List ℕ → Segment → V → Option (List ℕ) → Type 0) (x : List ℕ) (first : V)
+    (before : Option (List ℕ)) :
     List Segment → V → Option (List ℕ) → Type 0 where
   NoneTaken : AreTaken takes x first before [] first before
   OneMore : (taken : List Segment) (segment : Segment) (receiver next : V) (between now : Option (List ℕ)) →
@@ -34,7 +35,8 @@ pub data AreTaken {V : Type 0} (takes : V → Option (List ℕ) → List ℕ →
       AreTaken takes x first before (taken ++ segment ∷ []) next now
 
 -- the receiver took all of these segments in turn, and then put what was left
-pub record TakesAll {V : Type 0} (takes : V → Option (List ℕ) → List ℕ → Segment → V → Option (List ℕ) → Type 0) (ends : V → Option (List ℕ) → Option (List ℕ) → Type 0)
+pub record TakesAll {V : Type 0} (takes : V → Option (List ℕ) → List ℕ → Segment → V → Option (List ℕ) → Type 0)
+    (ends : V → Option (List ℕ) → Option (List ℕ) → Type 0)
     (x : List ℕ) (all : List Segment) (first : V) (before now : Option (List ℕ)) : Type 0 where
   pub last : V
   pub between : Option (List ℕ)

@@ -36,8 +36,8 @@ static TEXTS: [FaultText; 42] = [
     FaultText {
         label: "BadEscape",
         cause: "no escape begins like this",
-        help: "Escapes are \\uHHHH, \\UHHHHHHHH, \\xHH, \\x{H..}, \\a \\b \\e \\f \\n \\r \\t \\v, and \
-               a backslash before what is no ASCII letter or digit.",
+        help: "Escapes are \\uHHHH, \\UHHHHHHHH, \\xHH, \\x{H..}, \\a \\b \\e \\f \\n \\r \\t \\v, \
+               and a backslash before what is no ASCII letter or digit.",
     },
     FaultText {
         label: "OpenQuote",
@@ -48,14 +48,14 @@ static TEXTS: [FaultText; 42] = [
     FaultText {
         label: "OpenProperty",
         cause: "this property isn't closed in its line",
-        help: "Write \\p{NAME}, \\p{NAME=VALUE}, [:NAME:] or [:NAME=VALUE:]; a set that begins with \
-               a colon is [\\:a].",
+        help: "Write \\p{NAME}, \\p{NAME=VALUE}, [:NAME:] or [:NAME=VALUE:]; a set that begins \
+               with a colon is [\\:a].",
     },
     FaultText {
         label: "BadTag",
         cause: "no status number stands here",
-        help: "A status is a number up to 2147483647 in braces, as {100}; a brace as a character is \
-               \\{, and a repeat is written out, as a a a.",
+        help: "A status is a number up to 2147483647 in braces, as {100}; a brace as a character \
+               is \\{, and a repeat is written out, as a a a.",
     },
     FaultText {
         label: "BadName",
@@ -152,7 +152,8 @@ static TEXTS: [FaultText; 42] = [
     FaultText {
         label: "TooManyLeaves",
         cause: "with this rule there are more than 8192 characters and sets, names replaced",
-        help: "Use sets in place of alternatives, as [abc] for a|b|c, and + or * in place of copies.",
+        help: "Use sets in place of alternatives, as [abc] for a|b|c, and + or * in place \
+              of copies.",
     },
     FaultText {
         label: "TooManySlashes",
@@ -172,12 +173,14 @@ static TEXTS: [FaultText; 42] = [
     FaultText {
         label: "TooManySets",
         cause: "the automaton has more than 16384 states",
-        help: "Rules that have to remember much, as (a|b)*a(a|b)(a|b), take many: make them shorter.",
+        help: "Rules that have to remember much, as (a|b)*a(a|b)(a|b), take many: make \
+              them shorter.",
     },
     FaultText {
         label: "TooManyRows",
         cause: "the least table has more than 4095 rows",
-        help: "Rules that have to remember much, as (a|b)*a(a|b)(a|b), take many: make them shorter.",
+        help: "Rules that have to remember much, as (a|b)*a(a|b)(a|b), take many: make \
+              them shorter.",
     },
     FaultText {
         label: "TooManyStatuses",

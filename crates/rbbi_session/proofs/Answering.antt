@@ -48,11 +48,13 @@ module _ (n : ℕ) (bs : List Boundary) (covers : CoverText n bs) where
 
   pub none_after : (o : ℕ) → n ≤ o → first_after bs o ≡ None
   none_after o end =
-      first_none (λ p. ltb o p) bs (all_through (λ b. b.at ≤ n) (λ b. ltb o b.at ≡ false) (λ b within. le-ltb o b.at (omega (arith, within, end))) bs none_behind)
+      first_none (λ p. ltb o p) bs (all_through (λ b. b.at ≤ n) (λ b. ltb o b.at ≡ false) (λ b within. le-ltb o b.at (omega (arith, within, end))) bs
+      none_behind)
 
   pub none_from : (o : ℕ) → n < o → first_from bs o ≡ None
   none_from o end =
-      first_none (λ p. leb o p) bs (all_through (λ b. b.at ≤ n) (λ b. leb o b.at ≡ false) (λ b within. lt-leb o b.at (omega (arith, within, end))) bs none_behind)
+      first_none (λ p. leb o p) bs (all_through (λ b. b.at ≤ n) (λ b. leb o b.at ≡ false) (λ b within. lt-leb o b.at (omega (arith, within, end))) bs
+      none_behind)
 
   pub none_at : (o : ℕ) → n < o → is_place_of bs o ≡ false
   none_at o end =
@@ -84,7 +86,8 @@ answers_last old new r some first moves =
 -- the cursor stays where nothing is past it
 pub answers_no_next : (old : Session) → length old.state.text ≤ old.state.cursor → Answers old Next Done old
 answers_no_next old end =
-    let none : first_after (boundaries_of old) old.state.cursor ≡ None = none_after (length old.state.text) (boundaries_of old) (table_covers old.table old.state.text) old.state.cursor end in
+    let none : first_after (boundaries_of old) old.state.cursor ≡ None = none_after (length old.state.text) (boundaries_of old)
+    (table_covers old.table old.state.text) old.state.cursor end in
     record {
       replied = sym (ap (λ p. (moved p old.state.cursor).reply) none);
       moved = record { table_is = refl; state_is = ap (λ p. record { text = old.state.text; cursor = (moved p old.state.cursor).cursor }) (sym none) };
@@ -93,7 +96,8 @@ answers_no_next old end =
 -- it stays where nothing is before it
 pub answers_no_previous : (old : Session) → old.state.cursor ≡ 0 → Answers old Previous Done old
 answers_no_previous old start =
-    let none : last_before (boundaries_of old) old.state.cursor ≡ None = ap (last_before (boundaries_of old)) start ∙ none_before (length old.state.text) (boundaries_of old) (table_covers old.table old.state.text) in
+    let none : last_before (boundaries_of old) old.state.cursor ≡ None = ap (last_before (boundaries_of old)) start ∙ none_before
+    (length old.state.text) (boundaries_of old) (table_covers old.table old.state.text) in
     record {
       replied = sym (ap (λ p. (moved p old.state.cursor).reply) none);
       moved = record { table_is = refl; state_is = ap (λ p. record { text = old.state.text; cursor = (moved p old.state.cursor).cursor }) (sym none) };
@@ -102,7 +106,8 @@ answers_no_previous old start =
 -- nothing is past the text's end
 pub answers_no_following : (old new : Session) (o r : ℕ) → length old.state.text ≤ o → Answers old Last (Place r) new → Answers old (Following o) Done new
 answers_no_following old new o r end last =
-    let none : first_after (boundaries_of old) o ≡ None = none_after (length old.state.text) (boundaries_of old) (table_covers old.table old.state.text) o end in
+    let none : first_after (boundaries_of old) o ≡ None = none_after (length old.state.text) (boundaries_of old)
+    (table_covers old.table old.state.text) o end in
     record {
       replied = sym (ap (λ p. (moved p (end_of (boundaries_of old))).reply) none);
       moved = subst (λ p. MovesTo old (moved p (end_of (boundaries_of old))).cursor new) (sym none) last.moved;
@@ -111,7 +116,8 @@ answers_no_following old new o r end last =
 -- nothing is before 0
 pub answers_no_preceding : (old new : Session) (o r : ℕ) → o ≡ 0 → Answers old First (Place r) new → Answers old (Preceding o) Done new
 answers_no_preceding old new o r start first =
-    let none : last_before (boundaries_of old) o ≡ None = ap (last_before (boundaries_of old)) start ∙ none_before (length old.state.text) (boundaries_of old) (table_covers old.table old.state.text) in
+    let none : last_before (boundaries_of old) o ≡ None = ap (last_before (boundaries_of old)) start ∙ none_before (length old.state.text)
+    (boundaries_of old) (table_covers old.table old.state.text) in
     record {
       replied = sym (ap (λ p. (moved p 0).reply) none);
       moved = subst (λ p. MovesTo old (moved p 0).cursor new) (sym none) first.moved;
@@ -121,7 +127,8 @@ answers_no_preceding old new o r start first =
 pub answers_behind : (old new : Session) (o r : ℕ) → length old.state.text < o → Answers old Last (Place r) new → Answers old (IsBoundary o) No new
 answers_behind old new o r end last = record {
   replied = ap (λ is. cond is Yes No) (sym (none_at (length old.state.text) (boundaries_of old) (table_covers old.table old.state.text) o end));
-  moved = subst (λ p. MovesTo old (unwrap_or p (end_of (boundaries_of old))) new) (sym (none_from (length old.state.text) (boundaries_of old) (table_covers old.table old.state.text) o end)) last.moved;
+  moved = subst (λ p. MovesTo old (unwrap_or p (end_of (boundaries_of old))) new)
+      (sym (none_from (length old.state.text) (boundaries_of old) (table_covers old.table old.state.text) o end)) last.moved;
 }
 
 -- the first boundary past the place before it tells whether a place is one

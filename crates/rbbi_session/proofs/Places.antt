@@ -26,7 +26,8 @@ first_same test other same [] = refl
 first_same test other same (b ∷ bs) =
     ap (λ t. cond t (Some b.at) (first_place test bs)) (same b.at) ∙ ap (λ o. cond (other b.at) (Some b.at) o) (first_same test other same bs)
 
-pub last_skips : (test : ℕ → Bool) (before : Option ℕ) (rest : List Boundary) → AllByRecursion (λ b. test b.at ≡ false) rest → last_place test before rest ≡ before
+pub last_skips : (test : ℕ → Bool) (before : Option ℕ) (rest : List Boundary) → AllByRecursion (λ b. test b.at ≡ false) rest
+    → last_place test before rest ≡ before
 last_skips test before [] fails = refl
 last_skips test before (b ∷ rest) fails =
     ap (λ o. last_place test o rest) (cond-false (test b.at) (Some b.at) before fails.0) ∙ last_skips test before rest fails.1

@@ -5,7 +5,7 @@ use Rattle.std.specs.List.{AllByRecursion}
 use Rattle.std.proofs.lemmas.Bool.{cases_Bool, cond-true, cond-false, ne_eqb, eqb-false, leb-true, leb-false, lt-leb, le-leb, le-ltb, lt-ltb}
 use Rattle.rbbi_model.specs.Lists.{IsRising}
 use Rattle.rbbi_model.specs.Boundaries.{Boundary}
-use Rattle.rbbi_model.specs.Cover.{places, end_of, IsPlaceOf}
+use Rattle.rbbi_model.specs.Cover.{places, IsPlaceOf}
 use Rattle.rbbi_model.specs.Answers.{first_place, first_after, first_from, is_place_of}
 use Rattle.rbbi_model.proofs.Rising.{rising_tail}
 use Rattle.rbbi_model.proofs.Found.{some_same, none_some}

@@ -1,5 +1,5 @@
 -- Where the cursor of a session whose places count a unit stands in its text, and what it answers there by characters.
-use Rattle.std.proofs.Common.{◌≡◌, ℕ, ◌+◌, ◌<◌, ◌≤◌, true, ltb, leb, Option, Some, None, List, length, refl, sym, ap, ◌∙◌, subst, ⊎_elim, arith}
+use Rattle.std.proofs.Common.{◌≡◌, ℕ, ◌+◌, ◌≤◌, true, ltb, leb, Option, Some, None, List, length, refl, sym, ap, ◌∙◌, subst, ⊎_elim, arith}
 use Rattle.std.specs.Prelude.{option_map, unwrap_or}
 use Rattle.std.specs.List.{AllByRecursion}
 use Rattle.std.proofs.lemmas.Bool.{cases_lt, lt-ltb, le-ltb, lt-leb, le-leb, leb-true, leb-false}
@@ -13,7 +13,6 @@ use Rattle.rbbi_model.proofs.Covering.{table_covers}
 use Rattle.rbbi_model.proofs.Found.{least_lies}
 use Rattle.rbbi_model.proofs.SearchFacts.{least_is}
 use Rattle.rbbi_model.proofs.Measured.{offset_rises, rises_up_to, same_place, answers_next, answers_preceding, answers_whether, turned_reply, turned_answer}
-use Rattle.rbbi_text.specs.declared.units.Index.{Index}
 use Rattle.rbbi_text.specs.Indexes.{IsIndex}
 use Rattle.rbbi_session.specs.Sessions.{boundaries_of, answer_of, Answers, place_reply}
 use Rattle.rbbi_session.specs.UnitSessions.{UnitSession, offset_in, unit_answer_of, UnitAnswers}
@@ -118,7 +117,8 @@ moved_within : (found : Option ℕ) (c n : ℕ) → ((p : ℕ) → found ≡ Som
 moved_within None c n each low = low
 moved_within (Some p) c n each low = each p refl
 
-module _ (old new : UnitSession) (low : old.asked.state.cursor ≤ length old.asked.state.text) (low' : new.asked.state.cursor ≤ length new.asked.state.text) where
+module _ (old new : UnitSession) (low : old.asked.state.cursor ≤ length old.asked.state.text)
+    (low' : new.asked.state.cursor ≤ length new.asked.state.text) where
   -- the next boundary by the unit is the next one by characters
   pub asked_next : (place : Option ℕ) → UnitAnswers old Next (place_reply place) new → GoesOnTo old new place
   asked_next place answers =

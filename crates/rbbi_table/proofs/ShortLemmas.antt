@@ -49,7 +49,8 @@ module _ (categories : ℕ) (rows : List RowHead) (cells moves moves' kinds : Li
   own_row = record {
     list = ap (λ n. get_or moves' (row * n) 0) (sym stride_is) ∙ written.list_is;
     each = λ k short.
-        let split = split_move (get_or cells (row * categories + k) 0) quarter (get_or kinds k 0) (short_move grid moves' row k) (are k short).few (own_move k short) in
+        let split = split_move (get_or cells (row * categories + k) 0) quarter (get_or kinds k 0) (short_move grid moves' row k) (are k short).few
+        (own_move k short) in
         own_move k short ∙ ap (λ n. get_or cells (row * categories + k) 0 * (quarter * 4) + n) (sym split.0);
     kinds = same_kinds (λ k. get_or kinds k 0) (λ k. short_move grid moves' row k % 4)
         (λ k short. (split_move (get_or cells (row * categories + k) 0) quarter (get_or kinds k 0) (short_move grid moves' row k) (are k short).few

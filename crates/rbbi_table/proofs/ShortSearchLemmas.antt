@@ -93,7 +93,8 @@ ends_now table x s at onward =
     inr (onward.from, refl, cond-true (ends_at table x s at) (Some at) (greatest_below (ends_at table x s) at) holds)
 
 -- the list behind what ended last
-end_list : (table : Table) (moves x : List ℕ) (s at end end_row : ℕ) → ((r : ℕ) → r < length table.rows → get_or moves (r * short_stride table) 0 ≡ list_of table r) →
+end_list : (table : Table) (moves x : List ℕ) (s at end end_row : ℕ) →
+    ((r : ℕ) → r < length table.rows → get_or moves (r * short_stride table) 0 ≡ list_of table r) →
     ((z : ℕ) → row_at table x s z < length table.rows) → IsShortEnd table x s at end end_row →
     cond (ltb s end) (get_or moves end_row 0) 0 ≡ cond (ltb s end) (list_of table (row_at table x s end)) 0
 end_list table moves x s at end end_row lists within ended =
@@ -139,7 +140,13 @@ module _ {table : Table} {numbers kept moves near : List ℕ} (keeps : IsShortKe
 
   pub inside_start : (at row : ℕ) → row ≡ row_at table x s at * short_stride table → row < length moves
   inside_start at row is =
-      omega (arith, is, row_end (row_at table x s at) (length table.rows) (short_stride table) (within_rows at), stride_above table.categories, keeps.in_moves.all)
+      omega (
+        arith,
+        is,
+        row_end (row_at table x s at) (length table.rows) (short_stride table) (within_rows at),
+        stride_above table.categories,
+        keeps.in_moves.all,
+      )
 
   -- the move that is read
   pub move_read : (at row place : ℕ) → s ≤ at → at < length x → row ≡ row_at table x s at * short_stride table →
@@ -290,7 +297,8 @@ module _ {table : Table} {numbers kept moves near : List ℕ} (keeps : IsShortKe
       let kind : next % 4 ≡ 3 = ap (λ n. n % 4) three in
       let none : r * short_stride table ≡ 0 = omega (arith, turn.move.place, three, kind) in
       let zero_is : r ≡ 0 =
-      ⊎_elim (λ is. is) (λ some. absurd (omega (arith, none, stride_above table.categories, row_end 0 r (short_stride table) (omega (arith, some))))) (cases_eq r 0) in
+      ⊎_elim (λ is. is) (λ some. absurd (omega (arith, none, stride_above table.categories, row_end 0 r (short_stride table) (omega (arith, some)))))
+      (cases_eq r 0) in
       let stopped : stops table r ≡ true = ap (λ b. b || completes table r) (eq-eqb r 0 zero_is) in
       let other = other_end table x s last end end_row turn.ended in
       let all = searched last end other.0 turn.from (omega (arith, turn.to)) turn.going other.1 in
@@ -308,7 +316,8 @@ module _ {table : Table} {numbers kept moves near : List ℕ} (keeps : IsShortKe
       stops table (row_at table x s (suc last)) ≡ false
   plain_on last next end end_row turn kind other =
       let r : ℕ = row_at table x s (suc last) in
-      let some : r ≢ 0 = λ none. other (turn.move.place ∙ ap (λ n. n * short_stride table + next % 4) none ∙ (let e : 0 * short_stride table + next % 4 ≡ 3 = omega (arith, kind) in e)) in
+      let some : r ≢ 0 = λ none. other (turn.move.place ∙ ap (λ n. n * short_stride table + next % 4) none ∙
+      (let e : 0 * short_stride table + next % 4 ≡ 3 = omega (arith, kind) in e)) in
       plain_goes table keeps.valid keeps.in_moves.none r (within_rows (suc last)) some (unended last next turn.move kind)
 
   pub going_on : (last next end end_row : ℕ) → IsTurn table x s last next end end_row → next % 4 ≡ 3 → next ≢ 3 →
@@ -357,7 +366,8 @@ module _ {table : Table} {numbers kept moves near : List ℕ} (keeps : IsShortKe
     going = going_on last next end end_row turn kind other;
     move = move;
     ended =
-        let fails : ends_at table x s (suc last) ≡ false = and_not (ltb s (suc last)) (eqb (accept_of table (row_at table x s (suc last))) 1) (unended last next turn.move kind) in
+        let fails : ends_at table x s (suc last) ≡ false = and_not (ltb s (suc last)) (eqb (accept_of table (row_at table x s (suc last))) 1)
+        (unended last next turn.move kind) in
         let same : greatest_below (ends_at table x s) (suc (suc last)) ≡ greatest_below (ends_at table x s) (suc last) =
         cond-false (ends_at table x s (suc last)) (Some (suc last)) (greatest_below (ends_at table x s) (suc last)) fails in
         ⊎_elim (λ none. inl (none.0, none.1, same ∙ none.2)) (λ some. inr (some.0, some.1, same ∙ some.2)) turn.ended;

@@ -23,8 +23,6 @@ mod search;
 mod short;
 mod short_search;
 mod table;
-#[cfg(test)]
-mod tests;
 
 pub use blocks::Blocks;
 pub use error::TableErr;

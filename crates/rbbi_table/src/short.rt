@@ -96,7 +96,8 @@ fn moves_of(
     requires next { AreNextRows width rows.now cells.now }
     requires few { width < 65536 }
     requires small { length rows.now * ((width + 4) / 4 * 4) ≤ 65536 }
-    ensures { IfOk result (λ moves. AreShortMoves (rows_of width rows.now cells.now []) moves.items) }
+    ensures { IfOk result (λ moves.
+        AreShortMoves (rows_of width rows.now cells.now []) moves.items) }
 {
     let stride = short_stride(width);
     let mut kinds = vec![in alloc; 0; width]?;

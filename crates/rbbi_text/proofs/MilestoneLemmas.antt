@@ -125,7 +125,8 @@ module _ {A : Type 0} (weight : A → ℕ) (items : List A) where
       )
 
   -- milestones behind an item that is another one
-  pub milestones_moved : (sums : List ℕ) (item old new : ℕ) (q d : A) → AreMilestones weight items sums → item < length items → old ≡ weight (get_or items item d) →
+  pub milestones_moved : (sums : List ℕ) (item old new : ℕ) (q d : A) → AreMilestones weight items sums → item < length items → old ≡ weight
+      (get_or items item d) →
       new ≡ weight q → let from = min (item / 64) (length sums) in AreMilestones weight (set items item q) (take from sums ++ shifted old new (drop from sums))
   milestones_moved sums item old new q d are within is_old is_new =
       let from : ℕ = min (item / 64) (length sums) in

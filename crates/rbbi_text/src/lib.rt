@@ -19,8 +19,6 @@ mod places;
 mod plain;
 mod raw;
 mod steps;
-#[cfg(test)]
-mod tests;
 mod units;
 mod word;
 

@@ -1,5 +1,5 @@
 -- Characters that stand for all others when two tables are compared.
-use Rattle.std.specs.Prelude.{◌≡◌, ℕ, ◌+◌, ◌<◌, ◌≤◌, Bool, ◌&&◌, List, length, slice_index, slice_index_or, if◌then◌else◌, nat_lt, nat_le}
+use Rattle.std.specs.Prelude.{◌≡◌, ℕ, ◌+◌, ◌<◌, List, length, slice_index, slice_index_or, if◌then◌else◌, nat_lt, nat_le}
 use Rattle.rbbi_model.specs.Words.{IsCharacter}
 use Rattle.rbbi_model.specs.Tables.{Table, CategoryRange, category_of}
 use Rattle.rbbi_canon.specs.declared.letters.Letter.{Letter}

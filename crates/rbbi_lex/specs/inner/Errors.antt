@@ -1,11 +1,9 @@
 -- The error of the code for a fault.
-use Rattle.std.specs.Prelude.{ℕ, List, codes}
-use Rattle.std.specs.Prelude.{Option, None, Some}
+use Rattle.std.specs.Prelude.{ℕ}
 use Rattle.rbbi_lex.specs.declared.error.LexErr.{LexErr}
-use Rattle.rbbi_lex.specs.declared.error.LexErr.TheVariants.{BadChar, BadEscape, OpenQuote, OpenProperty, BadTag, BadName, Memory}
+use Rattle.rbbi_lex.specs.declared.error.LexErr.TheVariants.{BadChar, BadEscape, OpenQuote, OpenProperty, BadTag, BadName}
 use Rattle.rbbi_lex.specs.Faults.{Fault}
 use Rattle.rbbi_lex.specs.Faults as Faults
-use Rattle.rbbi_lex.specs.Lexing.{IsLexFault}
 
 -- the error for a fault at a place
 abbrev pub error_of : Fault → ℕ → LexErr

@@ -1,7 +1,5 @@
 -- Why the lines of a property file are refused, one by one.
-use Rattle.std.specs.Prelude.{◌≡◌, ℕ, ◌+◌, true, Option, Some, None, List, IsUtf8, codes}
-use Rattle.std.specs.List.{position}
-use Rattle.rbbi_text.specs.Bytes.{IsNotUtf8At, file_lines}
+use Rattle.std.specs.Prelude.{◌≡◌, ℕ, true, List}
 use Rattle.rbbi_props.specs.declared.error.PropErr.{PropErr}
 use Rattle.rbbi_props.specs.declared.error.PropErr.TheVariants.{NotUtf8, BadRow, Memory}
 use Rattle.rbbi_props.specs.RowLines.{is_bad}

@@ -1,6 +1,6 @@
 -- What the calls that read parts of a line answer.
 use Rattle.std.specs.Prelude.{◌≡◌, ◌≢◌, ℕ, ◌<◌, List, ◌∷◌, ◌++◌, length, get_or, Option, Some, None, bytes_eq, codes, if◌then◌else◌}
-use Rattle.rbbi_model.specs.Scripts.{Ask, Replace, ShowText}
+use Rattle.rbbi_model.specs.Scripts.{Ask, ShowText}
 use Rattle.rbbi_model.specs.Scripts as model
 use Rattle.rbbi_model.specs.Answers as question
 use Rattle.rbbi_script.specs.declared.command.Command.{Command}

@@ -1,11 +1,10 @@
-use Rattle.std.proofs.Common.{◌≡◌, ◌<◌, ◌≤◌, ℕ, List, length, map, sym, ◌∙◌, ap, subst, arith}
+use Rattle.std.proofs.Common.{◌≡◌, ◌≤◌, ℕ, List, length, map, sym, ◌∙◌, ap, subst, arith}
 use Rattle.std.proofs.lemmas.List.{length-map}
 use Rattle.rbbi_model.specs.Tables.{Table, CategoryRange, RowHead, head_of}
 use Rattle.rbbi_table.specs.Parts.{table_of, AreNextRows, rows_of}
 use Rattle.rbbi_table.specs.Pairs.{ArePairsOf}
 use Rattle.rbbi_canon.specs.declared.grid.Grid.{Grid}
 use Rattle.rbbi_canon.specs.inner.Grids.{AreJoined}
-use Rattle.rbbi_canon.specs.inner.Walks.{CanBeWalked, AreWalked}
 use Rattle.rbbi_canon.specs.inner.Slashes.{AllowsAll}
 use Rattle.rbbi_canon.specs.inner.Made.{ArePartsOf}
 use Rattle.rbbi_canon.proofs.Canonizing.{can_be_walked, next_rows, are_parts}
@@ -36,7 +35,8 @@ safe_pairs-requires-clause-steps c =
     let many : length c.deref-3.result.now ≡ length order =
     ap length (c.deref-3.ensures.value ∙ c.in_ok-heads.ensures) ∙ length-map c.deref-2.result.now (head_of table) ∙ ap length c.deref-2.ensures.value in
     let width : c.len-categories.result ≡ length c.deref.result.now =
-    let len : c.len-categories.result ≡ length c.in_ok-joined.joined.firsts.items = omega (arith, c.len-categories.ensures, c.in_ok-joined.joined.firsts.ok.0) in
+    let len : c.len-categories.result ≡ length c.in_ok-joined.joined.firsts.items = omega
+    (arith, c.len-categories.ensures, c.in_ok-joined.joined.firsts.ok.0) in
     len ∙ sym (ap length c.deref.ensures.value) in
     subst (λ n. AreNextRows n c.deref-3.result.now c.deref-4.result.now) (sym width)
     (subst (λ (l : List ℕ). AreNextRows (length c.deref.result.now) c.deref-3.result.now l) (sym c.deref-4.ensures.value)
@@ -53,7 +53,8 @@ returns c =
     c.in_ok-joined.joined.ranges.items c.parts-old.ensures c.as_slice.ensures c.in_ok-joined.ensures c.deref.ensures.value in
     let heads : c.in_ok-heads.heads.items ≡ map (head_of table) order =
     c.in_ok-heads.ensures ∙ ap (λ (l : List ℕ). map (head_of table) l) c.deref-2.ensures.value in
-    let len : c.len-categories.result ≡ length c.in_ok-joined.joined.firsts.items = omega (arith, c.len-categories.ensures, c.in_ok-joined.joined.firsts.ok.0) in
+    let len : c.len-categories.result ≡ length c.in_ok-joined.joined.firsts.items = omega
+    (arith, c.len-categories.ensures, c.in_ok-joined.joined.firsts.ok.0) in
     let width : c.len-categories.result ≡ length c.deref.result.now = len ∙ sym (ap length c.deref.ensures.value) in
     let slashes = c.least_slashes.result in
     let safe = c.in_ok-safe.safe in
@@ -64,7 +65,8 @@ returns c =
     subst (λ n. ArePairsOf (rows_of n (map (head_of table) order) cells safe)) width
     (subst (λ (l : List RowHead). ArePairsOf (rows_of c.len-categories.result l cells safe)) (c.deref-3.ensures.value ∙ heads)
     (subst (λ (l : List ℕ). ArePairsOf (rows_of c.len-categories.result c.deref-3.result.now l safe)) c.deref-4.ensures.value c.in_ok-safe.ensures)) in
-    let made = are_parts table c.requires.valid c.requires.has grid c.in_ok-grid.ensures c.deref.result.now c.in_ok-joined.joined.ranges.items joined order cells
+    let made = are_parts table c.requires.valid c.requires.has grid c.in_ok-grid.ensures c.deref.result.now c.in_ok-joined.joined.ranges.items joined
+    order cells
     c.in_ok-walk.ensures slashes safe allowed least pairs in
     let lists = c.in_ok-copied_lists.ensures ∙ c.as_slice-2.ensures ∙ ap (λ (t : Table). t.lists) c.parts-old.ensures in
     let rows = c.from_vec-2.ensures ∙ heads in

@@ -1,4 +1,4 @@
-use Rattle.std.proofs.Common.{◌≡◌, ◌≤◌, ◌<◌, ◌+◌, ℕ, List, length, refl, sym, ◌∙◌, ap, subst, arith}
+use Rattle.std.proofs.Common.{◌+◌, List, length, refl, sym, subst, arith}
 use Rattle.rbbi_canon.specs.declared.pairs.Pair.{Pair}
 use Rattle.rbbi_canon.specs.inner.Joins.{JoinsLabels}
 use Rattle.rbbi_canon.specs.inner.Pairs.{AreSearched}

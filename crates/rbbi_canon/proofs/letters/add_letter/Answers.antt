@@ -1,4 +1,4 @@
-use Rattle.std.proofs.Common.{◌≡◌, List, ◌++◌, ◌∷◌, [], ◌+◌, ℕ, Option, Some, None, sym, subst, ⊎_elim, arith}
+use Rattle.std.proofs.Common.{◌≡◌, List, ◌+◌, ℕ, Option, Some, None, sym, subst, ⊎_elim, arith}
 use Rattle.std.specs.Prelude.{MatchOption, SomeIff, unwrap_or}
 use Rattle.std.specs.Char.{IsScalar, InScalarRange, OutOfScalarRange}
 use Rattle.rbbi_model.specs.Words.{IsCharacter}
@@ -29,6 +29,7 @@ returns-in_ok-push-clause-letters c =
       this = sym c.category-this.ensures.value;
       that = sym c.category-that.ensures.value;
     } in
-    let joins = subst (λ n. JoinsLabels c.args.sets.now c.category-this.result (n + c.category-that.result) c.join.new.self) c.categories.ensures c.join.ensures in
+    let joins = subst (λ n. JoinsLabels c.args.sets.now c.category-this.result (n + c.category-that.result) c.join.new.self) c.categories.ensures
+    c.join.ensures in
     subst (λ (l : List Letter). AreLettersSoFar these those c.join.new.self l) (sym c.in_ok-push.ensures.items)
     (letter_more these those c.valid.ensures c.valid-2.ensures c.args.sets.now c.join.new.self c.args.letters.now.items letter c.requires is joins)

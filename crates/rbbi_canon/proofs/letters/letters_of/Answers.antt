@@ -1,5 +1,5 @@
-use Rattle.std.proofs.Common.{◌≡◌, ◌⊎◌, ◌<◌, ◌≤◌, ℕ, length, sym, ◌∙◌, ap, subst, inl, inr, arith}
-use Rattle.rbbi_canon.specs.inner.Letters.{AreLetters, IsConnected, first_character, start_or_end}
+use Rattle.std.proofs.Common.{◌≡◌, ◌⊎◌, ◌<◌, ◌≤◌, length, ◌∙◌, subst, inl, inr, arith}
+use Rattle.rbbi_canon.specs.inner.Letters.{IsConnected, first_character, start_or_end}
 use Rattle.rbbi_canon.proofs.Connecting.{AreConnected, here_first, there_first, one_here, one_there, all_letters}
 use Rattle.rbbi_table.proofs.RangeLemmas.{few_ranges}
 use Rattle.rbbi_canon.proofs.letters.letters_of.Goals as goal

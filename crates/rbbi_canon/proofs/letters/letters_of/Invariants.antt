@@ -1,6 +1,4 @@
-use Rattle.std.proofs.Common.{◌+◌, ◌-◌, ◌<◌, ◌≤◌, ℕ, length}
-use Rattle.rbbi_model.specs.Tables.{Table}
-use Rattle.rbbi_canon.specs.declared.letters.Letter.{Letter}
+use Rattle.std.proofs.Common.{◌+◌, ◌-◌, length}
 use Rattle.rbbi_canon.proofs.Connecting.{AreConnected}
 use Rattle.rbbi_canon.proofs.letters.letters_of.Given as goal
 

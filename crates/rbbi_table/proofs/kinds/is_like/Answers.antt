@@ -1,7 +1,9 @@
 use Rattle.std.proofs.Common.{below_more, arith}
 use Rattle.rbbi_table.proofs.kinds.is_like.Goals as goal
-use Rattle.rbbi_table.proofs.kinds.is_like.Goals.{else-kinds-k-eq-FORGETS-via-then-kinds-k-eq-FORGETS+else-next-next_row, else-kinds-k-eq-FORGETS-via-else-kinds-k-eq-FORGETS}
-use Rattle.rbbi_table.proofs.kinds.is_like.Goals.{else-kinds-k-eq-STAYS-via-then-kinds-k-eq-STAYS+else-next-row, else-kinds-k-eq-STAYS-via-else-kinds-k-eq-STAYS}
+use Rattle.rbbi_table.proofs.kinds.is_like.Goals.{else-kinds-k-eq-FORGETS-via-then-kinds-k-eq-FORGETS+else-next-next_row}
+use Rattle.rbbi_table.proofs.kinds.is_like.Goals.{else-kinds-k-eq-FORGETS-via-else-kinds-k-eq-FORGETS}
+use Rattle.rbbi_table.proofs.kinds.is_like.Goals.{else-kinds-k-eq-STAYS-via-then-kinds-k-eq-STAYS+else-next-row}
+use Rattle.rbbi_table.proofs.kinds.is_like.Goals.{else-kinds-k-eq-STAYS-via-else-kinds-k-eq-STAYS}
 
 pub loop-k-preserved : goal.loop-k-preserved
 loop-k-preserved c =

@@ -208,7 +208,8 @@ low_on g c =
     omega (arith, c.if-at-len.false, c.len-len.ensures.exact, turn.1, turn.2.to)
 
 row_on : (g : Over) (c : After-place_of-else-next-ne3 g) →
-    c.reading.next / 4 * 4 ≡ row_at (table_of c.args.parts.now) (g.T.Chars.characters c.args.text.now) c.args.s c.reading.at * short_stride (table_of c.args.parts.now)
+    c.reading.next / 4 * 4 ≡ row_at (table_of c.args.parts.now) (g.T.Chars.characters c.args.text.now) c.args.s c.reading.at * short_stride
+    (table_of c.args.parts.now)
 row_on g c =
     let turn = c.reading.invariant.turn in
     let x : List ℕ = g.T.Chars.characters c.args.text.now in

@@ -90,7 +90,8 @@ loop-end-preserved-then-next-eq1-2 g c =
     record {
       over = subst (λ n. IsStretch (table_of c.args.parts.now) c.args.moves.now (g.T.Chars.characters c.args.text.now) c.args.s c.args.at n c.loop-end.row)
           (let e : suc c.loop-end.end ≡ c.loop-end.end + 1 = omega arith in e)
-          (stretch_on c.requires.kept (g.T.Chars.characters c.args.text.now) c.args.s c.len-len.ensures.text c.args.at c.loop-end.end c.loop-end.row c.loop-end.row
+          (stretch_on c.requires.kept (g.T.Chars.characters c.args.text.now) c.args.s c.len-len.ensures.text c.args.at c.loop-end.end c.loop-end.row
+          c.loop-end.row
           c.args.base c.place_of-place.result over (low_end g h) c.requires.base (placed g h) c.if-next-eq1.false (inl (c.if-next-eq1-2.true, refl)));
       read = omega (arith, c.char_at.ensures.step, c.loop-end.invariant.read, over.further);
     }

@@ -1,4 +1,4 @@
-use Rattle.std.proofs.Common.{◌≡◌, length, sum_by, ap, arith}
+use Rattle.std.proofs.Common.{sum_by, ap, arith}
 use Rattle.rbbi_model.specs.Units.{size_of}
 use Rattle.rbbi_text.proofs.MilestoneLemmas.{sum_ones}
 use Rattle.rbbi_text.proofs.piece.taken.Goals as goal

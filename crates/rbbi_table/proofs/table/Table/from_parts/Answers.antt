@@ -8,7 +8,8 @@ use Rattle.rbbi_table.proofs.Truth.{fails}
 use Rattle.rbbi_table.proofs.RowLemmas.{steps_within}
 use Rattle.rbbi_table.proofs.PartLemmas.{AreChecked, valid_table, kept_of, near_within, stored_are}
 use Rattle.rbbi_table.proofs.table.Table.from_parts.Goals as goal
-use Rattle.rbbi_table.proofs.table.Table.from_parts.Goals.{Else-not-are_valid_rows, After-are_same-same, Else-not-same, then-is_empty+in_ok-moves, else-is_empty}
+use Rattle.rbbi_table.proofs.table.Table.from_parts.Goals.{Else-not-are_valid_rows, After-are_same-same, Else-not-same, then-is_empty+in_ok-moves}
+use Rattle.rbbi_table.proofs.table.Table.from_parts.Goals.{else-is_empty}
 
 steps : (c : Else-not-are_valid_rows) → AreNextRows c.args.parts.now.categories c.as_slice-rows.result.now c.as_slice-cells.result.now
 steps c =

@@ -1,4 +1,4 @@
-use Rattle.std.proofs.Common.{◌≡◌, length, ap, ◌∙◌, arith}
+use Rattle.std.proofs.Common.{length, ap, ◌∙◌, arith}
 use Rattle.rbbi_model.specs.Spelling.{joined}
 use Rattle.rbbi_text.proofs.MilestoneLemmas.{pieces_small}
 use Rattle.rbbi_text.proofs.pieces.PiecesUnitText.make_ready.Goals as goal
