@@ -1,3 +1,4 @@
+pub mod Keys
 pub mod Sifting
 pub mod Neighbours
 pub mod Passing

@@ -69,6 +69,11 @@ breaks_through (Suppressing list) table x cursor =
     breaks_cost table x cursor + window_size * length (table_boundaries table x) + window_size
 breaks_through (Turning pairs) table x cursor = breaks_cost table (turned pairs x) cursor
 
+-- the cost of whether a boundary is told
+abbrev pub telling_cost : Filter → ℕ
+telling_cost (Suppressing list) = window_size
+telling_cost (Turning pairs) = 0
+
 -- the cost of a question
 abbrev pub question_through : Filter → Table → List ℕ → ℕ → Question → ℕ
 question_through filter table x cursor First = 0

@@ -1,10 +1,10 @@
 -- What stands between a text and its boundaries as they are told.
-use Rattle.std.specs.Prelude.{◌≡◌, ℕ, List}
+use Rattle.std.specs.Prelude.{◌≡◌, ℕ, Bool, true, not, List}
 use Rattle.rbbi_model.specs.Rules.{Rule}
 use Rattle.rbbi_model.specs.Boundaries.{Boundary, AreBoundaries}
 use Rattle.rbbi_model.specs.Tables.{Table}
 use Rattle.rbbi_model.specs.Searches.{table_boundaries}
-use Rattle.rbbi_filter.specs.Abbreviations.{kept}
+use Rattle.rbbi_filter.specs.Abbreviations.{is_suppressed, kept}
 use Rattle.rbbi_filter.specs.declared.filter.Filter.{Filter}
 use Rattle.rbbi_filter.specs.declared.filter.Filter.TheVariants.{Suppressing, Turning}
 use Rattle.rbbi_filter.specs.declared.pair.Pair.{Pair}
@@ -19,6 +19,11 @@ searched (Turning pairs) x = turned pairs x
 abbrev pub told : Filter → List ℕ → List Boundary → List Boundary
 told (Suppressing list) x boundaries = kept list x boundaries
 told (Turning pairs) x boundaries = boundaries
+
+-- the boundary at this place of the searched text is told
+abbrev pub tells : Filter → List ℕ → ℕ → Bool
+tells (Suppressing list) x at = not (is_suppressed list x at)
+tells (Turning pairs) x at = true
 
 -- the boundaries of the text by the table, through the filter
 abbrev pub boundaries_through : Filter → Table → List ℕ → List Boundary

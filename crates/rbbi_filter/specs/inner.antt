@@ -3,3 +3,4 @@ pub mod Windows
 pub mod Listing
 pub mod Turning
 pub mod PairLines
+pub mod Keys

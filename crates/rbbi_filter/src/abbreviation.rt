@@ -3,6 +3,7 @@ ghost use Rattle.std.specs.Prelude.{◌≡◌, ◌↔◌, ◌≤◌, IsTrue, len
 ghost use Rattle.rbbi_text.specs.Bytes.{most_bytes};
 ghost use Rattle.rbbi_filter.specs.AbbreviationFiles.{IsAbbreviation, ReadsAbbreviations};
 ghost use Rattle.rbbi_filter.specs.Abbreviations as spec;
+ghost use Rattle.rbbi_filter.specs.inner.Keys as keys;
 ghost use Rattle.rbbi_script.specs.Grammar.{IsSkipped};
 
 use rbbi_text::{Line, LineValue, LinesErr, Values, read_lines};
@@ -17,14 +18,33 @@ pub type AbbrErr = LinesErr;
 #[derive(Debug, Drop)]
 struct Abbreviation {
     characters: Vec<char>,
+    /// The key of the characters: those that end with them, where nothing or white space stands
+    /// before, have the same one. So few abbreviations of a list are compared character by
+    /// character.
+    key: u32,
 }
 
 impl Model for Abbreviation {
     ghost use Rattle.std.specs.Prelude.{List, ℕ};
+    ghost use Rattle.rbbi_filter.specs.inner.Keys.{HasKey};
 
     ghost Value = { List ℕ };
 
     ghost view = { λ abbreviation. abbreviation.characters.items };
+
+    ghost invariant = { λ abbreviation.
+        HasKey abbreviation.characters.items abbreviation.key };
+}
+
+impl Abbreviation {
+    /// Whether characters, which have this key, end with the abbreviation, before which nothing
+    /// stands or white space.
+    fn is_ending(&self, w: &[char], key: u32) -> bool
+        requires { key ≡ keys.key_of w.now }
+        ensures { result ≡ spec.ends_with_member w.now self.now }
+    {
+        self.key == key && ends_with_member(w, &self.characters)
+    }
 }
 
 /// Abbreviations, in the order of their file. Contracts see them as their list.
@@ -67,8 +87,9 @@ impl Abbreviations {
         ensures { result ≡ spec.ends self.now w.now }
     {
         let w = without_last_spaces(w);
+        let key = key_of(w);
         for i in 0..self.list.len() {
-            if ends_with_member(w, &self.list.get(i).characters) {
+            if self.list.get(i).is_ending(w, key) {
                 return true;
             }
         }
@@ -85,6 +106,22 @@ fn without_last_spaces(w: &[char]) -> &[char]
         end -= 1;
     }
     &w[..end]
+}
+
+/// The key of characters: 0 where fewer than two are there or white space stands before the last,
+/// and otherwise one more than what stands there.
+fn key_of(w: &[char]) -> u32
+    ensures { result ≡ keys.key_of w.now }
+{
+    if w.len() < 2 {
+        return 0;
+    }
+    let before = w[w.len() - 2];
+    if is_white_space(before) {
+        0
+    } else {
+        before as u32 + 1
+    }
 }
 
 /// Whether characters end with an abbreviation, before which nothing stands or white space.
@@ -129,7 +166,8 @@ impl LineValue for Abbreviation {
         if !is_abbreviation(&characters) {
             return Ok(Line::Bad);
         }
-        Ok(Line::Writes(Abbreviation { characters }))
+        let key = key_of(&characters);
+        Ok(Line::Writes(Abbreviation { characters, key }))
     }
 }
 

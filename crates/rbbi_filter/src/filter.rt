@@ -1,9 +1,14 @@
 //! What stands between a text and its boundaries as they are told.
-ghost use Rattle.std.specs.Prelude.{ℕ, List};
+ghost use Rattle.std.specs.Prelude.{◌≡◌, ◌≤◌, ℕ, List, length};
 ghost use Rattle.rbbi_model.specs.Words.{IsText};
-ghost use Rattle.rbbi_filter.specs.Filters.{searched};
+ghost use Rattle.rbbi_text.specs.Steps.{RisesUpTo};
+ghost use Rattle.rbbi_filter.specs.Filters.{searched, tells};
+ghost use Rattle.rbbi_filter.specs.FilterCosts.{telling_cost};
 
-use crate::{Abbreviations, Tailoring};
+use crate::window::is_suppressed;
+use crate::{Abbreviations, ByList, Tailoring};
+use rbbi_text::{Chars, Steps};
+use std::sync::ledger::Ledger;
 
 /// What stands between a text and its boundaries as they are told.
 #[derive(Debug, Drop)]
@@ -15,6 +20,21 @@ pub enum Filter {
 }
 
 impl Filter {
+    /// Whether a boundary of the searched text is told. Its place is in characters, from 0. At most
+    /// 64 characters before it are read.
+    pub fn tells<T: Chars, L: Ledger>(&self, text: &T, at: u32, steps: &mut Steps<L>) -> bool
+        requires { at ≤ length (T.characters text.now) }
+        ensures exact { result ≡ tells self.now (T.characters text.now) at }
+        ensures cost { RisesUpTo (telling_cost self.now) steps.old steps.new }
+    {
+        match self {
+            Filter::Suppressing(list) => {
+                !is_suppressed(text, at, list, &ByList::new(list), steps)
+            }
+            Filter::Turning(_) => true,
+        }
+    }
+
     /// That what is searched in place of a text is a text. It is there for proofs, and does nothing
     /// when it runs.
     pub fn searches_texts(&self)

@@ -32,8 +32,6 @@ pub use mapped::Mapped;
 pub use pair::Pair;
 pub use performing::{perform_filtered, perform_tailored, perform_through};
 pub use predicate::{ByList, Predicate};
-pub use questions::{first, next};
 pub use tailored::Tailored;
 pub use tailoring::{TailorErr, Tailoring};
 pub use walk::Walk;
-pub use window::is_suppressed;

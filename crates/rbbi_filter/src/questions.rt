@@ -10,7 +10,7 @@ use rbbi_text::{Chars, Steps};
 use std::sync::ledger::Ledger;
 
 /// Goes to the first boundary, which is 0.
-pub fn first<W: Walk>(session: &mut W) -> u32
+pub(crate) fn first<W: Walk>(session: &mut W) -> u32
     ensures { Answers (W.session session.old) question.First (Place result)
         (W.session session.new) }
 {
@@ -28,7 +28,7 @@ pub(crate) fn last<W: Walk, L: Ledger>(session: &mut W, steps: &mut Steps<L>) ->
 }
 
 /// Goes to the first boundary past the cursor, if there is one.
-pub fn next<W: Walk, L: Ledger>(session: &mut W, steps: &mut Steps<L>) -> Option<u32>
+pub(crate) fn next<W: Walk, L: Ledger>(session: &mut W, steps: &mut Steps<L>) -> Option<u32>
     ensures answers { Answers (W.session session.old) question.Next (place_reply result)
         (W.session session.new) }
     ensures reads { Asks (W.session session.old) question.Next steps.old steps.new }

@@ -36,7 +36,7 @@ fn read_before<T: Chars, L: Ledger>(
 /// Whether a boundary isn't told since an abbreviation stands before it: it is neither the text's
 /// start nor its end, and the predicate is true of the characters before it, at most 64. These are
 /// read at most once.
-pub fn is_suppressed<T: Chars, P: Predicate, L: Ledger>(
+pub(crate) fn is_suppressed<T: Chars, P: Predicate, L: Ledger>(
     text: &T,
     at: u32,
     list: &Abbreviations,

@@ -1,6 +1,7 @@
 -- What searches read from boundary to boundary, and what going on from each of them costs.
-use Rattle.std.proofs.Common.{◌≡◌, ℕ, zero, suc, ◌+◌, ◌-◌, ◌<◌, ◌≤◌, min, cond, ltb, leb, List, [], ◌∷◌, ◌++◌, Option, Some, None, length, refl, sym, ap, ◌∙◌}
-use Rattle.std.proofs.Common.{subst, inl, inr, ⊎_elim, append_assoc, arith, ◌↔◌}
+use Rattle.std.proofs.Common.{◌≡◌, ℕ, zero, suc, ◌+◌, ◌-◌, ◌*◌, ◌<◌, ◌≤◌, min, cond, ltb, leb, List, [], ◌∷◌, ◌++◌, Option, Some, None, length, refl, sym, ap, ◌∙◌}
+use Rattle.std.proofs.Common.{subst, inl, inr, ⊎_elim, append_assoc, length-append, arith, ◌↔◌}
+use Rattle.std.proofs.Math.Nat.{mul-add}
 use Rattle.std.specs.Prelude.{IsTrue, sum_by, filter, unwrap_or}
 use Rattle.std.proofs.lemmas.Bool.{cases_Bool, cond-true, cond-false, false≢true, lt-ltb, le-leb}
 use Rattle.std.proofs.lemmas.List.Sums.{sum_by-cons}
@@ -106,18 +107,18 @@ module _ (table : Table) (x : List ℕ) where
             (let lies = greatest_lies (is_anchor table x) i p is in
             let first = member_cost i (fresh table x p) (found_from p i lies.1 lies.0 here) in omega (arith, first))
 
--- The boundaries before this place were gone through, and reading them cost so much.
-pub record AreSearchedTo (table : Table) (x : List ℕ) (at begun steps : ℕ) : Type 0 where
+-- The boundaries before this place were gone through. Reading them cost so much, with so much more at most for each search.
+pub record AreSearchedTo (table : Table) (x : List ℕ) (extra at begun steps : ℕ) : Type 0 where
   pub most : ℕ
   pub enough : length x ≤ at + most
   pub front : List Boundary
   pub here : Boundary
   pub here_at : here.at ≡ at
   pub whole : table_boundaries table x ≡ front ++ here ∷ following table x most at
-  pub paid : RisesUpTo (listing_cost table x front) begun steps
+  pub paid : RisesUpTo (listing_cost table x front + extra * length front) begun steps
 
-pub searched_none : (table : Table) (x : List ℕ) (begun : ℕ) → AreSearchedTo table x 0 begun begun
-searched_none table x begun = record {
+pub searched_none : (table : Table) (x : List ℕ) (extra begun : ℕ) → AreSearchedTo table x extra 0 begun begun
+searched_none table x extra begun = record {
   most = length x;
   enough = omega arith;
   front = [];
@@ -128,13 +129,13 @@ searched_none table x begun = record {
 }
 
 -- one search more
-pub searched_more : (table : Table) (x : List ℕ) (at next begun steps steps' : ℕ) → IsValidTable table → AnchorsAreStored → AnchorsLead →
-    AreSearchedTo table x at begun steps → at < length x → at < (next_boundary table x at).at → next ≡ (next_boundary table x at).at →
-    steps' ≡ steps + (min (look_end table x at) (length x) - at) → AreSearchedTo table x next begun steps'
-searched_more table x at next begun steps steps' valid stored lead so_far inside past is read = by_most so_far.most so_far.enough so_far.whole
+pub searched_more : (table : Table) (x : List ℕ) (extra at next begun steps steps' : ℕ) → IsValidTable table → AnchorsAreStored → AnchorsLead →
+    AreSearchedTo table x extra at begun steps → at < length x → at < (next_boundary table x at).at → next ≡ (next_boundary table x at).at →
+    RisesUpTo (min (look_end table x at) (length x) - at + extra) steps steps' → AreSearchedTo table x extra next begun steps'
+searched_more table x extra at next begun steps steps' valid stored lead so_far inside past is read = by_most so_far.most so_far.enough so_far.whole
   where
     by_most : (most : ℕ) → length x ≤ at + most → table_boundaries table x ≡ so_far.front ++ so_far.here ∷ following table x most at →
-        AreSearchedTo table x next begun steps'
+        AreSearchedTo table x extra next begun steps'
     by_most zero enough whole = absurd (omega arith)
     by_most (suc most) enough whole =
         let place : IsPlaceOf (table_boundaries table x) at =
@@ -148,6 +149,9 @@ searched_more table x at next begun steps steps' valid stored lead so_far inside
         ∙ ap (λ n. listing_cost table x so_far.front + n)
         (listing_one table x so_far.here ∙ ap (λ n. question_cost table x n Next) so_far.here_at
         ∙ cond-true (ltb at (length x)) (forward_cost table x at) 0 (lt-ltb at (length x) inside)) in
+        let mores : extra * length (so_far.front ++ so_far.here ∷ []) ≡ extra * length so_far.front + extra =
+        ap (λ n. extra * n) (length-append so_far.front (so_far.here ∷ [])) ∙ mul-add extra (length so_far.front) 1
+        ∙ ap (λ n. extra * length so_far.front + n) (omega arith) in
         record {
           most = most;
           enough = omega (arith, past, is, enough);
@@ -159,14 +163,29 @@ searched_more table x at next begun steps steps' valid stored lead so_far inside
               ∙ ap (λ bs. so_far.front ++ so_far.here ∷ bs) (follows table x most at inside)
               ∙ sym (append_assoc so_far.front (so_far.here ∷ []) (next_boundary table x at ∷ following table x most (next_boundary table x at).at))
               ∙ ap (λ n. (so_far.front ++ so_far.here ∷ []) ++ next_boundary table x at ∷ following table x most n) (sym is);
-          paid = record { more = omega (arith, so_far.paid.more, read); cost = omega (arith, so_far.paid.cost, read, within, reads, cost) };
+          paid = record {
+            more = omega (arith, so_far.paid.more, read.more);
+            cost = omega (arith, so_far.paid.cost, read.cost, within, reads, cost, mores);
+          };
         }
 
 -- what was read up to a place is at most what listing all boundaries costs
-pub all_searched : (table : Table) (x : List ℕ) (at begun steps : ℕ) → AreSearchedTo table x at begun steps →
-    RisesUpTo (breaks_cost table x 0) begun steps
-all_searched table x at begun steps are =
-    let parts : listing_cost table x (table_boundaries table x) ≡ listing_cost table x are.front + listing_cost table x
-    (are.here ∷ following table x are.most at) =
-    ap (listing_cost table x) are.whole ∙ listing_parts table x are.front (are.here ∷ following table x are.most at) in
-    record { more = are.paid.more; cost = omega (arith, are.paid.cost, parts) }
+pub all_searched : (table : Table) (x : List ℕ) (extra at begun steps : ℕ) → AreSearchedTo table x extra at begun steps →
+    RisesUpTo (breaks_cost table x 0 + extra * length (table_boundaries table x)) begun steps
+all_searched table x extra at begun steps are =
+    let rest : List Boundary = are.here ∷ following table x are.most at in
+    let parts : listing_cost table x (table_boundaries table x) ≡ listing_cost table x are.front + listing_cost table x rest =
+    ap (listing_cost table x) are.whole ∙ listing_parts table x are.front rest in
+    let mores : extra * length (table_boundaries table x) ≡ extra * length are.front + extra * length rest =
+    ap (λ n. extra * n) (ap length are.whole ∙ length-append are.front rest) ∙ mul-add extra (length are.front) (length rest) in
+    record { more = are.paid.more; cost = omega (arith, are.paid.cost, parts, mores) }
+
+-- a search alone, with nothing more
+pub one_search : (n steps steps' : ℕ) → steps' ≡ steps + n → RisesUpTo (n + 0) steps steps'
+one_search n steps steps' is = record { more = omega (arith, is); cost = omega (arith, is) }
+
+pub searched_alone : (table : Table) (x : List ℕ) (at begun steps : ℕ) → AreSearchedTo table x 0 at begun steps → RisesUpTo (breaks_cost table x 0) begun steps
+searched_alone table x at begun steps are =
+    let paid = all_searched table x 0 at begun steps are in
+    let none : 0 * length (table_boundaries table x) ≡ 0 = omega arith in
+    record { more = paid.more; cost = omega (arith, paid.cost, none) }

@@ -1,98 +1,71 @@
--- Boundaries that a session tells, and replies of one, as their lines go out in pieces.
-use Rattle.std.proofs.Common.{◌≡◌, ℕ, ◌+◌, ◌-◌, ◌<◌, ◌≤◌, List, [], ◌∷◌, ◌++◌, Option, Some, None, length, refl, sym, ap, ◌∙◌, subst}
-use Rattle.std.proofs.Common.{append_assoc, arith}
-use Rattle.std.proofs.lemmas.Grind.{flat_map-append}
-use Rattle.rbbi_model.specs.Cover.{IsPlaceOf}
-use Rattle.rbbi_model.specs.Answers.{First, Next, Breaks, Place, statuses_at}
+-- Boundaries that are told through a filter, and replies of a session, as their lines go out in pieces.
+use Rattle.std.proofs.Common.{◌≡◌, ℕ, ◌+◌, ◌≤◌, Bool, true, false, cond, List, [], ◌∷◌, ◌++◌, Option, refl, sym, ap, ◌∙◌, subst, arith}
+use Rattle.rbbi_model.specs.Boundaries.{Boundary, start}
 use Rattle.rbbi_model.specs.Tables.{Table}
+use Rattle.rbbi_model.specs.Searches.{table_boundaries}
 use Rattle.rbbi_model.specs.Scripts.{Command, opened}
 use Rattle.rbbi_model.specs.Lines.{boundary_line, boundary_lines, reply_lines, all_reply_lines}
 use Rattle.rbbi_text.specs.Steps.{RisesUpTo}
-use Rattle.rbbi_io.specs.Sinks.{Takes, IsBuffered}
-use Rattle.rbbi_session.specs.Sessions.{place_reply}
-use Rattle.rbbi_session.proofs.Stepping.{left_of}
-use Rattle.rbbi_filter.specs.FilterCosts.{question_through, commands_through}
+use Rattle.rbbi_io.specs.Sinks.{IsBuffered}
 use Rattle.rbbi_filter.specs.declared.filter.Filter.{Filter}
-use Rattle.rbbi_filter.specs.Filters.{boundaries_through}
-use Rattle.rbbi_filter.specs.FilterSessions.{FilterSession, boundaries_of, IsOpened, Answers, Asks}
+use Rattle.rbbi_filter.specs.declared.filter.Filter.TheVariants.{Suppressing, Turning}
+use Rattle.rbbi_filter.specs.declared.pair.Pair.{Pair}
+use Rattle.rbbi_filter.specs.Pairs.{turned}
+use Rattle.rbbi_filter.specs.Filters.{told, tells, boundaries_through}
+use Rattle.rbbi_filter.specs.FilterCosts.{breaks_through, commands_through}
+use Rattle.rbbi_filter.specs.FilterSessions.{FilterSession, IsOpened}
 use Rattle.rbbi_filter.specs.Performing.{turn_of, IsPerformed, IsPaid}
-use Rattle.rbbi_filter.proofs.Listed.{IsListed, listed_start, listed_further, listed_paid}
-use Rattle.rbbi_filter.proofs.ListingCosts.{listing_pays}
 use Rattle.rbbi_tool.specs.Filters.{replies_through}
-use Rattle.rbbi_tool.specs.inner.Filters.{replies_of}
-use Rattle.rbbi_tool.proofs.Emitting.{IsPutTo, put_none, put_more, put_flushed, put_end}
+use Rattle.rbbi_tool.specs.inner.Filters.{replies_of, told_line, told_lines, scan_cost}
+use Rattle.rbbi_tool.proofs.Emitting.{IsPutTo, put_none, put_more, put_flushed}
+use Rattle.rbbi_tool.proofs.Listing.{WritesEach}
 
--- The lines of the boundaries before a place were made, and a front of them was put.
-pub record AreToldTo (old now : FilterSession) (place : Option ℕ) (before between : Option (List ℕ)) (waiting : List ℕ) (start steps : ℕ) : Type 0 where
-  pub made : List ℕ
-  pub listed : IsListed old now place [] made start steps
-  pub put : IsPutTo (boundary_lines (boundaries_of old)) (boundary_lines listed.rest) before between waiting
+told_next : (filter : Filter) (x : List ℕ) (b : Boundary) (bs : List Boundary)
+    → told filter x (b ∷ bs) ≡ cond (tells filter x b.at) (b ∷ told filter x bs) (told filter x bs)
+told_next (Suppressing list) x b bs = refl
+told_next (Turning pairs) x b bs = refl
 
--- none was made
-pub told_none : (old now : FilterSession) (r : ℕ) (taken : Option (List ℕ)) (waiting : List ℕ) (start : ℕ) → waiting ≡ [] → Answers old First (Place r) now
-    → AreToldTo old now (Some r) taken taken waiting start start
-told_none old now r taken waiting start none answers =
-    let listed : IsListed old now (Some r) [] [] start start = listed_start old now r [] start answers in
-    record {
-      made = [];
-      listed = listed;
-      put = put_none (boundary_lines (boundaries_of old)) (boundary_lines listed.rest) taken waiting
-          (ap boundary_lines listed.whole ∙ flat_map-append boundary_line listed.front listed.rest
-          ∙ ap (λ l. l ++ boundary_lines listed.rest) (sym listed.appended ∙ sym none));
-    }
+none_told : (filter : Filter) (x : List ℕ) → told filter x [] ≡ []
+none_told (Suppressing list) x = refl
+none_told (Turning pairs) x = refl
 
--- Some of the lines were put, and then one more was made.
-told_more : (old now new : FilterSession) (at : ℕ) (place : Option ℕ) (before between after : Option (List ℕ)) (waiting left made : List ℕ)
-    (line : List ℕ) (start steps end : ℕ) (so_far : AreToldTo old now (Some at) before between waiting start steps) → IsBuffered between after waiting left
-    → made ≡ left ++ line → IsListed old new place [] (so_far.made ++ line) start end → AreToldTo old new place before after made start end
-told_more old now new at place before between after waiting left made line start steps end so_far flushed pushed listed =
-    let all : List ℕ = boundary_lines (boundaries_of old) in
-    let rest : List ℕ = boundary_lines so_far.listed.rest in
-    let put : IsPutTo all rest before after left = put_flushed all rest before between waiting so_far.put after left flushed in
-    let one : so_far.made ++ line ≡ boundary_lines listed.front = listed.appended in
-    let whole : all ≡ so_far.made ++ line ++ boundary_lines listed.rest =
-    ap boundary_lines listed.whole ∙ flat_map-append boundary_line listed.front listed.rest ∙ ap (λ l. l ++ boundary_lines listed.rest) (sym one) in
-    let before_it : all ≡ so_far.made ++ rest =
-    ap boundary_lines so_far.listed.whole ∙ flat_map-append boundary_line so_far.listed.front so_far.listed.rest
-    ∙ ap (λ l. l ++ rest) (sym so_far.listed.appended) in
-    record {
-      made = so_far.made ++ line;
-      listed = listed;
-      put = put_more all rest before after left put line (boundary_lines listed.rest) made
-          (same_behind so_far.made rest (line ++ boundary_lines listed.rest)
-          (sym before_it ∙ whole ∙ append_assoc so_far.made line (boundary_lines listed.rest))) pushed;
-    }
-  where
-    same_behind : (xs ys zs : List ℕ) → xs ++ ys ≡ xs ++ zs → ys ≡ zs
-    same_behind [] ys zs same = same
-    same_behind (x ∷ xs) ys zs same = same_behind xs ys zs cc
+lines_next : (is : Bool) (b : Boundary) (bs : List Boundary) → boundary_lines (cond is (b ∷ bs) bs) ≡ cond is (boundary_line b) [] ++ boundary_lines bs
+lines_next true b bs = refl
+lines_next false b bs = refl
 
--- One more was made where the session stands, and it has gone to the next.
-pub told_further : (old now new : FilterSession) (at : ℕ) (place : Option ℕ) (before between after : Option (List ℕ)) (waiting left made list : List ℕ)
-    (start steps end : ℕ) (so_far : AreToldTo old now (Some at) before between waiting start steps) → list ≡ statuses_at (boundaries_of now) now.state.cursor
-    → IsBuffered between after waiting left → made ≡ left ++ boundary_line (record { at = at; statuses = list }) → Answers now Next (place_reply place) new
-    → Asks now Next steps end
-    → AreToldTo old new place before after made start end × (left_of (length old.state.text) place < length old.state.text + 1 - at)
-told_further old now new at place before between after waiting left made list start steps end so_far told flushed pushed answers asks =
-    let line : List ℕ = boundary_line (record { at = at; statuses = list }) in
-    let further = listed_further old now at [] so_far.made start steps so_far.listed list told place new (so_far.made ++ line) end refl answers asks in
-    (told_more old now new at place before between after waiting left made line start steps end so_far flushed pushed further.0, further.1)
+-- the line of a boundary, if it is told
+abbrev pub line_told : Filter → List ℕ → Boundary → List ℕ
+line_told filter x b = told_line filter x b.at b.statuses
 
--- all were made, and what waited was put
-pub all_told : (old now : FilterSession) (before between after : Option (List ℕ)) (waiting : List ℕ) (start steps : ℕ)
-    → AreToldTo old now None before between waiting start steps → Takes between after waiting → Takes before after (boundary_lines (boundaries_of old))
-all_told old now before between after waiting start steps so_far more =
-    put_end (boundary_lines (boundaries_of old)) (boundary_lines so_far.listed.rest) before between waiting so_far.put
-    (ap boundary_lines so_far.listed.stands) after more
+-- boundaries that are told are written one after another
+pub told_each : (filter : Filter) (x : List ℕ) → WritesEach (line_told filter x) (told_lines filter x)
+told_each filter x = record {
+  none = ap boundary_lines (none_told filter x);
+  one = λ b bs. ap boundary_lines (told_next filter x b bs) ∙ lines_next (tells filter x b.at) b (told filter x bs);
+}
 
--- what was read is no more than what all boundaries cost
-pub told_paid : (old now : FilterSession) (place : Option ℕ) (before between : Option (List ℕ)) (waiting : List ℕ) (start steps : ℕ)
-    → AreToldTo old now place before between waiting start steps → (cursor : ℕ) → cursor ≡ old.state.cursor → IsPlaceOf (boundaries_of old) cursor
-    → RisesUpTo (question_through old.filter old.table old.state.text old.state.cursor Breaks) start steps
-told_paid old now place before between waiting start steps so_far cursor at here =
-    let paid = listed_paid old now place [] so_far.made start steps so_far.listed in
-    let pays = listing_pays old cursor at here in
-    record { more = paid.more; cost = omega (arith, paid.cost, pays) }
+-- the text's start is told
+pub start_told : (filter : Filter) (x : List ℕ) → boundary_line start ≡ line_told filter x start
+start_told (Suppressing list) x = refl
+start_told (Turning pairs) x = refl
+
+-- All boundaries through a filter are those of the searched text that it tells, and their costs.
+pub through_suppressed : (filter : Filter) (list : List (List ℕ)) → filter ≡ Suppressing list → (table : Table) (x : List ℕ)
+    → told_lines filter x (table_boundaries table x) ≡ boundary_lines (boundaries_through filter table x)
+through_suppressed filter list is table x = subst (λ f. told_lines f x (table_boundaries table x) ≡ boundary_lines (boundaries_through f table x)) (sym is) refl
+
+pub suppressed_cost : (filter : Filter) (list : List (List ℕ)) → filter ≡ Suppressing list → (table : Table) (x : List ℕ)
+    → scan_cost filter table x ≤ breaks_through filter table x 0
+suppressed_cost filter list is table x = subst (λ f. scan_cost f table x ≤ breaks_through f table x 0) (sym is) (omega arith)
+
+pub through_turned : (filter : Filter) (pairs : List Pair) → filter ≡ Turning pairs → (table : Table) (x : List ℕ)
+    → told_lines filter (turned pairs x) (table_boundaries table (turned pairs x)) ≡ boundary_lines (boundaries_through filter table x)
+through_turned filter pairs is table x =
+    subst (λ f. told_lines f (turned pairs x) (table_boundaries table (turned pairs x)) ≡ boundary_lines (boundaries_through f table x)) (sym is) refl
+
+pub turned_cost : (filter : Filter) (pairs : List Pair) → filter ≡ Turning pairs → (table : Table) (x : List ℕ)
+    → scan_cost filter table (turned pairs x) ≤ breaks_through filter table x 0
+turned_cost filter pairs is table x = subst (λ f. scan_cost f table (turned pairs x) ≤ breaks_through f table x 0) (sym is) (omega arith)
 
 -- The commands before the others were performed, at most at what all cost less the others; of the lines of all replies a front was put.
 pub record AreRepliedTo (old : FilterSession) (commands others : List Command) (session : FilterSession) (before now : Option (List ℕ)) (waiting : List ℕ)
@@ -170,12 +143,6 @@ module _ (filter other : Filter) (table : Table) (x : List ℕ) (session : Filte
     (table' : Table) (table_is : table ≡ table') (x' : List ℕ) (x_is : x ≡ x') where
   state_is : session.state ≡ opened x'
   state_is = opened_is.state_is ∙ ap opened x_is
-
-  pub opened_boundaries : boundaries_of session ≡ boundaries_through other table' x'
-  opened_boundaries =
-      ap (λ f. boundaries_through f session.table session.state.text) (opened_is.filter_is ∙ sym same)
-      ∙ ap (λ t. boundaries_through other t session.state.text) (opened_is.table_is ∙ table_is)
-      ∙ ap (λ s. boundaries_through other table' s.text) state_is
 
   pub opened_replies : (commands : List Command) → replies_of session commands ≡ replies_through other table' (opened x') commands
   opened_replies commands =

@@ -138,7 +138,7 @@ fn put_lines<K: Sink, L: Ledger>(
             put_tally(alloc, &table, text, &commands, out, steps)
         }
         Lines::ToldBoundaries(table, text, filter) => {
-            put_boundaries_through(alloc, &table, text, &filter, out, steps)
+            put_boundaries_through(alloc, &table, &text, &filter, out, steps)
         }
         Lines::ToldReplies(table, text, filter, commands) => {
             put_replies_through(alloc, &table, text, &filter, &commands, out, steps)

@@ -1,55 +1,86 @@
 //! The lines of boundaries and replies through a filter, as they go out.
-ghost use Rattle.std.specs.Prelude.{◌≡◌, map, OnOk, OnErr, IsErrOf};
-ghost use Rattle.rbbi_model.specs.Answers.{Breaks};
+ghost use Rattle.std.specs.Prelude.{◌≤◌, ◌++◌, map, length, OnOk, OnErr, IsErrOf};
+ghost use Rattle.rbbi_model.specs.Searches.{table_boundaries};
 ghost use Rattle.rbbi_model.specs.Scripts.{opened};
 ghost use Rattle.rbbi_model.specs.Lines.{boundary_lines, all_reply_lines};
 ghost use Rattle.rbbi_text.specs.Steps.{RisesUpTo};
 ghost use Rattle.rbbi_script.specs.Meaning.{meaning};
 ghost use Rattle.rbbi_filter.specs.Filters.{boundaries_through};
-ghost use Rattle.rbbi_filter.specs.FilterCosts.{question_through, breaks_through, commands_through};
-ghost use Rattle.rbbi_filter.specs.FilterSessions.{boundaries_of};
+ghost use Rattle.rbbi_filter.specs.FilterCosts.{telling_cost, breaks_through, commands_through};
 ghost use Rattle.rbbi_io.specs.Counts.{Rose, GoesOn};
-ghost use Rattle.rbbi_io.specs.Sinks.{Takes, TakesFront};
+ghost use Rattle.rbbi_io.specs.Sinks.{Takes, TakesFront, IsBuffered};
 ghost use Rattle.rbbi_io.specs.declared.error.WriteErr.TheVariants.{Failed};
 ghost use Rattle.rbbi_tool.specs.Filters.{replies_through};
-ghost use Rattle.rbbi_tool.specs.inner.Filters.{replies_of};
+ghost use Rattle.rbbi_tool.specs.inner.Filters.{replies_of, told_line, told_lines, scan_cost};
 
-use rbbi_filter::{
-    ByList, ByPairs, Filter, Filtered, Tailored, Walk, first, next, perform_through,
-};
+use rbbi_filter::{ByList, ByPairs, Filter, Filtered, Mapped, Tailored, Walk, perform_through};
 use rbbi_io::{Sink, WriteErr, put_all, put_when_full};
 use rbbi_script::{Commands, say_bound};
 use rbbi_session::Session;
-use rbbi_table::Table;
-use rbbi_text::{Pieces, PlainText, Steps};
+use rbbi_table::{Marks, Table};
+use rbbi_text::{Chars, Pieces, PlainText, Steps};
 use std::alloc::Global;
 use std::sync::ledger::Ledger;
 
-/// Puts a line for each boundary that a session tells, in pieces.
-fn put_told_boundaries<W: Walk, K: Sink, L: Ledger>(
-    alloc: Global,
-    session: &mut W,
+/// Adds the line of a boundary of a searched text, where the filter tells it, and then puts what
+/// waits once it is much.
+fn put_if_told<T: Chars, K: Sink, L: Ledger>(
+    text: &T,
+    filter: &Filter,
+    at: u32,
+    statuses: &[u32],
+    made: &mut Vec<u8>,
     out: &mut K,
     steps: &mut Steps<L>,
 ) -> Result<(), WriteErr>
-    ensures ok { OnOk result (Takes (K.taken out.old) (K.taken out.new)
-        (boundary_lines (boundaries_of (W.session session.old)))) }
-    ensures err { OnErr result (TakesFront (K.taken out.old) (K.taken out.new)
-        (boundary_lines (boundaries_of (W.session session.old)))) }
+    requires { at ≤ length (T.characters text.now) }
+    ensures ok { OnOk result (IsBuffered (K.taken out.old) (K.taken out.new) (made.old.items
+        ++ told_line filter.now (T.characters text.now) at statuses.now) made.new.items) }
+    ensures err { OnErr result (TakesFront (K.taken out.old) (K.taken out.new) (made.old.items
+        ++ told_line filter.now (T.characters text.now) at statuses.now)) }
     ensures faults { GoesOn (K.faults out.old) (K.faults out.new) }
     ensures failed { IsErrOf result Failed → Rose (K.faults out.old) (K.faults out.new) }
-    ensures steps { let old = W.session session.old in
-        RisesUpTo (question_through old.filter old.table old.state.text old.state.cursor Breaks)
+    ensures steps { RisesUpTo (telling_cost filter.now) steps.old steps.new }
+{
+    if filter.tells(text, at, steps) {
+        say_bound(at, statuses, made)?;
+        put_when_full(out, made)?;
+    }
+    Ok(())
+}
+
+/// Puts the lines of those boundaries of a searched text by a table that a filter tells, in pieces.
+fn put_told_boundaries<T: Chars, K: Sink, L: Ledger>(
+    alloc: Global,
+    table: &Table,
+    text: &T,
+    filter: &Filter,
+    out: &mut K,
+    steps: &mut Steps<L>,
+) -> Result<(), WriteErr>
+    ensures ok { OnOk result (Takes (K.taken out.old) (K.taken out.new) (told_lines filter.now
+        (T.characters text.now) (table_boundaries table.now (T.characters text.now)))) }
+    ensures err { OnErr result (TakesFront (K.taken out.old) (K.taken out.new)
+        (told_lines filter.now (T.characters text.now)
+        (table_boundaries table.now (T.characters text.now)))) }
+    ensures faults { GoesOn (K.faults out.old) (K.faults out.new) }
+    ensures failed { IsErrOf result Failed → Rose (K.faults out.old) (K.faults out.new) }
+    ensures steps { RisesUpTo (scan_cost filter.now table.now (T.characters text.now))
         steps.old steps.new }
 {
-    // Where the cursor is says that a boundary is there.
-    let _here = session.current();
+    rbbi_model::next_boundary_is_past_the_start();
+    rbbi_model::anchors_are_stored();
+    rbbi_model::anchors_lead_to_the_boundaries();
+    table.valid();
+    let mut marks = Marks::new(alloc, table)?;
     let mut made = Vec::new(alloc);
-    let mut place = Some(first(session));
-    while let Some(at) = place {
-        put_when_full(out, &mut made)?;
-        say_bound(at, session.status_list(), &mut made)?;
-        place = next(session, steps);
+    say_bound(0, &[0], &mut made)?;
+    let mut at = 0;
+    while at < text.len() {
+        let found = table.next(text, at, &mut marks, steps);
+        at = found.at;
+        let statuses = table.status_list(found.status);
+        put_if_told(text, filter, at, statuses, &mut made, out, steps)?;
     }
     put_all(out, &made)?;
     Ok(())
@@ -86,28 +117,25 @@ fn put_told_replies<W: Walk, K: Sink, L: Ledger>(
 pub(crate) fn put_boundaries_through<K: Sink, L: Ledger>(
     alloc: Global,
     table: &Table,
-    text: PlainText,
+    text: &PlainText,
     filter: &Filter,
     out: &mut K,
     steps: &mut Steps<L>,
 ) -> Result<(), WriteErr>
     ensures ok { OnOk result (Takes (K.taken out.old) (K.taken out.new)
-        (boundary_lines (boundaries_through filter.now table.now text))) }
+        (boundary_lines (boundaries_through filter.now table.now text.now))) }
     ensures err { OnErr result (TakesFront (K.taken out.old) (K.taken out.new)
-        (boundary_lines (boundaries_through filter.now table.now text))) }
+        (boundary_lines (boundaries_through filter.now table.now text.now))) }
     ensures faults { GoesOn (K.faults out.old) (K.faults out.new) }
     ensures failed { IsErrOf result Failed → Rose (K.faults out.old) (K.faults out.new) }
-    ensures steps { RisesUpTo (breaks_through filter.now table.now text 0) steps.old steps.new }
+    ensures steps { RisesUpTo (breaks_through filter.now table.now text.now 0) steps.old steps.new }
 {
     match filter {
-        Filter::Suppressing(list) => {
-            let session = Session::open(alloc, table, text)?;
-            let mut session = Filtered::open(session, list, ByList::new(list));
-            put_told_boundaries(alloc, &mut session, out, steps)
-        }
+        Filter::Suppressing(_) => put_told_boundaries(alloc, table, text, filter, out, steps),
         Filter::Turning(pairs) => {
-            let mut session = Tailored::open(alloc, table, text, pairs, ByPairs::new(pairs))?;
-            put_told_boundaries(alloc, &mut session, out, steps)
+            let map = ByPairs::new(pairs);
+            let turned = Mapped::new(text, pairs, &map);
+            put_told_boundaries(alloc, table, &turned, filter, out, steps)
         }
     }
 }

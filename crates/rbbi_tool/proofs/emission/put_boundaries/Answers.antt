@@ -8,18 +8,18 @@ use Rattle.rbbi_model.specs.Units.{offset_of}
 use Rattle.rbbi_io.specs.Sinks.{Takes, TakesFront}
 use Rattle.rbbi_session.proofs.Reaching.{found_within}
 use Rattle.rbbi_tool.proofs.Emitting.{put_refused, put_stays}
-use Rattle.rbbi_tool.proofs.Listing.{measured_one, listed_start, listed_more, listed_flushed, all_listed}
-use Rattle.rbbi_tool.proofs.Searched.{searched_none, searched_more, all_searched}
+use Rattle.rbbi_tool.proofs.Listing.{measured_one, line_in, lines_in, measured_each, listed_start, listed_more, listed_flushed, all_listed}
+use Rattle.rbbi_tool.proofs.Searched.{searched_none, searched_more, one_search, searched_alone}
 use Rattle.rbbi_tool.proofs.emission.put_boundaries.Goals as goal
 
 pub loop-at-init : goal.loop-at-init
 loop-at-init g c = record {
-  listed = listed_start c.args.table.now c.args.unit c.args.text.now _ c.say_bound.new.reply.items
-      (c.in_ok-say_bound.ensures ∙ ap (λ l. l ++ boundary_line start) c.new-made.ensures.items);
+  listed = listed_start (line_in c.args.unit c.args.text.now) (lines_in c.args.unit c.args.text.now) (measured_each c.args.unit c.args.text.now)
+      c.args.table.now c.args.text.now _ c.say_bound.new.reply.items (c.in_ok-say_bound.ensures ∙ ap (λ l. l ++ boundary_line start) c.new-made.ensures.items);
   offset_is = refl;
   faults = search rules;
   fit = c.in_ok-marks.ensures;
-  read = searched_none c.args.table.now c.args.text.now c.args.steps.now;
+  read = searched_none c.args.table.now c.args.text.now 0 c.args.steps.now;
 }
 
 pub status_list-requires : goal.status_list-requires
@@ -50,15 +50,15 @@ loop-at-preserved g c =
     } in
     record {
       listed = listed_flushed _ _ _ _ _ _ _ _ _
-          (listed_more table unit x _ _ _ _ c.loop-at.at c.next-found.result.at c.loop-at.invariant.listed inside past c.next-found.ensures.at
+          (listed_more (line_in unit x) (lines_in unit x) (measured_each unit x) table x _ _ _ _ c.loop-at.at c.next-found.result.at c.loop-at.invariant.listed inside past c.next-found.ensures.at
           (c.in_ok-say_bound-2.ensures ∙ ap (λ b. c.loop-at.made.items ++ boundary_line b) found))
           c.in_ok-put_when_full.ensures.ok;
       offset_is = offset_is;
       faults = search rules;
       fit = c.next-found.ensures.fit ∙ c.loop-at.invariant.fit;
-      read = searched_more table x c.loop-at.at c.next-found.result.at c.args.steps.now c.loop-at.steps c.next-found.new.steps c.valid.ensures
+      read = searched_more table x 0 c.loop-at.at c.next-found.result.at c.args.steps.now c.loop-at.steps c.next-found.new.steps c.valid.ensures
           c.anchors_are_stored.ensures c.anchors_lead_to_the_boundaries.ensures c.loop-at.invariant.read inside past.0 c.next-found.ensures.at
-          c.next-found.ensures.read;
+          (one_search _ _ _ c.next-found.ensures.read);
     }
 
 pub returns-in_err-say_bound-2-clause-err : goal.returns-in_err-say_bound-2-clause-err
@@ -81,7 +81,7 @@ returns-in_err-put_when_full-clause-err g c =
       statuses = (c.status_list.ensures ∙ ap (statuses_of table) c.next-found.ensures.status) i;
     } in
     let told = err_from_is_err_and c.from_residual-in_err-put_when_full.result c.from_residual-in_err-put_when_full.ensures.1 in
-    let listed = listed_more table unit x _ _ _ _ c.loop-at.at c.next-found.result.at c.loop-at.invariant.listed inside past c.next-found.ensures.at
+    let listed = listed_more (line_in unit x) (lines_in unit x) (measured_each unit x) table x _ _ _ _ c.loop-at.at c.next-found.result.at c.loop-at.invariant.listed inside past c.next-found.ensures.at
     (c.in_ok-say_bound-2.ensures ∙ ap (λ b. c.loop-at.made.items ++ boundary_line b) found) in
     rw told.1 (put_refused _ _ _ _ _ listed.put _ c.in_err-put_when_full.ensures.err)
 
@@ -90,20 +90,20 @@ returns-in_err-put_when_full-clause-steps g c =
     let table = c.args.table.now in
     let x = c.args.text.now in
     let inside : c.loop-at.at < length x = omega (arith, c.loop-at-test.true, c.len.ensures.exact) in
-    all_searched table x c.next-found.result.at c.args.steps.now c.next-found.new.steps
-    (searched_more table x c.loop-at.at c.next-found.result.at c.args.steps.now c.loop-at.steps c.next-found.new.steps c.valid.ensures
+    searched_alone table x c.next-found.result.at c.args.steps.now c.next-found.new.steps
+    (searched_more table x 0 c.loop-at.at c.next-found.result.at c.args.steps.now c.loop-at.steps c.next-found.new.steps c.valid.ensures
     c.anchors_are_stored.ensures c.anchors_lead_to_the_boundaries.ensures c.loop-at.invariant.read inside
-    (c.next_boundary_is_past_the_start.ensures table x c.loop-at.at inside).0 c.next-found.ensures.at c.next-found.ensures.read)
+    (c.next_boundary_is_past_the_start.ensures table x c.loop-at.at inside).0 c.next-found.ensures.at (one_search _ _ _ c.next-found.ensures.read))
 
 pub returns-in_err-say_bound-2-clause-steps : goal.returns-in_err-say_bound-2-clause-steps
 returns-in_err-say_bound-2-clause-steps g c =
     let table = c.args.table.now in
     let x = c.args.text.now in
     let inside : c.loop-at.at < length x = omega (arith, c.loop-at-test.true, c.len.ensures.exact) in
-    all_searched table x c.next-found.result.at c.args.steps.now c.next-found.new.steps
-    (searched_more table x c.loop-at.at c.next-found.result.at c.args.steps.now c.loop-at.steps c.next-found.new.steps c.valid.ensures
+    searched_alone table x c.next-found.result.at c.args.steps.now c.next-found.new.steps
+    (searched_more table x 0 c.loop-at.at c.next-found.result.at c.args.steps.now c.loop-at.steps c.next-found.new.steps c.valid.ensures
     c.anchors_are_stored.ensures c.anchors_lead_to_the_boundaries.ensures c.loop-at.invariant.read inside
-    (c.next_boundary_is_past_the_start.ensures table x c.loop-at.at inside).0 c.next-found.ensures.at c.next-found.ensures.read)
+    (c.next_boundary_is_past_the_start.ensures table x c.loop-at.at inside).0 c.next-found.ensures.at (one_search _ _ _ c.next-found.ensures.read))
 
 pub returns-in_err-put_all-clause-err : goal.returns-in_err-put_all-clause-err
 returns-in_err-put_all-clause-err g c =
@@ -113,11 +113,12 @@ returns-in_err-put_all-clause-err g c =
 
 pub returns-clause-ok : goal.returns-clause-ok
 returns-clause-ok g c =
-    all_listed _ _ _ _ _ _ _ _ c.loop-at.invariant.listed (omega (arith, c.loop-at-test.false, c.len.ensures.exact))
+    all_listed (line_in c.args.unit c.args.text.now) (lines_in c.args.unit c.args.text.now) (measured_each c.args.unit c.args.text.now)
+    c.args.table.now c.args.text.now _ _ _ _ _ c.loop-at.invariant.listed (omega (arith, c.loop-at-test.false, c.len.ensures.exact))
     (subst (λ w. Takes (g.K.Sink.taken c.loop-at.out) (g.K.Sink.taken c.put_all.new.out) w) c.deref.ensures.value c.in_ok-put_all.ensures.ok)
 
 pub returns-clause-steps : goal.returns-clause-steps
-returns-clause-steps g c = all_searched c.args.table.now c.args.text.now c.loop-at.at c.args.steps.now c.loop-at.steps c.loop-at.invariant.read
+returns-clause-steps g c = searched_alone c.args.table.now c.args.text.now c.loop-at.at c.args.steps.now c.loop-at.steps c.loop-at.invariant.read
 
 pub returns-in_err-put_all-clause-steps : goal.returns-in_err-put_all-clause-steps
-returns-in_err-put_all-clause-steps g c = all_searched c.args.table.now c.args.text.now c.loop-at.at c.args.steps.now c.loop-at.steps c.loop-at.invariant.read
+returns-in_err-put_all-clause-steps g c = searched_alone c.args.table.now c.args.text.now c.loop-at.at c.args.steps.now c.loop-at.steps c.loop-at.invariant.read

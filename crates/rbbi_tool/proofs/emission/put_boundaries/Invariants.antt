@@ -1,18 +1,18 @@
 use Rattle.std.proofs.Common.{◌≡◌, ◌-◌, length}
 use Rattle.rbbi_model.specs.Units.{offset_of}
 use Rattle.rbbi_io.specs.Counts.{GoesOn}
-use Rattle.rbbi_tool.proofs.Listing.{AreListedTo}
+use Rattle.rbbi_tool.proofs.Listing.{AreListedTo, lines_in}
 use Rattle.rbbi_tool.proofs.Searched.{AreSearchedTo}
 use Rattle.rbbi_tool.proofs.emission.put_boundaries.Given as goal
 
 -- the boundaries up to this place are listed, a front of their lines was put, and reading them cost so much
 abbrev pub invariant-loop-at : goal.invariant-loop-at
 invariant-loop-at g l = record {
-  listed : AreListedTo l.table l.unit l.text (g.K.Sink.taken l.initial.out) (g.K.Sink.taken l.out) l.made.items l.at;
+  listed : AreListedTo (lines_in l.unit l.text) l.table l.text (g.K.Sink.taken l.initial.out) (g.K.Sink.taken l.out) l.made.items l.at;
   offset_is : l.offset ≡ offset_of l.unit l.text l.at;
   faults : GoesOn (g.K.Sink.faults l.initial.out) (g.K.Sink.faults l.out);
   fit : l.marks ≡ l.table.slashes;
-  read : AreSearchedTo l.table l.text l.at l.fn.steps l.steps;
+  read : AreSearchedTo l.table l.text 0 l.at l.fn.steps l.steps;
 }
 
 -- the characters that are left

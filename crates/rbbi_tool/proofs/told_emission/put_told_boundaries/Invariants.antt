@@ -1,16 +1,21 @@
-use Rattle.std.proofs.Common.{length}
+use Rattle.std.proofs.Common.{◌≡◌, ◌-◌, length}
 use Rattle.rbbi_io.specs.Counts.{GoesOn}
-use Rattle.rbbi_session.proofs.Stepping.{left_of}
-use Rattle.rbbi_tool.proofs.ToldLines.{AreToldTo}
+use Rattle.rbbi_filter.specs.FilterCosts.{telling_cost}
+use Rattle.rbbi_tool.specs.inner.Filters.{told_lines}
+use Rattle.rbbi_tool.proofs.Listing.{AreListedTo}
+use Rattle.rbbi_tool.proofs.Searched.{AreSearchedTo}
 use Rattle.rbbi_tool.proofs.told_emission.put_told_boundaries.Given as goal
 
--- the lines of the boundaries before the next one were made, and a front of them was put
-abbrev pub invariant-loop-place : goal.invariant-loop-place
-invariant-loop-place g l = record {
-  told : AreToldTo (g.W.Walk.session l.fn.session) (g.W.Walk.session l.session) l.place (g.K.Sink.taken l.initial.out) (g.K.Sink.taken l.out)
-      l.made.items l.fn.steps l.steps;
+-- the boundaries up to this place are listed, a front of their lines was put, and reading them cost so much
+abbrev pub invariant-loop-at : goal.invariant-loop-at
+invariant-loop-at g l = record {
+  listed : AreListedTo (told_lines l.filter (g.T.Chars.characters l.text)) l.table (g.T.Chars.characters l.text) (g.K.Sink.taken l.initial.out)
+      (g.K.Sink.taken l.out) l.made.items l.at;
   faults : GoesOn (g.K.Sink.faults l.initial.out) (g.K.Sink.faults l.out);
+  fit : l.marks ≡ l.table.slashes;
+  read : AreSearchedTo l.table (g.T.Chars.characters l.text) (telling_cost l.filter) l.at l.fn.steps l.steps;
 }
 
-abbrev pub decreases-loop-place : goal.decreases-loop-place
-decreases-loop-place g l = left_of (length (g.W.Walk.session l.fn.session).state.text) l.place
+-- the characters that are left
+abbrev pub decreases-loop-at : goal.decreases-loop-at
+decreases-loop-at g l = length (g.T.Chars.characters l.text) - l.at
