@@ -22,7 +22,8 @@ use Rattle.rbbi_filter.specs.FilterSessions.{FilterSession, boundaries_of, Moves
 use Rattle.rbbi_filter.specs.inner.Windows.{IsAtKept}
 use Rattle.rbbi_filter.proofs.Sifting.{sift_place, sift_statuses}
 use Rattle.rbbi_filter.proofs.Covering.{passes}
-use Rattle.rbbi_filter.proofs.Passing.{suppressed_within, stops_first, stops_cost, goes_first, goes_cost, stops_last, stops_back_cost, goes_last, goes_back_cost}
+use Rattle.rbbi_filter.proofs.Passing.{suppressed_within, stops_first, stops_cost, goes_first, goes_cost, stops_last, stops_back_cost, goes_last}
+use Rattle.rbbi_filter.proofs.Passing.{goes_back_cost}
 use Rattle.rbbi_filter.proofs.Neighbours.{first_lies, prior_at}
 
 -- the session through abbreviations
@@ -139,7 +140,8 @@ module _ (list : List (List ℕ)) (old : FilterSession) (o : ℕ) (now new : Ses
       let end : end_of (table_boundaries old.table old.state.text) ≤ from = none_means bs from (sym (first_is None answers)) in
       omega (arith, passing.within, (table_covers old.table old.state.text).reach, end)
 
-  pub moved_there : (place : ℕ) → plain.Answers now (Following from) (place_reply (Some place)) new → new.state ≡ record { text = old.state.text; cursor = place }
+  pub moved_there : (place : ℕ) → plain.Answers now (Following from) (place_reply (Some place)) new
+      → new.state ≡ record { text = old.state.text; cursor = place }
   moved_there place answers =
       answers.moved.state_is
       ∙ ap (λ m. record { text = now.state.text; cursor = (moved m (end_of (plain.boundaries_of now))).cursor })
@@ -170,7 +172,8 @@ module _ (list : List (List ℕ)) (old : FilterSession) (o : ℕ) (now new : Ses
         let x : List ℕ = old.state.text in
         let found = sym (first_is (Some place) answers) in
         let cost = stops_cost old.table list x from place found tells in (
-          ap (λ f. first_after (boundaries_through f old.table x) o) passing.same.filter_is ∙ passing.first ∙ stops_first old.table list x from place found tells,
+          ap (λ f. first_after (boundaries_through f old.table x) o) passing.same.filter_is ∙ passing.first ∙ stops_first old.table list x from place
+              found tells,
           record {
             filter_is = sym passing.same.filter_is;
             table_is = answers.moved.table_is ∙ passing.same.table_is;
@@ -221,7 +224,8 @@ module _ (list : List (List ℕ)) (old : FilterSession) (o : ℕ) (now new : Ses
   some_last answers =
       some_before (table_boundaries old.table old.state.text) from (table_covers old.table old.state.text).begin passing.some (sym (last_is None answers))
 
-  pub back_there : (place : ℕ) → plain.Answers now (Preceding from) (place_reply (Some place)) new → new.state ≡ record { text = old.state.text; cursor = place }
+  pub back_there : (place : ℕ) → plain.Answers now (Preceding from) (place_reply (Some place)) new
+      → new.state ≡ record { text = old.state.text; cursor = place }
   back_there place answers =
       answers.moved.state_is
       ∙ ap (λ m. record { text = now.state.text; cursor = (moved m 0).cursor })

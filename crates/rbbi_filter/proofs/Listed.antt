@@ -117,7 +117,8 @@ module _ (old now : FilterSession) (at : ℕ) (before reply : List ℕ) (start s
       ∙ sym one
 
   -- one boundary more: its line was appended, and the session has gone to the next
-  pub listed_further : (place : Option ℕ) (new : FilterSession) (after : List ℕ) (end : ℕ) → after ≡ reply ++ boundary_line (record { at = at; statuses = list }) →
+  pub listed_further : (place : Option ℕ) (new : FilterSession) (after : List ℕ) (end : ℕ) → after ≡ reply ++ boundary_line
+      (record { at = at; statuses = list }) →
       Answers now Next (place_reply place) new → Asks now Next steps end →
       IsListed old new place before after start end × (left_of (length old.state.text) place < length old.state.text + 1 - at)
   listed_further place new after end more answers asks =

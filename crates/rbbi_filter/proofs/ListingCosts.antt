@@ -60,7 +60,8 @@ module _ (table : Table) (list : List (List ℕ)) (x : List ℕ) where
   next_within : (p : ℕ) → p < length x → next_cost p ≡ forward_kept_cost table list x p
   next_within p short = cond-true (ltb p (length x)) (forward_kept_cost table list x p) 0 (lt-ltb p (length x) short)
 
-  listing_more : (b : Boundary) (rest : List Boundary) → b.at < length x → listing_cost table x (b ∷ rest) ≡ forward_cost table x b.at + listing_cost table x rest
+  listing_more : (b : Boundary) (rest : List Boundary) → b.at < length x → listing_cost table x (b ∷ rest) ≡ forward_cost table x b.at + listing_cost
+      table x rest
   listing_more b rest short =
       let f : Boundary → ℕ = λ c. forward_cost table x c.at in
       let those : List Boundary = filter (λ c. ltb c.at (length x)) rest in
@@ -75,7 +76,8 @@ module _ (table : Table) (list : List (List ℕ)) (x : List ℕ) where
   pays_from front b [] whole =
       let end : b.at ≡ length x = sym (end_here front b) ∙ ap end_of (sym whole) ∙ (table_covers table x).reach in
       let nothing = cond-false (ltb b.at (length x)) (forward_kept_cost table list x b.at) 0 (le-ltb b.at (length x) (omega (arith, end))) in
-      let none = ap (sum_by (λ (c : Boundary). forward_cost table x c.at)) (cond-false (ltb b.at (length x)) (b ∷ []) [] (le-ltb b.at (length x) (omega (arith, end)))) in
+      let none = ap (sum_by (λ (c : Boundary). forward_cost table x c.at))
+      (cond-false (ltb b.at (length x)) (b ∷ []) [] (le-ltb b.at (length x) (omega (arith, end)))) in
       omega (arith, nothing, none)
   pays_from front b (c ∷ rest) whole =
       let n : ℕ = length x in
@@ -118,7 +120,8 @@ module _ (table : Table) (list : List (List ℕ)) (x : List ℕ) where
       let next : first_after (table_boundaries table x) p ≡ Some (suc p) =
       ap (first_after bs) (sym one) ∙ sym (from_is_after bs (suc p) (omega arith)) ∙ from_a_place bs (suc p) (table_covers table x).rise was.1 in
       let cost = stops_cost table list x p (suc p) next (not-true (is_suppressed list x (suc p)) was.0) in
-      let asked = cond-true (ltb p (length x)) (forward_kept_cost table list x p) (last_through (Suppressing list) table x) (lt-ltb p (length x) (omega (arith, far))) in
+      let asked = cond-true (ltb p (length x)) (forward_kept_cost table list x p) (last_through (Suppressing list) table x)
+      (lt-ltb p (length x) (omega (arith, far))) in
       let there = cond-false (eqb (suc p) 0) 0 (forward_cost table x (suc p - 1)) (ne_eqb (suc p) 0 (λ same. omega (arith, same))) in
       omega (arith, cost, asked, there, ap (forward_cost table x) one)
 

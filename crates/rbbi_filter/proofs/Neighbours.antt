@@ -300,7 +300,8 @@ module _ (test : ℕ → Bool) (bs : List Boundary) (o p : ℕ) (prior : PriorAt
       ∙ filter-append (λ (b : Boundary). ltb p b.at && ltb b.at o) prior.front (prior.here ∷ prior.later)
       ∙ ap (λ cs. cs ++ between (prior.here ∷ prior.later) p o)
       (filter_none (λ (b : Boundary). ltb p b.at && ltb b.at o) prior.front
-      (all_through (λ b. b.at < p) (λ b. (ltb p b.at && ltb b.at o) ≡ false) (λ b less. and_left (ltb p b.at) (ltb b.at o) (le-ltb p b.at (omega (arith, less))))
+      (all_through (λ b. b.at < p) (λ b. (ltb p b.at && ltb b.at o) ≡ false)
+      (λ b less. and_left (ltb p b.at) (ltb b.at o) (le-ltb p b.at (omega (arith, less))))
       prior.front prior.before))
       ∙ filter_none (λ (b : Boundary). ltb p b.at && ltb b.at o) (prior.here ∷ prior.later) (
         and_left (ltb p prior.here.at) (ltb prior.here.at o) (le-ltb p prior.here.at (omega arith)),

@@ -1,23 +1,23 @@
 -- The bytes of a file of abbreviations, and of a tailoring file, have one answer.
-use Rattle.std.proofs.Common.{◌≡◌, ◌≢◌, ℕ, ◌+◌, ◌≤◌, true, false, eqb, List, [], ◌∷◌, ◌++◌, Option, Some, None, length, refl, sym, ap, ◌∙◌, subst, inl, inr, ⊎_elim, arith}
-use Rattle.std.specs.Prelude.{Result, Ok, Err}
+use Rattle.std.proofs.Common.{◌≡◌, ℕ, ◌+◌, ◌≤◌, true, false, eqb, List, [], ◌∷◌, ◌++◌, Some, None, refl, sym, ap, ◌∙◌, subst, inl, inr, ⊎_elim, arith}
+use Rattle.std.specs.Prelude.{Ok, Err}
 use Rattle.std.proofs.lemmas.Bool.{cond-false, eqb-false, ne_eqb}
 use Rattle.rbbi_text.specs.Bytes.{file_lines}
 use Rattle.rbbi_text.specs.LineValues.{AreValues}
 use Rattle.rbbi_text.specs.declared.line_values.Line.{Line}
 use Rattle.rbbi_text.specs.declared.line_values.Line.TheVariants.{Skipped, Writes, Bad}
-use Rattle.rbbi_text.specs.declared.error.LinesErr.{LinesErr}
 use Rattle.rbbi_text.specs.declared.error.LinesErr.TheVariants.{NotUtf8, BadLine, Memory}
 use Rattle.rbbi_text.proofs.LineValues.{same_values, none_bad, behind, one_answer}
 use Rattle.rbbi_filter.specs.AbbreviationFiles.{IsAbbreviation, IsAbbreviationLine, ReadsAbbreviations}
 use Rattle.rbbi_filter.specs.declared.pair.Pair.{Pair}
 use Rattle.rbbi_filter.specs.Pairs.{second_of}
-use Rattle.rbbi_filter.specs.PairFiles.{pair_of, IsPairLine, AreDistinct, IsFirstBadPair, ReadsPairs}
+use Rattle.rbbi_filter.specs.PairFiles.{IsPairLine, AreDistinct, IsFirstBadPair, ReadsPairs}
 use Rattle.rbbi_filter.specs.Laws.{HaveOneAnswer}
 use Rattle.rbbi_filter.proofs.Turning.{not_head}
 
 -- a line of a file of abbreviations is one thing
-same_abbreviation : (line : List ℕ) (number : ℕ) (one other : Line (List ℕ)) → IsAbbreviationLine line number one → IsAbbreviationLine line number other → one ≡ other
+same_abbreviation : (line : List ℕ) (number : ℕ) (one other : Line (List ℕ)) → IsAbbreviationLine line number one
+    → IsAbbreviationLine line number other → one ≡ other
 same_abbreviation line number Skipped Skipped is is' = refl
 same_abbreviation line number Skipped (Writes w) is is' = absurd (is'.0 is)
 same_abbreviation line number Skipped Bad is is' = absurd (is'.0 is)

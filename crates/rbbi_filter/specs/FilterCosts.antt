@@ -3,7 +3,8 @@ use Rattle.std.specs.Prelude.{ℕ, zero, suc, ◌+◌, ◌*◌, ◌&&◌, List, 
 use Rattle.rbbi_model.specs.Boundaries.{Boundary}
 use Rattle.rbbi_model.specs.Tables.{Table}
 use Rattle.rbbi_model.specs.Searches.{table_boundaries}
-use Rattle.rbbi_model.specs.Answers.{Question, First, Last, Next, Previous, Following, Preceding, IsBoundary, Current, Status, Statuses, Breaks, first_after, last_before}
+use Rattle.rbbi_model.specs.Answers.{Question, First, Last, Next, Previous, Following, Preceding, IsBoundary, Current, Status, Statuses, Breaks}
+use Rattle.rbbi_model.specs.Answers.{first_after, last_before}
 use Rattle.rbbi_model.specs.Scripts.{Command, Ask, Replace, ShowText, State, turn_by, edit}
 use Rattle.rbbi_model.specs.Costs.{forward_cost, back_cost, last_cost, breaks_cost, edit_cost}
 use Rattle.rbbi_filter.specs.Abbreviations.{window_size, kept}

@@ -7,7 +7,6 @@ use Rattle.rbbi_model.specs.Searches.{table_boundaries}
 use Rattle.rbbi_filter.specs.Abbreviations.{is_suppressed, kept}
 use Rattle.rbbi_filter.specs.declared.filter.Filter.{Filter}
 use Rattle.rbbi_filter.specs.declared.filter.Filter.TheVariants.{Suppressing, Turning}
-use Rattle.rbbi_filter.specs.declared.pair.Pair.{Pair}
 use Rattle.rbbi_filter.specs.Pairs.{turned}
 
 -- the text in which boundaries are looked for

@@ -17,7 +17,6 @@ mod mapped;
 mod pair;
 mod performing;
 mod predicate;
-mod questions;
 mod tailored;
 mod tailoring;
 mod walk;

@@ -8,7 +8,6 @@ ghost use Rattle.rbbi_filter.specs.FilterSessions.{boundaries_of};
 ghost use Rattle.rbbi_filter.specs.Performing.{Performs, IsPaid};
 ghost use Rattle.rbbi_filter.specs.inner.Listing.{nexts_cost, IsSameBut};
 
-use crate::questions::{first, is_boundary, next};
 use crate::walk::Walk;
 use rbbi_script::say_bound;
 use rbbi_text::Steps;
@@ -27,7 +26,7 @@ pub(crate) fn say_boundaries<W: Walk, L: Ledger>(
 {
     let cursor = session.current();
     let said = say_each(session, reply, steps);
-    is_boundary(session, cursor, steps);
+    session.is_boundary(cursor, steps);
     said
 }
 
@@ -43,10 +42,10 @@ fn say_each<W: Walk, L: Ledger>(
     ensures cost { RisesUpTo (nexts_cost (W.session session.old)
         (boundaries_of (W.session session.old))) steps.old steps.new }
 {
-    let mut place = Some(first(session));
+    let mut place = Some(session.first());
     while let Some(at) = place {
         say_bound(at, session.status_list(), reply)?;
-        place = next(session, steps);
+        place = session.next(steps);
     }
     Ok(())
 }

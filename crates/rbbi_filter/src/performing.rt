@@ -6,7 +6,6 @@ ghost use Rattle.rbbi_filter.specs.FilterSessions.{HasTrueRuns};
 ghost use Rattle.rbbi_filter.specs.Performing.{Performs, IsPaid};
 
 use crate::listing::say_boundaries;
-use crate::questions::{first, following, is_boundary, last, next, preceding, previous, status};
 use crate::walk::Walk;
 use crate::{CharMap, Filtered, Predicate, Tailored};
 use rbbi_script::{Command, Said, place_said, say, say_list, say_text, test_said};
@@ -72,16 +71,16 @@ pub fn perform_through<W: Walk, L: Ledger>(
     ensures cost { IsPaid (W.session session.old) (meaning command.now) steps.old steps.new }
 {
     match command {
-        Command::First => say(Said::Place(first(session)), reply),
-        Command::Last => say(Said::Place(last(session, steps)), reply),
-        Command::Next => say(place_said(next(session, steps)), reply),
-        Command::Previous => say(place_said(previous(session, steps)), reply),
+        Command::First => say(Said::Place(session.first()), reply),
+        Command::Last => say(Said::Place(session.last(steps)), reply),
+        Command::Next => say(place_said(session.next(steps)), reply),
+        Command::Previous => say(place_said(session.previous(steps)), reply),
         Command::Current => say(Said::Place(session.current()), reply),
-        Command::Status => say(Said::Number(status(session)), reply),
+        Command::Status => say(Said::Number(session.status()), reply),
         Command::Statuses => say_list(session.status_list(), reply),
-        Command::Following(place) => say(place_said(following(session, *place, steps)), reply),
-        Command::Preceding(place) => say(place_said(preceding(session, *place, steps)), reply),
-        Command::Is(place) => say(test_said(is_boundary(session, *place, steps)), reply),
+        Command::Following(place) => say(place_said(session.following(*place, steps)), reply),
+        Command::Preceding(place) => say(place_said(session.preceding(*place, steps)), reply),
+        Command::Is(place) => say(test_said(session.is_boundary(*place, steps)), reply),
         Command::Replace { at, remove, text } => edit(session, *at, *remove, text, reply, steps),
         Command::Breaks => say_boundaries(session, reply, steps),
         Command::Text => say_text(session.text(), reply, steps),

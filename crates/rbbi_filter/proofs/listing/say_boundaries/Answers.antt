@@ -10,7 +10,7 @@ pub returns-clause-replies : goal.returns-clause-replies
 returns-clause-replies g c =
     let old = g.W.Walk.session c.args.session.now in
     let now = g.W.Walk.session c.say_each-said.new.session in
-    let new = g.W.Walk.session c.is_boundary.new.session in
+    let new = g.W.Walk.session c.is_boundary.new.self in
     let moved = c.is_boundary.ensures.answers.moved in
     says_all old now new c.args.reply.now.items c.say_each-said.new.reply.items c.say_each-said.result c.say_each-said.ensures.same
     (goes_back old now new c.current-cursor.result (test_reply c.is_boundary.result) c.say_each-said.ensures.same c.current-cursor.ensures.at

@@ -20,7 +20,7 @@ loop-place-smaller g c =
     c.loop-place.reply.items c.args.steps.now c.loop-place.steps
     (subst (λ p. IsListed (g.W.Walk.session c.args.session.now) (g.W.Walk.session c.loop-place.session) p c.args.reply.now.items
     c.loop-place.reply.items c.args.steps.now c.loop-place.steps) c.in-Some.is c.loop-place.invariant)
-    c.status_list.result.now c.status_list.ensures c.next-place.result (g.W.Walk.session c.next-place.new.session) c.say_bound.new.reply.items
+    c.status_list.result.now c.status_list.ensures c.next-place.result (g.W.Walk.session c.next-place.new.self) c.say_bound.new.reply.items
     c.next-place.new.steps c.in_ok-say_bound.ensures c.next-place.ensures.answers c.next-place.ensures.reads in
     subst (λ p. left_of (length (g.W.Walk.session c.args.session.now).state.text) c.next-place.result
     < left_of (length (g.W.Walk.session c.args.session.now).state.text) p) (sym c.in-Some.is) further.1
@@ -31,5 +31,5 @@ loop-place-preserved g c =
     c.loop-place.reply.items c.args.steps.now c.loop-place.steps
     (subst (λ p. IsListed (g.W.Walk.session c.args.session.now) (g.W.Walk.session c.loop-place.session) p c.args.reply.now.items
     c.loop-place.reply.items c.args.steps.now c.loop-place.steps) c.in-Some.is c.loop-place.invariant)
-    c.status_list.result.now c.status_list.ensures c.next-place.result (g.W.Walk.session c.next-place.new.session) c.say_bound.new.reply.items
+    c.status_list.result.now c.status_list.ensures c.next-place.result (g.W.Walk.session c.next-place.new.self) c.say_bound.new.reply.items
     c.next-place.new.steps c.in_ok-say_bound.ensures c.next-place.ensures.answers c.next-place.ensures.reads).0

@@ -17,7 +17,8 @@ returns-in_default c = λ all are.
 
 pub returns-then-is_some : goal.returns-then-is_some
 returns-then-is_some c = λ all are.
-    let second = some_there (second_of c.loop-i.tailoring c.in-Some.pair.from) (ap is_some (sym c.second_of.ensures) ∙ sym c.is_some.ensures ∙ c.if-is_some.true) in
+    let second = some_there (second_of c.loop-i.tailoring c.in-Some.pair.from) (ap is_some (sym c.second_of.ensures) ∙ sym c.is_some.ensures
+    ∙ c.if-is_some.true) in
     first_bad all c.args.lines.now c.loop-i.i c.get-line.result.now c.loop-i.tailoring are c.get-line.ensures c.loop-i.invariant.0 c.loop-i.invariant.1
     (inr (c.in-Some.pair, second.0, c.in-Some.is, second.1))
 

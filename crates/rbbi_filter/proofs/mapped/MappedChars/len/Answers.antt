@@ -5,4 +5,5 @@ use Rattle.rbbi_filter.proofs.mapped.MappedChars.len.Goals as goal
 
 pub returns-clause-text : goal.returns-clause-text
 returns-clause-text g c =
-    subst IsText c.self.view_is (turned_text c.self.inside.pairs.now c.turns_to_characters.ensures (g.T.Chars.characters c.self.inside.text.now) c.len.ensures.text)
+    subst IsText c.self.view_is (turned_text c.self.inside.pairs.now c.turns_to_characters.ensures (g.T.Chars.characters c.self.inside.text.now)
+    c.len.ensures.text)
