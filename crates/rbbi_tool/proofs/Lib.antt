@@ -12,6 +12,7 @@ pub mod Verdicts
 pub mod Replies
 pub mod Told
 pub mod ToldLines
+pub mod ToldReplies
 pub mod Commands
 pub mod Faults
 pub mod Runs

@@ -1,16 +1,61 @@
-use Rattle.std.proofs.Common.{◌≡◌, ◌+◌, ◌<◌, ◌++◌, length, refl, sym, ap, ◌∙◌, subst, arith, rules}
+use Rattle.std.proofs.Common.{◌≡◌, ℕ, ◌+◌, ◌<◌, List, ◌++◌, length, refl, sym, ap, ◌∙◌, subst, arith, rules}
 use Rattle.std.proofs.lemmas.Result.{err_from_is_err_and}
 use Rattle.rbbi_model.specs.Boundaries.{start}
 use Rattle.rbbi_model.specs.Lines.{boundary_line}
 use Rattle.rbbi_model.specs.Tables.{statuses_of}
 use Rattle.rbbi_model.specs.Searches.{next_boundary}
 use Rattle.rbbi_model.specs.Units.{offset_of}
+use Rattle.rbbi_model.specs.Costs.{breaks_cost}
+use Rattle.rbbi_text.specs.Steps.{RisesUpTo}
 use Rattle.rbbi_io.specs.Sinks.{Takes, TakesFront}
 use Rattle.rbbi_session.proofs.Reaching.{found_within}
 use Rattle.rbbi_tool.proofs.Emitting.{put_refused, put_stays}
-use Rattle.rbbi_tool.proofs.Listing.{measured_one, line_in, lines_in, measured_each, listed_start, listed_more, listed_flushed, all_listed}
-use Rattle.rbbi_tool.proofs.Searched.{searched_none, searched_more, one_search, searched_alone}
+use Rattle.rbbi_tool.proofs.Listing.{AreListedTo, measured_one, line_in, lines_in, measured_each, listed_start, listed_more, listed_flushed, all_listed}
+use Rattle.rbbi_tool.proofs.Searched.{AreSearchedTo, searched_none, searched_more, one_search, searched_alone}
+use Rattle.rbbi_tool.proofs.emission.put_boundaries.Given.{Over}
 use Rattle.rbbi_tool.proofs.emission.put_boundaries.Goals as goal
+use Rattle.rbbi_tool.proofs.emission.put_boundaries.Goals.{After-next-found, After-status_list}
+
+inside : (g : Over) (c : After-next-found g) → c.loop-at.at < length c.args.text.now
+inside g c = omega (arith, c.loop-at-test.true, c.len.ensures.exact)
+
+-- the offset of the boundary that was found
+offset_is : (g : Over) (c : After-status_list g)
+    → c.loop-at.offset + c.units_between-offset.result ≡ offset_of c.args.unit c.args.text.now c.next-found.result.at
+offset_is g c = ap (λ n. n + c.units_between-offset.result) c.loop-at.invariant.offset_is ∙ c.units_between-offset.ensures.sum
+
+-- it is listed
+listed : (g : Over) (c : After-status_list g) (made : List ℕ)
+    → made ≡ c.loop-at.made.items ++ boundary_line (record { at = c.loop-at.offset + c.units_between-offset.result; statuses = c.status_list.result.now })
+    → AreListedTo (lines_in c.args.unit c.args.text.now) c.args.table.now c.args.text.now
+    (g.K.Sink.taken c.args.out.now) (g.K.Sink.taken c.loop-at.out) made c.next-found.result.at
+listed g c made pushed =
+    let table = c.args.table.now in
+    let unit = c.args.unit in
+    let x = c.args.text.now in
+    let within : c.loop-at.at < length x = omega (arith, c.loop-at-test.true, c.len.ensures.exact) in
+    let found : record { at = c.loop-at.offset + c.units_between-offset.result; statuses = c.status_list.result.now }
+    ≡ measured_one unit x (next_boundary table x c.loop-at.at) = λ i. record {
+      at = (offset_is g c ∙ ap (offset_of unit x) c.next-found.ensures.at) i;
+      statuses = (c.status_list.ensures ∙ ap (statuses_of table) c.next-found.ensures.status) i;
+    } in
+    listed_more (line_in unit x) (lines_in unit x) (measured_each unit x) table x _ _ _ _ c.loop-at.at c.next-found.result.at
+    c.loop-at.invariant.listed within (c.next_boundary_is_past_the_start.ensures table x c.loop-at.at within) c.next-found.ensures.at
+    (pushed ∙ ap (λ b. c.loop-at.made.items ++ boundary_line b) found)
+
+-- and what was read for it is counted
+searched : (g : Over) (c : After-next-found g)
+    → AreSearchedTo c.args.table.now c.args.text.now 0 c.next-found.result.at c.args.steps.now c.next-found.new.steps
+searched g c =
+    let table = c.args.table.now in
+    let x = c.args.text.now in
+    searched_more table x 0 c.loop-at.at c.next-found.result.at c.args.steps.now c.loop-at.steps c.next-found.new.steps c.valid.ensures
+    c.anchors_are_stored.ensures c.anchors_lead_to_the_boundaries.ensures c.loop-at.invariant.read (inside g c)
+    (c.next_boundary_is_past_the_start.ensures table x c.loop-at.at (inside g c)).0 c.next-found.ensures.at
+    (one_search _ _ _ c.next-found.ensures.read)
+
+paid : (g : Over) (c : After-next-found g) → RisesUpTo (breaks_cost c.args.table.now c.args.text.now 0) c.args.steps.now c.next-found.new.steps
+paid g c = searched_alone c.args.table.now c.args.text.now c.next-found.result.at c.args.steps.now c.next-found.new.steps (searched g c)
 
 pub loop-at-init : goal.loop-at-init
 loop-at-init g c = record {
@@ -36,29 +81,13 @@ units_between-offset-requires g c =
 
 pub loop-at-preserved : goal.loop-at-preserved
 loop-at-preserved g c =
-    let table = c.args.table.now in
-    let unit = c.args.unit in
-    let x = c.args.text.now in
-    let inside : c.loop-at.at < length x = omega (arith, c.loop-at-test.true, c.len.ensures.exact) in
-    let past = c.next_boundary_is_past_the_start.ensures table x c.loop-at.at inside in
-    let offset_is : c.loop-at.offset + c.units_between-offset.result ≡ offset_of unit x c.next-found.result.at =
-    ap (λ n. n + c.units_between-offset.result) c.loop-at.invariant.offset_is ∙ c.units_between-offset.ensures.sum in
-    let found : record { at = c.loop-at.offset + c.units_between-offset.result; statuses = c.status_list.result.now }
-    ≡ measured_one unit x (next_boundary table x c.loop-at.at) = λ i. record {
-      at = (offset_is ∙ ap (offset_of unit x) c.next-found.ensures.at) i;
-      statuses = (c.status_list.ensures ∙ ap (statuses_of table) c.next-found.ensures.status) i;
-    } in
+    let here = (goal.at.loop-at-preserved g c).After-status_list in
     record {
-      listed = listed_flushed _ _ _ _ _ _ _ _ _
-          (listed_more (line_in unit x) (lines_in unit x) (measured_each unit x) table x _ _ _ _ c.loop-at.at c.next-found.result.at c.loop-at.invariant.listed inside past c.next-found.ensures.at
-          (c.in_ok-say_bound-2.ensures ∙ ap (λ b. c.loop-at.made.items ++ boundary_line b) found))
-          c.in_ok-put_when_full.ensures.ok;
-      offset_is = offset_is;
+      listed = listed_flushed _ _ _ _ _ _ _ _ _ (listed g here _ c.in_ok-say_bound-2.ensures) c.in_ok-put_when_full.ensures.ok;
+      offset_is = offset_is g here;
       faults = search rules;
       fit = c.next-found.ensures.fit ∙ c.loop-at.invariant.fit;
-      read = searched_more table x 0 c.loop-at.at c.next-found.result.at c.args.steps.now c.loop-at.steps c.next-found.new.steps c.valid.ensures
-          c.anchors_are_stored.ensures c.anchors_lead_to_the_boundaries.ensures c.loop-at.invariant.read inside past.0 c.next-found.ensures.at
-          (one_search _ _ _ c.next-found.ensures.read);
+      read = searched g (goal.at.loop-at-preserved g c).After-next-found;
     }
 
 pub returns-in_err-say_bound-2-clause-err : goal.returns-in_err-say_bound-2-clause-err
@@ -68,42 +97,15 @@ returns-in_err-say_bound-2-clause-err g c =
 
 pub returns-in_err-put_when_full-clause-err : goal.returns-in_err-put_when_full-clause-err
 returns-in_err-put_when_full-clause-err g c =
-    let table = c.args.table.now in
-    let unit = c.args.unit in
-    let x = c.args.text.now in
-    let inside : c.loop-at.at < length x = omega (arith, c.loop-at-test.true, c.len.ensures.exact) in
-    let past = c.next_boundary_is_past_the_start.ensures table x c.loop-at.at inside in
-    let offset_is : c.loop-at.offset + c.units_between-offset.result ≡ offset_of unit x c.next-found.result.at =
-    ap (λ n. n + c.units_between-offset.result) c.loop-at.invariant.offset_is ∙ c.units_between-offset.ensures.sum in
-    let found : record { at = c.loop-at.offset + c.units_between-offset.result; statuses = c.status_list.result.now }
-    ≡ measured_one unit x (next_boundary table x c.loop-at.at) = λ i. record {
-      at = (offset_is ∙ ap (offset_of unit x) c.next-found.ensures.at) i;
-      statuses = (c.status_list.ensures ∙ ap (statuses_of table) c.next-found.ensures.status) i;
-    } in
     let told = err_from_is_err_and c.from_residual-in_err-put_when_full.result c.from_residual-in_err-put_when_full.ensures.1 in
-    let listed = listed_more (line_in unit x) (lines_in unit x) (measured_each unit x) table x _ _ _ _ c.loop-at.at c.next-found.result.at c.loop-at.invariant.listed inside past c.next-found.ensures.at
-    (c.in_ok-say_bound-2.ensures ∙ ap (λ b. c.loop-at.made.items ++ boundary_line b) found) in
-    rw told.1 (put_refused _ _ _ _ _ listed.put _ c.in_err-put_when_full.ensures.err)
+    rw told.1
+    (put_refused _ _ _ _ _ (listed g (goal.at.returns-in_err-put_when_full-clause-err g c).After-status_list _ c.in_ok-say_bound-2.ensures).put _ c.in_err-put_when_full.ensures.err)
 
 pub returns-in_err-put_when_full-clause-steps : goal.returns-in_err-put_when_full-clause-steps
-returns-in_err-put_when_full-clause-steps g c =
-    let table = c.args.table.now in
-    let x = c.args.text.now in
-    let inside : c.loop-at.at < length x = omega (arith, c.loop-at-test.true, c.len.ensures.exact) in
-    searched_alone table x c.next-found.result.at c.args.steps.now c.next-found.new.steps
-    (searched_more table x 0 c.loop-at.at c.next-found.result.at c.args.steps.now c.loop-at.steps c.next-found.new.steps c.valid.ensures
-    c.anchors_are_stored.ensures c.anchors_lead_to_the_boundaries.ensures c.loop-at.invariant.read inside
-    (c.next_boundary_is_past_the_start.ensures table x c.loop-at.at inside).0 c.next-found.ensures.at (one_search _ _ _ c.next-found.ensures.read))
+returns-in_err-put_when_full-clause-steps g c = paid g (goal.at.returns-in_err-put_when_full-clause-steps g c).After-next-found
 
 pub returns-in_err-say_bound-2-clause-steps : goal.returns-in_err-say_bound-2-clause-steps
-returns-in_err-say_bound-2-clause-steps g c =
-    let table = c.args.table.now in
-    let x = c.args.text.now in
-    let inside : c.loop-at.at < length x = omega (arith, c.loop-at-test.true, c.len.ensures.exact) in
-    searched_alone table x c.next-found.result.at c.args.steps.now c.next-found.new.steps
-    (searched_more table x 0 c.loop-at.at c.next-found.result.at c.args.steps.now c.loop-at.steps c.next-found.new.steps c.valid.ensures
-    c.anchors_are_stored.ensures c.anchors_lead_to_the_boundaries.ensures c.loop-at.invariant.read inside
-    (c.next_boundary_is_past_the_start.ensures table x c.loop-at.at inside).0 c.next-found.ensures.at (one_search _ _ _ c.next-found.ensures.read))
+returns-in_err-say_bound-2-clause-steps g c = paid g (goal.at.returns-in_err-say_bound-2-clause-steps g c).After-next-found
 
 pub returns-in_err-put_all-clause-err : goal.returns-in_err-put_all-clause-err
 returns-in_err-put_all-clause-err g c =

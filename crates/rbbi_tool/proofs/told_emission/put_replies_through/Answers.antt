@@ -3,7 +3,7 @@ use Rattle.std.specs.Prelude.{OnOk, OnErr}
 use Rattle.rbbi_model.specs.Lines.{all_reply_lines}
 use Rattle.rbbi_script.specs.Meaning.{meaning}
 use Rattle.rbbi_io.specs.Sinks.{Takes, TakesFront}
-use Rattle.rbbi_tool.proofs.ToldLines.{opened_replies}
+use Rattle.rbbi_tool.proofs.ToldReplies.{opened_replies}
 use Rattle.rbbi_tool.proofs.told_emission.put_replies_through.Goals as goal
 
 pub returns-in_ok-session-in-Suppressing-clause-ok : goal.returns-in_ok-session-in-Suppressing-clause-ok

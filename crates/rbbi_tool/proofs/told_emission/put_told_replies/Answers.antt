@@ -8,7 +8,7 @@ use Rattle.rbbi_io.specs.Sinks.{Takes, TakesFront}
 use Rattle.rbbi_tool.specs.inner.Filters.{replies_of}
 use Rattle.rbbi_tool.proofs.Emitting.{put_end, put_refused, put_stays}
 use Rattle.rbbi_tool.proofs.Replying.{mapped_left}
-use Rattle.rbbi_tool.proofs.ToldLines.{replied_none, replied_more, replied_flushed, next_left, one_paid, all_paid}
+use Rattle.rbbi_tool.proofs.ToldReplies.{replied_none, replied_more, replied_flushed, next_left, one_paid, all_paid}
 use Rattle.rbbi_tool.proofs.told_emission.put_told_replies.Goals as goal
 
 pub loop-i-init : goal.loop-i-init

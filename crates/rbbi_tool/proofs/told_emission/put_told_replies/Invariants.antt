@@ -1,7 +1,7 @@
 use Rattle.std.proofs.Common.{map, drop}
 use Rattle.rbbi_script.specs.Meaning.{meaning}
 use Rattle.rbbi_io.specs.Counts.{GoesOn}
-use Rattle.rbbi_tool.proofs.ToldLines.{AreRepliedTo}
+use Rattle.rbbi_tool.proofs.ToldReplies.{AreRepliedTo}
 use Rattle.rbbi_tool.proofs.told_emission.put_told_replies.Given as goal
 
 -- the commands up to this one were performed, and a front of the lines of their replies was put
